@@ -12,6 +12,6 @@ mod waiting;
 mod worker;
 
 pub use beside::{NoneBeside, RanBeside, run_beside};
-pub use link_crew::{Frame, Rest};
+pub use link_crew::{Frame, Rest, meet_all};
 pub use running::{NoRun, Ran, run_on};
 pub use worker::Worker;

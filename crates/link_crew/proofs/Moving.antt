@@ -68,7 +68,7 @@ lacks_then (Ok y ∷ ys) e = lacks_then ys e
 lacks_then (Err f ∷ ys) e = refl
 
 pub served_none : (a : PeerState) → ServedOn false a a
-served_none a = record { answers = []; steps = refl; told = refl; moved = inl refl; starved = not_short }
+served_none a = record { answers = []; steps = refl; told = refl; moved = inl refl; starved = not_short; calm = λ _. refl }
 
 module _ (short : Bool) (a b c : PeerState) (on : ServedOn short a b) where
   pub served_more : ServeStep b (Ok served.Moved) c → ServedOn short a c
@@ -78,6 +78,7 @@ module _ (short : Bool) (a b c : PeerState) (on : ServedOn short a b) where
     told = on.told ∙ lacks_no on.answers served.Moved;
     moved = inr (moved_either a b c on.moved m.0);
     starved = λ e. still_starved b c (on.starved e) m.0;
+    calm = λ e. m.3 ∙ on.calm e;
   }
 
   pub served_same : ServeStep b (Ok served.Waiting) c → ServedOn short a c
@@ -87,6 +88,7 @@ module _ (short : Bool) (a b c : PeerState) (on : ServedOn short a b) where
     told = on.told ∙ lacks_no on.answers served.Waiting;
     moved = subst (λ (s : PeerState). (s ≡ a) ⊎ Moved a s) (sym m.0) on.moved;
     starved = λ e. subst IsStarved (sym m.0) (on.starved e);
+    calm = λ e. ap (λ (s : PeerState). s.starved) m.0 ∙ on.calm e;
   }
 
   pub served_short : (e : NoMemory) → ServeStep b (Err e) c → ServedOn true a c
@@ -96,6 +98,7 @@ module _ (short : Bool) (a b c : PeerState) (on : ServedOn short a b) where
     told = lacks_then on.answers e;
     moved = inr (moved_either a b c on.moved m.0);
     starved = λ _. (m.0.2.present ∙ m.1, m.3);
+    calm = λ e. absurd (true_not (sym e));
   }
 
   pub served_last : ServeStep b (Ok served.Done) c → ServedToEnd short a c
@@ -106,4 +109,5 @@ module _ (short : Bool) (a b c : PeerState) (on : ServedOn short a b) where
     moved = moved_either a b c on.moved m.0;
     done = m.1;
     starved = λ e. still_starved b c (on.starved e) m.0;
+    calm = λ e. m.2 ∙ on.calm e;
   }

@@ -6,7 +6,8 @@ use Rattle.sock_words.specs.declared.plain.Plan.{Plan}
 use Rattle.sock_words.specs.declared.socket_id.SocketId.{SocketId}
 use Rattle.sock_model.specs.declared.view.View.{View}
 use Rattle.sock_io.specs.declared.link.LinkSpec.{LinkSpec}
-use Rattle.sock_io.specs.Link.{InState, OutState}
+use Rattle.sock_io.specs.declared.link.Take.{Take}
+use Rattle.sock_io.specs.Link.{InState, OutState, Offer, OffersTaken, given_of}
 use Rattle.sock_io.specs.Meeting.{AreEnds, IsAskedPeer}
 use Rattle.sock_io.specs.Peer.{PeerState}
 use Rattle.rpc_reader.specs.Books.{Books}
@@ -15,25 +16,43 @@ use Rattle.rpc_reader.specs.Taking.{Took, Takes}
 use Rattle.rpc_reader.specs.Throwing.{ThrewAway}
 use Rattle.link_crew.specs.Serving.{ServedToEnd}
 
-takes_way : (xs : List Took) (s t : InState) → Takes xs s t → t.way ≡ s.way
-takes_way [] s t e = ap (λ (i : InState). i.way) e
-takes_way (x ∷ xs) s t (m, step, more) = takes_way xs m t more ∙ step.way
+-- bytes come the same way, and of what wasn't known to be offered nothing is known still
+abbrev pub Stays : InState → InState → Type 0
+Stays s t = (t.way ≡ s.way) × (s.offer ≡ None → t.offer ≡ None)
 
-threw_way : (ending : Bool) (total : ℕ) (s t : InState) → ThrewAway ending total s t → t.way ≡ s.way
-threw_way ending total s t (inl e) = ap (λ (i : InState). i.way) e.1
-threw_way ending total s t (inr x) = takes_way (x.earlier ++ x.last ∷ []) s t x.steps
+same_stays : (s t : InState) → t ≡ s → Stays s t
+same_stays s t e = (ap (λ (i : InState). i.way) e, λ none. ap (λ (i : InState). i.offer) e ∙ none)
 
-thrown_way : (throws ending : Bool) (total : ℕ) (s t : InState) → ThrownIf throws ending total s t → t.way ≡ s.way
-thrown_way true ending total s t x = threw_way ending total s t x
-thrown_way false ending total s t e = ap (λ (i : InState). i.way) e
+stays_on : (s m t : InState) → Stays s m → Stays m t → Stays s t
+stays_on s m t a b = (b.0 ∙ a.0, λ none. b.1 (a.1 none))
+
+none_known : (o : Offer) → Some o ≡ None → ⊥
+none_known o e = cc
+
+none_offered : (old new : Option Offer) (given : List ℕ) (a : Take) → OffersTaken old new given a → old ≡ None → new ≡ None
+none_offered None new given a x none = x
+none_offered (Some o) new given a x none = absurd (none_known o none)
+
+takes_stay : (xs : List Took) (s t : InState) → Takes xs s t → Stays s t
+takes_stay [] s t e = same_stays s t e
+takes_stay (x ∷ xs) s t (m, step, more) = stays_on s m t (step.way, none_offered s.offer m.offer (given_of x.room x.answer) x.answer step.offer) (takes_stay xs m t more)
+
+threw_stays : (ending : Bool) (total : ℕ) (s t : InState) → ThrewAway ending total s t → Stays s t
+threw_stays ending total s t (inl e) = same_stays s t e.1
+threw_stays ending total s t (inr x) = takes_stay (x.earlier ++ x.last ∷ []) s t x.steps
+
+thrown_stays : (throws ending : Bool) (total : ℕ) (s t : InState) → ThrownIf throws ending total s t → Stays s t
+thrown_stays true ending total s t x = threw_stays ending total s t x
+thrown_stays false ending total s t e = same_stays s t e
 
 module _ (q : id_plan.Plan) (link : ℕ) (calls : List ℕ) (ending short : Bool) (s t : InState) where
-  if_way : (id : Option SocketId) (v w : View) (b b' : Books) → ReadIf q link calls ending short s t id v w b b' → t.way ≡ s.way
-  if_way None v w b b' x = ap (λ (i : InState). i.way) x.1
-  if_way (Some id) v w b b' x = thrown_way _ ending x.total x.between t x.thrown ∙ takes_way (x.read.earlier ++ x.read.last ∷ []) s x.between x.read.steps
+  if_stays : (id : Option SocketId) (v w : View) (b b' : Books) → ReadIf q link calls ending short s t id v w b b' → Stays s t
+  if_stays None v w b b' x = same_stays s t x.1
+  if_stays (Some id) v w b b' x = stays_on s x.between t (takes_stay (x.read.earlier ++ x.read.last ∷ []) s x.between x.read.steps) (thrown_stays _ ending x.total x.between t x.thrown)
 
-  pub read_way : (p : Plan) (operation : ℕ) (v w : View) (b b' : Books) → RanBy q link calls ending short s t p operation v w b b' → t.way ≡ s.way
-  read_way p operation v w b b' x = if_way x.id x.noted w b b' x.read
+  -- so where it was read
+  pub read_stays : (p : Plan) (operation : ℕ) (v w : View) (b b' : Books) → RanBy q link calls ending short s t p operation v w b b' → Stays s t
+  read_stays p operation v w b b' x = if_stays x.id x.noted w b b' x.read
 
 module _ (short : Bool) (old new : PeerState) (x : ServedToEnd short old new) where
   -- a reading half whose way stays is at the end of the same way

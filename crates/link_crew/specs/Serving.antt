@@ -20,13 +20,14 @@ lacks (Err e ∷ xs) = true
 abbrev pub IsStarved : PeerState → Type 0
 IsStarved peer = (peer.present ≡ true) × (peer.ending ≡ ending.Ended)
 
--- so far: the calls, what came and went by them, if anything did, and whether memory was wanting
+-- so far: the calls, what came and went by them, if anything did, and whether memory was wanting; where it never was, it is told so still
 pub record ServedOn (short : Bool) (old new : PeerState) : Type 0 where
   pub answers : List (Result Served NoMemory)
   pub steps : Serves answers old new
   pub told : short ≡ lacks answers
   pub moved : (new ≡ old) ⊎ Moved old new
   pub starved : short ≡ true → IsStarved new
+  pub calm : short ≡ false → new.starved ≡ old.starved
 
 -- the same of all calls, behind which nothing will be moved any more
 pub record ServedToEnd (short : Bool) (old new : PeerState) : Type 0 where
@@ -36,3 +37,4 @@ pub record ServedToEnd (short : Bool) (old new : PeerState) : Type 0 where
   pub moved : Moved old new
   pub done : is_done new ≡ true
   pub starved : short ≡ true → IsStarved new
+  pub calm : short ≡ false → new.starved ≡ old.starved

@@ -96,6 +96,8 @@ impl Linker for LoopLinker {
 
     ghost always_ready = { λ _. true };
 
+    ghost tells_in = { λ _. false };
+
     fn open(&mut self, spec: &LinkSpec) -> Result<Link, OpenFault>
         requires piece { 0 < spec.now.piece }
         requires few { length self.old.asked < 256 }
@@ -152,6 +154,9 @@ impl Linker for LoopLinker {
         ends.inn
             .settle(self.alloc, &mut self.pool, ends.out.taken(), finished)
     }
+
+    #[tactic(auto, using(crate::proofs::Meets::met_nothing))]
+    fn meet(&mut self, _ends: &mut Link) {}
 
     fn accept(&mut self, _port: u16) -> Result<(Shaped<MemOut>, LoopIn), OpenFault>
         requires { self.old.accepted < 256 }

@@ -122,6 +122,8 @@ impl<N: Net<Stream = TcpStream, Listener = TcpListener> + Drop> Linker for TcpLi
 
     ghost always_ready = { λ _. true };
 
+    ghost tells_in = { λ _. false };
+
     fn open(&mut self, spec: &LinkSpec) -> Result<Link, OpenFault>
         requires piece { 0 < spec.now.piece }
         requires few { length self.old.asked < 256 }
@@ -167,6 +169,9 @@ impl<N: Net<Stream = TcpStream, Listener = TcpListener> + Drop> Linker for TcpLi
     {
         Ok(())
     }
+
+    #[tactic(auto, using(crate::proofs::Meets::met_nothing))]
+    fn meet(&mut self, _ends: &mut Link) {}
 
     fn accept(&mut self, port: u16) -> Result<(TcpHalf, TcpIn), OpenFault>
         requires { self.old.accepted < 256 }

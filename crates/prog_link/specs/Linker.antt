@@ -1,5 +1,5 @@
 -- A linker of links of any kind, by what callers see of it.
-use Rattle.std.specs.Prelude.{ℕ, ◌≡◌, true, List, Option, None, Some, IfSome}
+use Rattle.std.specs.Prelude.{ℕ, ◌≡◌, ◌≢◌, Bool, true, false, List, [], Option, None, Some, IfSome}
 use Rattle.brpc_model.specs.Link.{LinkEnd}
 use Rattle.sock_io.specs.declared.link.LinkSpec.{LinkSpec}
 use Rattle.sock_io.specs.declared.link.Mode.{Mode}
@@ -37,6 +37,12 @@ kind_asked mode.Loop = InMemory
 kind_asked mode.Ring = OverRings
 kind_asked (mode.Tcp port) = OverTcp
 
+-- links over rings alone have other ends inside this process that tell what they offered
+abbrev pub tells_in_mode : Mode → Bool
+tells_in_mode mode.Loop = false
+tells_in_mode mode.Ring = true
+tells_in_mode (mode.Tcp port) = false
+
 abbrev pub kind_out : ProgOut → Kind
 kind_out (out.Loop half) = InMemory
 kind_out (out.Ring half) = OverRings
@@ -55,7 +61,8 @@ shape_out (out.Tcp (Opened half)) = Some half.shape
 shape_out (out.Tcp (Accepted half)) = None
 
 -- The ends of a link that was opened just now: its halves are of the kind and the shape that were asked for, have this number, and took, gave and
--- answered nothing; nor did its other end, which is what was asked for, and belongs to them; and a link in memory never asks to be called again.
+-- answered nothing; nor did its other end, which is what was asked for, and belongs to them; over rings what that offers is told later; and a link in memory
+-- never asks to be called again.
 pub record IsOpened (number : ℕ) (spec : LinkSpec) (out : ProgOut) (peer : ProgPeer) (inn : ProgIn) : Type 0 where
   pub kind : (kind_out out ≡ kind_asked spec.mode) × (kind_in inn ≡ kind_asked spec.mode)
   pub shape : shape_out out ≡ Some (shape_asked spec)
@@ -64,4 +71,5 @@ pub record IsOpened (number : ℕ) (spec : LinkSpec) (out : ProgOut) (peer : Pro
   pub offer : IfSome (prog_in inn).offer (λ o. IsNewOffer spec o)
   pub one : AreEnds (prog_out out) (prog_peer peer) (prog_in inn)
   pub other : IsAskedPeer spec (prog_peer peer)
+  pub tells : tells_in_mode spec.mode ≡ true → ((prog_in inn).way ≢ []) × ((prog_in inn).offer ≡ None) × ((prog_peer peer).present ≡ true)
   pub always_ready : spec.mode ≡ mode.Loop → (prog_out out).always_ready ≡ true

@@ -2,7 +2,7 @@ ghost use Rattle.std.specs.Prelude.{◌≡◌, ◌+◌, ◌≤◌, ◌<◌, ◌�
 ghost use Rattle.sock_io.specs.Causes.{Rose};
 ghost use Rattle.sock_io.specs.Link.{connection_of, end_of};
 ghost use Rattle.prog_link.specs.Halves.{prog_in, prog_out};
-ghost use Rattle.prog_link.specs.Linker.{IsOpened, InMemory, OverRings, OverTcp, kind_asked};
+ghost use Rattle.prog_link.specs.Linker.{IsOpened, InMemory, OverRings, OverTcp, kind_asked, tells_in_mode};
 
 use crate::prog_in::ProgIn;
 use crate::prog_out::ProgOut;
@@ -205,6 +205,8 @@ impl<N: Net<Stream = TcpStream, Listener = TcpListener> + Drop> Linker for ProgL
 
     ghost always_ready = { λ _. true };
 
+    ghost tells_in = { tells_in_mode };
+
     fn open(&mut self, spec: &LinkSpec) -> Result<Link, OpenFault>
         requires piece { 0 < spec.now.piece }
         requires few { length self.old.asked < 256 }
@@ -238,6 +240,7 @@ impl<N: Net<Stream = TcpStream, Listener = TcpListener> + Drop> Linker for ProgL
     }
 
     fn meet(&mut self, ends: &mut Link) {
+        ends.out.hides_its_way();
         if let ProgOut::Ring(out) = &mut ends.out
             && let ProgIn::Ring(inn) = &mut ends.inn
             && let ProgPeer::Ring(peer) = &mut ends.peer

@@ -1,6 +1,7 @@
-ghost use Rattle.std.specs.Prelude.{◌≡◌, ◌<◌, true, length, IfSome};
+ghost use Rattle.std.specs.Prelude.{◌≡◌, ◌≢◌, ◌<◌, [], true, length, IfSome};
 ghost use Rattle.sock_io.specs.Link.{FinishStep, PutStep, ReadyStep};
 ghost use Rattle.prog_link.specs.Halves.{prog_out};
+ghost use Rattle.prog_link.specs.Linker.{OverRings, kind_out};
 
 use net_link::TcpHalf;
 use ring_link::RingOut;
@@ -25,6 +26,23 @@ impl ProgOut {
             ProgOut::Ring(out) => out.is_finished(),
             ProgOut::Tcp(TcpHalf::Opened(out)) => out.is_finished(),
             ProgOut::Tcp(TcpHalf::Accepted(_)) => false,
+        }
+    }
+}
+
+impl ProgOut {
+    /// Which way its bytes go is known over a ring alone. It does nothing: for the proof of a comparison.
+    pub(crate) fn hides_its_way(&self)
+        ensures { kind_out self.now ≢ OverRings → (prog_out self.now).way ≡ [] }
+    {
+        match self {
+            ProgOut::Loop(out) => {
+                let _half = &out.inner;
+            }
+            ProgOut::Tcp(TcpHalf::Opened(out)) => {
+                let _half = &out.inner;
+            }
+            ProgOut::Ring(_) | ProgOut::Tcp(TcpHalf::Accepted(_)) => {}
         }
     }
 }

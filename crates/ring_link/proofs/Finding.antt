@@ -1,10 +1,10 @@
 -- What comparing the ends of a link shows: what was offered to it belongs to what it took and gave.
-use Rattle.std.proofs.Common.{◌≡◌, ℕ, not, Bool, true, false, List, [], ◌∷◌, ◌++◌, Option, None, Some, refl, ap, sym, ◌∙◌, subst, append_assoc, append-nil}
+use Rattle.std.proofs.Common.{◌≡◌, ◌≢◌, ◌⊎◌, inl, inr, ℕ, not, Bool, true, false, List, [], ◌∷◌, ◌++◌, Option, None, Some, refl, ap, sym, ◌∙◌, subst, append_assoc, append-nil}
 use Rattle.sock_io.specs.declared.ending.Ending.{Ending}
 use Rattle.sock_io.specs.declared.ending.Ending.TheVariants as ending
 use Rattle.sock_io.specs.Link.{OutState, InState, Offer, IsServed, IsSettled, offered_by}
 use Rattle.sock_io.specs.Peer.{PeerState, has_ended}
-use Rattle.sock_io.specs.Meeting.{IsFound, OffersFound, MeetStep}
+use Rattle.sock_io.specs.Meeting.{FindsAll, IsFound, OffersFound, MeetStep}
 use Rattle.loop_link.specs.Serving.{LoopInState}
 use Rattle.ring_link.specs.Inside.{InnerState, inner_gave, handed_on, offer_met, met_after}
 use Rattle.ring_link.proofs.Repeating.{ended_open}
@@ -100,6 +100,15 @@ still_found : (out : OutState) (peer : PeerState) (inn : InState) (o : Option Of
 still_found out peer inn None = tt
 still_found out peer inn (Some o) = refl
 
+-- with the mark taken and all handed on, it is known
+found_whole : (whole : Bool) (e : Ending) (m : List LoopInState) (i : LoopInState) → whole ≡ true → has_ended e ≡ true → offer_met (met_after whole e m i) e ≢ None
+found_whole whole ending.Open m i w t = absurd (opens t)
+found_whole true ending.Ended [] i w t = λ n. cc
+found_whole true ending.Closed [] i w t = λ n. cc
+found_whole true ending.Ended (x ∷ m) i w t = λ n. cc
+found_whole true ending.Closed (x ∷ m) i w t = λ n. cc
+found_whole false e m i w t = absurd (opens w)
+
 -- what is known behind it
 found_after : (out : OutState) (peer : PeerState) (inn : InState) (fed : Bool) (e : Ending) (m : List LoopInState) (i : LoopInState) → (fed ≡ true → has_ended e ≡ true → IsFound out peer inn (handed_on i e))
     → OffersFound out peer inn (offer_met m e) (offer_met (met_after fed e m i) e)
@@ -118,9 +127,17 @@ module _ (out : RingOutState) (p : RingPeerState) (inn : RingInState) (rp : Read
   found fed mark = found_is out p inn
       (served_by p.inner out.writer p.reader p.writer inn.reader (taken_before p.reader rp out.writer wo e1 e2 there) (taken_before inn.reader ri p.writer wp e3 e4 back) (x (not_true p.starved fed)) mark) gave_end closed
 
+  marked : (inn.gave_end ≡ true) ⊎ (Some inn.closed ≡ Some true) → has_ended inn.reader.ending ≡ true
+  marked (inl e) = ap has_ended (gave_end e)
+  marked (inr e) = ap has_ended (closed (some_same inn.closed true e))
+
+  -- where memory wasn't wanting all is found once the mark was taken
+  all_found : FindsAll (ring_peer p) (ring_in inn) (ring_in (record inn { reader = record inn.reader { seen = ri.seen }; met = met_after (not p.starved) inn.reader.ending inn.met p.inner.inn }))
+  all_found known calm mark = found_whole (not p.starved) inn.reader.ending inn.met p.inner.inn (ap not calm) (marked mark)
+
   pub met_step : (inn' : RingInState) → inn' ≡ record inn { reader = ri; met = met_after (not p.starved) inn.reader.ending inn.met p.inner.inn } → MeetStep (told_out out) (ring_peer p) (ring_in inn) (ring_in inn')
   met_step inn' is = subst (λ (n : RingInState). MeetStep (told_out out) (ring_peer p) (ring_in inn) (ring_in n)) (sym (is ∙ ap (λ (r : ReaderState). record inn { reader = r; met = met_after (not p.starved) inn.reader.ending inn.met p.inner.inn }) e3))
-      (record { same = refl; offer = found_after (told_out out) (ring_peer p) (ring_in inn) (not p.starved) inn.reader.ending inn.met p.inner.inn found })
+      (record { same = refl; offer = found_after (told_out out) (ring_peer p) (ring_in inn) (not p.starved) inn.reader.ending inn.met p.inner.inn found; all = all_found })
 
 -- ## A link that was compared is settled
 

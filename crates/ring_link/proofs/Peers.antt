@@ -14,9 +14,9 @@ use Rattle.ring_link.specs.Halves.{ReaderState, WriterState, RingPeerState, Same
 abbrev pub Told : Served → PeerState → Type 0
 Told result new = ((result ≡ served.Done) × (is_done new ≡ true)) ⊎ ((result ≡ served.Moved) × (is_done new ≡ false))
 
-pub told_step : (old new : PeerState) (result : Served) → Moved old new → HasMoved old new → Told result new → ServeStep old (Ok result) new
-told_step old new result m h (inl p) = subst (λ r. ServeStep old (Ok r) new) (sym p.0) (m, p.1)
-told_step old new result m h (inr p) = subst (λ r. ServeStep old (Ok r) new) (sym p.0) (m, h, p.1)
+pub told_step : (old new : PeerState) (result : Served) → Moved old new → HasMoved old new → new.starved ≡ old.starved → Told result new → ServeStep old (Ok result) new
+told_step old new result m h calm (inl p) = subst (λ r. ServeStep old (Ok r) new) (sym p.0) (m, p.1, calm)
+told_step old new result m h calm (inr p) = subst (λ r. ServeStep old (Ok r) new) (sym p.0) (m, h, p.1, calm)
 
 grew : (old new got : List ℕ) → new ≡ old ++ got → Grew (length old) (length new) (Some old) (Some new) got
 grew old new got e = record { count = ap length e ∙ length-append old got; known = ap Some e }
@@ -70,12 +70,13 @@ some_got count room A w (inr h) = inr h
 
 -- bytes or the mark were taken, and the other direction goes on
 pub fed : (p q : RingPeerState) (got : List ℕ) → SameRings p q → p.writer.ending ≡ ending.Open → has_ended p.reader.ending ≡ false → q.writer.bytes ≡ p.writer.bytes → q.writer.ending ≡ p.writer.ending
-    → q.reader.bytes ≡ p.reader.bytes ++ got → (0 < length got) ⊎ (has_ended q.reader.ending ≡ true) → Moved (ring_peer p) (ring_peer q) × HasMoved (ring_peer p) (ring_peer q) × (is_done (ring_peer q) ≡ false)
-fed p q got rings o live kept same more some = (
+    → q.reader.bytes ≡ p.reader.bytes ++ got → (0 < length got) ⊎ (has_ended q.reader.ending ≡ true) → q.starved ≡ p.starved → Moved (ring_peer p) (ring_peer q) × HasMoved (ring_peer p) (ring_peer q) × (is_done (ring_peer q) ≡ false) × (q.starved ≡ p.starved)
+fed p q got rings o live kept same more some calm = (
   moves p q got [] rings more (kept ∙ sym (append-nil p.writer.bytes)) (λ h. absurd (both_not (has_ended p.reader.ending) live h)) (λ n. absurd (n o))
       (λ c. absurd (not_closed q.writer.ending (same ∙ o) c)),
   has_fetched p q got more live some,
   open_not_done q.writer.ending (has_ended q.reader.ending) (same ∙ o),
+  calm,
 )
 
 -- the same where memory was short, so that the end was given
@@ -87,13 +88,13 @@ starved p q got rings o live kept ended more =
 
 -- behind the end, bytes or the mark were taken, and thrown away
 pub thrown : (p q : RingPeerState) (got : List ℕ) (result : Served) → SameRings p q → has_ended p.reader.ending ≡ false → q.writer ≡ p.writer → q.reader.bytes ≡ p.reader.bytes ++ got
-    → (0 < length got) ⊎ (has_ended q.reader.ending ≡ true) → (p.writer.ending ≡ ending.Closed → has_ended p.reader.ending ≡ true) → Told result (ring_peer q) → ServeStep (ring_peer p) (Ok result) (ring_peer q)
-thrown p q got result rings live kept more some closed told =
+    → (0 < length got) ⊎ (has_ended q.reader.ending ≡ true) → (p.writer.ending ≡ ending.Closed → has_ended p.reader.ending ≡ true) → q.starved ≡ p.starved → Told result (ring_peer q) → ServeStep (ring_peer p) (Ok result) (ring_peer q)
+thrown p q got result rings live kept more some closed calm told =
     let mark : q.writer.ending ≡ p.writer.ending = ap (λ (w : WriterState). w.ending) kept in
     told_step (ring_peer p) (ring_peer q) result
     (moves p q got [] rings more (ap (λ (w : WriterState). w.bytes) kept ∙ sym (append-nil p.writer.bytes)) (λ h. absurd (both_not (has_ended p.reader.ending) live h)) (λ _. (mark, refl))
     (λ c. absurd (both_not (has_ended p.reader.ending) live (closed (sym mark ∙ c)))))
-    (has_fetched p q got more live some) told
+    (has_fetched p q got more live some) calm told
 
 no_mark : (e : Ending) → e ≡ ending.Open → e ≢ ending.Ended
 no_mark e o n = cc
@@ -118,10 +119,10 @@ closing_mark take_.Failed e m c = cc
 
 pub given : (p q : RingPeerState) (room : List ℕ) (t : Take) (result : Served) → SameRings p q → p.writer.ending ≡ ending.Open → q.reader ≡ p.reader → IsTakeCount room t
     → q.writer.bytes ≡ p.writer.bytes ++ given_of room t → q.writer.ending ≡ mark_at t → (t ≡ take_.Closed → has_ended p.reader.ending ≡ true) → t ≢ take_.Failed → t ≢ take_.Empty
-    → Told result (ring_peer q) → ServeStep (ring_peer p) (Ok result) (ring_peer q)
-given p q room t result rings o reader count more mark closed f e told =
+    → q.starved ≡ p.starved → Told result (ring_peer q) → ServeStep (ring_peer p) (Ok result) (ring_peer q)
+given p q room t result rings o reader count more mark closed f e calm told =
     let bytes : q.reader.bytes ≡ p.reader.bytes = ap (λ (r : ReaderState). r.bytes) reader in
     let seen : has_ended q.reader.ending ≡ has_ended p.reader.ending = ap (λ (r : ReaderState). has_ended r.ending) reader in
     told_step (ring_peer p) (ring_peer q) result
     (moves p q [] (given_of room t) rings (bytes ∙ sym (append-nil p.reader.bytes)) more (λ h. (seen ∙ h, refl)) (λ n. absurd (n o)) (λ c. seen ∙ closed (closing_mark t q.writer.ending mark c)))
-    (has_given p q room t o count more mark f e) told
+    (has_given p q room t o count more mark f e) calm told

@@ -83,7 +83,7 @@ abbrev pub SameRings : RingPeerState → RingPeerState → Type 0
 SameRings old new = (new.reader.ring ≡ old.reader.ring) × (new.writer.ring ≡ old.writer.ring) × SameAsked old.inner new.inner
 
 abbrev pub ring_peer : RingPeerState → PeerState
-ring_peer p = record { present = true; serve = p.inner.inn.peer.serve; end = p.inner.inn.peer.end; way_in = way_of p.reader.ring; way_out = way_of p.writer.ring; took = length p.reader.bytes; took_bytes = Some p.reader.bytes; saw_finish = has_ended p.reader.ending; gave = length p.writer.bytes; gave_bytes = Some p.writer.bytes; ending = p.writer.ending }
+ring_peer p = record { present = true; serve = p.inner.inn.peer.serve; end = p.inner.inn.peer.end; way_in = way_of p.reader.ring; way_out = way_of p.writer.ring; took = length p.reader.bytes; took_bytes = Some p.reader.bytes; saw_finish = has_ended p.reader.ending; gave = length p.writer.bytes; gave_bytes = Some p.writer.bytes; ending = p.writer.ending; starved = p.starved }
 
 -- the mark that is given at this answer of the link behind
 abbrev pub mark_at : Take → Ending

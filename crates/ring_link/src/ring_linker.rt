@@ -100,6 +100,8 @@ impl<R: AllocGlobal + Drop> Linker for RingLinker<R> {
 
     ghost always_ready = { λ _. false };
 
+    ghost tells_in = { λ _. true };
+
     fn open(&mut self, spec: &LinkSpec) -> Result<Link, OpenFault>
         requires piece { 0 < spec.now.piece }
         requires few { length self.old.asked < 256 }

@@ -107,6 +107,7 @@ impl RingPeer {
         requires open { IsOpen self.old.writer.ending }
         requires room { (0 < length room.old) × (length room.old ≤ self.old.writer.places) × (length room.old ≤ CHUNK) }
         ensures reader { self.new.reader ≡ self.old.reader }
+        ensures starved { self.new.starved ≡ self.old.starved }
         ensures rings { SameRings self.old self.new }
         ensures count { IsTakeCount room.new result }
         ensures bytes { self.new.writer.bytes ≡ self.old.writer.bytes ++ given_of room.new result }

@@ -9,6 +9,7 @@ ghost use Rattle.sock_io.specs.Link.{end_of};
 ghost use Rattle.script_items.specs.Meaning.{shape_of};
 ghost use Rattle.script_links.specs.Given.{IsUntouched, AreUntouched, AreNumbered, IsBeginning, has_piece, is_open_line, has_piece_line, spec_of, specs_of};
 ghost use Rattle.script_links.specs.Offered.{AreAsked, TellOffers};
+ghost use Rattle.script_links.specs.Opened.{AreOpened};
 
 use script_items::{Line, OpenLine};
 use sock_io::{Ends, LinkSpec, Linker, Mode, OpenFault};
@@ -46,6 +47,7 @@ fn open_one<L: Linker>(
     ensures asked { OnOk result (L.asked links.new ≡ L.asked links.old ++ spec_of mode (shape_of «open».now.shape) ∷ []) }
     ensures refused { OnErr result (L.asked links.new ≡ L.asked links.old) }
     ensures offers { OnOk result (TellOffers L.O.state L.I.state → AreAsked (L.asked links.old) (map (λ e. L.O.state e.out) ends.old.items) (map (λ e. L.I.state e.inn) ends.old.items) → AreAsked (L.asked links.new) (map (λ e. L.O.state e.out) ends.new.items) (map (λ e. L.I.state e.inn) ends.new.items)) }
+    ensures ends { OnOk result (AreOpened L.tells_in L.O.state L.P.state L.I.state (L.asked links.old) ends.old.items → AreOpened L.tells_in L.O.state L.P.state L.I.state (L.asked links.new) ends.new.items) }
     ensures opened { length (L.asked links.new) ≡ length ends.new.items }
     ensures back { L.back links.new ≡ L.back links.old }
     ensures always_ready { L.always_ready links.new ≡ L.always_ready links.old }
@@ -82,6 +84,7 @@ fn open_line<L: Linker>(
     ensures asked { OnOk result (L.asked links.new ≡ L.asked links.old ++ specs_of mode (item line.now ∷ [])) }
     ensures refused { OnErr result (L.asked links.new ≡ L.asked links.old) }
     ensures offers { OnOk result (TellOffers L.O.state L.I.state → AreAsked (L.asked links.old) (map (λ e. L.O.state e.out) ends.old.items) (map (λ e. L.I.state e.inn) ends.old.items) → AreAsked (L.asked links.new) (map (λ e. L.O.state e.out) ends.new.items) (map (λ e. L.I.state e.inn) ends.new.items)) }
+    ensures ends { OnOk result (AreOpened L.tells_in L.O.state L.P.state L.I.state (L.asked links.old) ends.old.items → AreOpened L.tells_in L.O.state L.P.state L.I.state (L.asked links.new) ends.new.items) }
     ensures opened { length (L.asked links.new) ≡ length ends.new.items }
     ensures back { L.back links.new ≡ L.back links.old }
     ensures always_ready { L.always_ready links.new ≡ L.always_ready links.old }
@@ -115,6 +118,7 @@ pub fn open_links<L: Linker>(
     ensures asked { OnOk result (L.asked links.new ≡ specs_of mode (map item lines.now)) }
     ensures front { IsBeginning (L.asked links.new) (specs_of mode (map item lines.now)) }
     ensures offers { OnOk result (TellOffers L.O.state L.I.state → AreAsked (L.asked links.new) (map (λ e. L.O.state e.out) ends.new.items) (map (λ e. L.I.state e.inn) ends.new.items)) }
+    ensures ends { OnOk result (AreOpened L.tells_in L.O.state L.P.state L.I.state (L.asked links.new) ends.new.items) }
     ensures opened { length (L.asked links.new) ≡ length ends.new.items }
     ensures back { L.back links.new ≡ L.back links.old }
     ensures always_ready { L.always_ready links.new ≡ L.always_ready links.old }

@@ -13,6 +13,7 @@ loop-line-preserved g c =
       opened = step.opened;
       asked = asked_more c.args.mode c.args.lines.now c.loop-line.line-index c.line-item.result _ _ c.loop-line-test.true c.line-item.is i.asked step.asked;
       offers = λ tell. step.offers tell (i.offers tell);
+      ends = step.ends i.ends;
       fresh = step.fresh i.fresh;
       unfinished = step.unfinished i.unfinished;
       unclosed = step.unclosed i.unclosed;

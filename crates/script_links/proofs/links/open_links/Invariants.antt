@@ -6,6 +6,7 @@ use Rattle.sock_io.specs.Link.{end_of}
 use Rattle.script_items.specs.Meaning.{item}
 use Rattle.script_links.specs.Given.{AreUntouched, is_open_line, specs_of}
 use Rattle.script_links.specs.Offered.{AreAsked, TellOffers}
+use Rattle.script_links.specs.Opened.{AreOpened}
 use Rattle.script_links.proofs.links.open_links.Given as goal
 
 abbrev pub invariant-loop-line : goal.invariant-loop-line
@@ -13,6 +14,7 @@ invariant-loop-line g l = record {
   opened : length (g.L.Linker.asked l.links) ≡ length l.ends.items;
   asked : g.L.Linker.asked l.links ≡ specs_of l.fn.mode (map item (take l.line-index l.lines));
   offers : TellOffers g.L.O.Out.state g.L.I.In.state → AreAsked (g.L.Linker.asked l.links) (map (λ e. g.L.O.Out.state e.out) l.ends.items) (map (λ e. g.L.I.In.state e.inn) l.ends.items);
+  ends : AreOpened g.L.Linker.tells_in g.L.O.Out.state g.L.P.Peer.state g.L.I.In.state (g.L.Linker.asked l.links) l.ends.items;
   fresh : AreUntouched 0 (map (λ e. end_of (g.L.O.Out.state e.out) (g.L.I.In.state e.inn)) l.ends.items);
   unfinished : AllByRecursion (λ (e : Ends g.row.L-O.Denot g.row.L-I.Denot g.row.L-P.Denot). (g.L.O.Out.state e.out).finished ≡ false) l.ends.items;
   unclosed : AllByRecursion (λ (e : Ends g.row.L-O.Denot g.row.L-I.Denot g.row.L-P.Denot). IfSome (g.L.I.In.state e.inn).closing (λ closing. closing ≡ false)) l.ends.items;

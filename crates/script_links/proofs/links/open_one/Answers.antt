@@ -2,6 +2,7 @@ use Rattle.std.proofs.Common.{◌<◌, ap, sym, subst, ◌∙◌, rules}
 use Rattle.sock_io.specs.declared.link.LinkSpec.{LinkSpec}
 use Rattle.script_links.proofs.Numbering.{untouched, opened_more, all_with}
 use Rattle.script_links.proofs.Offers.{asked_with}
+use Rattle.script_links.proofs.Opening.{opened_with}
 use Rattle.script_links.proofs.links.open_one.Goals as goal
 
 pub returns-clause-fresh : goal.returns-clause-fresh
@@ -24,3 +25,8 @@ returns-clause-offers g c tell old =
     let opened = c.in_ok-opened in
     asked_with (λ e. g.L.O.Out.state e.out) (λ e. g.L.I.In.state e.inn) _ _ _ _ opened.opened _ c.spec_of.result c.requires.opened opened.ensures.asked (search rules) opened.ensures.fresh opened.ensures.offer
     (tell.0 opened.opened.out) (tell.1 opened.opened.inn).0 (tell.1 opened.opened.inn).1 old
+
+pub returns-clause-ends : goal.returns-clause-ends
+returns-clause-ends g c old =
+    let opened = c.in_ok-opened in let e = opened.ensures in
+    opened_with g.L.Linker.tells_in g.L.O.Out.state g.L.P.Peer.state g.L.I.In.state _ _ _ _ c.spec_of.result opened.opened e.asked (search rules) (record { one = e.one; new = e.peer; asked = e.other; tells = e.tells }) old

@@ -14,7 +14,7 @@ returns-in-Ok-clause-step c =
     let rings : SameRings p (record { reader = c.fetch.new.self; writer = c.self.inside.writer; inner = c.feed.new.self; starved = c.self.inside.starved }) = (c.fetch.ensures.ring ∙ ap (λ (s : RingPeerState). s.reader.ring) v, ap (λ (s : RingPeerState). s.writer.ring) v, (c.feed.ensures.asked.0 ∙ ap (λ (s : RingPeerState). s.inner.inn.peer.serve) v, c.feed.ensures.asked.1 ∙ ap (λ (s : RingPeerState). s.inner.inn.peer.end) v)) in
     let got = take c.in-Some.count c.fetch.new.room in
     fed p (record { reader = c.fetch.new.self; writer = c.self.inside.writer; inner = c.feed.new.self; starved = c.self.inside.starved }) got rings c.requires.1 live (ap (λ (s : RingPeerState). s.writer.bytes) v) (ap (λ (s : RingPeerState). s.writer.ending) v)
-    (c.in-Some.ensures.bytes ∙ ap (λ (s : RingPeerState). s.reader.bytes ++ got) v) (some_got c.in-Some.count c.fetch.new.room _ c.in-Some.ensures.within c.in-Some.ensures.some)
+    (c.in-Some.ensures.bytes ∙ ap (λ (s : RingPeerState). s.reader.bytes ++ got) v) (some_got c.in-Some.count c.fetch.new.room _ c.in-Some.ensures.within c.in-Some.ensures.some) (ap (λ (s : RingPeerState). s.starved) v)
 
 pub returns-in-Err-clause-step : goal.returns-in-Err-clause-step
 returns-in-Err-clause-step c =
@@ -28,6 +28,7 @@ returns-in-Err-clause-step c =
       refl,
       c.requires.1,
       c.end.ensures.2,
+      refl,
     )
 
 pub invariant_of-self-in-Ok : goal.invariant_of-self-in-Ok

@@ -1,4 +1,4 @@
-use Rattle.std.proofs.Common.{◌≡◌, ◌&&◌, true, false, take, ap, sym, ◌∙◌, subst, ◌++◌}
+use Rattle.std.proofs.Common.{◌≡◌, ◌&&◌, true, false, take, refl, ap, sym, ◌∙◌, subst, ◌++◌}
 use Rattle.sock_io.specs.Peer.{has_ended}
 use Rattle.sock_io.specs.declared.ending.Ending.TheVariants as ending
 use Rattle.ring_link.specs.Halves.{RingPeerState, SameRings}
@@ -9,7 +9,7 @@ use Rattle.ring_link.proofs.ring_peer.RingPeer.throw_away.Goals as goal
 pub returns-then-is_ended-clause-step : goal.returns-then-is_ended-clause-step
 returns-then-is_ended-clause-step c =
     let seen : has_ended c.args.self.now.reader.ending ≡ true = ap (λ (s : RingPeerState). has_ended s.reader.ending) (sym c.self.view_is) ∙ sym c.is_ended.ensures ∙ c.if-is_ended.true in
-    (idle c.args.self.now (λ _. seen), λ k. c.requires k && seen k)
+    (idle c.args.self.now (λ _. seen), λ k. c.requires k && seen k, refl)
 
 pub invariant_of-self : goal.invariant_of-self
 invariant_of-self c =
@@ -33,4 +33,4 @@ returns-in-Some-clause-step c =
     let rings : SameRings p q = (c.fetch.ensures.ring ∙ ap (λ (s : RingPeerState). s.reader.ring) v, ap (λ (s : RingPeerState). s.writer.ring) v, (ap (λ (s : RingPeerState). s.inner.inn.peer.serve) v, ap (λ (s : RingPeerState). s.inner.inn.peer.end) v)) in
     thrown p q got c.moved.result rings live (ap (λ (s : RingPeerState). s.writer) v) (c.in-Some.ensures.bytes ∙ ap (λ (s : RingPeerState). s.reader.bytes ++ got) v)
     (some_got c.in-Some.field-0 c.fetch.new.room _ c.in-Some.ensures.within c.in-Some.ensures.some)
-    (subst (λ (s : RingPeerState). s.writer.ending ≡ ending.Closed → has_ended s.reader.ending ≡ true) v c.self.invariant.2) c.moved.ensures
+    (subst (λ (s : RingPeerState). s.writer.ending ≡ ending.Closed → has_ended s.reader.ending ≡ true) v c.self.invariant.2) (ap (λ (s : RingPeerState). s.starved) v) c.moved.ensures

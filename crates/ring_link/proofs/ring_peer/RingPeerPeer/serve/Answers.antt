@@ -16,4 +16,5 @@ returns-in_default-clause-step c =
     let rings : SameRings p g.new.self = search rules in
     let more : g.new.self.writer.bytes ≡ p.writer.bytes ++ given_of g.new.room g.result = search rules in
     let closed : g.result ≡ take_.Closed → has_ended p.reader.ending ≡ true = λ e. ap (λ (s : RingPeerState). has_ended s.reader.ending) (sym c.self.view_is) ∙ g.ensures.closed e in
-    given p g.new.self g.new.room g.result c.moved.result rings o reader g.ensures.count more g.ensures.ending closed g.ensures.never c.in_default.not-Empty c.moved.ensures
+    let calm : g.new.self.starved ≡ p.starved = g.ensures.starved ∙ ap (λ (s : RingPeerState). s.starved) c.self.view_is in
+    given p g.new.self g.new.room g.result c.moved.result rings o reader g.ensures.count more g.ensures.ending closed g.ensures.never c.in_default.not-Empty calm c.moved.ensures
