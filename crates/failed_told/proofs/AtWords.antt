@@ -58,7 +58,7 @@ use Rattle.expire_told.specs.call_client.proofs.Telling.{did_total}
 use Rattle.expire_told.specs.call_told.specs.Least.{is_made_for}
 use Rattle.expire_told.specs.call_told.proofs.Ends.{made_silent, counted_here}
 use Rattle.expire_told.specs.call_told.proofs.Runs.{none_left}
-use Rattle.expire_told.proofs.Making.{word_is}
+use Rattle.expire_told.proofs.Making.{word_is as kept_word}
 use Rattle.expire_told.specs.sock_deeds.proofs.Flats.{append_first, append_later}
 use Rattle.failed_told.specs.Missed.{acted_id, id_of, attempt_of}
 use Rattle.failed_told.proofs.Losses.{IsAskedIn}
@@ -230,7 +230,7 @@ module _ (q : id_plan.Plan) where
   for_one Q n put v here o word h = dite (ℕ_discrete (stored_in (at_index q o) word v) 0)
       (λ z. inr (
       let k : Kept = record { place = at_index q n; own = true; word = put } in
-      let w = word_is (at_index q o) word k (omega (arith, z, h)) in let at = w.0 in
+      let w = kept_word (at_index q o) word k (omega (arith, z, h)) in let at = w.0 in
       let same : n ≡ o = omega (arith, at) in
       subst (λ (y : ℕ). Q y word) same (subst (Q n) w.1 here)))
       (λ ne. inl (omega (arith, ne)))

@@ -78,7 +78,7 @@ name_at : ℕ → Op → ℕ
 name_at n (ops.Call asked) = name_of asked n
 name_at n other = 0
 
-same_name : (a b : Asked) (n : ℕ) → ops.Call a ≡ ops.Call b → name_of a n ≡ name_of b n
+pub same_name : (a b : Asked) (n : ℕ) → ops.Call a ≡ ops.Call b → name_of a n ≡ name_of b n
 unfolding name_at
 same_name a b n e = ap (name_at n) e
 

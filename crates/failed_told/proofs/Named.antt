@@ -43,7 +43,7 @@ use Rattle.expire_told.specs.call_places.proofs.Places.{all as all_clients, view
 use Rattle.expire_told.specs.call_told.specs.Least.{is_made_for}
 use Rattle.expire_told.specs.call_told.proofs.Resting.{is_word}
 use Rattle.expire_told.specs.Said.{HaveKeptOf}
-use Rattle.expire_told.proofs.Making.{word_is}
+use Rattle.expire_told.proofs.Making.{word_is as kept_word}
 use Rattle.expire_told.specs.sock_deeds.specs.Runs.{IsOperation, seat_of, DeedRun}
 use Rattle.expire_told.specs.sock_deeds.proofs.Accepting.{log}
 use Rattle.expire_told.specs.sock_deeds.proofs.Orders.{orders}
@@ -171,7 +171,7 @@ module _ {O : Type 0} {g : Ghosts O} {state : O → OutState} {readers : List (L
   named o word found =
       let place : ℕ = at_index q o in
       let k = total_some (is_word place word) kept found in
-      let e = word_is place word k.1 k.3 in
+      let e = kept_word place word k.1 k.3 in
       let stored : 0 < total (is_stored place word) kept = subst (λ (y : ℕ). 0 < total (is_stored place y) kept) e.1 (subst (λ (z : ℕ). 0 < total (is_stored z k.1.word) kept) e.0 (closing.found_stored k.1 k.0 k.2)) in
       let h : View Asked → ℕ = stored_in place word in
       let s = total_some (λ (y : Client g state p q). h (view_of y)) crew (let a = keeps.stored place word in let b = total_map h view_of crew in let d = ap (total h) (views_are run) in omega (arith, stored, a, b, d)) in

@@ -60,7 +60,7 @@ use Rattle.expire_told.specs.sock_deeds.proofs.Tasks.{fits}
 use Rattle.expire_told.specs.sock_deeds.proofs.Whole.{fixed}
 use Rattle.failed_told.specs.Missed.{attempt_of, socks_behind}
 use Rattle.failed_told.proofs.AtWords.{attempt_link, went_link, acted_link, link_in}
-use Rattle.failed_told.proofs.Drops.{marked_act}
+use Rattle.failed_told.proofs.Drops.{same_name, marked_act}
 use Rattle.failed_told.proofs.Fallen.{its_seat, reached}
 use Rattle.failed_told.proofs.Losses.{IsAskedIn}
 use Rattle.failed_told.proofs.Single.{IsAttemptOf, sender, alone, none_there, one_there}
@@ -118,15 +118,7 @@ module _ {O : Type 0} (state : O → OutState) (p : Plan) (q : id_plan.Plan) whe
   acted_over : {g : Ghosts O} (link number : ℕ) (op : Op) (by : Option Outcome) (s t : Stand g) (a : Acted state p q number op by s t) → acted_link state p q number op by s t a ≡ Some link → (asked : Asked) → op ≡ ops.Call asked → IsOver p (name_of asked 0) link t.me.0 (acted_entries state p q number op by s t a)
   acted_over link number (ops.Call own) None s t a is asked op =
       let b = a.1 in let own_over = attempt_over (name_of own 0) link b.socket (letter_for own a.0 0 zero-le) s.me.0 b.at (both_of t) b.made_for.found b.attempted is in
-      subst (λ (n : ℕ). IsOver p n link t.me.0 (attempt_entries state p q b.socket (letter_for own a.0 0 zero-le) b.at (both_of t) b.attempted)) (same_first own asked op) own_over
-    where
-      first_name : Op → ℕ
-      first_name (ops.Call x) = name_of x 0
-      first_name other = 0
-
-      same_first : (x y : Asked) → ops.Call x ≡ ops.Call y → name_of x 0 ≡ name_of y 0
-      unfolding first_name
-      same_first x y e = ap first_name e
+      subst (λ (n : ℕ). IsOver p n link t.me.0 (attempt_entries state p q b.socket (letter_for own a.0 0 zero-le) b.at (both_of t) b.attempted)) (same_name own asked 0 op) own_over
   acted_over link number (ops.Call own) (Some by) s t a is asked op = absurd (none-some link is)
   acted_over link number (ops.Open n k) by s t a is asked op = absurd (none-some link is)
   acted_over link number (ops.Send n bytes) by s t a is asked op = absurd (none-some link is)
