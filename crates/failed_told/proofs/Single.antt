@@ -272,7 +272,7 @@ module _ {O : Type 0} {g : Ghosts O} {state : O → OutState} {readers : List (L
         (λ z. absurd (let a = term (by_retry is_first) (deeds_of x) i went there in let b = none_first x.thread x.is in let d = only-at 0 r.attempt z in omega (arith, a, b, d)))
         (λ n. omega (arith, n))
 
-    again_attempt : (o id n : ℕ) → r.id ≡ id → r.attempt ≡ n → get_elem? (deeds_of x) i ≡ some went → IsAttemptOf o id n went
+    pub again_attempt : (o id n : ℕ) → r.id ≡ id → r.attempt ≡ n → get_elem? (deeds_of x) i ≡ some went → IsAttemptOf o id n went
     again_attempt o id n same number there = again (let a = again_later there in omega (arith, a, number)) (let a = pair-at id n r.id r.attempt same number in omega (arith, a))
 
   -- whatever sent a frame with this place index is that attempt

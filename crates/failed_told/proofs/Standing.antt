@@ -132,7 +132,7 @@ deed_over : {O : Type 0} {g : Ghosts O} {state : O → OutState} {p : Plan} {q :
 deed_over {state = state} {p = p} {q = q} (operates x by s t a) link is asked op = acted_over state p q link x.number x.op by s t a is asked op
 deed_over {state = state} {p = p} {q = q} (retries r s t (had_ended h)) link is asked asks = absurd (none-some link is)
 deed_over {state = state} {p = p} {q = q} (retries r s t (overtaken k u l o)) link is asked asks = absurd (none-some link is)
-deed_over {state = state} {p = p} {q = q} (retries r s t (went_again k u l w)) link is asked asks = subst (λ (a : Asked). IsOver p (name_of a r.attempt) link t.socks (entries_of {state = state} {p = p} {q = q} (retries r s t (went_again k u l w)))) asks (went_over state p q (name_of k.content r.attempt) link (letter_for k.content r.id r.attempt r.low) _ t w.went is)
+deed_over {g = g} {state = state} {p = p} {q = q} (retries r s t (went_again k u l w)) link is asked asks = subst (λ (a : Asked). IsOver p (name_of a r.attempt) link t.socks (entries_of {g = g} {state = state} {p = p} {q = q} (retries r s t (went_again k u l w)))) asks (went_over state p q (name_of k.content r.attempt) link (letter_for k.content r.id r.attempt r.low) _ t w.went is)
 
 -- ## The run
 
