@@ -260,6 +260,6 @@ module _ {O : Type 0} {g : Ghosts O} {state : O → OutState} {readers : List (L
               let same : queued_in e.lock.slot (parts word).first (parts word).oldest notes ≡ queued_in e.lock.slot (parts e.lock.word.0).first (error_in e.code e.attempt) notes = λ i. queued_in e.lock.slot (first i) (oldest i) notes in
               elim (others e.lock.slot (parts e.lock.word.0).first (error_in e.code e.attempt) (omega (arith, w, same))) [
                 | inl own ↦ (let timely = timely_low e.attempt (parts e.lock.word.0).attempt (let a = e.lock.fits.room in let b = e.lock.fits.range_high in omega (arith, a, b)) e.cause.timely in
-                  let y = by_clients run outcomes said_own notes kept words closing noted weak e.lock e.code e.attempt timely own in inr (of_reason read y.place y.client y.at y.reason))
+                    let y = by_clients run outcomes said_own notes kept words closing noted weak e.lock e.code e.attempt timely own in inr (of_reason read y.place y.client y.at y.reason))
                 | inr r ↦ inl (of_queue client asked task r)
               ]

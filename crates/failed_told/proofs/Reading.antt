@@ -71,10 +71,12 @@ loss_code other calm = inl refl
 
 -- what a reader queues has its code
 posts_queue : (q : Plan) (link code : ℕ) (v w : View Asked) → IsReadCode code → Posts q link code v w → Queues v w
-posts_queue q link code v w loss a = record { queued = λ i first e h. elim (a.queued i first e h) [
-  | inl x ↦ inl x
-  | inr y ↦ inr (subst IsReadCode (sym (code_at code y.word) ∙ ap code_of y.error_is) loss)
-] }
+posts_queue q link code v w loss a = record {
+  queued = λ i first e h. elim (a.queued i first e h) [
+    | inl x ↦ inl x
+    | inr y ↦ inr (subst IsReadCode (sym (code_at code y.word) ∙ ap code_of y.error_is) loss)
+  ];
+}
 
 pub rest_queues : (code : ℕ) (p : Plan) (os : List ℕ) (b b' : Books) → RestEnded p code os b b' → Queues b.view b'.view
 rest_queues code p os b b' h = none_queued b.view b'.view (rest_stays code p os b b' h)

@@ -98,10 +98,10 @@ module _ (q : Plan) (links : ℕ) (gave : ℕ → List ℕ) (code : ℕ) (Known 
     step_then a b c s t = record {
       later = later_then a.view b.view c.view s.later t.later;
       tells = λ given. (let x = s.tells given in let y = t.tells x.early in record {
-          more = x.more ++ y.more;
-          told = y.told ∙ (ap (λ (l : List Told). l ++ y.more) x.told ∙ append_assoc a.told x.more y.more);
-          each = all_both (ToldEnd c.view) x.more y.more (all_then (ToldEnd b.view) (ToldEnd c.view) x.more (told_later b.view c.view t.later) x.each) y.each;
-          early = y.early;
+        more = x.more ++ y.more;
+        told = y.told ∙ (ap (λ (l : List Told). l ++ y.more) x.told ∙ append_assoc a.told x.more y.more);
+        each = all_both (ToldEnd c.view) x.more y.more (all_then (ToldEnd b.view) (ToldEnd c.view) x.more (told_later b.view c.view t.later) x.each) y.each;
+        early = y.early;
       });
     }
 
