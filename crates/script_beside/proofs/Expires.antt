@@ -40,7 +40,7 @@ module _ (P : Type 0) {O I : Type 0} (g : Ghosts O) (out : O → OutState) (inn 
   abbrev outcomes : List (Option Outcome)
   outcomes = sockets.outcomes P g out inn bytes script reads text links r
 
-  module _ (given : ℕ → List ℕ) (is : given ≡ sockets.gave P g out inn bytes script reads text links r) where
+  module _ (given : ℕ → List ℕ) (is_gave : given ≡ sockets.gave P g out inn bytes script reads text links r) where
     abbrev fixed : Fixed
     fixed = sockets.fixed P g out inn bytes script reads text links r
 
@@ -54,10 +54,10 @@ module _ (P : Type 0) {O I : Type 0} (g : Ghosts O) (out : O → OutState) (inn 
 
     told_here : AreCallsTold (plan_of script) all outcomes fixed given by_link (last_attempt last.notes) (EndedByReading (plan_of script) all outcomes fixed given by_link links)
     told_here = record {
-      expires = λ client of t by is op became. expires P g out inn bytes script reads text links r given is client of t by is op became (expired client of t by is op became);
+      expires = λ client of t by is op became. expires P g out inn bytes script reads text links r given is_gave client of t by is op became (expired client of t by is op became);
       expired_once = once r.left.ran (sockets.are P g out inn bytes script reads text links r) (sockets.may P g out inn bytes script reads text links r) last.notes last.kept r.rest.words r.rest.closing (sockets.have P g out inn bytes script reads text links r) (keeps P g out inn bytes script reads text links r) outcomes (said P g out inn bytes script reads text links r) (said_ended P g out inn bytes script reads text links r) (begun_not P g out inn bytes script reads text links r);
-      failed = failed P g out inn bytes script reads text links r given is;
-      again = again P g out inn bytes script reads text links r given is;
+      failed = failed P g out inn bytes script reads text links r given is_gave;
+      again = again P g out inn bytes script reads text links r given is_gave;
       versions = calls_apart P g out inn bytes script reads text links r;
     }
 

@@ -27,7 +27,7 @@ use Rattle.corr_core.specs.declared.marks.Note.{Note}
 use Rattle.corr_core.specs.declared.marks.Noted.{Noted}
 use Rattle.corr_core.specs.declared.marks.Plan as id_plan
 use Rattle.corr_core.specs.declared.marks.View.{View}
-use Rattle.id_rule.specs.Lawful.{at_index, notes_of as notes_in}
+use Rattle.script_calls.specs.id_rule.specs.Lawful.{at_index, notes_of as notes_in}
 use Rattle.corr_id.proofs.Seats.{total_append}
 use Rattle.sock_message.specs.Asked.{Asked, name_of}
 use Rattle.seat_programs.specs.declared.task.Op.{Op}
