@@ -19,17 +19,17 @@ module _ (p : Plan) (clients : List (List Task)) (outcomes : List (Option Outcom
     pub on : MayBeOn p clients outcomes fixed gave orders o n name k
     pub ended : ReadingEnded k
 
-  -- the message of this attempt, which may be on k alone, was dropped, since the reader of k had set its socket failed
+  -- the message of this attempt, which may be on k alone, was dropped, since the reader of k, whose reading ended early, had set its socket failed
   pub record DroppedWith (o n name k : ℕ) : Type 0 where
     pub on : MayBeOn p clients outcomes fixed gave orders o n name k
     pub dropped : IsDropped p clients outcomes fixed gave orders o n
     pub failing : IsFailing p clients outcomes fixed gave orders k
     pub ended : ReadingEnded k
 
-  -- How the call that is operation o, with no attempt behind the last, was ended with the code by whoever read the links: at a fault in what the link of one of its attempts gave, as the reading of that link ended,
-  -- or since the reader of that link had set its socket failed, by which the message was dropped. Or it was one of those that were left when no link was read any more
+  -- How the call that is operation o, whose last attempt this is, was ended with the code by whoever read the links: at a fault in what the link of one of its attempts gave, or as the reading of that link ended otherwise;
+  -- or since a message was dropped for which the reader of the link had set the socket failed with the code of a fault. Or it was one of those that were left when no link was read any more
   pub data EndedByReading (o : ℕ) (asked : Asked) (code last : ℕ) : Type 0 where
     AtFault : code ≡ ERESPONSE → (n k : ℕ) → n ≤ last → MayBeOn p clients outcomes fixed gave orders o n (name_of asked n) k → GaveFault p clients outcomes fixed gave orders k → EndedByReading o asked code last
     AtEnd : code ≡ EEOF → (n k : ℕ) → n ≤ last → LostWith o n (name_of asked n) k → EndedByReading o asked code last
-    AtDrop : (code ≡ EEOF) ⊎ (code ≡ ERESPONSE) → (n k : ℕ) → n ≤ last → DroppedWith o n (name_of asked n) k → EndedByReading o asked code last
+    AtDrop : code ≡ ERESPONSE → (n k : ℕ) → n ≤ last → DroppedWith o n (name_of asked n) k → EndedByReading o asked code last
     LeftOver : code ≡ EEOF → EndedByReading o asked code last

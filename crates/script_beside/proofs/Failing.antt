@@ -293,7 +293,10 @@ module _ (P : Type 0) {O I : Type 0} (g : Ghosts O) (out : O → OutState) (inn 
         (e, ap (slice_get links) (sym place) ∙ b.link, inr (subst (λ (f : ℕ → List ℕ). EndsEarly (f k) e) (sym is_gave) shown))
 
     on_drop : (number : ℕ) (asked : Asked) (code : ℕ) → IsReadCode code → DroppedLink number asked code → WhyRead number asked code (last_attempt notes number)
-    on_drop number asked code read h = AtDrop read h.attempt h.link h.low (record { on = h.on; dropped = h.dropped; failing = h.failing; ended = ended_early h.link h.early })
+    on_drop number asked code read h = elim read [
+      | inl e ↦ AtEnd e h.attempt h.link h.low (record { on = h.on; ended = ended_early h.link h.early })
+      | inr e ↦ AtDrop e h.attempt h.link h.low (record { on = h.on; dropped = h.dropped; failing = h.failing; ended = ended_early h.link h.early })
+    ]
 
     -- ### Calls that failed
 
