@@ -21,7 +21,7 @@ use Rattle.script_links.specs.Offered.{TellOffers}
 use Rattle.script_run.specs.Played.{TellClosed}
 use Rattle.serve_port.specs.Serving.{ServedConnection}
 use Rattle.brpc_eng.specs.Streams.{script_limit, IsAtEnd}
-use Rattle.brpc_eng.specs.Answers.{HaveRisen, StandStill, AllTell, edges_of, Input, Output, Links, TextWritten, Ran, Reported, MemoryRanOut, OpenFailed, RanOnThreads, ThreadsReported, ReadersReported, ThreadsRanOut, ThreadsNotOpened, ScriptEnd, FaultWritten, Replayed, RanScript, FaultyScript, SourceFailed, TooLong, NoMemory, Answers, NoCommand, Generated, Generates, LoadRan, LoadSummed, LoadRanOut, LoadNotOpened, Loads, PrintsInput, Replays, Simulates, RunsOnThreads, ServeEnds, ServedWhole, NotAccepted, ConnectionFailed, MetFault, ServeRanOut, ServesPort, frames_status, FramesPrinted}
+use Rattle.brpc_eng.specs.Answers.{HaveRisen, StandStill, AllTell, edges_of, Input, Output, Links, TextWritten, Ran, Reported, MemoryRanOut, OpenFailed, RanOnThreads, ThreadsReported, ThreadsRanOut, ThreadsNotOpened, ScriptEnd, FaultWritten, Replayed, RanScript, FaultyScript, SourceFailed, TooLong, NoMemory, Answers, NoCommand, Generated, Generates, LoadRan, LoadSummed, LoadRanOut, LoadNotOpened, Loads, PrintsInput, Replays, Simulates, RunsOnThreads, ServeEnds, ServedWhole, NotAccepted, ConnectionFailed, MetFault, ServeRanOut, ServesPort, frames_status, FramesPrinted}
 
 -- ## Status 2
 
@@ -35,8 +35,7 @@ not_two_ran turns script out links status (MemoryRanOut s wrote) = λ e. absurd 
 not_two_ran turns script out links status (OpenFailed s rose back wrote) = λ e. absurd (omega (arith, e, s))
 
 not_two_threads : (script : List Item) (out : Output) (links : Links) (status : ℕ) → RanOnThreads script out links status → status ≢ 2
-not_two_threads script out links status (ThreadsReported built text is wrote) = not_two_written out text status wrote
-not_two_threads script out links status (ReadersReported waits text is wrote) = not_two_written out text status wrote
+not_two_threads script out links status (ThreadsReported text is wrote) = not_two_written out text status wrote
 not_two_threads script out links status (ThreadsRanOut s wrote) = λ e. absurd (omega (arith, e, s))
 not_two_threads script out links status (ThreadsNotOpened s rose back wrote) = λ e. absurd (omega (arith, e, s))
 
@@ -44,7 +43,7 @@ not_two_fault : (out : Output) (line kind status : ℕ) → FaultWritten out lin
 not_two_fault out line kind status (inl w) = λ e. absurd (omega (arith, e, w.0))
 not_two_fault out line kind status (inr w) = λ e. absurd (omega (arith, e, w.0))
 
-not_two : {mode : List Item → Mode} (ran : ScriptEnd) (input : Input) (out : Output) (links : Links) (bytes : List ℕ) (status : ℕ) → ((script : List Item) → ran script out links status → status ≢ 2) → Replayed mode ran input out links bytes status → status ≢ 2
+not_two : {mode : Mode} (ran : ScriptEnd) (input : Input) (out : Output) (links : Links) (bytes : List ℕ) (status : ℕ) → ((script : List Item) → ran script out links status → status ≢ 2) → Replayed mode ran input out links bytes status → status ≢ 2
 not_two ran input out links bytes status runs (RanScript end script is opened ended) = runs script ended
 not_two ran input out links bytes status runs (FaultyScript end line kind is back wrote) = not_two_fault out line kind status wrote
 not_two ran input out links bytes status runs (SourceFailed s rose back wrote) = λ e. absurd (omega (arith, e, s))
@@ -115,12 +114,11 @@ calm_ran turns script input out links status calm (MemoryRanOut s wrote) = inr s
 calm_ran turns script input out links status calm (OpenFailed s rose back wrote) = absurd (calm.linker rose)
 
 calm_threads : (script : List Item) (input : Input) (out : Output) (links : Links) (status : ℕ) → IsCalm input out links → RanOnThreads script out links status → (status ≡ 0) ⊎ (status ≡ 7)
-calm_threads script input out links status calm (ThreadsReported built text is wrote) = inl (calm_written out text status calm.sink wrote)
-calm_threads script input out links status calm (ReadersReported waits text is wrote) = inl (calm_written out text status calm.sink wrote)
+calm_threads script input out links status calm (ThreadsReported text is wrote) = inl (calm_written out text status calm.sink wrote)
 calm_threads script input out links status calm (ThreadsRanOut s wrote) = inr s
 calm_threads script input out links status calm (ThreadsNotOpened s rose back wrote) = absurd (calm.linker rose)
 
-calm_replayed : {mode : List Item → Mode} (ran : ScriptEnd) (script : List Item) (given : List ℕ) (input : Input) (out : Output) (links : Links) (bytes : List ℕ) (status : ℕ) → IsCalm input out links → Consumes (Some given) input.left bytes →
+calm_replayed : {mode : Mode} (ran : ScriptEnd) (script : List Item) (given : List ℕ) (input : Input) (out : Output) (links : Links) (bytes : List ℕ) (status : ℕ) → IsCalm input out links → Consumes (Some given) input.left bytes →
     length given ≤ script_limit → script_of given ≡ Ok script → ((read : List Item) → read ≡ script → ran read out links status → (status ≡ 0) ⊎ (status ≡ 7)) → Replayed mode ran input out links bytes status → (status ≡ 0) ⊎ (status ≡ 7)
 calm_replayed ran script given input out links bytes status calm came few is runs (RanScript end read is' opened ended) =
     let same : script_of bytes ≡ Ok script = ap script_of (came_all given bytes input.left came end) ∙ is in
@@ -182,12 +180,11 @@ still_faulty out line kind status (inl w) e = absurd (omega (arith, e, w.0))
 still_faulty out line kind status (inr w) e = w.1.1
 
 still_threads : (script : List Item) (out : Output) (links : Links) (status : ℕ) → RanOnThreads script out links status → status ≡ 0 → StandStill out.faults
-still_threads script out links status (ThreadsReported built text is wrote) e = still_written out text status wrote e
-still_threads script out links status (ReadersReported waits text is wrote) e = still_written out text status wrote e
+still_threads script out links status (ThreadsReported text is wrote) e = still_written out text status wrote e
 still_threads script out links status (ThreadsRanOut s wrote) e = wrote.1
 still_threads script out links status (ThreadsNotOpened s rose back wrote) e = wrote.1
 
-still_replayed : {mode : List Item → Mode} (ran : ScriptEnd) (input : Input) (out : Output) (links : Links) (bytes : List ℕ) (status : ℕ) → ((script : List Item) → ran script out links status → status ≡ 0 → StandStill out.faults) → Replayed mode ran input out links bytes status → status ≡ 0 → StandStill out.faults
+still_replayed : {mode : Mode} (ran : ScriptEnd) (input : Input) (out : Output) (links : Links) (bytes : List ℕ) (status : ℕ) → ((script : List Item) → ran script out links status → status ≡ 0 → StandStill out.faults) → Replayed mode ran input out links bytes status → status ≡ 0 → StandStill out.faults
 still_replayed ran input out links bytes status runs (RanScript end script is opened ended) e = runs script ended e
 still_replayed ran input out links bytes status runs (FaultyScript end line kind is back wrote) e = still_faulty out line kind status wrote e
 still_replayed ran input out links bytes status runs (SourceFailed s rose back wrote) e = wrote.1

@@ -1,13 +1,11 @@
 -- How the run of a script on threads ends, by what its calls say.
-use Rattle.std.proofs.Common.{◌≡◌, ◌≢◌, ℕ, ◌⊎◌, inl, inr, true, false, List, length, Vec, Result, Ok, Err, IfOk, OnOk, IsErrOf, refl, subst, arith}
+use Rattle.std.proofs.Common.{◌≡◌, ◌≢◌, ℕ, ◌⊎◌, inl, inr, List, length, Vec, Result, Ok, Err, IfOk, OnOk, IsErrOf, refl, subst, arith}
 use Rattle.std.specs.declared.alloc.Global.{Global}
 use Rattle.brpc_model.specs.Items.{Item}
 use Rattle.sock_io.specs.declared.link.Mode.{Mode}
 use Rattle.sock_io.specs.declared.link.OpenFault.{OpenFault}
 use Rattle.sock_io.specs.declared.link.OpenFault.TheVariants as opening
 use Rattle.script_links.specs.Given.{AreNumbered, AreUntouched, IsBeginning, specs_of}
-use Rattle.script_beside.specs.script_calls.specs.Built.{is_joinless}
-use Rattle.script_beside.specs.script_calls.specs.Told.{IsCallText}
 use Rattle.script_beside.specs.Told.{IsBesideText}
 use Rattle.brpc_eng.specs.Answers as answer
 
@@ -15,19 +13,12 @@ use Rattle.brpc_eng.specs.Answers as answer
 abbrev LeftUnopened : Result (Vec ℕ Global) OpenFault → answer.Links → Type 0
 LeftUnopened ran links = (IsErrOf ran opening.Failed → answer.HaveRisen links.faults) × (IsErrOf ran opening.Failed → AreUntouched 0 links.ends)
 
--- a script without a line that waits was run
-pub threads_ran : (script : List Item) (ran : Result (Vec ℕ Global) OpenFault) (out : answer.Output) (links : answer.Links) (status : ℕ) → is_joinless script ≡ true → IfOk ran (λ text. IsCallText script text.items links.ends) → LeftUnopened ran links →
+-- a script was run
+pub threads_ran : (script : List Item) (ran : Result (Vec ℕ Global) OpenFault) (out : answer.Output) (links : answer.Links) (status : ℕ) → IfOk ran (λ text. IsBesideText script text.items links.ends) → LeftUnopened ran links →
     answer.RunTold ran out status → answer.RanOnThreads script out links status
-threads_ran script (Ok text) out links status built is left told = answer.ThreadsReported built text.items is told
-threads_ran script (Err opening.Failed) out links status built is left told = answer.ThreadsNotOpened told.0 (left.0 refl) (left.1 refl) told.1
-threads_ran script (Err opening.NoMemory) out links status built is left told = answer.ThreadsRanOut told.0 told.1
-
--- one with such a line was run
-pub readers_ran : (script : List Item) (ran : Result (Vec ℕ Global) OpenFault) (out : answer.Output) (links : answer.Links) (status : ℕ) → is_joinless script ≡ false → IfOk ran (λ text. IsBesideText script text.items links.ends) → LeftUnopened ran links →
-    answer.RunTold ran out status → answer.RanOnThreads script out links status
-readers_ran script (Ok text) out links status waits is left told = answer.ReadersReported waits text.items is told
-readers_ran script (Err opening.Failed) out links status waits is left told = answer.ThreadsNotOpened told.0 (left.0 refl) (left.1 refl) told.1
-readers_ran script (Err opening.NoMemory) out links status waits is left told = answer.ThreadsRanOut told.0 told.1
+threads_ran script (Ok text) out links status is left told = answer.ThreadsReported text.items is told
+threads_ran script (Err opening.Failed) out links status is left told = answer.ThreadsNotOpened told.0 (left.0 refl) (left.1 refl) told.1
+threads_ran script (Err opening.NoMemory) out links status is left told = answer.ThreadsRanOut told.0 told.1
 
 -- a report was written or begun only where the run has one
 was_run : {A : Type 0} (ran : Result (Vec ℕ Global) OpenFault) (out : answer.Output) (status : ℕ) → answer.RunTold ran out status → OnOk ran A → (status ≡ 0) ⊎ (status ≡ 5) → A

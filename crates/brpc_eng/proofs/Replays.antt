@@ -27,7 +27,7 @@ fault_written out line kind text e wrote = let P : List ℕ → Type 0 = λ x. a
 within_limit : (given left : Option (List ℕ)) (bytes : List ℕ) (read : Vec ℕ Global) → ReadWhole given left bytes (Ok read) → length bytes ≤ script_limit
 within_limit given left bytes read whole = whole.within (λ e. absurd (cc)) (λ e. absurd (cc))
 
-whole_input : {mode : List Item → Mode} (ran : answer.ScriptEnd) (input : answer.Input) (out : answer.Output) (links : answer.Links) (bytes : List ℕ) (read : Vec ℕ Global) (status : ℕ) → ReadWhole input.given input.left bytes (Ok read) →
+whole_input : {mode : Mode} (ran : answer.ScriptEnd) (input : answer.Input) (out : answer.Output) (links : answer.Links) (bytes : List ℕ) (read : Vec ℕ Global) (status : ℕ) → ReadWhole input.given input.left bytes (Ok read) →
     answer.Replayed mode ran input out links bytes status → answer.ReplayedInput mode ran input out links status
 whole_input ran input out links bytes read status whole replayed =
     let few = within_limit input.given input.left bytes read whole in
@@ -40,14 +40,14 @@ came_is input bytes seen read whole e = e ∙ whole.whole.0
 pub read_few : (given left : Option (List ℕ)) (bytes seen : List ℕ) (read : Vec ℕ Global) → ReadWhole given left bytes (Ok read) → seen ≡ read.items → length seen ≤ script_limit
 read_few given left bytes seen read whole e = let few = within_limit given left bytes read whole in let long = ap length (e ∙ whole.whole.0) in omega (arith, few, long)
 
-pub replays_read : {mode : List Item → Mode} (ran : answer.ScriptEnd) (input : answer.Input) (out : answer.Output) (links : answer.Links) (status : ℕ) (bytes seen : List ℕ) (read : Vec ℕ Global) (script : List Item) →
+pub replays_read : {mode : Mode} (ran : answer.ScriptEnd) (input : answer.Input) (out : answer.Output) (links : answer.Links) (status : ℕ) (bytes seen : List ℕ) (read : Vec ℕ Global) (script : List Item) →
     ReadWhole input.given input.left bytes (Ok read) → seen ≡ read.items → script_of seen ≡ Ok script →
-    answer.OpenedBy (mode script) script links status → ran script out links status → answer.ReplayedInput mode ran input out links status
+    answer.OpenedBy mode script links status → ran script out links status → answer.ReplayedInput mode ran input out links status
 replays_read ran input out links status bytes seen read script whole s e opened ended =
     let is : script_of bytes ≡ Ok script = ap script_of (sym (came_is input bytes seen read whole s)) ∙ e in
     whole_input ran input out links bytes read status whole (answer.RanScript whole.whole.1 script is opened ended)
 
-pub replays_faulty : {mode : List Item → Mode} (ran : answer.ScriptEnd) (input : answer.Input) (out : answer.Output) (links : answer.Links) (status line kind : ℕ) (bytes seen : List ℕ) (read : Vec ℕ Global) →
+pub replays_faulty : {mode : Mode} (ran : answer.ScriptEnd) (input : answer.Input) (out : answer.Output) (links : answer.Links) (status line kind : ℕ) (bytes seen : List ℕ) (read : Vec ℕ Global) →
     ReadWhole input.given input.left bytes (Ok read) → seen ≡ read.items → script_of seen ≡ Err (line, kind) → answer.OpenedNone links → answer.FaultWritten out line kind status →
     answer.ReplayedInput mode ran input out links status
 replays_faulty ran input out links status line kind bytes seen read whole s e back wrote =

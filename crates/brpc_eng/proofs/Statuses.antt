@@ -6,7 +6,7 @@ use Rattle.brpc_model.specs.Operations.{Turn}
 use Rattle.brpc_model.specs.Script.{script_of}
 use Rattle.sock_io.specs.declared.link.Mode.{Mode}
 use Rattle.brpc_eng.specs.Streams.{script_limit, IsAtEnd}
-use Rattle.brpc_eng.specs.Answers.{HaveRisen, Input, Output, Links, TextWritten, Ran, Reported, MemoryRanOut, OpenFailed, RanOnThreads, ThreadsReported, ReadersReported, ThreadsRanOut, ThreadsNotOpened, ScriptEnd, by_turns, FaultWritten, Replayed, RanScript, FaultyScript, SourceFailed, TooLong, NoMemory, ReplayedInput}
+use Rattle.brpc_eng.specs.Answers.{HaveRisen, Input, Output, Links, TextWritten, Ran, Reported, MemoryRanOut, OpenFailed, RanOnThreads, ThreadsReported, ThreadsRanOut, ThreadsNotOpened, ScriptEnd, by_turns, FaultWritten, Replayed, RanScript, FaultyScript, SourceFailed, TooLong, NoMemory, ReplayedInput}
 
 -- ## What each way of ending says of the bytes that came
 
@@ -37,8 +37,7 @@ pub turns_run : (turns : List Item → List Turn) → AreRuns (by_turns turns)
 turns_run turns script out links status ran = is_run (turns script) script out links status ran
 
 pub threads_run : AreRuns RanOnThreads
-threads_run script out links status (ThreadsReported built text is wrote) = is_written out text status wrote
-threads_run script out links status (ReadersReported waits text is wrote) = is_written out text status wrote
+threads_run script out links status (ThreadsReported text is wrote) = is_written out text status wrote
 threads_run script out links status (ThreadsRanOut s wrote) = inr (inr (inl s))
 threads_run script out links status (ThreadsNotOpened s rose back wrote) = inr (inr (inr s))
 
@@ -46,7 +45,7 @@ fault_status : (out : Output) (line kind status : ℕ) → FaultWritten out line
 fault_status out line kind status (inl w) = inl w.0
 fault_status out line kind status (inr w) = inr w.0
 
-ends_of : {mode : List Item → Mode} (ran : ScriptEnd) → AreRuns ran → (input : Input) (out : Output) (links : Links) (bytes : List ℕ) (status : ℕ) → Replayed mode ran input out links bytes status → Ends input bytes status
+ends_of : {mode : Mode} (ran : ScriptEnd) → AreRuns ran → (input : Input) (out : Output) (links : Links) (bytes : List ℕ) (status : ℕ) → Replayed mode ran input out links bytes status → Ends input bytes status
 ends_of ran runs input out links bytes status (RanScript end script is opened ended) = WasRun end script is (runs script out links status ended)
 ends_of ran runs input out links bytes status (FaultyScript end line kind is back wrote) = WasFaulty end line kind is (fault_status out line kind status wrote)
 ends_of ran runs input out links bytes status (SourceFailed s rose back wrote) = WasCut s rose
@@ -81,7 +80,7 @@ no_script input bytes status line kind (WasCut s rose) e = inr (inl (s, rose))
 no_script input bytes status line kind (WasLong s long) e = inr (inr (inl (s, long)))
 no_script input bytes status line kind (RanOut s) e = inr (inr (inr s))
 
-pub faulty_script_exactly : {mode : List Item → Mode} (ran : ScriptEnd) → AreRuns ran → (input : Input) (out : Output) (links : Links) (status : ℕ) → (read : ReplayedInput mode ran input out links status) →
+pub faulty_script_exactly : {mode : Mode} (ran : ScriptEnd) → AreRuns ran → (input : Input) (out : Output) (links : Links) (status : ℕ) → (read : ReplayedInput mode ran input out links status) →
     (status ≡ 3 → IsAtEnd input.left × ((line : ℕ) × (kind : ℕ) × (script_of read.bytes ≡ Err (line, kind))))
     × ((line kind : ℕ) → script_of read.bytes ≡ Err (line, kind) → (status ≡ 3) ⊎ EndedBefore input read.bytes status)
 faulty_script_exactly ran runs input out links status read =
@@ -97,6 +96,6 @@ six input bytes status (WasCut s rose) e = absurd (omega (arith, s, e))
 six input bytes status (WasLong s long) e = long
 six input bytes status (RanOut s) e = absurd (omega (arith, s, e))
 
-pub long_script_exactly : {mode : List Item → Mode} (ran : ScriptEnd) → AreRuns ran → (input : Input) (out : Output) (links : Links) (status : ℕ) → (read : ReplayedInput mode ran input out links status) →
+pub long_script_exactly : {mode : Mode} (ran : ScriptEnd) → AreRuns ran → (input : Input) (out : Output) (links : Links) (status : ℕ) → (read : ReplayedInput mode ran input out links status) →
     (status ≡ 6 → script_limit < length read.bytes) × (script_limit < length read.bytes → (status ≡ 6) ⊎ (status ≡ 7))
 long_script_exactly ran runs input out links status read = (six input read.bytes status (ends_of ran runs input out links read.bytes status read.replayed), read.too_long)

@@ -36,8 +36,6 @@ use Rattle.serve_port.specs.Serving.{ServedConnection, IsServed, any_failing, an
 use Rattle.script_links.specs.Given.{AreNumbered, AreUntouched, IsBeginning, specs_of}
 use Rattle.script_run.specs.Causes.{CameLate, late_in}
 use Rattle.script_run.specs.Played.{IsRunText}
-use Rattle.script_beside.specs.script_calls.specs.Built.{is_joinless}
-use Rattle.script_beside.specs.script_calls.specs.Told.{IsCallText}
 use Rattle.script_beside.specs.Told.{IsBesideText}
 use Rattle.brpc_eng.specs.Streams.{script_limit, IsAtEnd}
 
@@ -166,15 +164,10 @@ pub data Ran (turns : List Turn) (script : List Item) (out : Output) (links : Li
 
 -- ## `run`
 
--- how links are made: over TCP to the port that is named, or else in memory; there as those that are read behind the clients, or over rings
-abbrev pub mode_for : Option ℕ → Bool → Mode
-mode_for (Some port) behind = modes.Tcp port
-mode_for None true = modes.Loop
-mode_for None false = modes.Ring
-
--- how `run` makes the links of a script: they are read beside its clients where a line waits for a call, and else behind them
-abbrev pub run_mode : Option ℕ → List Item → Mode
-run_mode port script = mode_for port (is_joinless script)
+-- how it makes its links: over TCP to the port that is named, or else over rings
+abbrev pub run_mode : Option ℕ → Mode
+run_mode (Some port) = modes.Tcp port
+run_mode None = modes.Ring
 
 -- the text of a run was written, or what stood in its way is answered
 abbrev pub RunTold : Result (Vec ℕ Global) OpenFault → Output → ℕ → Type 0
@@ -184,11 +177,9 @@ RunTold (Err opening.NoMemory) out status = (status ≡ 7) × WroteNothing out
 
 -- how the run of a script on threads ends
 pub data RanOnThreads (script : List Item) (out : Output) (links : Links) (status : ℕ) : Type 0 where
-  -- no line waits for a call: the place words of the run tell an order of each link, each operation has an outcome or a message with a place, and the text reports
-  -- that; each operation on sockets and each `expire` has its cause, by what became of all others; and without calls the report fits
-  ThreadsReported : is_joinless script ≡ true → (text : List ℕ) → IsCallText script text links.ends → TextWritten out text status → RanOnThreads script out links status
-  -- a line waits for a call: the text reports an outcome or a place of each operation, over what the links took; each answer is from a response that a link gave
-  ReadersReported : is_joinless script ≡ false → (text : List ℕ) → IsBesideText script text links.ends → TextWritten out text status → RanOnThreads script out links status
+  -- the place words of the run tell an order of each link, each operation has an outcome or a message with a place, and the text reports that; each answer is from
+  -- a response that a link gave; each operation on sockets, each `expire` and each `join` has its cause, by what became of all others; and without calls the report fits
+  ThreadsReported : (text : List ℕ) → IsBesideText script text links.ends → TextWritten out text status → RanOnThreads script out links status
   ThreadsRanOut : status ≡ 7 → WroteNothing out → RanOnThreads script out links status
   -- the links that were opened before are given back, and nothing was done with them
   ThreadsNotOpened : status ≡ 8 → HaveRisen links.faults → AreUntouched 0 links.ends → WroteNothing out → RanOnThreads script out links status
@@ -207,13 +198,13 @@ by_turns turns = λ script out links status. Ran (turns script) script out links
 abbrev pub FaultWritten : Output → ℕ → ℕ → ℕ → Type 0
 FaultWritten out line kind status = ((status ≡ 3) × Wrote out (fault_text line kind)) ⊎ ((status ≡ 7) × WroteNothing out)
 
--- `replay` and `sim` make their links in memory, whatever the script
-abbrev pub in_memory : List Item → Mode
-in_memory script = modes.Loop
+-- `replay` and `sim` make their links in memory
+abbrev pub in_memory : Mode
+in_memory = modes.Loop
 
--- how it ends where these bytes came, over links that are made for the script in this mode
-pub data Replayed (mode : List Item → Mode) (ran : ScriptEnd) (input : Input) (out : Output) (links : Links) (bytes : List ℕ) (status : ℕ) : Type 0 where
-  RanScript : IsAtEnd input.left → (script : List Item) → script_of bytes ≡ Ok script → OpenedBy (mode script) script links status → ran script out links status → Replayed mode ran input out links bytes status
+-- how it ends where these bytes came, over links that are made in this mode
+pub data Replayed (mode : Mode) (ran : ScriptEnd) (input : Input) (out : Output) (links : Links) (bytes : List ℕ) (status : ℕ) : Type 0 where
+  RanScript : IsAtEnd input.left → (script : List Item) → script_of bytes ≡ Ok script → OpenedBy mode script links status → ran script out links status → Replayed mode ran input out links bytes status
   FaultyScript : IsAtEnd input.left → (line kind : ℕ) → script_of bytes ≡ Err (line, kind) → OpenedNone links → FaultWritten out line kind status → Replayed mode ran input out links bytes status
   SourceFailed : status ≡ 4 → HaveRisen input.faults → OpenedNone links → WroteNothing out → Replayed mode ran input out links bytes status
   TooLong : status ≡ 6 → script_limit < length bytes → OpenedNone links → WroteNothing out → Replayed mode ran input out links bytes status
@@ -221,7 +212,7 @@ pub data Replayed (mode : List Item → Mode) (ran : ScriptEnd) (input : Input) 
 
 -- the run of what the source gives: of the input at most one byte more than a script may have is read, and where that
 -- one came no other status than 6 and 7 comes
-pub record ReplayedInput (mode : List Item → Mode) (ran : ScriptEnd) (input : Input) (out : Output) (links : Links) (status : ℕ) : Type 0 where
+pub record ReplayedInput (mode : Mode) (ran : ScriptEnd) (input : Input) (out : Output) (links : Links) (status : ℕ) : Type 0 where
   pub bytes : List ℕ
   pub came : Consumes input.given input.left bytes
   pub most : length bytes ≤ script_limit + 1
@@ -326,7 +317,7 @@ pub data Answers (words : List (List ℕ)) (input : Input) (out : Output) (links
   Replays : command_of words ≡ Some Replay → ReplayedInput in_memory (by_turns schedule) input out links status → Answers words input out links status
   -- or by one that is drawn from a seed
   Simulates : (seed : ℕ) → command_of words ≡ Some (Sim seed) → ReplayedInput in_memory (by_turns (λ script. drawn_turns script seed)) input out links status → Answers words input out links status
-  -- or on threads, whatever its schedule, over links in memory or over TCP, which are read behind its clients or beside them
+  -- or on threads, whatever its schedule, over rings or over TCP, which are read beside its clients
   RunsOnThreads : (port : Option ℕ) → command_of words ≡ Some (Run port) → ReplayedInput (run_mode port) RanOnThreads input out links status → Answers words input out links status
   -- they ask for so many connections to be served at a port, and nothing is read
   ServesPort : (port count : ℕ) → command_of words ≡ Some (Serve port count) → input.left ≡ input.given → ServedPort count out links status → Answers words input out links status

@@ -14,7 +14,7 @@ pub enum Command {
     Replay,
     /// `sim SEED`: it is run by a drawn schedule.
     Sim(u32),
-    /// `run [PORT]`: it is run on threads, over links in memory or over TCP to that port.
+    /// `run [PORT]`: it is run on threads, over rings or over TCP to that port.
     Run(Option<u16>),
     /// `gen SEED CLIENTS OPS`: a script is drawn and printed.
     Gen(Draw),

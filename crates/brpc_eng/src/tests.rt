@@ -1,6 +1,5 @@
 use crate::brpc;
 use loop_link::LoopLinker;
-use script_items::number;
 use sock_io::{MemSink, MemSource, OpenGate, SinkLinker};
 use std::alloc::Global;
 use std::sync::Wait;
@@ -515,111 +514,5 @@ fn reads_up_to_the_limit(rt: HostRuntime) -> Result<(), Fail> {
     let (answered, written) = answer(&rt, "replay", &input, CALM)?;
     assert_eq!(rt; answered, 6);
     assert_eq!(rt; written.len(), 0);
-    Ok(())
-}
-
-// ## On threads
-
-#[test]
-fn runs_on_threads(rt: HostRuntime) -> Result<(), Fail> {
-    let (_, script, _, status, text) = FIRST;
-    for words in ["run", "run 65535"] {
-        let (answered, written) = answer(&rt, words, script.as_bytes(), CALM)?;
-        assert_eq!(rt; answered, status, "at {words}");
-        assert_eq!(rt; written.as_slice(), text.as_bytes(), "at {words}");
-    }
-    Ok(())
-}
-
-/// Scripts with calls or servers, and the reports of their runs on threads.
-const CALLED: [(&'static str, &'static str); 6] = [
-    (
-        "open a serve\nclient\ncall a Echo.Echo 6869",
-        "0.1 open 0 0 0\n1.1 call 1 answered 6869 -\nlink 0 a accepted 1 placed 1 took 30 5052504300000012000000100a0c0a044563686f12044563686f20026869\norder 0 1.1.0\nend\n",
-    ),
-    (
-        "open a\nclient\ncall a Echo.Echo 6869",
-        "0.1 open 0 0 0\n1.1 call 1 failed 1014\nlink 0 a accepted 1 placed 1 took 30 5052504300000012000000100a0c0a044563686f12044563686f20026869\norder 0 1.1.0\nend\n",
-    ),
-    (
-        "open a serve\nclient\ncall a Echo.Echo 6869\nexpire 1.1\nexpire 1.1",
-        "0.1 open 0 0 0\n1.1 call 1 failed 1008\n1.2 expired\n1.3 late\nlink 0 a accepted 1 placed 1 took 30 5052504300000012000000100a0c0a044563686f12044563686f20026869\norder 0 1.1.0\nend\n",
-    ),
-    (
-        "open a serve fail=1\nopen b serve\nclient\ncall a,b Echo.Echo 6869 retry=1",
-        "0.1 open 0 0 0\n0.2 open 1 0 1\n1.1 call 1 answered 6869 -\nlink 0 a accepted 1 placed 0 took 0 -\norder 0 1.1.0\nlink 1 b accepted 1 placed 1 took 30 5052504300000012000000100a0c0a044563686f12044563686f20036869\norder 1 1.1.1\nend\n",
-    ),
-    (
-        "open a serve\nclient\nsend a 61",
-        "0.1 open 0 0 0\n1.1 placed 0 0\nlink 0 a accepted 1 placed 1 took 1 61\norder 0 1.1.0\nend\n",
-    ),
-    (
-        "open a end=3",
-        "0.1 open 0 0 0\nlink 0 a accepted 0 placed 0 took 0 -\norder 0\nend\n",
-    ),
-];
-
-#[test]
-fn runs_calls_on_threads(rt: HostRuntime) -> Result<(), Fail> {
-    for (script, text) in CALLED {
-        let (status, written) = served(&rt, "run", script.as_bytes())?;
-        assert_eq!(rt; status, 0, "at {script}");
-        assert_eq!(rt; written.as_slice(), text.as_bytes(), "at {script}");
-    }
-    Ok(())
-}
-
-/// An `expire` comes before the call has begun, or ends it.
-#[test]
-fn races_an_expiry(rt: HostRuntime) -> Result<(), Fail> {
-    let script = b"open a serve\nclient\ncall a Echo.Echo 6869\nclient\nexpire 1.1";
-    let early: &[u8] =
-        b"0.1 open 0 0 0\n1.1 call 1 answered 6869 -\n2.1 not begun\nlink 0 a accepted 1 placed 1 took 30 5052504300000012000000100a0c0a044563686f12044563686f20026869\norder 0 1.1.0\nend\n";
-    let late: &[u8] =
-        b"0.1 open 0 0 0\n1.1 call 1 failed 1008\n2.1 expired\nlink 0 a accepted 1 placed 1 took 30 5052504300000012000000100a0c0a044563686f12044563686f20026869\norder 0 1.1.0\nend\n";
-    let (status, written) = served(&rt, "run", script)?;
-    assert_eq!(rt; status, 0);
-    let text = written.as_slice();
-    assert!(rt; text == early || text == late);
-    Ok(())
-}
-
-/// How many sends stand in an order in which those of each client rise.
-fn rising(order: &str) -> Option<usize> {
-    let mut last = [0u32; 9];
-    let mut count = 0usize;
-    for label in order.split(' ') {
-        let mut parts = label.split('.');
-        let client = number(parts.next()?.as_bytes(), 1, 8)?;
-        let send = number(parts.next()?.as_bytes(), 1, 10)?;
-        let place = last.get_mut(client as usize)?;
-        if send <= *place {
-            return None;
-        }
-        *place = send;
-        count = count.saturating_add(1);
-    }
-    Some(count)
-}
-
-#[test]
-fn orders_the_sends_of_threads(rt: HostRuntime) -> Result<(), Fail> {
-    let mut script = Vec::from_slice(rt.alloc(), b"open a\n")?;
-    for _ in 0..8 {
-        script.extend_from_slice(b"client\n")?;
-        for _ in 0..10 {
-            script.extend_from_slice(b"send a 6869\n")?;
-        }
-    }
-    let (status, written) = answer(&rt, "run", &script, CALM)?;
-    assert_eq!(rt; status, 0);
-    let text = String::from_utf8(written).ok().ok_or("no text")?;
-    let mut labels = None;
-    for line in text.split('\n') {
-        if let Some(order) = line.strip_prefix("order 0 ") {
-            labels = rising(order);
-        }
-    }
-    assert_eq!(rt; labels, Some(80));
     Ok(())
 }

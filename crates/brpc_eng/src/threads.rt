@@ -5,13 +5,13 @@ ghost use Rattle.script_links.specs.Given.{has_piece};
 ghost use Rattle.script_links.specs.Offered.{TellOffers};
 ghost use Rattle.script_run.specs.Played.{TellClosed};
 ghost use Rattle.brpc_eng.specs.Status.{number_of};
-ghost use Rattle.brpc_eng.specs.Answers.{OpenedBy, RanOnThreads, ReplayedInput, RunTold, CountsStand, mode_for, run_mode};
+ghost use Rattle.brpc_eng.specs.Answers.{OpenedBy, RanOnThreads, ReplayedInput, RunTold, CountsStand, run_mode};
 
 use crate::replay::write_fault;
 use crate::run::write_report;
 use crate::status::Status;
 use crate::streams::{InputFault, read_all};
-use script_beside::{is_joinless, run_calls_on_threads, run_with_readers};
+use script_beside::run_with_readers;
 use script_items::Script;
 use script_lang::{ScriptError, read_script};
 use sock_io::{Gate, Linker, Mode, OpenFault, Sink, Source};
@@ -19,18 +19,17 @@ use std::alloc::Global;
 use std::sync::Wait;
 use std::thread::Threads;
 
-/// How links are made: over TCP to the port, where one is named, or else in memory; there as those that are read behind the clients
-/// of a run, or over rings.
-fn mode_for(port: Option<u16>, behind: bool) -> Mode
-    ensures { result ≡ mode_for port behind }
+/// How links are made: over TCP to the port, where one is named, or else over rings.
+fn run_mode(port: Option<u16>) -> Mode
+    ensures { result ≡ run_mode port }
 {
     match port {
         Some(port) => Mode::Tcp(port),
-        None => { if behind { Mode::Loop } else { Mode::Ring } }
+        None => Mode::Ring,
     }
 }
 
-/// Reads a script and runs it on threads, whatever its schedule, over links in memory, or over TCP to the port that is named.
+/// Reads a script and runs it on threads, whatever its schedule, over rings, or over TCP to the port that is named.
 pub fn run_threads<R: Threads + Wait + Sync, S: Source, K: Sink, L: Linker, G: Gate + Sync>(
     rt: &R,
     alloc: Global,
@@ -65,8 +64,7 @@ pub fn run_threads<R: Threads + Wait + Sync, S: Source, K: Sink, L: Linker, G: G
     }
 }
 
-/// Runs a script on threads and writes its report. Its links are read once all clients have ended; but where a line waits for a call,
-/// beside them.
+/// Runs a script on threads, its links read beside its clients, and writes its report.
 fn threads_and_report<R: Threads + Wait + Sync, K: Sink, L: Linker, G: Gate + Sync>(
     rt: &R,
     alloc: Global,
@@ -84,20 +82,14 @@ fn threads_and_report<R: Threads + Wait + Sync, K: Sink, L: Linker, G: Gate + Sy
         (record { before = K.contents out.old; now = K.contents out.new; faults = record { before = K.faults out.old; now = K.faults out.new } })
         (record { always_ready = L.always_ready links.old; tells = TellClosed L.I.state; offering = TellOffers L.O.state L.I.state; asked = L.asked links.new; ends = L.back links.new; accepted = L.accepted links.new; done = L.done links.new; faults = record { before = L.faults links.old; now = L.faults links.new } })
         (number_of result) }
-    ensures opened { OpenedBy (run_mode port script.now) script.now
+    ensures opened { OpenedBy (run_mode port) script.now
         (record { always_ready = L.always_ready links.old; tells = TellClosed L.I.state; offering = TellOffers L.O.state L.I.state; asked = L.asked links.new; ends = L.back links.new; accepted = L.accepted links.new; done = L.done links.new; faults = record { before = L.faults links.old; now = L.faults links.new } })
         (number_of result) }
     ensures linker { number_of result ≢ 8 → L.faults links.new ≡ L.faults links.old }
 {
-    let behind = is_joinless(script);
-    let mode = mode_for(port, behind);
-    if behind {
-        let ran = run_calls_on_threads(rt, alloc, mode, script, links, gate);
-        tell_run(ran, out)
-    } else {
-        let ran = run_with_readers(rt, alloc, mode, script, links, gate);
-        tell_run(ran, out)
-    }
+    let mode = run_mode(port);
+    let ran = run_with_readers(rt, alloc, mode, script, links, gate);
+    tell_run(ran, out)
 }
 
 /// Writes the report of a run, or tells what stood in its way.

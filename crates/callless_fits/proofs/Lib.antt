@@ -2,5 +2,6 @@ pub mod Socketed
 pub mod Words
 pub mod Each
 pub mod Telling
-pub mod Regave
+pub mod Sends
+pub mod Silent
 pub mod Fits

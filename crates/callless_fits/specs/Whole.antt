@@ -1,15 +1,25 @@
 -- What is reported of a script without calls, whatever its links gave.
-use Rattle.std.specs.Prelude.{ℕ, ◌≡◌, Bool, false, List, [], option_map}
-use Rattle.brpc_model.specs.Items.{Item}
+use Rattle.std.specs.Prelude.{ℕ, ◌≡◌, false, IsTrue, List, slice_get, Some}
+use Rattle.std.specs.List.{AllByRecursion}
+use Rattle.brpc_model.specs.Items.{Item, Shape}
+use Rattle.brpc_model.specs.Operations.{link_shapes}
 use Rattle.brpc_model.specs.Link.{LinkEnd}
 use Rattle.brpc_model.specs.Report.{Report, report_text}
 use Rattle.brpc_model.specs.Run.{nothing_late}
-use Rattle.brpc_model.specs.Complete.{FitsWhole}
+use Rattle.brpc_model.specs.Fits.{FitsRun, Reports as IsReportIn}
+use Rattle.brpc_model.specs.Complete.{Completeness}
 use Rattle.seat_programs.specs.Cores.{Core}
 use Rattle.seat_programs.specs.Scripts.{Reports, all_tasks}
 use Rattle.seat_programs.specs.Tasks.{plan_of}
 use Rattle.seat_programs.specs.ToldCalls.{Fixed, Order, ToldCalls}
 use Rattle.report_fits.specs.Ends.{AreTold, AreEndsOf}
+
+-- where the link of this end was opened with `serve`, its other end gave nothing, and no end: so does a server that is asked nothing
+abbrev pub IsSilentServed : List Item → LinkEnd → Type 0
+IsSilentServed script e = (shape : Shape) → slice_get (link_shapes script) e.link ≡ Some shape → IsTrue shape.serve → (e.gave_count ≡ 0) × (e.gave_end ≡ false)
+
+abbrev pub AreSilentServed : List Item → List LinkEnd → Type 0
+AreSilentServed script ends = AllByRecursion (IsSilentServed script) ends
 
 -- The text reports a run of the script, over the links that were given back. Each outcome has its cause, by what became of all others; and each link took
 -- the messages that it accepted in one order, whole and once, those of each client in its own order. What the links gave is of no account.
@@ -28,28 +38,5 @@ pub record IsWholeText (script : List Item) (text : List ℕ) (gave : ℕ → Li
   pub is_text : text ≡ report_text script report
   -- the links are those of this run: they took what is at home, gave what is said of them, and show where they failed
   pub ends_told : AreEndsOf script core fixed gave ends
-  -- the report fits the script and them, with nothing late; and where nothing went wrong, every send is placed
-  pub fits : FitsWhole script text ends nothing_late
-
--- ## As if nothing had been read
-
-abbrev pub gave_none : ℕ → List ℕ
-gave_none link = []
-
-abbrev pub none_of : {A : Type 0} → List A → List A
-none_of xs = []
-
--- the link as it would have been given back if nobody had read it
-abbrev pub unread : LinkEnd → LinkEnd
-unread e = record {
-  link = e.link;
-  took = e.took;
-  put_faults = e.put_faults;
-  gave = option_map none_of e.gave;
-  gave_count = 0;
-  take_faults = 0;
-  gave_end = false;
-  closed = option_map (λ (answered : Bool). false) e.closed;
-  answers = e.answers;
-  takes = option_map none_of e.takes;
-}
+  -- the report fits the script and them, with nothing late; and where nothing went wrong, and no link with the server gave anything, every send is placed
+  pub fits : IsReportIn (λ run. FitsRun run × (AreSilentServed script ends → Completeness run)) script text ends nothing_late

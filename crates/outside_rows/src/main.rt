@@ -1,6 +1,6 @@
 //! Rows of the top call: each command with what it writes, and an outside that isn't kind, links whose other ends give bytes that
-//! nobody would send, and outside calls that fail in turn, step by step and on threads; and a script on threads whose client waits
-//! for its calls. There is nothing here but tests.
+//! nobody would send, and outside calls that fail in turn, step by step and on threads; and scripts on threads, over links whose
+//! other ends move by themselves. There is nothing here but tests.
 #![tactic(auto)]
 
 #[cfg(test)]
@@ -10,9 +10,9 @@ mod failing;
 #[cfg(test)]
 mod giving;
 #[cfg(test)]
-mod joining;
-#[cfg(test)]
 mod noting;
+#[cfg(test)]
+mod running;
 #[cfg(test)]
 mod serving;
 #[cfg(test)]

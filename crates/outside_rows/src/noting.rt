@@ -1,4 +1,4 @@
-ghost use Rattle.std.specs.Prelude.{◌≡◌, ◌≢◌, ◌<◌, ◌++◌, ◌∷◌, [], length};
+ghost use Rattle.std.specs.Prelude.{◌≡◌, ◌≢◌, ◌+◌, ◌<◌, ◌++◌, ◌∷◌, [], length};
 ghost use Rattle.std.specs.List.{AllByRecursion};
 ghost use Rattle.brpc_model.specs.Link.{LinkEnd};
 ghost use Rattle.sock_io.specs.Link.{connection_of, end_of};
@@ -7,20 +7,33 @@ use sock_io::{Ends, LinkSpec, Linker, NoMemory, OpenFault, Out};
 use std::alloc::Global;
 
 /// A linker that notes each link that is given back, and how many bytes it took; and what the connections took that are given
-/// back, one behind another.
+/// back, one behind another. Its `open` calls fail from the one with a stated number on.
 #[derive(Drop)]
 pub struct Noting<L: Linker + Drop> {
-    inner: L,
+    pub inner: L,
+    /// The number of the `open` that fails, counted from the next one, 1; 0 where none does.
+    fail: u32,
+    failed: u64,
     noted: Vec<(u16, usize)>,
     taken: Vec<u8>,
 }
 
 impl<L: Linker + Drop> Noting<L> {
+    /// It fails no `open` of its own.
     pub fn new(alloc: Global, inner: L) -> Self
+        ensures { result.inner ≡ inner }
+    {
+        Noting::failing(alloc, inner, 0)
+    }
+
+    /// It fails the `open` with this number, counted from 1, and those behind it; with 0 none.
+    pub fn failing(alloc: Global, inner: L, fail: u32) -> Self
         ensures { result.inner ≡ inner }
     {
         Noting {
             inner,
+            fail,
+            failed: 0,
             noted: Vec::new(alloc),
             taken: Vec::new(alloc),
         }
@@ -50,11 +63,18 @@ impl<L: Linker + Drop> Linker for Noting<L> {
 
     ghost done = { λ l. L.done l.inner };
 
-    ghost faults = { λ l. L.faults l.inner };
+    ghost faults = { λ l. L.faults l.inner + l.failed };
 
     ghost always_ready = { λ l. L.always_ready l.inner };
 
+    ghost tells_in = { L.tells_in };
+
     fn open(&mut self, spec: &LinkSpec) -> Result<Ends<L::O, L::I, L::P>, OpenFault> {
+        if self.fail == 1 {
+            self.failed = self.failed.saturating_add(1);
+            return Err(OpenFault::Failed);
+        }
+        self.fail = self.fail.saturating_sub(1);
         self.inner.open(spec)
     }
 
@@ -78,6 +98,7 @@ impl<L: Linker + Drop> Linker for Noting<L> {
         ensures back { L.back self.new.inner ≡ L.back self.old.inner }
         ensures stays_prompt { L.always_ready self.new.inner ≡ L.always_ready self.old.inner }
         ensures faults { L.faults self.new.inner ≡ L.faults self.old.inner }
+        ensures failed { self.new.failed ≡ self.old.failed }
     {
         let _ = self.taken.extend_from_slice(out.taken());
         self.inner.done(out, inn);
@@ -94,6 +115,7 @@ impl<L: Linker + Drop> Linker for Noting<L> {
         ensures accepted { L.accepted self.new.inner ≡ L.accepted self.old.inner }
         ensures stays_prompt { L.always_ready self.new.inner ≡ L.always_ready self.old.inner }
         ensures faults { L.faults self.new.inner ≡ L.faults self.old.inner }
+        ensures failed { self.new.failed ≡ self.old.failed }
     {
         let _ = self.noted.push((link, ends.out.taken().len()));
         self.inner.back(link, ends);

@@ -1,5 +1,6 @@
 use crate::answer::{CALM, Streams, answered_by};
 use loop_link::LoopLinker;
+use ring_link::RingLinker;
 use std::alloc::Global;
 use std::process::Abort;
 use std::sync::Wait;
@@ -33,7 +34,7 @@ const FAULTS: [(Streams, u8, usize); 9] = [
 ];
 
 /// The status of a command over the script and these streams, and what it wrote. A comment stands before the script that is as
-/// long as a read.
+/// long as a read. On threads the links go over rings.
 fn behind_comment<R: Threads + Wait + Sync + Alloc<A = Global>>(
     rt: &R,
     command: &str,
@@ -45,8 +46,13 @@ fn behind_comment<R: Threads + Wait + Sync + Alloc<A = Global>>(
     let mut input = vec![in alloc; b'#'; 4096]?;
     input.push(b'\n')?;
     input.extend_from_slice(script.as_bytes())?;
-    let mut links = LoopLinker::new(alloc, Vec::new(alloc));
-    answered_by(rt, &words, &input, streams, &mut links)
+    if command == "run" {
+        let mut links = RingLinker::new(rt);
+        answered_by(rt, &words, &input, streams, &mut links)
+    } else {
+        let mut links = LoopLinker::new(alloc, Vec::new(alloc));
+        answered_by(rt, &words, &input, streams, &mut links)
+    }
 }
 
 /// Each call of the streams fails in turn.

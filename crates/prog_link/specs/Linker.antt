@@ -1,5 +1,5 @@
 -- A linker of links of any kind, by what callers see of it.
-use Rattle.std.specs.Prelude.{ℕ, ◌≡◌, ◌≢◌, Bool, true, false, List, [], Option, None, Some, IfSome}
+use Rattle.std.specs.Prelude.{ℕ, ◌≡◌, ◌≢◌, ◌+◌, ◌&&◌, if◌then◌else◌, Bool, true, false, List, [], ◌∷◌, Option, None, Some, IfSome}
 use Rattle.brpc_model.specs.Link.{LinkEnd}
 use Rattle.sock_io.specs.declared.link.LinkSpec.{LinkSpec}
 use Rattle.sock_io.specs.declared.link.Mode.{Mode}
@@ -42,6 +42,27 @@ abbrev pub tells_in_mode : Mode → Bool
 tells_in_mode mode.Loop = false
 tells_in_mode mode.Ring = true
 tells_in_mode (mode.Tcp port) = false
+
+abbrev pub is_kind : Kind → Kind → Bool
+is_kind InMemory InMemory = true
+is_kind InMemory OverRings = false
+is_kind InMemory OverTcp = false
+is_kind OverRings InMemory = false
+is_kind OverRings OverRings = true
+is_kind OverRings OverTcp = false
+is_kind OverTcp InMemory = false
+is_kind OverTcp OverRings = false
+is_kind OverTcp OverTcp = true
+
+-- whether each of these links was asked to be of this kind
+abbrev pub are_kind : Kind → List LinkSpec → Bool
+are_kind k [] = true
+are_kind k (s ∷ more) = is_kind k (kind_asked s.mode) && are_kind k more
+
+-- and how many were
+abbrev pub count_kind : Kind → List LinkSpec → ℕ
+count_kind k [] = 0
+count_kind k (s ∷ more) = (if is_kind k (kind_asked s.mode) then 1 else 0) + count_kind k more
 
 abbrev pub kind_out : ProgOut → Kind
 kind_out (out.Loop half) = InMemory

@@ -1,8 +1,8 @@
-ghost use Rattle.std.specs.Prelude.{◌≡◌, ◌+◌, ◌≤◌, ◌<◌, ◌∷◌, ◌++◌, [], true, length, IfOk, IsErrOf, OnErr};
+ghost use Rattle.std.specs.Prelude.{◌≡◌, ◌≢◌, ◌+◌, ◌≤◌, ◌<◌, ◌∷◌, ◌++◌, [], true, false, length, IfOk, IsErrOf, OnErr};
 ghost use Rattle.sock_io.specs.Causes.{Rose};
 ghost use Rattle.sock_io.specs.Link.{connection_of, end_of};
 ghost use Rattle.prog_link.specs.Halves.{prog_in, prog_out};
-ghost use Rattle.prog_link.specs.Linker.{IsOpened, InMemory, OverRings, OverTcp, kind_asked, tells_in_mode};
+ghost use Rattle.prog_link.specs.Linker.{are_kind, IsOpened, InMemory, OverRings, OverTcp, kind_asked, tells_in_mode};
 
 use crate::prog_in::ProgIn;
 use crate::prog_out::ProgOut;
@@ -52,16 +52,16 @@ pub struct ProgLinker<N: Net<Stream = TcpStream, Listener = TcpListener> + Drop>
 }
 
 impl<N: Net<Stream = TcpStream, Listener = TcpListener> + Drop> Model for ProgLinker<N> {
-    ghost use Rattle.std.specs.Prelude.{◌≡◌, ◌+◌, length, map};
+    ghost use Rattle.std.specs.Prelude.{◌≡◌, ◌+◌, [], length, map};
     ghost use Rattle.sock_io.specs.Link.{connection_of, end_of};
     ghost use Rattle.prog_link.specs.Halves.{prog_in, prog_out};
-    ghost use Rattle.prog_link.specs.Linker.{ProgLinkerState};
+    ghost use Rattle.prog_link.specs.Linker.{ProgLinkerState, InMemory, OverRings, OverTcp, count_kind};
 
     ghost Value = { ProgLinkerState };
 
     ghost view = { λ l. record { asked = l.asked.list; accepted = l.streams.accepted; back = map (λ e. end_of (prog_out e.out) (prog_in e.inn)) l.links.list; done = map (λ c. connection_of (prog_out c.out) (prog_in c.inn)) l.connections.list; faults = l.faults } };
 
-    ghost invariant = { λ l. (length l.asked.list ≡ l.in_memory + l.over_rings + l.over_tcp) × (length l.loops.asked ≡ l.in_memory) × (length l.streams.asked ≡ l.over_tcp) };
+    ghost invariant = { λ l. (length l.asked.list ≡ l.in_memory + l.over_rings + l.over_tcp) × (length l.loops.asked ≡ l.in_memory) × (length l.streams.asked ≡ l.over_tcp) × (l.loops.fail_opens ≡ []) × (count_kind InMemory l.asked.list ≡ l.in_memory) × (count_kind OverRings l.asked.list ≡ l.over_rings) × (count_kind OverTcp l.asked.list ≡ l.over_tcp) };
 }
 
 /// With one more link of which this was asked.
@@ -100,6 +100,8 @@ impl<N: Net<Stream = TcpStream, Listener = TcpListener> + Drop> ProgLinker<N> {
         requires mode { kind_asked spec.now.mode ≡ InMemory }
         ensures opened { IfOk result (λ ends. IsOpened (length self.old.asked) spec.now ends.out ends.peer ends.inn) }
         ensures linker { IfOk result (λ _. self.new ≡ record self.old { asked = self.old.asked ++ spec.now ∷ [] }) }
+        ensures others { are_kind InMemory self.old.asked ≡ false → IsErrOf result OpenFault.Failed }
+        ensures only_others { IsErrOf result OpenFault.Failed → are_kind InMemory self.old.asked ≡ false }
         ensures refused { OnErr result (self.new ≡ self.old) }
     {
         if self.over_rings != 0 || self.over_tcp != 0 {
@@ -122,6 +124,8 @@ impl<N: Net<Stream = TcpStream, Listener = TcpListener> + Drop> ProgLinker<N> {
         requires mode { kind_asked spec.now.mode ≡ OverRings }
         ensures opened { IfOk result (λ ends. IsOpened (length self.old.asked) spec.now ends.out ends.peer ends.inn) }
         ensures linker { IfOk result (λ _. self.new ≡ record self.old { asked = self.old.asked ++ spec.now ∷ [] }) }
+        ensures others { are_kind OverRings self.old.asked ≡ false → IsErrOf result OpenFault.Failed }
+        ensures only_others { IsErrOf result OpenFault.Failed → are_kind OverRings self.old.asked ≡ false }
         ensures refused { OnErr result (self.new ≡ self.old) }
     {
         if self.in_memory != 0 || self.over_tcp != 0 {
@@ -157,6 +161,7 @@ impl<N: Net<Stream = TcpStream, Listener = TcpListener> + Drop> ProgLinker<N> {
         requires mode { kind_asked spec.now.mode ≡ OverTcp }
         ensures opened { IfOk result (λ ends. IsOpened (length self.old.asked) spec.now ends.out ends.peer ends.inn) }
         ensures linker { IfOk result (λ _. self.new ≡ record self.old { asked = self.old.asked ++ spec.now ∷ [] }) }
+        ensures others { are_kind OverTcp self.old.asked ≡ false → IsErrOf result OpenFault.Failed }
         ensures refused { OnErr result (self.new ≡ self.old) }
     {
         if self.in_memory != 0 || self.over_rings != 0 {
@@ -213,6 +218,8 @@ impl<N: Net<Stream = TcpStream, Listener = TcpListener> + Drop> Linker for ProgL
         ensures opened { IfOk result (λ ends. IsOpened (length self.old.asked) spec.now ends.out ends.peer ends.inn) }
         ensures linker { IfOk result (λ _. self.new ≡ record self.old { asked = self.old.asked ++ spec.now ∷ [] }) }
         ensures refused { OnErr result (self.new ≡ record self.old { faults = self.new.faults }) }
+        ensures others { are_kind (kind_asked spec.now.mode) self.old.asked ≡ false → IsErrOf result OpenFault.Failed }
+        ensures only_others { IsErrOf result OpenFault.Failed → kind_asked spec.now.mode ≢ OverTcp → are_kind (kind_asked spec.now.mode) self.old.asked ≡ false }
         ensures later { self.old.faults ≤ self.new.faults }
         ensures failed { IsErrOf result OpenFault.Failed → Rose self.old.faults self.new.faults }
         ensures kept { (¬ IsErrOf result OpenFault.Failed) → self.new.faults ≡ self.old.faults }

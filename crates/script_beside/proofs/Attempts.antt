@@ -42,7 +42,7 @@ use Rattle.script_calls.specs.call_whys.specs.call_told.proofs.Readers.{each_rea
 use Rattle.script_calls.specs.call_whys.specs.sock_deeds.specs.Left.{accepted_of}
 use Rattle.script_calls.specs.call_whys.specs.sock_deeds.proofs.Orders.{orders, entry_on}
 use Rattle.corr_id.proofs.Seats.{total_append}
-use Rattle.script_calls.specs.Reading.{IdSeat}
+use Rattle.script_calls.specs.Seats.{IdSeat}
 use Rattle.script_calls.proofs.Asked.{ids_made, notes_of_seats}
 use Rattle.script_calls.proofs.Each.{each_called}
 use Rattle.script_calls.proofs.Ids.{IsOfCall, all_of_calls}

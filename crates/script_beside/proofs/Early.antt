@@ -38,7 +38,7 @@ abbrev pub ShowsEarly : List ℕ → InState → Type 0
 ShowsEarly gave t = IsTrue t.gave_end ⊎ (HasFault gave ⊎ ((reading_limit ≤ t.gave) ⊎ (0 < t.faults)))
 
 -- the last of some takes
-last_step : (xs : List Took) (x : Took) (s t : InState) → Takes (xs ++ x ∷ []) s t → (m : InState) × TakeStep m t x.room x.answer
+pub last_step : (xs : List Took) (x : Took) (s t : InState) → Takes (xs ++ x ∷ []) s t → (m : InState) × TakeStep m t x.room x.answer
 last_step [] x s t h = (s, subst (λ (u : InState). TakeStep s u x.room x.answer) (sym h.2) h.1)
 last_step (y ∷ xs) x s t h = last_step xs x h.0 t h.2
 

@@ -19,7 +19,6 @@ use Rattle.script_calls.specs.attempts_told.specs.Attempts.{last_attempt}
 use Rattle.script_calls.specs.call_whys.specs.expire_told.specs.Said.{WhyExpired}
 use Rattle.script_calls.specs.call_whys.specs.expire_told.proofs.Whole.{expire_why, once}
 use Rattle.script_calls.specs.call_whys.specs.sock_deeds.proofs.Orders.{orders}
-use Rattle.script_calls.specs.failed_told.specs.Ends.{EndedByReading}
 use Rattle.script_calls.specs.Told.{AreCallsTold}
 use Rattle.script_beside.specs.Told.{seated_plan, IsBesideRun}
 use Rattle.script_beside.proofs.Attempts.{calls_apart}
@@ -52,7 +51,7 @@ module _ (P : Type 0) {O I : Type 0} (g : Ghosts O) (out : O → OutState) (inn 
     expired = expire_why r.left.ran (sockets.are P g out inn bytes script reads text links r) (sockets.may P g out inn bytes script reads text links r) last.notes last.kept r.rest.words r.rest.closing (sockets.have P g out inn bytes script reads text links r) (keeps P g out inn bytes script reads text links r) outcomes (said P g out inn bytes script reads text links r) (said_ended P g out inn bytes script reads text links r) (begun_not P g out inn bytes script reads text links r)
         fixed given by_link (of_calls P g out inn bytes script reads text links r)
 
-    told_here : AreCallsTold (plan_of script) all outcomes fixed given by_link (last_attempt last.notes) (EndedByReading (plan_of script) all outcomes fixed given by_link links)
+    told_here : AreCallsTold (plan_of script) all outcomes fixed given by_link (last_attempt last.notes) links
     told_here = record {
       expires = λ client of t by is op became. expires P g out inn bytes script reads text links r given is_gave client of t by is op became (expired client of t by is op became);
       expired_once = once r.left.ran (sockets.are P g out inn bytes script reads text links r) (sockets.may P g out inn bytes script reads text links r) last.notes last.kept r.rest.words r.rest.closing (sockets.have P g out inn bytes script reads text links r) (keeps P g out inn bytes script reads text links r) outcomes (said P g out inn bytes script reads text links r) (said_ended P g out inn bytes script reads text links r) (begun_not P g out inn bytes script reads text links r);
@@ -61,5 +60,5 @@ module _ (P : Type 0) {O I : Type 0} (g : Ghosts O) (out : O → OutState) (inn 
       versions = calls_apart P g out inn bytes script reads text links r;
     }
 
-    pub calls_beside : AreCallsTold (plan_of script) (all_tasks script) outcomes fixed given by_link (last_attempt last.notes) (EndedByReading (plan_of script) (all_tasks script) outcomes fixed given by_link links)
-    calls_beside = subst (λ (l : List (List Task)). AreCallsTold (plan_of script) l outcomes fixed given by_link (last_attempt last.notes) (EndedByReading (plan_of script) l outcomes fixed given by_link links)) r.left.tasks told_here
+    pub calls_beside : AreCallsTold (plan_of script) (all_tasks script) outcomes fixed given by_link (last_attempt last.notes) links
+    calls_beside = subst (λ (l : List (List Task)). AreCallsTold (plan_of script) l outcomes fixed given by_link (last_attempt last.notes) links) r.left.tasks told_here

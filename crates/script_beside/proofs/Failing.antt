@@ -68,7 +68,7 @@ use Rattle.script_calls.specs.failed_told.proofs.Premises.{asked_so}
 use Rattle.script_calls.specs.failed_told.proofs.Reading.{notes_flat, rest_queues, readers_queue, queued_beside, others_beside}
 use Rattle.script_calls.specs.failed_told.proofs.Tells.{ToldEnd, IsPostFor, rest_step}
 use Rattle.script_calls.specs.failed_told.proofs.Views.{Stays, queued_in}
-use Rattle.script_calls.specs.Reading.{IdSeat}
+use Rattle.script_calls.specs.Seats.{IdSeat}
 use Rattle.script_calls.specs.Told.{outcomes_of}
 use Rattle.script_calls.proofs.Clients as clients
 use Rattle.script_calls.proofs.Failing.{fails_within, same_failure, not_own}
@@ -86,6 +86,13 @@ use Rattle.script_beside.proofs.Attempts as attempts
 use Rattle.script_beside.proofs.Sockets as sockets
 use Rattle.script_beside.proofs.Telling as telling
 use Rattle.script_beside.proofs.WideCalls.{failure_still, again_still, expire_still}
+
+-- whatever whoever reads the links ended has one of their codes
+pub ended_code : {p : Plan} {clients : List (List Task)} {outcomes : List (Option Outcome)} {fixed : Fixed} {gave : ℕ → List ℕ} {orders : ℕ → Order} {ends : List LinkEnd} {o : ℕ} {asked : Asked} {code last : ℕ} → EndedByReading p clients outcomes fixed gave orders ends o asked code last → IsReadCode code
+ended_code (AtFault e n k low on fault) = inr e
+ended_code (AtEnd e n k low lost) = inl e
+ended_code (AtDrop e n k low dropped) = inr e
+ended_code (LeftOver e) = inl e
 
 module _ (P : Type 0) {O I : Type 0} (g : Ghosts O) (out : O → OutState) (inn : I → InState) (bytes : List ℕ) (script : List Item) (reads : script_of bytes ≡ Ok script) (text : List ℕ) (links : List LinkEnd) (r : IsBesideRun P g out inn script text links) where
   abbrev p : Plan

@@ -17,7 +17,7 @@ use Rattle.rpc_client.specs.declared.acting.Told.{Told}
 use Rattle.prpc_frame.specs.declared.frame.Frame.{Frame}
 use Rattle.call_run.specs.Readers.{LinkReader, AreReaders}
 use Rattle.call_run.specs.Threads.{ids_of, RanWith}
-use Rattle.script_calls.specs.Reading.{IdSeat}
+use Rattle.script_calls.specs.Seats.{IdSeat}
 use Rattle.script_calls.specs.Told.{outcomes_of, IsReported}
 use Rattle.script_beside.specs.Told.{seated_plan, seated_ids, HasEnded, IsLeftBeside, HadGivenNone, IsBesideRun}
 use Rattle.script_beside.proofs.Gathering.{flat_of}

@@ -16,3 +16,10 @@ pub mod Failing
 pub mod Expires
 pub mod Joins
 pub mod Reports
+pub mod CallKinds
+pub mod Meeting
+pub mod Unopened
+pub mod Replies
+pub mod Small
+pub mod ReadOut
+pub mod Done

@@ -26,7 +26,7 @@ use Rattle.script_calls.specs.call_whys.specs.call_places.proofs.Ids.{IdLaws, la
 use Rattle.script_calls.specs.call_whys.specs.call_places.proofs.Places.{are_places}
 use Rattle.script_calls.specs.call_whys.specs.call_told.proofs.Beside.{have_beside, least_beside}
 use Rattle.script_calls.specs.call_whys.specs.call_told.specs.Least.{HasBegun, IsEndTold}
-use Rattle.script_calls.specs.Reading.{IdSeat}
+use Rattle.script_calls.specs.Seats.{IdSeat}
 use Rattle.script_calls.specs.Told.{outcomes_of}
 use Rattle.script_calls.proofs.Began.{tell}
 use Rattle.script_calls.proofs.Clients.{balanced}

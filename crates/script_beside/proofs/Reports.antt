@@ -18,6 +18,7 @@ use Rattle.prpc_frame.specs.declared.frame.Frame.{Frame}
 use Rattle.call_run.specs.Readers.{LinkReader}
 use Rattle.script_calls.specs.call_whys.specs.call_told.specs.Answers.{IsFailure, IsOwn, HaveAnswers, AreAnsweredBy}
 use Rattle.script_calls.specs.attempts_told.specs.Attempts.{AreAttemptsTold}
+use Rattle.script_calls.specs.callless_fits.proofs.Fits.{text_is_whole}
 use Rattle.script_calls.specs.call_whys.specs.sock_deeds.specs.Told.{fixed_by}
 use Rattle.seat_programs.specs.Scripts.{all_tasks}
 use Rattle.seat_programs.specs.ToldCalls.{Fixed, Order}
@@ -27,8 +28,7 @@ use Rattle.script_calls.specs.call_whys.specs.call_told.proofs.Lists.{all_both}
 use Rattle.script_calls.specs.call_whys.specs.call_told.proofs.Making.{AllMade}
 use Rattle.script_calls.specs.call_whys.specs.call_told.proofs.Shown.{shown_once}
 use Rattle.script_calls.specs.call_whys.specs.sock_deeds.proofs.Orders.{orders}
-use Rattle.script_calls.specs.Reading.{IdSeat}
-use Rattle.script_calls.specs.failed_told.specs.Ends.{EndedByReading}
+use Rattle.script_calls.specs.Seats.{IdSeat}
 use Rattle.script_calls.specs.Told.{outcomes_of, AreCallsTold}
 use Rattle.script_calls.proofs.Answered.{failures_have, outcomes_have}
 use Rattle.script_calls.proofs.Asked.{AskFor, all_ask, ids_made, notes_of_seats}
@@ -94,12 +94,12 @@ module _ (P : Type 0) {O I : Type 0} (out : O → OutState) (inn : I → InState
 
   -- how many attempts its calls made, and why; why each `expire` has its outcome, and why calls failed
   abbrev AreCalls : Fixed → (ℕ → List ℕ) → (ℕ → Order) → Type 0
-  AreCalls fixed given orders = (a : AreAttemptsTold (plan_of script) (all_tasks script) outcomes fixed given orders) × AreCallsTold (plan_of script) (all_tasks script) outcomes fixed given orders a.last (EndedByReading (plan_of script) (all_tasks script) outcomes fixed given orders links)
+  AreCalls fixed given orders = (a : AreAttemptsTold (plan_of script) (all_tasks script) outcomes fixed given orders) × AreCallsTold (plan_of script) (all_tasks script) outcomes fixed given orders a.last links
 
   known : (bytes : List ℕ) (reads : script_of bytes ≡ Ok script) (given : ℕ → List ℕ) → given ≡ gave → AreCalls (fixed P g out inn bytes script reads text links r) given (orders (run P g out inn bytes script reads text links r) (differ P g out inn bytes script reads text links r))
   known bytes reads given is = (
     attempts_beside P g out inn bytes script reads text links r given,
-    subst (λ (last : ℕ → ℕ). AreCallsTold (plan_of script) (all_tasks script) outcomes (fixed P g out inn bytes script reads text links r) given (orders (run P g out inn bytes script reads text links r) (differ P g out inn bytes script reads text links r)) last (EndedByReading (plan_of script) (all_tasks script) outcomes (fixed P g out inn bytes script reads text links r) given (orders (run P g out inn bytes script reads text links r) (differ P g out inn bytes script reads text links r)) links)) (sym (attempts_last P g out inn bytes script reads text links r given)) (calls_beside P g out inn bytes script reads text links r given is),
+    subst (λ (last : ℕ → ℕ). AreCallsTold (plan_of script) (all_tasks script) outcomes (fixed P g out inn bytes script reads text links r) given (orders (run P g out inn bytes script reads text links r) (differ P g out inn bytes script reads text links r)) last links) (sym (attempts_last P g out inn bytes script reads text links r given)) (calls_beside P g out inn bytes script reads text links r given is),
   )
 
   -- its answers, by what the links gave, and with them why each operation on sockets has its outcome, and what is told of calls
@@ -108,12 +108,15 @@ module _ (P : Type 0) {O I : Type 0} (out : O → OutState) (inn : I → InState
       (answered_beside p q (calls script) (opens script) readers r.left.readers_are {I = I} {P = P} out inn r.ends r.halves_read r.unread (operations script) outcomes have_answers)
       (answered_gave p q (calls script) (opens script) readers r.left.readers_are {I = I} {P = P} out inn r.ends r.halves_read r.unread (operations script) outcomes have_answers)
 
+  one_each : length outcomes ≡ length (operations script)
+  one_each = long_each (replicate (plan_of script).operations None) ((r.told ++ tellers) ++ r.last ∷ []) ∙ long_replicate (plan_of script).operations None
+
   -- it has the outcomes and place words of its report
   pub text_of : (bytes : List ℕ) → script_of bytes ≡ Ok script → IsBesideText script text links
-  text_of bytes reads = let both = told_of bytes reads in record {
+  text_of bytes reads = let both = told_of bytes reads in let sockets = both.1 in record {
     outcomes = outcomes;
     places = r.places;
-    one_each = long_each (replicate (plan_of script).operations None) ((r.told ++ tellers) ++ r.last ∷ []) ∙ long_replicate (plan_of script).operations None;
+    one_each = one_each;
     reported = r.reported;
     answered = both.0;
     sockets = both.1;
@@ -121,8 +124,15 @@ module _ (P : Type 0) {O I : Type 0} (out : O → OutState) (inn : I → InState
     on_calls = both.2.1;
     joins = joins_told P g out inn bytes script reads text links r (fixed_by both.1.broken both.1.early both.1.fails) both.0.gave both.1.orders;
     once = shown_once q.slots outcomes r.told (tellers ++ r.last ∷ []) (outcomes_few (plan_of script).operations r.told tellers r.last) own_told (told_once P g out inn bytes script reads text links r);
+    whole = λ callless. text_is_whole bytes script reads callless outcomes r.places sockets.broken sockets.early sockets.fails both.0.gave sockets.orders sockets.core one_each sockets.words r.reported.each sockets.tells text r.reported.took links r.reported.report r.reported.told sockets.ends_told;
   }
 
 pub text_if : (P : Type 0) {O I : Type 0} (out : O → OutState) (inn : I → InState) (g : Ghosts O) (bytes : List ℕ) (script : List Item) → script_of bytes ≡ Ok script → (links : List LinkEnd) {T E : Type 0} (items : T → List ℕ) (r : Result T E) → IfOk r (λ t. IsBesideRun P g out inn script (items t) links) → IfOk r (λ t. IsBesideText script (items t) links)
 text_if P out inn g bytes script reads links items (Ok t) h = text_of P out inn g script (items t) links h bytes reads
 text_if P out inn g bytes script reads links items (Err e) h = tt
+
+-- its outcomes are what all told
+pub text_outcomes : (P : Type 0) {O I : Type 0} (out : O → OutState) (inn : I → InState) (g : Ghosts O) (script : List Item) (text : List ℕ) (links : List LinkEnd) (r : IsBesideRun P g out inn script text links) (bytes : List ℕ) (reads : script_of bytes ≡ Ok script)
+    → (text_of P out inn g script text links r bytes reads).outcomes ≡ outcomes_of (plan_of script).operations r.told (r.ended ++ r.read) r.last
+unfolding text_of
+text_outcomes P out inn g script text links r bytes reads = refl

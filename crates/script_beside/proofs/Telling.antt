@@ -30,7 +30,7 @@ use Rattle.script_calls.specs.call_whys.specs.call_told.proofs.Tallies.{rest_acc
 use Rattle.script_calls.specs.call_whys.specs.expire_told.specs.Said.{AreSaid, AreOfCalls, HaveKeptOf}
 use Rattle.script_calls.specs.call_whys.specs.expire_told.proofs.Making.{have_kept, have_without}
 use Rattle.script_calls.specs.call_whys.specs.sock_deeds.proofs.Places.{map_append}
-use Rattle.script_calls.specs.Reading.{IdSeat}
+use Rattle.script_calls.specs.Seats.{IdSeat}
 use Rattle.script_calls.proofs.Clients.{balanced}
 use Rattle.script_calls.proofs.Expiring.{script_calls}
 use Rattle.script_calls.proofs.Ids as numbers

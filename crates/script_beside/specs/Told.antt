@@ -1,5 +1,5 @@
 -- What is reported of a script on threads whose links were served and read beside its clients.
-use Rattle.std.specs.Prelude.{ℕ, ◌≡◌, ◌+◌, ◌<◌, false, List, [], ◌∷◌, ◌++◌, map, length, Option, IfSome, slice_index}
+use Rattle.std.specs.Prelude.{ℕ, ◌≡◌, ◌+◌, ◌<◌, true, false, List, [], ◌∷◌, ◌++◌, map, length, Option, IfSome, slice_index}
 use Rattle.std.specs.List.{flat_map, AllByRecursion}
 use Rattle.sock_words.specs.Codes.{EEOF}
 use Rattle.sock_words.specs.declared.plain.Plan.{Plan}
@@ -15,7 +15,7 @@ use Rattle.sock_io.specs.Link.{OutState, InState, end_of}
 use Rattle.corr_core.specs.declared.marks.Plan as id_plan
 use Rattle.corr_id.specs.Closing.{Closing}
 use Rattle.seat_programs.specs.declared.task.Task.{Task}
-use Rattle.seat_programs.specs.Scripts.{all_tasks}
+use Rattle.seat_programs.specs.Scripts.{all_tasks, is_callless}
 use Rattle.seat_programs.specs.Tasks.{plan_of, opens, calls}
 use Rattle.rpc_client.specs.declared.acting.Told.{Told}
 use Rattle.rpc_reader.specs.Books.{Books}
@@ -25,10 +25,10 @@ use Rattle.call_run.specs.Readers.{LinkReader, AreReaders}
 use Rattle.call_run.specs.Threads.{ids_of, RanWith}
 use Rattle.script_calls.specs.attempts_told.specs.Attempts.{AreAttemptsTold}
 use Rattle.script_calls.specs.call_whys.specs.call_told.specs.Answers.{AreAnsweredBy}
-use Rattle.script_calls.specs.failed_told.specs.Ends.{EndedByReading}
 use Rattle.script_calls.specs.call_whys.specs.call_told.specs.Once.{ShownOnce}
 use Rattle.script_calls.specs.call_whys.specs.sock_deeds.specs.Told.{fixed_by}
-use Rattle.script_calls.specs.Reading.{IdSeat, TookAll}
+use Rattle.script_calls.specs.callless_fits.specs.Whole.{IsWholeText}
+use Rattle.script_calls.specs.Seats.{IdSeat, TookAll}
 use Rattle.script_calls.specs.Told.{outcomes_of, IsReported, AreCallsTold}
 use Rattle.script_beside.specs.Joins.{AreJoinsTold}
 use Rattle.script_beside.specs.Sockets.{AreSocketsBeside}
@@ -110,9 +110,10 @@ pub record IsBesideText (script : List Item) (text : List ℕ) (ends : List Link
   -- no call made more attempts than it may; and each message that a link accepted is that of a `send` of which nothing is said, or of an attempt of a call, with the id that the call's outcome shows
   pub attempts : AreAttemptsTold (plan_of script) (all_tasks script) outcomes (fixed_by sockets.broken sockets.early sockets.fails) answered.gave sockets.orders
   -- each `expire` has its cause, and so has each call that failed: also one that whoever read its link ended, by which link's end or fault; and each attempt behind another
-  pub on_calls : AreCallsTold (plan_of script) (all_tasks script) outcomes (fixed_by sockets.broken sockets.early sockets.fails) answered.gave sockets.orders attempts.last
-      (EndedByReading (plan_of script) (all_tasks script) outcomes (fixed_by sockets.broken sockets.early sockets.fails) answered.gave sockets.orders ends)
+  pub on_calls : AreCallsTold (plan_of script) (all_tasks script) outcomes (fixed_by sockets.broken sockets.early sockets.fails) answered.gave sockets.orders attempts.last ends
   -- and each `join` has its cause
   pub joins : AreJoinsTold (plan_of script) (all_tasks script) outcomes (fixed_by sockets.broken sockets.early sockets.fails) answered.gave sockets.orders
   -- no two operations have the end of one call as their outcome, of those whose ids are in the slots that the calls of the script have
   pub once : ShownOnce (length (calls script)) outcomes
+  -- without calls the report fits, with nothing late, whatever the links gave; and where nothing went wrong, and no link with the server gave anything, every send is placed
+  pub whole : is_callless script ≡ true → IsWholeText script text answered.gave ends

@@ -6,4 +6,3 @@ mod ending;
 mod run;
 
 pub use run::run_with_readers;
-pub use script_calls::{is_joinless, run_calls_on_threads};

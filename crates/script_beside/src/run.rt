@@ -7,14 +7,19 @@ ghost use Rattle.brpc_model.specs.Operations.{link_names};
 ghost use Rattle.sock_io.specs.declared.link.Ends.{Ends};
 ghost use Rattle.sock_io.specs.Causes.{Rose};
 ghost use Rattle.sock_io.specs.Link.{end_of};
+ghost use Rattle.sock_io.specs.Meeting.{AreEnds};
+ghost use Rattle.script_links.specs.Opened.{AreOpened};
 ghost use Rattle.script_links.specs.Given.{AreNumbered, AreUntouched, IsBeginning, has_piece, specs_of};
 ghost use Rattle.seat_programs.specs.Tasks.{plan_of, calls};
 ghost use Rattle.call_run.specs.Crew.{AreLeft};
+ghost use Rattle.call_run.specs.link_crew.specs.Meeting.{MetBelow};
 ghost use Rattle.script_calls.specs.Told.{IsReported, outcomes_of};
+ghost use Rattle.script_beside.specs.Gave.{GaveOffers};
+ghost use Rattle.script_beside.specs.Served.{IsServedText};
 ghost use Rattle.script_beside.specs.Told.{seated_ids, HasEnded, IsLeftBeside, IsBesideRun, IsBesideText};
 
 use crate::ending::end_calls;
-use call_run::{NoneBeside, Ran, RanBeside, run_beside};
+use call_run::{NoneBeside, Ran, RanBeside, meet_all, run_beside};
 use corr_id::{IdSeat, IdTable};
 use prpc_frame::Frame;
 use rpc_client::Told;
@@ -91,7 +96,25 @@ fn finish<O: Out, I: In, P: Peer, R: Wait>(
     report(alloc, script, &said, &places, ends)
 }
 
-/// Runs a script over its links, and gives them back.
+/// The ends of each link are compared, and the links are given back, in order. They show what they showed before.
+fn meet_and_give_back<L: Linker>(links: &mut L, mut ends: Vec<Ends<L::O, L::I, L::P>>)
+    requires ends { All (λ e. AreEnds (L.O.state e.out) (L.P.state e.peer) (L.I.state e.inn)) ends.items }
+    requires numbered { AreNumbered 0 (map (λ e. end_of (L.O.state e.out) (L.I.state e.inn)) ends.items) }
+    requires opened { length (L.asked links.old) ≡ length ends.items }
+    requires back { L.back links.old ≡ [] }
+    requires few { length ends.items ≤ 256 }
+    ensures back { L.back links.new ≡ map (λ e. end_of (L.O.state e.out) (L.I.state e.inn)) ends.items }
+    ensures numbered { AreNumbered 0 (L.back links.new) }
+    ensures met { (met : List (Ends L.O L.I L.P)) × (length met ≡ length ends.items) × MetBelow L.O.state L.P.state L.I.state (length ends.items) ends.items met × (L.back links.new ≡ map (λ e. end_of (L.O.state e.out) (L.I.state e.inn)) met) }
+    ensures asked { L.asked links.new ≡ L.asked links.old }
+    ensures faults { L.faults links.new ≡ L.faults links.old }
+    ensures always_ready { L.always_ready links.new ≡ L.always_ready links.old }
+{
+    meet_all(links, &mut ends);
+    give_back(links, ends);
+}
+
+/// Runs a script over its links, compares their ends, and gives them back.
 fn run_over<L: Linker, G: Gate + Sync, R: Threads + Wait + Sync>(
     rt: &R,
     alloc: Global,
@@ -103,11 +126,13 @@ fn run_over<L: Linker, G: Gate + Sync, R: Threads + Wait + Sync>(
     requires script { (bytes : List ℕ) × (script_of bytes ≡ Ok script.now) }
     requires untouched { AreUntouched 0 (map (λ e. end_of (L.O.state e.out) (L.I.state e.inn)) ends.items) }
     requires unfinished { AllByRecursion (λ (e : Ends L.O L.I L.P). (L.O.state e.out).finished ≡ false) ends.items }
+    requires ends { AreOpened L.tells_in L.O.state L.P.state L.I.state (L.asked links.old) ends.items }
     requires all { length ends.items ≡ length (link_names script.now) }
     requires few { length ends.items ≤ 256 }
     requires opened { length (L.asked links.old) ≡ length ends.items }
     requires back { L.back links.old ≡ [] }
     ensures ran { IfOk result (λ text. IsBesideRun L.P L.O.Out L.O.state L.I.state script.now text.items (L.back links.new)) }
+    ensures gave { OnOk result (GaveOffers L.tells_in (L.asked links.old) (L.back links.new)) }
     ensures back { length (L.back links.new) ≡ length ends.items }
     ensures numbered { AreNumbered 0 (L.back links.new) }
     ensures asked { L.asked links.new ≡ L.asked links.old }
@@ -169,7 +194,7 @@ fn run_over<L: Linker, G: Gate + Sync, R: Threads + Wait + Sync>(
                 kept,
             };
             let text = finish(rt, alloc, script, plan.operations, &calls, left, &back);
-            give_back(links, back);
+            meet_and_give_back(links, back);
             or_no_memory(text)
         }
         Err(NoneBeside { outs, rests }) => {
@@ -199,6 +224,8 @@ pub fn run_with_readers<L: Linker, G: Gate + Sync, R: Threads + Wait + Sync>(
     requires back { L.back links.old ≡ [] }
     ensures ran { IfOk result (λ text. IsBesideRun L.P L.O.Out L.O.state L.I.state script.now text.items (L.back links.new)) }
     ensures text { IfOk result (λ text. IsBesideText script.now text.items (L.back links.new)) }
+    ensures gave { OnOk result (GaveOffers L.tells_in (specs_of mode script.now) (L.back links.new)) }
+    ensures served { IfOk result (λ text. IsServedText (L.tells_in mode ≡ true) script.now text.items (L.back links.new)) }
     ensures unopened { IsErrOf result OpenFault.Failed → AreUntouched 0 (L.back links.new) }
     ensures all { OnOk result (length (L.back links.new) ≡ length (link_names script.now)) }
     ensures asked { OnOk result (L.asked links.new ≡ specs_of mode script.now) }

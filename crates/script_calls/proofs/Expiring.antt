@@ -1,37 +1,21 @@
 -- Each `expire` of a script asks for a call; and what whoever read the links keeps in mind.
-use Rattle.std.proofs.Common.{◌≡◌, ℕ, true, false, List, ◌∷◌, map, length, Option, Some, Ok, sym, ap, ◌∙◌, subst}
+use Rattle.std.proofs.Common.{◌≡◌, ℕ, true, false, List, Option, Some, Ok, sym, ap, ◌∙◌, subst}
 use Rattle.std.specs.Prelude.{slice_get}
-use Rattle.sock_io.specs.declared.link.Out.{Ghosts}
-use Rattle.sock_io.specs.declared.link.Ends.{Ends}
-use Rattle.sock_io.specs.Link.{OutState, InState}
-use Rattle.sock_words.specs.Codes.{EEOF}
 use Rattle.sock_words.specs.declared.outcome.Outcome.{Outcome}
-use Rattle.sock_words.specs.declared.plain.Plan.{Plan}
-use Rattle.sock_words.specs.declared.place_word.PlaceWord.{PlaceWord}
 use Rattle.brpc_model.specs.Items.{Item, Call, is_call}
 use Rattle.brpc_model.specs.Operations.{Operation, operations}
 use Rattle.brpc_model.specs.Places.{names}
 use Rattle.brpc_model.specs.Script.{script_of}
-use Rattle.corr_core.specs.declared.marks.Plan as id_plan
-use Rattle.corr_core.specs.declared.marks.View.{View}
 use Rattle.sock_message.specs.Asked.{Asked}
 use Rattle.seat_programs.specs.declared.task.Op.{Op}
 use Rattle.seat_programs.specs.declared.task.Op.TheVariants as ops
-use Rattle.seat_programs.specs.declared.task.Task.{Task}
 use Rattle.seat_programs.specs.Scripts.{all_tasks}
-use Rattle.seat_programs.specs.Tasks.{Numbered, numbered, op_of, asked_of, plan_of, calls}
+use Rattle.seat_programs.specs.Tasks.{Numbered, numbered, op_of, asked_of}
 use Rattle.report_fits.proofs.Lists.{Has, some_is}
 use Rattle.report_fits.proofs.Numbering.{are_from}
 use Rattle.report_fits.proofs.Targets.{expired, are_there}
 use Rattle.report_fits.proofs.TaskLemmas.{numbers_at, task_is, expire_asks}
-use Rattle.rpc_client.specs.declared.acting.Told.{Told}
-use Rattle.call_run.specs.Threads.{ids_of}
-use Rattle.call_whys.specs.call_told.proofs.Tallies.{Tally, tally_then, read_accounts, rest_accounts}
-use Rattle.call_whys.specs.expire_told.specs.Said.{AreOfCalls, HaveKeptOf}
-use Rattle.call_whys.specs.expire_told.proofs.Making.{have_kept}
-use Rattle.script_calls.specs.Reading.{IdSeat, begins, HasRead}
-use Rattle.script_calls.specs.Told.{IsLeft, outcomes_of}
-use Rattle.script_calls.proofs.Shown.{view_of, flat_mapped}
+use Rattle.call_whys.specs.expire_told.specs.Said.{AreOfCalls}
 
 -- ## Which operations are calls
 
@@ -48,28 +32,3 @@ script_calls bytes script reads outcomes c d t u is op also =
     let target = expired script (are_there bytes script reads) m.0 m.1 (subst P m.2 (are_from 0 1 script t.number v.operation v.there).there) in
     let same : w.operation ≡ target.call = some_is w.operation target.call (sym w.there ∙ (ap (slice_get (operations script)) m.3 ∙ target.there)) in
     call_op (numbered script) (names script) (numbers_at script u.number w.operation) w.operation.item u.op (ap (λ (o : Operation). is_call o.item) same ∙ target.is) w.asks
-
--- ## A run of a script
-
-module _ {O I P : Type 0} (g : Ghosts O) (out : O → OutState) (inn : I → InState) (bytes : List ℕ) (script : List Item) (reads : script_of bytes ≡ Ok script) (told ended : List (List Told)) (places : List PlaceWord) (seats : List IdSeat)
-    (left : IsLeft g out script told ended places seats) (ends ends' : List (Ends O I P)) (last : List Told) (read : HasRead out inn (ids_of (plan_of script) (length (calls script))) (calls script) seats ends ends' last) where
-  abbrev p : Plan
-  p = plan_of script
-
-  abbrev q : id_plan.Plan
-  q = ids_of p (length (calls script))
-
-  abbrev all : List (List Task)
-  all = left.setup ∷ left.clients
-
-  abbrev outcomes : List (Option Outcome)
-  outcomes = outcomes_of p.operations told ended last
-
-  tally : Tally (begins read.main) read.last
-  tally = tally_then (begins read.main) read.between read.last (read_accounts out inn q (calls script) 0 ends ends' (begins read.main) read.between read.read) (rest_accounts EEOF q (calls script) read.between read.last read.rest)
-
-  pub keeps : HaveKeptOf (map view_of seats) read.last.view.kept
-  keeps = have_kept (map view_of seats) read.main.me.0 read.last.view (read.took.kept ∙ flat_mapped view_of (λ (v : View Asked). v.kept) seats) tally.grows
-
-  pub of_calls : AreOfCalls all outcomes
-  of_calls = subst (λ (l : List (List Task)). AreOfCalls l outcomes) (sym left.tasks) (script_calls bytes script reads outcomes)

@@ -1,5 +1,5 @@
 -- The ids of the calls of a run of a script: one at most was made for each operation, and what became of a call shows its own, where all that is told besides what the clients told of their own are ends of calls.
-use Rattle.std.proofs.Common.{◌≡◌, ◌≢◌, ℕ, zero, suc, ◌+◌, ◌*◌, ◌<◌, ◌≤◌, ◌⊎◌, inl, inr, false, true, List, [], ◌∷◌, ◌++◌, length, replicate, slice_get, Option, Some, None, refl, sym, ap, ◌∙◌, subst, arith}
+use Rattle.std.proofs.Common.{◌≡◌, ◌≢◌, ℕ, zero, suc, ◌+◌, ◌*◌, ◌<◌, ◌≤◌, ◌⊎◌, inl, inr, false, true, List, [], ◌∷◌, ◌++◌, replicate, slice_get, Option, Some, None, refl, sym, ap, ◌∙◌, subst, arith}
 use Rattle.std.specs.Prelude.{slice_index}
 use Rattle.std.specs.List.{AllByRecursion}
 use mathlib.Core.Logic.{dite}
@@ -35,7 +35,6 @@ use Rattle.seat_programs.specs.Tasks.{plan_of}
 use Rattle.seat_programs.specs.Told.{AreTasks, TaskFits, OpFits, IsTask, Became}
 use Rattle.report_fits.proofs.Lists.{has_from, contains_from, all_at as all_there}
 use Rattle.rpc_client.specs.declared.acting.Told.{Told}
-use Rattle.call_run.specs.call_client.proofs.Changes.{AsksFor}
 use Rattle.call_run.specs.call_client.specs.Running.{MayMakeAll}
 use Rattle.call_run.specs.Readers.{LinkReader}
 use Rattle.call_run.specs.Threads.{ids_of, opens_of, AllMayRun, MayRunAll, RanWith}
@@ -58,7 +57,7 @@ use Rattle.script_calls.proofs.Asked.{AskFor, all_by_place}
 use Rattle.script_calls.proofs.Began.{only_is}
 use Rattle.script_calls.proofs.Clients as clients_of
 use Rattle.script_calls.proofs.MayCall.{IsOwnTask}
-use Rattle.script_calls.proofs.Said.{IsSaid, end_said, in_front}
+use Rattle.script_calls.proofs.Said.{IsSaid, end_said}
 use Rattle.script_calls.proofs.Sayings.{to_slice, told_each, none_told}
 use Rattle.script_calls.proofs.Tellers as tellers_of
 use Rattle.script_calls.proofs.Tellers.{IsEndTold, end_made}

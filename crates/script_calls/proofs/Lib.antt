@@ -17,12 +17,7 @@ pub mod Linked
 pub mod Retrying
 pub mod Tellers
 pub mod Laters
-pub mod Later
 pub mod Ids
-pub mod Telling
 pub mod Sockets
-pub mod Attempted
-pub mod Versions
 pub mod Expiring
 pub mod Failing
-pub mod Whole

@@ -142,10 +142,3 @@ module _ (bytes : List ℕ) (script : List Item) (reads : script_of bytes ≡ Ok
     even = k.even;
     low = k.first;
   }
-
-  -- over those with a seat for each client and the setup
-  pub script_may : (slots : ℕ) (setup : List Task) (clients : List (List Task)) → setup ∷ clients ≡ all_tasks script → MayRunAll (plan_of script) (ids_of (plan_of script) slots) setup clients
-  script_may slots setup clients are = seated_may (plan_of script).seats slots setup clients are (let a = script_seats script setup clients are in omega arith)
-
-  pub script_begins : MayBegin (plan_of script)
-  script_begins = seated_begins (plan_of script).seats (omega arith) (let a = (keeps_limits bytes script reads).clients in omega arith)

@@ -4,7 +4,7 @@ use Rattle.std.specs.Prelude.{unwrap_or}
 use Rattle.std.specs.List.{All, AllByRecursion, cons_option}
 use Rattle.std.proofs.lemmas.List.Elements.{All-from_recursion}
 use Rattle.brpc_model.specs.Items.{Item, is_open, is_call}
-use Rattle.brpc_model.specs.Operations.{Operation, operations, clients}
+use Rattle.brpc_model.specs.Operations.{Operation, operations}
 use Rattle.brpc_model.specs.Script.{script_of}
 use Rattle.sock_words.specs.declared.plain.Plan.{Plan}
 use Rattle.corr_core.specs.declared.marks.Plan.{Plan as IdPlan}
@@ -54,14 +54,6 @@ module _ (script : List Item) (p : Plan) (plan : p ≡ plan_of script) where
   calls_below slots q same cs are =
       subst (λ (x : IdPlan). All (λ (o : ℕ). o < x.operations) cs) (sym same) (subst (λ (x : Plan). All (λ (o : ℕ). o < x.operations + 1) cs) (sym plan) (subst (All (λ (o : ℕ). o < (plan_of script).operations + 1)) (sym are)
       (All-from_recursion (λ (o : ℕ). o < (plan_of script).operations + 1) (calls script) (all_low is_call 0 0 (operations script) (length (operations script) + 1) (omega arith)))))
-
-  -- each of the two tables has a seat, and that of ids an operation
-  pub some_ids : (slots : ℕ) (q : IdPlan) → q ≡ ids_of p slots → (1 ≤ q.seats) × (1 ≤ q.operations)
-  some_ids slots q same =
-      let seats : p.seats ≡ clients script + 1 = ap (λ (x : Plan). x.seats) plan in
-      let s : q.seats ≡ p.seats = ap (λ (x : IdPlan). x.seats) same in
-      let o : q.operations ≡ p.operations + 1 = ap (λ (x : IdPlan). x.operations) same in
-      (omega arith, omega arith)
 
 module _ (bytes : List ℕ) (script : List Item) (reads : script_of bytes ≡ Ok script) where
   pub few_operations : (p : Plan) → p ≡ plan_of script → p.operations ≤ 4096

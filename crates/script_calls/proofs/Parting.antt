@@ -1,6 +1,6 @@
 -- The links of a run as they are opened, and as they are given back; and what they took.
 use Rattle.std.proofs.Common.{◌≡◌, ℕ, zero, suc, ◌+◌, ◌<◌, ◌≤◌, false, List, [], ◌∷◌, ◌++◌, length, map, take, get_or, Option, Some, None, IfSome, refl, sym, ap, ◌∙◌, subst, arith}
-use Rattle.std.proofs.lemmas.List.{append_assoc, map-append, length-map, take_more, take_all, length-take-le}
+use Rattle.std.proofs.lemmas.List.{map-append, length-map, take_more, take_all, length-take-le}
 use Rattle.std.proofs.lemmas.Option.{none-some, same_Some, slice_get_within}
 use Rattle.std.specs.List.{AllByRecursion}
 use Rattle.std.specs.Option.{ForSome}
@@ -81,14 +81,6 @@ module _ {O I P : Type 0} (out_state : O → OutState) (in_state : I → InState
   pub give_as_many : (ends : List (Ends O I P)) → length ends ≡ p.links → length rests ≡ length ends → length back ≡ length ends
   give_as_many ends all many =
       let n = has.count in ap length is ∙ (joined_long out_state in_state outs rests (omega arith) ∙ omega arith)
-
-  pub give_long : (ends : List (Ends O I P)) → length ends ≡ p.links → rests ≡ map rest_of ends → length back ≡ length ends
-  give_long ends all are = give_as_many ends all (ap length are ∙ length-map ends rest_of)
-
--- one link more was put together
-pub joined_more : {O I P : Type 0} (back more : List (Ends O I P)) (outs left : List O) (o : O) (rs rest : List (Rest I P)) (r : Rest I P) (all : List (Ends O I P)) → back ++ joined outs rs ≡ all → outs ≡ o ∷ left → rs ≡ r ∷ rest → more ≡ back ++ (record { out = o; inn = r.inn; peer = r.peer }) ∷ [] → more ++ joined left rest ≡ all
-joined_more back more outs left o rs rest r all h l e m =
-    ap (λ b. b ++ joined left rest) m ∙ (append_assoc back ((record { out = o; inn = r.inn; peer = r.peer }) ∷ []) (joined left rest) ∙ (sym (ap (λ xs. back ++ xs) (λ i. joined (l i) (e i))) ∙ h))
 
 -- ## What the links took
 

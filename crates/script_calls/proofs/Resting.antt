@@ -1,15 +1,13 @@
 -- The seats of a table of ids, of which one takes in the others.
-use Rattle.std.proofs.Common.{◌≡◌, ℕ, ◌≤◌, false, List, [], ◌∷◌, ◌++◌, sym, ap, ◌∙◌, subst, arith}
+use Rattle.std.proofs.Common.{◌≡◌, ℕ, ◌≤◌, List, [], ◌∷◌, ◌++◌, sym, ap, ◌∙◌, subst, arith}
 use Rattle.atomic_table.specs.Seated.{TableId}
 use Rattle.corr_core.specs.Law.{total}
 use Rattle.corr_id.specs.Closed.{AllOf}
 use Rattle.corr_id.specs.Seats.{IsFree}
 use Rattle.rpc_reader.specs.Seats.{IsOpen, Rests}
-use Rattle.rpc_reader.specs.Books.{books}
-use Rattle.rpc_reader.specs.declared.books.AnswerSeat.{AnswerSeat}
-use Rattle.rpc_reader.proofs.Locks.{open_still, rests_then}
+use Rattle.rpc_reader.proofs.Locks.{open_still}
 use Rattle.call_run.specs.Crew.{AreLeft}
-use Rattle.script_calls.specs.Reading.{IdSeat, begins}
+use Rattle.script_calls.specs.Seats.{IdSeat}
 
 abbrev pub share_of : IdSeat → ℕ
 share_of s = s.me.0.share
@@ -24,12 +22,6 @@ all_of z (s ∷ ss) h = ((h.0.0.sits.0, h.0.1, h.0.0.free), all_of z ss h.1)
 pub joined_open : (z : TableId) (all : List IdSeat) (s : IdSeat) → (s.table_id ≡ z) × (s.me.1 ≡ []) × IsFree s.me.0 → s.me.0.share ≡ total share_of all → 1 ≤ total share_of all → IsOpen z s
 joined_open z all s is share some_ = record { sits = (is.0, omega (arith, share, some_)); free = is.2 }
 
--- ## What main read
-
--- a reader that is new
-pub begins_as : (c : AnswerSeat) (main : IdSeat) → c.seat ≡ main → (c.early.items ≡ []) × (c.told.items ≡ []) × (c.starved ≡ false) → books c ≡ begins main
-begins_as c main seat empty = λ i. record { view = (seat i).me.0; early = empty.0 i; told = empty.1 i; starved = empty.2 i }
-
 -- the table is closed with the seat that is left of the one that took in all
 module _ (z : TableId) (new left : IdSeat) (whole : Rests new left) (done more : List IdSeat) (none_ : done ≡ []) (pushed : more ≡ done ++ left ∷ []) where
   alone : more ≡ left ∷ []
@@ -40,11 +32,3 @@ module _ (z : TableId) (new left : IdSeat) (whole : Rests new left) (done more :
 
   pub rested_all : total share_of more ≡ share_of new
   rested_all = let a = ap (total share_of) alone in let b = whole.share in omega arith
-
--- the same where it read the links between
-module _ (z : TableId) (new mid left : IdSeat) (first : Rests new mid) (then_ : Rests mid left) (done more : List IdSeat) (none_ : done ≡ []) (pushed : more ≡ done ++ left ∷ []) where
-  pub closing_left : IsOpen z new → new.me.1 ≡ [] → AllOf z more
-  closing_left = rested_left z new left (rests_then new mid left first then_) done more none_ pushed
-
-  pub closing_all : total share_of more ≡ share_of new
-  closing_all = rested_all z new left (rests_then new mid left first then_) done more none_ pushed

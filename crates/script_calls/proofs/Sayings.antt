@@ -1,14 +1,11 @@
 -- What clients told of an operation is what stands at its number, and nothing else stands there.
-use Rattle.std.proofs.Common.{◌≡◌, ◌≢◌, ℕ, zero, suc, ◌<◌, ◌⊎◌, inl, inr, List, [], ◌∷◌, length, length-set, replicate, slice_get, slice_set, Option, Some, None, refl, sym, ap, ◌∙◌, subst, arith}
+use Rattle.std.proofs.Common.{◌≡◌, ◌≢◌, ℕ, zero, suc, ◌<◌, ◌⊎◌, inl, inr, List, [], ◌∷◌, length, length-set, replicate, slice_get, slice_set, Option, Some, None, refl, sym, ap, ◌∙◌, arith}
 use Rattle.std.proofs.lemmas.Option.{none-some, same_Some}
-use Rattle.std.specs.List.{AllByRecursion}
 use mathlib.Core.Logic.{dite}
 use mathlib.Core.Option.{some, some-injective, some-ne-none}
 use native.Mathlib.Decide.{ℕ_discrete}
 use lib.ListN.{get_elem?}
 use Rattle.sock_words.specs.declared.outcome.Outcome.{Outcome}
-use Rattle.brpc_model.specs.Order.{EachBefore}
-use Rattle.report_fits.proofs.Lists.{all_map, all_at}
 use Rattle.rpc_client.specs.declared.acting.Told.{Told}
 use Rattle.script_calls.specs.Saying.{said_by, said_by_each}
 
@@ -23,11 +20,6 @@ pub from_slice : {A : Type 0} (xs : List A) (k : ℕ) (x : A) → slice_get xs k
 from_slice [] k x e = absurd (none-some x e)
 from_slice (y ∷ ys) zero x e = ap some (same_Some y x e)
 from_slice (y ∷ ys) (suc k) x e = from_slice ys k x e
-
-set_at : {A : Type 0} (l : List A) (n : ℕ) (x : A) → n < length l → slice_get (slice_set l n x) n ≡ Some x
-set_at [] n x lt = absurd (omega arith)
-set_at (y ∷ ys) zero x lt = refl
-set_at (y ∷ ys) (suc n) x lt = set_at ys n x (omega arith)
 
 set_off : {A : Type 0} (l : List A) (n m : ℕ) (x : A) → n ≢ m → slice_get (slice_set l n x) m ≡ slice_get l m
 set_off [] n m x ne = refl
@@ -46,28 +38,9 @@ set_is (z ∷ zs) (suc n) x y e = set_is zs n x y e
 abbrev pub Before : Told → Told → Type 0
 Before a b = a.number < b.number
 
--- they tell nothing of an operation
-abbrev pub Silent : ℕ → List Told → Type 0
-Silent n ts = AllByRecursion (λ (t : Told). t.number ≢ n) ts
-
 long : (said : List (Option Outcome)) (ts : List Told) → length (said_by said ts) ≡ length said
 long said [] = refl
 long said (t ∷ ts) = long (slice_set said t.number (Some t.outcome)) ts ∙ length-set said t.number (Some t.outcome)
-
-keeps : (said : List (Option Outcome)) (ts : List Told) (n : ℕ) → Silent n ts → slice_get (said_by said ts) n ≡ slice_get said n
-keeps said [] n h = refl
-keeps said (t ∷ ts) n h = keeps (slice_set said t.number (Some t.outcome)) ts n h.1 ∙ set_off said t.number n (Some t.outcome) h.0
-
-tells_own : (said : List (Option Outcome)) (ts : List Told) (i : ℕ) (t : Told) → EachBefore Before ts → get_elem? ts i ≡ some t → t.number < length said → slice_get (said_by said ts) t.number ≡ Some (Some t.outcome)
-tells_own said [] i t order at low = absurd (some-ne-none t (sym at))
-tells_own said (u ∷ us) zero t order at low =
-    subst (λ (x : Told). slice_get (said_by said (u ∷ us)) x.number ≡ Some (Some x.outcome)) is
-    (keeps (slice_set said u.number (Some u.outcome)) us u.number (all_map (Before u) (λ (x : Told). x.number ≢ u.number) (λ x less e. absurd (omega (arith, less, e))) us order.0)
-    ∙ set_at said u.number (Some u.outcome) (subst (λ (x : Told). x.number < length said) (sym is) low))
-  where
-    is : u ≡ t
-    is = some-injective u t at
-tells_own said (u ∷ us) (suc i) t order at low = tells_own (slice_set said u.number (Some u.outcome)) us i t order.1 at (omega (arith, low, length-set said u.number (Some u.outcome)))
 
 -- where something is told of operation n
 abbrev pub ToldIn : List Told → ℕ → Outcome → Type 0
@@ -84,26 +57,9 @@ told_own said (t ∷ ts) n o e = elim (told_own (slice_set said t.number (Some t
 
 -- ## All clients
 
--- no two of them tell of one operation
-abbrev pub Apart : List Told → List Told → Type 0
-Apart ts us = AllByRecursion (λ (t : Told). Silent t.number us) ts
-
-keeps_each : (said : List (Option Outcome)) (tss : List (List Told)) (n : ℕ) → AllByRecursion (Silent n) tss → slice_get (said_by_each said tss) n ≡ slice_get said n
-keeps_each said [] n h = refl
-keeps_each said (ts ∷ tss) n h = keeps_each (said_by said ts) tss n h.1 ∙ keeps said ts n h.0
-
 pub long_each : (said : List (Option Outcome)) (tss : List (List Told)) → length (said_by_each said tss) ≡ length said
 long_each said [] = refl
 long_each said (ts ∷ tss) = long_each (said_by said ts) tss ∙ long said ts
-
-pub each_told : (said : List (Option Outcome)) (tss : List (List Told)) (c i : ℕ) (ts : List Told) (t : Told) → AllByRecursion (EachBefore Before) tss → EachBefore Apart tss → get_elem? tss c ≡ some ts → get_elem? ts i ≡ some t → t.number < length said
-    → slice_get (said_by_each said tss) t.number ≡ Some (Some t.outcome)
-each_told said [] c i ts t order apart at there low = absurd (some-ne-none ts (sym at))
-each_told said (us ∷ uss) zero i ts t order apart at there low =
-    let here : get_elem? us i ≡ some t = subst (λ (l : List Told). get_elem? l i ≡ some t) (sym (some-injective us ts at)) there in
-    keeps_each (said_by said us) uss t.number (all_map (Apart us) (Silent t.number) (λ vs h. all_at (λ (x : Told). Silent x.number vs) us t h (i, to_slice us i t here)) uss apart.0)
-    ∙ tells_own said us i t order.0 here low
-each_told said (us ∷ uss) (suc c) i ts t order apart at there low = each_told (said_by said us) uss c i ts t order.1 apart.1 at there (omega (arith, low, long said us))
 
 pub told_each : (said : List (Option Outcome)) (tss : List (List Told)) (n : ℕ) (o : Outcome) → slice_get (said_by_each said tss) n ≡ Some (Some o) → (slice_get said n ≡ Some (Some o)) ⊎ ((c : ℕ) × (ts : List Told) × (get_elem? tss c ≡ some ts) × ToldIn ts n o)
 told_each said [] n o e = inl e

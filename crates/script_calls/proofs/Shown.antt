@@ -1,23 +1,16 @@
 -- No call is told twice in a run, and so no two outcomes of its report show the end of one call.
-use Rattle.std.proofs.Common.{◌≡◌, ℕ, ◌+◌, ◌≤◌, List, [], ◌∷◌, ◌++◌, append_assoc, map, Some, None, replicate, refl, sym, ap, ◌∙◌, subst, arith}
+use Rattle.std.proofs.Common.{◌≡◌, ℕ, ◌+◌, ◌≤◌, List, [], ◌∷◌, ◌++◌, append_assoc, map, Some, None, replicate, refl, ap, arith}
 use Rattle.std.specs.Prelude.{Option, slice_set}
-use Rattle.std.specs.List.{AllByRecursion, flat_map}
-use Rattle.sock_words.specs.Codes.{EEOF}
+use Rattle.std.specs.List.{flat_map}
 use Rattle.sock_words.specs.declared.outcome.Outcome.{Outcome}
-use Rattle.sock_io.specs.declared.link.Ends.{Ends}
-use Rattle.sock_io.specs.Link.{OutState, InState}
 use Rattle.corr_core.specs.Law.{total}
-use Rattle.corr_core.specs.declared.marks.Plan.{Plan}
 use Rattle.corr_core.specs.declared.marks.View.{View}
 use Rattle.sock_message.specs.Asked.{Asked}
 use Rattle.rpc_client.specs.declared.acting.Told.{Told}
 use Rattle.script_calls.specs.Saying.{said_by, said_by_each}
-use Rattle.call_whys.specs.call_told.specs.Answers.{IsOwn}
-use Rattle.call_whys.specs.call_told.specs.Once.{told_ends, ToldOnce, shows, ShownOnce}
-use Rattle.call_whys.specs.call_told.proofs.Balance.{AreBalanced}
-use Rattle.call_whys.specs.call_told.proofs.Once.{told_once}
-use Rattle.call_whys.specs.call_told.proofs.Shown.{shown_none, shown_set, shown_once}
-use Rattle.script_calls.specs.Reading.{IdSeat, begins, HasRead}
+use Rattle.call_whys.specs.call_told.specs.Once.{told_ends, shows}
+use Rattle.call_whys.specs.call_told.proofs.Shown.{shown_none, shown_set}
+use Rattle.script_calls.specs.Seats.{IdSeat}
 use Rattle.script_calls.specs.Told.{outcomes_of}
 
 abbrev pub view_of : IdSeat → View Asked
@@ -43,16 +36,3 @@ outcomes_few n told ended read id =
     let a = each_few id (replicate n None) ((told ++ ended) ++ read ∷ []) in
     let b = shown_none id n in
     let c = ap (total (told_ends id)) (append_assoc told ended (read ∷ [])) in omega arith
-
-module _ {O I P : Type 0} (out : O → OutState) (inn : I → InState) (q : Plan) (operations : List ℕ) where
-  -- the clients told what their seats noted, and the rest was read: no call is told twice
-  pub read_once : (seats : List IdSeat) (es es' : List (Ends O I P)) (ended : List (List Told)) (told : List Told) → AreBalanced ended (map view_of seats) → HasRead out inn q operations seats es es' told → ToldOnce q.slots (ended ++ told ∷ [])
-  read_once seats es es' ended told balanced h =
-      subst (λ (t : List Told). ToldOnce q.slots (ended ++ t ∷ [])) (sym h.told_is)
-      (told_once out inn q operations EEOF ended (map view_of seats) es es' (begins h.main) h.between h.last h.last.view.kept h.words
-      balanced (h.took.notes ∙ flat_mapped view_of (λ (v : View Asked). v.notes) seats) refl h.read h.rest h.calm h.closing)
-
-  -- the outcomes of clients that tell no end of a call of their own operations, with what main told behind them
-  pub run_shown : (n : ℕ) (told ended : List (List Told)) (last : List Told) (seats : List IdSeat) (es es' : List (Ends O I P)) → AllByRecursion (λ ts. AllByRecursion IsOwn ts) told → AreBalanced ended (map view_of seats) → HasRead out inn q operations seats es es' last
-      → ShownOnce q.slots (outcomes_of n told ended last)
-  run_shown n told ended last seats es es' owns balanced h = shown_once q.slots (outcomes_of n told ended last) told (ended ++ last ∷ []) (outcomes_few n told ended last) owns (read_once seats es es' ended last balanced h)

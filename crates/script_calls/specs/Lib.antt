@@ -1,11 +1,11 @@
-pub mod Built
 pub mod Halves
 pub mod Saying
 pub mod Ready
-pub mod Reading
+pub mod Seats
 pub mod Told
 pub use Rattle.attempts_told
 pub use Rattle.call_whys
+pub use Rattle.callless_fits
 pub use Rattle.failed_told
 pub use Rattle.id_rule
 pub use Rattle.report_fits

@@ -1,19 +1,15 @@
-//! Runs a script on threads with its calls, a client on each, over links that it opens and gives back, and prints the report. Main
-//! reads the links once all clients have ended.
+//! What a run of a script on threads begins with, and the report of what it left: the operations of its clients and room for its links,
+//! what all that tell of operations told, and the seats of the table of ids, of which one takes in the others.
 #![tactic(auto)]
 
 mod asking;
-mod built;
 mod halves;
-mod reading;
+mod joining;
 mod reporting;
-mod run;
 mod saying;
 
 pub use asking::{Ready, prepare};
-pub use built::is_joinless;
 pub use halves::{Halves, join, part};
-pub use reading::join_all;
-pub use reporting::{outcomes_of, report};
-pub use run::{or_no_memory, run_calls_on_threads};
+pub use joining::join_all;
+pub use reporting::{or_no_memory, outcomes_of, report};
 pub use script_tasks::NoMemory;

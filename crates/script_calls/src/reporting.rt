@@ -1,5 +1,5 @@
-// The report of a run with calls.
-ghost use Rattle.std.specs.Prelude.{◌≡◌, IfOk, IfSome, map};
+// The report of a run.
+ghost use Rattle.std.specs.Prelude.{◌≡◌, Ok, IfOk, IfSome, IsErrOf, map};
 ghost use Rattle.brpc_model.specs.PlaceWords.{ArePlaces, HasEachOutcome};
 ghost use Rattle.sock_io.specs.declared.link.Ends.{Ends};
 ghost use Rattle.sock_io.specs.Link.{end_of};
@@ -11,7 +11,7 @@ use rpc_client::Told;
 use script_items::Script;
 use script_report::print_report;
 use script_tasks::NoMemory;
-use sock_io::{Ends, In, Out, Peer};
+use sock_io::{Ends, In, OpenFault, Out, Peer};
 use sock_words::{Outcome, PlaceWord};
 use std::alloc::{AllocError, Global};
 
@@ -68,4 +68,15 @@ pub fn report<O: Out, I: In, P: Peer>(
     let took = taken_by(alloc, ends)?;
     let text = print_report(alloc, script.lines(), said, places, &took)?;
     Ok(text)
+}
+
+/// The text, unless memory was wanting.
+pub fn or_no_memory(text: Result<Vec<u8>, NoMemory>) -> Result<Vec<u8>, OpenFault>
+    ensures ok { IfOk result (λ t. text ≡ Ok t) }
+    ensures known { IsErrOf result OpenFault.Failed → ⊥ }
+{
+    match text {
+        Ok(text) => Ok(text),
+        Err(NoMemory) => Err(OpenFault::NoMemory),
+    }
 }

@@ -1,8 +1,7 @@
 // Scripts whose links are served and read beside their clients, over links between threads.
-use crate::tests::{script_in, tells};
+use crate::tests::{report_over, tells};
 use ring_link::RingLinker;
-use script_beside::run_with_readers;
-use sock_io::{Mode, OpenGate};
+use sock_io::OpenGate;
 use std::alloc::Global;
 use std::sync::Wait;
 use std::thread::Threads;
@@ -12,12 +11,8 @@ fn report_beside<R: Threads + Wait + Sync + Alloc<A = Global>>(
     rt: &R,
     text: &[u8],
 ) -> Option<Vec<u8>> {
-    let script = script_in(rt.alloc(), text)?;
     let mut links = RingLinker::new(rt);
-    match run_with_readers(rt, rt.alloc(), Mode::Ring, &script, &mut links, &OpenGate) {
-        Ok(report) => Some(report),
-        Err(_fault) => None,
-    }
+    report_over(rt, rt.alloc(), text, &mut links, &OpenGate)
 }
 
 const CALLED: &[u8] =

@@ -1,14 +1,12 @@
 // A link whose first put waits for a client, and a gate where this client waits for the put.
-ghost use Rattle.std.specs.Prelude.{◌≡◌, ◌<◌, ◌++◌, ◌∷◌, [], true, length};
+ghost use Rattle.std.specs.Prelude.{◌≡◌, ◌<◌, ◌++◌, ◌∷◌, [], false, length};
 ghost use Rattle.sock_io.specs.Link.{end_of};
-ghost use Rattle.sock_io.specs.Memory.{mem_in};
 ghost use Rattle.sock_io.specs.Shape.{shaped_out};
+ghost use Rattle.ring_link.specs.Halves.{ring_in};
 
 use crossbeam_utils::Backoff;
-use sock_io::{
-    Ends, Gate, LinkSpec, Linker, MemIn, MemOut, NoMemory, NoPeer, OpenFault, Out, Put, Ready,
-    Shaped, SinkLinker,
-};
+use ring_link::{RingIn, RingLinker, RingOut, RingPeer};
+use sock_io::{Ends, Gate, LinkSpec, Linker, NoMemory, OpenFault, Out, Put, Ready, Shaped};
 use std::alloc::{AllocError, Global};
 use std::sync::atomic::{AtomicU64, Ordering};
 use std::sync::{Arc, Wait};
@@ -75,7 +73,7 @@ impl Gate for HeldGate {
 /// A writing half whose first put waits until the gate was asked for the second operation of client 2.
 #[derive(Drop)]
 pub struct HeldOut {
-    half: Shaped<MemOut>,
+    half: Shaped<RingOut>,
     flags: Shared,
 }
 
@@ -102,23 +100,23 @@ impl Out for HeldOut {
     }
 }
 
-type Link = Ends<HeldOut, MemIn, NoPeer>;
+type Link = Ends<HeldOut, RingIn, RingPeer>;
 
-/// Opens such links, and keeps what they took, as far as there is memory. It accepts no connections.
+/// Opens such links over rings, and keeps what they took, as far as there is memory. It accepts no connections.
 #[derive(Drop)]
-pub struct HeldLinker {
-    inner: SinkLinker,
+pub struct HeldLinker<R: AllocGlobal + Drop> {
+    inner: RingLinker<R>,
     flags: Shared,
     took: Vec<u8>,
 }
 
-impl HeldLinker {
-    pub fn new(alloc: Global, flags: Shared) -> Self
+impl<R: AllocGlobal + Drop> HeldLinker<R> {
+    pub fn new(rt: R, alloc: Global, flags: Shared) -> Self
         ensures asked { result.inner.asked ≡ [] }
         ensures back { result.inner.back ≡ [] }
     {
         HeldLinker {
-            inner: SinkLinker::new(alloc, Vec::new(alloc), 0),
+            inner: RingLinker::new(rt),
             flags,
             took: Vec::new(alloc),
         }
@@ -130,12 +128,12 @@ impl HeldLinker {
     }
 }
 
-impl Linker for HeldLinker {
+impl<R: AllocGlobal + Drop> Linker for HeldLinker<R> {
     type O = HeldOut;
 
-    type I = MemIn;
+    type I = RingIn;
 
-    type P = NoPeer;
+    type P = RingPeer;
 
     ghost asked = { λ l. l.inner.asked };
 
@@ -145,9 +143,11 @@ impl Linker for HeldLinker {
 
     ghost done = { λ l. l.inner.done };
 
-    ghost faults = { λ l. l.inner.faults };
+    ghost faults = { λ _. 0 };
 
-    ghost always_ready = { λ _. true };
+    ghost always_ready = { λ _. false };
+
+    ghost tells_in = { λ _. false };
 
     fn open(&mut self, spec: &LinkSpec) -> Result<Link, OpenFault> {
         let Ok(flags) = Arc::try_clone(&self.flags) else {
@@ -167,18 +167,22 @@ impl Linker for HeldLinker {
         Ok(())
     }
 
-    fn accept(&mut self, _port: u16) -> Result<(HeldOut, MemIn), OpenFault> {
+    fn meet(&mut self, ends: &mut Link) {
+        ends.peer.meet(&mut ends.out.half.inner, &mut ends.inn);
+    }
+
+    fn accept(&mut self, _port: u16) -> Result<(HeldOut, RingIn), OpenFault> {
         Err(OpenFault::NoMemory)
     }
 
-    fn done(&mut self, out: HeldOut, inn: MemIn) {
+    fn done(&mut self, out: HeldOut, inn: RingIn) {
         let HeldOut { half, flags: _ } = out;
         self.inner.done(half, inn);
     }
 
     fn back(&mut self, link: u16, ends: Link)
         requires { length self.old.inner.back < length self.old.inner.asked }
-        ensures { self.new.inner ≡ record self.old.inner { back = self.old.inner.back ++ end_of (shaped_out ends.out.half) (mem_in ends.inn) ∷ [] } }
+        ensures { self.new.inner ≡ record self.old.inner { back = self.old.inner.back ++ end_of (shaped_out ends.out.half) (ring_in ends.inn) ∷ [] } }
     {
         let Ends { out, inn, peer } = ends;
         let HeldOut { half, flags: _ } = out;

@@ -4,7 +4,7 @@ ghost use Rattle.brpc_model.specs.Script.{script_of};
 ghost use Rattle.script_links.specs.Given.{has_piece};
 
 use crate::held::{HeldGate, HeldLinker, is_done, new_flags};
-use script_beside::{is_joinless, run_calls_on_threads};
+use script_beside::run_with_readers;
 use script_items::Script;
 use script_lang::read_script;
 use sock_io::{Gate, Linker, Mode, OpenGate};
@@ -14,7 +14,7 @@ use std::thread::Threads;
 
 /// The script of a text.
 #[tactic(auto, using(crate::proofs::Pieces::has_pieces))]
-pub(crate) fn script_in(alloc: Global, text: &[u8]) -> Option<Script>
+fn script_in(alloc: Global, text: &[u8]) -> Option<Script>
     ensures script { IfSome result (λ script. (bytes : List ℕ) × (script_of bytes ≡ Ok script)) }
     ensures pieces { IfSome result (λ script. list_all has_piece script ≡ true) }
 {
@@ -24,21 +24,8 @@ pub(crate) fn script_in(alloc: Global, text: &[u8]) -> Option<Script>
     read_script(alloc, text).ok()
 }
 
-/// The script of a text that has no `join`.
-fn runnable_script(alloc: Global, text: &[u8]) -> Option<Script>
-    ensures script { IfSome result (λ script. (bytes : List ℕ) × (script_of bytes ≡ Ok script)) }
-    ensures pieces { IfSome result (λ script. list_all has_piece script ≡ true) }
-{
-    let script = script_in(alloc, text)?;
-    if is_joinless(&script) {
-        Some(script)
-    } else {
-        None
-    }
-}
-
 /// The report of its run over these links.
-fn report_over<L: Linker, G: Gate + Sync, R: Threads + Wait + Sync>(
+pub(crate) fn report_over<L: Linker, G: Gate + Sync, R: Threads + Wait + Sync>(
     rt: &R,
     alloc: Global,
     text: &[u8],
@@ -48,8 +35,8 @@ fn report_over<L: Linker, G: Gate + Sync, R: Threads + Wait + Sync>(
     requires asked { L.asked links.old ≡ [] }
     requires back { L.back links.old ≡ [] }
 {
-    let script = runnable_script(alloc, text)?;
-    match run_calls_on_threads(rt, alloc, Mode::Loop, &script, links, gate) {
+    let script = script_in(alloc, text)?;
+    match run_with_readers(rt, alloc, Mode::Ring, &script, links, gate) {
         Ok(report) => Some(report),
         Err(_fault) => None,
     }
@@ -183,9 +170,12 @@ fn is_of_crowd(alloc: Global, report: &[u8], took: &[u8]) -> Result<bool, AllocE
 }
 
 /// Whether the crowd was run, and has such a report.
-fn crowd_is_whole<R: Threads + Wait + Sync>(rt: &R, alloc: Global) -> Result<bool, AllocError> {
+fn crowd_is_whole<R: Threads + Wait + Sync + Alloc<A = Global>>(
+    rt: &R,
+    alloc: Global,
+) -> Result<bool, AllocError> {
     let text = crowd(alloc)?;
-    let mut links = HeldLinker::new(alloc, new_flags(alloc, false)?);
+    let mut links = HeldLinker::new(rt, alloc, new_flags(alloc, false)?);
     match report_over(rt, alloc, text.as_bytes(), &mut links, &OpenGate) {
         Some(report) => is_of_crowd(alloc, &report, links.took()),
         None => Ok(false),
@@ -202,12 +192,15 @@ const HELD: &[u8] =
     b"0.1 open 0 0 0\n1.1 placed 0 0\n2.1 placed 0 1\n2.2 placed 0 2\nlink 0 a accepted 3 placed 3 took 3 616263\norder 0 1.1.0 2.1.0 2.2.0\nend\n";
 
 /// Whether a send of client 2 returned while client 1 was inside its put, and the report tells it.
-fn sends_beside_a_put<R: Threads + Wait + Sync>(rt: &R, alloc: Global) -> Result<bool, AllocError> {
+fn sends_beside_a_put<R: Threads + Wait + Sync + Alloc<A = Global>>(
+    rt: &R,
+    alloc: Global,
+) -> Result<bool, AllocError> {
     let flags = new_flags(alloc, true)?;
     let gate = HeldGate {
         flags: Arc::try_clone(&flags)?,
     };
-    let mut links = HeldLinker::new(alloc, Arc::try_clone(&flags)?);
+    let mut links = HeldLinker::new(rt, alloc, Arc::try_clone(&flags)?);
     let script = b"open a\nclient\nsend a 61\nclient\nsend a 62\nsend a 63\n";
     let report = report_over(rt, alloc, script, &mut links, &gate);
     Ok(tells(report, HELD) && is_done(&flags))

@@ -6,10 +6,13 @@ use Rattle.script_links.proofs.Numbering.{numbered_of}
 use Rattle.script_calls.specs.Halves.{rest_of}
 use Rattle.script_calls.proofs.Numbers.{few_calls}
 use Rattle.script_calls.proofs.Parting.{end_at, are_fresh, closed_back, give_numbered, give_as_many}
-use Rattle.script_calls.proofs.Reports.{joined_outs, if_moved}
+use Rattle.script_calls.proofs.Reports.{joined_outs, if_moved, on_ok}
+use Rattle.call_run.specs.Threads.{ids_of}
+use Rattle.script_beside.specs.Gave.{GaveOffers}
 use Rattle.script_beside.specs.Told.{seated_plan}
 use Rattle.script_beside.proofs.Joined.{as_many, joined_inns, had_none}
 use Rattle.script_beside.proofs.Left.{left_is, run_is}
+use Rattle.script_beside.proofs.Meeting.{AreKept, run_kept, kept_ends, all_gave}
 use Rattle.script_beside.proofs.Seated as seated
 use Rattle.script_beside.proofs.run.run_over.Goals as goal
 
@@ -70,14 +73,14 @@ finish-text-requires-clause-ran g c = (
     (seated.seated_is c.args.script.now c.in-Ok.ready.plan c.seated-plan.result c.len-count.result c.in-Ok.ensures.plan (c.len-count.ensures ∙ (c.args.ends.ok.0 ∙ c.requires.all)) c.seated-plan.ensures) c.in-Ok.ensures.slots (c.deref.ensures.value ∙ c.in-Ok.ensures.opens_are) (c.deref-2.ensures.value ∙ c.in-Ok.ensures.calls_are) c.in-Ok.ensures.tasks ran.1 ran.2 ran.3.ids_are ran.3.told_is ran.3.early_is
     )
 
-pub give_back-requires-in-Ok-run_beside-clause-numbered : goal.give_back-requires-in-Ok-run_beside-clause-numbered
-give_back-requires-in-Ok-run_beside-clause-numbered g c κs within = give_numbered g.L.O.Out.state g.L.I.In.state c.seated-plan.result _ _ c.join.new.back.items (closed_back g.L.O.Out.state c.seated-plan.result _ _ _ _ c.in-Ok-run_beside.ensures.ran.1.closed) c.join.ensures
+pub meet_and_give_back-requires-clause-numbered : goal.meet_and_give_back-requires-clause-numbered
+meet_and_give_back-requires-clause-numbered g c κs within = give_numbered g.L.O.Out.state g.L.I.In.state c.seated-plan.result _ _ c.join.new.back.items (closed_back g.L.O.Out.state c.seated-plan.result _ _ _ _ c.in-Ok-run_beside.ensures.ran.1.closed) c.join.ensures
 
-pub give_back-requires-in-Ok-run_beside-clause-opened : goal.give_back-requires-in-Ok-run_beside-clause-opened
-give_back-requires-in-Ok-run_beside-clause-opened g c κs within = c.requires.opened ∙ sym ((give_as_many g.L.O.Out.state g.L.I.In.state c.seated-plan.result _ _ c.join.new.back.items (closed_back g.L.O.Out.state c.seated-plan.result _ _ _ _ c.in-Ok-run_beside.ensures.ran.1.closed) c.join.ensures c.args.ends.items (seated.all_links c.args.script.now c.seated-plan.result (seated.seated_is c.args.script.now c.in-Ok.ready.plan c.seated-plan.result c.len-count.result c.in-Ok.ensures.plan (c.len-count.ensures ∙ (c.args.ends.ok.0 ∙ c.requires.all)) c.seated-plan.ensures) (length c.args.ends.items) c.requires.all) ((sym (as_many (λ x. x.behind) (λ x. g.L.I.In.state x.inn) c.in-Ok-run_beside.ensures.ran.0 c.in-Ok-run_beside.field-0.rests.items c.in-Ok-run_beside.ensures.ran.3.behind) ∙ (as_many (λ x. x.before) (λ x. g.L.I.In.state x.inn) c.in-Ok-run_beside.ensures.ran.0 c.part.new.halves.rests.items c.in-Ok-run_beside.ensures.ran.3.before ∙ (ap length c.part.ensures.rests ∙ length-map c.args.ends.items rest_of))))))
+pub meet_and_give_back-requires-clause-opened : goal.meet_and_give_back-requires-clause-opened
+meet_and_give_back-requires-clause-opened g c κs within = c.requires.opened ∙ sym ((give_as_many g.L.O.Out.state g.L.I.In.state c.seated-plan.result _ _ c.join.new.back.items (closed_back g.L.O.Out.state c.seated-plan.result _ _ _ _ c.in-Ok-run_beside.ensures.ran.1.closed) c.join.ensures c.args.ends.items (seated.all_links c.args.script.now c.seated-plan.result (seated.seated_is c.args.script.now c.in-Ok.ready.plan c.seated-plan.result c.len-count.result c.in-Ok.ensures.plan (c.len-count.ensures ∙ (c.args.ends.ok.0 ∙ c.requires.all)) c.seated-plan.ensures) (length c.args.ends.items) c.requires.all) ((sym (as_many (λ x. x.behind) (λ x. g.L.I.In.state x.inn) c.in-Ok-run_beside.ensures.ran.0 c.in-Ok-run_beside.field-0.rests.items c.in-Ok-run_beside.ensures.ran.3.behind) ∙ (as_many (λ x. x.before) (λ x. g.L.I.In.state x.inn) c.in-Ok-run_beside.ensures.ran.0 c.part.new.halves.rests.items c.in-Ok-run_beside.ensures.ran.3.before ∙ (ap length c.part.ensures.rests ∙ length-map c.args.ends.items rest_of))))))
 
-pub give_back-requires-in-Ok-run_beside-clause-few : goal.give_back-requires-in-Ok-run_beside-clause-few
-give_back-requires-in-Ok-run_beside-clause-few g c κs within = let few = c.requires.few in let long = (give_as_many g.L.O.Out.state g.L.I.In.state c.seated-plan.result _ _ c.join.new.back.items (closed_back g.L.O.Out.state c.seated-plan.result _ _ _ _ c.in-Ok-run_beside.ensures.ran.1.closed) c.join.ensures c.args.ends.items (seated.all_links c.args.script.now c.seated-plan.result (seated.seated_is c.args.script.now c.in-Ok.ready.plan c.seated-plan.result c.len-count.result c.in-Ok.ensures.plan (c.len-count.ensures ∙ (c.args.ends.ok.0 ∙ c.requires.all)) c.seated-plan.ensures) (length c.args.ends.items) c.requires.all) ((sym (as_many (λ x. x.behind) (λ x. g.L.I.In.state x.inn) c.in-Ok-run_beside.ensures.ran.0 c.in-Ok-run_beside.field-0.rests.items c.in-Ok-run_beside.ensures.ran.3.behind) ∙ (as_many (λ x. x.before) (λ x. g.L.I.In.state x.inn) c.in-Ok-run_beside.ensures.ran.0 c.part.new.halves.rests.items c.in-Ok-run_beside.ensures.ran.3.before ∙ (ap length c.part.ensures.rests ∙ length-map c.args.ends.items rest_of))))) in omega (arith, few, long)
+pub meet_and_give_back-requires-clause-few : goal.meet_and_give_back-requires-clause-few
+meet_and_give_back-requires-clause-few g c κs within = let few = c.requires.few in let long = (give_as_many g.L.O.Out.state g.L.I.In.state c.seated-plan.result _ _ c.join.new.back.items (closed_back g.L.O.Out.state c.seated-plan.result _ _ _ _ c.in-Ok-run_beside.ensures.ran.1.closed) c.join.ensures c.args.ends.items (seated.all_links c.args.script.now c.seated-plan.result (seated.seated_is c.args.script.now c.in-Ok.ready.plan c.seated-plan.result c.len-count.result c.in-Ok.ensures.plan (c.len-count.ensures ∙ (c.args.ends.ok.0 ∙ c.requires.all)) c.seated-plan.ensures) (length c.args.ends.items) c.requires.all) ((sym (as_many (λ x. x.behind) (λ x. g.L.I.In.state x.inn) c.in-Ok-run_beside.ensures.ran.0 c.in-Ok-run_beside.field-0.rests.items c.in-Ok-run_beside.ensures.ran.3.behind) ∙ (as_many (λ x. x.before) (λ x. g.L.I.In.state x.inn) c.in-Ok-run_beside.ensures.ran.0 c.part.new.halves.rests.items c.in-Ok-run_beside.ensures.ran.3.before ∙ (ap length c.part.ensures.rests ∙ length-map c.args.ends.items rest_of))))) in omega (arith, few, long)
 
 pub returns-in-Ok-run_beside-clause-ran : goal.returns-in-Ok-run_beside-clause-ran
 returns-in-Ok-run_beside-clause-ran g c =
@@ -95,10 +98,28 @@ returns-in-Ok-run_beside-clause-ran g c =
     (ap (map (λ e. e.out)) c.join.ensures ∙ joined_outs g.L.O.Out.state g.L.I.In.state _ _ both)
     (ran.3.behind ∙ sym (ap (map (λ e. g.L.I.In.state e.inn)) c.join.ensures ∙ joined_inns g.L.O.Out.state g.L.I.In.state _ _ both))
     (had_none g.L.O.Out.state g.L.I.In.state c.args.ends.items c.part.new.halves.rests.items ran.0 c.requires.untouched c.part.ensures.rests ran.3.before)
-    q.1 c.give_back-in-Ok-run_beside.ensures.back q.2)
+    q.1 c.meet_and_give_back.ensures.back q.2)
 
 pub returns-in-Ok-run_beside-clause-back : goal.returns-in-Ok-run_beside-clause-back
-returns-in-Ok-run_beside-clause-back g c = ap length c.give_back-in-Ok-run_beside.ensures.back ∙ (length-map _ (end_at g.L.O.Out.state g.L.I.In.state) ∙ (give_as_many g.L.O.Out.state g.L.I.In.state c.seated-plan.result _ _ c.join.new.back.items (closed_back g.L.O.Out.state c.seated-plan.result _ _ _ _ c.in-Ok-run_beside.ensures.ran.1.closed) c.join.ensures c.args.ends.items (seated.all_links c.args.script.now c.seated-plan.result (seated.seated_is c.args.script.now c.in-Ok.ready.plan c.seated-plan.result c.len-count.result c.in-Ok.ensures.plan (c.len-count.ensures ∙ (c.args.ends.ok.0 ∙ c.requires.all)) c.seated-plan.ensures) (length c.args.ends.items) c.requires.all) ((sym (as_many (λ x. x.behind) (λ x. g.L.I.In.state x.inn) c.in-Ok-run_beside.ensures.ran.0 c.in-Ok-run_beside.field-0.rests.items c.in-Ok-run_beside.ensures.ran.3.behind) ∙ (as_many (λ x. x.before) (λ x. g.L.I.In.state x.inn) c.in-Ok-run_beside.ensures.ran.0 c.part.new.halves.rests.items c.in-Ok-run_beside.ensures.ran.3.before ∙ (ap length c.part.ensures.rests ∙ length-map c.args.ends.items rest_of))))))
+returns-in-Ok-run_beside-clause-back g c = ap length c.meet_and_give_back.ensures.back ∙ (length-map _ (end_at g.L.O.Out.state g.L.I.In.state) ∙ (give_as_many g.L.O.Out.state g.L.I.In.state c.seated-plan.result _ _ c.join.new.back.items (closed_back g.L.O.Out.state c.seated-plan.result _ _ _ _ c.in-Ok-run_beside.ensures.ran.1.closed) c.join.ensures c.args.ends.items (seated.all_links c.args.script.now c.seated-plan.result (seated.seated_is c.args.script.now c.in-Ok.ready.plan c.seated-plan.result c.len-count.result c.in-Ok.ensures.plan (c.len-count.ensures ∙ (c.args.ends.ok.0 ∙ c.requires.all)) c.seated-plan.ensures) (length c.args.ends.items) c.requires.all) ((sym (as_many (λ x. x.behind) (λ x. g.L.I.In.state x.inn) c.in-Ok-run_beside.ensures.ran.0 c.in-Ok-run_beside.field-0.rests.items c.in-Ok-run_beside.ensures.ran.3.behind) ∙ (as_many (λ x. x.before) (λ x. g.L.I.In.state x.inn) c.in-Ok-run_beside.ensures.ran.0 c.part.new.halves.rests.items c.in-Ok-run_beside.ensures.ran.3.before ∙ (ap length c.part.ensures.rests ∙ length-map c.args.ends.items rest_of))))))
+
+-- ## Their ends are compared
+
+pub meet_and_give_back-requires-clause-ends : goal.meet_and_give_back-requires-clause-ends
+meet_and_give_back-requires-clause-ends g c κs within =
+    let r = c.in-Ok-run_beside.field-0 in let ran = c.in-Ok-run_beside.ensures.ran in
+    let kept = run_kept g.L.Linker.tells_in g.L.O.Out.state g.L.P.Peer.state g.L.I.In.state c.seated-plan.result (ids_of c.seated-plan.result c.in-Ok.ready.slots) c.deref-2.result.now (g.L.Linker.asked c.args.links.now) c.args.ends.items c.part.new.halves.outs.items r.ran.outs.items c.part.new.halves.rests.items r.rests.items c.deref.result.now ran.0
+    c.requires.ends c.in-Ok-run_beside.ensures.ways c.part.ensures.outs c.part.ensures.rests ran.2 ran.3.before ran.3.behind ran.3.served in
+    kept_ends g.L.Linker.tells_in g.L.O.Out.state g.L.P.Peer.state g.L.I.In.state (g.L.Linker.asked c.args.links.now) c.join.new.back.items (subst (AreKept g.L.Linker.tells_in g.L.O.Out.state g.L.P.Peer.state g.L.I.In.state (g.L.Linker.asked c.args.links.now)) (sym c.join.ensures) kept)
+
+pub returns-in-Ok-run_beside-clause-gave : goal.returns-in-Ok-run_beside-clause-gave
+returns-in-Ok-run_beside-clause-gave g c =
+    let r = c.in-Ok-run_beside.field-0 in let ran = c.in-Ok-run_beside.ensures.ran in
+    let kept = run_kept g.L.Linker.tells_in g.L.O.Out.state g.L.P.Peer.state g.L.I.In.state c.seated-plan.result (ids_of c.seated-plan.result c.in-Ok.ready.slots) c.deref-2.result.now (g.L.Linker.asked c.args.links.now) c.args.ends.items c.part.new.halves.outs.items r.ran.outs.items c.part.new.halves.rests.items r.rests.items c.deref.result.now ran.0
+    c.requires.ends c.in-Ok-run_beside.ensures.ways c.part.ensures.outs c.part.ensures.rests ran.2 ran.3.before ran.3.behind ran.3.served in
+    let met = c.meet_and_give_back.ensures.met in
+    on_ok c.or_no_memory.result _ (subst (GaveOffers g.L.Linker.tells_in (g.L.Linker.asked c.args.links.now)) (sym met.3)
+    (all_gave g.L.Linker.tells_in g.L.O.Out.state g.L.P.Peer.state g.L.I.In.state (g.L.Linker.asked c.args.links.now) c.join.new.back.items met.0 (subst (AreKept g.L.Linker.tells_in g.L.O.Out.state g.L.P.Peer.state g.L.I.In.state (g.L.Linker.asked c.args.links.now)) (sym c.join.ensures) kept) met.1 met.2))
 
 -- ## Where memory was wanting
 

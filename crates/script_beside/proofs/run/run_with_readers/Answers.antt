@@ -1,8 +1,11 @@
-use Rattle.std.proofs.Common.{ap, ◌∙◌, arith}
+use Rattle.std.proofs.Common.{ap, ◌∙◌, subst, arith}
 use Rattle.std.specs.List.{list_all}
-use Rattle.script_links.specs.Given.{has_piece}
+use Rattle.std.specs.Prelude.{OnOk}
+use Rattle.script_links.specs.Given.{has_piece, specs_of}
 use Rattle.script_links.proofs.Numbering.{numbered_of, links_of, few_links, pieces_of}
 use Rattle.script_calls.proofs.Reports.{on_ok}
+use Rattle.script_beside.specs.Gave.{GaveOffers}
+use Rattle.script_beside.proofs.Replies.{served_if}
 use Rattle.script_beside.proofs.Reports.{text_if}
 use Rattle.script_beside.proofs.run.run_with_readers.Goals as goal
 
@@ -34,3 +37,10 @@ returns-in-Ok-clause-text g c = text_if g.row.L-P.Denot g.L.O.Out.state g.L.I.In
 
 pub returns-in-Ok-clause-all : goal.returns-in-Ok-clause-all
 returns-in-Ok-clause-all g c = on_ok c.run_over.result _ (c.run_over.ensures.back ∙ (c.in-Ok.ensures.whole ∙ links_of c.args.script.now c.lines.result.now c.lines.ensures))
+
+pub returns-in-Ok-clause-gave : goal.returns-in-Ok-clause-gave
+returns-in-Ok-clause-gave g c = subst (λ specs. OnOk c.run_over.result (GaveOffers g.L.Linker.tells_in specs (g.L.Linker.back c.run_over.new.links))) (c.in-Ok.ensures.asked ∙ ap (specs_of c.args.mode) c.lines.ensures) c.run_over.ensures.gave
+
+pub returns-in-Ok-clause-served : goal.returns-in-Ok-clause-served
+returns-in-Ok-clause-served g c = served_if g.row.L-P.Denot g.L.O.Out.state g.L.I.In.state g.L.O.Out c.requires.script.0 c.args.script.now c.requires.script.1 _ g.L.Linker.tells_in c.args.mode (λ text. text.items) c.run_over.result c.run_over.ensures.ran
+    (subst (λ specs. OnOk c.run_over.result (GaveOffers g.L.Linker.tells_in specs (g.L.Linker.back c.run_over.new.links))) (c.in-Ok.ensures.asked ∙ ap (specs_of c.args.mode) c.lines.ensures) c.run_over.ensures.gave)

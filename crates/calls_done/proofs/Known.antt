@@ -1,0 +1,35 @@
+-- What is known of a run on threads with calls, whose links were read beside its clients.
+use Rattle.std.specs.Prelude.{ℕ, ◌≡◌, true, ◌⊎◌, ◌<◌, length}
+use Rattle.sock_words.specs.declared.outcome.Outcome.{Outcome}
+use Rattle.sock_words.specs.declared.outcome.Outcome.TheVariants.{Unopened, CallFailed}
+use Rattle.brpc_model.specs.Operations.{operations}
+use Rattle.sock_message.specs.Asked.{Asked, name_of}
+use Rattle.seat_programs.specs.declared.task.Op.TheVariants as ops
+use Rattle.seat_programs.specs.declared.task.Task.{Task}
+use Rattle.seat_programs.specs.Scripts.{all_tasks}
+use Rattle.seat_programs.specs.Tasks.{plan_of}
+use Rattle.seat_programs.specs.Told.{IsTask, Became}
+use Rattle.seat_programs.specs.ToldCalls.{StandsOn, FailedBy, WhyAgain}
+use Rattle.calls_done.specs.Done.{IsReadCode}
+use Rattle.callless_fits.proofs.Sends.{ToldRun}
+use Rattle.callless_fits.specs.sock_deeds.specs.Told.{fixed_by}
+use Rattle.call_told.specs.Answers.{HaveAnswers, ends_call}
+
+-- a call found no socket under its first name, or it ended
+abbrev pub IsOfCall : Outcome → Type 0
+IsOfCall outcome = (outcome ≡ Unopened) ⊎ (ends_call outcome ≡ true)
+
+pub record Known : Type 0 where
+  -- what is told of its sockets, of the attempts of its calls, and by its report
+  pub run : ToldRun
+  -- each answer among the outcomes is a response that a link gave
+  pub answers : HaveAnswers (length run.ends) run.gave (operations run.script) run.outcomes
+  -- each call that failed has its code, but where whoever read the links ended it, and each attempt of a call but the last was followed by another
+  pub failed : (client id code : ℕ) (t : Task) (asked : Asked) → IsTask (all_tasks run.script) run.outcomes client t → t.op ≡ ops.Call asked → Became (all_tasks run.script) run.outcomes t.number (CallFailed id code) →
+      FailedBy (plan_of run.script) (all_tasks run.script) run.outcomes (fixed_by run.broken run.early run.fails) run.gave run.orders client t.number asked id code (run.last t.number) ⊎ IsReadCode code
+  pub again : (client : ℕ) (t : Task) (asked : Asked) → IsTask (all_tasks run.script) run.outcomes client t → t.op ≡ ops.Call asked → (n : ℕ) → n < run.last t.number →
+      WhyAgain (plan_of run.script) (all_tasks run.script) run.outcomes (fixed_by run.broken run.early run.fails) run.gave run.orders client t.number n (name_of asked n)
+  -- each task has an outcome, or its message was accepted; and that of a call is one that a call can have
+  pub each : (client : ℕ) (t : Task) → IsTask (all_tasks run.script) run.outcomes client t →
+      ((outcome : Outcome) × Became (all_tasks run.script) run.outcomes t.number outcome) ⊎ ((k : ℕ) × StandsOn (plan_of run.script) (all_tasks run.script) run.outcomes (fixed_by run.broken run.early run.fails) run.gave run.orders t.number 0 k)
+  pub kinds : (client : ℕ) (t : Task) (asked : Asked) (outcome : Outcome) → IsTask (all_tasks run.script) run.outcomes client t → t.op ≡ ops.Call asked → Became (all_tasks run.script) run.outcomes t.number outcome → IsOfCall outcome

@@ -1,0 +1,5 @@
+pub mod Known
+pub mod Links
+pub mod Calm
+pub mod Causes
+pub mod Done

@@ -1,0 +1,35 @@
+-- What links with the server owe to the calls of a run.
+use Rattle.std.specs.Prelude.{ℕ, ◌≡◌, ◌+◌, ◌<◌, ◌≤◌, true, false, List, slice_get, Some, IsTrue, Contains}
+use Rattle.brpc_model.specs.Attempts.{IsResponse}
+use Rattle.brpc_model.specs.Causes.{HasFault, reading_limit}
+use Rattle.brpc_model.specs.Frame.{Frame}
+use Rattle.brpc_model.specs.Items.{Item, Shape, CallLine, Send, Call}
+use Rattle.brpc_model.specs.Link.{LinkEnd}
+use Rattle.brpc_model.specs.Messages.{id_at, request_frame}
+use Rattle.brpc_model.specs.Operations.{Operation, link_shapes}
+use Rattle.brpc_model.specs.Reply.{reply}
+use Rattle.brpc_model.specs.Run.{Run, IsOperation, IsLinkOf, GaveFrame}
+
+-- operation i is this call, and has this id
+pub record IsCall (run : Run) (i id : ℕ) (op : Operation) (call : CallLine) : Type 0 where
+  pub there : IsOperation run i op
+  pub item : op.item ≡ Call call
+  pub shows : id_at run.report.outcomes i ≡ Some id
+
+-- link k gave no frame fault, and each response of a call that it gave is the reply to the call's own request, of an attempt that was made
+pub record OwesReplies (run : Run) (k : ℕ) : Type 0 where
+  pub faultless : HasFault (run.story.gave k) → ⊥
+  pub own : (n i id : ℕ) (frame : Frame) (op : Operation) (call : CallLine) → IsCall run i id op call → GaveFrame run k n frame → IsResponse call id frame →
+      (reply (request_frame call frame.meta.correlation_id) ≡ Some frame) × (m : ℕ) × (m ≤ run.story.last i) × (frame.meta.correlation_id ≡ id + m + 1)
+
+-- no `send` names the link
+abbrev pub IsUnsent : Run → ℕ → Type 0
+IsUnsent run k = (name bytes : List ℕ) → Contains run.script (Send name bytes) → IsLinkOf run k name → ⊥
+
+-- so does each link with the server that no `send` names
+abbrev pub GivesWell : Run → Type 0
+GivesWell run = (k : ℕ) (shape : Shape) → slice_get (link_shapes run.script) k ≡ Some shape → IsTrue shape.serve → IsUnsent run k → OwesReplies run k
+
+-- the reading half of each link with the server answered `Closed`, and gave no end, and less than is read at most
+abbrev pub AreClosed : List Item → List LinkEnd → Type 0
+AreClosed script ends = (k : ℕ) (e : LinkEnd) (shape : Shape) → slice_get ends k ≡ Some e → slice_get (link_shapes script) k ≡ Some shape → IsTrue shape.serve → (e.closed ≡ Some true) × (e.gave_end ≡ false) × (e.gave_count < reading_limit)

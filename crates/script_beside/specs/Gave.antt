@@ -1,0 +1,27 @@
+-- What links gave whose other ends were inside this process and told in the end what they offered.
+use Rattle.std.specs.Prelude.{ℕ, ◌≡◌, ◌⊎◌, if◌then◌else◌, Bool, true, List, [], ◌∷◌, flat_map, Some}
+use Rattle.brpc_model.specs.Frame.{frame_bytes}
+use Rattle.brpc_model.specs.Link.{LinkEnd}
+use Rattle.brpc_model.specs.Reply.{reply_frames}
+use Rattle.brpc_model.specs.Served.{first_of}
+use Rattle.sock_io.specs.declared.link.LinkSpec.{LinkSpec}
+use Rattle.sock_io.specs.declared.link.Mode.{Mode}
+
+-- what the other end that was asked for gives for these bytes: the server the replies, up to the number that is given
+abbrev pub offered_for : LinkSpec → List ℕ → List ℕ
+offered_for spec took = if spec.serve then flat_map frame_bytes (first_of spec.end (reply_frames took)) else []
+
+-- the reading half answered its end or its closing
+abbrev pub WasReadOut : LinkEnd → Type 0
+WasReadOut e = (e.gave_end ≡ true) ⊎ (e.closed ≡ Some true)
+
+-- then it gave that for all that the link took, as far as it tells both
+abbrev pub GaveOffer : LinkSpec → LinkEnd → Type 0
+GaveOffer spec e = (took gave : List ℕ) → e.took ≡ Some took → e.gave ≡ Some gave → WasReadOut e → gave ≡ offered_for spec took
+
+-- so each link of which this was asked, in modes that tell
+abbrev pub GaveOffers : (Mode → Bool) → List LinkSpec → List LinkEnd → Type 0
+GaveOffers tells_in [] [] = Unit {0}
+GaveOffers tells_in (s ∷ ss) (e ∷ es) = (tells_in s.mode ≡ true → GaveOffer s e) × GaveOffers tells_in ss es
+GaveOffers tells_in [] (e ∷ es) = ⊥
+GaveOffers tells_in (s ∷ ss) [] = ⊥
