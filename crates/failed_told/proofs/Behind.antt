@@ -42,7 +42,7 @@ pub record IsUnread (id ended code : ℕ) (f : Frame) : Type 0 where
   pub code_is : code ≡ ERESPONSE
   pub id_is : id ≡ ended
 
-unread : (id ended code : ℕ) (f : Frame) → IsSome f.meta.response → ending_of id f ≡ CallFailed ended code → IsUnread id ended code f
+pub unread : (id ended code : ℕ) (f : Frame) → IsSome f.meta.response → ending_of id f ≡ CallFailed ended code → IsUnread id ended code f
 unread id ended code f responds e = by f.meta.compress_type f.meta.response refl responds e
   where
     code_of : CallFailed id ERESPONSE ≡ CallFailed ended code → code ≡ ERESPONSE

@@ -1,8 +1,8 @@
 -- An attempt of a call whose message a client dropped stands in the order of its link behind the placed ones; and with which code the call was told: EFAILEDSOCKET, and then its link is failing; that of a `fail` of the attempt's name; or that of whoever read the link.
 use Rattle.std.proofs.Common.{◌≡◌, ℕ, ◌+◌, ◌*◌, ◌/◌, ◌%◌, ◌<◌, ◌≤◌, ◌⊎◌, inl, inr, true, cond, eq-eqb, ne_eqb, List, ◌∷◌, length, map, None, refl, sym, ap, ◌∙◌, subst, arith}
-use Rattle.std.specs.Prelude.{Option}
+use Rattle.std.specs.Prelude.{Option, Contains}
 use mathlib.Core.Logic.{dite}
-use mathlib.Core.Option.{some}
+use mathlib.Core.Option.{some, some-injective}
 use native.Mathlib.Decide.{ℕ_discrete}
 use lib.ListN.{get_elem?}
 use Rattle.sock_io.specs.declared.link.Out.{Ghosts}
@@ -30,7 +30,7 @@ use Rattle.seat_programs.specs.declared.task.Op.{Op}
 use Rattle.seat_programs.specs.declared.task.Op.TheVariants as ops
 use Rattle.seat_programs.specs.declared.task.Task.{Task}
 use Rattle.seat_programs.specs.Told.{AreTasks}
-use Rattle.seat_programs.specs.ToldCalls.{Fixed, Order, IsFailing, IsDropped, WhyLost, WasFailing, IsFailedWith, all_accepted}
+use Rattle.seat_programs.specs.ToldCalls.{Accepted, Fixed, Order, MayBeOn, IsFailing, IsDropped, WhyLost, WasFailing, IsFailedWith, all_accepted}
 use Rattle.corr_core.specs.declared.marks.Kept.{Kept}
 use Rattle.corr_core.specs.declared.marks.Note.TheVariants.{Made}
 use Rattle.corr_core.specs.declared.marks.Noted.{Noted}
@@ -48,39 +48,54 @@ use Rattle.expire_told.specs.call_places.proofs.Ids.{IsIdOf}
 use Rattle.expire_told.specs.call_places.proofs.Places.{all as all_clients}
 use Rattle.expire_told.specs.sock_deeds.specs.Left.{accepted_of}
 use Rattle.expire_told.specs.sock_deeds.specs.Deeds as socks
-use Rattle.expire_told.specs.sock_deeds.specs.Runs.{IsOperation, IsMessage, of_send, of_call, Seated, seat_of, DeedRun}
+use Rattle.expire_told.specs.sock_deeds.specs.Runs.{IsOperation, IsMessage, of_send, of_call, Seated, seat_of, early_of, DeedRun}
 use Rattle.expire_told.specs.sock_deeds.proofs.Accepting.{log, act_of_entry, sent_for, sent_place}
 use Rattle.expire_told.specs.sock_deeds.proofs.Acts.{Act, after, has_marks, has_drops}
-use Rattle.expire_told.specs.sock_deeds.proofs.DropCodes.{FailsWith, life_code, IsBehindPlaced, dropped_stands}
-use Rattle.expire_told.specs.sock_deeds.proofs.Failing.{WhyFailed, by_name, by_link, by_reader}
+use Rattle.expire_told.specs.sock_deeds.proofs.DropCodes.{FailsWith, FailedByReader, life_code, IsBehindPlaced, dropped_stands}
+use Rattle.expire_told.specs.sock_deeds.proofs.Failing.{WhyFailed, by_name, by_link, by_reader, early}
 use Rattle.expire_told.specs.sock_deeds.proofs.Fails.{link_is}
 use Rattle.expire_told.specs.sock_deeds.proofs.Lives.{MadeHere, linked_made}
 use Rattle.expire_told.specs.sock_deeds.proofs.Losses.{lost_by}
-use Rattle.expire_told.specs.sock_deeds.proofs.Orders.{orders, accepted_there}
+use Rattle.expire_told.specs.report_fits.proofs.Lists.{contains_from}
+use Rattle.expire_told.specs.sock_deeds.proofs.Flats.{flat_there}
+use Rattle.expire_told.specs.sock_deeds.proofs.Orders.{orders, accepted_there, entry_on}
+use Rattle.expire_told.specs.sock_deeds.proofs.Places.{to_slice}
+use Rattle.expire_told.specs.sock_deeds.proofs.Readers.{early_there}
 use Rattle.expire_told.specs.sock_deeds.proofs.Sent.{sent_life}
 use Rattle.expire_told.specs.sock_deeds.proofs.Stores.{note_is}
 use Rattle.expire_told.specs.sock_deeds.proofs.Tasks.{same_task}
 use Rattle.expire_told.specs.sock_deeds.proofs.Whole.{fixed}
+use Rattle.attempts_told.specs.Attempts.{last_attempt}
 use Rattle.failed_told.specs.Missed.{socks_behind}
 use Rattle.failed_told.specs.Reasons.{StillHas, WasDropped}
 use Rattle.failed_told.proofs.Codes.{IsReadCode}
 use Rattle.failed_told.proofs.Fallen.{chain_last, its_seat, reached, one_operation}
 use Rattle.failed_told.proofs.Keeping.{still_as, still_then}
 use Rattle.failed_told.proofs.Owners.{IsOwned, owned_by}
+use Rattle.failed_told.proofs.Single.{sender, made_low}
 
 name_at : ℕ → Op → ℕ
 name_at n (ops.Call asked) = name_of asked n
 name_at n other = 0
 
-same_name : (a b : Asked) (n : ℕ) → ops.Call a ≡ ops.Call b → name_of a n ≡ name_of b n
+pub same_name : (a b : Asked) (n : ℕ) → ops.Call a ≡ ops.Call b → name_of a n ≡ name_of b n
 unfolding name_at
 same_name a b n e = ap (name_at n) e
+
+-- whoever reads the links posts no code of a life whose link failed, nor one that users give
+not_failed : (code : ℕ) → IsReadCode code → code ≡ EFAILEDSOCKET → ⊥
+not_failed code (inl e) t = omega (arith, e, t)
+not_failed code (inr e) t = omega (arith, e, t)
+
+not_user : (code : ℕ) → IsReadCode code → 1500 ≤ code → code ≤ 1999 → ⊥
+not_user code (inl e) low high = omega (arith, e, low, high)
+not_user code (inr e) low high = omega (arith, e, low, high)
 
 -- ## Deeds at the table of sockets
 
 module _ {O : Type 0} {g : Ghosts O} {state : O → OutState} {p : Plan} {every : List (List Task)} {outcomes : List (Option Outcome)} {places : List PlaceWord} {vrefs : List Vref} {outs : List O} (drun : DeedRun g state p every outcomes places vrefs outs) where
   -- a seat that noted something did a deed
-  marked_act : (c : ℕ) (y : Seated g state p) → get_elem? drun.seats c ≡ some y → (f : Mark → ℕ) (i : ℕ) → 0 < marks_of f i y.ended.view → (b : Act drun) × (after drun b ≡ y.ended.view)
+  pub marked_act : (c : ℕ) (y : Seated g state p) → get_elem? drun.seats c ≡ some y → (f : Mark → ℕ) (i : ℕ) → 0 < marks_of f i y.ended.view → (b : Act drun) × (after drun b ≡ y.ended.view)
   marked_act c y at f i some_ = elim (chain_last g state p y.deeds _ y.ended y.chain) [
     | inl e ↦ absurd (let z = ap (λ (h : socks.Hand). marks_of f i h.view) e in omega (arith, z, some_))
     | inr w ↦ (record { c = c; y = y; at = at; k = w.0; d = w.1; is = w.2 }, ap (λ (h : socks.Hand). h.view) (sym w.3))
@@ -138,6 +153,17 @@ module _ {O : Type 0} {g : Ghosts O} {state : O → OutState} {readers : List (L
   WhyDroppedWith client asked code n = ((code ≡ EFAILEDSOCKET) × WhyLost p every outcomes fixed_here gave orders_here client asked.operation n (name_of asked n))
       ⊎ (((1500 ≤ code) × (code ≤ 1999) × IsFailedWith p every outcomes fixed_here gave orders_here (name_of asked n) code) ⊎ IsReadCode code)
 
+  -- the message of one of the attempts of the call that is operation o, which may be on this link alone, was dropped, and the reader of the link had set the life failed with the code
+  pub record DroppedOn (o : ℕ) (asked : Asked) (code : ℕ) : Type 0 where
+    pub attempt : ℕ
+    pub link : ℕ
+    pub low : attempt ≤ last_attempt notes o
+    pub on : MayBeOn p every outcomes fixed_here gave orders_here o attempt (name_of asked attempt) link
+    pub dropped : IsDropped p every outcomes fixed_here gave orders_here o attempt
+    pub failing : IsFailing p every outcomes fixed_here gave orders_here link
+    pub early : Contains (early drun) link
+    pub by : FailedByReader drun link code
+
   -- ## What is left of a drop
 
   module _ (c : ℕ) (x : Client g state p q) (at : get_elem? crew c ≡ some x) (id code n : ℕ) (w : WasDropped state p q (deeds_of x) id code n) where
@@ -184,7 +210,7 @@ module _ {O : Type 0} {g : Ghosts O} {state : O → OutState} {readers : List (L
         linked_made drun i version_there link (drun.closed.closing.met_linked i version_there link w.inside (omega (arith, still, all, met)))
 
     -- the code is EFAILEDSOCKET, that of a `fail` of the name of its life, or that of whoever read the link
-    by_code : (name link : ℕ) → MadeHere drun name link slot_there version_there → (code ≡ EFAILEDSOCKET) ⊎ (FailsWith drun name code ⊎ IsReadCode code)
+    by_code : (name link : ℕ) → MadeHere drun name link slot_there version_there → (code ≡ EFAILEDSOCKET) ⊎ (FailsWith drun name code ⊎ FailedByReader drun link code)
     by_code name link made = let d = w.drop.code_is in dite (ℕ_discrete d.word 0)
         (λ z. inl (w.code_is ∙ (d.code_is ∙ ap (λ b. cond b EFAILEDSOCKET d.word) (eq-eqb d.word 0 z))))
         (λ ne. (
@@ -195,7 +221,7 @@ module _ {O : Type 0} {g : Ghosts O} {state : O → OutState} {readers : List (L
           | inl e ↦ inl (is ∙ e)
           | inr o ↦ elim o [
             | inl f ↦ inr (inl (subst (FailsWith drun name) (sym is) f))
-            | inr r ↦ inr (inr (subst IsReadCode (sym is) r.coded))
+            | inr r ↦ inr (inr (subst (FailedByReader drun link) (sym is) r))
           ]
         ]))
 
@@ -203,7 +229,7 @@ module _ {O : Type 0} {g : Ghosts O} {state : O → OutState} {readers : List (L
     pub drop_code : (code ≡ EFAILEDSOCKET) ⊎ (((1500 ≤ code) × (code ≤ 1999)) ⊎ IsReadCode code)
     drop_code = let l = its_life in elim (by_code l.0 w.drop.wrote.link l.1) [
       | inl e ↦ inl e
-      | inr o ↦ elim o [ inl f ↦ inr (inl (bounds f.client f.number l.0 code f.is)) | inr r ↦ inr (inr r) ]
+      | inr o ↦ elim o [ inl f ↦ inr (inl (bounds f.client f.number l.0 code f.is)) | inr r ↦ inr (inr r.coded) ]
     ]
 
     -- ## Which message it is
@@ -285,8 +311,53 @@ module _ {O : Type 0} {g : Ghosts O} {state : O → OutState} {readers : List (L
         its_code : WhyDropped
         its_code = elim (by_code name dropped_at.entry.link its_name) [
           | inl e ↦ by_socket e
-          | inr o ↦ elim o [ inl f ↦ by_fail f | inr r ↦ inr (inr r) ]
+          | inr o ↦ elim o [ inl f ↦ by_fail f | inr r ↦ inr (inr r.coded) ]
         ]
+
+        -- no other link has a message of the attempt
+        its_link : MayBeOn p every outcomes fixed_here gave orders_here asked.operation n name dropped_at.entry.link
+        its_link = let s = its_socket in let d = dropped_at in (
+          s.slot,
+          s.version,
+          s.made,
+          λ l stands. (
+              let w = entry_on drun differ l stands.0 stands.1.1 stands.1.2 in
+              let operation : w.0.heading.place / 8 ≡ asked.operation = ap (λ (y : Accepted). y.operation) w.2 ∙ stands.1.3 in
+              let number : w.0.heading.place % 8 ≡ n = ap (λ (y : Accepted). y.attempt) w.2 ∙ stands.1.4 in
+              let place = d.place in
+              let same : w.3 ≡ d.position = differ w.3 d.position w.0 d.entry w.4 d.there (omega (arith, place, operation, number)) in
+              let one : w.0 ≡ d.entry = some-injective w.0 d.entry (sym w.4 ∙ (ap (get_elem? (log drun)) same ∙ d.there)) in
+              sym w.5 ∙ ap (λ (y : Entry). y.link) one),
+        )
+
+        -- it is none behind the last one
+        its_number : n ≤ last_attempt notes asked.operation
+        its_number =
+            let d = dropped_at in let few_ = d.low in
+            let its : IsIdOf slots notes asked.operation id = record { slot = slot; first = first; inside = inside; low = low; id_is = same; range = r; asked = asked; place = j; made = made; operation = refl } in
+            let s = sender run tasks may notes kept words closing noted asked.operation id n (omega (arith, few_)) its d.position d.entry (ap (λ (l : List Entry). get_elem? l d.position) (sym logged) ∙ d.there) d.place in
+            made_low run tasks may notes kept words closing noted asked.operation id n its s.place s.client s.in_crew s.index s.deed s.there s.attempt
+
+        -- ## By a reader's code
+
+        early_one : (k e : ℕ) → FailedByReader drun k e → Contains (early drun) k
+        early_one k e f = subst (Contains (early drun)) f.link_is
+            (let w = flat_there early_of drun.readers f.place f.reader 0 f.reader.link f.there (early_there f.reader f.early) in contains_from (early drun) f.reader.link (w.0, to_slice (early drun) w.0 f.reader.link w.1))
+
+        its_reader : IsReadCode code → FailedByReader drun dropped_at.entry.link code
+        its_reader read = elim (by_code name dropped_at.entry.link its_name) [
+          | inl e ↦ absurd (not_failed code read e)
+          | inr o ↦ elim o [ inl f ↦ absurd (let b = bounds f.client f.number name code f.is in not_user code read b.0 b.1) | inr r ↦ r ]
+        ]
+
+        read_drop : IsReadCode code → DroppedOn asked.operation asked code
+        read_drop read = record { attempt = n; link = dropped_at.entry.link; low = its_number; on = its_link; dropped = is_dropped; failing = is_failing; early = early_one dropped_at.entry.link code (its_reader read); by = its_reader read }
+
+  -- where the code is one with which whoever reads the links ends calls
+  pub read_dropped : (c : ℕ) (x : Client g state p q) → get_elem? crew c ≡ some x → (id code n : ℕ) → WasDropped state p q (deeds_of x) id code n → IsReadCode code
+      → (slot first r j : ℕ) (asked : Asked) → slot < slots → first < 4294967296 → id ≡ slot * 4294967296 + first → get_elem? (notes_of slot notes) j ≡ some (Made first r asked)
+      → (client : ℕ) → IsOperation every outcomes client asked.operation (ops.Call asked) → DroppedOn asked.operation asked code
+  read_dropped c x at id code n w read slot first r j asked inside low same made client task = read_drop c x at id code n w slot first r j asked inside low same made client task read
 
   pub dropped_why : (c : ℕ) (x : Client g state p q) → get_elem? crew c ≡ some x → (id code n : ℕ) → WasDropped state p q (deeds_of x) id code n
       → (slot first r j : ℕ) (asked : Asked) → slot < slots → first < 4294967296 → id ≡ slot * 4294967296 + first → get_elem? (notes_of slot notes) j ≡ some (Made first r asked)

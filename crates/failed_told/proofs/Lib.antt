@@ -3,6 +3,8 @@ pub mod Keeping
 pub mod Origins
 pub mod Clients
 pub mod Codes
+pub mod Posts
+pub mod Tells
 pub mod Reading
 pub mod Posters
 pub mod Queued
@@ -28,3 +30,9 @@ pub mod Ended
 pub mod DropsTold
 pub mod Advances
 pub mod Again
+pub mod AtWords
+pub mod Standing
+pub mod Named
+pub mod Ends
+pub mod ByLinks
+pub mod LinkEnds

@@ -56,13 +56,13 @@ code_is code None low = omega arith
 code_is code (Some n) low = omega (arith, low)
 
 -- an error tells its code and its attempt
-one_error : (code other : ℕ) (a b : Option ℕ) → IsLow a → IsLow b → error_in code a ≡ error_in other b → (code ≡ other) × (a ≡ b)
+pub one_error : (code other : ℕ) (a b : Option ℕ) → IsLow a → IsLow b → error_in code a ≡ error_in other b → (code ≡ other) × (a ≡ b)
 one_error code other None None la lb e = (omega (arith, e), refl)
 one_error code other (Some n) None la lb e = absurd (omega (arith, e, la))
 one_error code other None (Some m) la lb e = absurd (omega (arith, e, lb))
 one_error code other (Some n) (Some m) la lb e = (omega (arith, e, la, lb), ap Some (omega (arith, e, la, lb)))
 
-timely_low : (attempt : Option ℕ) (n : ℕ) → n ≤ 6 → IsTimely attempt n → IsLow attempt
+pub timely_low : (attempt : Option ℕ) (n : ℕ) → n ≤ 6 → IsTimely attempt n → IsLow attempt
 timely_low None n low t = tt
 timely_low (Some m) n low t = omega (arith, low, t)
 
@@ -102,7 +102,7 @@ module _ {O : Type 0} {g : Ghosts O} {state : O → OutState} {readers : List (L
     pub reason : Reason state p q (tasks_of client) (Says run outcomes said) (deeds_of client) (view_of client) id code attempt
 
   -- an error that clients queued
-  by_clients : (k : IdLock Asked) (code : ℕ) (attempt : Option ℕ) → IsLow attempt → 0 < total (λ (v : View Asked). queued_in k.slot (parts k.word.0).first (error_in code attempt) v.notes) ids → Poster (id_in k) code attempt
+  pub by_clients : (k : IdLock Asked) (code : ℕ) (attempt : Option ℕ) → IsLow attempt → 0 < total (λ (v : View Asked). queued_in k.slot (parts k.word.0).first (error_in code attempt) v.notes) ids → Poster (id_in k) code attempt
   by_clients k code attempt low own =
       let queues : View Asked → ℕ = λ v. queued_in k.slot (parts k.word.0).first (error_in code attempt) v.notes in
       let s = total_some (λ (y : Client g state p q). queues (view_of y)) crew (let b = total_map queues view_of crew in let d = ap (total queues) (views_are run) in omega (arith, own, b, d)) in

@@ -243,7 +243,7 @@ module _ {O : Type 0} {g : Ghosts O} {state : O → OutState} {readers : List (L
       let t = two_terms (λ (z : Client g state p q). total W (deeds_of z)) crew b c y x by at ne in
       let s = term W (deeds_of x) i d there in let r = term W (deeds_of y) j e here in omega (arith, t, s, r, few, weighs, also)))
 
-  alone : (o id n : ℕ) → slot_of id < slots → (c : ℕ) (x : Client g state p q) → get_elem? crew c ≡ some x → (i : ℕ) (d : Deed g state p q) → get_elem? (deeds_of x) i ≡ some d → IsAttemptOf o id n d
+  pub alone : (o id n : ℕ) → slot_of id < slots → (c : ℕ) (x : Client g state p q) → get_elem? crew c ≡ some x → (i : ℕ) (d : Deed g state p q) → get_elem? (deeds_of x) i ≡ some d → IsAttemptOf o id n d
       → (b : ℕ) (y : Client g state p q) → get_elem? crew b ≡ some y → (j : ℕ) (e : Deed g state p q) → get_elem? (deeds_of y) j ≡ some e → IsAttemptOf o id n e → e ≡ d
   alone o id n inside c x at i d there (at_first z w) b y by j e here (at_first z' w') = same_deed (by_task (labels (8 * o + 0))) (one_first o) c x at i d there w b y by j e here w'
   alone o id n inside c x at i d there (again s w) b y by j e here (again s' w') = same_deed (by_retry (is_retry id n)) (one_again id n inside) c x at i d there w b y by j e here w'
@@ -272,7 +272,7 @@ module _ {O : Type 0} {g : Ghosts O} {state : O → OutState} {readers : List (L
         (λ z. absurd (let a = term (by_retry is_first) (deeds_of x) i went there in let b = none_first x.thread x.is in let d = only-at 0 r.attempt z in omega (arith, a, b, d)))
         (λ n. omega (arith, n))
 
-    again_attempt : (o id n : ℕ) → r.id ≡ id → r.attempt ≡ n → get_elem? (deeds_of x) i ≡ some went → IsAttemptOf o id n went
+    pub again_attempt : (o id n : ℕ) → r.id ≡ id → r.attempt ≡ n → get_elem? (deeds_of x) i ≡ some went → IsAttemptOf o id n went
     again_attempt o id n same number there = again (let a = again_later there in omega (arith, a, number)) (let a = pair-at id n r.id r.attempt same number in omega (arith, a))
 
   -- whatever sent a frame with this place index is that attempt

@@ -1,2 +1,3 @@
 pub mod Missed
 pub mod Reasons
+pub mod Ends

@@ -1,7 +1,10 @@
 -- A link whose reading ended early shows so.
 use Rattle.std.proofs.Common.{◌≡◌, ℕ, zero, suc, ◌+◌, ◌<◌, ◌≤◌, ◌⊎◌, inl, inr, Bool, true, false, if◌then◌else◌, List, [], ◌∷◌, ◌++◌, length-append, slice_get, Some, None, Contains, refl, sym, ap, ◌∙◌, subst, arith}
-use Rattle.std.specs.Prelude.{Option, IsTrue}
+use Rattle.std.specs.Prelude.{Option, IsTrue, IfSome, option_map}
 use Rattle.std.proofs.lemmas.Option.{same_Some}
+use mathlib.Core.Option.{some, some-injective, some-ne-none}
+use lib.ListN.{get_elem?}
+use Rattle.sock_words.specs.Codes.{EEOF, ERESPONSE}
 use Rattle.sock_words.specs.declared.plain.Plan.{Plan}
 use Rattle.sock_words.specs.declared.socket_id.SocketId.{SocketId}
 use Rattle.sock_io.specs.declared.link.Out.{Ghosts}
@@ -16,7 +19,7 @@ use Rattle.prpc_frame.proofs.Cuts.{stream_begins}
 use Rattle.prpc_frame.proofs.Lasting.{faulty}
 use Rattle.rpc_reader.specs.Books.{Books}
 use Rattle.rpc_reader.specs.Met.{MetAll}
-use Rattle.rpc_reader.specs.Reading.{EndsBy}
+use Rattle.rpc_reader.specs.Reading.{EndsBy, code_of as reading_code}
 use Rattle.rpc_reader.specs.Running.{fails, throws, is_starved, ThrownIf, ReadToEnd, ReadIf}
 use Rattle.rpc_reader.specs.Taking.{Took, Takes}
 use Rattle.rpc_reader.specs.declared.reading.How.{How}
@@ -25,6 +28,7 @@ use Rattle.call_run.specs.Readers.{LinkReader, nothing_read, IsReader, AreReader
 use Rattle.script_calls.specs.report_fits.proofs.Lists.{has_from}
 use Rattle.script_calls.specs.call_whys.specs.call_deeds.proofs.Beside.{read_early, early_links}
 use Rattle.script_calls.specs.call_whys.specs.call_deeds.proofs.Readers.{early_if}
+use Rattle.script_calls.specs.failed_told.proofs.Ends.{EndedIf, ReadEnded}
 use Rattle.script_calls.specs.call_whys.specs.call_told.proofs.Gains.{met_bytes, rest_bytes, gains_read}
 use Rattle.script_calls.specs.call_whys.specs.call_told.proofs.Linked.{read_bytes}
 use Rattle.script_calls.specs.call_whys.specs.call_told.proofs.Readers.{link_read, if_bytes, reader_gave, each_read, readers_gave}
@@ -107,3 +111,55 @@ module _ {O : Type 0} {g : Ghosts O} (state : O → OutState) (p : Plan) (q : id
   -- each link whose reading ended early shows it
   pub early_shown : (link : ℕ) (os : List ℕ) (xs : List (LinkReader g)) (a : AreReaders p q calls link os xs) (k : ℕ) → Contains (early_links state p q calls link os xs a) k → HasShown xs (readers_gave p q calls xs (each_read p q calls link os xs a)) link k
   early_shown link os xs a k h = let w = has_from (early_links state p q calls link os xs a) k h in shown_at link os xs a w.0 k w.1
+
+-- ## With which code a reading ended
+
+-- a reading half that gave these bytes shows why its reading ended with the code: at a fault in them; or since it was closed, as far as it tells that, or ended early
+abbrev pub ShowsEnd : List ℕ → InState → ℕ → Type 0
+ShowsEnd gave t code = ((code ≡ ERESPONSE) × HasFault gave) ⊎ ((code ≡ EEOF) × (IfSome t.closed (λ closed. closed ≡ true) ⊎ ShowsEarly gave t))
+
+closed_true : (o u : Option Bool) → u ≡ option_map (λ _. true) o → IfSome u (λ closed. closed ≡ true)
+closed_true None u e = subst (λ (y : Option Bool). IfSome y (λ closed. closed ≡ true)) (sym e) tt
+closed_true (Some b) u e = subst (λ (y : Option Bool). IfSome y (λ closed. closed ≡ true)) (sym e) refl
+
+module _ (q : id_plan.Plan) (link : ℕ) (calls : List ℕ) (s t : InState) where
+  module _ (id : ℕ) (v w : View) (b b' : Books) (r : ReadToEnd q link calls false false s t id v w b b') where
+    abbrev gave_bytes : List ℕ
+    gave_bytes = read_bytes q link calls false false s t b b' (link_read q link calls false false s t id v w b b' r)
+
+    abbrev last_take : (m : InState) × TakeStep m r.between r.read.last.room r.read.last.answer
+    last_take = last_step r.read.earlier r.read.last s r.between r.read.steps
+
+    ends_by : (h : How) → EndsBy false h r.read.last.answer r.read.left r.total → ThrownIf (throws h) false r.total r.between t → is_starved h ≡ false → (fails h ≡ true → ShowsEarly gave_bytes t) → ShowsEnd gave_bytes t (reading_code h)
+    ends_by how.End ends thrown calm early = inr (refl, inr (early refl))
+    ends_by how.Failed ends thrown calm early = inr (refl, inr (early refl))
+    ends_by how.Limit ends thrown calm early = inr (refl, inr (early refl))
+    ends_by how.Fault ends thrown calm early = inl (refl, fault_stays q.slots (met_bytes q link calls false false s t b b' (link_read q link calls false false s t id v w b b' r)) r.read.left (rest_bytes q link calls false false s t b b' (link_read q link calls false false s t id v w b b' r)) b r.met r.read.met ends.0 ends.1)
+    ends_by how.Closed ends thrown calm early = inr (refl, inl (closed_true last_take.0.closed t.closed (ap (λ (i : InState). i.closed) thrown ∙ last_take.1.closed.0 ends.0)))
+    ends_by how.Empty ends thrown calm early = absurd (let k : false ≡ true = ends.1 in cc)
+    ends_by how.NoMemory ends thrown calm early = absurd (cc)
+
+    pub shows_end : ShowsEnd gave_bytes t (reading_code r.how)
+    shows_end = ends_by r.how r.read.ends r.thrown (r.calm refl).1 (shows_early q link calls s t id v w b b' r)
+
+  end_if : (o : Option SocketId) (v w : View) (b b' : Books) (r : ReadIf q link calls false false s t o v w b b') (code : ℕ) → EndedIf q link calls s t o v w b b' r code → ShowsEnd (if_bytes q link calls false false s t o v w b b' r) t code
+  end_if None v w b b' r code e = absurd e
+  end_if (Some id) v w b b' r code e = subst (ShowsEnd (gave_bytes id.0 v w b b' r) t) e (shows_end id.0 v w b b' r)
+
+module _ {O : Type 0} {g : Ghosts O} (p : Plan) (q : id_plan.Plan) (calls : List ℕ) where
+  -- of a reader
+  pub reader_end : (x : LinkReader g) (is : IsReader p q calls x) (code : ℕ) → ReadEnded p q calls x is code → ShowsEnd (reader_gave p q calls x is) x.behind code
+  reader_end x is code e = end_if q x.link calls x.before x.behind is.ran.id is.ran.noted x.seat.me.0 nothing_read x.books is.ran.read code e
+
+  -- the j-th of them reads the j-th link, and what that gave
+  pub record HasPlace (link : ℕ) (os : List ℕ) (xs : List (LinkReader g)) (a : AreReaders p q calls link os xs) (j : ℕ) (x : LinkReader g) : Type 0 where
+    pub is : IsReader p q calls x
+    pub link_is : x.link ≡ link + j
+    pub gave_is : readers_gave p q calls xs (each_read p q calls link os xs a) j ≡ reader_gave p q calls x is
+
+  pub place_of : (link : ℕ) (os : List ℕ) (xs : List (LinkReader g)) (a : AreReaders p q calls link os xs) (j : ℕ) (x : LinkReader g) → get_elem? xs j ≡ some x → HasPlace link os xs a j x
+  place_of link [] [] a j x e = absurd (some-ne-none x (sym e))
+  place_of link (o ∷ os) (y ∷ xs) a zero x e = subst (HasPlace link (o ∷ os) (y ∷ xs) a 0) (some-injective y x e) (record { is = a.0; link_is = (let l = a.1 in omega (arith, l)); gave_is = refl })
+  place_of link (o ∷ os) (y ∷ xs) a (suc j) x e = let r = place_of (link + 1) os xs a.3 j x e in record { is = r.is; link_is = (let l = r.link_is in omega (arith, l)); gave_is = r.gave_is }
+  place_of link [] (y ∷ xs) a j x e = absurd a
+  place_of link (o ∷ os) [] a j x e = absurd a

@@ -39,7 +39,7 @@ module _ (P : Type 0) {O I : Type 0} (g : Ghosts O) (out : O → OutState) (inn 
   abbrev outcomes : List (Option Outcome)
   outcomes = sockets.outcomes P g out inn bytes script reads text links r
 
-  module _ (given : ℕ → List ℕ) where
+  module _ (given : ℕ → List ℕ) (is_gave : given ≡ sockets.gave P g out inn bytes script reads text links r) where
     abbrev fixed : Fixed
     fixed = sockets.fixed P g out inn bytes script reads text links r
 
@@ -51,14 +51,14 @@ module _ (P : Type 0) {O I : Type 0} (g : Ghosts O) (out : O → OutState) (inn 
     expired = expire_why r.left.ran (sockets.are P g out inn bytes script reads text links r) (sockets.may P g out inn bytes script reads text links r) last.notes last.kept r.rest.words r.rest.closing (sockets.have P g out inn bytes script reads text links r) (keeps P g out inn bytes script reads text links r) outcomes (said P g out inn bytes script reads text links r) (said_ended P g out inn bytes script reads text links r) (begun_not P g out inn bytes script reads text links r)
         fixed given by_link (of_calls P g out inn bytes script reads text links r)
 
-    told_here : AreCallsTold (plan_of script) all outcomes fixed given by_link (last_attempt last.notes)
+    told_here : AreCallsTold (plan_of script) all outcomes fixed given by_link (last_attempt last.notes) links
     told_here = record {
-      expires = λ client of t by is op became. expires P g out inn bytes script reads text links r given client of t by is op became (expired client of t by is op became);
+      expires = λ client of t by is op became. expires P g out inn bytes script reads text links r given is_gave client of t by is op became (expired client of t by is op became);
       expired_once = once r.left.ran (sockets.are P g out inn bytes script reads text links r) (sockets.may P g out inn bytes script reads text links r) last.notes last.kept r.rest.words r.rest.closing (sockets.have P g out inn bytes script reads text links r) (keeps P g out inn bytes script reads text links r) outcomes (said P g out inn bytes script reads text links r) (said_ended P g out inn bytes script reads text links r) (begun_not P g out inn bytes script reads text links r);
-      failed = failed P g out inn bytes script reads text links r given;
-      again = again P g out inn bytes script reads text links r given;
+      failed = failed P g out inn bytes script reads text links r given is_gave;
+      again = again P g out inn bytes script reads text links r given is_gave;
       versions = calls_apart P g out inn bytes script reads text links r;
     }
 
-    pub calls_beside : AreCallsTold (plan_of script) (all_tasks script) outcomes fixed given by_link (last_attempt last.notes)
-    calls_beside = subst (λ (l : List (List Task)). AreCallsTold (plan_of script) l outcomes fixed given by_link (last_attempt last.notes)) r.left.tasks told_here
+    pub calls_beside : AreCallsTold (plan_of script) (all_tasks script) outcomes fixed given by_link (last_attempt last.notes) links
+    calls_beside = subst (λ (l : List (List Task)). AreCallsTold (plan_of script) l outcomes fixed given by_link (last_attempt last.notes) links) r.left.tasks told_here

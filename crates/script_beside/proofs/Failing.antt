@@ -1,65 +1,98 @@
 -- Why each call of a script failed whose links were read beside its clients, and why each attempt of one behind the first was made.
-use Rattle.std.proofs.Common.{◌≡◌, ℕ, ◌<◌, ◌≤◌, ◌⊎◌, inl, inr, List, [], ◌∷◌, ◌++◌, length, map, replicate, Option, None, Ok, refl, sym, ap, ◌∙◌, subst, arith}
+use Rattle.std.proofs.Common.{◌≡◌, ℕ, ◌<◌, ◌≤◌, ◌⊎◌, inl, inr, List, [], ◌∷◌, ◌++◌, length, map, replicate, slice_get, Contains, true, Option, Some, None, Ok, refl, sym, ap, ◌∙◌, subst, arith}
+use Rattle.std.specs.Prelude.{IfSome}
 use Rattle.std.specs.List.{AllByRecursion, flat_map}
-use Rattle.std.proofs.lemmas.List.{map-append}
+use Rattle.std.proofs.lemmas.List.{map-append, length-map}
+use Rattle.std.proofs.lemmas.Option.{slice_get_within}
 use mathlib.Core.Option.{some}
 use lib.ListN.{get_elem?}
 use Rattle.sock_io.specs.declared.link.Out.{Ghosts}
-use Rattle.sock_io.specs.Link.{OutState, InState}
-use Rattle.sock_words.specs.Codes.{EEOF}
+use Rattle.sock_io.specs.declared.link.Ends.{Ends}
+use Rattle.sock_io.specs.Link.{OutState, InState, end_of}
+use Rattle.sock_words.specs.Codes.{EEOF, ERESPONSE}
 use Rattle.sock_words.specs.declared.outcome.Outcome.{Outcome}
 use Rattle.sock_words.specs.declared.outcome.Outcome.TheVariants.{CallFailed}
 use Rattle.sock_words.specs.declared.plain.Plan.{Plan}
 use Rattle.brpc_model.specs.Items.{Item}
 use Rattle.brpc_model.specs.Link.{LinkEnd}
 use Rattle.brpc_model.specs.Script.{script_of}
+use Rattle.brpc_model.specs.Causes.{HasFault}
+use Rattle.brpc_model.specs.Frame.{Frame}
+use Rattle.brpc_model.specs.Stream.{stream}
+use Rattle.prpc_frame.specs.declared.frame.Frame.{Frame as Answer}
 use Rattle.corr_core.specs.Law.{total}
 use Rattle.corr_core.specs.Word.{code_of}
+use Rattle.corr_core.specs.declared.marks.Kept.{Kept}
+use Rattle.corr_core.specs.declared.marks.Note.{Note}
 use Rattle.corr_core.specs.declared.marks.Noted.{Noted}
 use Rattle.corr_core.specs.declared.marks.Plan as id_plan
 use Rattle.corr_core.specs.declared.marks.View.{View}
+use Rattle.script_calls.specs.id_rule.specs.Lawful.{at_index, notes_of as notes_in}
+use Rattle.corr_id.proofs.Seats.{total_append}
 use Rattle.sock_message.specs.Asked.{Asked, name_of}
 use Rattle.seat_programs.specs.declared.task.Op.{Op}
 use Rattle.seat_programs.specs.declared.task.Op.TheVariants as ops
 use Rattle.seat_programs.specs.declared.task.Task.{Task}
 use Rattle.seat_programs.specs.Tasks.{plan_of, opens, calls}
 use Rattle.seat_programs.specs.Told.{IsTask, Became}
-use Rattle.seat_programs.specs.ToldCalls.{FailedBy, WhyAgain, WhyExpire}
+use Rattle.seat_programs.specs.ToldCalls.{Fixed, Order, FailedBy, WhyAgain, WhyExpire}
 use Rattle.rpc_client.specs.declared.acting.Told.{Told}
 use Rattle.rpc_reader.specs.Books.{Books}
 use Rattle.call_run.specs.Readers.{LinkReader}
 use Rattle.call_run.specs.Threads.{Thread}
 use Rattle.script_calls.specs.report_fits.proofs.Sizes.{keeps_limits}
-use Rattle.script_calls.specs.call_whys.specs.call_deeds.proofs.Runs.{seats_are}
-use Rattle.script_calls.specs.call_whys.specs.call_told.specs.Answers.{IsOwn}
+use Rattle.script_calls.specs.report_fits.specs.Ends.{EndsEarly}
+use Rattle.script_calls.specs.call_whys.specs.call_deeds.proofs.Runs.{seats_are, early_with}
+use Rattle.script_calls.specs.call_whys.specs.call_places.proofs.Weights.{term, flat_total}
+use Rattle.script_calls.specs.call_whys.specs.call_told.specs.Answers.{IsGiven, AreGiven, IsOwn}
+use Rattle.script_calls.specs.call_whys.specs.call_told.proofs.Beside.{gave_is, early_given}
 use Rattle.script_calls.specs.call_whys.specs.call_told.proofs.Lists.{all_at}
-use Rattle.script_calls.specs.call_whys.specs.call_told.proofs.Readers.{AllRead, each_read}
+use Rattle.script_calls.specs.call_whys.specs.call_told.proofs.Readers.{AllRead, each_read, reader_gave}
+use Rattle.script_calls.specs.call_whys.specs.call_told.proofs.Resting.{is_word}
+use Rattle.script_calls.specs.call_whys.specs.expire_told.proofs.Making.{mapped_from, slice_at, elem_at}
 use Rattle.script_calls.specs.call_whys.specs.expire_told.specs.Said.{WhyExpired}
 use Rattle.script_calls.specs.call_whys.specs.sock_deeds.specs.Runs.{IsOperation, seat_of, DeedRun}
 use Rattle.script_calls.specs.call_whys.specs.sock_deeds.proofs.Orders.{orders}
+use Rattle.script_calls.specs.call_whys.specs.sock_deeds.proofs.Whole.{log_accepted}
 use Rattle.script_calls.specs.attempts_told.specs.Attempts.{last_attempt}
+use Rattle.script_calls.specs.failed_told.specs.Ends.{ReadingEnded, EndedByReading, AtFault, AtEnd, AtDrop, LeftOver}
 use Rattle.script_calls.specs.failed_told.proofs.Again.{again_with}
+use Rattle.script_calls.specs.failed_told.proofs.ByLinks.{IsPosted, told_why, by_reader}
 use Rattle.script_calls.specs.failed_told.proofs.Codes.{IsReadCode}
 use Rattle.script_calls.specs.failed_told.proofs.DropsTold.{drops_with, expires_with}
 use Rattle.script_calls.specs.failed_told.proofs.Ended.{TellsDrops, ends_with}
-use Rattle.script_calls.specs.failed_told.proofs.ReadCodes.{HasReadCode, TellsCodes, rest_codes, readers_codes}
-use Rattle.script_calls.specs.failed_told.proofs.Reading.{rest_queues, readers_queue, others_beside}
-use Rattle.script_calls.specs.failed_told.proofs.Views.{queued_in}
+use Rattle.script_calls.specs.failed_told.proofs.Ends.{ReadEnded, reader_posts, ToldBy, reader_tells}
+use Rattle.script_calls.specs.failed_told.proofs.LinkEnds.{EndedHere, DroppedHere, QueuedHere, told_on}
+use Rattle.script_calls.specs.failed_told.proofs.Posts.{IsPost, rest_stays}
+use Rattle.script_calls.specs.failed_told.proofs.Premises.{asked_so}
+use Rattle.script_calls.specs.failed_told.proofs.Reading.{notes_flat, rest_queues, readers_queue, queued_beside, others_beside}
+use Rattle.script_calls.specs.failed_told.proofs.Tells.{ToldEnd, IsPostFor, rest_step}
+use Rattle.script_calls.specs.failed_told.proofs.Views.{Stays, queued_in}
 use Rattle.script_calls.specs.Seats.{IdSeat}
 use Rattle.script_calls.specs.Told.{outcomes_of}
 use Rattle.script_calls.proofs.Clients as clients
 use Rattle.script_calls.proofs.Failing.{fails_within, same_failure, not_own}
+use Rattle.script_calls.proofs.Numbers.{few_calls}
+use Rattle.script_calls.proofs.Placed.{mapped_at}
 use Rattle.script_calls.proofs.Sayings.{told_each, none_told}
 use Rattle.script_calls.proofs.Shown.{view_of, flat_mapped}
 use Rattle.script_calls.proofs.Sockets.{map_twice}
 use Rattle.script_calls.proofs.Tellers.{split, only_one, IsEndTold}
 use Rattle.script_calls.proofs.Tellers as tellers
 use Rattle.script_beside.specs.Told.{seated_plan, seated_ids, IsBesideRun}
-use Rattle.script_beside.proofs.Left.{all_seats, notes_of}
+use Rattle.script_beside.proofs.Early.{ShowsEarly, ShowsEnd, early_shown, reader_end, HasPlace, place_of}
+use Rattle.script_beside.proofs.Left.{all_seats, early_of, notes_of}
 use Rattle.script_beside.proofs.Attempts as attempts
 use Rattle.script_beside.proofs.Sockets as sockets
 use Rattle.script_beside.proofs.Telling as telling
 use Rattle.script_beside.proofs.WideCalls.{failure_still, again_still, expire_still}
+
+-- whatever whoever reads the links ended has one of their codes
+pub ended_code : {p : Plan} {clients : List (List Task)} {outcomes : List (Option Outcome)} {fixed : Fixed} {gave : ℕ → List ℕ} {orders : ℕ → Order} {ends : List LinkEnd} {o : ℕ} {asked : Asked} {code last : ℕ} → EndedByReading p clients outcomes fixed gave orders ends o asked code last → IsReadCode code
+ended_code (AtFault e n k low on fault) = inr e
+ended_code (AtEnd e n k low lost) = inl e
+ended_code (AtDrop e n k low dropped) = inr e
+ended_code (LeftOver e) = inl e
 
 module _ (P : Type 0) {O I : Type 0} (g : Ghosts O) (out : O → OutState) (inn : I → InState) (bytes : List ℕ) (script : List Item) (reads : script_of bytes ≡ Ok script) (text : List ℕ) (links : List LinkEnd) (r : IsBesideRun P g out inn script text links) where
   abbrev p : Plan
@@ -109,30 +142,78 @@ module _ (P : Type 0) {O I : Type 0} (g : Ghosts O) (out : O → OutState) (inn 
       let ids : LinkReader g → IdSeat = λ x. x.ids in
       notes_of r.left r.rest ∙ (flat_mapped view_of noted (all_seats r.left) ∙ ap (flat_map noted) (map-append view_of r.ids (map ids readers) ∙ ap (λ (l : List (View Asked)). own_ids ++ l) (sym (map_twice ids view_of readers))))
 
+  -- whoever ended the calls that were left queued nothing
+  rest_quiet : Stays main.view last
+  rest_quiet = rest_stays EEOF q (calls script) main r.rest.last r.rest.rest
+
   -- what is noted as queued a client queued, or it has a code of whoever read the links
   pub others : (i first e : ℕ) → 0 < queued_in i first e notes → (0 < total (λ (v : View Asked). queued_in i first e v.notes) own_ids) ⊎ IsReadCode (code_of e)
   others = others_beside own_ids (map (λ (x : LinkReader g). x.ids.me.0) readers) r.rest.main.me.0 last notes_are (readers_queue p q (calls script) readers all_read) (rest_queues EEOF q (calls script) main r.rest.last r.rest.rest)
 
-  -- the readers, and the one that ended what was left, told failures with those codes alone
-  read_codes : AllByRecursion (AllByRecursion HasReadCode) r.read
-  read_codes = subst (AllByRecursion (AllByRecursion HasReadCode)) r.left.read_is (readers_codes p q (calls script) readers all_read)
+  -- ## Readers
 
-  last_codes : AllByRecursion HasReadCode r.last
-  last_codes =
-      let tells : TellsCodes main r.rest.last = rest_codes EEOF (inl refl) q (calls script) main r.rest.last r.rest.rest in
-      subst (AllByRecursion HasReadCode) (sym (r.rest.told_is ∙ tells.1)) tells.2
+  abbrev HasPlaceHere : ℕ → LinkReader g → Type 0
+  HasPlaceHere j x = HasPlace p q (calls script) 0 (opens script) readers r.left.readers_are j x
+
+  at_place : (j : ℕ) (x : LinkReader g) → get_elem? readers j ≡ some x → HasPlaceHere j x
+  at_place = place_of p q (calls script) 0 (opens script) readers r.left.readers_are
+
+  -- all notes of a reader are among those of all, and all words that it keeps in mind
+  reader_notes : (j : ℕ) (x : LinkReader g) → get_elem? readers j ≡ some x → (slot : ℕ) (f : Note Asked → ℕ) → total f (notes_in slot x.ids.me.0.notes) ≤ total f (notes_in slot notes)
+  reader_notes j x at slot f =
+      let h : View Asked → ℕ = λ v. total f (notes_in slot v.notes) in let views : List (View Asked) = map (λ (y : LinkReader g). y.ids.me.0) readers in
+      let a = term h views j x.ids.me.0 (mapped_at (λ (y : LinkReader g). y.ids.me.0) readers j x at) in
+      let b = total_append h own_ids views in let c = notes_flat slot f (own_ids ++ views) in let d = ap (λ (l : List (Noted Asked)). total f (notes_in slot l)) notes_are in let e = rest_quiet.later.notes slot f in omega (arith, a, b, c, d, e)
+
+  reader_keeps : (j : ℕ) (x : LinkReader g) → get_elem? readers j ≡ some x → (f : Kept → ℕ) → total f x.ids.me.0.kept ≤ total f last.kept
+  reader_keeps j x at f =
+      let h : View Asked → ℕ = λ v. total f v.kept in let seats_ : List IdSeat = map (λ (y : LinkReader g). y.ids) readers in
+      let a = term h (map view_of seats_) j x.ids.me.0 (mapped_at view_of seats_ j x.ids (mapped_at (λ (y : LinkReader g). y.ids) readers j x at)) in
+      let b = total_append h own_ids (map view_of seats_) in let c = flat_total f (λ (v : View Asked). v.kept) (own_ids ++ map view_of seats_) in
+      let d = ap (total f) (telling.taken P g out inn bytes script reads text links r) in let e = rest_quiet.later.kept f in omega (arith, a, b, c, d, e)
+
+  -- the link of a reader as it was given back
+  record GivenBack (j : ℕ) (x : LinkReader g) : Type 0 where
+    pub end : Ends O I P
+    pub there : slice_get r.ends j ≡ Some end
+    pub half : inn end.inn ≡ x.behind
+    pub link : slice_get links j ≡ Some (end_of (out end.out) (inn end.inn))
+
+  given_back : (j : ℕ) (x : LinkReader g) → get_elem? readers j ≡ some x → GivenBack j x
+  given_back j x at =
+      let f : Ends O I P → InState = λ e. inn e.inn in let h : Ends O I P → LinkEnd = λ e. end_of (out e.out) (inn e.inn) in
+      let m = mapped_from f r.ends j x.behind (ap (λ (l : List InState). get_elem? l j) (sym r.halves_read) ∙ mapped_at (λ (y : LinkReader g). y.behind) readers j x at) in
+      record { end = m.0; there = slice_at r.ends j m.0 m.1; half = m.2; link = ap (λ (l : List LinkEnd). slice_get l j) r.given_back ∙ slice_at (map h r.ends) j (h m.0) (mapped_at h r.ends j m.0 m.1) }
 
   bounds : (client number name code : ℕ) → IsOperation all outcomes client number (ops.Fail name code) → (1500 ≤ code) × (code ≤ 1999)
   bounds client number name code is = fails_within bytes script reads outcomes client record { number = number; op = ops.Fail name code } name code (subst (λ (l : List (List Task)). IsOperation l outcomes client number (ops.Fail name code)) r.left.tasks is) refl
 
-  few_links : p.links ≤ 65536
+  few_links : p.links < 65536
   few_links = let k = (keeps_limits bytes script reads).links in omega (arith, k)
+
+  low_links : p.links ≤ 65536
+  low_links = omega (arith, few_links)
+
+  few_slots : slots ≤ 65536
+  few_slots = let k = few_calls bytes script reads slots refl in omega (arith, k)
+
+  few_readers : length readers ≤ p.links
+  few_readers = let a = length-map readers (λ (x : LinkReader g). x.behind) in let b = length-map r.ends (λ (e : Ends O I P). inn e.inn) in let c = ap length r.halves_read in let d = sockets.as_many P g out inn bytes script reads text links r in omega (arith, a, b, c, d)
 
   -- ## Causes
 
-  module _ (gave : ℕ → List ℕ) where
+  module _ (gave : ℕ → List ℕ) (is_gave : gave ≡ sockets.gave P g out inn bytes script reads text links r) where
+    abbrev fixed_here : Fixed
+    fixed_here = sockets.fixed P g out inn bytes script reads text links r
+
+    abbrev orders_here : ℕ → Order
+    orders_here = orders drun (sockets.differ P g out inn bytes script reads text links r)
+
+    abbrev WhyRead : ℕ → Asked → ℕ → ℕ → Type 0
+    WhyRead number asked code n = EndedByReading (plan_of script) all outcomes fixed_here gave orders_here links number asked code n
+
     abbrev FailedHere : ℕ → ℕ → Asked → ℕ → ℕ → Type 0
-    FailedHere client number asked id code = FailedBy p all outcomes (sockets.fixed P g out inn bytes script reads text links r) gave (orders drun (sockets.differ P g out inn bytes script reads text links r)) client number asked id code (last_attempt notes number) ⊎ IsReadCode code
+    FailedHere client number asked id code = FailedBy p all outcomes fixed_here gave orders_here client number asked id code (last_attempt notes number) ⊎ WhyRead number asked code (last_attempt notes number)
 
     seats : map seat_of drun.seats ≡ map (λ (x : Thread g). x.ended.seat) (r.left.ran.ran.main ∷ r.left.ran.ran.others)
     seats = seats_are r.left.ran outcomes (sockets.are P g out inn bytes script reads text links r) (sockets.may P g out inn bytes script reads text links r) (sockets.linked P g out inn bytes script reads text links r) (sockets.long P g out inn bytes script reads text links r) (sockets.reports P g out inn bytes script reads text links r)
@@ -140,17 +221,157 @@ module _ (P : Type 0) {O I : Type 0} (g : Ghosts O) (out : O → OutState) (inn 
 
     dropped : TellsDrops r.left.ran notes outcomes drun (sockets.differ P g out inn bytes script reads text links r) gave
     dropped = drops_with r.left.ran (sockets.are P g out inn bytes script reads text links r) (sockets.may P g out inn bytes script reads text links r) notes last.kept r.rest.words r.rest.closing (sockets.have P g out inn bytes script reads text links r) outcomes drun seats refl
-        (sockets.differ P g out inn bytes script reads text links r) gave (sockets.low P g out inn bytes script reads text links r) few_links bounds
+        (sockets.differ P g out inn bytes script reads text links r) gave (sockets.low P g out inn bytes script reads text links r) low_links bounds
+
+    -- ### By which link
+
+    -- the reading of this link ended with this code
+    abbrev Reads : ℕ → ℕ → Type 0
+    Reads k code = ((code ≡ ERESPONSE) × HasFault (gave k)) ⊎ ((code ≡ EEOF) × ReadingEnded (plan_of script) all outcomes fixed_here gave orders_here links k)
+
+    read_code : (k code : ℕ) → Reads k code → IsReadCode code
+    read_code k code (inl f) = inr f.0
+    read_code k code (inr e) = inl e.0
+
+    -- what a reader's link gave
+    its_bytes : (j : ℕ) (x : LinkReader g) (h : HasPlaceHere j x) → reader_gave p q (calls script) x h.is ≡ gave j
+    its_bytes j x h = sym h.gave_is ∙ (ap (λ (f : ℕ → List ℕ). f j) (sym (gave_is p q (calls script) (opens script) readers r.left.readers_are)) ∙ ap (λ (f : ℕ → List ℕ). f j) (sym is_gave))
+
+    read_by : (j : ℕ) (x : LinkReader g) → get_elem? readers j ≡ some x → (h : HasPlaceHere j x) (code : ℕ) → ReadEnded p q (calls script) x h.is code → Reads x.link code
+    read_by j x at h code ended =
+        let b = given_back j x at in let l = h.link_is in let link : j ≡ x.link = omega (arith, l) in
+        let shows : ShowsEnd (gave j) x.behind code = subst (λ (bytes_ : List ℕ). ShowsEnd bytes_ x.behind code) (its_bytes j x h) (reader_end p q (calls script) x h.is code ended) in
+        subst (λ (k : ℕ). Reads k code) link (elim shows [
+          | inl f ↦ inl f
+          | inr e ↦ inr (e.0, (end_of (out b.end.out) (inn b.end.inn), b.link, subst (λ (i : InState). IfSome i.closed (λ closed. closed ≡ true) ⊎ ShowsEarly (gave j) i) (sym b.half) e.1))
+        ])
+
+    abbrev EndedLink : ℕ → Asked → ℕ → Type 0
+    EndedLink o asked code = EndedHere r.left.ran (sockets.are P g out inn bytes script reads text links r) (sockets.may P g out inn bytes script reads text links r) notes last.kept r.rest.words r.rest.closing (sockets.have P g out inn bytes script reads text links r) (telling.keeps P g out inn bytes script reads text links r) outcomes
+        (sockets.reports P g out inn bytes script reads text links r).said (telling.said_ended P g out inn bytes script reads text links r) (attempts.later P g out inn bytes script reads text links r) (attempts.are_ids P g out inn bytes script reads text links r).made drun seats refl (sockets.differ P g out inn bytes script reads text links r) gave (sockets.low P g out inn bytes script reads text links r) few_slots few_links bounds Reads read_code o asked code
+
+    abbrev DroppedLink : ℕ → Asked → ℕ → Type 0
+    DroppedLink o asked code = DroppedHere r.left.ran (sockets.are P g out inn bytes script reads text links r) (sockets.may P g out inn bytes script reads text links r) notes last.kept r.rest.words r.rest.closing (sockets.have P g out inn bytes script reads text links r) (telling.keeps P g out inn bytes script reads text links r) outcomes
+        (sockets.reports P g out inn bytes script reads text links r).said (telling.said_ended P g out inn bytes script reads text links r) (attempts.later P g out inn bytes script reads text links r) (attempts.are_ids P g out inn bytes script reads text links r).made drun seats refl (sockets.differ P g out inn bytes script reads text links r) gave (sockets.low P g out inn bytes script reads text links r) few_slots few_links bounds Reads read_code o asked code
+
+    abbrev QueuedLink : ℕ → ℕ → ℕ → Type 0
+    QueuedLink i first e = QueuedHere r.left.ran (sockets.are P g out inn bytes script reads text links r) (sockets.may P g out inn bytes script reads text links r) notes last.kept r.rest.words r.rest.closing (sockets.have P g out inn bytes script reads text links r) (telling.keeps P g out inn bytes script reads text links r) outcomes
+        (sockets.reports P g out inn bytes script reads text links r).said (telling.said_ended P g out inn bytes script reads text links r) (attempts.later P g out inn bytes script reads text links r) (attempts.are_ids P g out inn bytes script reads text links r).made drun seats refl (sockets.differ P g out inn bytes script reads text links r) gave (sockets.low P g out inn bytes script reads text links r) few_slots few_links bounds Reads read_code i first e
+
+    -- a word that a reader found, with its link
+    abbrev PostedLink : ℕ → ℕ → Type 0
+    PostedLink word code = IsPosted r.left.ran (sockets.are P g out inn bytes script reads text links r) (sockets.may P g out inn bytes script reads text links r) notes last.kept r.rest.words r.rest.closing (sockets.have P g out inn bytes script reads text links r) (telling.keeps P g out inn bytes script reads text links r) outcomes
+        drun seats refl (sockets.differ P g out inn bytes script reads text links r) gave (log_accepted drun (sockets.differ P g out inn bytes script reads text links r) (λ k. [])) few_slots few_links (asked_so r.left.ran (sockets.are P g out inn bytes script reads text links r) (sockets.may P g out inn bytes script reads text links r) notes last.kept r.rest.words r.rest.closing (sockets.have P g out inn bytes script reads text links r) outcomes (attempts.later P g out inn bytes script reads text links r)) Reads word code
+
+    posted_by : (j : ℕ) (x : LinkReader g) → get_elem? readers j ≡ some x → (h : HasPlaceHere j x) (code : ℕ) → ReadEnded p q (calls script) x h.is code → (word : ℕ) → IsPost q x.link x.ids.me.0 word → PostedLink word code
+    posted_by j x at h code ended word post = record {
+      operation = post.operation;
+      found = (let a = reader_keeps j x at (is_word (at_index q post.operation) word) in let b = post.found in omega (arith, a, b));
+      read = subst (λ (k : ℕ). Reads k code) (sym post.link_is) (read_by j x at h code ended);
+    }
+
+    -- what no client queued, a reader did, with the code of its reading
+    queued_so : (i first e : ℕ) → 0 < queued_in i first e notes → (0 < total (λ (v : View Asked). queued_in i first e v.notes) own_ids) ⊎ QueuedLink i first e
+    queued_so i first e there = elim (queued_beside own_ids (map (λ (x : LinkReader g). x.ids.me.0) readers) r.rest.main.me.0 last notes_are rest_quiet i first e there) [ inl own ↦ inl own | inr w ↦ inr (by w.0 w.1 w.2 w.3) ]
+      where
+        by : (j : ℕ) (v : View Asked) → get_elem? (map (λ (x : LinkReader g). x.ids.me.0) readers) j ≡ some v → 0 < queued_in i first e v.notes → QueuedLink i first e
+        by j v at some_ =
+            let m = mapped_from (λ (x : LinkReader g). x.ids.me.0) readers j v at in let h = at_place j m.0 m.1 in
+            let w = reader_posts p q (calls script) m.0 h.is i first e (subst (λ (y : View Asked). 0 < queued_in i first e y.notes) (sym m.2) some_) in let post = w.2 in
+            record { word = post.word; code = w.0; posted = posted_by j m.0 m.1 h w.0 w.1 post.word post.post; slot_is = post.slot_is; first_is = post.first_is; error_is = post.error_is }
+
+    -- in the words of what is told
+    on_link : (number : ℕ) (asked : Asked) (code : ℕ) → EndedLink number asked code → WhyRead number asked code (last_attempt notes number)
+    on_link number asked code h = elim h.read [
+      | inl f ↦ AtFault f.0 h.attempt h.link h.low h.on f.1
+      | inr e ↦ AtEnd e.0 h.attempt h.link h.low (record { on = h.on; ended = e.1 })
+    ]
+
+    -- the link of a reader whose reading ended early
+    ended_early : (k : ℕ) → Contains fixed_here.early k → ReadingEnded (plan_of script) all outcomes fixed_here gave orders_here links k
+    ended_early k early_ =
+        let is = early_with r.left.ran outcomes (sockets.are P g out inn bytes script reads text links r) (sockets.may P g out inn bytes script reads text links r) (sockets.linked P g out inn bytes script reads text links r) (sockets.long P g out inn bytes script reads text links r) (sockets.reports P g out inn bytes script reads text links r)
+        (sockets.main_later P g out inn bytes script reads text links r) (sockets.others_later P g out inn bytes script reads text links r) (calls script) r.left.readers_are (sockets.asked P g out inn bytes script reads text links r) in
+        let s = early_shown out p q (calls script) 0 (opens script) readers r.left.readers_are k (subst (λ (l : List ℕ). Contains l k) is early_) in
+        let place : s.place ≡ k = (let a = s.link_is in omega (arith, a)) in
+        let b = given_back s.place s.reader (elem_at readers s.place s.reader s.at) in
+        let e : LinkEnd = end_of (out b.end.out) (inn b.end.inn) in
+        let shown : EndsEarly (sockets.gave P g out inn bytes script reads text links r k) e = sockets.shown P g out inn bytes script reads text links r k b.end (ap (slice_get r.ends) (sym place) ∙ b.there) early_ in
+        (e, ap (slice_get links) (sym place) ∙ b.link, inr (subst (λ (f : ℕ → List ℕ). EndsEarly (f k) e) (sym is_gave) shown))
+
+    on_drop : (number : ℕ) (asked : Asked) (code : ℕ) → IsReadCode code → DroppedLink number asked code → WhyRead number asked code (last_attempt notes number)
+    on_drop number asked code read h = elim read [
+      | inl e ↦ AtEnd e h.attempt h.link h.low (record { on = h.on; ended = ended_early h.link h.early })
+      | inr e ↦ AtDrop e h.attempt h.link h.low (record { on = h.on; dropped = h.dropped; failing = h.failing; ended = ended_early h.link h.early })
+    ]
 
     -- ### Calls that failed
 
     of_client : (c i : ℕ) (ts : List Told) (x : Told) → get_elem? r.ended c ≡ some ts → get_elem? ts i ≡ some x → (client number : ℕ) (asked : Asked) → IsOperation all outcomes client number (ops.Call asked) → (id code : ℕ) → x.number ≡ number → x.outcome ≡ CallFailed id code → FailedHere client number asked id code
     of_client c i ts x at there client n asked call id code number outcome =
+        let own : IsOperation all outcomes client x.number (ops.Call asked) = subst (λ (m : ℕ). IsOperation all outcomes client m (ops.Call asked)) (sym number) call in
         let e = ends_with r.left.ran (sockets.are P g out inn bytes script reads text links r) (sockets.may P g out inn bytes script reads text links r) notes last.kept r.rest.words r.rest.closing (sockets.have P g out inn bytes script reads text links r) (telling.keeps P g out inn bytes script reads text links r) outcomes
-        (sockets.reports P g out inn bytes script reads text links r).said (telling.said_ended P g out inn bytes script reads text links r) (attempts.later P g out inn bytes script reads text links r) others (attempts.are_ids P g out inn bytes script reads text links r).made (attempts.own P g out inn bytes script reads text links r) drun seats refl (sockets.differ P g out inn bytes script reads text links r) gave dropped c i ts x at there client asked (subst (λ (m : ℕ). IsOperation all outcomes client m (ops.Call asked)) (sym number) call) in
+        (sockets.reports P g out inn bytes script reads text links r).said (telling.said_ended P g out inn bytes script reads text links r) (attempts.later P g out inn bytes script reads text links r) others (attempts.are_ids P g out inn bytes script reads text links r).made (attempts.own P g out inn bytes script reads text links r) drun seats refl (sockets.differ P g out inn bytes script reads text links r) gave dropped c i ts x at there client asked own in
         let same = same_failure e.0 e.1 id code (sym e.2 ∙ outcome) in
-        let by_number : FailedHere client n asked e.0 e.1 = subst (λ (m : ℕ). FailedHere client m asked e.0 e.1) number e.3 in
-        subst (λ (m : ℕ). FailedHere client n asked id m) same.1 (subst (λ (m : ℕ). FailedHere client n asked m e.1) same.0 by_number)
+        subst (λ (m : ℕ). FailedHere client m asked id code) number (elim e.3 [
+          | inl f ↦ inl (subst (λ (m : ℕ). FailedBy p all outcomes fixed_here gave orders_here client x.number asked id m (last_attempt notes x.number)) same.1 (subst (λ (m : ℕ). FailedBy p all outcomes fixed_here gave orders_here client x.number asked m e.1 (last_attempt notes x.number)) same.0 f))
+          | inr read ↦ inr (by_link own (subst IsReadCode same.1 read))
+        ])
+      where
+        by_link : IsOperation all outcomes client x.number (ops.Call asked) → IsReadCode code → WhyRead x.number asked code (last_attempt notes x.number)
+        by_link own read = elim (told_on r.left.ran (sockets.are P g out inn bytes script reads text links r) (sockets.may P g out inn bytes script reads text links r) notes last.kept r.rest.words r.rest.closing (sockets.have P g out inn bytes script reads text links r) (telling.keeps P g out inn bytes script reads text links r) outcomes
+            (sockets.reports P g out inn bytes script reads text links r).said (telling.said_ended P g out inn bytes script reads text links r) (attempts.later P g out inn bytes script reads text links r) (attempts.are_ids P g out inn bytes script reads text links r).made drun seats refl (sockets.differ P g out inn bytes script reads text links r) gave (sockets.low P g out inn bytes script reads text links r) few_slots few_links bounds Reads read_code queued_so
+            c i ts x at there id code outcome read client asked own) [
+              | inl h ↦ on_link x.number asked code h
+              | inr h ↦ on_drop x.number asked code read h
+            ]
+
+    -- what is given by one of the links is given
+    given_one : (j : ℕ) (x : LinkReader g) → get_elem? readers j ≡ some x → (h : HasPlaceHere j x) (f : Frame) → IsGiven 1 (λ k. reader_gave p q (calls script) x h.is) f → IsGiven (length readers) gave f
+    given_one j x at h f s = record {
+      link = j;
+      place = s.place;
+      whole = (slice_get_within readers j x (slice_at readers j x at), ap (λ (l : List ℕ). slice_get (stream l).frames s.place) (sym (its_bytes j x h)) ∙ s.whole.1);
+      responds = s.responds;
+    }
+
+    of_reader : (c i : ℕ) (ts : List Told) (x : Told) → get_elem? r.read c ≡ some ts → get_elem? ts i ≡ some x → (client : ℕ) (asked : Asked) → IsOperation all outcomes client x.number (ops.Call asked) → (id code : ℕ) → x.outcome ≡ CallFailed id code → FailedHere client x.number asked id code
+    of_reader c i ts x at there client asked call id code outcome =
+        let m = mapped_from (λ (y : LinkReader g). y.books.told) readers c ts (ap (λ (l : List (List Told)). get_elem? l c) r.left.read_is ∙ at) in
+        let h = at_place c m.0 m.1 in
+        let Ended : Told → Type 0 = ToldBy p q (calls script) m.0 h.is (length readers) gave in
+        let w : Ended x = all_at Ended m.0.books.told i x (reader_tells p q (calls script) m.0 h.is (length readers) gave (given_one c m.0 m.1 h)) (ap (λ (l : List Told). get_elem? l i) m.2 ∙ there) in
+        by m.0 m.1 h w.0 w.1 w.2
+      where
+        by : (y : LinkReader g) → get_elem? readers c ≡ some y → (h : HasPlaceHere c y) (own : ℕ) → ReadEnded p q (calls script) y h.is own → ToldEnd q (length readers) gave own (IsPostFor q y.link) y.books.view x → FailedHere client x.number asked id code
+        by y here h own ended t =
+            let view = h.is.view_is in
+            let notes_ : (slot : ℕ) (f : Note Asked → ℕ) → total f (notes_in slot y.books.view.notes) ≤ total f (notes_in slot notes) = λ slot f. (let a = reader_notes c y here slot f in let b = ap (λ (v : View Asked). total f (notes_in slot v.notes)) view in omega (arith, a, b)) in
+            elim (told_why r.left.ran (sockets.are P g out inn bytes script reads text links r) (sockets.may P g out inn bytes script reads text links r) notes last.kept r.rest.words r.rest.closing (sockets.have P g out inn bytes script reads text links r) (telling.keeps P g out inn bytes script reads text links r) outcomes
+            drun seats refl (sockets.differ P g out inn bytes script reads text links r) gave (log_accepted drun (sockets.differ P g out inn bytes script reads text links r) (λ k. [])) few_slots few_links (asked_so r.left.ran (sockets.are P g out inn bytes script reads text links r) (sockets.may P g out inn bytes script reads text links r) notes last.kept r.rest.words r.rest.closing (sockets.have P g out inn bytes script reads text links r) outcomes (attempts.later P g out inn bytes script reads text links r)) Reads
+            (length readers) few_readers (attempts.are_ids P g out inn bytes script reads text links r).made own (IsPostFor q y.link) y.books.view notes_ x t id code outcome client asked call (last_attempt notes x.number)) [
+              | inl f ↦ inl f
+              | inr l ↦ inr (on_link x.number asked code (subst (EndedLink x.number asked) l.0
+                  (by_reader r.left.ran (sockets.are P g out inn bytes script reads text links r) (sockets.may P g out inn bytes script reads text links r) notes last.kept r.rest.words r.rest.closing (sockets.have P g out inn bytes script reads text links r) (telling.keeps P g out inn bytes script reads text links r) outcomes
+                  drun seats refl (sockets.differ P g out inn bytes script reads text links r) gave (log_accepted drun (sockets.differ P g out inn bytes script reads text links r) (λ k. [])) few_slots few_links (asked_so r.left.ran (sockets.are P g out inn bytes script reads text links r) (sockets.may P g out inn bytes script reads text links r) notes last.kept r.rest.words r.rest.closing (sockets.have P g out inn bytes script reads text links r) outcomes (attempts.later P g out inn bytes script reads text links r)) Reads
+                  y.link own y.books.view (λ word post. posted_by c y here h own ended word (subst (λ (v : View Asked). IsPost q y.link v word) (sym view) post)) x.number l.1 client asked call)))
+            ]
+
+    -- the one that ended what was left told the rest
+    rest_told : AllByRecursion (ToldEnd q (length readers) gave EEOF (λ v slot w. Unit {0}) last) r.last
+    rest_told =
+        let tells = (rest_step q (length readers) gave EEOF (λ v slot w. Unit {0}) (λ u v l slot w k. tt) (λ v slot w. tt) (calls script) main r.rest.last r.rest.rest).tells
+        (subst (λ (f : ℕ → List ℕ). AreGiven (length readers) f main.early) (sym is_gave) (subst (λ (l : List Answer). AreGiven (length readers) (sockets.gave P g out inn bytes script reads text links r) l) (sym (early_of r.left)) (early_given p q (calls script) (opens script) readers r.left.readers_are))) in
+        subst (AllByRecursion (ToldEnd q (length readers) gave EEOF (λ v slot w. Unit {0}) last)) (sym (r.rest.told_is ∙ tells.told)) tells.each
+
+    of_rest : (i : ℕ) (x : Told) → get_elem? r.last i ≡ some x → (client : ℕ) (asked : Asked) → IsOperation all outcomes client x.number (ops.Call asked) → (id code : ℕ) → x.outcome ≡ CallFailed id code → FailedHere client x.number asked id code
+    of_rest i x there client asked call id code outcome =
+        elim (told_why r.left.ran (sockets.are P g out inn bytes script reads text links r) (sockets.may P g out inn bytes script reads text links r) notes last.kept r.rest.words r.rest.closing (sockets.have P g out inn bytes script reads text links r) (telling.keeps P g out inn bytes script reads text links r) outcomes
+        drun seats refl (sockets.differ P g out inn bytes script reads text links r) gave (log_accepted drun (sockets.differ P g out inn bytes script reads text links r) (λ k. [])) few_slots few_links (asked_so r.left.ran (sockets.are P g out inn bytes script reads text links r) (sockets.may P g out inn bytes script reads text links r) notes last.kept r.rest.words r.rest.closing (sockets.have P g out inn bytes script reads text links r) outcomes (attempts.later P g out inn bytes script reads text links r)) Reads
+        (length readers) few_readers (attempts.are_ids P g out inn bytes script reads text links r).made EEOF (λ v slot w. Unit {0}) last (λ slot f. omega arith) x (all_at (ToldEnd q (length readers) gave EEOF (λ v slot w. Unit {0}) last) r.last i x rest_told there) id code outcome client asked call (last_attempt notes x.number)) [
+          | inl f ↦ inl f
+          | inr l ↦ inr (LeftOver (sym l.0))
+        ]
 
     failed_here : (client id code : ℕ) (t : Task) (asked : Asked) → IsTask all outcomes client t → t.op ≡ ops.Call asked → Became all outcomes t.number (CallFailed id code) → FailedHere client t.number asked id code
     failed_here client id code t asked is op became = elim (told_each (replicate (plan_of script).operations None) ((r.told ++ (r.ended ++ r.read)) ++ r.last ∷ []) t.number (CallFailed id code) became) [
@@ -162,6 +383,9 @@ module _ (P : Type 0) {O I : Type 0} (g : Ghosts O) (out : O → OutState) (inn 
         call : IsOperation all outcomes client t.number (ops.Call asked)
         call = subst (λ (x : Op). IsTask all outcomes client record { number = t.number; op = x }) op is
 
+        its_call : (x : Told) → x.number ≡ t.number → IsOperation all outcomes client x.number (ops.Call asked)
+        its_call x number = subst (λ (m : ℕ). IsOperation all outcomes client m (ops.Call asked)) (sym number) call
+
         -- a client tells no call of its own to have failed
         own_told : (d j : ℕ) (ts : List Told) (x : Told) → get_elem? r.told d ≡ some ts → get_elem? ts j ≡ some x → IsOwn x
         own_told d j ts x at there = all_at IsOwn ts j x (all_at (λ (us : List Told). AllByRecursion IsOwn us) r.told d ts (clients.owns out p q r.left.setup r.left.clients (opens script) r.told r.ended r.left.ran.seats own_ids r.left.ran.ran) at) there
@@ -171,15 +395,15 @@ module _ (P : Type 0) {O I : Type 0} (g : Ghosts O) (out : O → OutState) (inn 
         by x number outcome d j ts there (inr over) = elim (split (r.ended ++ r.read) (r.last ∷ []) over.0 ts over.1) [
           | inl h ↦ elim (split r.ended r.read over.0 ts h) [
             | inl at ↦ of_client over.0 j ts x at there client t.number asked call id code number outcome
-            | inr at ↦ inr (all_at HasReadCode ts j x (all_at (AllByRecursion HasReadCode) r.read at.0 ts read_codes at.1) there id code outcome)
+            | inr at ↦ subst (λ (m : ℕ). FailedHere client m asked id code) number (of_reader at.0 j ts x at.1 there client asked (its_call x number) id code outcome)
           ]
-          | inr at ↦ inr (all_at HasReadCode r.last j x last_codes (ap (λ (l : List Told). get_elem? l j) (only_one r.last at.0 ts at.1) ∙ there) id code outcome)
+          | inr at ↦ subst (λ (m : ℕ). FailedHere client m asked id code) number (of_rest j x (ap (λ (l : List Told). get_elem? l j) (only_one r.last at.0 ts at.1) ∙ there) client asked (its_call x number) id code outcome)
         ]
 
     -- ### Over the tables without the readers' seats
 
     pub failed : (client id code : ℕ) (t : Task) (asked : Asked) → IsTask all outcomes client t → t.op ≡ ops.Call asked → Became all outcomes t.number (CallFailed id code)
-        → FailedBy (plan_of script) all outcomes (sockets.fixed P g out inn bytes script reads text links r) gave (orders drun (sockets.differ P g out inn bytes script reads text links r)) client t.number asked id code (last_attempt notes t.number) ⊎ IsReadCode code
+        → FailedBy (plan_of script) all outcomes (sockets.fixed P g out inn bytes script reads text links r) gave (orders drun (sockets.differ P g out inn bytes script reads text links r)) client t.number asked id code (last_attempt notes t.number) ⊎ WhyRead t.number asked code (last_attempt notes t.number)
     failed client id code t asked is op became = elim (failed_here client id code t asked is op became) [
       | inl f ↦ inl (failure_still (plan_of script) p.seats all outcomes (sockets.fixed P g out inn bytes script reads text links r) gave (orders drun (sockets.differ P g out inn bytes script reads text links r)) client t.number asked id code (last_attempt notes t.number) f)
       | inr read ↦ inr read
@@ -196,4 +420,4 @@ module _ (P : Type 0) {O I : Type 0} (g : Ghosts O) (out : O → OutState) (inn 
         → WhyExpire (plan_of script) all outcomes (sockets.fixed P g out inn bytes script reads text links r) gave (orders drun (sockets.differ P g out inn bytes script reads text links r)) (last_attempt notes) client t.number of by
     expires client of t by is op became why = expire_still (plan_of script) p.seats all outcomes (sockets.fixed P g out inn bytes script reads text links r) gave (orders drun (sockets.differ P g out inn bytes script reads text links r)) (last_attempt notes) client t.number of by
         (expires_with r.left.ran (sockets.are P g out inn bytes script reads text links r) (sockets.may P g out inn bytes script reads text links r) notes last.kept r.rest.words r.rest.closing (sockets.have P g out inn bytes script reads text links r) outcomes drun seats refl (sockets.differ P g out inn bytes script reads text links r) gave
-        (sockets.low P g out inn bytes script reads text links r) few_links bounds (telling.keeps P g out inn bytes script reads text links r) (sockets.reports P g out inn bytes script reads text links r).said (telling.said_ended P g out inn bytes script reads text links r) others (last_attempt notes) client of t by is op became why)
+        (sockets.low P g out inn bytes script reads text links r) low_links bounds (telling.keeps P g out inn bytes script reads text links r) (sockets.reports P g out inn bytes script reads text links r).said (telling.said_ended P g out inn bytes script reads text links r) others (last_attempt notes) client of t by is op became why)

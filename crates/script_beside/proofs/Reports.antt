@@ -94,12 +94,12 @@ module _ (P : Type 0) {O I : Type 0} (out : O → OutState) (inn : I → InState
 
   -- how many attempts its calls made, and why; why each `expire` has its outcome, and why calls failed
   abbrev AreCalls : Fixed → (ℕ → List ℕ) → (ℕ → Order) → Type 0
-  AreCalls fixed given orders = (a : AreAttemptsTold (plan_of script) (all_tasks script) outcomes fixed given orders) × AreCallsTold (plan_of script) (all_tasks script) outcomes fixed given orders a.last
+  AreCalls fixed given orders = (a : AreAttemptsTold (plan_of script) (all_tasks script) outcomes fixed given orders) × AreCallsTold (plan_of script) (all_tasks script) outcomes fixed given orders a.last links
 
-  known : (bytes : List ℕ) (reads : script_of bytes ≡ Ok script) (given : ℕ → List ℕ) → AreCalls (fixed P g out inn bytes script reads text links r) given (orders (run P g out inn bytes script reads text links r) (differ P g out inn bytes script reads text links r))
-  known bytes reads given = (
+  known : (bytes : List ℕ) (reads : script_of bytes ≡ Ok script) (given : ℕ → List ℕ) → given ≡ gave → AreCalls (fixed P g out inn bytes script reads text links r) given (orders (run P g out inn bytes script reads text links r) (differ P g out inn bytes script reads text links r))
+  known bytes reads given is = (
     attempts_beside P g out inn bytes script reads text links r given,
-    subst (λ (last : ℕ → ℕ). AreCallsTold (plan_of script) (all_tasks script) outcomes (fixed P g out inn bytes script reads text links r) given (orders (run P g out inn bytes script reads text links r) (differ P g out inn bytes script reads text links r)) last) (sym (attempts_last P g out inn bytes script reads text links r given)) (calls_beside P g out inn bytes script reads text links r given),
+    subst (λ (last : ℕ → ℕ). AreCallsTold (plan_of script) (all_tasks script) outcomes (fixed P g out inn bytes script reads text links r) given (orders (run P g out inn bytes script reads text links r) (differ P g out inn bytes script reads text links r)) last links) (sym (attempts_last P g out inn bytes script reads text links r given)) (calls_beside P g out inn bytes script reads text links r given is),
   )
 
   -- its answers, by what the links gave, and with them why each operation on sockets has its outcome, and what is told of calls

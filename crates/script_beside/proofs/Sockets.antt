@@ -119,7 +119,7 @@ module _ (P : Type 0) {O I : Type 0} (g : Ghosts O) (out : O → OutState) (inn 
 
   -- ## What is told of calls that ended
 
-  abbrev gave : ℕ → List ℕ
+  abbrev pub gave : ℕ → List ℕ
   gave = gave_beside p q (calls script) (opens script) readers readers_are
 
   -- by whoever tells from the notes of all
@@ -198,7 +198,7 @@ module _ (P : Type 0) {O I : Type 0} (g : Ghosts O) (out : O → OutState) (inn 
 
   -- ## The links as they were given back
 
-  abbrev end_at : Ends O I P → LinkEnd
+  abbrev pub end_at : Ends O I P → LinkEnd
   end_at e = end_of (out e.out) (inn e.inn)
 
   abbrev out_at : Ends O I P → OutState
@@ -207,11 +207,11 @@ module _ (P : Type 0) {O I : Type 0} (g : Ghosts O) (out : O → OutState) (inn 
   outs_are : map out_at r.ends ≡ map out r.left.outs
   outs_are = map_twice (λ (e : Ends O I P). e.out) out r.ends ∙ ap (map out) r.halves
 
-  as_many : length r.ends ≡ p.links
+  pub as_many : length r.ends ≡ p.links
   as_many = let a = length-map r.ends out_at in let b = length-map r.left.outs out in let c = ap length outs_are in let d = r.left.ran.closed.count in omega arith
 
   -- the link whose reading ended early shows it
-  shown : (k : ℕ) (e : Ends O I P) → slice_get r.ends k ≡ Some e → Contains (early run) k → EndsEarly (gave k) (end_at e)
+  pub shown : (k : ℕ) (e : Ends O I P) → slice_get r.ends k ≡ Some e → Contains (early run) k → EndsEarly (gave k) (end_at e)
   shown k e at there =
       let is = early_with r.left.ran outcomes are may linked long reports main_later others_later (calls script) readers_are asked in
       let s = early_shown out p q (calls script) 0 (opens script) readers readers_are k (subst (λ (l : List ℕ). Contains l k) is there) in
@@ -262,7 +262,7 @@ module _ (P : Type 0) {O I : Type 0} (g : Ghosts O) (out : O → OutState) (inn 
     sockets_are ends back givers Q q = q
 
   -- the same beside the answers over these links, which are by what the links gave; and what else is known of the run
-  pub answered_sockets : (Q : Fixed → (ℕ → List ℕ) → (ℕ → Order) → Type 0) → ((given : ℕ → List ℕ) → Q fixed given (orders run differ)) → (a : AreAnsweredBy (operations script) outcomes (map end_at r.ends)) → a.gave ≡ gave
+  pub answered_sockets : (Q : Fixed → (ℕ → List ℕ) → (ℕ → Order) → Type 0) → ((given : ℕ → List ℕ) → given ≡ gave → Q fixed given (orders run differ)) → (a : AreAnsweredBy (operations script) outcomes (map end_at r.ends)) → a.gave ≡ gave
       → (b : AreAnsweredBy (operations script) outcomes links) × (s : AreSocketsBeside script outcomes r.places b.gave links) × Q (fixed_by s.broken s.early s.fails) b.gave s.orders
   answered_sockets Q known a is = subst (λ (l : List LinkEnd). (b : AreAnsweredBy (operations script) outcomes l) × (s : AreSocketsBeside script outcomes r.places b.gave l) × Q (fixed_by s.broken s.early s.fails) b.gave s.orders) (sym r.given_back)
-      (a, sockets_beside a.gave is (map end_at r.ends) refl a.givers, sockets_are a.gave is (map end_at r.ends) refl a.givers Q (known a.gave))
+      (a, sockets_beside a.gave is (map end_at r.ends) refl a.givers, sockets_are a.gave is (map end_at r.ends) refl a.givers Q (known a.gave is))

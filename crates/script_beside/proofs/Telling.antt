@@ -69,7 +69,7 @@ module _ (P : Type 0) {O I : Type 0} (g : Ghosts O) (out : O → OutState) (inn 
   abbrev behind : List IdSeat
   behind = map (λ (x : LinkReader g). x.ids) readers
 
-  taken : main.view.kept ≡ flat_map (λ (v : View Asked). v.kept) (map view_of r.ids ++ map view_of behind)
+  pub taken : main.view.kept ≡ flat_map (λ (v : View Asked). v.kept) (map view_of r.ids ++ map view_of behind)
   taken = kept_of r.left r.rest ∙ (flat_mapped view_of (λ (v : View Asked). v.kept) (all_seats r.left) ∙ ap (flat_map (λ (v : View Asked). v.kept)) (map_append view_of r.ids behind))
 
   -- readers stored nothing

@@ -109,8 +109,8 @@ pub record IsBesideText (script : List Item) (text : List ℕ) (ends : List Link
   pub sockets : AreSocketsBeside script outcomes places answered.gave ends
   -- no call made more attempts than it may; and each message that a link accepted is that of a `send` of which nothing is said, or of an attempt of a call, with the id that the call's outcome shows
   pub attempts : AreAttemptsTold (plan_of script) (all_tasks script) outcomes (fixed_by sockets.broken sockets.early sockets.fails) answered.gave sockets.orders
-  -- each `expire` has its cause, and so has each call that failed, but where whoever read its link ended it, and each attempt behind another
-  pub on_calls : AreCallsTold (plan_of script) (all_tasks script) outcomes (fixed_by sockets.broken sockets.early sockets.fails) answered.gave sockets.orders attempts.last
+  -- each `expire` has its cause, and so has each call that failed: also one that whoever read its link ended, by which link's end or fault; and each attempt behind another
+  pub on_calls : AreCallsTold (plan_of script) (all_tasks script) outcomes (fixed_by sockets.broken sockets.early sockets.fails) answered.gave sockets.orders attempts.last ends
   -- and each `join` has its cause
   pub joins : AreJoinsTold (plan_of script) (all_tasks script) outcomes (fixed_by sockets.broken sockets.early sockets.fails) answered.gave sockets.orders
   -- no two operations have the end of one call as their outcome, of those whose ids are in the slots that the calls of the script have

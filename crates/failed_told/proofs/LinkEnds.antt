@@ -1,0 +1,112 @@
+-- By which link's reading each call ended that a client told to have failed with a code of whoever reads links.
+use Rattle.std.proofs.Common.{◌≡◌, ℕ, ◌<◌, ◌≤◌, ◌⊎◌, inl, inr, List, [], ◌∷◌, map, refl, sym, ap, ◌∙◌, subst, arith}
+use Rattle.std.specs.Prelude.{Option}
+use mathlib.Core.Option.{some}
+use lib.ListN.{get_elem?}
+use Rattle.sock_io.specs.declared.link.Out.{Ghosts}
+use Rattle.sock_io.specs.Link.{OutState}
+use Rattle.sock_words.specs.declared.outcome.Outcome.{Outcome}
+use Rattle.sock_words.specs.declared.outcome.Outcome.TheVariants.{CallFailed}
+use Rattle.sock_words.specs.declared.plain.Plan.{Plan}
+use Rattle.sock_words.specs.declared.place_word.PlaceWord.{PlaceWord}
+use Rattle.sock_words.specs.declared.vref.Vref.{Vref}
+use Rattle.expire_told.specs.sock_rule.specs.Closing.{PlacesDiffer}
+use Rattle.seat_programs.specs.declared.task.Op.TheVariants as ops
+use Rattle.seat_programs.specs.declared.task.Task.{Task}
+use Rattle.seat_programs.specs.Told.{AreTasks, IsTask}
+use Rattle.corr_core.specs.Law.{total}
+use Rattle.corr_core.specs.Word.{parts}
+use Rattle.corr_core.specs.declared.marks.Kept.{Kept}
+use Rattle.corr_core.specs.declared.marks.Note.TheVariants.{Made}
+use Rattle.corr_core.specs.declared.marks.Noted.{Noted}
+use Rattle.corr_core.specs.declared.marks.View.{View}
+use Rattle.id_rule.specs.Lawful.{notes_of}
+use Rattle.sock_message.specs.Asked.{Asked}
+use Rattle.corr_id.specs.Closing.{Closing}
+use Rattle.expire_told.specs.rpc_client.specs.declared.acting.Told.{Told}
+use Rattle.expire_told.specs.call_errors.specs.Locking.{id_in}
+use Rattle.expire_told.specs.call_run.specs.Readers.{LinkReader}
+use Rattle.expire_told.specs.call_run.specs.Threads.{Thread, RanWith, MayRunAll, ids_of}
+use Rattle.expire_told.specs.call_places.specs.Counted.{HaveNotesOf}
+use Rattle.expire_told.specs.call_places.proofs.Clients.{Client, view_of, tasks_of, deeds_of}
+use Rattle.expire_told.specs.call_places.proofs.Places.{all as all_clients, all_are}
+use Rattle.expire_told.specs.call_told.proofs.Lists.{all_at}
+use Rattle.expire_told.specs.call_deeds.specs.Retried.{all_asked}
+use Rattle.expire_told.specs.call_deeds.proofs.Ran.{AreLater}
+use Rattle.expire_told.specs.Said.{AreSaid, HaveKeptOf}
+use Rattle.expire_told.proofs.Making.{mapped_from}
+use Rattle.expire_told.specs.sock_deeds.specs.Runs.{IsOperation, seat_of, DeedRun}
+use Rattle.expire_told.specs.sock_deeds.proofs.Accepting.{log}
+use Rattle.expire_told.specs.sock_deeds.proofs.Tasks.{same_task}
+use Rattle.expire_told.specs.sock_deeds.proofs.Whole.{log_accepted}
+use Rattle.attempts_told.proofs.Told.{same_asked}
+use Rattle.failed_told.specs.Reasons.{IsCaused}
+use Rattle.failed_told.proofs.ByLinks.{EndedOn, QueuedSo, weak, DroppedSo, client_why, same_end}
+use Rattle.failed_told.proofs.Clients.{Says, ended_caused}
+use Rattle.failed_told.proofs.Codes.{IsReadCode}
+use Rattle.failed_told.proofs.Drops.{DroppedOn, read_dropped}
+use Rattle.failed_told.proofs.Premises.{asked_so as asked_here}
+use Rattle.failed_told.proofs.Verdicts.{made_so}
+use Rattle.failed_told.proofs.Views.{queued_in}
+
+module _ {O : Type 0} {g : Ghosts O} {state : O → OutState} {readers : List (LinkReader g)} {p : Plan} {slots : ℕ} {setup : List Task} {clients : List (List Task)} {opens : List ℕ} {told ended : List (List Told)} {places : List PlaceWord} {vrefs : List Vref} {outs : List O} {ids : List (View Asked)}
+    (run : RanWith g state readers p slots setup clients opens told ended places vrefs outs ids) (tasks : AreTasks p (setup ∷ clients)) (may : MayRunAll p (ids_of p slots) setup clients)
+    (notes : List (Noted Asked)) (kept : List Kept) (words : List ℕ) (closing : Closing (ids_of p slots) notes kept words) (noted : HaveNotesOf ids notes) (keeps : HaveKeptOf ids kept)
+    (outcomes : List (Option Outcome)) (said_own : AreSaid outcomes told) (said_ended : AreSaid outcomes ended)
+    (later : (c : ℕ) (x : Client g state p (ids_of p slots)) → get_elem? (all_clients run) c ≡ some x → AreLater (setup ∷ clients) outcomes (all_asked x.thread x.is))
+    (made : (i j f r : ℕ) (asked : Asked) → i < slots → get_elem? (notes_of i notes) j ≡ some (Made f r asked) → (c : ℕ) × IsTask (setup ∷ clients) outcomes c record { number = asked.operation; op = ops.Call asked } × (r ≡ asked.range))
+    (drun : DeedRun g state p (setup ∷ clients) outcomes places vrefs outs) (seats : map seat_of drun.seats ≡ map (λ (x : Thread g). x.ended.seat) (run.ran.main ∷ run.ran.others)) (logged : log drun ≡ run.closed.ordered.log)
+    (differ : PlacesDiffer (log drun)) (gave : ℕ → List ℕ) (few : p.operations ≤ 65536) (few_slots : slots ≤ 65536) (few_links : p.links < 65536)
+    -- the codes that a `fail` may have in a script
+    (bounds : (client number name code : ℕ) → IsOperation (setup ∷ clients) outcomes client number (ops.Fail name code) → (1500 ≤ code) × (code ≤ 1999))
+    -- the reading of this link ended with this code
+    (Reads : ℕ → ℕ → Type 0) (read_code : (link code : ℕ) → Reads link code → IsReadCode code) where
+  abbrev every : List (List Task)
+  every = setup ∷ clients
+
+  pub low_links : p.links ≤ 65536
+  low_links = omega (arith, few_links)
+
+  abbrev pub EndedHere : ℕ → Asked → ℕ → Type 0
+  EndedHere o asked code = EndedOn run tasks may notes kept words closing noted keeps outcomes drun seats logged differ gave (log_accepted drun differ (λ k. [])) few_slots few_links (asked_here run tasks may notes kept words closing noted outcomes later) Reads o asked code
+
+  abbrev pub DroppedHere : ℕ → Asked → ℕ → Type 0
+  DroppedHere o asked code = DroppedOn run tasks may notes kept words closing noted outcomes drun seats logged differ gave (log_accepted drun differ (λ k. [])) few (low_links) bounds o asked code
+
+  abbrev pub QueuedHere : ℕ → ℕ → ℕ → Type 0
+  QueuedHere i first e = QueuedSo run tasks may notes kept words closing noted keeps outcomes drun seats logged differ gave (log_accepted drun differ (λ k. [])) few_slots few_links (asked_here run tasks may notes kept words closing noted outcomes later) Reads i first e
+
+  -- what no client queued, a reader did
+  module _ (others : (i first e : ℕ) → 0 < queued_in i first e notes → (0 < total (λ (v : View Asked). queued_in i first e v.notes) ids) ⊎ QueuedHere i first e) where
+    of_client : (c : ℕ) (x : Client g state p (ids_of p slots)) (at : get_elem? (all_clients run) c ≡ some x) (one : Told) (e : IsCaused state p (ids_of p slots) (tasks_of x) (Says run outcomes said_own) (deeds_of x) (view_of x) one) → IsReadCode e.code → (client : ℕ) (asked : Asked) → IsOperation every outcomes client e.lock.content.operation (ops.Call asked)
+        → EndedHere e.lock.content.operation asked e.code ⊎ DroppedHere e.lock.content.operation asked e.code
+    of_client c x at one e read client asked task =
+        elim (client_why run tasks may notes kept words closing noted keeps outcomes drun seats logged differ gave (log_accepted drun differ (λ k. [])) few_slots few_links (asked_here run tasks may notes kept words closing noted outcomes later) Reads said_own said_ended others read_code c x at one e read client asked task) [
+          | inl h ↦ inl h
+          | inr d ↦ inr (by d)
+        ]
+      where
+        its : (call : Asked) × (j : ℕ) × (call.operation ≡ e.lock.content.operation) × (get_elem? (notes_of e.lock.slot notes) j ≡ some (Made (parts e.lock.word.0).first (parts e.lock.word.0).range call))
+        its = made_so run tasks may notes kept words closing noted keeps outcomes said_own said_ended (weak run tasks may notes kept words closing noted keeps outcomes drun seats logged differ gave (log_accepted drun differ (λ k. [])) few_slots few_links (asked_here run tasks may notes kept words closing noted outcomes later) Reads said_own said_ended others read_code) c x at one e
+
+        by : DroppedSo run tasks may notes kept words closing noted keeps outcomes drun seats logged differ gave (log_accepted drun differ (λ k. [])) few_slots few_links (asked_here run tasks may notes kept words closing noted outcomes later) Reads said_own said_ended others read_code c x at one e → DroppedHere e.lock.content.operation asked e.code
+        by d =
+            let m = its in
+            let w = made e.lock.slot m.1 (parts e.lock.word.0).first (parts e.lock.word.0).range m.0 e.cause.inside m.3 in
+            let s = same_task drun w.0 client record { number = m.0.operation; op = ops.Call m.0 } record { number = e.lock.content.operation; op = ops.Call asked } w.1 task m.2 in
+            let same : m.0 ≡ asked = same_asked m.0 asked (ap (λ (t : Task). t.op) s.1) in
+            let dropped : DroppedHere m.0.operation m.0 e.code = read_dropped run tasks may notes kept words closing noted outcomes drun seats logged differ gave (log_accepted drun differ (λ k. [])) few (low_links) bounds d.place d.client d.in_crew (id_in e.lock) e.code d.attempt d.drop read
+            e.lock.slot (parts e.lock.word.0).first (parts e.lock.word.0).range m.1 m.0 e.cause.inside (let l = e.lock.fits.low in omega (arith, l)) refl m.3 w.0 w.1 in
+            subst (λ (o : ℕ). DroppedHere o asked e.code) m.2 (subst (λ (a : Asked). DroppedHere m.0.operation a e.code) same dropped)
+
+    -- of each end that is told behind the operations of a client
+    pub told_on : (c i : ℕ) (ts : List Told) (one : Told) → get_elem? ended c ≡ some ts → get_elem? ts i ≡ some one → (id code : ℕ) → one.outcome ≡ CallFailed id code → IsReadCode code → (client : ℕ) (asked : Asked) → IsOperation every outcomes client one.number (ops.Call asked) → EndedHere one.number asked code ⊎ DroppedHere one.number asked code
+    told_on c i ts one at there id code is read client asked task =
+        let f : Thread g → List Told = λ x. x.ended.calls.told.items in
+        let w = mapped_from (λ (x : Client g state p (ids_of p slots)). f x.thread) (all_clients run) c ts (ap (λ (l : List (List Told)). get_elem? l c) (all_are run f ∙ run.ran.ended_is) ∙ at) in
+        let Caused : Told → Type 0 = IsCaused state p (ids_of p slots) (tasks_of w.0) (Says run outcomes said_own) (deeds_of w.0) (view_of w.0) in
+        let e : Caused one = all_at Caused w.0.thread.ended.calls.told.items i one (ended_caused run outcomes said_own c w.0 w.1).1 (ap (λ (l : List Told). get_elem? l i) w.2 ∙ there) in
+        let number : one.number ≡ e.lock.content.operation = ap (λ (t : Told). t.number) e.is in
+        let same : e.code ≡ code = same_end (id_in e.lock) e.code id code (sym (ap (λ (t : Told). t.outcome) e.is) ∙ is) in
+        let why = of_client c w.0 w.1 one e (subst IsReadCode (sym same) read) client asked (subst (λ (n : ℕ). IsOperation every outcomes client n (ops.Call asked)) number task) in
+        subst (λ (z : ℕ). EndedHere one.number asked z ⊎ DroppedHere one.number asked z) same (subst (λ (n : ℕ). EndedHere n asked e.code ⊎ DroppedHere n asked e.code) (sym number) why)

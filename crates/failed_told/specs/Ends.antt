@@ -1,0 +1,35 @@
+-- By which link's end or fault a call failed that whoever read the links ended.
+use Rattle.std.specs.Prelude.{ℕ, ◌≡◌, ◌≤◌, ◌⊎◌, true, List, slice_get, Option, Some, IfSome}
+use Rattle.sock_words.specs.Codes.{EEOF, ERESPONSE}
+use Rattle.sock_words.specs.declared.outcome.Outcome.{Outcome}
+use Rattle.sock_words.specs.declared.plain.Plan.{Plan}
+use Rattle.sock_message.specs.Asked.{Asked, name_of}
+use Rattle.sock_message.specs.brpc_model.specs.Link.{LinkEnd}
+use Rattle.expire_told.specs.report_fits.specs.Ends.{EndsEarly}
+use Rattle.seat_programs.specs.declared.task.Task.{Task}
+use Rattle.seat_programs.specs.ToldCalls.{Fixed, Order, GaveFault, MayBeOn, IsDropped, IsFailing}
+
+module _ (p : Plan) (clients : List (List Task)) (outcomes : List (Option Outcome)) (fixed : Fixed) (gave : ℕ → List ℕ) (orders : ℕ → Order) (ends : List LinkEnd) where
+  -- the reading of link k ended without a fault, as the link shows that was given back: its other end had closed it, as far as it tells that; or its reading ended early
+  abbrev pub ReadingEnded : ℕ → Type 0
+  ReadingEnded k = (e : LinkEnd) × (slice_get ends k ≡ Some e) × (IfSome e.closed (λ closed. closed ≡ true) ⊎ EndsEarly (gave k) e)
+
+  -- this attempt may be on k, whose reading ended
+  pub record LostWith (o n name k : ℕ) : Type 0 where
+    pub on : MayBeOn p clients outcomes fixed gave orders o n name k
+    pub ended : ReadingEnded k
+
+  -- the message of this attempt, which may be on k alone, was dropped, since the reader of k, whose reading ended early, had set its socket failed
+  pub record DroppedWith (o n name k : ℕ) : Type 0 where
+    pub on : MayBeOn p clients outcomes fixed gave orders o n name k
+    pub dropped : IsDropped p clients outcomes fixed gave orders o n
+    pub failing : IsFailing p clients outcomes fixed gave orders k
+    pub ended : ReadingEnded k
+
+  -- How the call that is operation o, whose last attempt this is, was ended with the code by whoever read the links: at a fault in what the link of one of its attempts gave, or as the reading of that link ended otherwise;
+  -- or since a message was dropped for which the reader of the link had set the socket failed with the code of a fault. Or it was one of those that were left when no link was read any more
+  pub data EndedByReading (o : ℕ) (asked : Asked) (code last : ℕ) : Type 0 where
+    AtFault : code ≡ ERESPONSE → (n k : ℕ) → n ≤ last → MayBeOn p clients outcomes fixed gave orders o n (name_of asked n) k → GaveFault p clients outcomes fixed gave orders k → EndedByReading o asked code last
+    AtEnd : code ≡ EEOF → (n k : ℕ) → n ≤ last → LostWith o n (name_of asked n) k → EndedByReading o asked code last
+    AtDrop : code ≡ ERESPONSE → (n k : ℕ) → n ≤ last → DroppedWith o n (name_of asked n) k → EndedByReading o asked code last
+    LeftOver : code ≡ EEOF → EndedByReading o asked code last
