@@ -10,7 +10,7 @@ use Rattle.seat_programs.specs.Scripts.{all_tasks}
 use Rattle.seat_programs.specs.Tasks.{plan_of}
 use Rattle.seat_programs.specs.Told.{IsTask, Became}
 use Rattle.seat_programs.specs.ToldCalls.{StandsOn, FailedBy, WhyAgain}
-use Rattle.calls_done.specs.Done.{IsReadCode}
+use Rattle.failed_told.specs.Ends.{EndedByReading}
 use Rattle.callless_fits.proofs.Sends.{ToldRun}
 use Rattle.callless_fits.specs.sock_deeds.specs.Told.{fixed_by}
 use Rattle.call_told.specs.Answers.{HaveAnswers, ends_call}
@@ -24,9 +24,10 @@ pub record Known : Type 0 where
   pub run : ToldRun
   -- each answer among the outcomes is a response that a link gave
   pub answers : HaveAnswers (length run.ends) run.gave (operations run.script) run.outcomes
-  -- each call that failed has its code, but where whoever read the links ended it, and each attempt of a call but the last was followed by another
+  -- each call that failed has its code, also where whoever read the links ended it, and each attempt of a call but the last was followed by another
   pub failed : (client id code : ℕ) (t : Task) (asked : Asked) → IsTask (all_tasks run.script) run.outcomes client t → t.op ≡ ops.Call asked → Became (all_tasks run.script) run.outcomes t.number (CallFailed id code) →
-      FailedBy (plan_of run.script) (all_tasks run.script) run.outcomes (fixed_by run.broken run.early run.fails) run.gave run.orders client t.number asked id code (run.last t.number) ⊎ IsReadCode code
+      FailedBy (plan_of run.script) (all_tasks run.script) run.outcomes (fixed_by run.broken run.early run.fails) run.gave run.orders client t.number asked id code (run.last t.number)
+      ⊎ EndedByReading (plan_of run.script) (all_tasks run.script) run.outcomes (fixed_by run.broken run.early run.fails) run.gave run.orders run.ends t.number asked code (run.last t.number)
   pub again : (client : ℕ) (t : Task) (asked : Asked) → IsTask (all_tasks run.script) run.outcomes client t → t.op ≡ ops.Call asked → (n : ℕ) → n < run.last t.number →
       WhyAgain (plan_of run.script) (all_tasks run.script) run.outcomes (fixed_by run.broken run.early run.fails) run.gave run.orders client t.number n (name_of asked n)
   -- each task has an outcome, or its message was accepted; and that of a call is one that a call can have

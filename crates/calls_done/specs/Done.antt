@@ -1,6 +1,6 @@
 -- What a run on threads owes where nothing went wrong.
 use Rattle.std.specs.Prelude.{ℕ, ◌≡◌, ◌⊎◌, List, slice_get, Some, Contains}
-use Rattle.sock_words.specs.Codes.{EEOF, ERESPONSE}
+use Rattle.sock_words.specs.Codes.{EEOF}
 use Rattle.sock_words.specs.declared.outcome.Outcome.{Outcome}
 use Rattle.sock_words.specs.declared.outcome.Outcome.TheVariants.{CallFailed}
 use Rattle.brpc_model.specs.Complete.{IsUntroubled, IsServed, SendDone, CallDone}
@@ -8,13 +8,9 @@ use Rattle.brpc_model.specs.Items.{Send, Call, Expire, CallLine}
 use Rattle.brpc_model.specs.Operations.{Operation}
 use Rattle.brpc_model.specs.Run.{Run, IsOperation, HasOutcome}
 
--- a code with which whoever reads the links ends calls: nothing more came, or what came is no frame
-abbrev pub IsReadCode : ℕ → Type 0
-IsReadCode code = (code ≡ EEOF) ⊎ (code ≡ ERESPONSE)
-
--- the call failed since whoever read the links ended it
+-- the call failed with 1014, since whoever read the links ended it: nothing more came
 abbrev pub IsEndedByReading : Outcome → Type 0
-IsEndedByReading outcome = (id code : ℕ) × (outcome ≡ CallFailed id code) × IsReadCode code
+IsEndedByReading outcome = (id : ℕ) × (outcome ≡ CallFailed id EEOF)
 
 -- Every send, and every served call that no `expire` names, is done; but whoever read the links may have ended such a call.
 -- So this is less than what brpc_model calls a complete run: it isn't said that a call whose own link gave the reply to its request is never ended so, since what is known
