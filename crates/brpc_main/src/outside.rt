@@ -28,7 +28,7 @@ pub fn run_program<
 >(rt: &R, errors: &E) -> ExitCode {
     let alloc = rt.alloc();
     match first_word(env::args(rt)) {
-        First::Run => run_over(rt, errors, &mut ProgLinker::new(rt, alloc)),
+        First::Run | First::Unknown => run_over(rt, errors, &mut ProgLinker::new(rt, alloc)),
         First::Serve => run_over(rt, errors, &mut TcpLinker::new(rt, alloc)),
         First::Other => run_over(rt, errors, &mut LoopLinker::new(alloc, Vec::new(alloc))),
     }
@@ -60,16 +60,18 @@ fn run_over<
     )
 }
 
-/// The word behind the program's name, as far as the kind of links hangs on it.
+/// The word behind the program's name, as far as the kind of links hangs on it. Where memory was wanting for the words it isn't
+/// known, though they may be had when they are asked for once more: then links have to be made of each kind.
 enum First {
     Run,
     Serve,
     Other,
+    Unknown,
 }
 
 fn first_word(args: io::Result<Args>) -> First {
     let Ok(mut args) = args else {
-        return First::Other;
+        return First::Unknown;
     };
     let _name = args.next();
     let Some(word) = args.next() else {
