@@ -35,7 +35,6 @@ use Rattle.script_calls.specs.call_whys.specs.sock_deeds.specs.Told.{fixed_by, I
 use Rattle.script_calls.specs.report_fits.proofs.Lists.{within}
 use Rattle.script_beside.specs.Told.{IsBesideRun, IsBesideText}
 use Rattle.script_beside.proofs.CallKinds.{text_kinds}
-use Rattle.script_beside.proofs.Failing.{ended_code}
 use Rattle.script_beside.proofs.Reports.{text_of}
 use Rattle.script_beside.proofs.Small.{text_small}
 
@@ -99,7 +98,7 @@ module _ (bytes : List ℕ) (script : List Item) (reads : script_of bytes ≡ Ok
   known = record {
     run = told_run;
     answers = is.answered.each;
-    failed = λ client id code t asked it e b. elim (is.on_calls.failed client id code t asked it e b) [ inl f ↦ inl f | inr h ↦ inr (ended_code h) ];
+    failed = is.on_calls.failed;
     again = is.on_calls.again;
     each = told_each script is.outcomes fixed is.answered.gave is.sockets.orders is.sockets.core is.sockets.tells is.one_each (subst (λ (ws : List PlaceWord). HasEachOutcome ws is.outcomes) (sym is.sockets.words) is.reported.each);
     kinds = kinds;

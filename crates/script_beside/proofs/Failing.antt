@@ -87,13 +87,6 @@ use Rattle.script_beside.proofs.Sockets as sockets
 use Rattle.script_beside.proofs.Telling as telling
 use Rattle.script_beside.proofs.WideCalls.{failure_still, again_still, expire_still}
 
--- whatever whoever reads the links ended has one of their codes
-pub ended_code : {p : Plan} {clients : List (List Task)} {outcomes : List (Option Outcome)} {fixed : Fixed} {gave : ℕ → List ℕ} {orders : ℕ → Order} {ends : List LinkEnd} {o : ℕ} {asked : Asked} {code last : ℕ} → EndedByReading p clients outcomes fixed gave orders ends o asked code last → IsReadCode code
-ended_code (AtFault e n k low on fault) = inr e
-ended_code (AtEnd e n k low lost) = inl e
-ended_code (AtDrop e n k low dropped) = inr e
-ended_code (LeftOver e) = inl e
-
 module _ (P : Type 0) {O I : Type 0} (g : Ghosts O) (out : O → OutState) (inn : I → InState) (bytes : List ℕ) (script : List Item) (reads : script_of bytes ≡ Ok script) (text : List ℕ) (links : List LinkEnd) (r : IsBesideRun P g out inn script text links) where
   abbrev p : Plan
   p = seated_plan script
