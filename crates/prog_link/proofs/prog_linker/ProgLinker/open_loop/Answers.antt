@@ -1,5 +1,4 @@
 use Rattle.std.proofs.Common.{rules, arith, ◌≡◌, ◌++◌, ◌∷◌, [], inl, inr, false, refl, ap, sym, subst}
-use Rattle.sock_io.specs.declared.link.LinkSpec.{LinkSpec}
 use Rattle.loop_link.specs.Linker.{LoopLinkerState}
 use Rattle.prog_link.specs.Linker.{ProgLinkerState, InMemory, OverRings, OverTcp, are_kind}
 use Rattle.prog_link.proofs.Alike.{memory_alone, memory_not, one_longer, same_more, other_more}
