@@ -13,7 +13,7 @@ use Rattle.seat_programs.specs.declared.task.Op.TheVariants as ops
 use Rattle.seat_programs.specs.declared.task.Task.{Task}
 use Rattle.seat_programs.specs.Told.{IsTask}
 use Rattle.seat_programs.specs.ToldCalls.{Order, Fixed, IsSent}
-use Rattle.call_told.specs.Least.{is_made_for}
+use Rattle.call_whys.specs.call_told.specs.Least.{is_made_for}
 
 -- ## The last attempt
 

@@ -1,1 +1,2 @@
 pub mod Attempts
+pub use Rattle.call_whys

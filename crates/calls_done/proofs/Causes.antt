@@ -29,7 +29,7 @@ use Rattle.seat_programs.specs.Told.{IsTask, Became}
 use Rattle.seat_programs.specs.ToldCalls as told
 use Rattle.seat_programs.specs.ToldCalls.{Accepted, OfSend, OfCall}
 use Rattle.callless_fits.specs.sock_deeds.specs.Told.{fixed_by}
-use Rattle.call_told.specs.Answers.{HasAnswer}
+use Rattle.failed_told.specs.call_whys.specs.call_told.specs.Answers.{HasAnswer}
 use Rattle.failed_told.specs.Ends.{EndedByReading, AtFault, AtEnd, AtDrop, LeftOver}
 use Rattle.calls_done.proofs.Known.{Known, IsOfCall}
 use Rattle.calls_done.specs.Done.{IsEndedByReading}

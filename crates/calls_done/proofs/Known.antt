@@ -13,7 +13,7 @@ use Rattle.seat_programs.specs.ToldCalls.{StandsOn, FailedBy, WhyAgain}
 use Rattle.failed_told.specs.Ends.{EndedByReading}
 use Rattle.callless_fits.proofs.Sends.{ToldRun}
 use Rattle.callless_fits.specs.sock_deeds.specs.Told.{fixed_by}
-use Rattle.call_told.specs.Answers.{HaveAnswers, ends_call}
+use Rattle.failed_told.specs.call_whys.specs.call_told.specs.Answers.{HaveAnswers, ends_call}
 
 -- a call found no socket under its first name, or it ended
 abbrev pub IsOfCall : Outcome → Type 0

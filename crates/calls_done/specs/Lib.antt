@@ -1,2 +1,6 @@
 pub mod Owed
 pub mod Done
+pub use Rattle.failed_told
+pub use Rattle.served_told
+pub use Rattle.failed_told.specs.attempts_told
+pub use Rattle.failed_told.specs.call_whys

@@ -11,7 +11,7 @@ use Rattle.sock_words.specs.declared.outcome.Outcome.{Outcome}
 use Rattle.sock_words.specs.declared.plain.Plan.{Plan}
 use Rattle.sock_words.specs.declared.place_word.PlaceWord.{PlaceWord}
 use Rattle.sock_words.specs.declared.vref.Vref.{Vref}
-use Rattle.expire_told.specs.sock_rule.specs.Closing.{PlacesDiffer}
+use Rattle.attempts_told.specs.call_whys.specs.expire_told.specs.sock_rule.specs.Closing.{PlacesDiffer}
 use Rattle.seat_programs.specs.declared.task.Op.{Op}
 use Rattle.seat_programs.specs.declared.task.Op.TheVariants as ops
 use Rattle.seat_programs.specs.declared.task.Task.{Task}
@@ -28,24 +28,24 @@ use Rattle.corr_core.proofs.Notes.{total_some}
 use Rattle.id_rule.specs.Lawful.{notes_of}
 use Rattle.sock_message.specs.Asked.{Asked, name_of}
 use Rattle.corr_id.specs.Closing.{Closing}
-use Rattle.expire_told.specs.rpc_client.specs.declared.acting.Told.{Told}
-use Rattle.expire_told.specs.call_run.specs.Readers.{LinkReader}
-use Rattle.expire_told.specs.call_run.specs.Threads.{Thread, RanWith, RanOn, MayRunAll, ids_of, opens_of, opened_names, openings}
-use Rattle.expire_told.specs.call_places.specs.Counted.{HaveNotesOf}
-use Rattle.expire_told.specs.call_places.specs.Deeds.{Deed}
-use Rattle.expire_told.specs.call_places.proofs.Clients.{Client, total_map, view_of, deeds_of}
-use Rattle.expire_told.specs.call_places.proofs.Places.{all as all_clients, views_are}
-use Rattle.expire_told.specs.call_told.specs.Least.{is_made_for}
-use Rattle.expire_told.specs.call_deeds.specs.Retried.{all_asked}
-use Rattle.expire_told.specs.call_deeds.specs.Scripts.{AllHaveLinks, Reports, AllLater}
-use Rattle.expire_told.specs.call_deeds.proofs.Ran.{AreLater}
-use Rattle.expire_told.specs.call_deeds.proofs.Runs.{seats_are, deed_run}
-use Rattle.expire_told.specs.Said.{AreSaid}
-use Rattle.expire_told.specs.sock_deeds.specs.Runs.{IsOperation, seat_of, DeedRun}
-use Rattle.expire_told.specs.sock_deeds.proofs.Accepting.{log}
-use Rattle.expire_told.specs.sock_deeds.proofs.Orders.{orders}
-use Rattle.expire_told.specs.sock_deeds.proofs.Tasks.{same_task}
-use Rattle.expire_told.specs.sock_deeds.proofs.Whole.{fixed, log_accepted}
+use Rattle.attempts_told.specs.call_whys.specs.expire_told.specs.rpc_client.specs.declared.acting.Told.{Told}
+use Rattle.attempts_told.specs.call_whys.specs.expire_told.specs.call_run.specs.Readers.{LinkReader}
+use Rattle.attempts_told.specs.call_whys.specs.expire_told.specs.call_run.specs.Threads.{Thread, RanWith, RanOn, MayRunAll, ids_of, opens_of, opened_names, openings}
+use Rattle.attempts_told.specs.call_whys.specs.expire_told.specs.call_places.specs.Counted.{HaveNotesOf}
+use Rattle.attempts_told.specs.call_whys.specs.expire_told.specs.call_places.specs.Deeds.{Deed}
+use Rattle.attempts_told.specs.call_whys.specs.expire_told.specs.call_places.proofs.Clients.{Client, total_map, view_of, deeds_of}
+use Rattle.attempts_told.specs.call_whys.specs.expire_told.specs.call_places.proofs.Places.{all as all_clients, views_are}
+use Rattle.attempts_told.specs.call_whys.specs.expire_told.specs.call_told.specs.Least.{is_made_for}
+use Rattle.attempts_told.specs.call_whys.specs.expire_told.specs.call_deeds.specs.Retried.{all_asked}
+use Rattle.attempts_told.specs.call_whys.specs.expire_told.specs.call_deeds.specs.Scripts.{AllHaveLinks, Reports, AllLater}
+use Rattle.attempts_told.specs.call_whys.specs.expire_told.specs.call_deeds.proofs.Ran.{AreLater}
+use Rattle.attempts_told.specs.call_whys.specs.expire_told.specs.call_deeds.proofs.Runs.{seats_are, deed_run}
+use Rattle.attempts_told.specs.call_whys.specs.expire_told.specs.Said.{AreSaid}
+use Rattle.attempts_told.specs.call_whys.specs.expire_told.specs.sock_deeds.specs.Runs.{IsOperation, seat_of, DeedRun}
+use Rattle.attempts_told.specs.call_whys.specs.expire_told.specs.sock_deeds.proofs.Accepting.{log}
+use Rattle.attempts_told.specs.call_whys.specs.expire_told.specs.sock_deeds.proofs.Orders.{orders}
+use Rattle.attempts_told.specs.call_whys.specs.expire_told.specs.sock_deeds.proofs.Tasks.{same_task}
+use Rattle.attempts_told.specs.call_whys.specs.expire_told.specs.sock_deeds.proofs.Whole.{fixed, log_accepted}
 use Rattle.attempts_told.specs.Attempts.{last_attempt}
 use Rattle.attempts_told.proofs.Last.{IsReached, one_reached}
 use Rattle.attempts_told.proofs.Senders.{made_for_there}

@@ -15,15 +15,15 @@ use Rattle.seat_programs.specs.declared.task.Task.{Task}
 use Rattle.seat_programs.specs.Told.{Became}
 use Rattle.corr_core.specs.declared.marks.View.{View}
 use Rattle.sock_message.specs.Asked.{Asked}
-use Rattle.expire_told.specs.rpc_client.specs.declared.acting.Told.{Told}
-use Rattle.expire_told.specs.call_errors.specs.Books.{Books}
-use Rattle.expire_told.specs.call_run.specs.Readers.{LinkReader}
-use Rattle.expire_told.specs.call_run.specs.Threads.{Thread, RanWith, ids_of}
-use Rattle.expire_told.specs.call_places.proofs.Weights.{mapped}
-use Rattle.expire_told.specs.call_places.proofs.Clients.{Client, view_of, tasks_of, deeds_of}
-use Rattle.expire_told.specs.call_places.proofs.Places.{all as all_clients, all_are}
-use Rattle.expire_told.specs.Said.{AreSaid}
-use Rattle.expire_told.proofs.Doing.{run_fed}
+use Rattle.attempts_told.specs.call_whys.specs.expire_told.specs.rpc_client.specs.declared.acting.Told.{Told}
+use Rattle.attempts_told.specs.call_whys.specs.expire_told.specs.call_errors.specs.Books.{Books}
+use Rattle.attempts_told.specs.call_whys.specs.expire_told.specs.call_run.specs.Readers.{LinkReader}
+use Rattle.attempts_told.specs.call_whys.specs.expire_told.specs.call_run.specs.Threads.{Thread, RanWith, ids_of}
+use Rattle.attempts_told.specs.call_whys.specs.expire_told.specs.call_places.proofs.Weights.{mapped}
+use Rattle.attempts_told.specs.call_whys.specs.expire_told.specs.call_places.proofs.Clients.{Client, view_of, tasks_of, deeds_of}
+use Rattle.attempts_told.specs.call_whys.specs.expire_told.specs.call_places.proofs.Places.{all as all_clients, all_are}
+use Rattle.attempts_told.specs.call_whys.specs.expire_told.specs.Said.{AreSaid}
+use Rattle.attempts_told.specs.call_whys.specs.expire_told.proofs.Doing.{run_fed}
 use Rattle.failed_told.specs.Reasons.{IsCaused, QueuedFor, AdvancedFor}
 use Rattle.failed_told.proofs.Views.{queued_in, advanced_in}
 use Rattle.failed_told.proofs.Origins.{AreDeeds, run_caused, run_queued, run_advanced}

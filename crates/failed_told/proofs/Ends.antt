@@ -11,16 +11,16 @@ use Rattle.sock_io.specs.Link.{InState}
 use Rattle.corr_core.specs.declared.marks.Plan.{Plan}
 use Rattle.corr_core.specs.declared.marks.View.{View}
 use Rattle.sock_message.specs.Asked.{Asked}
-use Rattle.expire_told.specs.rpc_client.specs.declared.acting.Told.{Told}
-use Rattle.expire_told.specs.call_deeds.specs.rpc_reader.specs.Books.{Books}
-use Rattle.expire_told.specs.call_deeds.specs.rpc_reader.specs.Reading as reading
-use Rattle.expire_told.specs.call_deeds.specs.rpc_reader.specs.Running.{ReadLink, ReadIf}
-use Rattle.expire_told.specs.call_run.specs.Readers.{LinkReader, nothing_read, IsReader}
-use Rattle.expire_told.specs.call_told.specs.Answers.{IsGiven}
-use Rattle.expire_told.specs.call_told.proofs.Gains.{met_bytes, rest_bytes}
-use Rattle.expire_told.specs.call_told.proofs.Given.{given_by}
-use Rattle.expire_told.specs.call_told.proofs.Linked.{read_bytes}
-use Rattle.expire_told.specs.call_told.proofs.Readers.{link_read, if_bytes, reader_gave}
+use Rattle.attempts_told.specs.call_whys.specs.expire_told.specs.rpc_client.specs.declared.acting.Told.{Told}
+use Rattle.attempts_told.specs.call_whys.specs.expire_told.specs.call_deeds.specs.rpc_reader.specs.Books.{Books}
+use Rattle.attempts_told.specs.call_whys.specs.expire_told.specs.call_deeds.specs.rpc_reader.specs.Reading as reading
+use Rattle.attempts_told.specs.call_whys.specs.expire_told.specs.call_deeds.specs.rpc_reader.specs.Running.{ReadLink, ReadIf}
+use Rattle.attempts_told.specs.call_whys.specs.expire_told.specs.call_run.specs.Readers.{LinkReader, nothing_read, IsReader}
+use Rattle.attempts_told.specs.call_whys.specs.expire_told.specs.call_told.specs.Answers.{IsGiven}
+use Rattle.attempts_told.specs.call_whys.specs.expire_told.specs.call_told.proofs.Gains.{met_bytes, rest_bytes}
+use Rattle.attempts_told.specs.call_whys.specs.expire_told.specs.call_told.proofs.Given.{given_by}
+use Rattle.attempts_told.specs.call_whys.specs.expire_told.specs.call_told.proofs.Linked.{read_bytes}
+use Rattle.attempts_told.specs.call_whys.specs.expire_told.specs.call_told.proofs.Readers.{link_read, if_bytes, reader_gave}
 use Rattle.failed_told.proofs.Posts.{QueuedBy, Posts, posts_none, posts_then, posted_all, frames_stay}
 use Rattle.failed_told.proofs.Tells.{ToldEnd, Step, step_then, frames_step, IsPostFor, for_later, posts_step}
 use Rattle.failed_told.proofs.Views.{queued_in}

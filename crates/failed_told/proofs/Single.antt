@@ -16,7 +16,7 @@ use Rattle.sock_words.specs.declared.socket_id.SocketId.{SocketId}
 use Rattle.sock_words.specs.declared.vref.Vref.{Vref}
 use Rattle.sock_model.specs.declared.chain.Entry.{Entry}
 use Rattle.sock_model.specs.declared.chain.Heading.{Heading}
-use Rattle.expire_told.specs.sock_rule.specs.declared.homes.Letter.{Letter}
+use Rattle.attempts_told.specs.call_whys.specs.expire_told.specs.sock_rule.specs.declared.homes.Letter.{Letter}
 use Rattle.seat_programs.specs.declared.task.Op.{Op}
 use Rattle.seat_programs.specs.declared.task.Op.TheVariants as ops
 use Rattle.seat_programs.specs.declared.task.Task.{Task}
@@ -34,34 +34,34 @@ use Rattle.sock_message.specs.Asked.{Asked}
 use Rattle.corr_id.specs.declared.calls.IdLock.{IdLock}
 use Rattle.corr_id.specs.Calls.{slot_of, version_of}
 use Rattle.corr_id.specs.Closing.{Closing}
-use Rattle.expire_told.specs.rpc_client.specs.declared.acting.Told.{Told}
-use Rattle.expire_told.specs.call_errors.specs.declared.retries.Retry.{Retry}
-use Rattle.expire_told.specs.call_attempts.specs.Both.{Both}
-use Rattle.expire_told.specs.call_attempts.specs.Attempting.{DeliveredBy, went_out, came_back, AttemptedBy, nowhere, over_link}
-use Rattle.expire_told.specs.call_attempts.specs.Retrying.{Locked, WentAgain, WentTo, stray, unopened, to_socket, had_ended, overtaken, went_again}
-use Rattle.expire_told.specs.call_client.specs.Acting.{Stand, both_of, Acted}
-use Rattle.expire_told.specs.call_client.specs.Running.{MayMakeAll}
-use Rattle.expire_told.specs.call_run.specs.Readers.{LinkReader}
-use Rattle.expire_told.specs.call_run.specs.Threads.{RanWith, AllMayRun, MayRunAll, ids_of, opens_of}
-use Rattle.expire_told.specs.call_places.specs.Counted.{makes, HaveNotesOf}
-use Rattle.expire_told.specs.call_places.specs.Deeds.{Deed, operates, retries, delivered_entries, attempt_entries, went_entries, acted_entries, entries_of}
-use Rattle.expire_told.specs.call_places.proofs.Weights.{term, two_terms, each_less, mapped}
-use Rattle.expire_told.specs.call_places.proofs.Still.{is_retry, is_first}
-use Rattle.expire_told.specs.call_places.proofs.Counts.{call_in, by_task, by_retry, Knows, tried_few, none_first, made_few, all_known, task_total}
-use Rattle.expire_told.specs.call_places.proofs.Labels.{label_in, labels}
-use Rattle.expire_told.specs.call_places.proofs.Numbers.{numbered, numbered_once, own_calls, own_labels, no_labels}
-use Rattle.expire_told.specs.call_places.proofs.Ids.{IdLaws, laws_of, IsIdOf, version_low, lock_id, one_id}
-use Rattle.expire_told.specs.call_places.proofs.Clients.{Client, total_map, view_of, tasks_of, deeds_of, own_of}
-use Rattle.expire_told.specs.call_places.proofs.Places.{all as all_clients, views_are, tasks_are, lists_are}
-use Rattle.expire_told.specs.call_places.proofs.Log as log
-use Rattle.expire_told.specs.call_told.specs.Least.{is_made_for}
-use Rattle.expire_told.specs.call_told.proofs.Lists.{all_at}
-use Rattle.expire_told.proofs.Making.{mapped_from}
+use Rattle.attempts_told.specs.call_whys.specs.expire_told.specs.rpc_client.specs.declared.acting.Told.{Told}
+use Rattle.attempts_told.specs.call_whys.specs.expire_told.specs.call_errors.specs.declared.retries.Retry.{Retry}
+use Rattle.attempts_told.specs.call_whys.specs.expire_told.specs.call_attempts.specs.Both.{Both}
+use Rattle.attempts_told.specs.call_whys.specs.expire_told.specs.call_attempts.specs.Attempting.{DeliveredBy, went_out, came_back, AttemptedBy, nowhere, over_link}
+use Rattle.attempts_told.specs.call_whys.specs.expire_told.specs.call_attempts.specs.Retrying.{Locked, WentAgain, WentTo, stray, unopened, to_socket, had_ended, overtaken, went_again}
+use Rattle.attempts_told.specs.call_whys.specs.expire_told.specs.call_client.specs.Acting.{Stand, both_of, Acted}
+use Rattle.attempts_told.specs.call_whys.specs.expire_told.specs.call_client.specs.Running.{MayMakeAll}
+use Rattle.attempts_told.specs.call_whys.specs.expire_told.specs.call_run.specs.Readers.{LinkReader}
+use Rattle.attempts_told.specs.call_whys.specs.expire_told.specs.call_run.specs.Threads.{RanWith, AllMayRun, MayRunAll, ids_of, opens_of}
+use Rattle.attempts_told.specs.call_whys.specs.expire_told.specs.call_places.specs.Counted.{makes, HaveNotesOf}
+use Rattle.attempts_told.specs.call_whys.specs.expire_told.specs.call_places.specs.Deeds.{Deed, operates, retries, delivered_entries, attempt_entries, went_entries, acted_entries, entries_of}
+use Rattle.attempts_told.specs.call_whys.specs.expire_told.specs.call_places.proofs.Weights.{term, two_terms, each_less, mapped}
+use Rattle.attempts_told.specs.call_whys.specs.expire_told.specs.call_places.proofs.Still.{is_retry, is_first}
+use Rattle.attempts_told.specs.call_whys.specs.expire_told.specs.call_places.proofs.Counts.{call_in, by_task, by_retry, Knows, tried_few, none_first, made_few, all_known, task_total}
+use Rattle.attempts_told.specs.call_whys.specs.expire_told.specs.call_places.proofs.Labels.{label_in, labels}
+use Rattle.attempts_told.specs.call_whys.specs.expire_told.specs.call_places.proofs.Numbers.{numbered, numbered_once, own_calls, own_labels, no_labels}
+use Rattle.attempts_told.specs.call_whys.specs.expire_told.specs.call_places.proofs.Ids.{IdLaws, laws_of, IsIdOf, version_low, lock_id, one_id}
+use Rattle.attempts_told.specs.call_whys.specs.expire_told.specs.call_places.proofs.Clients.{Client, total_map, view_of, tasks_of, deeds_of, own_of}
+use Rattle.attempts_told.specs.call_whys.specs.expire_told.specs.call_places.proofs.Places.{all as all_clients, views_are, tasks_are, lists_are}
+use Rattle.attempts_told.specs.call_whys.specs.expire_told.specs.call_places.proofs.Log as log
+use Rattle.attempts_told.specs.call_whys.specs.expire_told.specs.call_told.specs.Least.{is_made_for}
+use Rattle.attempts_told.specs.call_whys.specs.expire_told.specs.call_told.proofs.Lists.{all_at}
+use Rattle.attempts_told.specs.call_whys.specs.expire_told.proofs.Making.{mapped_from}
 use Rattle.attempts_told.specs.Attempts.{last_attempt}
 use Rattle.attempts_told.proofs.Last.{none_further}
 use Rattle.attempts_told.proofs.Senders.{behind_empty}
-use Rattle.expire_told.specs.sock_deeds.proofs.Entries.{before}
-use Rattle.expire_told.specs.sock_deeds.proofs.Flats.{flat_from}
+use Rattle.attempts_told.specs.call_whys.specs.expire_told.specs.sock_deeds.proofs.Entries.{before}
+use Rattle.attempts_told.specs.call_whys.specs.expire_told.specs.sock_deeds.proofs.Flats.{flat_from}
 use Rattle.failed_told.specs.Missed.{delivery_missed, attempt_missed, went_missed, acted_missed, acted_id, IsMadeBy, missed_in, id_of, IsBacked, attempt_of}
 use Rattle.failed_told.proofs.Losses.{IsAskedIn}
 use Rattle.failed_told.proofs.Posters.{attempt_low}

@@ -19,10 +19,10 @@ use Rattle.sock_model.specs.declared.view.View as sock_view
 use Rattle.sock_model.specs.Layout.{name_index}
 use Rattle.sock_model.specs.SlotRows.{marks_of}
 use Rattle.sock_model.specs.Weights.{is_met, pair}
-use Rattle.expire_told.specs.sock_rule.specs.slot_steps.proofs.Numbers.{pair-same}
-use Rattle.expire_told.specs.sock_rule.specs.Closing.{PlacesDiffer}
-use Rattle.expire_told.specs.sock_rule.specs.declared.homes.Letter.{Letter}
-use Rattle.expire_told.specs.sock_table.specs.Named.{Found}
+use Rattle.attempts_told.specs.call_whys.specs.expire_told.specs.sock_rule.specs.slot_steps.proofs.Numbers.{pair-same}
+use Rattle.attempts_told.specs.call_whys.specs.expire_told.specs.sock_rule.specs.Closing.{PlacesDiffer}
+use Rattle.attempts_told.specs.call_whys.specs.expire_told.specs.sock_rule.specs.declared.homes.Letter.{Letter}
+use Rattle.attempts_told.specs.call_whys.specs.expire_told.specs.sock_table.specs.Named.{Found}
 use Rattle.seat_programs.specs.declared.task.Op.{Op}
 use Rattle.seat_programs.specs.declared.task.Op.TheVariants as ops
 use Rattle.seat_programs.specs.declared.task.Task.{Task}
@@ -34,30 +34,30 @@ use Rattle.corr_core.specs.declared.marks.Plan as id_plan
 use Rattle.corr_core.specs.declared.marks.View.{View}
 use Rattle.sock_message.specs.Asked.{Asked, name_of}
 use Rattle.corr_id.specs.Closing.{Closing}
-use Rattle.expire_told.specs.rpc_client.specs.declared.acting.Told.{Told}
-use Rattle.expire_told.specs.write_chain.specs.declared.entry.Refused.TheVariants as refused
-use Rattle.expire_told.specs.call_attempts.specs.Both.{Both}
-use Rattle.expire_told.specs.call_attempts.specs.Attempting.{DeliveredBy, went_out, came_back, AttemptedBy, nowhere, over_link}
-use Rattle.expire_told.specs.call_attempts.specs.Letters.{letter_for}
-use Rattle.expire_told.specs.call_attempts.specs.Retrying.{WentTo, stray, unopened, to_socket, had_ended, overtaken, went_again}
-use Rattle.expire_told.specs.call_client.specs.Acting.{Stand, both_of, Acted}
-use Rattle.expire_told.specs.call_run.specs.Readers.{LinkReader}
-use Rattle.expire_told.specs.call_run.specs.Threads.{Thread, RanWith, MayRunAll, ids_of}
-use Rattle.expire_told.specs.call_places.specs.Counted.{HaveNotesOf}
-use Rattle.expire_told.specs.call_places.specs.Deeds.{Deed, operates, retries, delivered_entries, attempt_entries, went_entries, acted_entries, entries_of}
-use Rattle.expire_told.specs.call_places.proofs.Ids.{IsIdOf}
-use Rattle.expire_told.specs.call_places.proofs.Clients.{Client, deeds_of}
-use Rattle.expire_told.specs.call_places.proofs.Places.{all as all_clients}
-use Rattle.expire_told.specs.call_deeds.proofs.Messages.{seen_through}
-use Rattle.expire_told.specs.sock_deeds.specs.Runs.{IsOperation, seat_of, DeedRun}
-use Rattle.expire_told.specs.sock_deeds.proofs.Accepting.{log}
-use Rattle.expire_told.specs.sock_deeds.proofs.Acts.{after, has_marks}
-use Rattle.expire_told.specs.sock_deeds.proofs.Fails.{life_is}
-use Rattle.expire_told.specs.sock_deeds.proofs.Growing.{Grew, HasFound, grew_then, added_grew, delivered_grew, wrote_grew, returned_grew}
-use Rattle.expire_told.specs.sock_deeds.proofs.Lives.{MadeHere, found_made, linked_made}
-use Rattle.expire_told.specs.sock_deeds.proofs.Orders.{orders, entry_on}
-use Rattle.expire_told.specs.sock_deeds.proofs.Tasks.{fits}
-use Rattle.expire_told.specs.sock_deeds.proofs.Whole.{fixed}
+use Rattle.attempts_told.specs.call_whys.specs.expire_told.specs.rpc_client.specs.declared.acting.Told.{Told}
+use Rattle.attempts_told.specs.call_whys.specs.expire_told.specs.write_chain.specs.declared.entry.Refused.TheVariants as refused
+use Rattle.attempts_told.specs.call_whys.specs.expire_told.specs.call_attempts.specs.Both.{Both}
+use Rattle.attempts_told.specs.call_whys.specs.expire_told.specs.call_attempts.specs.Attempting.{DeliveredBy, went_out, came_back, AttemptedBy, nowhere, over_link}
+use Rattle.attempts_told.specs.call_whys.specs.expire_told.specs.call_attempts.specs.Letters.{letter_for}
+use Rattle.attempts_told.specs.call_whys.specs.expire_told.specs.call_attempts.specs.Retrying.{WentTo, stray, unopened, to_socket, had_ended, overtaken, went_again}
+use Rattle.attempts_told.specs.call_whys.specs.expire_told.specs.call_client.specs.Acting.{Stand, both_of, Acted}
+use Rattle.attempts_told.specs.call_whys.specs.expire_told.specs.call_run.specs.Readers.{LinkReader}
+use Rattle.attempts_told.specs.call_whys.specs.expire_told.specs.call_run.specs.Threads.{Thread, RanWith, MayRunAll, ids_of}
+use Rattle.attempts_told.specs.call_whys.specs.expire_told.specs.call_places.specs.Counted.{HaveNotesOf}
+use Rattle.attempts_told.specs.call_whys.specs.expire_told.specs.call_places.specs.Deeds.{Deed, operates, retries, delivered_entries, attempt_entries, went_entries, acted_entries, entries_of}
+use Rattle.attempts_told.specs.call_whys.specs.expire_told.specs.call_places.proofs.Ids.{IsIdOf}
+use Rattle.attempts_told.specs.call_whys.specs.expire_told.specs.call_places.proofs.Clients.{Client, deeds_of}
+use Rattle.attempts_told.specs.call_whys.specs.expire_told.specs.call_places.proofs.Places.{all as all_clients}
+use Rattle.attempts_told.specs.call_whys.specs.expire_told.specs.call_deeds.proofs.Messages.{seen_through}
+use Rattle.attempts_told.specs.call_whys.specs.expire_told.specs.sock_deeds.specs.Runs.{IsOperation, seat_of, DeedRun}
+use Rattle.attempts_told.specs.call_whys.specs.expire_told.specs.sock_deeds.proofs.Accepting.{log}
+use Rattle.attempts_told.specs.call_whys.specs.expire_told.specs.sock_deeds.proofs.Acts.{after, has_marks}
+use Rattle.attempts_told.specs.call_whys.specs.expire_told.specs.sock_deeds.proofs.Fails.{life_is}
+use Rattle.attempts_told.specs.call_whys.specs.expire_told.specs.sock_deeds.proofs.Growing.{Grew, HasFound, grew_then, added_grew, delivered_grew, wrote_grew, returned_grew}
+use Rattle.attempts_told.specs.call_whys.specs.expire_told.specs.sock_deeds.proofs.Lives.{MadeHere, found_made, linked_made}
+use Rattle.attempts_told.specs.call_whys.specs.expire_told.specs.sock_deeds.proofs.Orders.{orders, entry_on}
+use Rattle.attempts_told.specs.call_whys.specs.expire_told.specs.sock_deeds.proofs.Tasks.{fits}
+use Rattle.attempts_told.specs.call_whys.specs.expire_told.specs.sock_deeds.proofs.Whole.{fixed}
 use Rattle.failed_told.specs.Missed.{attempt_of, socks_behind}
 use Rattle.failed_told.proofs.AtWords.{attempt_link, went_link, acted_link, link_in}
 use Rattle.failed_told.proofs.Drops.{same_name, marked_act}

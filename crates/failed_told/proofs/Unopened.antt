@@ -16,7 +16,7 @@ use Rattle.sock_words.specs.declared.place_word.PlaceWord.{PlaceWord}
 use Rattle.sock_words.specs.declared.vref.Vref.{Vref}
 use Rattle.sock_model.specs.declared.view.View as sock_view
 use Rattle.sock_model.specs.Layout.{name_index}
-use Rattle.expire_told.specs.sock_table.specs.Named.{Found}
+use Rattle.attempts_told.specs.call_whys.specs.expire_told.specs.sock_table.specs.Named.{Found}
 use Rattle.seat_programs.specs.declared.task.Op.{Op}
 use Rattle.seat_programs.specs.declared.task.Op.TheVariants as ops
 use Rattle.seat_programs.specs.declared.task.Task.{Task}
@@ -36,35 +36,35 @@ use Rattle.sock_message.specs.Asked.{Asked, name_of}
 use Rattle.corr_id.specs.declared.calls.IdLock.{IdLock}
 use Rattle.corr_id.specs.Calls.{is_saw, slot_of, version_of}
 use Rattle.corr_id.specs.Closing.{Closing}
-use Rattle.expire_told.specs.rpc_client.specs.declared.acting.Told.{Told}
-use Rattle.expire_told.specs.call_errors.specs.declared.retries.Retry.{Retry}
-use Rattle.expire_told.specs.call_attempts.specs.Both.{Both}
-use Rattle.expire_told.specs.call_attempts.specs.Calling.{BegunAs}
-use Rattle.expire_told.specs.call_attempts.specs.Retrying.{Locked, WentAgain, had_ended, overtaken, went_again}
-use Rattle.expire_told.specs.call_client.specs.Acting.{Stand, both_of, Acted}
-use Rattle.expire_told.specs.call_run.specs.Readers.{LinkReader}
-use Rattle.expire_told.specs.call_run.specs.Threads.{Thread, RanWith, MayRunAll, ids_of, opens_of, opened_names, openings}
-use Rattle.expire_told.specs.call_places.specs.Counted.{makes, HaveNotesOf}
-use Rattle.expire_told.specs.call_places.specs.Deeds.{Deed, operates, retries}
-use Rattle.expire_told.specs.call_places.proofs.Weights.{term, mapped, noted_at}
-use Rattle.expire_told.specs.call_places.proofs.Still.{again_still}
-use Rattle.expire_told.specs.call_places.proofs.Counts.{locks_for, KnowsLock, Grows, lock_stays, lock_known}
-use Rattle.expire_told.specs.call_places.proofs.Ids.{IsIdOf, version_low, locker_there, one_id}
-use Rattle.expire_told.specs.call_places.proofs.Clients.{Client, view_of, tasks_of, deeds_of}
-use Rattle.expire_told.specs.call_places.proofs.Places.{all as all_clients, all_are, views_are}
-use Rattle.expire_told.specs.call_told.specs.Least.{is_made_for}
-use Rattle.expire_told.specs.call_told.proofs.Lists.{all_at}
-use Rattle.expire_told.specs.call_deeds.proofs.Ran.{Result}
-use Rattle.expire_told.specs.call_deeds.proofs.Runs.{opened_there, names_there, same_task}
-use Rattle.expire_told.specs.call_deeds.proofs.Told.{all_results, told_by, task_at, result_of, said_at, open_said}
-use Rattle.expire_told.specs.outcome_causes.proofs.Seats.{Less}
-use Rattle.expire_told.specs.outcome_causes.proofs.Tasks.{sorted_of}
-use Rattle.expire_told.specs.sock_deeds.specs.Runs.{IsOperation}
-use Rattle.expire_told.specs.sock_deeds.proofs.Names.{SeenBy}
-use Rattle.expire_told.specs.sock_deeds.proofs.Places.{place_low}
-use Rattle.expire_told.specs.Said.{AreSaid}
-use Rattle.expire_told.proofs.Begun.{made_begun as begun_made}
-use Rattle.expire_told.proofs.Making.{mapped_from}
+use Rattle.attempts_told.specs.call_whys.specs.expire_told.specs.rpc_client.specs.declared.acting.Told.{Told}
+use Rattle.attempts_told.specs.call_whys.specs.expire_told.specs.call_errors.specs.declared.retries.Retry.{Retry}
+use Rattle.attempts_told.specs.call_whys.specs.expire_told.specs.call_attempts.specs.Both.{Both}
+use Rattle.attempts_told.specs.call_whys.specs.expire_told.specs.call_attempts.specs.Calling.{BegunAs}
+use Rattle.attempts_told.specs.call_whys.specs.expire_told.specs.call_attempts.specs.Retrying.{Locked, WentAgain, had_ended, overtaken, went_again}
+use Rattle.attempts_told.specs.call_whys.specs.expire_told.specs.call_client.specs.Acting.{Stand, both_of, Acted}
+use Rattle.attempts_told.specs.call_whys.specs.expire_told.specs.call_run.specs.Readers.{LinkReader}
+use Rattle.attempts_told.specs.call_whys.specs.expire_told.specs.call_run.specs.Threads.{Thread, RanWith, MayRunAll, ids_of, opens_of, opened_names, openings}
+use Rattle.attempts_told.specs.call_whys.specs.expire_told.specs.call_places.specs.Counted.{makes, HaveNotesOf}
+use Rattle.attempts_told.specs.call_whys.specs.expire_told.specs.call_places.specs.Deeds.{Deed, operates, retries}
+use Rattle.attempts_told.specs.call_whys.specs.expire_told.specs.call_places.proofs.Weights.{term, mapped, noted_at}
+use Rattle.attempts_told.specs.call_whys.specs.expire_told.specs.call_places.proofs.Still.{again_still}
+use Rattle.attempts_told.specs.call_whys.specs.expire_told.specs.call_places.proofs.Counts.{locks_for, KnowsLock, Grows, lock_stays, lock_known}
+use Rattle.attempts_told.specs.call_whys.specs.expire_told.specs.call_places.proofs.Ids.{IsIdOf, version_low, locker_there, one_id}
+use Rattle.attempts_told.specs.call_whys.specs.expire_told.specs.call_places.proofs.Clients.{Client, view_of, tasks_of, deeds_of}
+use Rattle.attempts_told.specs.call_whys.specs.expire_told.specs.call_places.proofs.Places.{all as all_clients, all_are, views_are}
+use Rattle.attempts_told.specs.call_whys.specs.expire_told.specs.call_told.specs.Least.{is_made_for}
+use Rattle.attempts_told.specs.call_whys.specs.expire_told.specs.call_told.proofs.Lists.{all_at}
+use Rattle.attempts_told.specs.call_whys.specs.expire_told.specs.call_deeds.proofs.Ran.{Result}
+use Rattle.attempts_told.specs.call_whys.specs.expire_told.specs.call_deeds.proofs.Runs.{opened_there, names_there, same_task}
+use Rattle.attempts_told.specs.call_whys.specs.expire_told.specs.call_deeds.proofs.Told.{all_results, told_by, task_at, result_of, said_at, open_said}
+use Rattle.attempts_told.specs.call_whys.specs.expire_told.specs.outcome_causes.proofs.Seats.{Less}
+use Rattle.attempts_told.specs.call_whys.specs.expire_told.specs.outcome_causes.proofs.Tasks.{sorted_of}
+use Rattle.attempts_told.specs.call_whys.specs.expire_told.specs.sock_deeds.specs.Runs.{IsOperation}
+use Rattle.attempts_told.specs.call_whys.specs.expire_told.specs.sock_deeds.proofs.Names.{SeenBy}
+use Rattle.attempts_told.specs.call_whys.specs.expire_told.specs.sock_deeds.proofs.Places.{place_low}
+use Rattle.attempts_told.specs.call_whys.specs.expire_told.specs.Said.{AreSaid}
+use Rattle.attempts_told.specs.call_whys.specs.expire_told.proofs.Begun.{made_begun as begun_made}
+use Rattle.attempts_told.specs.call_whys.specs.expire_told.proofs.Making.{mapped_from}
 use Rattle.failed_told.specs.Missed.{missed_in, attempt_of, socks_behind}
 use Rattle.failed_told.proofs.Losses.{IsAskedIn}
 use Rattle.failed_told.proofs.Reaching.{retry_grew}

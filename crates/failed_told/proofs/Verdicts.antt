@@ -4,7 +4,7 @@ use Rattle.std.specs.Prelude.{Option, ◌==◌, ◌||◌, if◌then◌else◌}
 use Rattle.std.proofs.lemmas.Bool.{eqb-true}
 use mathlib.Core.Option.{some}
 use lib.ListN.{get_elem?}
-use Rattle.expire_told.specs.report_fits.proofs.Lists.{contains_from}
+use Rattle.attempts_told.specs.call_whys.specs.expire_told.specs.report_fits.proofs.Lists.{contains_from}
 use Rattle.sock_io.specs.declared.link.Out.{Ghosts}
 use Rattle.sock_io.specs.Link.{OutState}
 use Rattle.sock_words.specs.Codes.{ERPCTIMEDOUT}
@@ -33,25 +33,25 @@ use Rattle.corr_id.specs.Closing.{Closing}
 use Rattle.corr_id.specs.Posts.{IsTimely}
 use Rattle.corr_id.specs.declared.calls.IdLock.{IdLock}
 use Rattle.corr_id.proofs.Ranges.{lock_range}
-use Rattle.expire_told.specs.rpc_client.specs.declared.acting.Told.{Told}
+use Rattle.attempts_told.specs.call_whys.specs.expire_told.specs.rpc_client.specs.declared.acting.Told.{Told}
 use Rattle.call_table.specs.Errors.{is_final}
 use Rattle.call_table.specs.declared.errors.Decision.TheVariants as decisions
-use Rattle.expire_told.specs.call_errors.specs.Locking.{id_in}
-use Rattle.expire_told.specs.call_errors.specs.Ending.{failed}
-use Rattle.expire_told.specs.call_errors.specs.Handling.{decision}
-use Rattle.expire_told.specs.call_run.specs.Readers.{LinkReader}
-use Rattle.expire_told.specs.call_run.specs.Threads.{RanWith, MayRunAll, ids_of}
-use Rattle.expire_told.specs.call_places.specs.Counted.{HaveNotesOf}
-use Rattle.expire_told.specs.call_places.specs.Deeds.{Deed}
-use Rattle.expire_told.specs.call_places.proofs.Weights.{mapped}
-use Rattle.expire_told.specs.call_places.proofs.Clients.{Client, view_of, tasks_of, deeds_of}
-use Rattle.expire_told.specs.call_places.proofs.Places.{all as all_clients, tasks_are}
-use Rattle.expire_told.specs.call_told.specs.Least.{is_made_for, is_locked_for}
-use Rattle.expire_told.specs.call_told.proofs.Ends.{IsEndOf}
-use Rattle.expire_told.specs.call_told.proofs.Least.{lock_of, end_number}
-use Rattle.expire_told.specs.Said.{AreSaid, HaveKeptOf}
-use Rattle.expire_told.proofs.Expires.{found_maker}
-use Rattle.expire_told.proofs.Making.{slice_at}
+use Rattle.attempts_told.specs.call_whys.specs.expire_told.specs.call_errors.specs.Locking.{id_in}
+use Rattle.attempts_told.specs.call_whys.specs.expire_told.specs.call_errors.specs.Ending.{failed}
+use Rattle.attempts_told.specs.call_whys.specs.expire_told.specs.call_errors.specs.Handling.{decision}
+use Rattle.attempts_told.specs.call_whys.specs.expire_told.specs.call_run.specs.Readers.{LinkReader}
+use Rattle.attempts_told.specs.call_whys.specs.expire_told.specs.call_run.specs.Threads.{RanWith, MayRunAll, ids_of}
+use Rattle.attempts_told.specs.call_whys.specs.expire_told.specs.call_places.specs.Counted.{HaveNotesOf}
+use Rattle.attempts_told.specs.call_whys.specs.expire_told.specs.call_places.specs.Deeds.{Deed}
+use Rattle.attempts_told.specs.call_whys.specs.expire_told.specs.call_places.proofs.Weights.{mapped}
+use Rattle.attempts_told.specs.call_whys.specs.expire_told.specs.call_places.proofs.Clients.{Client, view_of, tasks_of, deeds_of}
+use Rattle.attempts_told.specs.call_whys.specs.expire_told.specs.call_places.proofs.Places.{all as all_clients, tasks_are}
+use Rattle.attempts_told.specs.call_whys.specs.expire_told.specs.call_told.specs.Least.{is_made_for, is_locked_for}
+use Rattle.attempts_told.specs.call_whys.specs.expire_told.specs.call_told.proofs.Ends.{IsEndOf}
+use Rattle.attempts_told.specs.call_whys.specs.expire_told.specs.call_told.proofs.Least.{lock_of, end_number}
+use Rattle.attempts_told.specs.call_whys.specs.expire_told.specs.Said.{AreSaid, HaveKeptOf}
+use Rattle.attempts_told.specs.call_whys.specs.expire_told.proofs.Expires.{found_maker}
+use Rattle.attempts_told.specs.call_whys.specs.expire_told.proofs.Making.{slice_at}
 use Rattle.failed_told.specs.Missed.{missed_in, id_of, IsBacked, attempt_of}
 use Rattle.failed_told.specs.Reasons.{KeepsWord, WasDropped, Reason, timed_out, missed, dropped, IsCaused}
 use Rattle.failed_told.proofs.Clients.{Says}

@@ -34,7 +34,7 @@ use Rattle.script_calls.proofs.Placed.{mapped_from}
 use Rattle.script_calls.proofs.Sayings.{told_each, none_told}
 use Rattle.script_calls.proofs.Tellers.{HasResult, IsEndTold}
 use Rattle.script_calls.proofs.Tellers as tellers
-use Rattle.calls_done.proofs.Known.{IsOfCall}
+use Rattle.script_calls.specs.calls_done.proofs.Known.{IsOfCall}
 use Rattle.script_beside.specs.Told.{seated_plan, seated_ids, IsBesideRun}
 use Rattle.script_beside.proofs.Reports.{text_of, text_outcomes}
 use Rattle.script_beside.proofs.Sockets as sockets

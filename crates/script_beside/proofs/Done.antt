@@ -22,13 +22,13 @@ use Rattle.seat_programs.specs.declared.task.Task.{Task}
 use Rattle.seat_programs.specs.Scripts.{all_tasks}
 use Rattle.seat_programs.specs.Told.{IsTask, Became}
 use Rattle.seat_programs.specs.ToldCalls.{Fixed}
-use Rattle.calls_done.specs.Done.{DoneOnThreads}
-use Rattle.calls_done.specs.Owed.{IsUnsent, OwesReplies, GivesWell, AreClosed}
-use Rattle.calls_done.proofs.Done.{done_on_threads}
-use Rattle.calls_done.proofs.Known.{Known, IsOfCall}
-use Rattle.calls_done.proofs.Links.{shapes_many}
-use Rattle.served_told.specs.Telling.{TellBytes, ShowSmallIds}
-use Rattle.served_told.proofs.Own.{no_fault, own_request, made_for}
+use Rattle.script_calls.specs.calls_done.specs.Done.{DoneOnThreads}
+use Rattle.script_calls.specs.calls_done.specs.Owed.{IsUnsent, OwesReplies, GivesWell, AreClosed}
+use Rattle.script_calls.specs.calls_done.proofs.Done.{done_on_threads}
+use Rattle.script_calls.specs.calls_done.proofs.Known.{Known, IsOfCall}
+use Rattle.script_calls.specs.calls_done.proofs.Links.{shapes_many}
+use Rattle.script_calls.specs.served_told.specs.Telling.{TellBytes, ShowSmallIds}
+use Rattle.script_calls.specs.served_told.proofs.Own.{no_fault, own_request, made_for}
 use Rattle.script_calls.specs.callless_fits.proofs.Each.{told_each}
 use Rattle.script_calls.specs.callless_fits.proofs.Sends.{ToldRun}
 use Rattle.script_calls.specs.call_whys.specs.sock_deeds.specs.Told.{fixed_by, IsOfSockets}

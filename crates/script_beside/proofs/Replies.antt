@@ -47,10 +47,10 @@ use Rattle.script_calls.specs.call_whys.specs.sock_deeds.proofs.Flats.{append_fi
 use Rattle.script_calls.specs.call_whys.specs.sock_deeds.proofs.Growing.{HasFound}
 use Rattle.script_calls.specs.call_whys.specs.sock_deeds.proofs.Places.{map_there, to_elem}
 use Rattle.script_calls.specs.call_whys.specs.sock_deeds.proofs.Tasks.{fits}
-use Rattle.calls_done.specs.Done.{DoneOnThreads}
-use Rattle.calls_done.specs.Owed.{AreClosed}
-use Rattle.served_told.specs.Telling.{TellBytes}
-use Rattle.served_told.proofs.Own.{own_replies}
+use Rattle.script_calls.specs.calls_done.specs.Done.{DoneOnThreads}
+use Rattle.script_calls.specs.calls_done.specs.Owed.{AreClosed}
+use Rattle.script_calls.specs.served_told.specs.Telling.{TellBytes}
+use Rattle.script_calls.specs.served_told.proofs.Own.{own_replies}
 use Rattle.script_beside.specs.Gave.{offered_for, WasReadOut, GaveOffer, GaveOffers}
 use Rattle.script_beside.specs.Served.{run_of, IsServedText}
 use Rattle.script_beside.specs.Told.{seated_plan, seated_ids, HadGivenNone, IsBesideRun, IsBesideText}

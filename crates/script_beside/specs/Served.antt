@@ -4,9 +4,9 @@ use Rattle.brpc_model.specs.Items.{Item}
 use Rattle.brpc_model.specs.Link.{LinkEnd}
 use Rattle.brpc_model.specs.Run.{Run, nothing_late}
 use Rattle.brpc_model.specs.Served.{ServesAll}
-use Rattle.calls_done.specs.Done.{DoneOnThreads}
-use Rattle.calls_done.specs.Owed.{AreClosed}
-use Rattle.served_told.specs.Telling.{TellBytes}
+use Rattle.script_calls.specs.calls_done.specs.Done.{DoneOnThreads}
+use Rattle.script_calls.specs.calls_done.specs.Owed.{AreClosed}
+use Rattle.script_calls.specs.served_told.specs.Telling.{TellBytes}
 use Rattle.script_beside.specs.Told.{IsBesideText}
 
 -- the run that the text reports

@@ -5,9 +5,9 @@ use Rattle.std.specs.List.{AllByRecursion}
 use Rattle.brpc_model.specs.Operations.{Operation}
 use Rattle.rpc_client.specs.declared.acting.Told.{Told}
 use Rattle.script_calls.proofs.Sayings.{told_each, none_told}
-use Rattle.call_whys.specs.call_told.specs.Answers.{IsFailure, IsOwn, HasAnswer, HaveAnswers}
-use Rattle.call_whys.specs.call_told.proofs.Lists.{all_both, all_then, all_at}
-use Rattle.call_whys.specs.call_told.proofs.Answering.{Answers, AllHave, failure_answer, own_answer}
+use Rattle.calls_done.specs.call_whys.specs.call_told.specs.Answers.{IsFailure, IsOwn, HasAnswer, HaveAnswers}
+use Rattle.calls_done.specs.call_whys.specs.call_told.proofs.Lists.{all_both, all_then, all_at}
+use Rattle.calls_done.specs.call_whys.specs.call_told.proofs.Answering.{Answers, AllHave, failure_answer, own_answer}
 use Rattle.script_calls.specs.Told.{outcomes_of}
 
 module _ (links : ℕ) (gave : ℕ → List ℕ) (ops : List Operation) where

@@ -26,9 +26,9 @@ use Rattle.report_fits.proofs.TaskLemmas.{of_tasks, numbers_at, has_task, call_a
 use Rattle.script_calls.proofs.Sayings.{to_slice}
 use Rattle.call_run.specs.call_client.proofs.Changes.{AsksFor}
 use Rattle.call_run.specs.Threads.{opens_of, openings, opened_names, Thread, IsThread, AreThreads, AllRan}
-use Rattle.call_whys.specs.call_told.proofs.Lists.{all_both}
-use Rattle.call_whys.specs.call_told.proofs.Making.{FitsMade, AllMade, SeatMade, run_made, all_made}
-use Rattle.call_whys.specs.call_told.proofs.Answering.{IsAskedIn}
+use Rattle.calls_done.specs.call_whys.specs.call_told.proofs.Lists.{all_both}
+use Rattle.calls_done.specs.call_whys.specs.call_told.proofs.Making.{FitsMade, AllMade, SeatMade, run_made, all_made}
+use Rattle.calls_done.specs.call_whys.specs.call_told.proofs.Answering.{IsAskedIn}
 
 -- ## The calls of a script
 

@@ -25,13 +25,13 @@ use Rattle.sock_message.specs.Asked.{Asked}
 use Rattle.report_fits.proofs.Lists.{all_map, all_at as all_there}
 use Rattle.rpc_client.specs.declared.acting.Told.{Told}
 use Rattle.script_calls.proofs.Sayings.{to_slice}
-use Rattle.call_whys.specs.call_errors.specs.Books.{Books}
+use Rattle.calls_done.specs.call_whys.specs.call_errors.specs.Books.{Books}
 use Rattle.call_run.specs.Threads.{opens_of, openings, opened_names, Thread, IsThread, AreThreads, AllRan}
-use Rattle.call_whys.specs.call_told.proofs.Coming.{HasCome, run_come}
-use Rattle.call_whys.specs.call_told.proofs.Ends.{IsEndOf, AreEnds, IsEndIn, AreEndsIn}
-use Rattle.call_whys.specs.call_told.proofs.Growing.{own_at}
-use Rattle.call_whys.specs.call_told.proofs.Least.{TellEnds}
-use Rattle.call_whys.specs.call_told.proofs.Moves.{Fits, is_task, run_moves}
+use Rattle.calls_done.specs.call_whys.specs.call_told.proofs.Coming.{HasCome, run_come}
+use Rattle.calls_done.specs.call_whys.specs.call_told.proofs.Ends.{IsEndOf, AreEnds, IsEndIn, AreEndsIn}
+use Rattle.calls_done.specs.call_whys.specs.call_told.proofs.Growing.{own_at}
+use Rattle.calls_done.specs.call_whys.specs.call_told.proofs.Least.{TellEnds}
+use Rattle.calls_done.specs.call_whys.specs.call_told.proofs.Moves.{Fits, is_task, run_moves}
 
 -- ## Operations by their numbers
 

@@ -35,10 +35,10 @@ use Rattle.report_fits.proofs.TaskLemmas.{asks_at, numbers_at, task_is, asked_at
 use Rattle.rpc_client.specs.declared.acting.Told.{Told}
 use Rattle.script_calls.proofs.Sayings.{to_slice, from_slice, long_each, none_long}
 use Rattle.call_run.specs.Threads.{AllRan}
-use Rattle.call_whys.specs.call_told.specs.Least.{HasBegun, IsEndTold}
-use Rattle.call_whys.specs.call_told.proofs.Coming.{HasCome, tells, began, sends}
-use Rattle.call_whys.specs.call_told.proofs.Growing.{own_at}
-use Rattle.call_whys.specs.call_told.proofs.Moves.{Fits}
+use Rattle.calls_done.specs.call_whys.specs.call_told.specs.Least.{HasBegun, IsEndTold}
+use Rattle.calls_done.specs.call_whys.specs.call_told.proofs.Coming.{HasCome, tells, began, sends}
+use Rattle.calls_done.specs.call_whys.specs.call_told.proofs.Growing.{own_at}
+use Rattle.calls_done.specs.call_whys.specs.call_told.proofs.Moves.{Fits}
 use Rattle.script_calls.specs.Told.{outcomes_of}
 use Rattle.script_calls.proofs.Began.{each_one, few, IsOneOf, one_of, one_come}
 use Rattle.script_calls.proofs.MayCall.{IsOwn, IsOwnTask, all_own}

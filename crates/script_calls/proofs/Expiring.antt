@@ -15,7 +15,7 @@ use Rattle.report_fits.proofs.Lists.{Has, some_is}
 use Rattle.report_fits.proofs.Numbering.{are_from}
 use Rattle.report_fits.proofs.Targets.{expired, are_there}
 use Rattle.report_fits.proofs.TaskLemmas.{numbers_at, task_is, expire_asks}
-use Rattle.call_whys.specs.expire_told.specs.Said.{AreOfCalls}
+use Rattle.calls_done.specs.call_whys.specs.expire_told.specs.Said.{AreOfCalls}
 
 -- ## Which operations are calls
 

@@ -16,7 +16,7 @@ use Rattle.report_fits.proofs.Sizes.{is_counted}
 use Rattle.report_fits.proofs.TaskLemmas.{numbers_at, task_is, fail_asks}
 use Rattle.report_fits.proofs.Reading.{InRange}
 use Rattle.rpc_client.specs.declared.acting.Told.{Told}
-use Rattle.call_whys.specs.call_told.specs.Answers.{ends_call, IsOwn}
+use Rattle.calls_done.specs.call_whys.specs.call_told.specs.Answers.{ends_call, IsOwn}
 
 -- ## Codes of a script
 

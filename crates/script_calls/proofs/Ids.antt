@@ -38,20 +38,20 @@ use Rattle.rpc_client.specs.declared.acting.Told.{Told}
 use Rattle.call_run.specs.call_client.specs.Running.{MayMakeAll}
 use Rattle.call_run.specs.Readers.{LinkReader}
 use Rattle.call_run.specs.Threads.{ids_of, opens_of, AllMayRun, MayRunAll, RanWith}
-use Rattle.call_whys.specs.call_told.specs.Answers.{ends_call, IsOwn}
-use Rattle.call_whys.specs.call_told.specs.Least.{is_made_for, HasBegun as HasBegunHere}
-use Rattle.call_whys.specs.call_told.specs.Once.{ends_of, told_ends, ToldOnce}
-use Rattle.call_whys.specs.call_told.proofs.Lists.{all_at}
-use Rattle.call_whys.specs.call_told.proofs.Making.{AllMade, made_fits}
-use Rattle.call_whys.specs.call_places.specs.Counted.{makes_for, makes, HaveNotesOf}
-use Rattle.call_whys.specs.call_places.proofs.Clients.{Client, total_map, tasks_of, view_of as ids_seen}
-use Rattle.call_whys.specs.call_places.proofs.Counts.{call_in, made_few, task_total}
-use Rattle.call_whys.specs.call_places.proofs.Ids.{IsIdOf, one_id}
-use Rattle.call_whys.specs.call_places.proofs.Numbers.{numbered, numbered_once, own_calls}
-use Rattle.call_whys.specs.call_places.proofs.Places.{all as all_clients, tasks_are as of_clients}
-use Rattle.call_whys.specs.call_places.proofs.Weights.{term, two_terms, each_less, mapped, noted_at}
-use Rattle.call_whys.specs.call_deeds.proofs.Told.{task_at}
-use Rattle.call_whys.proofs.Versions.{IsIdFor, AreIds, versions}
+use Rattle.calls_done.specs.call_whys.specs.call_told.specs.Answers.{ends_call, IsOwn}
+use Rattle.calls_done.specs.call_whys.specs.call_told.specs.Least.{is_made_for, HasBegun as HasBegunHere}
+use Rattle.calls_done.specs.call_whys.specs.call_told.specs.Once.{ends_of, told_ends, ToldOnce}
+use Rattle.calls_done.specs.call_whys.specs.call_told.proofs.Lists.{all_at}
+use Rattle.calls_done.specs.call_whys.specs.call_told.proofs.Making.{AllMade, made_fits}
+use Rattle.calls_done.specs.call_whys.specs.call_places.specs.Counted.{makes_for, makes, HaveNotesOf}
+use Rattle.calls_done.specs.call_whys.specs.call_places.proofs.Clients.{Client, total_map, tasks_of, view_of as ids_seen}
+use Rattle.calls_done.specs.call_whys.specs.call_places.proofs.Counts.{call_in, made_few, task_total}
+use Rattle.calls_done.specs.call_whys.specs.call_places.proofs.Ids.{IsIdOf, one_id}
+use Rattle.calls_done.specs.call_whys.specs.call_places.proofs.Numbers.{numbered, numbered_once, own_calls}
+use Rattle.calls_done.specs.call_whys.specs.call_places.proofs.Places.{all as all_clients, tasks_are as of_clients}
+use Rattle.calls_done.specs.call_whys.specs.call_places.proofs.Weights.{term, two_terms, each_less, mapped, noted_at}
+use Rattle.calls_done.specs.call_whys.specs.call_deeds.proofs.Told.{task_at}
+use Rattle.calls_done.specs.call_whys.proofs.Versions.{IsIdFor, AreIds, versions}
 use Rattle.script_calls.specs.Told.{outcomes_of}
 use Rattle.script_calls.proofs.Asked.{AskFor, all_by_place}
 use Rattle.script_calls.proofs.Began.{only_is}

@@ -23,16 +23,16 @@ use Rattle.report_fits.proofs.Lists.{contains_from, all_at as all_there}
 use Rattle.rpc_client.specs.declared.acting.Told.{Told}
 use Rattle.call_run.specs.Readers.{LinkReader}
 use Rattle.call_run.specs.Threads.{opens_of, opened_names, openings, ids_of, Thread, IsThread, AreThreads, RanWith}
-use Rattle.call_whys.specs.call_told.proofs.Lists.{all_at}
-use Rattle.call_whys.specs.call_told.proofs.Making.{AllMade, made_fits}
-use Rattle.call_whys.specs.call_places.specs.Counted.{HaveNotesOf}
-use Rattle.call_whys.specs.call_places.proofs.Clients.{Client}
-use Rattle.call_whys.specs.call_places.proofs.Places.{all as all_clients, all_are}
-use Rattle.call_whys.specs.call_places.proofs.Weights.{term, mapped}
-use Rattle.call_whys.specs.expire_told.proofs.Making.{mapped_from}
-use Rattle.call_whys.specs.call_deeds.specs.Retried.{Again, all_asked}
-use Rattle.call_whys.specs.call_deeds.specs.Scripts.{AllLater}
-use Rattle.call_whys.specs.call_deeds.proofs.Ran.{AreLater}
+use Rattle.calls_done.specs.call_whys.specs.call_told.proofs.Lists.{all_at}
+use Rattle.calls_done.specs.call_whys.specs.call_told.proofs.Making.{AllMade, made_fits}
+use Rattle.calls_done.specs.call_whys.specs.call_places.specs.Counted.{HaveNotesOf}
+use Rattle.calls_done.specs.call_whys.specs.call_places.proofs.Clients.{Client}
+use Rattle.calls_done.specs.call_whys.specs.call_places.proofs.Places.{all as all_clients, all_are}
+use Rattle.calls_done.specs.call_whys.specs.call_places.proofs.Weights.{term, mapped}
+use Rattle.calls_done.specs.call_whys.specs.expire_told.proofs.Making.{mapped_from}
+use Rattle.calls_done.specs.call_whys.specs.call_deeds.specs.Retried.{Again, all_asked}
+use Rattle.calls_done.specs.call_whys.specs.call_deeds.specs.Scripts.{AllLater}
+use Rattle.calls_done.specs.call_whys.specs.call_deeds.proofs.Ran.{AreLater}
 use Rattle.callless_fits.specs.sock_deeds.specs.Runs.{IsOperation}
 use Rattle.script_calls.proofs.Asked.{AskFor, all_by_place}
 use Rattle.script_calls.proofs.MayCall.{IsOwnTask}

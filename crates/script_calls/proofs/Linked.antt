@@ -7,7 +7,7 @@ use Rattle.seat_programs.specs.declared.task.Task.{Task}
 use Rattle.seat_programs.specs.Runs.{from_to}
 use Rattle.seat_programs.specs.Scripts.{all_tasks}
 use Rattle.call_run.specs.Threads.{opens_in}
-use Rattle.call_whys.specs.call_deeds.specs.Scripts.{IsNextLink, HaveLinks, AllHaveLinks}
+use Rattle.calls_done.specs.call_whys.specs.call_deeds.specs.Scripts.{IsNextLink, HaveLinks, AllHaveLinks}
 use Rattle.script_calls.proofs.Links.{link_of, links_of, AreLinked, all_linked}
 use Rattle.script_calls.proofs.MayCall.{opens_are}
 

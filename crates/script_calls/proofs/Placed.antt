@@ -24,11 +24,11 @@ use Rattle.seat_programs.specs.Told.{AreTasks}
 use Rattle.rpc_client.specs.declared.acting.Told.{Told}
 use Rattle.call_run.specs.Readers.{LinkReader}
 use Rattle.call_run.specs.Threads.{Thread, MayRunAll, RanWith, ids_of}
-use Rattle.call_whys.specs.call_places.specs.Counted.{HaveNotesOf}
-use Rattle.call_whys.specs.call_places.proofs.Clients.{Client, tasks_of, deeds_of}
-use Rattle.call_whys.specs.call_places.proofs.Ids.{IdLaws}
-use Rattle.call_whys.specs.call_places.proofs.Own.{IsMade, deed_of}
-use Rattle.call_whys.specs.call_places.proofs.Places.{all, all_are, tasks_are, send_placed}
+use Rattle.calls_done.specs.call_whys.specs.call_places.specs.Counted.{HaveNotesOf}
+use Rattle.calls_done.specs.call_whys.specs.call_places.proofs.Clients.{Client, tasks_of, deeds_of}
+use Rattle.calls_done.specs.call_whys.specs.call_places.proofs.Ids.{IdLaws}
+use Rattle.calls_done.specs.call_whys.specs.call_places.proofs.Own.{IsMade, deed_of}
+use Rattle.calls_done.specs.call_whys.specs.call_places.proofs.Places.{all, all_are, tasks_are, send_placed}
 
 -- ## What the closed table has of the clients' seats
 

@@ -20,24 +20,24 @@ use Rattle.corr_id.specs.declared.calls.IdLock.{IdLock}
 use Rattle.corr_id.specs.Calls.{is_event, one}
 use Rattle.corr_id.proofs.Seats.{total_append}
 use Rattle.sock_message.specs.Asked.{Asked}
-use Rattle.call_whys.specs.call_errors.specs.declared.retries.Retry.{Retry}
-use Rattle.call_whys.specs.call_errors.specs.Books.{CallStand, stand_of}
-use Rattle.call_whys.specs.call_errors.specs.Locking.{GotBy}
-use Rattle.call_whys.specs.call_attempts.specs.Both.{Both}
-use Rattle.call_whys.specs.call_attempts.specs.Retrying.{without_oldest, RetriedBy, had_ended, overtaken, went_again, Retried, none_yet, one_more}
+use Rattle.calls_done.specs.call_whys.specs.call_errors.specs.declared.retries.Retry.{Retry}
+use Rattle.calls_done.specs.call_whys.specs.call_errors.specs.Books.{CallStand, stand_of}
+use Rattle.calls_done.specs.call_whys.specs.call_errors.specs.Locking.{GotBy}
+use Rattle.calls_done.specs.call_whys.specs.call_attempts.specs.Both.{Both}
+use Rattle.calls_done.specs.call_whys.specs.call_attempts.specs.Retrying.{without_oldest, RetriedBy, had_ended, overtaken, went_again, Retried, none_yet, one_more}
 use Rattle.call_run.specs.call_client.specs.Acting.{Stand, stand, both_of}
 use Rattle.call_run.specs.call_client.specs.Running.{Course, Ran, begins}
 use Rattle.call_run.specs.call_client.proofs.Telling.{did_total}
 use Rattle.call_run.specs.Threads.{Thread, IsThread}
-use Rattle.call_whys.specs.call_told.proofs.Ends.{counted_here}
-use Rattle.call_whys.specs.call_told.proofs.Lists.{all_both, all_then}
-use Rattle.call_whys.specs.call_places.specs.Deeds.{Deed, operates, retries, retries_of, ran_deeds}
-use Rattle.call_whys.specs.call_places.proofs.Own.{end_is}
-use Rattle.call_whys.specs.call_places.proofs.Still.{is_first, retried_still, again_still}
-use Rattle.call_whys.specs.call_places.proofs.Counts.{by_retry, none_first, retries_count, acted_might}
-use Rattle.call_whys.specs.call_places.proofs.Weights.{term}
-use Rattle.call_whys.specs.call_deeds.specs.Retried.{Again, asked_by, asked_in, asked_before, all_asked}
-use Rattle.call_whys.specs.call_deeds.proofs.Told.{came, made}
+use Rattle.calls_done.specs.call_whys.specs.call_told.proofs.Ends.{counted_here}
+use Rattle.calls_done.specs.call_whys.specs.call_told.proofs.Lists.{all_both, all_then}
+use Rattle.calls_done.specs.call_whys.specs.call_places.specs.Deeds.{Deed, operates, retries, retries_of, ran_deeds}
+use Rattle.calls_done.specs.call_whys.specs.call_places.proofs.Own.{end_is}
+use Rattle.calls_done.specs.call_whys.specs.call_places.proofs.Still.{is_first, retried_still, again_still}
+use Rattle.calls_done.specs.call_whys.specs.call_places.proofs.Counts.{by_retry, none_first, retries_count, acted_might}
+use Rattle.calls_done.specs.call_whys.specs.call_places.proofs.Weights.{term}
+use Rattle.calls_done.specs.call_whys.specs.call_deeds.specs.Retried.{Again, asked_by, asked_in, asked_before, all_asked}
+use Rattle.calls_done.specs.call_whys.specs.call_deeds.proofs.Told.{came, made}
 use Rattle.script_calls.proofs.Began.{only_is}
 
 -- ## The same call

@@ -8,8 +8,8 @@ use Rattle.corr_core.specs.declared.marks.View.{View}
 use Rattle.sock_message.specs.Asked.{Asked}
 use Rattle.rpc_client.specs.declared.acting.Told.{Told}
 use Rattle.script_calls.specs.Saying.{said_by, said_by_each}
-use Rattle.call_whys.specs.call_told.specs.Once.{told_ends, shows}
-use Rattle.call_whys.specs.call_told.proofs.Shown.{shown_none, shown_set}
+use Rattle.calls_done.specs.call_whys.specs.call_told.specs.Once.{told_ends, shows}
+use Rattle.calls_done.specs.call_whys.specs.call_told.proofs.Shown.{shown_none, shown_set}
 use Rattle.script_calls.specs.Seats.{IdSeat}
 use Rattle.script_calls.specs.Told.{outcomes_of}
 

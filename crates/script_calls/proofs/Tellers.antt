@@ -28,32 +28,32 @@ use Rattle.seat_programs.specs.declared.task.Task.{Task}
 use Rattle.seat_programs.specs.Scripts.{all_tasks}
 use Rattle.seat_programs.specs.Tasks.{plan_of}
 use Rattle.seat_programs.specs.Told.{AreTasks, IsTask, Became}
-use Rattle.call_whys.specs.outcome_causes.proofs.Tasks.{sorted_of}
+use Rattle.calls_done.specs.call_whys.specs.outcome_causes.proofs.Tasks.{sorted_of}
 use Rattle.report_fits.proofs.Lists.{some_is, contains_from, within, all_map, all_at as all_there}
 use Rattle.report_fits.proofs.TaskLemmas.{IsTaskOf, task_is, asks_at, asked_at, operation_task}
 use Rattle.rpc_client.specs.declared.acting.Told.{Told}
 use Rattle.rpc_reader.specs.Books.{id_of}
 use Rattle.call_run.specs.Readers.{LinkReader}
 use Rattle.call_run.specs.Threads.{ids_of, Thread, RanWith}
-use Rattle.call_whys.specs.call_told.specs.Answers.{EndedBy, by_code, by_response, ToldFrom}
-use Rattle.call_whys.specs.call_told.specs.Least.{is_locked_for}
-use Rattle.call_whys.specs.call_told.specs.Once.{ends_of, told_ends}
-use Rattle.call_whys.specs.call_told.proofs.Answering.{noted_place}
-use Rattle.call_whys.specs.call_told.proofs.Balance.{balanced_all}
-use Rattle.call_whys.specs.call_told.proofs.Ends.{IsEndIn}
-use Rattle.call_whys.specs.call_told.proofs.Least.{lock_of}
-use Rattle.call_whys.specs.call_told.proofs.Lists.{all_at}
-use Rattle.call_whys.specs.call_told.proofs.Moves.{Fits}
-use Rattle.call_whys.specs.call_told.proofs.Tallies.{ending_is}
-use Rattle.call_whys.specs.call_places.specs.Counted.{makes, HaveNotesOf}
-use Rattle.call_whys.specs.call_places.proofs.Clients.{Client, tasks_of, view_of as ids_seen}
-use Rattle.call_whys.specs.call_places.proofs.Places.{all as all_clients, all_are, tasks_are, views_are}
-use Rattle.call_whys.specs.call_places.proofs.Weights.{term, mapped, noted_at}
-use Rattle.call_whys.specs.call_deeds.specs.Scripts.{Reports}
-use Rattle.call_whys.specs.call_deeds.proofs.Ran.{Result}
-use Rattle.call_whys.specs.call_deeds.proofs.Told.{all_results, task_at, said_of, one_place}
+use Rattle.calls_done.specs.call_whys.specs.call_told.specs.Answers.{EndedBy, by_code, by_response, ToldFrom}
+use Rattle.calls_done.specs.call_whys.specs.call_told.specs.Least.{is_locked_for}
+use Rattle.calls_done.specs.call_whys.specs.call_told.specs.Once.{ends_of, told_ends}
+use Rattle.calls_done.specs.call_whys.specs.call_told.proofs.Answering.{noted_place}
+use Rattle.calls_done.specs.call_whys.specs.call_told.proofs.Balance.{balanced_all}
+use Rattle.calls_done.specs.call_whys.specs.call_told.proofs.Ends.{IsEndIn}
+use Rattle.calls_done.specs.call_whys.specs.call_told.proofs.Least.{lock_of}
+use Rattle.calls_done.specs.call_whys.specs.call_told.proofs.Lists.{all_at}
+use Rattle.calls_done.specs.call_whys.specs.call_told.proofs.Moves.{Fits}
+use Rattle.calls_done.specs.call_whys.specs.call_told.proofs.Tallies.{ending_is}
+use Rattle.calls_done.specs.call_whys.specs.call_places.specs.Counted.{makes, HaveNotesOf}
+use Rattle.calls_done.specs.call_whys.specs.call_places.proofs.Clients.{Client, tasks_of, view_of as ids_seen}
+use Rattle.calls_done.specs.call_whys.specs.call_places.proofs.Places.{all as all_clients, all_are, tasks_are, views_are}
+use Rattle.calls_done.specs.call_whys.specs.call_places.proofs.Weights.{term, mapped, noted_at}
+use Rattle.calls_done.specs.call_whys.specs.call_deeds.specs.Scripts.{Reports}
+use Rattle.calls_done.specs.call_whys.specs.call_deeds.proofs.Ran.{Result}
+use Rattle.calls_done.specs.call_whys.specs.call_deeds.proofs.Told.{all_results, task_at, said_of, one_place}
 use Rattle.callless_fits.specs.sock_deeds.specs.Runs.{IsOperation}
-use Rattle.failed_told.proofs.Makers.{made_begun}
+use Rattle.calls_done.specs.failed_told.proofs.Makers.{made_begun}
 use Rattle.script_calls.specs.Told.{outcomes_of}
 use Rattle.script_calls.proofs.Sayings.{to_slice, long_each, told_each, none_long, none_told}
 use Rattle.script_calls.proofs.Began.{thread_ends_in}

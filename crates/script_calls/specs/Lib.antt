@@ -3,9 +3,11 @@ pub mod Saying
 pub mod Ready
 pub mod Seats
 pub mod Told
-pub use Rattle.attempts_told
-pub use Rattle.call_whys
+pub use Rattle.calls_done.specs.attempts_told
+pub use Rattle.calls_done.specs.call_whys
 pub use Rattle.callless_fits
-pub use Rattle.failed_told
+pub use Rattle.calls_done.specs.failed_told
 pub use Rattle.id_rule
 pub use Rattle.report_fits
+pub use Rattle.calls_done
+pub use Rattle.calls_done.specs.served_told
