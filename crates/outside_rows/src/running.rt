@@ -54,7 +54,7 @@ fn runs_on_threads(rt: HostRuntime) -> Result<(), Fail> {
     Ok(())
 }
 
-/// An `expire` comes before the call has begun, or behind its answer, or ends it.
+/// An `expire` comes before the call has begun, or behind its answer, or as its reader ends it, or ends it.
 #[test]
 fn races_an_expiry(rt: HostRuntime) -> Result<(), Fail> {
     let script = "open a serve\nclient\ncall a Echo.Echo 6869\nclient\nexpire 1.1";
@@ -64,9 +64,11 @@ fn races_an_expiry(rt: HostRuntime) -> Result<(), Fail> {
         b"0.1 open 0 0 0\n1.1 call 1 failed 1008\n2.1 expired\nlink 0 a accepted 1 placed 1 took 30 5052504300000012000000100a0c0a044563686f12044563686f20026869\norder 0 1.1.0\nend\n";
     let late: &[u8] =
         b"0.1 open 0 0 0\n1.1 call 1 answered 6869 -\n2.1 late\nlink 0 a accepted 1 placed 1 took 30 5052504300000012000000100a0c0a044563686f12044563686f20026869\norder 0 1.1.0\nend\n";
+    let meanwhile: &[u8] =
+        b"0.1 open 0 0 0\n1.1 call 1 answered 6869 -\n2.1 queued\nlink 0 a accepted 1 placed 1 took 30 5052504300000012000000100a0c0a044563686f12044563686f20026869\norder 0 1.1.0\nend\n";
     let (status, written) = ran(&rt, script)?;
     assert_eq!(rt; status, 0);
     let text = written.as_slice();
-    assert!(rt; text == early || text == ends || text == late);
+    assert!(rt; text == early || text == ends || text == late || text == meanwhile);
     Ok(())
 }
