@@ -52,7 +52,7 @@ use Rattle.attempts_told.specs.call_whys.specs.expire_told.specs.sock_deeds.spec
 use Rattle.attempts_told.specs.call_whys.specs.expire_told.specs.sock_deeds.proofs.Accepting.{log, act_of_entry, sent_for, sent_place}
 use Rattle.attempts_told.specs.call_whys.specs.expire_told.specs.sock_deeds.proofs.Acts.{Act, after, has_marks, has_drops}
 use Rattle.attempts_told.specs.call_whys.specs.expire_told.specs.sock_deeds.proofs.DropCodes.{FailsWith, FailedByReader, life_code, IsBehindPlaced, dropped_stands}
-use Rattle.attempts_told.specs.call_whys.specs.expire_told.specs.sock_deeds.proofs.Failing.{WhyFailed, by_name, by_link, by_reader, early}
+use Rattle.attempts_told.specs.call_whys.specs.expire_told.specs.sock_deeds.proofs.Failing.{early}
 use Rattle.attempts_told.specs.call_whys.specs.expire_told.specs.sock_deeds.proofs.Fails.{link_is}
 use Rattle.attempts_told.specs.call_whys.specs.expire_told.specs.sock_deeds.proofs.Lives.{MadeHere, linked_made}
 use Rattle.attempts_told.specs.call_whys.specs.expire_told.specs.sock_deeds.proofs.Losses.{lost_by}
@@ -69,7 +69,7 @@ use Rattle.attempts_told.specs.Attempts.{last_attempt}
 use Rattle.failed_told.specs.Missed.{socks_behind}
 use Rattle.failed_told.specs.Reasons.{StillHas, WasDropped}
 use Rattle.failed_told.proofs.Codes.{IsReadCode}
-use Rattle.failed_told.proofs.Fallen.{chain_last, its_seat, reached, one_operation}
+use Rattle.failed_told.proofs.Fallen.{chain_last, its_seat, reached, failing_by, one_operation}
 use Rattle.failed_told.proofs.Keeping.{still_as, still_then}
 use Rattle.failed_told.proofs.Owners.{IsOwned, owned_by}
 use Rattle.failed_told.proofs.Single.{sender, made_low}
@@ -276,13 +276,9 @@ module _ {O : Type 0} {g : Ghosts O} {state : O → OutState} {readers : List (L
           (e.link, b.position, (b.inside, accepted_of e, accepted_there (on e.link (log drun)) b.position e b.there, o, m), b.behind)
 
       is_failing : IsFailing p every outcomes fixed_here gave orders_here dropped_at.entry.link
-      is_failing = let b = dropped_at.behind in let late = b.behind in let less = b.less in
-          by (lost_by drun differ few dropped_at.entry.link b.inside (omega (arith, late, less))).why
-        where
-          by : {i h : ℕ} → WhyFailed drun i h dropped_at.entry.link → IsFailing p every outcomes fixed_here gave orders_here dropped_at.entry.link
-          by (by_name f) = inl (f.life.number, f.listed, tt)
-          by (by_link b) = inr (inl b)
-          by (by_reader e) = inr (inr (inl e))
+      is_failing =
+          let b = dropped_at.behind in let late = b.behind in let less = b.less in
+          let l = lost_by drun differ few dropped_at.entry.link b.inside (omega (arith, late, less)) in failing_by run tasks may notes kept words closing noted outcomes drun seats logged differ gave all_there l.slot l.version dropped_at.entry.link l.why
 
       module _ (client : ℕ) (task : IsOperation every outcomes client asked.operation (ops.Call asked)) where
         abbrev name : ℕ

@@ -277,7 +277,7 @@ module _ (P : Type 0) {O I : Type 0} (g : Ghosts O) (out : O → OutState) (inn 
     on_link : (number : ℕ) (asked : Asked) (code : ℕ) → EndedLink number asked code → WhyRead number asked code (last_attempt notes number)
     on_link number asked code h = elim h.read [
       | inl f ↦ AtFault f.0 h.attempt h.link h.low h.on f.1
-      | inr e ↦ AtEnd e.0 h.attempt h.link h.low (record { on = h.on; ended = e.1 })
+      | inr e ↦ AtEnd e.0 h.attempt h.link h.low (record { on = h.on; ended = e.1; lost = h.lost })
     ]
 
     -- the link of a reader whose reading ended early
@@ -294,7 +294,7 @@ module _ (P : Type 0) {O I : Type 0} (g : Ghosts O) (out : O → OutState) (inn 
 
     on_drop : (number : ℕ) (asked : Asked) (code : ℕ) → IsReadCode code → DroppedLink number asked code → WhyRead number asked code (last_attempt notes number)
     on_drop number asked code read h = elim read [
-      | inl e ↦ AtEnd e h.attempt h.link h.low (record { on = h.on; ended = ended_early h.link h.early })
+      | inl e ↦ AtEnd e h.attempt h.link h.low (record { on = h.on; ended = ended_early h.link h.early; lost = inl h.failing })
       | inr e ↦ AtDrop e h.attempt h.link h.low (record { on = h.on; dropped = h.dropped; failing = h.failing; ended = ended_early h.link h.early })
     ]
 
