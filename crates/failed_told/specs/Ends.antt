@@ -25,11 +25,12 @@ module _ (p : Plan) (clients : List (List Task)) (outcomes : List (Option Outcom
     pub ended : ReadingEnded k
     pub lost : LostOn p clients outcomes fixed gave orders o n k
 
-  -- the message of this attempt, which may be on k alone, was dropped, since the reader of k, whose reading ended early, had set its socket failed
+  -- the message of this attempt, which may be on k alone, was dropped, since the reader of k, whose reading ended at a fault in what k gave, had set its socket failed
   pub record DroppedWith (o n name k : ℕ) : Type 0 where
     pub on : MayBeOn p clients outcomes fixed gave orders o n name k
     pub dropped : IsDropped p clients outcomes fixed gave orders o n
     pub failing : IsFailing p clients outcomes fixed gave orders k
+    pub fault : GaveFault p clients outcomes fixed gave orders k
     pub ended : ReadingEnded k
 
   -- How the call that is operation o, whose last attempt this is, was ended with the code by whoever read the links: at a fault in what the link of one of its attempts gave, or as the reading of that link ended otherwise;
