@@ -54,6 +54,7 @@ use Rattle.attempts_told.specs.call_whys.specs.expire_told.specs.sock_deeds.proo
 use Rattle.attempts_told.specs.call_whys.specs.expire_told.specs.sock_deeds.proofs.Whole.{fixed}
 use Rattle.attempts_told.specs.Attempts.{last_attempt}
 use Rattle.attempts_told.proofs.Told.{same_asked}
+use Rattle.failed_told.specs.Ends.{LostOn}
 use Rattle.failed_told.specs.Reasons.{WasDropped, Reason, timed_out, missed, dropped, Origin, posted_so, handed_out, IsCaused}
 use Rattle.failed_told.proofs.Behind.{unread}
 use Rattle.failed_told.proofs.Clients.{Says}
@@ -123,6 +124,7 @@ module _ {O : Type 0} {g : Ghosts O} {state : O → OutState} {readers : List (L
     pub link : ℕ
     pub low : attempt ≤ last_attempt notes o
     pub on : MayBeOn p every outcomes fixed_here gave orders_here o attempt (name_of asked attempt) link
+    pub lost : LostOn p every outcomes fixed_here gave orders_here o attempt link
     pub read : Reads link code
 
   -- that for which the id was made that the word names
@@ -139,6 +141,7 @@ module _ {O : Type 0} {g : Ghosts O} {state : O → OutState} {readers : List (L
         low = subst (λ (m : ℕ). n.attempt ≤ last_attempt notes m) its n.low;
         on = subst (λ (a : Asked). MayBeOn p every outcomes fixed_here gave orders_here o n.attempt (name_of a n.attempt) (at_word_link word)) whose
             (subst (λ (m : ℕ). MayBeOn p every outcomes fixed_here gave orders_here m n.attempt (name_of n.asked n.attempt) (at_word_link word)) its n.on);
+        lost = subst (λ (m : ℕ). LostOn p every outcomes fixed_here gave orders_here m n.attempt (at_word_link word)) its n.lost;
         read = h.read;
       }
 

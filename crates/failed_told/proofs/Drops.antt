@@ -51,8 +51,8 @@ use Rattle.attempts_told.specs.call_whys.specs.expire_told.specs.sock_deeds.spec
 use Rattle.attempts_told.specs.call_whys.specs.expire_told.specs.sock_deeds.specs.Runs.{IsOperation, IsMessage, of_send, of_call, Seated, seat_of, early_of, DeedRun}
 use Rattle.attempts_told.specs.call_whys.specs.expire_told.specs.sock_deeds.proofs.Accepting.{log, act_of_entry, sent_for, sent_place}
 use Rattle.attempts_told.specs.call_whys.specs.expire_told.specs.sock_deeds.proofs.Acts.{Act, after, has_marks, has_drops}
-use Rattle.attempts_told.specs.call_whys.specs.expire_told.specs.sock_deeds.proofs.DropCodes.{FailsWith, FailedByReader, life_code, IsBehindPlaced, dropped_stands}
-use Rattle.attempts_told.specs.call_whys.specs.expire_told.specs.sock_deeds.proofs.Failing.{WhyFailed, by_name, by_link, by_reader, early}
+use Rattle.attempts_told.specs.call_whys.specs.expire_told.specs.sock_deeds.proofs.DropCodes.{FailsWith, IsBehindPlaced, dropped_stands}
+use Rattle.attempts_told.specs.call_whys.specs.expire_told.specs.sock_deeds.proofs.Failing.{early}
 use Rattle.attempts_told.specs.call_whys.specs.expire_told.specs.sock_deeds.proofs.Fails.{link_is}
 use Rattle.attempts_told.specs.call_whys.specs.expire_told.specs.sock_deeds.proofs.Lives.{MadeHere, linked_made}
 use Rattle.attempts_told.specs.call_whys.specs.expire_told.specs.sock_deeds.proofs.Losses.{lost_by}
@@ -69,9 +69,10 @@ use Rattle.attempts_told.specs.Attempts.{last_attempt}
 use Rattle.failed_told.specs.Missed.{socks_behind}
 use Rattle.failed_told.specs.Reasons.{StillHas, WasDropped}
 use Rattle.failed_told.proofs.Codes.{IsReadCode}
-use Rattle.failed_told.proofs.Fallen.{chain_last, its_seat, reached, one_operation}
+use Rattle.failed_told.proofs.Fallen.{chain_last, its_seat, reached, failing_by, one_operation}
 use Rattle.failed_told.proofs.Keeping.{still_as, still_then}
 use Rattle.failed_told.proofs.Owners.{IsOwned, owned_by}
+use Rattle.failed_told.proofs.ReaderCodes.{StoredByReader, stored_code}
 use Rattle.failed_told.proofs.Single.{sender, made_low}
 
 name_at : ℕ → Op → ℕ
@@ -162,7 +163,7 @@ module _ {O : Type 0} {g : Ghosts O} {state : O → OutState} {readers : List (L
     pub dropped : IsDropped p every outcomes fixed_here gave orders_here o attempt
     pub failing : IsFailing p every outcomes fixed_here gave orders_here link
     pub early : Contains (early drun) link
-    pub by : FailedByReader drun link code
+    pub by : StoredByReader drun link code
 
   -- ## What is left of a drop
 
@@ -210,18 +211,18 @@ module _ {O : Type 0} {g : Ghosts O} {state : O → OutState} {readers : List (L
         linked_made drun i version_there link (drun.closed.closing.met_linked i version_there link w.inside (omega (arith, still, all, met)))
 
     -- the code is EFAILEDSOCKET, that of a `fail` of the name of its life, or that of whoever read the link
-    by_code : (name link : ℕ) → MadeHere drun name link slot_there version_there → (code ≡ EFAILEDSOCKET) ⊎ (FailsWith drun name code ⊎ FailedByReader drun link code)
+    by_code : (name link : ℕ) → MadeHere drun name link slot_there version_there → (code ≡ EFAILEDSOCKET) ⊎ (FailsWith drun name code ⊎ StoredByReader drun link code)
     by_code name link made = let d = w.drop.code_is in dite (ℕ_discrete d.word 0)
         (λ z. inl (w.code_is ∙ (d.code_is ∙ ap (λ b. cond b EFAILEDSOCKET d.word) (eq-eqb d.word 0 z))))
         (λ ne. (
         let i = slot_there in let h = version_there in let k = kept_there in
         let is : code ≡ d.word = w.code_is ∙ (d.code_is ∙ ap (λ b. cond b EFAILEDSOCKET d.word) (ne_eqb d.word 0 ne)) in
         let told_ = k.still.marks (is_told h d.word) (λ z. refl) i in let found = d.noted ne in let saw = k.still.marks (is_saw (h + 1)) (λ z. refl) i in let dead = w.drop.dead in
-        elim (life_code drun k.act name link i h (h + 1) d.word w.inside made (omega (arith, told_, found)) (omega (arith, saw, dead)) (omega arith)) [
+        elim (stored_code drun k.act name link i h (h + 1) d.word w.inside made (omega (arith, told_, found)) (omega (arith, saw, dead)) (omega arith)) [
           | inl e ↦ inl (is ∙ e)
           | inr o ↦ elim o [
             | inl f ↦ inr (inl (subst (FailsWith drun name) (sym is) f))
-            | inr r ↦ inr (inr (subst (FailedByReader drun link) (sym is) r))
+            | inr r ↦ inr (inr (subst (StoredByReader drun link) (sym is) r))
           ]
         ]))
 
@@ -276,13 +277,9 @@ module _ {O : Type 0} {g : Ghosts O} {state : O → OutState} {readers : List (L
           (e.link, b.position, (b.inside, accepted_of e, accepted_there (on e.link (log drun)) b.position e b.there, o, m), b.behind)
 
       is_failing : IsFailing p every outcomes fixed_here gave orders_here dropped_at.entry.link
-      is_failing = let b = dropped_at.behind in let late = b.behind in let less = b.less in
-          by (lost_by drun differ few dropped_at.entry.link b.inside (omega (arith, late, less))).why
-        where
-          by : {i h : ℕ} → WhyFailed drun i h dropped_at.entry.link → IsFailing p every outcomes fixed_here gave orders_here dropped_at.entry.link
-          by (by_name f) = inl (f.life.number, f.listed, tt)
-          by (by_link b) = inr (inl b)
-          by (by_reader e) = inr (inr (inl e))
+      is_failing =
+          let b = dropped_at.behind in let late = b.behind in let less = b.less in
+          let l = lost_by drun differ few dropped_at.entry.link b.inside (omega (arith, late, less)) in failing_by run tasks may notes kept words closing noted outcomes drun seats logged differ gave all_there l.slot l.version dropped_at.entry.link l.why
 
       module _ (client : ℕ) (task : IsOperation every outcomes client asked.operation (ops.Call asked)) where
         abbrev name : ℕ
@@ -340,11 +337,11 @@ module _ {O : Type 0} {g : Ghosts O} {state : O → OutState} {readers : List (L
 
         -- ## By a reader's code
 
-        early_one : (k e : ℕ) → FailedByReader drun k e → Contains (early drun) k
+        early_one : (k e : ℕ) → StoredByReader drun k e → Contains (early drun) k
         early_one k e f = subst (Contains (early drun)) f.link_is
             (let w = flat_there early_of drun.readers f.place f.reader 0 f.reader.link f.there (early_there f.reader f.early) in contains_from (early drun) f.reader.link (w.0, to_slice (early drun) w.0 f.reader.link w.1))
 
-        its_reader : IsReadCode code → FailedByReader drun dropped_at.entry.link code
+        its_reader : IsReadCode code → StoredByReader drun dropped_at.entry.link code
         its_reader read = elim (by_code name dropped_at.entry.link its_name) [
           | inl e ↦ absurd (not_failed code read e)
           | inr o ↦ elim o [ inl f ↦ absurd (let b = bounds f.client f.number name code f.is in not_user code read b.0 b.1) | inr r ↦ r ]

@@ -129,7 +129,7 @@ module _ {O : Type 0} {g : Ghosts O} {state : O → OutState} {p : Plan} {every 
   ]
 
   -- as many messages were accepted as there are requests
-  full_by : (c : ℕ) (y : Seated g state p) → get_elem? drun.seats c ≡ some y → SawFull p y.ended.view → p.requests ≤ length (log drun)
+  pub full_by : (c : ℕ) (y : Seated g state p) → get_elem? drun.seats c ≡ some y → SawFull p y.ended.view → p.requests ≤ length (log drun)
   full_by c y at f = elim (last_act c y at) [
     | inl none_ ↦ dite (ℕ_discrete p.requests 0)
         (λ z. omega (arith, z))
@@ -170,6 +170,12 @@ module _ {O : Type 0} {g : Ghosts O} {state : O → OutState} {readers : List (L
   pub reached : (c : ℕ) (x : Client g state p q) → get_elem? crew c ≡ some x → (i : ℕ) (d : Deed g state p q) → get_elem? (deeds_of x) i ≡ some d → Reaches state p q {g = g} x.thread.ended.seat.me.0 d
   reached c x at i d there = all_at (Reaches state p q {g = g} x.thread.ended.seat.me.0) (deeds_of x) i d (deeds_reach x.thread x.is) there
 
+  -- a link whose life was failed by a `fail`, by the link, or by its reader
+  pub failing_by : (i h link : ℕ) → WhyFailed drun i h link → IsFailing p every outcomes fixed_here gave (orders drun differ) link
+  failing_by i h link (by_name f) = inl (f.life.number, f.listed, tt)
+  failing_by i h link (by_link b) = inr (inl b)
+  failing_by i h link (by_reader e) = inr (inr (inl e))
+
   -- ## One id
 
   -- two calls of one id are of one operation
@@ -197,15 +203,6 @@ module _ {O : Type 0} {g : Ghosts O} {state : O → OutState} {readers : List (L
               n.1 w.3 w.0 (ap (λ l. get_elem? l w.3) (sym logged) ∙ w.4) (omega (arith, operation, number))),
         )
 
-    -- the life was failed by a `fail`, by its link, or by the reader of its link
-    is_failing : (n : ℕ) (l : LifeFailed drun n) → IsFailing p every outcomes fixed_here gave (orders drun differ) l.link
-    is_failing n l = by l.why
-      where
-        by : WhyFailed drun l.slot l.version l.link → IsFailing p every outcomes fixed_here gave (orders drun differ) l.link
-        by (by_name f) = inl (f.life.number, f.listed, tt)
-        by (by_link b) = inr (inl b)
-        by (by_reader e) = inr (inr (inl e))
-
     -- why the call failed: one of the causes that are told of failed calls; or its name had no socket
     pub data Fallen (client o : ℕ) (asked : Asked) (id n : ℕ) : Type 0 where
       fell : FailedBy p every outcomes fixed_here gave (orders drun differ) client o asked id code n → Fallen client o asked id n
@@ -223,7 +220,7 @@ module _ {O : Type 0} {g : Ghosts O} {state : O → OutState} {readers : List (L
         let low = (fits drun client record { number = asked.operation; op = ops.Call asked } is).1.names (attempt_of d) in
         let seen = subst (SawDead p (name_of asked (attempt_of d))) (sym y.2) (dead_later p (name_of asked (attempt_of d)) (socks_behind d) x.thread.ended.seat.me.0 (reached c x at i d there) dead) in
         let l = dead_by drun c y.0 y.1 (name_of asked (attempt_of d)) low seen in
-        had_failed same (WasFailing l.link l.slot l.version l.made (is_failing (name_of asked (attempt_of d)) l))
+        had_failed same (WasFailing l.link l.slot l.version l.made (failing_by l.slot l.version l.link l.why))
     why_nothing client o asked is (was_full same full) =
         let y = its_seat c x at in
         let seen = subst (SawFull p) (sym y.2) (full_later p (socks_behind d) x.thread.ended.seat.me.0 (reached c x at i d there) full) in

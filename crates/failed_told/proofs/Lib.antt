@@ -16,6 +16,7 @@ pub mod Single
 pub mod Reaching
 pub mod Fallen
 pub mod Owners
+pub mod ReaderCodes
 pub mod Drops
 pub mod PostedCodes
 pub mod Asked
@@ -34,5 +35,6 @@ pub mod AtWords
 pub mod Standing
 pub mod Named
 pub mod Ends
+pub mod ReaderStores
 pub mod ByLinks
 pub mod LinkEnds

@@ -60,7 +60,7 @@ pub full_later : (p : Plan) (v w : View) → Grew v w → SawFull p v → SawFul
 full_later p v w g f r low = g.seen (request_index p r) (f r low)
 
 -- what was added is there
-saw_there : (i w : ℕ) (v u : View) (others : List Mark) → Became i v u (Saw w ∷ others) [] → 0 < marks_of (is_saw w) i u
+pub saw_there : (i w : ℕ) (v u : View) (others : List Mark) → Became i v u (Saw w ∷ others) [] → 0 < marks_of (is_saw w) i u
 saw_there i w v u others b =
     let e : marks_of (is_saw w) i u + 0 ≡ marks_of (is_saw w) i v + (only w w + total (is_saw w) others) = b.here (is_saw w) in
     let q = only-same w in omega (arith, e, q)

@@ -1,4 +1,4 @@
--- A word of an operation's attempts that was found names one of them: its call, and the link that it may be on.
+-- A word of an operation's attempts that was found names one of them: its call, the link that it may be on, and how it was lost there if it was.
 use Rattle.std.proofs.Common.{◌≡◌, ℕ, ◌+◌, ◌*◌, ◌<◌, ◌≤◌, List, ◌∷◌, length, map, Some, None, refl, sym, ap, ◌∙◌, subst, arith}
 use Rattle.std.specs.Prelude.{Option, Bool, if◌then◌else◌}
 use Rattle.std.proofs.lemmas.Bool.{lt-ltb}
@@ -49,12 +49,13 @@ use Rattle.attempts_told.specs.call_whys.specs.expire_told.specs.sock_deeds.proo
 use Rattle.attempts_told.specs.call_whys.specs.expire_told.specs.sock_deeds.proofs.Orders.{orders}
 use Rattle.attempts_told.specs.call_whys.specs.expire_told.specs.sock_deeds.proofs.Whole.{fixed}
 use Rattle.attempts_told.specs.Attempts.{last_attempt}
+use Rattle.failed_told.specs.Ends.{LostOn}
 use Rattle.failed_told.specs.Missed.{acted_id, id_of, attempt_of}
 use Rattle.failed_told.proofs.AtWords.{link_in, IsMadeIn, IsStoredBy, stored_in, stored_by}
 use Rattle.failed_told.proofs.Losses.{IsAskedIn}
 use Rattle.failed_told.proofs.Posters.{attempt_low}
 use Rattle.failed_told.proofs.Single.{IsAttemptOf, at_first, within, first_id, again_id, again_attempt, made_low}
-use Rattle.failed_told.proofs.Standing.{may_be_on}
+use Rattle.failed_told.proofs.Standing.{may_be_on, lost_on}
 
 -- ## Words
 
@@ -143,6 +144,7 @@ module _ {O : Type 0} {g : Ghosts O} {state : O → OutState} {readers : List (L
     pub id : IsIdOf slots notes o (call_at word)
     pub low : attempt ≤ last_attempt notes o
     pub on : MayBeOn p every outcomes fixed_here gave orders_here o attempt (name_of asked attempt) (at_word_link word)
+    pub lost : LostOn p every outcomes fixed_here gave orders_here o attempt (at_word_link word)
 
   of_deed : (o word c : ℕ) (x : Client g state p q) → get_elem? crew c ≡ some x → (i : ℕ) (d : Deed g state p q) → get_elem? (deeds_of x) i ≡ some d → IsStoredBy (view_of x) o word d → IsNamed o word
   of_deed o word c x at i d there s =
@@ -152,6 +154,7 @@ module _ {O : Type 0} {g : Ghosts O} {state : O → OutState} {readers : List (L
       let is = asked_so c x at i d there s.asked s.is in
       let task : IsOperation every outcomes is.0 o (ops.Call s.asked) = subst (λ (m : ℕ). IsOperation every outcomes is.0 m (ops.Call s.asked)) s.operation is.1 in
       let on = may_be_on run tasks may notes kept words closing noted outcomes drun seats logged differ gave all_there c x at i d there is.0 o id s.asked task own.id own.attempt few s.inside s.asked s.is refl s.link s.link_is in
+      let lost = lost_on run tasks may notes kept words closing noted outcomes drun seats logged differ gave all_there c x at i d there is.0 o id s.asked task own.id own.attempt few s.inside s.asked s.is refl s.link s.link_is s.operation s.link_low in
       let back : Reads (at_word (version_of id) (slot_of id) s.link n) (version_of id) (slot_of id) s.link n = reads_back (version_of id) (slot_of id) s.link n (let a = s.inside in omega (arith, a, few_slots)) (let a = s.link_low in omega (arith, a, few_links)) few in
       let r : Reads word (version_of id) (slot_of id) s.link n = subst (λ (w : ℕ). Reads w (version_of id) (slot_of id) s.link n) (sym s.word_is) back in
       let call : call_at word ≡ id = let a = r.first_is in let b = r.slot_is in let whole = div-add-mod' id 4294967296 in omega (arith, a, b, whole) in
@@ -165,6 +168,7 @@ module _ {O : Type 0} {g : Ghosts O} {state : O → OutState} {readers : List (L
         id = subst (IsIdOf slots notes o) (sym call) own.id;
         low = made_low run tasks may notes kept words closing noted o id n own.id c x at i d there own.attempt;
         on = subst (MayBeOn p every outcomes fixed_here gave orders_here o n (name_of s.asked n)) (sym r.link_is) on;
+        lost = subst (LostOn p every outcomes fixed_here gave orders_here o n) (sym r.link_is) lost;
       }
 
   pub named : (o word : ℕ) → 0 < total (is_word (at_index q o) word) kept → IsNamed o word

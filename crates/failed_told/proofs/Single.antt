@@ -28,7 +28,7 @@ use Rattle.corr_core.specs.declared.marks.Note.TheVariants.{Tried, Made, Ended, 
 use Rattle.corr_core.specs.declared.marks.Noted.{Noted}
 use Rattle.corr_core.specs.declared.marks.Plan as id_plan
 use Rattle.corr_core.specs.declared.marks.View.{View}
-use Rattle.corr_core.proofs.Notes.{only-at, pair-at, pair-else, pair-else_first, total_some}
+use Rattle.corr_core.proofs.Notes.{only-at, only-else, pair-at, pair-else, pair-else_first, total_some}
 use Rattle.id_rule.specs.Lawful.{notes_of}
 use Rattle.sock_message.specs.Asked.{Asked}
 use Rattle.corr_id.specs.declared.calls.IdLock.{IdLock}
@@ -151,6 +151,16 @@ module _ {O : Type 0} (state : O → OutState) (p : Plan) (q : id_plan.Plan) whe
     acted_first v number (ops.Hold n) by s t a is made = absurd (none-some code is)
     acted_first v number (ops.Drop n) by s t a is made = absurd (none-some code is)
     acted_first v number (ops.Fail n c) by s t a is made = absurd (none-some code is)
+
+label_place : (l number : ℕ) (asked : Asked) → 0 < label_in l number (ops.Call asked) → l ≡ 8 * asked.operation + 0
+label_place l number asked h = dite (ℕ_discrete (8 * asked.operation + 0) l) (λ e. sym e) (λ ne. absurd (let z = only-else l (8 * asked.operation + 0) ne in omega (arith, z, h)))
+
+-- a frame that was sent has the place index of its deed's attempt
+pub deed_place : {O : Type 0} {g : Ghosts O} {state : O → OutState} {p : Plan} {q : id_plan.Plan} (d : Deed g state p q) (asked : Asked) → IsAskedIn d asked → (m : ℕ) (e : Entry) → get_elem? (entries_of d) m ≡ some e → e.heading.place ≡ 8 * asked.operation + attempt_of d
+deed_place {state = state} {p = p} {q = q} (operates x by s t a) asked is m e h = label_place e.heading.place x.number asked (subst (λ (o : Op). 0 < label_in e.heading.place x.number o) is (acted_at state p q x.number x.op by s t a m e h))
+deed_place {state = state} {p = p} {q = q} (retries r s t (had_ended z)) asked is m e h = absurd (none_there m e h)
+deed_place {state = state} {p = p} {q = q} (retries r s t (overtaken k u l o)) asked is m e h = absurd (none_there m e h)
+deed_place {state = state} {p = p} {q = q} (retries r s t (went_again k u l w)) asked is m e h = went_at state p q _ _ _ t w.went m e h ∙ ap (λ (y : Asked). 8 * y.operation + r.attempt) is
 
 -- a note that an id was made for this operation
 made_note : (f o : ℕ) (n : Note Asked) → 0 < is_made_for f o n → (r : ℕ) × (asked : Asked) × (n ≡ Made f r asked) × (asked.operation ≡ o)

@@ -7,23 +7,30 @@ use Rattle.sock_message.specs.Asked.{Asked, name_of}
 use Rattle.sock_message.specs.brpc_model.specs.Link.{LinkEnd}
 use Rattle.attempts_told.specs.call_whys.specs.expire_told.specs.report_fits.specs.Ends.{EndsEarly}
 use Rattle.seat_programs.specs.declared.task.Task.{Task}
-use Rattle.seat_programs.specs.ToldCalls.{Fixed, Order, GaveFault, MayBeOn, IsDropped, IsFailing}
+use Rattle.seat_programs.specs.ToldCalls.{Fixed, Order, GaveFault, StandsOn, IsDropped, IsUnordered, IsFailing, WasFull, MayBeOn}
+
+module _ (p : Plan) (clients : List (List Task)) (outcomes : List (Option Outcome)) (fixed : Fixed) (gave : ℕ → List ℕ) (orders : ℕ → Order) where
+  -- link k was failing, or it accepted this attempt, or no link did, and each request may have been found taken
+  abbrev pub LostOn : ℕ → ℕ → ℕ → Type 0
+  LostOn o n k = IsFailing p clients outcomes fixed gave orders k ⊎ (StandsOn p clients outcomes fixed gave orders o n k ⊎ (IsUnordered p clients outcomes fixed gave orders o n × WasFull p clients outcomes fixed gave orders))
 
 module _ (p : Plan) (clients : List (List Task)) (outcomes : List (Option Outcome)) (fixed : Fixed) (gave : ℕ → List ℕ) (orders : ℕ → Order) (ends : List LinkEnd) where
   -- the reading of link k ended without a fault, as the link shows that was given back: its other end had closed it, as far as it tells that; or its reading ended early
   abbrev pub ReadingEnded : ℕ → Type 0
   ReadingEnded k = (e : LinkEnd) × (slice_get ends k ≡ Some e) × (IfSome e.closed (λ closed. closed ≡ true) ⊎ EndsEarly (gave k) e)
 
-  -- this attempt may be on k, whose reading ended
+  -- this attempt may be on k, whose reading ended, and was lost with it
   pub record LostWith (o n name k : ℕ) : Type 0 where
     pub on : MayBeOn p clients outcomes fixed gave orders o n name k
     pub ended : ReadingEnded k
+    pub lost : LostOn p clients outcomes fixed gave orders o n k
 
-  -- the message of this attempt, which may be on k alone, was dropped, since the reader of k, whose reading ended early, had set its socket failed
+  -- the message of this attempt, which may be on k alone, was dropped, since the reader of k, whose reading ended at a fault in what k gave, had set its socket failed
   pub record DroppedWith (o n name k : ℕ) : Type 0 where
     pub on : MayBeOn p clients outcomes fixed gave orders o n name k
     pub dropped : IsDropped p clients outcomes fixed gave orders o n
     pub failing : IsFailing p clients outcomes fixed gave orders k
+    pub fault : GaveFault p clients outcomes fixed gave orders k
     pub ended : ReadingEnded k
 
   -- How the call that is operation o, whose last attempt this is, was ended with the code by whoever read the links: at a fault in what the link of one of its attempts gave, or as the reading of that link ended otherwise;

@@ -155,11 +155,12 @@ module _ {O : Type 0} {g : Ghosts O} (p : Plan) (q : id_plan.Plan) (calls : List
   pub record HasPlace (link : ℕ) (os : List ℕ) (xs : List (LinkReader g)) (a : AreReaders p q calls link os xs) (j : ℕ) (x : LinkReader g) : Type 0 where
     pub is : IsReader p q calls x
     pub link_is : x.link ≡ link + j
+    pub operation : get_elem? os j ≡ some x.operation
     pub gave_is : readers_gave p q calls xs (each_read p q calls link os xs a) j ≡ reader_gave p q calls x is
 
   pub place_of : (link : ℕ) (os : List ℕ) (xs : List (LinkReader g)) (a : AreReaders p q calls link os xs) (j : ℕ) (x : LinkReader g) → get_elem? xs j ≡ some x → HasPlace link os xs a j x
   place_of link [] [] a j x e = absurd (some-ne-none x (sym e))
-  place_of link (o ∷ os) (y ∷ xs) a zero x e = subst (HasPlace link (o ∷ os) (y ∷ xs) a 0) (some-injective y x e) (record { is = a.0; link_is = (let l = a.1 in omega (arith, l)); gave_is = refl })
-  place_of link (o ∷ os) (y ∷ xs) a (suc j) x e = let r = place_of (link + 1) os xs a.3 j x e in record { is = r.is; link_is = (let l = r.link_is in omega (arith, l)); gave_is = r.gave_is }
+  place_of link (o ∷ os) (y ∷ xs) a zero x e = subst (HasPlace link (o ∷ os) (y ∷ xs) a 0) (some-injective y x e) (record { is = a.0; link_is = (let l = a.1 in omega (arith, l)); operation = ap some (sym a.2); gave_is = refl })
+  place_of link (o ∷ os) (y ∷ xs) a (suc j) x e = let r = place_of (link + 1) os xs a.3 j x e in record { is = r.is; link_is = (let l = r.link_is in omega (arith, l)); operation = r.operation; gave_is = r.gave_is }
   place_of link [] (y ∷ xs) a j x e = absurd a
   place_of link (o ∷ os) [] a j x e = absurd a

@@ -42,7 +42,7 @@ use Rattle.call_run.specs.Readers.{LinkReader}
 use Rattle.call_run.specs.Threads.{Thread}
 use Rattle.script_calls.specs.report_fits.proofs.Sizes.{keeps_limits}
 use Rattle.script_calls.specs.report_fits.specs.Ends.{EndsEarly}
-use Rattle.script_calls.specs.call_whys.specs.call_deeds.proofs.Runs.{seats_are, early_with}
+use Rattle.script_calls.specs.call_whys.specs.call_deeds.proofs.Runs.{seats_are, read_beside, early_with}
 use Rattle.script_calls.specs.call_whys.specs.call_places.proofs.Weights.{term, flat_total}
 use Rattle.script_calls.specs.call_whys.specs.call_told.specs.Answers.{IsGiven, AreGiven, IsOwn}
 use Rattle.script_calls.specs.call_whys.specs.call_told.proofs.Beside.{gave_is, early_given}
@@ -51,7 +51,7 @@ use Rattle.script_calls.specs.call_whys.specs.call_told.proofs.Readers.{AllRead,
 use Rattle.script_calls.specs.call_whys.specs.call_told.proofs.Resting.{is_word}
 use Rattle.script_calls.specs.call_whys.specs.expire_told.proofs.Making.{mapped_from, slice_at, elem_at}
 use Rattle.script_calls.specs.call_whys.specs.expire_told.specs.Said.{WhyExpired}
-use Rattle.script_calls.specs.call_whys.specs.sock_deeds.specs.Runs.{IsOperation, seat_of, DeedRun}
+use Rattle.script_calls.specs.call_whys.specs.sock_deeds.specs.Runs.{IsOperation, seat_of, sits_of, DeedRun}
 use Rattle.script_calls.specs.call_whys.specs.sock_deeds.proofs.Orders.{orders}
 use Rattle.script_calls.specs.call_whys.specs.sock_deeds.proofs.Whole.{log_accepted}
 use Rattle.script_calls.specs.attempts_told.specs.Attempts.{last_attempt}
@@ -65,6 +65,8 @@ use Rattle.script_calls.specs.failed_told.proofs.Ends.{ReadEnded, reader_posts, 
 use Rattle.script_calls.specs.failed_told.proofs.LinkEnds.{EndedHere, DroppedHere, QueuedHere, told_on}
 use Rattle.script_calls.specs.failed_told.proofs.Posts.{IsPost, rest_stays}
 use Rattle.script_calls.specs.failed_told.proofs.Premises.{asked_so}
+use Rattle.script_calls.specs.failed_told.proofs.ReaderCodes.{StoredByReader}
+use Rattle.script_calls.specs.failed_told.proofs.ReaderStores.{setter}
 use Rattle.script_calls.specs.failed_told.proofs.Reading.{notes_flat, rest_queues, readers_queue, queued_beside, others_beside}
 use Rattle.script_calls.specs.failed_told.proofs.Tells.{ToldEnd, IsPostFor, rest_step}
 use Rattle.script_calls.specs.failed_told.proofs.Views.{Stays, queued_in}
@@ -277,7 +279,7 @@ module _ (P : Type 0) {O I : Type 0} (g : Ghosts O) (out : O → OutState) (inn 
     on_link : (number : ℕ) (asked : Asked) (code : ℕ) → EndedLink number asked code → WhyRead number asked code (last_attempt notes number)
     on_link number asked code h = elim h.read [
       | inl f ↦ AtFault f.0 h.attempt h.link h.low h.on f.1
-      | inr e ↦ AtEnd e.0 h.attempt h.link h.low (record { on = h.on; ended = e.1 })
+      | inr e ↦ AtEnd e.0 h.attempt h.link h.low (record { on = h.on; ended = e.1; lost = h.lost })
     ]
 
     -- the link of a reader whose reading ended early
@@ -292,10 +294,26 @@ module _ (P : Type 0) {O I : Type 0} (g : Ghosts O) (out : O → OutState) (inn 
         let shown : EndsEarly (sockets.gave P g out inn bytes script reads text links r k) e = sockets.shown P g out inn bytes script reads text links r k b.end (ap (slice_get r.ends) (sym place) ∙ b.there) early_ in
         (e, ap (slice_get links) (sym place) ∙ b.link, inr (subst (λ (f : ℕ → List ℕ). EndsEarly (f k) e) (sym is_gave) shown))
 
+    -- each reader sits at the table of sockets
+    sit : map seat_of (map sits_of drun.readers) ≡ map (λ (x : LinkReader g). x.seat) readers
+    sit = (read_beside r.left.ran outcomes (sockets.are P g out inn bytes script reads text links r) (sockets.may P g out inn bytes script reads text links r) (sockets.linked P g out inn bytes script reads text links r) (sockets.long P g out inn bytes script reads text links r) (sockets.reports P g out inn bytes script reads text links r)
+        (sockets.main_later P g out inn bytes script reads text links r) (sockets.others_later P g out inn bytes script reads text links r) (calls script) r.left.readers_are (sockets.asked P g out inn bytes script reads text links r)).sit
+
+    -- where a reader set its link's socket failed with the code of a fault, the link gave one
+    drop_fault : (k : ℕ) → StoredByReader drun k ERESPONSE → HasFault (gave k)
+    drop_fault k f =
+        let s = setter drun q (calls script) readers sit k ERESPONSE f in let h = at_place s.place s.reader s.there in
+        let o = sockets.asked P g out inn bytes script reads text links r s.place s.reader.operation h.operation in
+        let link : s.reader.link ≡ k = (let a = h.link_is in omega (arith, a)) ∙ s.opened h.is o.0 o.1 s.place o.2 in
+        elim (subst (λ (l : ℕ). Reads l ERESPONSE) link (read_by s.place s.reader s.there h ERESPONSE (s.ended h.is))) [
+          | inl fault ↦ fault.1
+          | inr end ↦ absurd (let e = end.0 in omega (arith, e))
+        ]
+
     on_drop : (number : ℕ) (asked : Asked) (code : ℕ) → IsReadCode code → DroppedLink number asked code → WhyRead number asked code (last_attempt notes number)
     on_drop number asked code read h = elim read [
-      | inl e ↦ AtEnd e h.attempt h.link h.low (record { on = h.on; ended = ended_early h.link h.early })
-      | inr e ↦ AtDrop e h.attempt h.link h.low (record { on = h.on; dropped = h.dropped; failing = h.failing; ended = ended_early h.link h.early })
+      | inl e ↦ AtEnd e h.attempt h.link h.low (record { on = h.on; ended = ended_early h.link h.early; lost = inl h.failing })
+      | inr e ↦ AtDrop e h.attempt h.link h.low (record { on = h.on; dropped = h.dropped; failing = h.failing; fault = drop_fault h.link (subst (StoredByReader drun h.link) e h.by); ended = ended_early h.link h.early })
     ]
 
     -- ### Calls that failed
