@@ -1,7 +1,6 @@
 -- A link that is read, calls that are ended behind all links, and what is told of calls by that.
-use Rattle.std.proofs.Common.{ℕ, ◌+◌, Bool, List, [], ◌++◌, refl, arith}
+use Rattle.std.proofs.Common.{ℕ, Bool, List, [], ◌++◌, refl, arith}
 use Rattle.brpc_model.specs.Frame as model
-use Rattle.prpc_frame.specs.declared.frame.Frame.{Frame}
 use Rattle.corr_core.specs.declared.marks.Plan as ids
 use Rattle.sock_io.specs.Link.{InState}
 use Rattle.call_deeds.specs.rpc_reader.specs.declared.reading.How.{How}

@@ -1,5 +1,5 @@
 -- Whoever reads the links tells no call to have failed but with one of those codes.
-use Rattle.std.proofs.Common.{◌≡◌, ℕ, zero, suc, ◌+◌, ◌⊎◌, inl, inr, Bool, true, false, List, [], ◌∷◌, ◌++◌, map, append_assoc, append-nil, Some, None, pos, negsuc, refl, ap, ◌∙◌, subst, sym}
+use Rattle.std.proofs.Common.{◌≡◌, ℕ, zero, suc, ◌⊎◌, inl, inr, Bool, true, false, List, [], ◌∷◌, ◌++◌, map, append_assoc, append-nil, Some, None, pos, negsuc, refl, ap, ◌∙◌, subst, sym}
 use Rattle.std.specs.Prelude.{Option, ℤ, position, ◌==◌}
 use Rattle.std.specs.List.{AllByRecursion}
 use Rattle.sock_words.specs.Codes.{ERESPONSE}
