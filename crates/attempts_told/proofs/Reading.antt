@@ -1,5 +1,5 @@
 -- Whoever reads links, and ends the calls that are left, advances no attempt.
-use Rattle.std.proofs.Common.{◌≡◌, ℕ, ◌+◌, ◌⊎◌, inl, inr, true, false, List, [], ◌∷◌, Some, None, refl, sym, ap, subst, arith}
+use Rattle.std.proofs.Common.{◌≡◌, ℕ, ◌⊎◌, inl, inr, true, false, List, [], ◌∷◌, Some, None, refl, sym, ap, subst, arith}
 use Rattle.std.specs.Prelude.{Option, position, ◌==◌, Bool}
 use Rattle.sock_words.specs.Words.{at_word_link}
 use Rattle.sock_words.specs.declared.at_word.AtWord.{AtWord}
@@ -8,9 +8,8 @@ use Rattle.sock_words.specs.declared.outcome.Outcome.TheVariants.{CallFailed}
 use Rattle.sock_words.specs.declared.plain.Plan as sizes
 use Rattle.sock_words.specs.declared.socket_id.SocketId.{SocketId}
 use Rattle.sock_model.specs.declared.view.View as sock_view
-use Rattle.sock_io.specs.declared.link.Ends.{Ends}
 use Rattle.sock_io.specs.declared.link.Out.{Ghosts}
-use Rattle.sock_io.specs.Link.{OutState, InState}
+use Rattle.sock_io.specs.Link.{InState}
 use Rattle.corr_core.specs.Law.{total}
 use Rattle.corr_core.specs.Word.{Parts, parts}
 use Rattle.corr_core.specs.declared.marks.Plan.{Plan}
@@ -27,7 +26,6 @@ use Rattle.call_whys.specs.call_told.specs.call_run.specs.rpc_reader.specs.Books
 use Rattle.call_whys.specs.call_told.specs.call_run.specs.rpc_reader.specs.Met.{slot_in, is_asked, is_for, MetIf, FramesMet}
 use Rattle.call_whys.specs.call_told.specs.call_run.specs.rpc_reader.specs.Posting.{LostBy, LockLost, PostedTo, PostedIf, PostedAt, PostedAll, call_at, attempt_at}
 use Rattle.call_whys.specs.call_told.specs.call_run.specs.rpc_reader.specs.Reading.{code_of}
-use Rattle.call_whys.specs.call_told.specs.call_run.specs.rpc_reader.specs.Linked.{ReadServed, ReadLinks}
 use Rattle.call_whys.specs.call_told.specs.call_run.specs.rpc_reader.specs.Resting.{HadEnded, EndedLast, OneEnded, RestEnded}
 use Rattle.call_whys.specs.call_told.specs.call_run.specs.rpc_reader.specs.Running.{ReadLink, ReadIf}
 use Rattle.call_whys.specs.call_told.specs.call_run.specs.Readers.{LinkReader, nothing_read, IsReader}
@@ -108,16 +106,6 @@ module _ (code : ℕ) where
 link_unmoved : (q : Plan) (link : ℕ) (calls : List ℕ) (ending short : Bool) (s t : InState) (b b' : Books) → ReadLink q link calls ending short s t b b' → Same b b'
 link_unmoved q link calls ending short s t b b' r = let m = r.met in let all = r.read.met in
     unmoved_then b.view m.view b'.view (frames q.slots all.frames b m all.met) (posted (code_of r.how) q link calls m b' r.posted)
-
-module _ {O I P : Type 0} (out : O → OutState) (inn : I → InState) (q : Plan) (calls : List ℕ) where
-  served : (link : ℕ) (e e' : Ends O I P) (b b' : Books) → ReadServed out inn q calls link e e' b b' → Same b b'
-  served link e e' b b' r = link_unmoved q link calls true false r.served (inn e'.inn) b b' r.read
-
-  pub read_unmoved : (link : ℕ) (es es' : List (Ends O I P)) (b b' : Books) → ReadLinks out inn q calls link es es' b b' → Unmoved b.view b'.view
-  read_unmoved link [] [] b b' r = same b b' r
-  read_unmoved link (e ∷ es) (e' ∷ es') b b' r = unmoved_then b.view r.0.view b'.view (served link e e' b r.0 r.1) (read_unmoved (link + 1) es es' r.0 b' r.2)
-  read_unmoved link [] (e' ∷ es') b b' r = elim r [ ]
-  read_unmoved link (e ∷ es) [] b b' r = elim r [ ]
 
 -- ## Readers beside the clients
 

@@ -14,10 +14,8 @@ use Rattle.sock_words.specs.declared.place_word.PlaceWord.{PlaceWord}
 use Rattle.sock_words.specs.declared.vref.Vref.{Vref}
 use Rattle.sock_words.specs.declared.socket_id.SocketId.{SocketId}
 use Rattle.sock_words.specs.declared.outcome.Outcome.{Outcome}
-use Rattle.sock_words.specs.declared.outcome.Outcome.TheVariants as outcome
 use Rattle.sock_model.specs.declared.chain.Entry.{Entry}
 use Rattle.sock_model.specs.declared.chain.Heading.{Heading}
-use Rattle.sock_model.specs.declared.view.View as sock_view
 use Rattle.seat_programs.specs.declared.task.Op.{Op}
 use Rattle.seat_programs.specs.declared.task.Op.TheVariants as ops
 use Rattle.seat_programs.specs.declared.task.Task.{Task}
@@ -64,7 +62,7 @@ use Rattle.call_whys.specs.call_told.specs.sock_deeds.specs.Runs.{IsOperation}
 use Rattle.call_whys.specs.call_told.specs.sock_deeds.proofs.Flats.{flat_from, flat_there, flat-append}
 use Rattle.call_whys.specs.call_told.specs.sock_deeds.proofs.Places.{to_slice, map_back}
 use Rattle.call_whys.specs.call_told.specs.report_fits.proofs.Lists.{contains_from}
-use Rattle.attempts_told.proofs.Bounds.{attempted_by, retried, acted, ran}
+use Rattle.attempts_told.proofs.Bounds.{attempted_by, retried, acted}
 
 -- ## Frames
 

@@ -1,4 +1,4 @@
--- A run of clients with calls as a run of deeds at the table of sockets, with readers of links beside the clients or without.
+-- A run of clients with calls as a run of deeds at the table of sockets, with readers of links beside the clients.
 use Rattle.std.proofs.Common.{◌≡◌, ◌≢◌, ℕ, zero, suc, ◌+◌, ◌<◌, ◌==◌, ◌&&◌, ◌||◌, true, false, Bool, if◌then◌else◌, inl, inr, Option, Some, None, List, [], ◌∷◌, ◌++◌, length, map, flat_map, slice_get, eq-eqb, refl, sym, ap, ◌∙◌, subst, arith}
 use Rattle.std.proofs.lemmas.List.{length-map}
 use Rattle.std.proofs.lemmas.Option.{none-some, same_Some}
@@ -32,7 +32,7 @@ use Rattle.call_places.specs.rpc_client.specs.declared.acting.Told.{Told}
 use Rattle.call_places.specs.call_client.specs.Running.{MayMakeAll}
 use Rattle.call_places.specs.call_run.specs.declared.opened.Opening.{Opening}
 use Rattle.call_places.specs.call_run.specs.Ending.{EndedBehind}
-use Rattle.call_places.specs.call_run.specs.Threads.{ids_of, opens_of, is_opened, opened_in, opening_in, openings, name_if, opened_names, Thread, IsThread, AreThreads, MayRun, AllMayRun, MayRunAll, RanWith, RanOn}
+use Rattle.call_places.specs.call_run.specs.Threads.{ids_of, opens_of, is_opened, opened_in, opening_in, openings, name_if, opened_names, Thread, IsThread, AreThreads, MayRun, AllMayRun, MayRunAll, RanWith}
 use Rattle.call_places.specs.call_run.specs.Readers.{LinkReader, AreReaders}
 use Rattle.call_places.specs.sock_deeds.specs.Deeds.{waits, own_number, Deed}
 use Rattle.call_places.specs.sock_deeds.specs.Runs.{IsOperation, IsFor, numbers_at, Seated, Ended, seat_of, ReaderSeat, sits_of, DeedRun}
@@ -322,11 +322,3 @@ module _ {O : Type 0} {g : Ghosts O} {state : O → OutState} {p : Plan} {slots 
     -- those whose reading ended early are told
     pub early_with : early deed_run_with ≡ early_links state p q calls 0 opens_ beside are
     early_with = read_beside.early
-
-module _ {O : Type 0} {g : Ghosts O} {state : O → OutState} {p : Plan} {slots : ℕ} {setup : List Task} {clients : List (List Task)} {opens_ : List ℕ} {told ended : List (List Told)} {places : List PlaceWord} {vrefs : List Vref} {outs : List O} {ids : List (id_view.View Asked)}
-    (run : RanOn g state p slots setup clients opens_ told ended places vrefs outs ids) (outcomes : List (Option Outcome)) (tasks : AreTasks p (setup ∷ clients)) (may : MayRunAll p (ids_of p slots) setup clients) (links : AllHaveLinks 0 (setup ∷ clients))
-    (long : length outcomes ≡ p.operations) (reports : Reports (setup ∷ clients) outcomes told) (main_later : AreLater (setup ∷ clients) outcomes (all_asked run.ran.main run.ran.main_is))
-    (others_later : AllLater (setup ∷ clients) outcomes state p (ids_of p slots) (opened_names run.ran.main.ended.outcomes.items (openings setup)) (opens_of setup) run.ran.others run.ran.others_are) where
-  -- where no link is read beside them: what all clients and main did
-  abbrev pub deed_run : DeedRun g state p (setup ∷ clients) outcomes places vrefs outs
-  deed_run = deeds_beside run outcomes tasks may links long reports main_later others_later [] refl

@@ -15,7 +15,7 @@ use Rattle.seat_programs.specs.Told.{AreTasks}
 use Rattle.corr_core.specs.declared.marks.View as id_view
 use Rattle.sock_message.specs.Asked.{Asked}
 use Rattle.call_places.specs.rpc_client.specs.declared.acting.Told.{Told}
-use Rattle.call_places.specs.call_run.specs.Threads.{ids_of, opens_of, openings, opened_names, MayRunAll, RanWith, RanOn}
+use Rattle.call_places.specs.call_run.specs.Threads.{ids_of, opens_of, openings, opened_names, MayRunAll, RanWith}
 use Rattle.call_places.specs.call_run.specs.Readers.{LinkReader, AreReaders}
 use Rattle.call_places.specs.sock_deeds.specs.Told.{ToldSockets}
 use Rattle.call_places.specs.sock_deeds.specs.Runs.{DeedRun}
@@ -25,26 +25,16 @@ use Rattle.call_deeds.specs.Retried.{all_asked}
 use Rattle.call_deeds.specs.Scripts.{AllHaveLinks, Reports, AllLater}
 use Rattle.call_deeds.proofs.Beside.{OpensLink}
 use Rattle.call_deeds.proofs.Ran.{AreLater}
-use Rattle.call_deeds.proofs.Runs.{deed_run_with, deed_run}
+use Rattle.call_deeds.proofs.Runs.{deed_run_with}
 
-module _ {O : Type 0} {g : Ghosts O} {state : O → OutState} {p : Plan} {slots : ℕ} {setup : List Task} {clients : List (List Task)} {opens_ : List ℕ} {told ended : List (List Told)} {places : List PlaceWord} {vrefs : List Vref} {outs : List O} {ids : List (id_view.View Asked)}
-    (run : RanOn g state p slots setup clients opens_ told ended places vrefs outs ids) (outcomes : List (Option Outcome)) (tasks : AreTasks p (setup ∷ clients)) (may : MayRunAll p (ids_of p slots) setup clients) (links : AllHaveLinks 0 (setup ∷ clients))
-    (long : length outcomes ≡ p.operations) (reports : Reports (setup ∷ clients) outcomes told) (main_later : AreLater (setup ∷ clients) outcomes (all_asked run.ran.main run.ran.main_is))
-    (others_later : AllLater (setup ∷ clients) outcomes state p (ids_of p slots) (opened_names run.ran.main.ended.outcomes.items (openings setup)) (opens_of setup) run.ran.others run.ran.others_are)
-    -- no two messages have one place word
-    (differ : PlacesDiffer run.closed.ordered.log) (gave : ℕ → List ℕ) where
-  abbrev pub deeds : DeedRun g state p (setup ∷ clients) outcomes places vrefs outs
-  deeds = deed_run run outcomes tasks may links long reports main_later others_later
-
-  pub told_of_run : p.operations ≤ 65536 → (c : Core) → IsLeft deeds differ c → ToldSockets p (setup ∷ clients) outcomes (fixed deeds differ gave) gave (orders deeds differ) c
-  told_of_run few c left = told_of_deeds deeds differ gave few c left
-
--- and the same where these readers of the links sat beside the clients
+-- these readers of the links sat beside the clients
 module _ {O : Type 0} {g : Ghosts O} {state : O → OutState} {p : Plan} {slots : ℕ} {setup : List Task} {clients : List (List Task)} {opens_ : List ℕ} {told ended : List (List Told)} {places : List PlaceWord} {vrefs : List Vref} {outs : List O} {ids : List (id_view.View Asked)} {beside : List (LinkReader g)}
     (run : RanWith g state beside p slots setup clients opens_ told ended places vrefs outs ids) (outcomes : List (Option Outcome)) (tasks : AreTasks p (setup ∷ clients)) (may : MayRunAll p (ids_of p slots) setup clients) (links : AllHaveLinks 0 (setup ∷ clients))
     (long : length outcomes ≡ p.operations) (reports : Reports (setup ∷ clients) outcomes told) (main_later : AreLater (setup ∷ clients) outcomes (all_asked run.ran.main run.ran.main_is))
     (others_later : AllLater (setup ∷ clients) outcomes state p (ids_of p slots) (opened_names run.ran.main.ended.outcomes.items (openings setup)) (opens_of setup) run.ran.others run.ran.others_are)
-    (calls : List ℕ) (are : AreReaders p (ids_of p slots) calls 0 opens_ beside) (asked : (k o : ℕ) → get_elem? opens_ k ≡ some o → OpensLink (setup ∷ clients) outcomes k o) (differ : PlacesDiffer run.closed.ordered.log) (gave : ℕ → List ℕ) where
+    (calls : List ℕ) (are : AreReaders p (ids_of p slots) calls 0 opens_ beside) (asked : (k o : ℕ) → get_elem? opens_ k ≡ some o → OpensLink (setup ∷ clients) outcomes k o)
+    -- no two messages have one place word
+    (differ : PlacesDiffer run.closed.ordered.log) (gave : ℕ → List ℕ) where
   abbrev pub deeds_with : DeedRun g state p (setup ∷ clients) outcomes places vrefs outs
   deeds_with = deed_run_with run outcomes tasks may links long reports main_later others_later calls are asked
 

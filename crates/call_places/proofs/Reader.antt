@@ -1,12 +1,11 @@
--- Whoever reads links, and ends the calls that are left, makes no id, and what its seat noted stays noted.
+-- Whoever reads a link, and ends the calls that are left, makes no id, and what its seat noted stays noted.
 use Rattle.std.proofs.Common.{◌≡◌, ℕ, ◌+◌, ◌≤◌, ◌⊎◌, inl, inr, Bool, true, false, List, [], ◌∷◌, Some, None, refl, ap, ◌∙◌, arith}
 use Rattle.std.specs.Prelude.{Option, position, ◌==◌}
 use Rattle.sock_words.specs.Words.{at_word_link}
 use Rattle.sock_words.specs.declared.at_word.AtWord.{AtWord}
 use Rattle.sock_words.specs.declared.outcome.Outcome.{Outcome}
 use Rattle.sock_words.specs.declared.outcome.Outcome.TheVariants.{CallFailed}
-use Rattle.sock_io.specs.declared.link.Ends.{Ends}
-use Rattle.sock_io.specs.Link.{OutState, InState}
+use Rattle.sock_io.specs.Link.{InState}
 use Rattle.corr_core.specs.Word.{Parts, parts}
 use Rattle.corr_core.specs.Law.{total}
 use Rattle.corr_core.specs.declared.marks.Note.{Note}
@@ -29,7 +28,6 @@ use Rattle.call_run.specs.rpc_reader.specs.Books.{Books, EndedAs, id_of}
 use Rattle.call_run.specs.rpc_reader.specs.Met.{slot_in, is_asked, is_for, MetIf, FramesMet}
 use Rattle.call_run.specs.rpc_reader.specs.Posting.{LostBy, LockLost, PostedTo, PostedIf, PostedAt, PostedAll, call_at, attempt_at}
 use Rattle.call_run.specs.rpc_reader.specs.Reading.{code_of}
-use Rattle.call_run.specs.rpc_reader.specs.Linked.{ReadServed, ReadLinks}
 use Rattle.call_run.specs.rpc_reader.specs.Resting.{HadEnded, EndedLast, OneEnded, RestEnded}
 use Rattle.call_run.specs.rpc_reader.specs.Running.{ReadLink}
 use Rattle.call_places.specs.Counted.{makes}
@@ -136,13 +134,3 @@ module _ (code : ℕ) where
 pub link_none : (q : Plan) (link : ℕ) (calls : List ℕ) (ending short : Bool) (s t : InState) (b b' : Books) → ReadLink q link calls ending short s t b b' → MadeNone b.view b'.view
 link_none q link calls ending short s t b b' r = let m = r.met in let met = r.read.met in
     none_then b.view m.view b'.view (none_frames q.slots met.frames b m met.met) (none_posted (code_of r.how) q link calls m b' r.posted)
-
-module _ {O I P : Type 0} (out : O → OutState) (inn : I → InState) (q : Plan) (calls : List ℕ) where
-  none_served : (link : ℕ) (e e' : Ends O I P) (b b' : Books) → ReadServed out inn q calls link e e' b b' → MadeNone b.view b'.view
-  none_served link e e' b b' r = link_none q link calls true false r.served (inn e'.inn) b b' r.read
-
-  pub read_none : (link : ℕ) (es es' : List (Ends O I P)) (b b' : Books) → ReadLinks out inn q calls link es es' b b' → MadeNone b.view b'.view
-  read_none link [] [] b b' r = none_same b b' r
-  read_none link (e ∷ es) (e' ∷ es') b b' r = none_then b.view r.0.view b'.view (none_served link e e' b r.0 r.1) (read_none (link + 1) es es' r.0 b' r.2)
-  read_none link [] (e' ∷ es') b b' r = elim r [ ]
-  read_none link (e ∷ es) [] b b' r = elim r [ ]

@@ -1,9 +1,7 @@
 -- A run over two tables, from those that are to run to what is left.
 use Rattle.std.proofs.Common.{◌≡◌, ℕ, zero, suc, ◌+◌, ◌<◌, Bool, false, ◌||◌, List, [], ◌∷◌, ◌++◌, map, length, get_or, refl, sym, ap, ◌∙◌, subst, arith}
-use Rattle.std.specs.Prelude.{Option, IfOk, Vec}
+use Rattle.std.specs.Prelude.{Option, Vec}
 use Rattle.std.specs.declared.alloc.Global.{Global}
-use Rattle.std.specs.declared.result.Result.{Result}
-use Rattle.std.specs.declared.result.Result.TheVariants.{Ok, Err}
 use Rattle.std.proofs.lemmas.List.{length-map}
 use Rattle.std.specs.List.{list_any, AllByRecursion}
 use mathlib.Core.Option.{some}
@@ -30,7 +28,7 @@ use Rattle.call_run.specs.declared.running.Crew.{Crew}
 use Rattle.call_run.specs.declared.running.Ran.{Ran}
 use Rattle.call_run.specs.Ending.{EndedBehind}
 use Rattle.call_run.specs.Readers.{LinkReader}
-use Rattle.call_run.specs.Threads.{opens_of, openings, opened_names, ids_of, AreThreads, AllRan, RanWith, RanOn}
+use Rattle.call_run.specs.Threads.{opens_of, openings, opened_names, ids_of, AreThreads, AllRan, RanWith}
 use Rattle.call_run.specs.Working.{HasWorked}
 use Rattle.call_run.specs.Crew.{HandedIn, IsLeft, AreLeft, IsCrew, CrewRan, HasEnded, AreBack}
 use Rattle.call_run.proofs.Weaving.{none_short, thread_of, one_thread, one_share, one_id, Woven, weave}
@@ -119,28 +117,10 @@ ran_with {O} {g} state readers z p plan y q slots s setup cs clients opens l tab
   silent = silent;
 }
 
--- behind the clients alone
-pub run_ended : {O E : Type 0} {g : Ghosts O} (state : O → OutState) (z : TableId) (p plan : Plan) (y : TableId) (q : id_plan.Plan) (slots : ℕ) (s setup : List Task) (cs clients : List (List Task)) (opens : List ℕ) (l : Left O g) (table : IdTable Asked) (result : Result (Ran O) E)
-    → p ≡ plan → q ≡ ids_of plan slots → s ≡ setup → cs ≡ clients → CrewRan state z p y q s cs opens l → IfOk result (HasEnded state p l.seats.items l table)
-    → IfOk result (λ r. RanOn g state plan slots setup clients opens (map (λ v. v.items) r.told.items) (map (λ v. v.items) r.ended.items) r.places.items r.vrefs.items r.outs.items (map (λ (x : Seat (Option Asked) (id_view.View Asked)). x.me.0) r.seats.items))
-run_ended state z p plan y q slots s setup cs clients opens l table (Err x) pe qe se ce ran e = tt
-run_ended state z p plan y q slots s setup cs clients opens l table (Ok r) pe qe se ce ran e = ran_with state [] z p plan y q slots s setup cs clients opens l table r pe qe se ce ran e tt
-
 -- ## The seats
 
 pub as_long : {A B C : Type 0} (f : A → C) (h : B → C) (xs : List A) (ys : List B) → map f xs ≡ map h ys → length xs ≡ length ys
 as_long f h xs ys e = sym (length-map xs f) ∙ (ap length e ∙ length-map ys h)
-
--- the seats of the ids are those of the table
-pub ids_left : {O E : Type 0} {g : Ghosts O} (state : O → OutState) (p : Plan) (q : id_plan.Plan) (l : Left O g) (table : IdTable Asked) (result : Result (Ran O) E)
-    → table.plan ≡ q → AreLeft table.table.shared.table_id l.ids.items → id_total (λ (s : Seat (Option Asked) (id_view.View Asked)). s.me.0.share) l.ids.items ≡ q.seats → IfOk result (HasEnded state p l.seats.items l table)
-    → IfOk result (λ r. (r.ids.plan ≡ q) × AreLeft r.ids.table.shared.table_id r.seats.items × (id_total (λ (s : Seat (Option Asked) (id_view.View Asked)). s.me.0.share) r.seats.items ≡ r.ids.plan.seats))
-ids_left state p q l table (Err x) is left all e = tt
-ids_left state p q l table (Ok r) is left all e = let same = ap (λ t. t.plan) e.ids ∙ is in (
-  same,
-  subst (λ t. AreLeft t.table.shared.table_id r.seats.items) (sym e.ids) (subst (λ v. AreLeft table.table.shared.table_id v.items) (sym e.seats_are) left),
-  ap (λ v. id_total (λ (s : Seat (Option Asked) (id_view.View Asked)). s.me.0.share) v.items) e.seats_are ∙ (all ∙ sym (ap (λ x. x.seats) same)),
-)
 
 -- ## What comes back
 

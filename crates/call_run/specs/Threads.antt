@@ -157,7 +157,3 @@ pub record RanWith {O : Type 0} (g : Ghosts O) (state : O → OutState) (readers
   pub closed : ClosedBy state p (map (λ (x : LinkReader g). x.seat) readers ++ seats) places vrefs outs
   -- no message was accepted from a reader
   pub silent : AllByRecursion (λ (x : LinkReader g). x.seat.me.0.lists ≡ [] ∷ []) readers
-
--- no link was read beside the clients
-abbrev pub RanOn : {O : Type 0} → (g : Ghosts O) → (O → OutState) → Plan → ℕ → List Task → List (List Task) → List ℕ → List (List Told) → List (List Told) → List PlaceWord → List Vref → List O → List (id_view.View Asked) → Type 0
-RanOn g state p slots setup clients opens told ended places vrefs outs ids = RanWith g state [] p slots setup clients opens told ended places vrefs outs ids

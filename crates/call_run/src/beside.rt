@@ -184,9 +184,11 @@ fn end_both<O: Out, I: In, P: Peer>(
     }
 }
 
-/// Runs these clients as `run_on` does, and beside them serves and reads these links, each by a reader that waits for the socket
-/// of its `open` and has seats of its own. Where no thread can be started the links are read behind the clients, and a client
-/// that waits for an answer then waits for ever.
+/// Runs these clients over tables of their own, main the setup before, and beside them serves and reads these links, each by a
+/// reader that waits for the socket of its `open` and has seats of its own. Where no thread can be started the links are read
+/// behind the clients, and a client that waits for an answer then waits for ever. Once the clients have ended the sockets of these
+/// `open`s are set failed, and behind the readers the table of sockets is closed; that of ids is left open, for the calls that are
+/// left.
 pub fn run_beside<
     O: Out + Send,
     I: In + Send,

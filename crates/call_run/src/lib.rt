@@ -13,5 +13,5 @@ mod worker;
 
 pub use beside::{NoneBeside, RanBeside, run_beside};
 pub use link_crew::{Frame, Rest, meet_all};
-pub use running::{NoRun, Ran, run_on};
+pub use running::Ran;
 pub use worker::Worker;

@@ -1,12 +1,11 @@
 // The clients of a script with calls on threads, over tables of their own.
 ghost use Rattle.std.specs.Prelude.{◌≡◌, ◌+◌, ◌<◌, ◌≤◌, All, IfOk, IfErr, length, map};
-ghost use Rattle.corr_core.specs.Law.{total};
 ghost use Rattle.corr_id.specs.Opening.{AreNew};
 ghost use Rattle.sock_open.specs.Made.{AreNewSeats, PassesFrom};
-ghost use Rattle.sock_open.specs.Opening.{MayBegin, AreFresh};
+ghost use Rattle.sock_open.specs.Opening.{MayBegin};
 ghost use Rattle.sock_table.specs.Closed.{IsRoomOf, ways_of};
-ghost use Rattle.call_run.specs.Threads.{ids_of, MayRunAll, RanOn};
-ghost use Rattle.call_run.specs.Crew.{IsLeft, AreLeft, IsCast, IsCrew, CrewRan, HasEnded, AreBack};
+ghost use Rattle.call_run.specs.Threads.{MayRunAll};
+ghost use Rattle.call_run.specs.Crew.{IsLeft, IsCast, IsCrew, CrewRan, HasEnded, AreBack};
 
 use crate::failing::end_sockets;
 use crate::hiring::{Room, hire, hire_all, room_for, rooms_for};
@@ -18,10 +17,9 @@ use corr_id::{IdSeat, IdTable};
 use seat_programs::Task;
 use sock_io::{Gate, OpenGate, Out};
 use sock_message::Call;
-use sock_open::{Made, NoTable, new_table};
 use sock_rule::SockSeat;
-use sock_table::{Closed, LinkPass, rooms};
-use sock_words::{PlaceWord, Plan, Vref};
+use sock_table::{Closed, LinkPass};
+use sock_words::{PlaceWord, Vref};
 use std::alloc::{AllocError, Global};
 use std::collections::VecDeque;
 use std::sync::Wait;
@@ -235,56 +233,4 @@ pub fn end<O: Out>(tables: Tables<O>, room: Closed<O>, left: Left<O>) -> Result<
         ids,
         seats: id_seats,
     })
-}
-
-/// Runs these clients over tables of their own, main the setup before. Behind them the sockets of these `open`s are set failed,
-/// and the table of sockets is closed; that of ids is left open, for the readers.
-pub fn run_on<O: Out + Send, G: Gate + Sync, R: Threads + Wait + Sync>(
-    rt: &R,
-    alloc: Global,
-    plan: &Plan,
-    slots: u16,
-    setup: VecDeque<Task>,
-    clients: Vec<VecDeque<Task>>,
-    opens: &[u16],
-    outs: Vec<O>,
-    gate: &G,
-) -> Result<Ran<O>, NoRun<O>>
-    requires plan { MayBegin plan.now }
-    requires slots { slots ≤ 4096 }
-    requires operations { plan.now.operations ≤ 4096 }
-    requires outs { AreFresh O.state plan.now outs.items }
-    requires may { MayRunAll plan.now (ids_of plan.now slots) setup.items (map (λ v. v.items) clients.items) }
-    requires seats { length clients.items + 1 ≡ plan.now.seats }
-    requires opens { All (λ o. o < plan.now.operations) opens.now }
-    ensures ran { IfOk result (λ r. RanOn O.Out O.state plan.now slots setup.items (map (λ v. v.items) clients.items) opens.now (map (λ v. v.items) r.told.items) (map (λ v. v.items) r.ended.items) r.places.items r.vrefs.items r.outs.items (map (λ s. s.me.0) r.seats.items)) }
-    ensures ids { IfOk result (λ r. (r.ids.plan ≡ ids_of plan.now slots) × AreLeft r.ids.table.shared.table_id r.seats.items × (total (λ s. s.me.0.share) r.seats.items ≡ r.ids.plan.seats)) }
-    ensures back { IfErr result (λ e. AreBack O.state plan.now e.outs.items) }
-    ensures ways { IfOk result (λ r. ways_of O.state r.outs.items ≡ ways_of O.state outs.items) }
-    ensures ways_back { IfErr result (λ e. ways_of O.state e.outs.items ≡ ways_of O.state outs.items) }
-{
-    let Ok(room) = rooms(alloc, plan) else {
-        return Err(NoRun { outs });
-    };
-    let Ok(cast) = prepare(alloc, setup, clients) else {
-        return Err(NoRun { outs });
-    };
-    let Ok((ids, id_seats)) = IdTable::new(alloc, slots, plan.operations, plan.seats) else {
-        return Err(NoRun { outs });
-    };
-    match new_table(alloc, plan, outs) {
-        Ok(
-            Made {
-                table,
-                seats,
-                passes,
-            },
-        ) => {
-            let tables = Tables { socks: table, ids };
-            let crew = crew_of(alloc, &tables, seats, id_seats, passes, cast);
-            let left = run_crew(rt, &tables, gate, opens, crew);
-            end(tables, room, left)
-        }
-        Err(NoTable { outs }) => Err(NoRun { outs }),
-    }
 }

@@ -212,18 +212,17 @@ module _ {O : Type 0} {g : Ghosts O} (p : Plan) (q : ids.Plan) (calls opens : Li
 
         -- no call is told twice
         pub once_beside : ToldOnce q.slots ((ended ++ told_beside) ++ last.told ∷ [])
-        once_beside = told_once {O = OutState} {I = InState} {P = InState} (λ s. s) (λ s. s) q calls EEOF (ended ++ told_beside) all_views [] [] main main last last.view.kept words balanced_beside notes_are none_told refl rest calm closing
+        once_beside = told_once q calls EEOF (ended ++ told_beside) all_views main last last.view.kept words balanced_beside notes_are none_told rest calm closing
 
         module _ (tell : TellEnds ended (map view_of clients)) where
-          -- main read no link behind them
-          pub ended_beside : AllEnded {O = OutState} {I = InState} {P = InState} (λ s. s) (λ s. s) q calls EEOF (ended ++ told_beside) all_views [] [] main main last words
+          -- main ended behind them what was left of calls
+          pub ended_beside : AllEnded q calls EEOF (ended ++ told_beside) all_views main last words
           ended_beside = record {
             balanced = balanced_beside;
             tell = tell_both ended told_beside (map view_of clients) views_beside tell (readers_tell p q calls readers read_all);
             notes = notes_are;
             kept = kept ∙ (flat_mapped view_of (λ (v : View Asked). v.kept) (clients ++ seats_beside) ∙ ap (flat_map (λ (v : View Asked). v.kept)) views_of);
             none_told = none_told;
-            read = refl;
             rest = rest;
             calm = calm;
             closing = closing;
@@ -235,7 +234,7 @@ module _ {O : Type 0} {g : Ghosts O} (p : Plan) (q : ids.Plan) (calls opens : Li
           least_beside k v operation id j at begun few listed =
               let a = total_append (λ (w : View Asked). total (own_at (call_index q operation)) w.kept) (map view_of clients) views_beside in
               let b = readers_own p q calls readers read_all (call_index q operation) in
-              (told_least {O = OutState} {I = InState} {P = InState} (λ s. s) (λ s. s) q calls EEOF (ended ++ told_beside) all_views [] [] main main last words ended_beside k v operation id (first_there (map view_of clients) views_beside k v at) begun (omega arith) j listed).1
+              (told_least q calls EEOF (ended ++ told_beside) all_views main last words ended_beside k v operation id (first_there (map view_of clients) views_beside k v at) begun (omega arith) j listed).1
 
   -- ## What the links that are given back tell of the answers
 

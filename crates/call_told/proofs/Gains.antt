@@ -4,7 +4,7 @@ use Rattle.std.specs.Prelude.{Option, IfSome}
 use Rattle.std.specs.Io.KnownBytes.{append_known}
 use Rattle.std.proofs.lemmas.List.{length-take-le}
 use Rattle.corr_core.specs.declared.marks.Plan as ids
-use Rattle.sock_io.specs.Link.{OutState, InState, TakeStep, SettleStep, IsTakeCount, taken_count, given_of}
+use Rattle.sock_io.specs.Link.{InState, TakeStep, IsTakeCount, taken_count, given_of}
 use Rattle.sock_io.specs.declared.link.Take.{Take}
 use Rattle.sock_io.specs.declared.link.Take.TheVariants as take_
 use Rattle.call_deeds.specs.rpc_reader.specs.Books.{Books}
@@ -30,9 +30,6 @@ gains_like s t e n = record { known = e ∙ sym (known_none s.gave_bytes); count
 
 pub gains_none : (s t : InState) → t ≡ s → Gains s t []
 gains_none s t e = gains_like s t (ap (λ (i : InState). i.gave_bytes) e) (ap (λ (i : InState). i.gave) e)
-
-pub gains_settled : (out : OutState) (s t : InState) → SettleStep out s t → Gains s t []
-gains_settled out s t step = gains_like s t (ap (λ (i : InState). i.gave_bytes) step.same) (ap (λ (i : InState). i.gave) step.same)
 
 pub gains_then : (s m t : InState) (a b : List ℕ) → Gains s m a → Gains m t b → Gains s t (a ++ b)
 gains_then s m t a b x y = record {

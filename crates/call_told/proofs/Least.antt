@@ -7,8 +7,6 @@ use mathlib.Core.Logic.{dite}
 use mathlib.Core.Option.{some, some-injective, some-ne-none}
 use native.Mathlib.Decide.{ℕ_discrete}
 use lib.ListN.{get_elem?}
-use Rattle.sock_io.specs.declared.link.Ends.{Ends}
-use Rattle.sock_io.specs.Link.{OutState, InState}
 use Rattle.corr_core.specs.Law.{total, only, pair, is_made}
 use Rattle.corr_core.specs.declared.marks.Kept.{Kept}
 use Rattle.corr_core.specs.declared.marks.Note.{Note}
@@ -25,7 +23,6 @@ use Rattle.corr_id.specs.Ruled.{is_place}
 use Rattle.corr_id.proofs.Seats.{notes_append, total_append}
 use Rattle.call_deeds.specs.rpc_client.specs.declared.acting.Told.{Told}
 use Rattle.call_deeds.specs.rpc_reader.specs.Books.{Books}
-use Rattle.call_deeds.specs.rpc_reader.specs.Linked.{ReadLinks}
 use Rattle.call_deeds.specs.rpc_reader.specs.Resting.{RestEnded}
 use Rattle.call_told.specs.Once.{ends_of, told_ends}
 use Rattle.call_told.specs.Least.{is_made_for, is_locked_for, HasBegun, IsEndTold, ToldLeast}
@@ -35,7 +32,7 @@ use Rattle.call_told.proofs.Growing.{own_at}
 use Rattle.call_told.proofs.Lists.{all_at}
 use Rattle.call_told.proofs.Once.{told_noted}
 use Rattle.call_told.proofs.Resting.{is_word, IsSeen, rest_seen, seen_ended}
-use Rattle.call_told.proofs.Tallies.{Tally, tally_then, read_accounts, rest_accounts, version_low}
+use Rattle.call_told.proofs.Tallies.{Tally, rest_accounts, version_low}
 
 -- ## One of a list
 
@@ -193,28 +190,21 @@ place_of x id k = owned k.own k.place k.word
     owned true place word = pair_le x id place word
     owned false place word = omega arith
 
-module _ {O I P : Type 0} (out : O → OutState) (inn : I → InState) (q : Plan) (calls : List ℕ) (code : ℕ) where
-  -- Each client told what its seat noted. A seat that has what all of them noted and keep in mind read the links, ended what was left of these calls, and the table was closed
-  pub record AllEnded (ended : List (List Told)) (seats : List (View Asked)) (es es' : List (Ends O I P)) (b m b' : Books) (words : List ℕ) : Type 0 where
+module _ (q : Plan) (calls : List ℕ) (code : ℕ) where
+  -- Each that told of calls told what its seat noted. A seat that has what all of them noted and keep in mind ended what was left of these calls, and the table was closed
+  pub record AllEnded (ended : List (List Told)) (seats : List (View Asked)) (b b' : Books) (words : List ℕ) : Type 0 where
     pub balanced : AreBalanced ended seats
     pub tell : TellEnds ended seats
     pub notes : b.view.notes ≡ flat_map (λ (v : View Asked). v.notes) seats
     pub kept : b.view.kept ≡ flat_map (λ (v : View Asked). v.kept) seats
     pub none_told : b.told ≡ []
-    pub read : ReadLinks out inn q calls 0 es es' b m
-    pub rest : RestEnded q code calls m b'
+    pub rest : RestEnded q code calls b b'
     pub calm : b'.starved ≡ false
     pub closing : Closing q b'.view.notes b'.view.kept words
 
-  module _ (ended : List (List Told)) (seats : List (View Asked)) (es es' : List (Ends O I P)) (b m b' : Books) (words : List ℕ) (all : AllEnded ended seats es es' b m b' words) where
-    first_part : Tally b m
-    first_part = read_accounts out inn q calls 0 es es' b m all.read
-
-    second_part : Tally m b'
-    second_part = rest_accounts code q calls m b' all.rest
-
+  module _ (ended : List (List Told)) (seats : List (View Asked)) (b b' : Books) (words : List ℕ) (all : AllEnded ended seats b b' words) where
     whole : Tally b b'
-    whole = tally_then b m b' first_part second_part
+    whole = rest_accounts code q calls b b' all.rest
 
     abbrev tellers : List (List Told)
     tellers = ended ++ b'.told ∷ []
@@ -249,9 +239,7 @@ module _ {O I P : Type 0} (out : O → OutState) (inn : I → InState) (q : Plan
       -- one id at most was stored for the operation, over all seats
       module _ (few : total (λ (w : View Asked). total (own_at place) w.kept) seats ≤ 1) (j : ℕ) (listed : slice_get calls j ≡ Some operation) where
         seen : IsSeen q code operation id begun.inside b'
-        seen = rest_seen q code operation id begun.inside calls j m b' listed
-            (let a = (first_part.grows place).notes (slot_of id) (is_made (version_of id)) in let c = known in omega arith)
-            (let a = (first_part.grows place).kept (is_place place) in let c = noted in omega arith) all.rest
+        seen = rest_seen q code operation id begun.inside calls j b b' listed known noted all.rest
 
         only_one : total (own_at place) b'.view.kept ≤ 1
         only_one = let a = (whole.grows place).own in let c = ap (total (own_at place)) all.kept in let d = all_kept (own_at place) seats in omega arith
@@ -263,7 +251,7 @@ module _ {O I P : Type 0} (out : O → OutState) (inn : I → InState) (q : Plan
         told_of_it : 0 < total (told_ends id) tellers
         told_of_it =
             let is : slot_of id * 4294967296 + version_of id ≡ id = div-add-mod' id 4294967296 in
-            let a = told_noted out inn q calls code ended seats es es' b m b' all.balanced all.notes all.none_told all.read all.rest all.calm (slot_of id) (version_of id) (version_low id) in let c = over in
+            let a = told_noted q calls code ended seats b b' all.balanced all.notes all.none_told all.rest all.calm (slot_of id) (version_of id) (version_low id) in let c = over in
             subst (λ (x : ℕ). 0 < total (told_ends x) tellers) is (omega arith)
 
         -- its end is told, once at least, with its operation's number

@@ -2,8 +2,6 @@
 use Rattle.std.proofs.Common.{◌≡◌, ℕ, ◌+◌, ◌*◌, ◌<◌, ◌≤◌, inl, inr, true, false, List, [], ◌∷◌, ◌++◌, ◌∙◌, ap, sym, subst, arith}
 use Rattle.std.specs.List.{flat_map}
 use Rattle.std.proofs.lemmas.Nat.{div-add-mod'}
-use Rattle.sock_io.specs.declared.link.Ends.{Ends}
-use Rattle.sock_io.specs.Link.{OutState, InState}
 use Rattle.corr_core.specs.Law.{total}
 use Rattle.corr_core.specs.declared.marks.Kept.{Kept}
 use Rattle.corr_core.specs.declared.marks.Noted.{Noted}
@@ -15,11 +13,10 @@ use Rattle.corr_id.proofs.Seats.{total_append}
 use Rattle.sock_message.specs.Asked.{Asked}
 use Rattle.call_deeds.specs.rpc_client.specs.declared.acting.Told.{Told}
 use Rattle.call_deeds.specs.rpc_reader.specs.Books.{Books}
-use Rattle.call_deeds.specs.rpc_reader.specs.Linked.{ReadLinks}
 use Rattle.call_deeds.specs.rpc_reader.specs.Resting.{RestEnded}
 use Rattle.call_told.specs.Once.{told_ends, ToldOnce}
 use Rattle.call_told.proofs.Balance.{noted_ends, Accounted, AreBalanced, balanced_all}
-use Rattle.call_told.proofs.Tallies.{Accounts, tally_then, read_accounts, rest_accounts, version_low}
+use Rattle.call_told.proofs.Tallies.{Accounts, rest_accounts, version_low}
 
 -- memory was not wanting
 pub calm_accounts : (b b' : Books) → Accounts b b' → b'.starved ≡ false → Accounted b.told b.view.notes b'.told b'.view.notes
@@ -40,23 +37,23 @@ once_by q kept words tellers notes same closing id inside =
     let b = closing.ended_once i f inside in
     subst (λ (x : ℕ). total (told_ends x) tellers ≤ 1) is (omega arith)
 
-module _ {O I P : Type 0} (out : O → OutState) (inn : I → InState) (q : Plan) (calls : List ℕ) (code : ℕ) where
-  -- Each client told what its seat noted. A seat that has what all of them noted read the links, and ended what was left of calls: what it told with that is what was noted then
-  pub told_noted : (ended : List (List Told)) (seats : List (View Asked)) (es es' : List (Ends O I P)) (b m b' : Books)
-      → AreBalanced ended seats → b.view.notes ≡ flat_map (λ (v : View Asked). v.notes) seats → b.told ≡ [] → ReadLinks out inn q calls 0 es es' b m → RestEnded q code calls m b' → b'.starved ≡ false
+module _ (q : Plan) (calls : List ℕ) (code : ℕ) where
+  -- Each that told of calls told what its seat noted. A seat that has what all of them noted ended what was left of calls: what it told with that is what was noted then
+  pub told_noted : (ended : List (List Told)) (seats : List (View Asked)) (b b' : Books)
+      → AreBalanced ended seats → b.view.notes ≡ flat_map (λ (v : View Asked). v.notes) seats → b.told ≡ [] → RestEnded q code calls b b' → b'.starved ≡ false
       → (slot first : ℕ) → first < 4294967296 → total (told_ends (slot * 4294967296 + first)) (ended ++ b'.told ∷ []) ≡ noted_ends slot first b'.view.notes
-  told_noted ended seats es es' b m b' balanced begins none read rest calm slot first low =
+  told_noted ended seats b b' balanced begins none rest calm slot first low =
       let id = slot * 4294967296 + first in
       let x = balanced_all ended seats balanced slot first low in
-      let y = calm_accounts b b' (tally_then b m b' (read_accounts out inn q calls 0 es es' b m read) (rest_accounts code q calls m b' rest)).accounts calm slot first low in
+      let y = calm_accounts b b' (rest_accounts code q calls b b' rest).accounts calm slot first low in
       let z = none_told b none id in
       let n = ap (noted_ends slot first) begins in
       let t = total_append (told_ends id) ended (b'.told ∷ []) in
       omega arith
 
-  -- and then the table of ids was closed: what the clients told of calls that ended, and what was told behind them, has no call twice
-  pub told_once : (ended : List (List Told)) (seats : List (View Asked)) (es es' : List (Ends O I P)) (b m b' : Books) (kept : List Kept) (words : List ℕ)
-      → AreBalanced ended seats → b.view.notes ≡ flat_map (λ (v : View Asked). v.notes) seats → b.told ≡ [] → ReadLinks out inn q calls 0 es es' b m → RestEnded q code calls m b' → b'.starved ≡ false
+  -- and then the table of ids was closed: what they told of calls that ended, and what was told behind them, has no call twice
+  pub told_once : (ended : List (List Told)) (seats : List (View Asked)) (b b' : Books) (kept : List Kept) (words : List ℕ)
+      → AreBalanced ended seats → b.view.notes ≡ flat_map (λ (v : View Asked). v.notes) seats → b.told ≡ [] → RestEnded q code calls b b' → b'.starved ≡ false
       → Closing q b'.view.notes kept words → ToldOnce q.slots (ended ++ b'.told ∷ [])
-  told_once ended seats es es' b m b' kept words balanced begins none read rest calm closing =
-      once_by q kept words (ended ++ b'.told ∷ []) b'.view.notes (told_noted ended seats es es' b m b' balanced begins none read rest calm) closing
+  told_once ended seats b b' kept words balanced begins none rest calm closing =
+      once_by q kept words (ended ++ b'.told ∷ []) b'.view.notes (told_noted ended seats b b' balanced begins none rest calm) closing

@@ -8,8 +8,7 @@ use Rattle.sock_words.specs.declared.outcome.Outcome.{Outcome}
 use Rattle.sock_words.specs.declared.outcome.Outcome.TheVariants.{CallFailed}
 use Rattle.brpc_model.specs.Frame as model
 use Rattle.brpc_model.specs.Meta.{ResponseMeta}
-use Rattle.sock_io.specs.declared.link.Ends.{Ends}
-use Rattle.sock_io.specs.Link.{OutState, InState}
+use Rattle.sock_io.specs.Link.{InState}
 use Rattle.corr_core.specs.Word.{Parts, parts}
 use Rattle.corr_core.specs.Law.{only, is_ended}
 use Rattle.corr_core.specs.declared.marks.Note.{Note}
@@ -32,7 +31,6 @@ use Rattle.call_deeds.specs.rpc_reader.specs.Books.{Books, EndedAs, ToldBy, id_o
 use Rattle.call_deeds.specs.rpc_reader.specs.Met.{slot_in, version_in, is_asked, is_for, AnsweredBy, LackedBy, KeptIf, MetIf, FramesMet}
 use Rattle.call_deeds.specs.rpc_reader.specs.Posting.{LostBy, LockLost, PostedTo, PostedIf, PostedAt, PostedAll, call_at, attempt_at}
 use Rattle.call_deeds.specs.rpc_reader.specs.Reading.{code_of}
-use Rattle.call_deeds.specs.rpc_reader.specs.Linked.{ReadServed, ReadLinks}
 use Rattle.call_deeds.specs.rpc_reader.specs.Running.{ReadLink}
 use Rattle.call_deeds.specs.rpc_reader.specs.Resting.{HadEnded, EndedLast, OneEnded, RestEnded}
 use Rattle.call_deeds.specs.call_client.proofs.Telling.{quiet_total, did_total, none_of_one}
@@ -238,13 +236,3 @@ module _ (code : ℕ) where
 pub read_tally : (q : Plan) (link : ℕ) (calls : List ℕ) (ending short : Bool) (s t : InState) (b b' : Books) → ReadLink q link calls ending short s t b b' → Tally b b'
 read_tally q link calls ending short s t b b' r = let m = r.met in let met = r.read.met in
     tally_then b m b' (frames_tally q.slots met.frames b m met.met) (posted_all (code_of r.how) q link calls m b' r.posted)
-
-module _ {O I P : Type 0} (out : O → OutState) (inn : I → InState) (q : Plan) (calls : List ℕ) where
-  link_tally : (link : ℕ) (e e' : Ends O I P) (b b' : Books) → ReadServed out inn q calls link e e' b b' → Tally b b'
-  link_tally link e e' b b' r = read_tally q link calls true false r.served (inn e'.inn) b b' r.read
-
-  pub read_accounts : (link : ℕ) (es es' : List (Ends O I P)) (b b' : Books) → ReadLinks out inn q calls link es es' b b' → Tally b b'
-  read_accounts link [] [] b b' r = tally_same b b' r
-  read_accounts link (e ∷ es) (e' ∷ es') b b' r = tally_then b r.0 b' (link_tally link e e' b r.0 r.1) (read_accounts (link + 1) es es' r.0 b' r.2)
-  read_accounts link [] (e' ∷ es') b b' r = absurd r
-  read_accounts link (e ∷ es) [] b b' r = absurd r

@@ -1,5 +1,5 @@
 -- By what calls end: what whoever reads the links tells of calls, and what clients tell.
-use Rattle.std.specs.Prelude.{◌≡◌, ◌≢◌, ℕ, ◌+◌, ◌<◌, Bool, true, false, List, [], ◌++◌, length, slice_get, ℤ, pos, Option, Some, IfSome, IsSome}
+use Rattle.std.specs.Prelude.{◌≡◌, ◌≢◌, ℕ, ◌+◌, ◌<◌, Bool, true, false, List, ◌++◌, length, slice_get, ℤ, pos, Option, Some, IfSome, IsSome}
 use Rattle.std.specs.List.{AllByRecursion}
 use Rattle.sock_words.specs.Codes.{EEOF, EINTERNAL, ERESPONSE}
 use Rattle.sock_words.specs.declared.outcome.Outcome.{Outcome}
@@ -10,9 +10,7 @@ use Rattle.brpc_model.specs.Operations.{Operation}
 use Rattle.brpc_model.specs.Attempts.{IsResponse, HasCode}
 use Rattle.brpc_model.specs.Link.{LinkEnd}
 use Rattle.brpc_model.specs.Stream.{stream}
-use Rattle.sock_io.specs.declared.link.Ends.{Ends}
 use Rattle.sock_io.specs.declared.link.Out.{Ghosts}
-use Rattle.sock_io.specs.Link.{InState}
 use Rattle.corr_core.specs.Word.{Parts, parts, locked_word}
 use Rattle.corr_core.specs.declared.marks.Note.{Note}
 use Rattle.corr_core.specs.declared.marks.Note.TheVariants.{Ended, Locker}
@@ -95,20 +93,6 @@ module _ (slots links : ℕ) (gave : ℕ → List ℕ) where
     pub told : b'.told ≡ b.told ++ more
     pub each : AllByRecursion (ToldFrom b'.view) more
     pub early : AreGiven links gave b'.early
-
--- ## What the links tell
-
--- each link of which it is told what it gave, and which had given nothing before, gave these bytes; and each gave so many more
-pub record GaveBetween {O I P : Type 0} (inn : I → InState) (gave : ℕ → List ℕ) (old new : List (Ends O I P)) : Type 0 where
-  pub as_many : length new ≡ length old
-  pub tells : (k : ℕ) (e e' : Ends O I P) → slice_get old k ≡ Some e → slice_get new k ≡ Some e' → IfSome (inn e.inn).gave_bytes (λ bytes. bytes ≡ []) → IfSome (inn e'.inn).gave_bytes (λ bytes. bytes ≡ gave k)
-  pub counts : (k : ℕ) (e e' : Ends O I P) → slice_get old k ≡ Some e → slice_get new k ≡ Some e' → (inn e'.inn).gave ≡ (inn e.inn).gave + length (gave k)
-
--- all links were read and what was left of calls was ended: the links gave such bytes, and from them come all responses that end calls
-pub record AnsweredFrom {O I P : Type 0} (slots : ℕ) (inn : I → InState) (old new : List (Ends O I P)) (b b' : Books) : Type 0 where
-  pub gave : ℕ → List ℕ
-  pub between : GaveBetween inn gave old new
-  pub tells : TellsFrom slots (length old) gave b b'
 
 -- ## What clients tell
 

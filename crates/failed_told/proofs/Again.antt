@@ -30,16 +30,14 @@ use Rattle.sock_message.specs.Asked.{Asked, name_of}
 use Rattle.corr_id.specs.Closing.{Closing}
 use Rattle.attempts_told.specs.call_whys.specs.expire_told.specs.rpc_client.specs.declared.acting.Told.{Told}
 use Rattle.attempts_told.specs.call_whys.specs.expire_told.specs.call_run.specs.Readers.{LinkReader}
-use Rattle.attempts_told.specs.call_whys.specs.expire_told.specs.call_run.specs.Threads.{Thread, RanWith, RanOn, MayRunAll, ids_of, opens_of, opened_names, openings}
+use Rattle.attempts_told.specs.call_whys.specs.expire_told.specs.call_run.specs.Threads.{Thread, RanWith, MayRunAll, ids_of}
 use Rattle.attempts_told.specs.call_whys.specs.expire_told.specs.call_places.specs.Counted.{HaveNotesOf}
 use Rattle.attempts_told.specs.call_whys.specs.expire_told.specs.call_places.specs.Deeds.{Deed}
 use Rattle.attempts_told.specs.call_whys.specs.expire_told.specs.call_places.proofs.Clients.{Client, total_map, view_of, deeds_of}
 use Rattle.attempts_told.specs.call_whys.specs.expire_told.specs.call_places.proofs.Places.{all as all_clients, views_are}
 use Rattle.attempts_told.specs.call_whys.specs.expire_told.specs.call_told.specs.Least.{is_made_for}
 use Rattle.attempts_told.specs.call_whys.specs.expire_told.specs.call_deeds.specs.Retried.{all_asked}
-use Rattle.attempts_told.specs.call_whys.specs.expire_told.specs.call_deeds.specs.Scripts.{AllHaveLinks, Reports, AllLater}
 use Rattle.attempts_told.specs.call_whys.specs.expire_told.specs.call_deeds.proofs.Ran.{AreLater}
-use Rattle.attempts_told.specs.call_whys.specs.expire_told.specs.call_deeds.proofs.Runs.{seats_are, deed_run}
 use Rattle.attempts_told.specs.call_whys.specs.expire_told.specs.Said.{AreSaid}
 use Rattle.attempts_told.specs.call_whys.specs.expire_told.specs.sock_deeds.specs.Runs.{IsOperation, seat_of, DeedRun}
 use Rattle.attempts_told.specs.call_whys.specs.expire_told.specs.sock_deeds.proofs.Accepting.{log}
@@ -187,27 +185,9 @@ module _ {O : Type 0} {g : Ghosts O} {state : O → OutState} {readers : List (L
     (others : (i first e : ℕ) → 0 < queued_in i first e notes → (0 < total (λ (v : View Asked). queued_in i first e v.notes) ids) ⊎ IsReadCode (code_of e))
     (made : (i j f r : ℕ) (asked : Asked) → i < slots → get_elem? (notes_of i notes) j ≡ some (Made f r asked) → (c : ℕ) × IsTask (setup ∷ clients) outcomes c record { number = asked.operation; op = ops.Call asked } × (r ≡ asked.range))
     (own : (i f n : ℕ) → advanced_in i f n notes ≤ total (λ (v : View Asked). advanced_in i f n v.notes) ids)
-    -- what the seats did at the table of sockets, with readers of links beside them or without
+    -- what the seats did at the table of sockets, with readers of links beside them
     (drun : DeedRun g state p (setup ∷ clients) outcomes places vrefs outs) (seats : map seat_of drun.seats ≡ map (λ (x : Thread g). x.ended.seat) (run.ran.main ∷ run.ran.others)) (logged : log drun ≡ run.closed.ordered.log)
     (differ : PlacesDiffer (log drun)) (gave : ℕ → List ℕ) where
   pub again_with : TellsDrops run notes outcomes drun differ gave → (client : ℕ) (t : Task) (asked : Asked) → IsTask (setup ∷ clients) outcomes client t → t.op ≡ ops.Call asked → (n : ℕ) → n < last_attempt notes t.number
       → WhyAgain p (setup ∷ clients) outcomes (fixed drun differ gave) gave (orders drun differ) client t.number n (name_of asked n)
   again_with dropped = again run tasks may notes kept words closing noted outcomes said others own drun seats logged differ gave (log_accepted drun differ (λ k. [])) (asked_here run tasks may notes kept words closing noted outcomes later) made dropped
-
--- where no link was read beside the clients
-module _ {O : Type 0} {g : Ghosts O} {state : O → OutState} {p : Plan} {slots : ℕ} {setup : List Task} {clients : List (List Task)} {opens : List ℕ} {told ended : List (List Told)} {places : List PlaceWord} {vrefs : List Vref} {outs : List O} {ids : List (View Asked)}
-    (run : RanOn g state p slots setup clients opens told ended places vrefs outs ids) (tasks : AreTasks p (setup ∷ clients)) (may : MayRunAll p (ids_of p slots) setup clients)
-    (notes : List (Noted Asked)) (kept : List Kept) (words : List ℕ) (closing : Closing (ids_of p slots) notes kept words) (noted : HaveNotesOf ids notes)
-    (outcomes : List (Option Outcome)) (long : length outcomes ≡ p.operations) (reports : Reports (setup ∷ clients) outcomes told) (links : AllHaveLinks 0 (setup ∷ clients))
-    (main_later : AreLater (setup ∷ clients) outcomes (all_asked run.ran.main run.ran.main_is))
-    (others_later : AllLater (setup ∷ clients) outcomes state p (ids_of p slots) (opened_names run.ran.main.ended.outcomes.items (openings setup)) (opens_of setup) run.ran.others run.ran.others_are)
-    (later : (c : ℕ) (x : Client g state p (ids_of p slots)) → get_elem? (all_clients run) c ≡ some x → AreLater (setup ∷ clients) outcomes (all_asked x.thread x.is))
-    (others : (i first e : ℕ) → 0 < queued_in i first e notes → (0 < total (λ (v : View Asked). queued_in i first e v.notes) ids) ⊎ IsReadCode (code_of e))
-    (made : (i j f r : ℕ) (asked : Asked) → i < slots → get_elem? (notes_of i notes) j ≡ some (Made f r asked) → (c : ℕ) × IsTask (setup ∷ clients) outcomes c record { number = asked.operation; op = ops.Call asked } × (r ≡ asked.range))
-    (own : (i f n : ℕ) → advanced_in i f n notes ≤ total (λ (v : View Asked). advanced_in i f n v.notes) ids) (differ : PlacesDiffer run.closed.ordered.log) (gave : ℕ → List ℕ) where
-  abbrev deeds_here : DeedRun g state p (setup ∷ clients) outcomes places vrefs outs
-  deeds_here = deed_run run outcomes tasks may links long reports main_later others_later
-
-  pub each_again : TellsDrops run notes outcomes deeds_here differ gave → (client : ℕ) (t : Task) (asked : Asked) → IsTask (setup ∷ clients) outcomes client t → t.op ≡ ops.Call asked → (n : ℕ) → n < last_attempt notes t.number
-      → WhyAgain p (setup ∷ clients) outcomes (fixed deeds_here differ gave) gave (orders deeds_here differ) client t.number n (name_of asked n)
-  each_again = again_with run tasks may notes kept words closing noted outcomes reports.said later others made own deeds_here (seats_are run outcomes tasks may links long reports main_later others_later) refl differ gave

@@ -1,8 +1,6 @@
 -- Why messages were dropped, and with which codes errors are posted, by what is known of each run of a script.
-use Rattle.std.proofs.Common.{◌≡◌, ℕ, ◌<◌, ◌≤◌, ◌⊎◌, List, [], ◌∷◌, length, map, refl}
+use Rattle.std.proofs.Common.{◌≡◌, ℕ, ◌<◌, ◌≤◌, ◌⊎◌, List, [], ◌∷◌, map}
 use Rattle.std.specs.Prelude.{Option}
-use mathlib.Core.Option.{some}
-use lib.ListN.{get_elem?}
 use Rattle.sock_io.specs.declared.link.Out.{Ghosts}
 use Rattle.sock_io.specs.Link.{OutState}
 use Rattle.sock_words.specs.declared.outcome.Outcome.{Outcome}
@@ -23,14 +21,8 @@ use Rattle.sock_message.specs.Asked.{Asked}
 use Rattle.corr_id.specs.Closing.{Closing}
 use Rattle.attempts_told.specs.call_whys.specs.expire_told.specs.rpc_client.specs.declared.acting.Told.{Told}
 use Rattle.attempts_told.specs.call_whys.specs.expire_told.specs.call_run.specs.Readers.{LinkReader}
-use Rattle.attempts_told.specs.call_whys.specs.expire_told.specs.call_run.specs.Threads.{Thread, RanWith, RanOn, MayRunAll, ids_of, opens_of, opened_names, openings}
+use Rattle.attempts_told.specs.call_whys.specs.expire_told.specs.call_run.specs.Threads.{Thread, RanWith, MayRunAll, ids_of}
 use Rattle.attempts_told.specs.call_whys.specs.expire_told.specs.call_places.specs.Counted.{HaveNotesOf}
-use Rattle.attempts_told.specs.call_whys.specs.expire_told.specs.call_places.proofs.Clients.{Client}
-use Rattle.attempts_told.specs.call_whys.specs.expire_told.specs.call_places.proofs.Places.{all as all_clients}
-use Rattle.attempts_told.specs.call_whys.specs.expire_told.specs.call_deeds.specs.Retried.{all_asked}
-use Rattle.attempts_told.specs.call_whys.specs.expire_told.specs.call_deeds.specs.Scripts.{AllHaveLinks, Reports, AllLater}
-use Rattle.attempts_told.specs.call_whys.specs.expire_told.specs.call_deeds.proofs.Ran.{AreLater}
-use Rattle.attempts_told.specs.call_whys.specs.expire_told.specs.call_deeds.proofs.Runs.{seats_are, deed_run}
 use Rattle.attempts_told.specs.call_whys.specs.expire_told.specs.Said.{AreSaid, HaveKeptOf, WhyExpired}
 use Rattle.attempts_told.specs.call_whys.specs.expire_told.specs.sock_deeds.specs.Runs.{IsOperation, seat_of, DeedRun}
 use Rattle.attempts_told.specs.call_whys.specs.expire_told.specs.sock_deeds.proofs.Accepting.{log}
@@ -45,7 +37,7 @@ use Rattle.failed_told.proofs.Views.{queued_in}
 module _ {O : Type 0} {g : Ghosts O} {state : O → OutState} {readers : List (LinkReader g)} {p : Plan} {slots : ℕ} {setup : List Task} {clients : List (List Task)} {opens : List ℕ} {told ended : List (List Told)} {places : List PlaceWord} {vrefs : List Vref} {outs : List O} {ids : List (View Asked)}
     (run : RanWith g state readers p slots setup clients opens told ended places vrefs outs ids) (tasks : AreTasks p (setup ∷ clients)) (may : MayRunAll p (ids_of p slots) setup clients)
     (notes : List (Noted Asked)) (kept : List Kept) (words : List ℕ) (closing : Closing (ids_of p slots) notes kept words) (noted : HaveNotesOf ids notes) (outcomes : List (Option Outcome))
-    -- what the seats did at the table of sockets, with readers of links beside them or without
+    -- what the seats did at the table of sockets, with readers of links beside them
     (drun : DeedRun g state p (setup ∷ clients) outcomes places vrefs outs) (seats : map seat_of drun.seats ≡ map (λ (x : Thread g). x.ended.seat) (run.ran.main ∷ run.ran.others)) (logged : log drun ≡ run.closed.ordered.log)
     (differ : PlacesDiffer (log drun)) (gave : ℕ → List ℕ) (few : p.operations ≤ 65536) (few_links : p.links ≤ 65536)
     -- the codes that a `fail` may have in a script
@@ -63,28 +55,3 @@ module _ {O : Type 0} {g : Ghosts O} {state : O → OutState} {readers : List (L
     pub expires_with : (last : ℕ → ℕ) (c of : ℕ) (t : Task) (by : Outcome) → IsTask (setup ∷ clients) outcomes c t → t.op ≡ ops.Expire of → Became (setup ∷ clients) outcomes t.number by
         → WhyExpired p (setup ∷ clients) outcomes (fixed drun differ gave) gave (orders drun differ) c t.number of by → WhyExpire p (setup ∷ clients) outcomes (fixed drun differ gave) gave (orders drun differ) last c t.number of by
     expires_with = expire_posted run tasks may notes kept words closing noted keeps outcomes said_own said_ended others drun seats logged differ gave (log_accepted drun differ (λ k. [])) few few_links bounds
-
--- where no link was read beside the clients
-module _ {O : Type 0} {g : Ghosts O} {state : O → OutState} {p : Plan} {slots : ℕ} {setup : List Task} {clients : List (List Task)} {opens : List ℕ} {told ended : List (List Told)} {places : List PlaceWord} {vrefs : List Vref} {outs : List O} {ids : List (View Asked)}
-    (run : RanOn g state p slots setup clients opens told ended places vrefs outs ids) (tasks : AreTasks p (setup ∷ clients)) (may : MayRunAll p (ids_of p slots) setup clients)
-    (notes : List (Noted Asked)) (kept : List Kept) (words : List ℕ) (closing : Closing (ids_of p slots) notes kept words) (noted : HaveNotesOf ids notes)
-    (outcomes : List (Option Outcome)) (long : length outcomes ≡ p.operations) (reports : Reports (setup ∷ clients) outcomes told) (links : AllHaveLinks 0 (setup ∷ clients))
-    (main_later : AreLater (setup ∷ clients) outcomes (all_asked run.ran.main run.ran.main_is))
-    (others_later : AllLater (setup ∷ clients) outcomes state p (ids_of p slots) (opened_names run.ran.main.ended.outcomes.items (openings setup)) (opens_of setup) run.ran.others run.ran.others_are)
-    (later : (c : ℕ) (x : Client g state p (ids_of p slots)) → get_elem? (all_clients run) c ≡ some x → AreLater (setup ∷ clients) outcomes (all_asked x.thread x.is))
-    (differ : PlacesDiffer run.closed.ordered.log) (gave : ℕ → List ℕ) (few : p.operations ≤ 65536) (few_links : p.links ≤ 65536)
-    -- the codes that a `fail` may have in a script
-    (bounds : (client number name code : ℕ) → IsOperation (setup ∷ clients) outcomes client number (ops.Fail name code) → (1500 ≤ code) × (code ≤ 1999)) where
-  abbrev deeds_here : DeedRun g state p (setup ∷ clients) outcomes places vrefs outs
-  deeds_here = deed_run run outcomes tasks may links long reports main_later others_later
-
-  pub drops_told : TellsDrops run notes outcomes deeds_here differ gave
-  drops_told = drops_with run tasks may notes kept words closing noted outcomes deeds_here (seats_are run outcomes tasks may links long reports main_later others_later) refl differ gave few few_links bounds
-
-  module _ (keeps : HaveKeptOf ids kept) (said_ended : AreSaid outcomes ended) (others : (i first e : ℕ) → 0 < queued_in i first e notes → (0 < total (λ (v : View Asked). queued_in i first e v.notes) ids) ⊎ IsReadCode (code_of e)) where
-    pub codes_told : (i f e : ℕ) → 0 < queued_in i f e notes → IsPosted p (setup ∷ clients) outcomes (fixed deeds_here differ gave) gave (orders deeds_here differ) (code_of e)
-    codes_told = codes_with run tasks may notes kept words closing noted outcomes deeds_here (seats_are run outcomes tasks may links long reports main_later others_later) refl differ gave few few_links bounds keeps reports.said said_ended others
-
-    pub expires_told : (last : ℕ → ℕ) (c of : ℕ) (t : Task) (by : Outcome) → IsTask (setup ∷ clients) outcomes c t → t.op ≡ ops.Expire of → Became (setup ∷ clients) outcomes t.number by
-        → WhyExpired p (setup ∷ clients) outcomes (fixed deeds_here differ gave) gave (orders deeds_here differ) c t.number of by → WhyExpire p (setup ∷ clients) outcomes (fixed deeds_here differ gave) gave (orders deeds_here differ) last c t.number of by
-    expires_told = expires_with run tasks may notes kept words closing noted outcomes deeds_here (seats_are run outcomes tasks may links long reports main_later others_later) refl differ gave few few_links bounds keeps reports.said said_ended others

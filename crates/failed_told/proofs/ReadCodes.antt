@@ -1,5 +1,5 @@
 -- Whoever reads the links tells no call to have failed but with one of those codes.
-use Rattle.std.proofs.Common.{◌≡◌, ℕ, zero, suc, ◌+◌, ◌⊎◌, inl, inr, Bool, true, false, List, [], ◌∷◌, ◌++◌, map, append_assoc, append-nil, Some, None, pos, negsuc, refl, ap, ◌∙◌, subst, sym}
+use Rattle.std.proofs.Common.{◌≡◌, ℕ, zero, suc, ◌⊎◌, inl, inr, Bool, true, false, List, [], ◌∷◌, ◌++◌, map, append_assoc, append-nil, Some, None, pos, negsuc, refl, ap, ◌∙◌, subst, sym}
 use Rattle.std.specs.Prelude.{Option, ℤ, position, ◌==◌}
 use Rattle.std.specs.List.{AllByRecursion}
 use Rattle.sock_words.specs.Codes.{ERESPONSE}
@@ -10,9 +10,8 @@ use Rattle.sock_words.specs.declared.outcome.Outcome.TheVariants.{CallFailed}
 use Rattle.sock_words.specs.declared.plain.Plan as sizes
 use Rattle.sock_words.specs.declared.socket_id.SocketId.{SocketId}
 use Rattle.sock_model.specs.declared.view.View as sock_view
-use Rattle.sock_io.specs.declared.link.Ends.{Ends}
 use Rattle.sock_io.specs.declared.link.Out.{Ghosts}
-use Rattle.sock_io.specs.Link.{OutState, InState}
+use Rattle.sock_io.specs.Link.{InState}
 use Rattle.corr_core.specs.Word.{Parts, parts}
 use Rattle.corr_core.specs.declared.marks.Plan.{Plan}
 use Rattle.id_rule.specs.Lawful.{at_index, with_kept}
@@ -31,7 +30,6 @@ use Rattle.attempts_told.specs.call_whys.specs.expire_told.specs.call_deeds.spec
 use Rattle.attempts_told.specs.call_whys.specs.expire_told.specs.call_deeds.specs.rpc_reader.specs.Met.{slot_in, is_asked, is_for, MetIf, FramesMet}
 use Rattle.attempts_told.specs.call_whys.specs.expire_told.specs.call_deeds.specs.rpc_reader.specs.Posting.{LostBy, LockLost, PostedTo, PostedIf, PostedAt, PostedAll}
 use Rattle.attempts_told.specs.call_whys.specs.expire_told.specs.call_deeds.specs.rpc_reader.specs.Reading as reading
-use Rattle.attempts_told.specs.call_whys.specs.expire_told.specs.call_deeds.specs.rpc_reader.specs.Linked.{ReadLinks}
 use Rattle.attempts_told.specs.call_whys.specs.expire_told.specs.call_deeds.specs.rpc_reader.specs.Running.{ReadLink, ReadIf}
 use Rattle.attempts_told.specs.call_whys.specs.expire_told.specs.call_deeds.specs.rpc_reader.specs.Resting.{HadEnded, EndedLast, OneEnded, RestEnded}
 use Rattle.attempts_told.specs.call_whys.specs.expire_told.specs.call_run.specs.Readers.{LinkReader, nothing_read, IsReader}
@@ -145,13 +143,6 @@ module _ (code : ℕ) (loss : IsReadCode code) where
 link_codes : (q : Plan) (link : ℕ) (calls : List ℕ) (ending : Bool) (s t : InState) (b b' : Books) → ReadLink q link calls ending false s t b b' → TellsCodes b b'
 link_codes q link calls ending s t b b' r = let m = r.met in let met = r.read.met in
     codes_then b m b' (frames_codes q.slots met.frames b m met.met) (posted_all (reading.code_of r.how) (loss_code r.how (r.calm refl).1) q link calls m b' r.posted)
-
-module _ {O I P : Type 0} (out : O → OutState) (inn : I → InState) (q : Plan) (calls : List ℕ) where
-  pub read_codes : (link : ℕ) (es es' : List (Ends O I P)) (b b' : Books) → ReadLinks out inn q calls link es es' b b' → TellsCodes b b'
-  read_codes link [] [] b b' r = codes_same b b' r
-  read_codes link (e ∷ es) (e' ∷ es') b b' r = codes_then b r.0 b' (link_codes q link calls true r.1.served (inn e'.inn) b r.0 r.1.read) (read_codes (link + 1) es es' r.0 b' r.2)
-  read_codes link [] (e' ∷ es') b b' r = absurd r
-  read_codes link (e ∷ es) [] b b' r = absurd r
 
 -- ## Readers beside the clients
 

@@ -10,9 +10,8 @@ use Rattle.sock_words.specs.Words.{at_word_attempt}
 use Rattle.sock_words.specs.declared.plain.Plan as sizes
 use Rattle.sock_words.specs.declared.socket_id.SocketId.{SocketId}
 use Rattle.sock_model.specs.declared.view.View as sock_view
-use Rattle.sock_io.specs.declared.link.Ends.{Ends}
 use Rattle.sock_io.specs.declared.link.Out.{Ghosts}
-use Rattle.sock_io.specs.Link.{OutState, InState}
+use Rattle.sock_io.specs.Link.{InState}
 use Rattle.corr_core.specs.Word.{code_of}
 use Rattle.corr_core.specs.Law.{total, is_queued}
 use Rattle.corr_core.specs.declared.marks.Note.{Note}
@@ -29,7 +28,6 @@ use Rattle.attempts_told.specs.call_whys.specs.expire_told.specs.call_deeds.spec
 use Rattle.attempts_told.specs.call_whys.specs.expire_told.specs.call_deeds.specs.rpc_reader.specs.declared.reading.How.{How}
 use Rattle.attempts_told.specs.call_whys.specs.expire_told.specs.call_deeds.specs.rpc_reader.specs.declared.reading.How.TheVariants as how
 use Rattle.attempts_told.specs.call_whys.specs.expire_told.specs.call_deeds.specs.rpc_reader.specs.Reading as reading
-use Rattle.attempts_told.specs.call_whys.specs.expire_told.specs.call_deeds.specs.rpc_reader.specs.Linked.{ReadLinks}
 use Rattle.attempts_told.specs.call_whys.specs.expire_told.specs.call_deeds.specs.rpc_reader.specs.Running.{is_starved, ReadLink, ReadIf}
 use Rattle.attempts_told.specs.call_whys.specs.expire_told.specs.call_deeds.specs.rpc_reader.specs.Resting.{RestEnded}
 use Rattle.attempts_told.specs.call_whys.specs.expire_told.specs.call_run.specs.Readers.{LinkReader, nothing_read, IsReader}
@@ -87,13 +85,6 @@ rest_queues code p os b b' h = none_queued b.view b'.view (rest_stays code p os 
 link_queues : (q : Plan) (link : ℕ) (calls : List ℕ) (ending : Bool) (s t : InState) (b b' : Books) → ReadLink q link calls ending false s t b b' → Queues b.view b'.view
 link_queues q link calls ending s t b b' r = let m = r.met in let met = r.read.met in
     queues_then b.view m.view b'.view (none_queued b.view m.view (frames_stay q.slots met.frames b m met.met)) (posts_queue q link (reading.code_of r.how) m.view b'.view (loss_code r.how (r.calm refl).1) (posted_all q link (reading.code_of r.how) calls m b' r.posted))
-
-module _ {O I P : Type 0} (out : O → OutState) (inn : I → InState) (q : Plan) (calls : List ℕ) where
-  pub read_queues : (link : ℕ) (es es' : List (Ends O I P)) (b b' : Books) → ReadLinks out inn q calls link es es' b b' → Queues b.view b'.view
-  read_queues link [] [] b b' r = queues_same b b' r
-  read_queues link (e ∷ es) (e' ∷ es') b b' r = queues_then b.view r.0.view b'.view (link_queues q link calls true r.1.served (inn e'.inn) b r.0 r.1.read) (read_queues (link + 1) es es' r.0 b' r.2)
-  read_queues link [] (e' ∷ es') b b' r = absurd r
-  read_queues link (e ∷ es) [] b b' r = absurd r
 
 -- ## Over all seats
 

@@ -7,7 +7,6 @@ pub mod Posting
 pub mod Failing
 pub mod Throwing
 pub mod Running
-pub mod Linked
 pub mod Resting
 pub use Rattle.call_table
 pub use Rattle.prpc_frame

@@ -51,7 +51,7 @@ module _ (q : ids.Plan) (link : ℕ) (calls : List ℕ) (ending short : Bool) (s
     -- where memory was wanting nowhere
     pub calm : short ≡ false → (b'.starved ≡ false) × (is_starved how ≡ false)
 
-  -- the same of a link whose socket isn't seen to
+  -- the same without what was done to its socket
   pub record ReadLink (b b' : Books) : Type 0 where
     pub how : How
     pub between : InState

@@ -6,7 +6,6 @@ mod books;
 mod cutting;
 mod ending;
 mod failing;
-mod linked;
 mod meeting;
 mod opening;
 mod posting;
@@ -17,7 +16,6 @@ mod throwing;
 
 pub use books::AnswerSeat;
 pub use failing::fail_id;
-pub use linked::{read_link, read_links};
 pub use opening::wait_open;
 pub use reader::{Reader, Spent};
 pub use resting::end_rest;
