@@ -21,3 +21,5 @@ pub mod Least
 pub mod Shown
 pub mod Readers
 pub mod Beside
+pub mod Responses
+pub mod Unanswered
