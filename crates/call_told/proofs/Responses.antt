@@ -114,6 +114,13 @@ pub record Goes (slots : ℕ) (b b' : Books) : Type 0 where
   pub starved : b.starved ≡ true → b'.starved ≡ true
   pub early : (f : Frame) (n : ℕ) → is_asked slots f ≡ true → get_elem? b.early n ≡ some f → IsMet f b'
 
+-- another seat took in what this one has
+pub met_in : (f : Frame) (b c : Books) → NotesGrow b.view c.view → (b.starved ≡ true → c.starved ≡ true) → ((n : ℕ) → get_elem? b.early n ≡ some f → (m : ℕ) × (get_elem? c.early m ≡ some f)) → IsMet f b → IsMet f c
+met_in f b c grows starved early (by_end h) = by_end (ended_still f b.view c.view grows h)
+met_in f b c grows starved early (by_keeping n at) = let w = early n at in by_keeping w.0 w.1
+met_in f b c grows starved early (by_passing word found past) = by_passing word (found_still (slot_in f) word b.view c.view grows found) past
+met_in f b c grows starved early (by_want s) = by_want (starved s)
+
 module _ (slots : ℕ) where
   pub met_still : (f : Frame) (b b' : Books) → is_asked slots f ≡ true → Goes slots b b' → IsMet f b → IsMet f b'
   met_still f b b' asked g (by_end h) = by_end (ended_still f b.view b'.view g.grows h)

@@ -9,6 +9,7 @@ use Rattle.sock_words.specs.declared.outcome.Outcome.{Outcome}
 use Rattle.sock_words.specs.declared.outcome.Outcome.TheVariants.{CallFailed}
 use Rattle.corr_core.specs.Word.{Parts, parts, locked_word}
 use Rattle.corr_core.specs.Law.{total, only, is_ended}
+use Rattle.corr_core.specs.declared.marks.Note.{Note}
 use Rattle.corr_core.specs.declared.marks.Note.TheVariants.{Ended}
 use Rattle.corr_core.specs.declared.marks.Plan.{Plan}
 use Rattle.corr_core.specs.declared.marks.View.{View}
@@ -17,6 +18,16 @@ use Rattle.corr_id.specs.declared.posts.Posted.{Posted}
 use Rattle.corr_id.specs.declared.posts.Posted.TheVariants.{Locked as HasLock, Queued as IsQueued, Gone, Stale, Crowded}
 use Rattle.corr_id.specs.Calls.{Became, one, slot_of, is_saw, Found, GotLock}
 use Rattle.corr_id.specs.Posts.{PostOk}
+use Rattle.corr_id.specs.Closing.{Closing}
+use Rattle.corr_core.specs.declared.marks.Noted.{Noted}
+use Rattle.corr_core.specs.declared.marks.Kept.{Kept}
+use Rattle.corr_core.proofs.Notes.{only-same}
+use Rattle.sock_io.specs.Link.{InState}
+use mathlib.Core.Logic.{dite}
+use mathlib.Core.Option.{some}
+use native.Mathlib.Decide.{ℕ_discrete}
+use lib.ListN.{get_elem?}
+use Rattle.std.proofs.lemmas.Bool.{cases_lt}
 use Rattle.corr_id.proofs.Doing.{became_grows}
 use Rattle.sock_message.specs.Asked.{Asked}
 use Rattle.sock_message.specs.brpc_model.specs.Frame as model
@@ -26,12 +37,14 @@ use Rattle.prpc_frame.specs.declared.frame.Frame.{Frame}
 use Rattle.call_deeds.specs.call_table.specs.Responses.{by_code, outcome_by, ending_of}
 use Rattle.call_deeds.specs.rpc_client.specs.declared.acting.Told.{Told}
 use Rattle.call_deeds.specs.rpc_reader.specs.Books.{Books, ToldBy, id_of}
-use Rattle.call_deeds.specs.rpc_reader.specs.Met.{slot_in, version_in, is_asked, is_for, MetIf}
+use Rattle.call_deeds.specs.rpc_reader.specs.Met.{slot_in, version_in, is_asked, is_for, MetIf, FramesMet}
 use Rattle.call_deeds.specs.rpc_reader.specs.Posting.{LostBy, LockLost, PostedTo, PostedIf, PostedAt, PostedAll, call_at, attempt_at}
+use Rattle.call_deeds.specs.rpc_reader.specs.Running.{ReadLink}
+use Rattle.call_deeds.specs.rpc_reader.specs.Reading.{code_of}
 use Rattle.call_deeds.specs.rpc_reader.specs.Resting.{HadEnded, EndedLast, OneEnded, RestEnded}
 use Rattle.call_told.proofs.Given.{for_is}
 use Rattle.call_told.proofs.Lists.{all_both, all_then}
-use Rattle.call_told.proofs.Responses.{NotesGrow, HasEnded, IsMet, Goes, met_still, goes_view, same_notes, post_grows, posted_goes, all_goes, one_goes, rest_goes, lost_met}
+use Rattle.call_told.proofs.Responses.{NotesGrow, HasEnded, IsMet, Goes, met_still, goes_view, same_notes, post_grows, posted_goes, all_goes, one_goes, rest_goes, lost_met, frames_goes, frames_met}
 
 -- ## No response ends a call with 1014
 
@@ -137,6 +150,10 @@ module _ (slots : ℕ) (Given : Frame → Type 0) (asked : (f : Frame) → Given
   met_tells true f b b' (inr l) = tells_none b b' l.told
   met_tells false f b b' e = tells_same b b' e
 
+  pub frames_tells : (fs : List Frame) (b b' : Books) → FramesMet slots fs b b' → TellsEnds b b'
+  frames_tells [] b b' m = tells_same b b' m
+  frames_tells (f ∷ fs) b b' m = tells_then b m.0 b' (frames_goes slots fs m.0 b' m.2).grows (met_tells (is_asked slots f) f b m.0 m.1) (frames_tells fs m.0 b' m.2)
+
   -- ## Codes
 
   module _ (code : ℕ) where
@@ -219,3 +236,54 @@ module _ (slots : ℕ) (Given : Frame → Type 0) (asked : (f : Frame) → Given
     rest_tells p is (o ∷ os) b b' all calm h =
         let first = one_goes slots code p is o b h.0 h.1 in let rest = rest_goes slots code p is os h.0 b' h.2 in
         tells_then b h.0 b' rest.grows (one_tells p is o b h.0 all (λ s. calm (rest.starved (first.starved s))) h.1) (rest_tells p is os h.0 b' (all_met b h.0 first all) calm h.2)
+
+-- ## A whole reading
+
+module _ (q : Plan) (link : ℕ) (calls : List ℕ) (ending : Bool) (s t : InState) (b b' : Books) (r : ReadLink q link calls ending false s t b b') where
+  -- a response of an id slot among the frames that were met
+  abbrev pub WasMet : Frame → Type 0
+  WasMet f = (n : ℕ) × (get_elem? r.read.met.frames n ≡ some f) × (is_asked q.slots f ≡ true)
+
+  pub was_asked : (f : Frame) → WasMet f → is_asked q.slots f ≡ true
+  was_asked f w = w.2
+
+  pub read_met : AllMet q.slots WasMet was_asked r.met
+  read_met f w = frames_met q.slots r.read.met.frames w.0 f b r.met w.1 w.2 r.read.met.met
+
+  pub read_calm : b'.starved ≡ true → ⊥
+  read_calm h = let z : true ≡ false = sym h ∙ (r.calm refl).0 in absurd (cc)
+
+  -- they are met behind it too
+  pub left_met : AllMet q.slots WasMet was_asked b'
+  left_met = all_met q.slots WasMet was_asked r.met b' (all_goes q.slots (code_of r.how) q refl link calls r.met b' r.posted) read_met
+
+  -- what was told of it
+  pub read_tells : TellsEnds q.slots WasMet was_asked b b'
+  read_tells = tells_then q.slots WasMet was_asked b r.met b' (all_goes q.slots (code_of r.how) q refl link calls r.met b' r.posted).grows (frames_tells q.slots WasMet was_asked r.read.met.frames b r.met r.read.met.met)
+      (all_tells q.slots WasMet was_asked (code_of r.how) q refl link calls r.met b' read_met read_calm r.posted)
+
+-- ## At the end
+
+module _ (q : Plan) (notes : List (Noted Asked)) (kept : List Kept) (words : List ℕ) (closed : Closing q notes kept words) where
+  -- words of a slot whose ranges have a version in common are of one range
+  pub same_range : (i x y v : ℕ) → i < q.slots → 0 < total (is_saw x) (notes_of i notes) → 0 < (parts x).state → 0 < total (is_saw y) (notes_of i notes) → 0 < (parts y).state
+      → (parts x).first < v → v < (parts x).first + (parts x).range → (parts y).first < v → v < (parts y).first + (parts y).range → (parts x).first ≡ (parts y).first
+  same_range i x y v inside sx tx sy ty a b c d =
+      let m = closed.range_is i x inside sx tx in let n = closed.range_is i y inside sy ty in
+      dite (ℕ_discrete (parts x).first (parts y).first) (λ e. e) (λ ne. absurd (⊎_elim
+      (λ lt. let z = closed.ranges_apart i (parts x).first (parts y).first (parts x).range (parts y).range m.1 n.1 m.0 n.0 inside m.2 n.2 lt in omega (arith, z, b, c))
+      (λ ge. let z = closed.ranges_apart i (parts y).first (parts x).first (parts y).range (parts x).range n.1 m.1 n.0 m.0 inside n.2 m.2 (omega (arith, ge, ne)) in omega (arith, z, a, d))
+      (cases_lt (parts x).first (parts y).first)))
+
+  -- so no range was ended twice
+  pub twice_never : (f : Frame) (slot word : ℕ) (w : Parts) (v : View Asked) → slot < q.slots → ((j : ℕ) (g : Note Asked → ℕ) → total g (notes_of j v.notes) ≤ total g (notes_of j notes)) → Found slot word v → (parts word).state ≡ 1 → w ≡ locked_word (parts word)
+      → is_for slot w f ≡ true → Twice f slot w.first v → ⊥
+  twice_never f slot word w v inside noted found open_ is_word is t =
+      let first : w.first ≡ (parts word).first = ap (λ (p : Parts). p.first) is_word in let range : w.range ≡ (parts word).range = ap (λ (p : Parts). p.range) is_word in
+      let a = for_is slot w f is in let from = a.1 in let below = a.2 in
+      let sx = noted slot (is_saw t.word) in let sy = noted slot (is_saw word) in
+      let fx = t.found in
+      let same = same_range slot t.word word (version_in f) inside (omega (arith, sx, fx)) t.taken (omega (arith, sy, found)) (omega (arith, open_)) t.from t.below (omega (arith, first, from)) (omega (arith, first, range, below)) in
+      let its : (parts t.word).first ≡ w.first = same ∙ sym first in
+      let two : 1 + only w.first w.first ≤ total (is_ended w.first) (notes_of slot v.notes) = subst (λ (g : ℕ). 1 + only g w.first ≤ total (is_ended g) (notes_of slot v.notes)) its t.noted in
+      let one_ = only-same w.first in let all = noted slot (is_ended w.first) in let most = closed.ended_once slot w.first inside in omega (arith, two, one_, all, most)

@@ -36,3 +36,4 @@ pub mod Named
 pub mod Ends
 pub mod ByLinks
 pub mod LinkEnds
+pub mod Waits

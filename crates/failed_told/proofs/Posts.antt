@@ -30,7 +30,7 @@ use Rattle.failed_told.proofs.Views.{queued_silent, queued_in, Later, later_then
 
 -- ## What queues nothing
 
-books_stay : (b b' : Books) → b' ≡ b → Stays b.view b'.view
+pub books_stay : (b b' : Books) → b' ≡ b → Stays b.view b'.view
 books_stay b b' e = same_stays b.view b'.view (ap (λ (x : Books). x.view) e)
 
 answered_stays : (slots : ℕ) (f : Frame) (b b' : Books) → AnsweredBy slots f b b' → Stays b.view b'.view
@@ -57,7 +57,7 @@ module _ (code : ℕ) where
       by None l = ended_stays slot w.first b.view b'.view l.0.ended
       by (Some i) l = ended_stays slot w.first b.view b'.view l.3.ended
 
-  posted_stays : (answer : Posted Asked) (b b' : Books) → PostedTo code answer b b' → Stays b.view b'.view
+  pub posted_stays : (answer : Posted Asked) (b b' : Books) → PostedTo code answer b b' → Stays b.view b'.view
   posted_stays (HasLock k) b b' h = lost_stays k.slot (parts k.word.0) k.content b b' h
   posted_stays IsQueued b b' h = books_stay b b' h
   posted_stays (Gone found) b b' h = books_stay b b' h
