@@ -23,3 +23,4 @@ pub mod Readers
 pub mod Beside
 pub mod Responses
 pub mod Unanswered
+pub mod MetFrames

@@ -37,3 +37,4 @@ pub mod Ends
 pub mod ByLinks
 pub mod LinkEnds
 pub mod Waits
+pub mod Unmet

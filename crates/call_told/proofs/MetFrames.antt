@@ -1,0 +1,95 @@
+-- Where a reading ended with 1014 each frame of what the link gave was met; and which of them are responses of a lock's range.
+use Rattle.std.proofs.Common.{◌≡◌, ℕ, zero, suc, ◌+◌, ◌*◌, ◌<◌, ◌≤◌, Bool, true, false, List, [], ◌∷◌, ◌++◌, append-nil, map, Some, None, ◌-◌, eq-eqb, ne_eqb, lt-ltb, refl, sym, ap, ◌∙◌, arith}
+use Rattle.std.specs.Prelude.{Option, IsSome, option_map, slice_get, not, ◌&&◌}
+use Rattle.std.proofs.lemmas.Nat.{div-add-mod'}
+use mathlib.Core.Option.{some}
+use lib.ListN.{get_elem?}
+use Rattle.sock_words.specs.Codes.{EEOF}
+use Rattle.brpc_model.specs.Frame as model
+use Rattle.brpc_model.specs.Frame.{NoneYet, judged}
+use Rattle.brpc_model.specs.Stream.{Stream, stream}
+use Rattle.sock_io.specs.Link.{InState}
+use Rattle.sock_io.specs.declared.link.Take.{Take}
+use Rattle.corr_core.specs.Word.{Parts}
+use Rattle.corr_core.specs.declared.marks.Plan.{Plan}
+use Rattle.prpc_frame.specs.Meaning.{frame_of}
+use Rattle.prpc_frame.specs.declared.frame.Frame.{Frame}
+use Rattle.rpc_meta.specs.Meaning.{response_of}
+use Rattle.rpc_meta.specs.declared.meta.ResponseMeta.{ResponseMeta}
+use Rattle.prpc_frame.proofs.Cuts.{stream_rest}
+use Rattle.call_deeds.specs.rpc_reader.specs.Books.{Books}
+use Rattle.call_deeds.specs.rpc_reader.specs.Met.{has_response, slot_in, version_in, is_asked, is_for}
+use Rattle.call_deeds.specs.rpc_reader.specs.Reading.{code_of, EndsBy}
+use Rattle.call_deeds.specs.rpc_reader.specs.Taking.{bytes_of}
+use Rattle.call_deeds.specs.rpc_reader.specs.Running.{ThrownIf, throws, ReadLink}
+use Rattle.call_deeds.specs.rpc_reader.specs.declared.reading.How.{How}
+use Rattle.call_deeds.specs.rpc_reader.specs.declared.reading.How.TheVariants as how
+use Rattle.call_told.proofs.Gains.{thrown}
+use Rattle.call_told.proofs.Linked.{read_bytes}
+
+-- ## Each frame
+
+-- no whole frame is left, and no fault
+pub ends_whole : (h : How) (ending : Bool) (answer : Take) (left : List ℕ) (total : ℕ) → code_of h ≡ EEOF → EndsBy ending h answer left total → judged left ≡ NoneYet
+ends_whole how.End ending answer left total e x = x.1
+ends_whole how.Closed ending answer left total e x = x.1
+ends_whole how.Failed ending answer left total e x = x.1
+ends_whole how.Empty ending answer left total e x = x.2
+ends_whole how.Limit ending answer left total e x = x.1
+ends_whole how.Fault ending answer left total e x = absurd (omega (arith, e))
+ends_whole how.NoMemory ending answer left total e x = absurd (omega (arith, e))
+
+mapped_at : (fs : List Frame) (n : ℕ) (x : model.Frame) → slice_get (map frame_of fs) n ≡ Some x → (f : Frame) × (get_elem? fs n ≡ some f) × (frame_of f ≡ x)
+mapped_at [] n x e = absurd (cc)
+mapped_at (f ∷ fs) zero x e = (f, refl, cc)
+mapped_at (f ∷ fs) (suc n) x e = mapped_at fs n x e
+
+module _ (q : Plan) (link : ℕ) (calls : List ℕ) (ending : Bool) (s t : InState) (b b' : Books) (r : ReadLink q link calls ending false s t b b') where
+  -- each frame of the bytes that were cut was met
+  pub cut_there : code_of r.how ≡ EEOF → (n : ℕ) (x : model.Frame) → slice_get (stream (bytes_of (r.read.earlier ++ r.read.last ∷ []))).frames n ≡ Some x → (f : Frame) × (get_elem? r.read.met.frames n ≡ some f) × (frame_of f ≡ x)
+  cut_there e n x at =
+      let none_ = ends_whole r.how ending r.read.last.answer r.read.left r.total e r.read.ends in
+      let whole = stream_rest (bytes_of (r.read.earlier ++ r.read.last ∷ [])) r.read.left (map frame_of r.read.met.frames) r.read.met.cut none_ in
+      mapped_at r.read.met.frames n x (sym (ap (λ (y : Stream). slice_get y.frames n) whole) ∙ at)
+
+-- what is thrown away behind a reading that ended so is nothing
+thrown_none : (h : How) (ending : Bool) (total : ℕ) (s t : InState) (x : ThrownIf (throws h) ending total s t) → code_of h ≡ EEOF → (thrown (throws h) ending total s t x).0 ≡ []
+thrown_none how.End ending total s t x e = refl
+thrown_none how.Closed ending total s t x e = refl
+thrown_none how.Failed ending total s t x e = refl
+thrown_none how.Empty ending total s t x e = refl
+thrown_none how.Limit ending total s t x e = refl
+thrown_none how.Fault ending total s t x e = absurd (omega (arith, e))
+thrown_none how.NoMemory ending total s t x e = absurd (omega (arith, e))
+
+module _ (q : Plan) (link : ℕ) (calls : List ℕ) (ending : Bool) (s t : InState) (b b' : Books) (r : ReadLink q link calls ending false s t b b') where
+  -- so each frame of what the link gave was met
+  pub frame_there : code_of r.how ≡ EEOF → (n : ℕ) (x : model.Frame) → slice_get (stream (read_bytes q link calls ending false s t b b' r)).frames n ≡ Some x → (f : Frame) × (get_elem? r.read.met.frames n ≡ some f) × (frame_of f ≡ x)
+  frame_there e n x at =
+      let met = bytes_of (r.read.earlier ++ r.read.last ∷ []) in
+      let all : read_bytes q link calls ending false s t b b' r ≡ met = ap (λ (l : List ℕ). met ++ l) (thrown_none r.how ending r.total r.between t r.thrown e) ∙ append-nil met in
+      cut_there q link calls ending s t b b' r e n x (sym (ap (λ (l : List ℕ). slice_get (stream l).frames n) all) ∙ at)
+
+-- ## Responses of a range
+
+responds_so : (o : Option ResponseMeta) → IsSome (option_map response_of o) → has_response o ≡ true
+responds_so None h = h
+responds_so (Some r) h = refl
+
+-- the correlation id of an attempt of the id of a range
+parted : (slot first d c : ℕ) → first + d < 4294967296 → c ≡ slot * 4294967296 + first + d → (slot_at : ℕ) (version : ℕ) → slot_at * 4294967296 + version ≡ c → version < 4294967296 → (slot_at ≡ slot) × (version ≡ first + d)
+parted slot first d c low is slot_at version whole below = (omega arith, omega arith)
+
+pub is_response : (slot id : ℕ) (w : Parts) (f : Frame) → IsSome (frame_of f).meta.response → id ≡ slot * 4294967296 + w.first → id < f.meta.correlation_id → f.meta.correlation_id < id + w.range → w.first + w.range ≤ 4294967296 → 0 < w.state → is_for slot w f ≡ true
+is_response slot id w f responds is above below low taken =
+    let c = f.meta.correlation_id in
+    let p = parted slot w.first (c - id) c (omega arith) (omega arith) (slot_in f) (version_in f) (div-add-mod' c 4294967296) (omega arith) in
+    let a = responds_so f.meta.response responds in
+    let slot_same = eq-eqb (slot_in f) slot p.0 in
+    let some_state = ne_eqb w.state 0 (λ z. omega (arith, z, taken)) in
+    let v = p.1 in
+    let from = lt-ltb w.first (version_in f) (omega (arith, v, above)) in let to = lt-ltb (version_in f) (w.first + w.range) (omega (arith, v, above, below)) in
+    λ k. a k && (slot_same k && (not (some_state k) && (from k && to k)))
+
+pub is_in_table : (slots : ℕ) (f : Frame) (slot : ℕ) (w : Parts) → slot < slots → is_for slot w f ≡ true → slot_in f ≡ slot → has_response f.meta.response ≡ true → is_asked slots f ≡ true
+is_in_table slots f slot w inside is at responds = λ k. responds k && lt-ltb (slot_in f) slots (omega (arith, at, inside)) k
