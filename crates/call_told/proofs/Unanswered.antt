@@ -16,7 +16,7 @@ use Rattle.corr_core.specs.declared.marks.View.{View}
 use Rattle.id_rule.specs.Lawful.{at_index, notes_of, with_kept}
 use Rattle.corr_id.specs.declared.posts.Posted.{Posted}
 use Rattle.corr_id.specs.declared.posts.Posted.TheVariants.{Locked as HasLock, Queued as IsQueued, Gone, Stale, Crowded}
-use Rattle.corr_id.specs.Calls.{Became, one, slot_of, is_saw, Found, GotLock}
+use Rattle.corr_id.specs.Calls.{Became, one, slot_of, is_saw, Found, GotLock, HasId}
 use Rattle.corr_id.specs.Posts.{PostOk}
 use Rattle.corr_id.specs.Closing.{Closing}
 use Rattle.corr_core.specs.declared.marks.Noted.{Noted}
@@ -287,3 +287,14 @@ module _ (q : Plan) (notes : List (Noted Asked)) (kept : List Kept) (words : Lis
       let its : (parts t.word).first ≡ w.first = same ∙ sym first in
       let two : 1 + only w.first w.first ≤ total (is_ended w.first) (notes_of slot v.notes) = subst (λ (g : ℕ). 1 + only g w.first ≤ total (is_ended g) (notes_of slot v.notes)) its t.noted in
       let one_ = only-same w.first in let all = noted slot (is_ended w.first) in let most = closed.ended_once slot w.first inside in omega (arith, two, one_, all, most)
+
+  -- and where another seat ended the range of a word that was found, the seat ended none with a version of it
+  pub ended_never : (f : Frame) (slot word first : ℕ) (v : View Asked) → slot < q.slots → ((j : ℕ) (g : Note Asked → ℕ) → total g (notes_of j v.notes) ≤ total g (notes_of j notes)) → Found slot word v → HasId (parts word) first → is_for slot (parts word) f ≡ true
+      → total (is_ended first) (notes_of slot v.notes) + 1 ≤ total (is_ended first) (notes_of slot notes) → HasEnded f v → ⊥
+  ended_never f slot word first v inside noted found has is more h =
+      let a = for_is slot (parts word) f is in let at = a.0 in
+      let found_at = subst (λ (i : ℕ). Found i h.word v) at h.found in let ended_at = subst (λ (i : ℕ). 0 < total (is_ended (parts h.word).first) (notes_of i v.notes)) at h.noted in
+      let sx = noted slot (is_saw h.word) in let sy = noted slot (is_saw word) in
+      let same = same_range slot h.word word (version_in f) inside (omega (arith, sx, found_at)) h.taken (omega (arith, sy, found)) has.1 h.from h.below a.1 a.2 in
+      let once : 0 < total (is_ended first) (notes_of slot v.notes) = subst (λ (g : ℕ). 0 < total (is_ended g) (notes_of slot v.notes)) (same ∙ has.0) ended_at in
+      let most = closed.ended_once slot first inside in omega (arith, once, more, most)
