@@ -1,5 +1,5 @@
 -- Where a reading ended with 1014 each frame of what the link gave was met; and which of them are responses of a lock's range.
-use Rattle.std.proofs.Common.{◌≡◌, ℕ, zero, suc, ◌+◌, ◌*◌, ◌<◌, ◌≤◌, Bool, true, false, List, [], ◌∷◌, ◌++◌, append-nil, map, Some, None, ◌-◌, eq-eqb, ne_eqb, lt-ltb, refl, sym, ap, ◌∙◌, arith}
+use Rattle.std.proofs.Common.{◌≡◌, ℕ, zero, suc, ◌+◌, ◌*◌, ◌<◌, ◌≤◌, Bool, true, false, List, [], ◌∷◌, ◌++◌, append-nil, map, Some, None, ◌-◌, eq-eqb, ne_eqb, lt-ltb, refl, sym, ap, ◌∙◌, subst, arith}
 use Rattle.std.specs.Prelude.{Option, IsSome, option_map, slice_get, not, ◌&&◌}
 use Rattle.std.proofs.lemmas.Nat.{div-add-mod'}
 use mathlib.Core.Option.{some}
@@ -24,8 +24,20 @@ use Rattle.call_deeds.specs.rpc_reader.specs.Taking.{bytes_of}
 use Rattle.call_deeds.specs.rpc_reader.specs.Running.{ThrownIf, throws, ReadLink}
 use Rattle.call_deeds.specs.rpc_reader.specs.declared.reading.How.{How}
 use Rattle.call_deeds.specs.rpc_reader.specs.declared.reading.How.TheVariants as how
+use Rattle.corr_core.specs.Word.{parts}
+use Rattle.corr_core.specs.Law.{total, is_ended}
+use Rattle.corr_core.specs.declared.marks.Note.{Note}
+use Rattle.corr_core.specs.declared.marks.Noted.{Noted}
+use Rattle.corr_core.specs.declared.marks.Kept.{Kept}
+use Rattle.corr_id.specs.Closing.{Closing}
+use Rattle.corr_id.specs.Calls.{Found, HasId}
+use Rattle.id_rule.specs.Lawful.{notes_of}
+use Rattle.sock_message.specs.Asked.{Asked}
 use Rattle.call_told.proofs.Gains.{thrown}
+use Rattle.call_told.proofs.Given.{for_is}
 use Rattle.call_told.proofs.Linked.{read_bytes}
+use Rattle.call_told.proofs.Responses.{HasEnded}
+use Rattle.call_told.proofs.Unanswered.{EndOf, WasMet, was_asked, twice_never, ended_never}
 
 -- ## Each frame
 
@@ -46,7 +58,7 @@ mapped_at (f ∷ fs) (suc n) x e = mapped_at fs n x e
 
 module _ (q : Plan) (link : ℕ) (calls : List ℕ) (ending : Bool) (s t : InState) (b b' : Books) (r : ReadLink q link calls ending false s t b b') where
   -- each frame of the bytes that were cut was met
-  pub cut_there : code_of r.how ≡ EEOF → (n : ℕ) (x : model.Frame) → slice_get (stream (bytes_of (r.read.earlier ++ r.read.last ∷ []))).frames n ≡ Some x → (f : Frame) × (get_elem? r.read.met.frames n ≡ some f) × (frame_of f ≡ x)
+  cut_there : code_of r.how ≡ EEOF → (n : ℕ) (x : model.Frame) → slice_get (stream (bytes_of (r.read.earlier ++ r.read.last ∷ []))).frames n ≡ Some x → (f : Frame) × (get_elem? r.read.met.frames n ≡ some f) × (frame_of f ≡ x)
   cut_there e n x at =
       let none_ = ends_whole r.how ending r.read.last.answer r.read.left r.total e r.read.ends in
       let whole = stream_rest (bytes_of (r.read.earlier ++ r.read.last ∷ [])) r.read.left (map frame_of r.read.met.frames) r.read.met.cut none_ in
@@ -64,7 +76,7 @@ thrown_none how.NoMemory ending total s t x e = absurd (omega (arith, e))
 
 module _ (q : Plan) (link : ℕ) (calls : List ℕ) (ending : Bool) (s t : InState) (b b' : Books) (r : ReadLink q link calls ending false s t b b') where
   -- so each frame of what the link gave was met
-  pub frame_there : code_of r.how ≡ EEOF → (n : ℕ) (x : model.Frame) → slice_get (stream (read_bytes q link calls ending false s t b b' r)).frames n ≡ Some x → (f : Frame) × (get_elem? r.read.met.frames n ≡ some f) × (frame_of f ≡ x)
+  frame_there : code_of r.how ≡ EEOF → (n : ℕ) (x : model.Frame) → slice_get (stream (read_bytes q link calls ending false s t b b' r)).frames n ≡ Some x → (f : Frame) × (get_elem? r.read.met.frames n ≡ some f) × (frame_of f ≡ x)
   frame_there e n x at =
       let met = bytes_of (r.read.earlier ++ r.read.last ∷ []) in
       let all : read_bytes q link calls ending false s t b b' r ≡ met = ap (λ (l : List ℕ). met ++ l) (thrown_none r.how ending r.total r.between t r.thrown e) ∙ append-nil met in
@@ -93,3 +105,37 @@ is_response slot id w f responds is above below low taken =
 
 pub is_in_table : (slots : ℕ) (f : Frame) (slot : ℕ) (w : Parts) → slot < slots → is_for slot w f ≡ true → slot_in f ≡ slot → has_response f.meta.response ≡ true → is_asked slots f ≡ true
 is_in_table slots f slot w inside is at responds = λ k. responds k && lt-ltb (slot_in f) slots (omega (arith, at, inside)) k
+
+-- ## What a reading that ended with 1014 tells of responses
+
+module _ (q : Plan) (link : ℕ) (calls : List ℕ) (ending : Bool) (s t : InState) (b b' : Books) (r : ReadLink q link calls ending false s t b b') (ended : code_of r.how ≡ EEOF)
+    (notes : List (Noted Asked)) (kept : List Kept) (words : List ℕ) (closed : Closing q notes kept words) (noted : (j : ℕ) (g : Note Asked → ℕ) → total g (notes_of j b'.view.notes) ≤ total g (notes_of j notes)) where
+  -- a frame that the link gave is a response of a range
+  abbrev pub Responds : ℕ → ℕ → ℕ → List ℕ → Type 0
+  Responds slot first range bytes = (n : ℕ) × (x : model.Frame) × (slice_get (stream bytes).frames n ≡ Some x) × IsSome x.meta.response × (slot * 4294967296 + first < x.meta.correlation_id) × (x.meta.correlation_id < slot * 4294967296 + first + range)
+
+  abbrev bytes : List ℕ
+  bytes = read_bytes q link calls ending false s t b b' r
+
+  -- it was met
+  met_so : (slot : ℕ) (w : Parts) → slot < q.slots → 0 < w.state → w.first + w.range ≤ 4294967296 → Responds slot w.first w.range bytes → (f : Frame) × WasMet q link calls ending s t b b' r f × (is_for slot w f ≡ true)
+  met_so slot w inside taken low a =
+      let m = frame_there q link calls ending s t b b' r ended a.0 a.1 a.2 in
+      let responds : IsSome (frame_of m.0).meta.response = subst (λ (x : model.Frame). IsSome x.meta.response) (sym m.2) a.3 in
+      let same : m.0.meta.correlation_id ≡ a.1.meta.correlation_id = ap (λ (x : model.Frame). x.meta.correlation_id) m.2 in
+      let is = is_response slot (slot * 4294967296 + w.first) w m.0 responds refl (let above = a.4 in omega (arith, same, above)) (let below = a.5 in omega (arith, same, below)) low taken in
+      (m.0, (a.0, m.1, is_in_table q.slots m.0 slot w inside is (for_is slot w m.0 is).0 (responds_so m.0.meta.response responds)), is)
+
+  -- where a call was told to have ended with 1014, the link gave no response of its range
+  pub end_unanswered : (id : ℕ) (h : EndOf q.slots (WasMet q link calls ending s t b b' r) (was_asked q link calls ending s t b b' r) b'.view id) → h.w.first + h.w.range ≤ 4294967296 → Responds h.slot h.w.first h.w.range bytes → ⊥
+  end_unanswered id h low a =
+      let state : h.w.state ≡ 2 = ap (λ (p : Parts). p.state) h.word_is in
+      let m = met_so h.slot h.w h.inside (omega (arith, state)) low a in
+      twice_never q notes kept words closed m.0 h.slot h.word h.w b'.view h.inside noted h.found h.was_open h.word_is m.2 (h.alone m.0 m.1 m.2)
+
+  -- and so where an error waits at a word of the range, which another seat ended
+  pub wait_unanswered : (slot word first : ℕ) → slot < q.slots → Found slot word b'.view → HasId (parts word) first → ((f : Frame) → WasMet q link calls ending s t b b' r f → is_for slot (parts word) f ≡ true → HasEnded f b'.view)
+      → total (is_ended first) (notes_of slot b'.view.notes) + 1 ≤ total (is_ended first) (notes_of slot notes) → (parts word).first + (parts word).range ≤ 4294967296 → Responds slot (parts word).first (parts word).range bytes → ⊥
+  wait_unanswered slot word first inside found has alone more low a =
+      let m = met_so slot (parts word) inside has.1 low a in
+      ended_never q notes kept words closed m.0 slot word first b'.view inside noted found has m.2 more (alone m.0 m.1 m.2)

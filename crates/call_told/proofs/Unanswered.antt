@@ -86,6 +86,7 @@ module _ (slots : ℕ) (Given : Frame → Type 0) (asked : (f : Frame) → Given
   -- the call with this id ended with 1014 by a lock of its open range: a given response of the range came behind another end of it
   pub record EndOf (v : View Asked) (id : ℕ) : Type 0 where
     pub slot : ℕ
+    pub inside : slot < slots
     pub w : Parts
     pub id_is : id ≡ id_of slot w
     pub word : ℕ
@@ -110,6 +111,7 @@ module _ (slots : ℕ) (Given : Frame → Type 0) (asked : (f : Frame) → Given
   end_still : (v w : View Asked) → NotesGrow v w → (x : Told) → CodeEnd v x → CodeEnd w x
   end_still v w grows x e id is = let h = e id is in record {
     slot = h.slot;
+    inside = h.inside;
     w = h.w;
     id_is = h.id_is;
     word = h.word;
@@ -170,8 +172,8 @@ module _ (slots : ℕ) (Given : Frame → Type 0) (asked : (f : Frame) → Given
       noted = (let a = ended_more slot first (parts h.word).first v w b in let c = subst (λ (i : ℕ). 0 < total (is_ended (parts h.word).first) (notes_of i v.notes)) at h.noted in omega (arith, a, c));
     }
 
-    lost_tells : (slot : ℕ) (w : Parts) (call : Asked) (u : View Asked) (word : ℕ) (b b' : Books) → GotLock slot u b.view word w call → AllMet b → (b.starved ≡ true → ⊥) → LockLost slot w call code b b' → TellsEnds b b'
-    lost_tells slot w call u word b b' got all calm lost = by (position (is_for slot w) b.early) refl lost
+    lost_tells : (slot : ℕ) → slot < slots → (w : Parts) (call : Asked) (u : View Asked) (word : ℕ) (b b' : Books) → GotLock slot u b.view word w call → AllMet b → (b.starved ≡ true → ⊥) → LockLost slot w call code b b' → TellsEnds b b'
+    lost_tells slot inside w call u word b b' got all calm lost = by (position (is_for slot w) b.early) refl lost
       where
         ids : (id : ℕ) → CallFailed (id_of slot w) code ≡ CallFailed id EEOF → id ≡ id_of slot w
         ids id e = cc
@@ -179,6 +181,7 @@ module _ (slots : ℕ) (Given : Frame → Type 0) (asked : (f : Frame) → Given
         by : (o : Option ℕ) → position (is_for slot w) b.early ≡ o → LostBy slot w call code o b b' → TellsEnds b b'
         by None none_ l = tells_one call.operation (CallFailed (id_of slot w) code) b b' l.0.told (λ id e. record {
           slot = slot;
+          inside = inside;
           w = w;
           id_is = ids id e;
           word = word;
@@ -190,7 +193,7 @@ module _ (slots : ℕ) (Given : Frame → Type 0) (asked : (f : Frame) → Given
         by (Some i) some_ l = tells_one call.operation (ending_of (id_of slot w) (frame_of l.0)) b b' l.3.told (λ id e. absurd (no_response (id_of slot w) id (frame_of l.0) e))
 
     posted_to : (v : View Asked) (id : ℕ) (attempt : Option ℕ) (answer : Posted Asked) (b b' : Books) → PostOk slots v b.view id code attempt answer → AllMet b → (b.starved ≡ true → ⊥) → PostedTo code answer b b' → TellsEnds b b'
-    posted_to v id attempt (HasLock k) b b' post all calm h = lost_tells k.slot (parts k.word.0) k.content v post.4.0 b b' post.4.1 all calm h
+    posted_to v id attempt (HasLock k) b b' post all calm h = lost_tells k.slot post.1 (parts k.word.0) k.content v post.4.0 b b' post.4.1 all calm h
     posted_to v id attempt IsQueued b b' post all calm h = tells_same b b' h
     posted_to v id attempt (Gone found) b b' post all calm h = tells_same b b' h
     posted_to v id attempt (Stale current) b b' post all calm h = tells_same b b' h
@@ -223,7 +226,7 @@ module _ (slots : ℕ) (Given : Frame → Type 0) (asked : (f : Frame) → Given
 
     id_tells : (id : ℕ) (b b' : Books) → AllMet b → (b.starved ≡ true → ⊥) → HadEnded slots id b b' ⊎ EndedLast slots code id b b' → TellsEnds b b'
     id_tells id b b' all calm (inl h) = tells_none b b' (ap (λ (x : Books). x.told) h.same)
-    id_tells id b b' all calm (inr l) = let u : Books = record b { view = l.locked } in from_other b u b' refl (lost_tells (slot_of id) l.word l.call b.view l.found u b' l.got (all_met b u (goes_view slots b l.locked l.got.did.grows) all) calm l.lost)
+    id_tells id b b' all calm (inr l) = let u : Books = record b { view = l.locked } in from_other b u b' refl (lost_tells (slot_of id) l.inside l.word l.call b.view l.found u b' l.got (all_met b u (goes_view slots b l.locked l.got.did.grows) all) calm l.lost)
 
     one_tells : (p : Plan) → p.slots ≡ slots → (operation : ℕ) (b b' : Books) → AllMet b → (b.starved ≡ true → ⊥) → OneEnded p code operation b b' → TellsEnds b b'
     one_tells p is operation b b' all calm (inl n) = tells_none b b' (ap (λ (x : Books). x.told) n.same)
