@@ -21,7 +21,7 @@ use Rattle.call_deeds.specs.rpc_reader.specs.Books.{Books}
 use Rattle.call_deeds.specs.rpc_reader.specs.Met.{has_response, slot_in, version_in, is_asked, is_for}
 use Rattle.call_deeds.specs.rpc_reader.specs.Reading.{code_of, EndsBy}
 use Rattle.call_deeds.specs.rpc_reader.specs.Taking.{bytes_of}
-use Rattle.call_deeds.specs.rpc_reader.specs.Running.{ThrownIf, throws, ReadLink}
+use Rattle.call_deeds.specs.rpc_reader.specs.Running.{throws, ReadLink}
 use Rattle.call_deeds.specs.rpc_reader.specs.declared.reading.How.{How}
 use Rattle.call_deeds.specs.rpc_reader.specs.declared.reading.How.TheVariants as how
 use Rattle.corr_core.specs.Word.{parts}
@@ -29,15 +29,16 @@ use Rattle.corr_core.specs.Law.{total, is_ended}
 use Rattle.corr_core.specs.declared.marks.Note.{Note}
 use Rattle.corr_core.specs.declared.marks.Noted.{Noted}
 use Rattle.corr_core.specs.declared.marks.Kept.{Kept}
+use Rattle.corr_core.specs.declared.marks.View.{View}
 use Rattle.corr_id.specs.Closing.{Closing}
 use Rattle.corr_id.specs.Calls.{Found, HasId}
 use Rattle.id_rule.specs.Lawful.{notes_of}
 use Rattle.sock_message.specs.Asked.{Asked}
-use Rattle.call_told.proofs.Gains.{thrown}
+use Rattle.call_told.proofs.Gains.{thrown_none}
 use Rattle.call_told.proofs.Given.{for_is}
 use Rattle.call_told.proofs.Linked.{read_bytes}
 use Rattle.call_told.proofs.Responses.{HasEnded}
-use Rattle.call_told.proofs.Unanswered.{EndOf, WasMet, was_asked, twice_never, ended_never}
+use Rattle.call_told.proofs.Unanswered.{EndOf, WasMet, twice_never, ended_never}
 
 -- ## Each frame
 
@@ -64,22 +65,18 @@ module _ (q : Plan) (link : ℕ) (calls : List ℕ) (ending : Bool) (s t : InSta
       let whole = stream_rest (bytes_of (r.read.earlier ++ r.read.last ∷ [])) r.read.left (map frame_of r.read.met.frames) r.read.met.cut none_ in
       mapped_at r.read.met.frames n x (sym (ap (λ (y : Stream). slice_get y.frames n) whole) ∙ at)
 
--- what is thrown away behind a reading that ended so is nothing
-thrown_none : (h : How) (ending : Bool) (total : ℕ) (s t : InState) (x : ThrownIf (throws h) ending total s t) → code_of h ≡ EEOF → (thrown (throws h) ending total s t x).0 ≡ []
-thrown_none how.End ending total s t x e = refl
-thrown_none how.Closed ending total s t x e = refl
-thrown_none how.Failed ending total s t x e = refl
-thrown_none how.Empty ending total s t x e = refl
-thrown_none how.Limit ending total s t x e = refl
-thrown_none how.Fault ending total s t x e = absurd (omega (arith, e))
-thrown_none how.NoMemory ending total s t x e = absurd (omega (arith, e))
+-- behind a reading that ended so nothing is thrown away
+throws_none : (h : How) → code_of h ≡ EEOF → throws h ≡ false
+throws_none how.Fault e = absurd (omega (arith, e))
+throws_none how.NoMemory e = absurd (omega (arith, e))
+throws_none other e = refl
 
 module _ (q : Plan) (link : ℕ) (calls : List ℕ) (ending : Bool) (s t : InState) (b b' : Books) (r : ReadLink q link calls ending false s t b b') where
   -- so each frame of what the link gave was met
   frame_there : code_of r.how ≡ EEOF → (n : ℕ) (x : model.Frame) → slice_get (stream (read_bytes q link calls ending false s t b b' r)).frames n ≡ Some x → (f : Frame) × (get_elem? r.read.met.frames n ≡ some f) × (frame_of f ≡ x)
   frame_there e n x at =
       let met = bytes_of (r.read.earlier ++ r.read.last ∷ []) in
-      let all : read_bytes q link calls ending false s t b b' r ≡ met = ap (λ (l : List ℕ). met ++ l) (thrown_none r.how ending r.total r.between t r.thrown e) ∙ append-nil met in
+      let all : read_bytes q link calls ending false s t b b' r ≡ met = ap (λ (l : List ℕ). met ++ l) (thrown_none (throws r.how) ending r.total r.between t r.thrown (throws_none r.how e)) ∙ append-nil met in
       cut_there q link calls ending s t b b' r e n x (sym (ap (λ (l : List ℕ). slice_get (stream l).frames n) all) ∙ at)
 
 -- ## Responses of a range
@@ -126,12 +123,13 @@ module _ (q : Plan) (link : ℕ) (calls : List ℕ) (ending : Bool) (s t : InSta
       let is = is_response slot (slot * 4294967296 + w.first) w m.0 responds refl (let above = a.4 in omega (arith, same, above)) (let below = a.5 in omega (arith, same, below)) low taken in
       (m.0, (a.0, m.1, is_in_table q.slots m.0 slot w inside is (for_is slot w m.0 is).0 (responds_so m.0.meta.response responds)), is)
 
-  -- where a call was told to have ended with 1014, the link gave no response of its range
-  pub end_unanswered : (id : ℕ) (h : EndOf q.slots (WasMet q link calls ending s t b b' r) (was_asked q link calls ending s t b b' r) b'.view id) → h.w.first + h.w.range ≤ 4294967296 → Responds h.slot h.w.first h.w.range bytes → ⊥
-  end_unanswered id h low a =
+  -- where a call was told to have ended with 1014, by a seat that had met what this reading did, the link gave no response of its range
+  pub end_unanswered : (Given : Frame → Type 0) (asked : (f : Frame) → Given f → is_asked q.slots f ≡ true) → ((f : Frame) → WasMet q link calls ending s t b b' r f → Given f) → (v : View Asked) → ((j : ℕ) (g : Note Asked → ℕ) → total g (notes_of j v.notes) ≤ total g (notes_of j notes))
+      → (id : ℕ) (h : EndOf q.slots Given asked v id) → h.w.first + h.w.range ≤ 4294967296 → Responds h.slot h.w.first h.w.range bytes → ⊥
+  end_unanswered Given asked includes v inside id h low a =
       let state : h.w.state ≡ 2 = ap (λ (p : Parts). p.state) h.word_is in
       let m = met_so h.slot h.w h.inside (omega (arith, state)) low a in
-      twice_never q notes kept words closed m.0 h.slot h.word h.w b'.view h.inside noted h.found h.was_open h.word_is m.2 (h.alone m.0 m.1 m.2)
+      twice_never q notes kept words closed m.0 h.slot h.word h.w v h.inside inside h.found h.was_open h.word_is m.2 (h.alone m.0 (includes m.0 m.1) m.2)
 
   -- and so where an error waits at a word of the range, which another seat ended
   pub wait_unanswered : (slot word first : ℕ) → slot < q.slots → Found slot word b'.view → HasId (parts word) first → ((f : Frame) → WasMet q link calls ending s t b b' r f → is_for slot (parts word) f ≡ true → HasEnded f b'.view)
