@@ -105,12 +105,12 @@ is_in_table slots f slot w inside is at responds = λ k. responds k && lt-ltb (s
 
 -- ## What a reading that ended with 1014 tells of responses
 
+-- a frame of these bytes is a response of a range
+abbrev pub Responds : ℕ → ℕ → ℕ → List ℕ → Type 0
+Responds slot first range bytes = (n : ℕ) × (x : model.Frame) × (slice_get (stream bytes).frames n ≡ Some x) × IsSome x.meta.response × (slot * 4294967296 + first < x.meta.correlation_id) × (x.meta.correlation_id < slot * 4294967296 + first + range)
+
 module _ (q : Plan) (link : ℕ) (calls : List ℕ) (ending : Bool) (s t : InState) (b b' : Books) (r : ReadLink q link calls ending false s t b b') (ended : code_of r.how ≡ EEOF)
     (notes : List (Noted Asked)) (kept : List Kept) (words : List ℕ) (closed : Closing q notes kept words) (noted : (j : ℕ) (g : Note Asked → ℕ) → total g (notes_of j b'.view.notes) ≤ total g (notes_of j notes)) where
-  -- a frame that the link gave is a response of a range
-  abbrev pub Responds : ℕ → ℕ → ℕ → List ℕ → Type 0
-  Responds slot first range bytes = (n : ℕ) × (x : model.Frame) × (slice_get (stream bytes).frames n ≡ Some x) × IsSome x.meta.response × (slot * 4294967296 + first < x.meta.correlation_id) × (x.meta.correlation_id < slot * 4294967296 + first + range)
-
   abbrev bytes : List ℕ
   bytes = read_bytes q link calls ending false s t b b' r
 

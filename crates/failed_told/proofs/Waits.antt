@@ -1,12 +1,11 @@
 -- An error that a reader queued when its reading ended waits at an id of which the reader had met no response, unless it had ended a range with the response's version.
-use Rattle.std.proofs.Common.{◌≡◌, ℕ, ◌<◌, ◌⊎◌, inl, inr, ⊎_elim, Bool, true, false, List, [], ◌∷◌, Some, None, refl, ap, subst, arith}
+use Rattle.std.proofs.Common.{◌≡◌, ℕ, ◌<◌, ◌⊎◌, inl, inr, ⊎_elim, Bool, true, false, List, [], ◌∷◌, Some, None, refl, subst, arith}
 use Rattle.std.specs.Prelude.{Option, ◌==◌}
-use Rattle.std.specs.List.{remove}
 use mathlib.Core.Logic.{dite}
 use native.Mathlib.Decide.{ℕ_discrete}
 use Rattle.sock_words.specs.Words.{at_word_link}
 use Rattle.sock_words.specs.declared.at_word.AtWord.{AtWord}
-use Rattle.corr_core.specs.Word.{Parts, parts}
+use Rattle.corr_core.specs.Word.{parts}
 use Rattle.corr_core.specs.Law.{is_queued}
 use Rattle.corr_core.specs.declared.marks.Note.TheVariants.{Queued}
 use Rattle.corr_core.specs.declared.marks.Noted.{Noted}
@@ -23,7 +22,7 @@ use Rattle.attempts_told.specs.call_whys.specs.expire_told.specs.call_client.pro
 use Rattle.attempts_told.specs.call_whys.specs.expire_told.specs.call_deeds.specs.rpc_reader.specs.Books.{Books}
 use Rattle.attempts_told.specs.call_whys.specs.expire_told.specs.call_deeds.specs.rpc_reader.specs.Met.{is_asked, is_for}
 use Rattle.attempts_told.specs.call_whys.specs.expire_told.specs.call_deeds.specs.rpc_reader.specs.Posting.{KeptNone, PostedIf, PostedAt, PostedAll, call_at, attempt_at}
-use Rattle.attempts_told.specs.call_whys.specs.expire_told.specs.call_told.proofs.Responses.{HasEnded, ended_still, Goes, goes_view, same_notes, post_grows, posted_goes, all_goes, queued_met}
+use Rattle.attempts_told.specs.call_whys.specs.expire_told.specs.call_told.proofs.Responses.{HasEnded, ended_still, goes_view, same_notes, posted_goes, all_goes, queued_met}
 use Rattle.attempts_told.specs.call_whys.specs.expire_told.specs.call_told.proofs.Unanswered.{AllMet, all_met}
 use Rattle.failed_told.proofs.Posts.{books_stay, again_stays, posted_stays}
 use Rattle.failed_told.proofs.Views.{queued_silent, queued_in, Later, later_then, Stays, queued_one, did_later, quiet_stays, kept_stays, got_stays}
@@ -50,7 +49,7 @@ module _ (slots : ℕ) (Given : Frame → Type 0) (asked : (f : Frame) → Given
     pub later : Later v w
     pub queued : (i first e : ℕ) → 0 < queued_in i first e w.notes → (0 < queued_in i first e v.notes) ⊎ WaitsAt w i first
 
-  waits_none : (v w : View Asked) → Stays v w → Waits v w
+  pub waits_none : (v w : View Asked) → Stays v w → Waits v w
   waits_none v w s = record { later = s.later; queued = λ i first e h. inl (let a = s.queued i first e in omega (arith, a, h)) }
 
   pub waits_then : (u v w : View Asked) → Waits u v → Waits v w → Waits u w
