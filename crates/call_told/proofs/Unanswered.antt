@@ -88,6 +88,7 @@ module _ (slots : ℕ) (Given : Frame → Type 0) (asked : (f : Frame) → Given
     pub slot : ℕ
     pub inside : slot < slots
     pub w : Parts
+    pub low : w.first < 4294967296
     pub id_is : id ≡ id_of slot w
     pub word : ℕ
     pub found : Found slot word v
@@ -113,6 +114,7 @@ module _ (slots : ℕ) (Given : Frame → Type 0) (asked : (f : Frame) → Given
     slot = h.slot;
     inside = h.inside;
     w = h.w;
+    low = h.low;
     id_is = h.id_is;
     word = h.word;
     found = (let a = grows h.slot (is_saw h.word) in let b = h.found in omega (arith, a, b));
@@ -172,8 +174,8 @@ module _ (slots : ℕ) (Given : Frame → Type 0) (asked : (f : Frame) → Given
       noted = (let a = ended_more slot first (parts h.word).first v w b in let c = subst (λ (i : ℕ). 0 < total (is_ended (parts h.word).first) (notes_of i v.notes)) at h.noted in omega (arith, a, c));
     }
 
-    lost_tells : (slot : ℕ) → slot < slots → (w : Parts) (call : Asked) (u : View Asked) (word : ℕ) (b b' : Books) → GotLock slot u b.view word w call → AllMet b → (b.starved ≡ true → ⊥) → LockLost slot w call code b b' → TellsEnds b b'
-    lost_tells slot inside w call u word b b' got all calm lost = by (position (is_for slot w) b.early) refl lost
+    lost_tells : (slot : ℕ) → slot < slots → (w : Parts) → w.first < 4294967296 → (call : Asked) (u : View Asked) (word : ℕ) (b b' : Books) → GotLock slot u b.view word w call → AllMet b → (b.starved ≡ true → ⊥) → LockLost slot w call code b b' → TellsEnds b b'
+    lost_tells slot inside w low call u word b b' got all calm lost = by (position (is_for slot w) b.early) refl lost
       where
         ids : (id : ℕ) → CallFailed (id_of slot w) code ≡ CallFailed id EEOF → id ≡ id_of slot w
         ids id e = cc
@@ -183,6 +185,7 @@ module _ (slots : ℕ) (Given : Frame → Type 0) (asked : (f : Frame) → Given
           slot = slot;
           inside = inside;
           w = w;
+          low = low;
           id_is = ids id e;
           word = word;
           found = (let a = became_grows slot b.view b'.view [] (one slot (Ended w.first)) l.0.ended slot (is_saw word) in let c = got.found in omega (arith, a, c));
@@ -193,7 +196,7 @@ module _ (slots : ℕ) (Given : Frame → Type 0) (asked : (f : Frame) → Given
         by (Some i) some_ l = tells_one call.operation (ending_of (id_of slot w) (frame_of l.0)) b b' l.3.told (λ id e. absurd (no_response (id_of slot w) id (frame_of l.0) e))
 
     posted_to : (v : View Asked) (id : ℕ) (attempt : Option ℕ) (answer : Posted Asked) (b b' : Books) → PostOk slots v b.view id code attempt answer → AllMet b → (b.starved ≡ true → ⊥) → PostedTo code answer b b' → TellsEnds b b'
-    posted_to v id attempt (HasLock k) b b' post all calm h = lost_tells k.slot post.1 (parts k.word.0) k.content v post.4.0 b b' post.4.1 all calm h
+    posted_to v id attempt (HasLock k) b b' post all calm h = lost_tells k.slot post.1 (parts k.word.0) (let low = k.fits.low in omega (arith, low)) k.content v post.4.0 b b' post.4.1 all calm h
     posted_to v id attempt IsQueued b b' post all calm h = tells_same b b' h
     posted_to v id attempt (Gone found) b b' post all calm h = tells_same b b' h
     posted_to v id attempt (Stale current) b b' post all calm h = tells_same b b' h
@@ -226,7 +229,7 @@ module _ (slots : ℕ) (Given : Frame → Type 0) (asked : (f : Frame) → Given
 
     id_tells : (id : ℕ) (b b' : Books) → AllMet b → (b.starved ≡ true → ⊥) → HadEnded slots id b b' ⊎ EndedLast slots code id b b' → TellsEnds b b'
     id_tells id b b' all calm (inl h) = tells_none b b' (ap (λ (x : Books). x.told) h.same)
-    id_tells id b b' all calm (inr l) = let u : Books = record b { view = l.locked } in from_other b u b' refl (lost_tells (slot_of id) l.inside l.word l.call b.view l.found u b' l.got (all_met b u (goes_view slots b l.locked l.got.did.grows) all) calm l.lost)
+    id_tells id b b' all calm (inr l) = let u : Books = record b { view = l.locked } in from_other b u b' refl (lost_tells (slot_of id) l.inside l.word (let x = l.range.0 in omega (arith, x)) l.call b.view l.found u b' l.got (all_met b u (goes_view slots b l.locked l.got.did.grows) all) calm l.lost)
 
     one_tells : (p : Plan) → p.slots ≡ slots → (operation : ℕ) (b b' : Books) → AllMet b → (b.starved ≡ true → ⊥) → OneEnded p code operation b b' → TellsEnds b b'
     one_tells p is operation b b' all calm (inl n) = tells_none b b' (ap (λ (x : Books). x.told) n.same)

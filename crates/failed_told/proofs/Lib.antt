@@ -38,3 +38,5 @@ pub mod ByLinks
 pub mod LinkEnds
 pub mod Waits
 pub mod Unmet
+pub mod NoneGave
+pub mod Alone

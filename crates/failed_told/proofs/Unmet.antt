@@ -84,7 +84,7 @@ module _ (q : Plan) (link : ℕ) (calls : List ℕ) (s t : InState) where
 
       each : (xs : List Told) → AllByRecursion (CodeEnd q.slots (WasMet q link calls false s t nothing_read b' its) (was_asked q link calls false s t nothing_read b' its) b'.view) xs → AllByRecursion (CodeEnd q.slots (MetIn (Some id) v w b' r) (in_asked (Some id) v w b' r) b'.view) xs
       each [] a = tt
-      each (x ∷ xs) a = ((λ i e. let h = a.0 i e in record { slot = h.slot; inside = h.inside; w = h.w; id_is = h.id_is; word = h.word; found = h.found; was_open = h.was_open; word_is = h.word_is; alone = h.alone }), each xs a.1)
+      each (x ∷ xs) a = ((λ i e. let h = a.0 i e in record { slot = h.slot; inside = h.inside; w = h.w; low = h.low; id_is = h.id_is; word = h.word; found = h.found; was_open = h.was_open; word_is = h.word_is; alone = h.alone }), each xs a.1)
 
   in_calm : (o : Option SocketId) (v w : sock_view.View) (b' : Books) (r : ReadIf q link calls false false s t o v w nothing_read b') → b'.starved ≡ true → ⊥
   in_calm None v w b' r e = absurd (let z : true ≡ false = sym e ∙ ap (λ (x : Books). x.starved) r.2 in cc)
