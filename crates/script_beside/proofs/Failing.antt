@@ -1,10 +1,10 @@
 -- Why each call of a script failed whose links were read beside its clients, and why each attempt of one behind the first was made.
-use Rattle.std.proofs.Common.{◌≡◌, ℕ, ◌+◌, ◌*◌, ◌<◌, ◌≤◌, ◌⊎◌, inl, inr, List, [], ◌∷◌, ◌++◌, length, map, replicate, slice_get, Contains, true, Option, Some, None, Ok, refl, sym, ap, ◌∙◌, subst, arith}
+use Rattle.std.proofs.Common.{◌≡◌, ℕ, zero, suc, false, ◌+◌, ◌*◌, ◌<◌, ◌≤◌, ◌⊎◌, inl, inr, List, [], ◌∷◌, ◌++◌, length, map, replicate, slice_get, Contains, true, Option, Some, None, Ok, refl, sym, ap, ◌∙◌, subst, arith}
 use Rattle.std.specs.Prelude.{IfSome}
 use Rattle.std.specs.List.{AllByRecursion, flat_map}
 use Rattle.std.proofs.lemmas.List.{map-append, length-map}
 use Rattle.std.proofs.lemmas.Option.{slice_get_within}
-use mathlib.Core.Option.{some}
+use mathlib.Core.Option.{some, some-injective, some-ne-none}
 use lib.ListN.{get_elem?}
 use Rattle.sock_io.specs.declared.link.Out.{Ghosts}
 use Rattle.sock_io.specs.declared.link.Ends.{Ends}
@@ -39,7 +39,7 @@ use Rattle.seat_programs.specs.Told.{IsTask, Became}
 use Rattle.seat_programs.specs.ToldCalls.{Fixed, Order, FailedBy, WhyAgain, WhyExpire}
 use Rattle.rpc_client.specs.declared.acting.Told.{Told}
 use Rattle.rpc_reader.specs.Books.{Books}
-use Rattle.call_run.specs.Readers.{LinkReader}
+use Rattle.call_run.specs.Readers.{LinkReader, IsReader}
 use Rattle.call_run.specs.Threads.{Thread}
 use Rattle.script_calls.specs.report_fits.proofs.Sizes.{keeps_limits}
 use Rattle.script_calls.specs.report_fits.specs.Ends.{EndsEarly}
@@ -69,7 +69,7 @@ use Rattle.script_calls.specs.failed_told.proofs.Posts.{IsPost, rest_stays}
 use Rattle.script_calls.specs.failed_told.proofs.Premises.{asked_so}
 use Rattle.script_calls.specs.failed_told.proofs.Reading.{notes_flat, rest_queues, readers_queue, queued_beside, others_beside}
 use Rattle.script_calls.specs.failed_told.proofs.Tells.{ToldEnd, IsPostFor, rest_step}
-use Rattle.script_calls.specs.failed_told.proofs.Unmet.{HasMet, has_asked, reader_waits, reader_ends}
+use Rattle.script_calls.specs.failed_told.proofs.Unmet.{HasMet, has_asked, reader_waits, reader_ends, AnyMet, any_asked, HasTaken, rest_ends}
 use Rattle.script_calls.specs.failed_told.proofs.Views.{Stays, queued_in}
 use Rattle.script_calls.specs.call_whys.specs.call_told.proofs.Unanswered.{CodeEnd}
 use Rattle.script_calls.specs.call_whys.specs.call_told.specs.Once.{ends_of}
@@ -94,6 +94,25 @@ use Rattle.script_beside.proofs.Attempts as attempts
 use Rattle.script_beside.proofs.Sockets as sockets
 use Rattle.script_beside.proofs.Telling as telling
 use Rattle.script_beside.proofs.WideCalls.{failure_still, again_still, expire_still}
+
+-- what stands in a list stands in a longer one, and in the lists put one behind the other
+in_front : {A : Type 0} (xs ys : List A) (n : ℕ) (x : A) → get_elem? xs n ≡ some x → get_elem? (xs ++ ys) n ≡ some x
+in_front [] ys n x e = absurd (some-ne-none x (sym e))
+in_front (y ∷ xs) ys zero x e = e
+in_front (y ∷ xs) ys (suc n) x e = in_front xs ys n x e
+
+behind_it : {A : Type 0} (xs ys : List A) (x : A) → (n : ℕ) × (get_elem? ys n ≡ some x) → (n : ℕ) × (get_elem? (xs ++ ys) n ≡ some x)
+behind_it [] ys x h = h
+behind_it (y ∷ xs) ys x h = let w = behind_it xs ys x h in (suc w.0, w.1)
+
+early_at : {O : Type 0} {g : Ghosts O} (xs : List (LinkReader g)) (j n : ℕ) (x : LinkReader g) (f : Answer) → get_elem? xs j ≡ some x → get_elem? x.books.early n ≡ some f → (m : ℕ) × (get_elem? (flat_map (λ (fs : List Answer). fs) (map (λ (y : LinkReader g). y.books.early) xs)) m ≡ some f)
+early_at [] j n x f e at = absurd (some-ne-none x (sym e))
+early_at {g = g} (y ∷ xs) zero n x f e at = (n, in_front y.books.early (flat_map (λ (fs : List Answer). fs) (map (λ (z : LinkReader g). z.books.early) xs)) n f (subst (λ (z : LinkReader g). get_elem? z.books.early n ≡ some f) (sym (some-injective y x e)) at))
+early_at {g = g} (y ∷ xs) (suc j) n x f e at = behind_it y.books.early (flat_map (λ (fs : List Answer). fs) (map (λ (z : LinkReader g). z.books.early) xs)) f (early_at xs j n x f e at)
+
+all_places : {A : Type 0} (Q : A → Type 0) (xs : List A) → ((j : ℕ) (x : A) → get_elem? xs j ≡ some x → Q x) → AllByRecursion Q xs
+all_places Q [] h = tt
+all_places Q (x ∷ xs) h = (h 0 x refl, all_places Q xs (λ j y at. h (suc j) y at))
 
 module _ (P : Type 0) {O I : Type 0} (g : Ghosts O) (out : O → OutState) (inn : I → InState) (bytes : List ℕ) (script : List Item) (reads : script_of bytes ≡ Ok script) (text : List ℕ) (links : List LinkEnd) (r : IsBesideRun P g out inn script text links) where
   abbrev p : Plan
@@ -129,7 +148,7 @@ module _ (P : Type 0) {O I : Type 0} (g : Ghosts O) (out : O → OutState) (inn 
   abbrev drun : DeedRun g out p all outcomes r.places r.left.vrefs r.left.outs
   drun = sockets.run P g out inn bytes script reads text links r
 
-  all_read : AllRead p q (calls script) readers
+  pub all_read : AllRead p q (calls script) readers
   all_read = each_read p q (calls script) 0 (opens script) readers r.left.readers_are
 
   -- ## Codes
@@ -172,6 +191,36 @@ module _ (P : Type 0) {O I : Type 0} (g : Ghosts O) (out : O → OutState) (inn 
       let a = term h (map view_of seats_) j x.ids.me.0 (mapped_at view_of seats_ j x.ids (mapped_at (λ (y : LinkReader g). y.ids) readers j x at)) in
       let b = total_append h own_ids (map view_of seats_) in let c = flat_total f (λ (v : View Asked). v.kept) (own_ids ++ map view_of seats_) in
       let d = ap (total f) (telling.taken P g out inn bytes script reads text links r) in let e = rest_quiet.later.kept f in omega (arith, a, b, c, d, e)
+
+  -- that it is a reader, and what it met one of them did
+  abbrev pub AnyMetBy : ℕ → LinkReader g → Type 0
+  AnyMetBy j y = (is : IsReader p q (calls script) y) × ((f : Answer) → HasMet p q (calls script) y is f → AnyMet p q (calls script) readers all_read f)
+
+  -- whoever ends the calls that are left begins with the notes of each reader, and with the responses that it keeps
+  has_taken : AllByRecursion (HasTaken p q (calls script) main) readers
+  has_taken = all_places (HasTaken p q (calls script) main) readers (λ j x at. (
+    (λ slot f. let w : View Asked → ℕ = λ v. total f (notes_in slot v.notes) in let views : List (View Asked) = map (λ (y : LinkReader g). y.ids.me.0) readers in
+        let a = term w views j x.ids.me.0 (mapped_at (λ (y : LinkReader g). y.ids.me.0) readers j x at) in
+        let b = total_append w own_ids views in let c = notes_flat slot f (own_ids ++ views) in let d = ap (λ (l : List (Noted Asked)). total f (notes_in slot l)) notes_are in
+        let k = ap (λ (v : View Asked). total f (notes_in slot v.notes)) (at_place j x at).is.view_is in omega (arith, a, b, c, d, k)),
+    (λ f n e. let w = early_at readers j n x f at e in (w.0, ap (λ (l : List (List Answer)). get_elem? (flat_map (λ (fs : List Answer). fs) l) w.0) (sym r.left.kept_is) ∙ w.1)),
+  ))
+
+  rest_calm : r.rest.last.starved ≡ true → ⊥
+  rest_calm h = let z : true ≡ false = sym h ∙ r.rest.calm in absurd (cc)
+
+  -- what it told with 1014
+  pub rest_codes : AllByRecursion (CodeEnd q.slots (AnyMet p q (calls script) readers all_read) (any_asked p q (calls script) readers all_read) last) r.last
+  rest_codes =
+      let t = rest_ends p q (calls script) readers all_read main has_taken EEOF (calls script) r.rest.last rest_calm r.rest.rest in
+      subst (AllByRecursion (CodeEnd q.slots (AnyMet p q (calls script) readers all_read) (any_asked p q (calls script) readers all_read) last)) (sym (r.rest.told_is ∙ t.told)) t.each
+
+  -- so no link whose reading ended with 1014 gave a response of such a call
+  pub rest_alone : (i id : ℕ) (x : Told) → get_elem? r.last i ≡ some x → x.outcome ≡ CallFailed id EEOF → (j : ℕ) (y : LinkReader g) → get_elem? readers j ≡ some y → (is : AnyMetBy j y) → ReadEnded p q (calls script) y is.0 EEOF → NoResponse q notes last.kept r.rest.words r.rest.closing id (reader_gave p q (calls script) y is.0)
+  rest_alone i id x at outcome j y here is ended =
+      told_alone q notes last.kept r.rest.words r.rest.closing p (calls script) y is.0 ended (λ slot f. let a = reader_notes j y here slot f in let b = ap (λ (v : View Asked). total f (notes_in slot v.notes)) is.0.view_is in omega (arith, a, b))
+      (AnyMet p q (calls script) readers all_read) (any_asked p q (calls script) readers all_read) is.1 last (λ slot f. omega arith) id
+      (all_at (CodeEnd q.slots (AnyMet p q (calls script) readers all_read) (any_asked p q (calls script) readers all_read) last) r.last i x rest_codes at id outcome)
 
   -- the link of a reader as it was given back
   record GivenBack (j : ℕ) (x : LinkReader g) : Type 0 where
