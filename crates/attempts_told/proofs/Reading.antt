@@ -1,6 +1,7 @@
 -- Whoever reads links, and ends the calls that are left, advances no attempt.
 use Rattle.std.proofs.Common.{◌≡◌, ℕ, ◌⊎◌, inl, inr, true, false, List, [], ◌∷◌, Some, None, refl, sym, ap, subst, arith}
 use Rattle.std.specs.Prelude.{Option, position, ◌==◌, Bool}
+use Rattle.std.specs.List.{remove}
 use Rattle.sock_words.specs.Words.{at_word_link}
 use Rattle.sock_words.specs.declared.at_word.AtWord.{AtWord}
 use Rattle.sock_words.specs.declared.outcome.Outcome.{Outcome}
@@ -74,7 +75,8 @@ module _ (code : ℕ) where
 
   posted_if : (a : Bool) (slots w : ℕ) (b b' : Books) → PostedIf a slots code w b b' → Same b b'
   posted_if false slots w b b' h = same b b' h
-  posted_if true slots w b b' h = unmoved_then b.view h.seen b'.view (unmoved_post slots b.view h.seen (call_at w) code (attempt_at w) h.answer h.posted) (posted_to h.answer (record b { view = h.seen }) b' h.then_)
+  posted_if true slots w b b' (inl m) = unmoved_then b.view m.seen b'.view (unmoved_quiet b.view m.seen m.quiet) (met slots (is_asked slots m.frame) m.frame (record b { view = m.seen; early = remove b.early m.place }) b' m.met)
+  posted_if true slots w b b' (inr h) = unmoved_then b.view h.seen b'.view (unmoved_post slots b.view h.seen (call_at w) code (attempt_at w) h.answer h.posted) (posted_to h.answer (record b { view = h.seen }) b' h.then_)
 
   posted_at : (p : Plan) (link operation : ℕ) (found : Option AtWord) (b b' : Books) → PostedAt p link code operation found b b' → Same b b'
   posted_at p link operation None b b' h = same b b' h

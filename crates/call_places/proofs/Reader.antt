@@ -1,6 +1,7 @@
 -- Whoever reads a link, and ends the calls that are left, makes no id, and what its seat noted stays noted.
 use Rattle.std.proofs.Common.{◌≡◌, ℕ, ◌+◌, ◌≤◌, ◌⊎◌, inl, inr, Bool, true, false, List, [], ◌∷◌, Some, None, refl, ap, ◌∙◌, arith}
 use Rattle.std.specs.Prelude.{Option, position, ◌==◌}
+use Rattle.std.specs.List.{remove}
 use Rattle.sock_words.specs.Words.{at_word_link}
 use Rattle.sock_words.specs.declared.at_word.AtWord.{AtWord}
 use Rattle.sock_words.specs.declared.outcome.Outcome.{Outcome}
@@ -102,7 +103,8 @@ module _ (code : ℕ) where
 
   none_posted_if : (a : Bool) (slots w : ℕ) (b b' : Books) → PostedIf a slots code w b b' → MadeNone b.view b'.view
   none_posted_if false slots w b b' h = none_same b b' h
-  none_posted_if true slots w b b' h = none_then b.view h.seen b'.view (none_post slots b.view h.seen (call_at w) code (attempt_at w) h.answer h.posted) (none_posted_to h.answer (record b { view = h.seen }) b' h.then_)
+  none_posted_if true slots w b b' (inl m) = none_then b.view m.seen b'.view (none_quiet b.view m.seen m.quiet) (none_met slots (is_asked slots m.frame) m.frame (record b { view = m.seen; early = remove b.early m.place }) b' m.met)
+  none_posted_if true slots w b b' (inr h) = none_then b.view h.seen b'.view (none_post slots b.view h.seen (call_at w) code (attempt_at w) h.answer h.posted) (none_posted_to h.answer (record b { view = h.seen }) b' h.then_)
 
   none_posted_at : (p : Plan) (link operation : ℕ) (found : Option AtWord) (b b' : Books) → PostedAt p link code operation found b b' → MadeNone b.view b'.view
   none_posted_at p link operation None b b' h = none_same b b' h

@@ -1,6 +1,7 @@
 -- How calls end for whoever meets frames, posts the end of a reading, and ends what is left.
 use Rattle.std.proofs.Common.{◌≡◌, ℕ, suc, ◌<◌, Bool, true, false, List, [], ◌∷◌, ◌++◌, append_assoc, append-nil, ◌⊎◌, inl, inr, Some, None, refl, sym, ap, ◌∙◌, subst}
 use Rattle.std.specs.Prelude.{Option, slice_get, position, ◌==◌}
+use Rattle.std.specs.List.{remove}
 use Rattle.std.proofs.lemmas.List.Quantifiers.{position-Some}
 use Rattle.sock_words.specs.Words.{at_word_link}
 use Rattle.sock_words.specs.declared.at_word.AtWord.{AtWord}
@@ -21,7 +22,7 @@ use Rattle.call_deeds.specs.call_table.specs.Responses.{ending_of, is_early}
 use Rattle.call_deeds.specs.rpc_client.specs.declared.acting.Told.{Told}
 use Rattle.call_deeds.specs.rpc_reader.specs.Books.{Books, EndedAs, ToldBy, id_of}
 use Rattle.call_deeds.specs.rpc_reader.specs.Met.{has_response, slot_in, version_in, is_asked, is_for, AnsweredBy, LackedBy, KeptIf, MetIf, FrameMet, FramesMet}
-use Rattle.call_deeds.specs.rpc_reader.specs.Posting.{LostBy, LockLost, PostedTo, PostedIf, PostedAt, PostedAll, call_at, attempt_at}
+use Rattle.call_deeds.specs.rpc_reader.specs.Posting.{LostBy, LockLost, PostedTo, MetKept, PostedIf, PostedAt, PostedAll, call_at, attempt_at}
 use Rattle.call_deeds.specs.rpc_reader.specs.Resting.{HadEnded, EndedLast, OneEnded, RestEnded}
 use Rattle.call_deeds.specs.rpc_reader.proofs.Frames.{asked_responds}
 use Rattle.call_told.specs.Answers.{IsGiven, AreGiven, IsLossCode, EndedBy, by_code, by_response, ToldFrom, TellsFrom}
@@ -108,6 +109,18 @@ module _ (p : Plan) (links : ℕ) (gave : ℕ → List ℕ) where
       by true e (inl a) = answered_step f b b' (given (asked_responds p.slots f e)) a
       by true e (inr l) = lacked_step f b b' (given (asked_responds p.slots f e)) l
 
+  met_later : (f : Frame) (a : Bool) (b b' : Books) → MetIf a p.slots f b b' → Later b.view b'.view
+  met_later f true b b' (inl a) = later_then b.view a.locked b'.view (got_later (slot_in f) a.found a.word a.call b.view a.locked a.got) (end_later (slot_in f) a.word.first a.locked b'.view a.ended.ended)
+  met_later f true b b' (inr l) = quiet_later b.view b'.view l.quiet
+  met_later f false b b' e = later_same b.view b'.view (ap (λ (x : Books). x.view.notes) e)
+
+  -- a response that was kept is met again
+  again_step : (w : ℕ) (b b' : Books) → MetKept p.slots w b b' → Step b b'
+  again_step w b b' m = let u : Books = record b { view = m.seen; early = remove b.early m.place } in let looks = quiet_later b.view m.seen m.quiet in record {
+    later = later_then b.view m.seen b'.view looks (met_later m.frame (is_asked p.slots m.frame) u b' m.met);
+    tells = λ given. (step_then b u b' (step_quiet b u looks refl (all_but (λ x. IsGiven links gave (frame_of x)) m.place b.early)) (frame_step m.frame u b' (λ some_. all_at (λ x. IsGiven links gave (frame_of x)) b.early m.place m.frame given m.there) m.met)).tells given;
+  }
+
   pub frames_step : (fs : List Frame) (b b' : Books) → ((m : ℕ) (f : Frame) → slice_get fs m ≡ Some f → has_response f.meta.response ≡ true → IsGiven links gave (frame_of f)) → FramesMet p.slots fs b b' → Step b b'
   frames_step [] b b' given m = step_same b b' m
   frames_step (f ∷ fs) b b' given m = step_then b m.0 b' (frame_step f b m.0 (given 0 f refl) m.1) (frames_step fs m.0 b' (λ i x e. given (suc i) x e) m.2)
@@ -139,7 +152,8 @@ module _ (p : Plan) (links : ℕ) (gave : ℕ → List ℕ) where
 
     posted_if : (a : Bool) (w : ℕ) (b b' : Books) → PostedIf a p.slots code w b b' → Step b b'
     posted_if false w b b' h = step_same b b' h
-    posted_if true w b b' h =
+    posted_if true w b b' (inl m) = again_step w b b' m
+    posted_if true w b b' (inr h) =
         let u : Books = record b { view = h.seen } in
         step_then b u b' (step_seen b h.seen (post_later p.slots b.view h.seen (call_at w) code (attempt_at w) h.answer h.posted)) (posted_to b.view (call_at w) (attempt_at w) h.answer u b' h.posted h.then_)
 

@@ -59,6 +59,12 @@ pub thrown : (b ending : Bool) (total : ℕ) (s t : InState) → ThrownIf b endi
 thrown true ending total s t h = threw ending total s t h
 thrown false ending total s t e = ([], gains_none s t e)
 
+-- or nothing was thrown away
+pub thrown_none : (b ending : Bool) (total : ℕ) (s t : InState) (h : ThrownIf b ending total s t) → b ≡ false → (thrown b ending total s t h).0 ≡ []
+unfolding thrown
+thrown_none true ending total s t h e = absurd (cc)
+thrown_none false ending total s t h e = refl
+
 module _ (q : ids.Plan) (link : ℕ) (calls : List ℕ) (ending short : Bool) (s t : InState) (b b' : Books) (r : ReadLink q link calls ending short s t b b') where
   -- what was cut into frames, and what was thrown away behind it
   abbrev pub met_bytes : List ℕ

@@ -21,3 +21,6 @@ pub mod Least
 pub mod Shown
 pub mod Readers
 pub mod Beside
+pub mod Responses
+pub mod Unanswered
+pub mod MetFrames

@@ -1,6 +1,7 @@
 -- Whoever reads links, and ends the calls that are left, tells of each id as many ends as its seat noted, unless memory was wanting; and what the seat knows it knows still.
 use Rattle.std.proofs.Common.{◌≡◌, ℕ, zero, suc, ◌+◌, ◌*◌, ◌<◌, ◌⊎◌, inl, inr, Bool, true, false, List, [], ◌∷◌, ◌++◌, Some, None, pos, negsuc, refl, ◌∙◌, ap, sym, subst, arith}
 use Rattle.std.specs.Prelude.{ℤ, Option, position, ◌==◌}
+use Rattle.std.specs.List.{remove}
 use Rattle.std.proofs.Math.Nat.{mod-lt}
 use Rattle.sock_words.specs.Words.{at_word_link}
 use Rattle.sock_words.specs.declared.at_word.AtWord.{AtWord}
@@ -193,7 +194,10 @@ module _ (code : ℕ) where
 
   posted_if : (a : Bool) (slots w : ℕ) (b b' : Books) → PostedIf a slots code w b b' → Tally b b'
   posted_if false slots w b b' h = tally_same b b' h
-  posted_if true slots w b b' h =
+  posted_if true slots w b b' (inl m) =
+      let u : Books = record b { view = m.seen; early = remove b.early m.place } in
+      tally_then b u b' (tally_quiet b u (λ s. s) refl (quiet_ends b.view m.seen m.quiet) (λ x. quiet_grows x b.view m.seen m.quiet)) (met_tally slots m.frame u b' (is_asked slots m.frame) m.met)
+  posted_if true slots w b b' (inr h) =
       let u : Books = record b { view = h.seen } in
       tally_then b u b' (tally_seen b h.seen (post_ends slots b.view h.seen (call_at w) code (attempt_at w) h.answer h.posted) (λ x. post_grows x slots b.view h.seen (call_at w) code (attempt_at w) h.answer h.posted)) (posted_to slots b.view (call_at w) (attempt_at w) h.answer u b' h.posted h.then_)
 

@@ -15,7 +15,7 @@ use Rattle.corr_core.specs.declared.marks.Noted.{Noted}
 use Rattle.corr_core.specs.declared.marks.View.{View}
 use Rattle.id_rule.specs.Lawful.{tokens_in, notes_of}
 use Rattle.id_rule.specs.Plays.{LockFits}
-use Rattle.corr_id.specs.Calls.{Became, one, is_event, events, is_saw, Found, OutOf, Quiet, Did, GotLock, error_in}
+use Rattle.corr_id.specs.Calls.{Became, one, is_event, events, is_saw, Found, FoundUpTo, OutOf, Quiet, Did, GotLock, error_in}
 use Rattle.corr_id.specs.Ruled.{IsBehind}
 use Rattle.corr_id.proofs.Seats.{notes_append, total_append}
 
@@ -72,21 +72,31 @@ module _ {C : Type 0} where
   pub became_grows : (i : ℕ) (v w : View C) (ts : List (Token C)) (ns : List (Noted C)) → Became i v w ts ns → (j : ℕ) (g : Note C → ℕ) → total g (notes_of j v.notes) ≤ total g (notes_of j w.notes)
   became_grows i v w ts ns b = notes_grow v w ns b.notes
 
+  -- with other notes no word more is found
+  pub up_to_more : (i f : ℕ) (v w : View C) (ts : List (Token C)) (n : Note C) → Became i v w ts (one i n) → ((x : ℕ) → is_saw x n ≡ 0) → FoundUpTo i f v → FoundUpTo i f w
+  up_to_more i f v w ts n b other up x found = up x (let e = ap (λ l. total (is_saw x) (notes_of i l)) b.notes in
+      let g = ap (λ y. total (is_saw x) (cond y (n ∷ notes_of i v.notes) (notes_of i v.notes))) (eq-eqb i i refl) in let k = other x in omega arith)
+
+  pub up_to_same : (i f : ℕ) (v w : View C) (ts : List (Token C)) → Became i v w ts [] → FoundUpTo i f v → FoundUpTo i f w
+  up_to_same i f v w ts b up x found = up x (let e = ap (λ l. total (is_saw x) (notes_of i l)) b.notes in omega arith)
+
   -- a lock that was taken, with its content
   locked_did : (i : ℕ) (u v x y : View C) (ts : List (Token C)) (f f' : ℕ) (c d : C) → Quiet u v → Became i v x ts (one i (Locker f c)) → (ts' : List (Token C)) → Became i x y ts' [] → f ≡ f' → d ≡ c → Did i u y (tokens_in i y) (one i (Locker f' d))
   locked_did i u v x y ts f f' c d q a ts' b ff dd = let k = did_more i u x y ts ts' (one i (Locker f c)) [] (did_more i u v x (tokens_in i u) ts [] (one i (Locker f c)) (did_none i u v q) a) b in
       record { tokens = refl; others = k.others; added = k.added ∙ λ z. record { slot = i; note = Locker (ff z) (sym dd z) } ∷ events u.notes; grows = k.grows; kept = k.kept; share = k.share }
 
   -- the exchange found the open word that was noted before, and K2 took the content
-  pub got_lock : (i slot : ℕ) (u v x y : View C) (word : ℕ) (q k : Parts) (c d : C) → slot ≡ i → k ≡ q → d ≡ c → Quiet u v → Found i word v → (parts word).state ≡ 1
+  pub got_lock : (i slot : ℕ) (u v x y : View C) (word : ℕ) (q k : Parts) (c d : C) → slot ≡ i → k ≡ q → d ≡ c → Quiet u v → Found i word v → (parts word).state ≡ 1 → FoundUpTo i (parts word).first v
       → Became i v x (Locked (parts word).first (parts word).range (parts word).attempt c (parts word).oldest (parts word).second (Full c) ∷ []) (one i (Locker (parts word).first c))
       → Became i x y (Locked q.first q.range q.attempt c q.oldest q.second Empty ∷ []) [] → q ≡ locked_word (parts word) → GotLock slot u y word k d
-  got_lock i slot u v x y word q k c d ss kk dd quiet found open_ won taken e =
+  got_lock i slot u v x y word q k c d ss kk dd quiet found open_ latest won taken e =
       let w : Parts = parts word in let f : w.first ≡ k.first = sym (ap (λ (z : Parts). z.first) e) ∙ ap (λ (z : Parts). z.first) (sym kk) in
       let did = locked_did i u v x y (Locked w.first w.range w.attempt c w.oldest w.second (Full c) ∷ []) w.first k.first c d quiet won (Locked q.first q.range q.attempt c q.oldest q.second Empty ∷ []) taken f dd in
       let at_i : GotLock i u y word k d = record {
         found = found_grows i word x y (became_grows i x y (Locked q.first q.range q.attempt c q.oldest q.second Empty ∷ []) [] taken) (found_grows i word v x (became_grows i v x (Locked w.first w.range w.attempt c w.oldest w.second (Full c) ∷ []) (one i (Locker w.first c)) won) found);
         was_open = open_;
+        latest = subst (λ (z : ℕ). FoundUpTo i z y) f (up_to_same i w.first x y (Locked q.first q.range q.attempt c q.oldest q.second Empty ∷ []) taken
+            (up_to_more i w.first v x (Locked w.first w.range w.attempt c w.oldest w.second (Full c) ∷ []) (Locker w.first c) won (λ z. refl) latest));
         word_is = kk ∙ e;
         locks = taken.tokens ∙ λ z. Locked (sym kk z).first (sym kk z).range (sym kk z).attempt (sym dd z) (sym kk z).oldest (sym kk z).second Empty ∷ [];
         did = did;
@@ -118,6 +128,7 @@ module _ {C : Type 0} where
   got_after i u v w word k c a b = record {
     found = b.found;
     was_open = b.was_open;
+    latest = b.latest;
     word_is = b.word_is;
     locks = b.locks;
     did = record {

@@ -9,7 +9,7 @@ use lib.ListN.{get_elem?}
 use prog.Atomic.{either}
 use Rattle.atomic_table.specs.Table.{State, Me, step, Act, keeps, takes, gives, stepped, homes_after, carried_after, Allows}
 use Rattle.corr_core.specs.Word.{Parts, parts, made_word, locked_word, posted_word, unlocked_word, free_word}
-use Rattle.corr_core.specs.Law.{Each, total, born, is_made, NoteFits, SlotLaw, vacant, retired, claimed, opened, locked, leaving}
+use Rattle.corr_core.specs.Law.{total, born, is_made, NoteFits, SlotLaw, vacant, retired, claimed, opened, locked, leaving}
 use Rattle.corr_core.specs.declared.marks.Plan.{Plan}
 use Rattle.corr_core.specs.declared.marks.Hand.{Hand}
 use Rattle.corr_core.specs.declared.marks.Hand.TheVariants.{Empty, Out, Full}
@@ -24,12 +24,12 @@ use Rattle.corr_core.proofs.Gather.{gather_none}
 use Rattle.corr_core.proofs.Notes.{each_at, total_some, pair-else, pair-else_first}
 use Rattle.corr_core.proofs.Shuffles.{each_of}
 use Rattle.corr_core.specs.declared.marks.Kept.{Kept}
-use Rattle.corr_id.specs.Calls.{slot_of, version_of, is_saw, is_at}
+use Rattle.corr_id.specs.Calls.{slot_of, version_of, is_saw, is_at, FoundUpTo}
 use Rattle.corr_id.proofs.Closes.{saw_of}
 use Rattle.id_rule.specs.Lawful.{tag_index, id_index, all_words, is_stored, kept_in, KeptFits, notes_of, tokens_in, notes_in, local, with_token, no_token, with_note, with_kept}
-use Rattle.id_rule.specs.Plays.{IsHome, NotLeaving, Fitting, hand_of, with_hand, value_of, hand_by, claimed_view, locked_view, claim_told, take_told, give_told, make_told, lock_told, queue_told, end_told, free_told, store_told, found_view, put_error, popped_view, advanced_view, ended_view}
+use Rattle.id_rule.specs.Plays.{IsHome, NotLeaving, Fitting, hand_of, with_hand, value_of, hand_by, claimed_view, locked_view, claim_told, take_told, give_told, make_told, end_told, free_told, store_told, found_view, put_error, popped_view, advanced_view, ended_view}
 use Rattle.id_rule.proofs.Allowed.{own, known, o}
-use Rattle.corr_id.specs.Ruled.{IsFresh, FreshBehind, IsBehind, Ruled, read_told, see_told, unlock_told, load_told}
+use Rattle.corr_id.specs.Ruled.{IsFresh, FreshBehind, IsBehind, Ruled, read_told, see_told, lock_told, queue_told, unlock_told, load_told}
 use Rattle.corr_id.proofs.Seats.{total_append}
 use Rattle.corr_id.proofs.Ruling.{claims_ruled, reads_ruled, sees_ruled, makes_ruled, locks_ruled, queues_ruled, relocks_ruled, unlocks_ruled, advances_ruled, behind, ends_ruled, frees_ruled, takes_ruled, gives_ruled, stores_ruled, finds_ruled, kept_stays}
 
@@ -201,6 +201,17 @@ module _ {C : Type 0} (p : Plan) (slots id : ℕ) (me : Me (Maybe C) (View C)) (
         λ z. (with_note (e z) (Made (ff z) (parts n).range (dd z)) (no_token (e z) me.0), me.1),
   )
 
+  -- no word that the seat had found has a later range than the slot's word now
+  none_later : (s : State (Maybe C) (View C)) → Ruled p s → get_elem? s.views id ≡ some me.0 → FoundUpTo i (local s i).word.first me.0
+  none_later s r here w saw =
+      let l = o p id me i inside real s r.lawful here in
+      let k = total_some (is_saw w) (local s i).notes (let a = counted (is_saw w) s.views id me.0 here in omega (arith, a, saw)) in
+      let fit = each_at (NoteFits l.b (local s i).word.first (local s i).notes) (local s i).notes k.0 (Saw w) l.story.fits (k.2 ∙ ap some (saw_of w k.1 k.3)) in
+      fit.not_later
+
+  none_later_at : (s : State (Maybe C) (View C)) → Ruled p s → get_elem? s.views id ≡ some me.0 → (x : ℕ) → id_index i ≡ id_index x → FoundUpTo x (local s i).word.first me.0
+  none_later_at s r here x at = let e : i ≡ x = omega arith in subst (λ (y : ℕ). FoundUpTo y (local s i).word.first me.0) e (none_later s r here)
+
   abbrev After : State (Maybe C) (View C) → ℕ → View C → Type 0
   After s n w = Ruled p (stepped s (id_index i) n id me.1 w keeps)
 
@@ -211,7 +222,7 @@ module _ {C : Type 0} (p : Plan) (slots id : ℕ) (me : Me (Maybe C) (View C)) (
         keeps,
         tt,
         subst (λ b. After s (either b new found) w) (sym (eq-eqb found old hit)) k.3,
-        λ x at. ((λ z. (k.0, of_id (λ y. locked_view y (parts found).first (parts found).range (parts found).attempt k.0 me.0) x at, k.1, k.2)), (λ n. absurd (n hit))),
+        λ x at. ((λ z. (k.0, of_id (λ y. locked_view y (parts found).first (parts found).range (parts found).attempt k.0 me.0) x at, k.1, k.2, none_later_at s r here x at)), (λ n. absurd (n hit))),
       ))
       (λ miss. let w : View C = with_note i (Saw found) me.0 in (
         w,
@@ -230,7 +241,7 @@ module _ {C : Type 0} (p : Plan) (slots id : ℕ) (me : Me (Maybe C) (View C)) (
         tt,
         subst (λ b. After s (either b new found) w) (sym (eq-eqb found old hit))
             (queues_ruled p id me i inside real s r here new e (ap (λ (y : Parts). y.state) same ∙ two) (ap (λ (y : Parts). y.second) same ∙ room) some_error (subst (λ (y : Parts). IsFresh y.attempt e) (sym same) timely) (is ∙ ap (λ (y : Parts). queued_word y e) (sym same))),
-        λ x at. ((λ z. of_id (λ y. with_note y (Queued (parts found).first e) me.0) x at ∙ ap (λ (k : ℕ). (with_note x (Queued (parts found).first k) me.0, me.1)) ee), (λ n. absurd (n hit))),
+        λ x at. ((λ z. (of_id (λ y. with_note y (Queued (parts found).first e) me.0) x at ∙ ap (λ (k : ℕ). (with_note x (Queued (parts found).first k) me.0, me.1)) ee, none_later_at s r here x at)), (λ n. absurd (n hit))),
       ))
       (λ miss. let w : View C = with_note i (Saw found) me.0 in (
         w,

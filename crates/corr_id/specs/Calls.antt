@@ -98,6 +98,10 @@ module _ {C : Type 0} where
   abbrev pub Found : ℕ → ℕ → View C → Type 0
   Found i word v = 0 < total (is_saw word) (notes_of i v.notes)
 
+  -- each word that it found there has a range that begins at this version or an earlier one
+  abbrev pub FoundUpTo : ℕ → ℕ → View C → Type 0
+  FoundUpTo i f v = (x : ℕ) → Found i x v → (parts x).first ≤ f
+
   -- no event was added, all tokens stayed, and all notes
   pub record Quiet (v w : View C) : Type 0 where
     pub tokens : (j : ℕ) → tokens_in j w ≡ tokens_in j v
@@ -131,6 +135,8 @@ module _ {C : Type 0} where
   pub record GotLock (i : ℕ) (v w : View C) (open_word : ℕ) (k : Parts) (c : C) : Type 0 where
     pub found : Found i open_word w
     pub was_open : (parts open_word).state ≡ 1
+    -- the words of a slot only go on to later ranges: none that it found had a later one
+    pub latest : FoundUpTo i k.first w
     pub word_is : k ≡ locked_word (parts open_word)
     pub locks : Locks i w k c Empty
     pub did : Did i v w (tokens_in i w) (one i (Locker k.first c))

@@ -7,7 +7,7 @@ use Rattle.corr_core.specs.declared.marks.View.{View}
 use Rattle.corr_id.specs.declared.posts.Posted.{Posted}
 use Rattle.corr_id.specs.declared.posts.Posted.TheVariants.{Locked as HasLock, Queued as IsQueued, Gone, Stale, Crowded}
 use Rattle.id_rule.specs.Lawful.{tokens_in}
-use Rattle.corr_id.specs.Calls.{one, slot_of, version_of, Quiet, Did, GotLock, HasId, LacksId, Found, error_in}
+use Rattle.corr_id.specs.Calls.{one, slot_of, version_of, Quiet, Did, GotLock, HasId, LacksId, Found, FoundUpTo, error_in}
 
 -- another attempt is current
 abbrev pub IsStale : Maybe ℕ → ℕ → Type 0
@@ -19,9 +19,9 @@ IsTimely None current = Unit {0}
 IsTimely (Some n) current = n ≡ current
 
 module _ {C : Type 0} (slots : ℕ) (u w : View C) (id code : ℕ) (attempt : Maybe ℕ) where
-  -- the word that was found had the id locked, with room for the error
+  -- the word that was found had the id locked, with room for the error; and none that the seat found there had a later range
   abbrev pub WasQueued : ℕ → Type 0
-  WasQueued word = Found (slot_of id) word w × HasId (parts word) (version_of id) × ((parts word).state ≡ 2) × ((parts word).second ≡ 0) × IsTimely attempt (parts word).attempt
+  WasQueued word = Found (slot_of id) word w × HasId (parts word) (version_of id) × ((parts word).state ≡ 2) × ((parts word).second ≡ 0) × IsTimely attempt (parts word).attempt × FoundUpTo (slot_of id) (version_of id) w
 
   -- or it had two errors queued, with these codes
   abbrev pub WasCrowded : ℕ → ℕ → ℕ → Type 0

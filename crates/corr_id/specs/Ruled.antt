@@ -9,13 +9,13 @@ use Rattle.corr_core.specs.declared.marks.Hand.{Hand}
 use Rattle.corr_core.specs.declared.marks.Hand.TheVariants.{Full}
 use Rattle.corr_core.specs.declared.marks.Token.{Token}
 use Rattle.corr_core.specs.declared.marks.Token.TheVariants.{Claimed, Locked, Leaving}
-use Rattle.corr_core.specs.declared.marks.Note.TheVariants.{Saw}
+use Rattle.corr_core.specs.declared.marks.Note.TheVariants.{Queued, Saw}
 use Rattle.corr_core.specs.declared.marks.Kept.{Kept}
 use Rattle.corr_core.specs.declared.marks.View.{View}
 use Rattle.std.specs.List.{flat_map}
 use Rattle.id_rule.specs.Lawful.{id_index, is_stored, kept_in, notes_in, local, Lawful, with_token, with_note}
-use Rattle.corr_id.specs.Calls.{slot_of, version_of, is_saw, is_at}
-use Rattle.id_rule.specs.Plays.{Becomes, has_token, Longer, popped_view, advanced_view, found_view}
+use Rattle.corr_id.specs.Calls.{slot_of, version_of, is_saw, is_at, FoundUpTo}
+use Rattle.id_rule.specs.Plays.{Becomes, has_token, LockFits, Longer, locked_view, put_error, popped_view, advanced_view, found_view}
 
 -- a word of this place
 abbrev pub is_place : ℕ → Kept → ℕ
@@ -60,6 +60,18 @@ module _ {C : Type 0} where
   -- I7: a word is never 0, and none that is found behind an id that the seat knows to be made has an earlier range
   abbrev pub see_told : Step (Maybe C) → Me (Maybe C) (View C) → ℕ → Me (Maybe C) (View C) → Type 0
   see_told st m found n = (i : ℕ) → st.word ≡ id_index i → Becomes m n (with_note i (Saw found) m.0) × (1 ≤ (parts found).first) × ((f : ℕ) → 0 < total (is_made f) (notes_in i m.0) → IsBehind f (parts found))
+
+  -- I3, and I4 on an open id: no word that was found before has a later range
+  abbrev pub lock_told : Step (Maybe C) → Me (Maybe C) (View C) → ℕ → Me (Maybe C) (View C) → Type 0
+  lock_told st m found n = (i : ℕ) → st.word ≡ id_index i
+      → (found ≡ st.first → (c : C) × Becomes m n (locked_view i (parts found).first (parts found).range (parts found).attempt c m.0) × LockFits (parts found) × (((parts found).oldest ≡ 0) × ((parts found).second ≡ 0)) × FoundUpTo i (parts found).first m.0)
+      × (found ≢ st.first → Becomes m n (with_note i (Saw found) m.0))
+
+  -- I4 on a locked id: the same
+  abbrev pub queue_told : Step (Maybe C) → Me (Maybe C) (View C) → ℕ → Me (Maybe C) (View C) → Type 0
+  queue_told st m found n = (i : ℕ) → st.word ≡ id_index i
+      → (found ≡ st.first → Becomes m n (with_note i (Queued (parts found).first (put_error (parts st.first) (parts st.second))) m.0) × FoundUpTo i (parts found).first m.0)
+      × (found ≢ st.first → Becomes m n (with_note i (Saw found) m.0))
 
   -- I5: the word found is noted; where another one was expected, the errors in it are now noted
   abbrev pub unlock_told : Step (Maybe C) → Me (Maybe C) (View C) → ℕ → Me (Maybe C) (View C) → Type 0

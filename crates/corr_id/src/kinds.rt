@@ -9,7 +9,7 @@ ghost use Rattle.id_rule.specs.Lawful.{tokens_in, notes_in, with_note};
 ghost use Rattle.id_rule.specs.Plays.{LockFits, Longer};
 ghost use Rattle.corr_id.specs.Ruled.{FreshBehind, IsBehind, IsFresh};
 ghost use Rattle.corr_id.specs.Seats.{Sits, Stays};
-ghost use Rattle.corr_id.specs.Calls.{is_saw, is_at, Became, one, MayMove, Moved, Claims, Locks, tokens_left, advance_note};
+ghost use Rattle.corr_id.specs.Calls.{is_saw, is_at, Became, one, MayMove, Moved, Claims, Locks, FoundUpTo, tokens_left, advance_note};
 
 use crate::plays::{Claim, End, Free, Give, Lock, Make, Queue, Read, See, Take, Unlock};
 use crate::table::{IdSeat, IdTable};
@@ -93,6 +93,7 @@ impl<C> IdTable<C> {
         ensures seat { Stays seat.old seat.new }
         ensures won { result ≡ from → LockFits (parts from) × ((c : C) × Became at seat.old.me.0 seat.new.me.0 (Locked (parts from).first (parts from).range (parts from).attempt c (parts from).oldest (parts from).second (Full c) ∷ []) (one at (Locker (parts from).first c))) }
         ensures none_queued { result ≡ from → ((parts from).oldest ≡ 0) × ((parts from).second ≡ 0) }
+        ensures latest { result ≡ from → FoundUpTo at (parts from).first seat.old.me.0 }
         ensures lost { result ≢ from → Became at seat.old.me.0 seat.new.me.0 (tokens_in at seat.old.me.0) (one at (Saw result)) }
     {
         let word = 2 * at as usize + 1;
@@ -117,6 +118,7 @@ impl<C> IdTable<C> {
         requires next { parts next ≡ posted_word (parts from) error }
         ensures seat { Stays seat.old seat.new }
         ensures won { result ≡ from → Became at seat.old.me.0 seat.new.me.0 (tokens_in at seat.old.me.0) (one at (Queued (parts from).first error)) }
+        ensures latest { result ≡ from → FoundUpTo at (parts from).first seat.old.me.0 }
         ensures lost { result ≢ from → Became at seat.old.me.0 seat.new.me.0 (tokens_in at seat.old.me.0) (one at (Saw result)) }
     {
         let word = 2 * at as usize + 1;

@@ -1,12 +1,12 @@
 -- By which link's reading a call ended whose end a reader told, or a client by an error that a reader had queued.
-use Rattle.std.proofs.Common.{◌≡◌, ℕ, ◌+◌, ◌*◌, ◌<◌, ◌≤◌, ◌⊎◌, inl, inr, List, ◌∷◌, length, map, Some, pos, sym, ap, ◌∙◌, subst, arith}
+use Rattle.std.proofs.Common.{◌≡◌, ℕ, ◌+◌, ◌*◌, ◌<◌, ◌≤◌, ◌⊎◌, inl, inr, List, ◌∷◌, length, map, Some, pos, refl, sym, ap, ◌∙◌, subst, arith}
 use Rattle.std.specs.Prelude.{◌≢◌, Option}
 use Rattle.std.proofs.lemmas.Nat.{div-add-mod'}
 use mathlib.Core.Option.{some}
 use lib.ListN.{get_elem?}
 use Rattle.sock_io.specs.declared.link.Out.{Ghosts}
 use Rattle.sock_io.specs.Link.{OutState}
-use Rattle.sock_words.specs.Codes.{ERPCTIMEDOUT}
+use Rattle.sock_words.specs.Codes.{EEOF, ERPCTIMEDOUT}
 use Rattle.sock_words.specs.Words.{at_word_link}
 use Rattle.sock_words.specs.declared.outcome.Outcome.{Outcome}
 use Rattle.sock_words.specs.declared.outcome.Outcome.TheVariants.{CallFailed}
@@ -19,7 +19,8 @@ use Rattle.seat_programs.specs.declared.task.Op.TheVariants as ops
 use Rattle.seat_programs.specs.declared.task.Task.{Task}
 use Rattle.seat_programs.specs.Told.{AreTasks, IsTask}
 use Rattle.seat_programs.specs.ToldCalls.{Fixed, Order, IsAnsweredBy, MayBeOn, FailedBy, ByCompression, all_accepted}
-use Rattle.corr_core.specs.Law.{total}
+use Rattle.corr_core.specs.Law.{total, is_ended}
+use Rattle.attempts_told.specs.call_whys.specs.expire_told.specs.call_places.proofs.Ids.{IsIdOf}
 use Rattle.corr_core.specs.Word.{Parts, parts, code_of}
 use Rattle.corr_core.specs.declared.marks.Kept.{Kept}
 use Rattle.corr_core.specs.declared.marks.Note.{Note}
@@ -86,6 +87,9 @@ not_missed code (inr e) (inr t) = omega (arith, e, t)
 low_of : (attempt : Option ℕ) (n : ℕ) → attempt ≡ Some n → n ≤ 6 → IsLow attempt
 low_of attempt n e few = subst IsLow (sym e) few
 
+pub same_id : (a b id code : ℕ) → CallFailed a b ≡ CallFailed id code → a ≡ id
+same_id a b id code e = cc
+
 pub same_end : (a b id code : ℕ) → CallFailed a b ≡ CallFailed id code → b ≡ code
 same_end a b id code e = cc
 
@@ -99,7 +103,9 @@ module _ {O : Type 0} {g : Ghosts O} {state : O → OutState} {readers : List (L
     (asked_so : (c : ℕ) (x : Client g state p (ids_of p slots)) → get_elem? (all_clients run) c ≡ some x → (i : ℕ) (d : Deed g state p (ids_of p slots)) → get_elem? (deeds_of x) i ≡ some d → (asked : Asked) → IsAskedIn d asked
     → (client : ℕ) × IsOperation (setup ∷ clients) outcomes client asked.operation (ops.Call asked))
     -- the reading of this link ended with this code
-    (Reads : ℕ → ℕ → Type 0) where
+    (Reads : ℕ → ℕ → Type 0)
+    -- the link that this word names gave no response of the id that the word names
+    (Alone : ℕ → Type 0) where
   abbrev q : id_plan.Plan
   q = ids_of p slots
 
@@ -126,11 +132,16 @@ module _ {O : Type 0} {g : Ghosts O} {state : O → OutState} {readers : List (L
     pub on : MayBeOn p every outcomes fixed_here gave orders_here o attempt (name_of asked attempt) link
     pub lost : LostOn p every outcomes fixed_here gave orders_here o attempt link
     pub read : Reads link code
+    -- the word by which the code came to it; with 1014 the link gave no response of the call
+    pub word : ℕ
+    pub names : at_word_link word ≡ link
+    pub its : IsIdOf slots notes o (call_at word)
+    pub alone : code ≡ EEOF → Alone word
 
   -- that for which the id was made that the word names
   posted_on : (word code : ℕ) → IsPosted word code → (slot first r j : ℕ) (call : Asked) → slot < slots → first < 4294967296 → call_at word ≡ slot * 4294967296 + first → get_elem? (notes_of slot notes) j ≡ some (Made first r call)
-      → (client o : ℕ) (asked : Asked) → IsOperation every outcomes client o (ops.Call asked) → call.operation ≡ o → EndedOn o asked code
-  posted_on word code h slot first r j call inside low same made client o asked task number =
+      → (client o : ℕ) (asked : Asked) → IsOperation every outcomes client o (ops.Call asked) → call.operation ≡ o → (code ≡ EEOF → Alone word) → EndedOn o asked code
+  posted_on word code h slot first r j call inside low same made client o asked task number alone =
       let n = named run tasks may notes kept words closing noted keeps outcomes drun seats logged differ gave all_there few_slots few_links asked_so h.operation word h.found in
       let its : h.operation ≡ o = one_operation run tasks may notes kept words closing noted outcomes drun seats logged differ gave all_there h.operation (call_at word) slot first r j call inside low n.id same made ∙ number in
       let s = same_task drun n.client client record { number = h.operation; op = ops.Call n.asked } record { number = o; op = ops.Call asked } n.task task its in
@@ -143,6 +154,10 @@ module _ {O : Type 0} {g : Ghosts O} {state : O → OutState} {readers : List (L
             (subst (λ (m : ℕ). MayBeOn p every outcomes fixed_here gave orders_here m n.attempt (name_of n.asked n.attempt) (at_word_link word)) its n.on);
         lost = subst (λ (m : ℕ). LostOn p every outcomes fixed_here gave orders_here m n.attempt (at_word_link word)) its n.lost;
         read = h.read;
+        word = word;
+        names = refl;
+        its = subst (λ (m : ℕ). IsIdOf slots notes m (call_at word)) its n.id;
+        alone = alone;
       }
 
   -- ## What a reader told, or whoever ended what was left
@@ -190,13 +205,13 @@ module _ {O : Type 0} {g : Ghosts O} {state : O → OutState} {readers : List (L
 
     -- it ended by a compressed response; or with the code, and then that is known of its lock
     abbrev pub WhyTold : Type 0
-    WhyTold = FailedBy p every outcomes fixed_here gave orders_here client x.number asked id with last ⊎ ((code ≡ with) × LockOf x.number (Known v))
+    WhyTold = FailedBy p every outcomes fixed_here gave orders_here client x.number asked id with last ⊎ ((code ≡ with) × (l : LockOf x.number (Known v)) × (id_of l.slot l.word ≡ id))
 
     pub told_why : WhyTold
     told_why = by t.by
       where
         by : EndsBy q links gave code Known v t.slot t.word x.outcome → WhyTold
-        by (on_code known e) = inr (same_end (id_of t.slot t.word) code id with (sym e ∙ is), record { slot = t.slot; inside = t.inside; word = t.word; call = of_lock.0; number = number_is; place = of_lock.1; made = of_lock.3; known = known })
+        by (on_code known e) = inr (same_end (id_of t.slot t.word) code id with (sym e ∙ is), record { slot = t.slot; inside = t.inside; word = t.word; call = of_lock.0; number = number_is; place = of_lock.1; made = of_lock.3; known = known }, same_id (id_of t.slot t.word) code id with (sym e ∙ is))
         by (on_response f given e) =
             let u = unread (id_of t.slot t.word) id with f given.given.responds (sym e ∙ is) in let low = given.below in let wide = versions in let link_low = given.given.whole.0 in
             let answered : IsAnsweredBy p every outcomes fixed_here gave orders_here asked (id_of t.slot t.word) (λ (frame : Frame). frame.meta.compress_type ≢ pos 0) =
@@ -204,10 +219,14 @@ module _ {O : Type 0} {g : Ghosts O} {state : O → OutState} {readers : List (L
             inl (ByCompression u.code_is (subst (λ (i : ℕ). IsAnsweredBy p every outcomes fixed_here gave orders_here asked i (λ (frame : Frame). frame.meta.compress_type ≢ pos 0)) u.id_is answered))
 
   -- of what a reader told
-  pub by_reader : (link code : ℕ) (v : View Asked) → ((word : ℕ) → IsPost q link v word → IsPosted word code) → (o : ℕ) → LockOf o (IsPostFor q link v) → (client : ℕ) (asked : Asked) → IsOperation every outcomes client o (ops.Call asked) → EndedOn o asked code
-  by_reader link code v posted o l client asked task = let k = l.known in posted_on k.0 code (posted k.0 k.1) l.slot l.word.first l.word.range l.place l.call l.inside k.3 (sym k.2) l.made client o asked task l.number
+  pub by_reader : (link code : ℕ) (v : View Asked) → ((word : ℕ) → IsPost q link v word → IsPosted word code) → (o : ℕ) (l : LockOf o (IsPostFor q link v)) → (client : ℕ) (asked : Asked) → IsOperation every outcomes client o (ops.Call asked) → (code ≡ EEOF → Alone l.known.0) → EndedOn o asked code
+  by_reader link code v posted o l client asked task alone = let k = l.known in posted_on k.0 code (posted k.0 k.1) l.slot l.word.first l.word.range l.place l.call l.inside k.3 (sym k.2) l.made client o asked task l.number alone
 
   -- ## What a client told
+
+  -- a client noted that the range with this first version in slot i has ended
+  abbrev pub WasEnded : ℕ → ℕ → Type 0
+  WasEnded i first = 0 < total (λ (v : View Asked). total (is_ended first) (notes_of i v.notes)) ids
 
   -- this error is queued for the id with this first version in slot i: the code of a reading, for the attempt that a word names
   pub record QueuedSo (i first e : ℕ) : Type 0 where
@@ -217,6 +236,8 @@ module _ {O : Type 0} {g : Ghosts O} {state : O → OutState} {readers : List (L
     pub slot_is : slot_of (call_at word) ≡ i
     pub first_is : version_of (call_at word) ≡ first
     pub error_is : error_in code (attempt_at word) ≡ e
+    -- where a client ended the range
+    pub alone : WasEnded i first → code ≡ EEOF → Alone word
 
   module _ (said_own : AreSaid outcomes told) (said_ended : AreSaid outcomes ended)
       -- what no client queued, a reader did
@@ -242,18 +263,18 @@ module _ {O : Type 0} {g : Ghosts O} {state : O → OutState} {readers : List (L
       of_reason read d y there (missed i deed at_ is backed a b) = absurd (not_missed e.code read (deed_code deed e.code is))
       of_reason read d y there (dropped n w z) = record { place = d; client = y; in_crew = there; attempt = n; drop = w }
 
-      of_queue : (client : ℕ) (asked : Asked) → IsOperation every outcomes client e.lock.content.operation (ops.Call asked) → QueuedSo e.lock.slot (parts e.lock.word.0).first (error_in e.code e.attempt) → EndedOn e.lock.content.operation asked e.code
-      of_queue client asked task r =
+      of_queue : (client : ℕ) (asked : Asked) → IsOperation every outcomes client e.lock.content.operation (ops.Call asked) → QueuedSo e.lock.slot (parts e.lock.word.0).first (error_in e.code e.attempt) → WasEnded e.lock.slot (parts e.lock.word.0).first → EndedOn e.lock.content.operation asked e.code
+      of_queue client asked task r was =
           let n = named run tasks may notes kept words closing noted keeps outcomes drun seats logged differ gave all_there few_slots few_links asked_so r.posted.operation r.word r.posted.found in
           let timely = timely_low e.attempt (parts e.lock.word.0).attempt (let a = e.lock.fits.room in let b = e.lock.fits.range_high in omega (arith, a, b)) e.cause.timely in
           let same = (one_error r.code e.code (attempt_at r.word) e.attempt (low_of (attempt_at r.word) n.attempt n.attempt_is n.few) timely r.error_is).0 in
           let m = made_so run tasks may notes kept words closing noted keeps outcomes said_own said_ended weak c x at one e in
           let whole = div-add-mod' (call_at r.word) 4294967296 in let slot = r.slot_is in let first = r.first_is in
-          posted_on r.word e.code (subst (IsPosted r.word) same r.posted) e.lock.slot (parts e.lock.word.0).first (parts e.lock.word.0).range m.1 m.0 e.cause.inside (let l = e.lock.fits.low in omega (arith, l)) (omega (arith, whole, slot, first)) m.3 client e.lock.content.operation asked task m.2
+          posted_on r.word e.code (subst (IsPosted r.word) same r.posted) e.lock.slot (parts e.lock.word.0).first (parts e.lock.word.0).range m.1 m.0 e.cause.inside (let l = e.lock.fits.low in omega (arith, l)) (omega (arith, whole, slot, first)) m.3 client e.lock.content.operation asked task m.2 (λ k. r.alone was (same ∙ k))
 
       -- its end goes back to what a reader queued, or to a drop
-      pub client_why : IsReadCode e.code → (client : ℕ) (asked : Asked) → IsOperation every outcomes client e.lock.content.operation (ops.Call asked) → EndedOn e.lock.content.operation asked e.code ⊎ DroppedSo
-      client_why read client asked task = by e.cause.origin
+      pub client_why : WasEnded e.lock.slot (parts e.lock.word.0).first → IsReadCode e.code → (client : ℕ) (asked : Asked) → IsOperation every outcomes client e.lock.content.operation (ops.Call asked) → EndedOn e.lock.content.operation asked e.code ⊎ DroppedSo
+      client_why was read client asked task = by e.cause.origin
         where
           by : Origin state p q (tasks_of x) (Says run outcomes said_own) (deeds_of x) (view_of x) e.lock e.code e.attempt → EndedOn e.lock.content.operation asked e.code ⊎ DroppedSo
           by (posted_so reason) = inr (of_reason read c x at reason)
@@ -264,5 +285,5 @@ module _ {O : Type 0} {g : Ghosts O} {state : O → OutState} {readers : List (L
               elim (others e.lock.slot (parts e.lock.word.0).first (error_in e.code e.attempt) (omega (arith, w, same))) [
                 | inl own ↦ (let timely = timely_low e.attempt (parts e.lock.word.0).attempt (let a = e.lock.fits.room in let b = e.lock.fits.range_high in omega (arith, a, b)) e.cause.timely in
                     let y = by_clients run outcomes said_own notes kept words closing noted weak e.lock e.code e.attempt timely own in inr (of_reason read y.place y.client y.at y.reason))
-                | inr r ↦ inl (of_queue client asked task r)
+                | inr r ↦ inl (of_queue client asked task r was)
               ]

@@ -38,3 +38,7 @@ pub mod Ends
 pub mod ReaderStores
 pub mod ByLinks
 pub mod LinkEnds
+pub mod Waits
+pub mod Unmet
+pub mod NoneGave
+pub mod Alone

@@ -1,5 +1,5 @@
 -- By which link's reading each call ended that a client told to have failed with a code of whoever reads links.
-use Rattle.std.proofs.Common.{◌≡◌, ℕ, ◌<◌, ◌≤◌, ◌⊎◌, inl, inr, List, [], ◌∷◌, map, refl, sym, ap, ◌∙◌, subst, arith}
+use Rattle.std.proofs.Common.{◌≡◌, ℕ, ◌+◌, ◌*◌, ◌<◌, ◌≤◌, ◌⊎◌, inl, inr, List, [], ◌∷◌, map, refl, sym, ap, ◌∙◌, subst, arith}
 use Rattle.std.specs.Prelude.{Option}
 use mathlib.Core.Option.{some}
 use lib.ListN.{get_elem?}
@@ -41,7 +41,7 @@ use Rattle.attempts_told.specs.call_whys.specs.expire_told.specs.sock_deeds.proo
 use Rattle.attempts_told.specs.call_whys.specs.expire_told.specs.sock_deeds.proofs.Whole.{log_accepted}
 use Rattle.attempts_told.proofs.Told.{same_asked}
 use Rattle.failed_told.specs.Reasons.{IsCaused}
-use Rattle.failed_told.proofs.ByLinks.{EndedOn, QueuedSo, weak, DroppedSo, client_why, same_end}
+use Rattle.failed_told.proofs.ByLinks.{EndedOn, QueuedSo, WasEnded, weak, DroppedSo, client_why, same_id, same_end}
 use Rattle.failed_told.proofs.Clients.{Says, ended_caused}
 use Rattle.failed_told.proofs.Codes.{IsReadCode}
 use Rattle.failed_told.proofs.Drops.{DroppedOn, read_dropped}
@@ -60,7 +60,7 @@ module _ {O : Type 0} {g : Ghosts O} {state : O → OutState} {readers : List (L
     -- the codes that a `fail` may have in a script
     (bounds : (client number name code : ℕ) → IsOperation (setup ∷ clients) outcomes client number (ops.Fail name code) → (1500 ≤ code) × (code ≤ 1999))
     -- the reading of this link ended with this code
-    (Reads : ℕ → ℕ → Type 0) (read_code : (link code : ℕ) → Reads link code → IsReadCode code) where
+    (Reads : ℕ → ℕ → Type 0) (Alone : ℕ → Type 0) (read_code : (link code : ℕ) → Reads link code → IsReadCode code) where
   abbrev every : List (List Task)
   every = setup ∷ clients
 
@@ -68,28 +68,31 @@ module _ {O : Type 0} {g : Ghosts O} {state : O → OutState} {readers : List (L
   low_links = omega (arith, few_links)
 
   abbrev pub EndedHere : ℕ → Asked → ℕ → Type 0
-  EndedHere o asked code = EndedOn run tasks may notes kept words closing noted keeps outcomes drun seats logged differ gave (log_accepted drun differ (λ k. [])) few_slots few_links (asked_here run tasks may notes kept words closing noted outcomes later) Reads o asked code
+  EndedHere o asked code = EndedOn run tasks may notes kept words closing noted keeps outcomes drun seats logged differ gave (log_accepted drun differ (λ k. [])) few_slots few_links (asked_here run tasks may notes kept words closing noted outcomes later) Reads Alone o asked code
 
   abbrev pub DroppedHere : ℕ → Asked → ℕ → Type 0
   DroppedHere o asked code = DroppedOn run tasks may notes kept words closing noted outcomes drun seats logged differ gave (log_accepted drun differ (λ k. [])) few (low_links) bounds o asked code
 
   abbrev pub QueuedHere : ℕ → ℕ → ℕ → Type 0
-  QueuedHere i first e = QueuedSo run tasks may notes kept words closing noted keeps outcomes drun seats logged differ gave (log_accepted drun differ (λ k. [])) few_slots few_links (asked_here run tasks may notes kept words closing noted outcomes later) Reads i first e
+  QueuedHere i first e = QueuedSo run tasks may notes kept words closing noted keeps outcomes drun seats logged differ gave (log_accepted drun differ (λ k. [])) few_slots few_links (asked_here run tasks may notes kept words closing noted outcomes later) Reads Alone i first e
+
+  abbrev pub WasEndedHere : ℕ → ℕ → Type 0
+  WasEndedHere i first = WasEnded run tasks may notes kept words closing noted keeps outcomes drun seats logged differ gave (log_accepted drun differ (λ k. [])) few_slots few_links (asked_here run tasks may notes kept words closing noted outcomes later) Reads Alone i first
 
   -- what no client queued, a reader did
   module _ (others : (i first e : ℕ) → 0 < queued_in i first e notes → (0 < total (λ (v : View Asked). queued_in i first e v.notes) ids) ⊎ QueuedHere i first e) where
-    of_client : (c : ℕ) (x : Client g state p (ids_of p slots)) (at : get_elem? (all_clients run) c ≡ some x) (one : Told) (e : IsCaused state p (ids_of p slots) (tasks_of x) (Says run outcomes said_own) (deeds_of x) (view_of x) one) → IsReadCode e.code → (client : ℕ) (asked : Asked) → IsOperation every outcomes client e.lock.content.operation (ops.Call asked)
+    of_client : (c : ℕ) (x : Client g state p (ids_of p slots)) (at : get_elem? (all_clients run) c ≡ some x) (one : Told) (e : IsCaused state p (ids_of p slots) (tasks_of x) (Says run outcomes said_own) (deeds_of x) (view_of x) one) → WasEndedHere e.lock.slot (parts e.lock.word.0).first → IsReadCode e.code → (client : ℕ) (asked : Asked) → IsOperation every outcomes client e.lock.content.operation (ops.Call asked)
         → EndedHere e.lock.content.operation asked e.code ⊎ DroppedHere e.lock.content.operation asked e.code
-    of_client c x at one e read client asked task =
-        elim (client_why run tasks may notes kept words closing noted keeps outcomes drun seats logged differ gave (log_accepted drun differ (λ k. [])) few_slots few_links (asked_here run tasks may notes kept words closing noted outcomes later) Reads said_own said_ended others read_code c x at one e read client asked task) [
+    of_client c x at one e was read client asked task =
+        elim (client_why run tasks may notes kept words closing noted keeps outcomes drun seats logged differ gave (log_accepted drun differ (λ k. [])) few_slots few_links (asked_here run tasks may notes kept words closing noted outcomes later) Reads Alone said_own said_ended others read_code c x at one e was read client asked task) [
           | inl h ↦ inl h
           | inr d ↦ inr (by d)
         ]
       where
         its : (call : Asked) × (j : ℕ) × (call.operation ≡ e.lock.content.operation) × (get_elem? (notes_of e.lock.slot notes) j ≡ some (Made (parts e.lock.word.0).first (parts e.lock.word.0).range call))
-        its = made_so run tasks may notes kept words closing noted keeps outcomes said_own said_ended (weak run tasks may notes kept words closing noted keeps outcomes drun seats logged differ gave (log_accepted drun differ (λ k. [])) few_slots few_links (asked_here run tasks may notes kept words closing noted outcomes later) Reads said_own said_ended others read_code) c x at one e
+        its = made_so run tasks may notes kept words closing noted keeps outcomes said_own said_ended (weak run tasks may notes kept words closing noted keeps outcomes drun seats logged differ gave (log_accepted drun differ (λ k. [])) few_slots few_links (asked_here run tasks may notes kept words closing noted outcomes later) Reads Alone said_own said_ended others read_code) c x at one e
 
-        by : DroppedSo run tasks may notes kept words closing noted keeps outcomes drun seats logged differ gave (log_accepted drun differ (λ k. [])) few_slots few_links (asked_here run tasks may notes kept words closing noted outcomes later) Reads said_own said_ended others read_code c x at one e → DroppedHere e.lock.content.operation asked e.code
+        by : DroppedSo run tasks may notes kept words closing noted keeps outcomes drun seats logged differ gave (log_accepted drun differ (λ k. [])) few_slots few_links (asked_here run tasks may notes kept words closing noted outcomes later) Reads Alone said_own said_ended others read_code c x at one e → DroppedHere e.lock.content.operation asked e.code
         by d =
             let m = its in
             let w = made e.lock.slot m.1 (parts e.lock.word.0).first (parts e.lock.word.0).range m.0 e.cause.inside m.3 in
@@ -100,13 +103,14 @@ module _ {O : Type 0} {g : Ghosts O} {state : O → OutState} {readers : List (L
             subst (λ (o : ℕ). DroppedHere o asked e.code) m.2 (subst (λ (a : Asked). DroppedHere m.0.operation a e.code) same dropped)
 
     -- of each end that is told behind the operations of a client
-    pub told_on : (c i : ℕ) (ts : List Told) (one : Told) → get_elem? ended c ≡ some ts → get_elem? ts i ≡ some one → (id code : ℕ) → one.outcome ≡ CallFailed id code → IsReadCode code → (client : ℕ) (asked : Asked) → IsOperation every outcomes client one.number (ops.Call asked) → EndedHere one.number asked code ⊎ DroppedHere one.number asked code
-    told_on c i ts one at there id code is read client asked task =
+    pub told_on : (c i : ℕ) (ts : List Told) (one : Told) → get_elem? ended c ≡ some ts → get_elem? ts i ≡ some one → (id code : ℕ) → one.outcome ≡ CallFailed id code → ((slot first : ℕ) → id ≡ slot * 4294967296 + first → first < 4294967296 → WasEndedHere slot first) → IsReadCode code → (client : ℕ) (asked : Asked) → IsOperation every outcomes client one.number (ops.Call asked) → EndedHere one.number asked code ⊎ DroppedHere one.number asked code
+    told_on c i ts one at there id code is was read client asked task =
         let f : Thread g → List Told = λ x. x.ended.calls.told.items in
         let w = mapped_from (λ (x : Client g state p (ids_of p slots)). f x.thread) (all_clients run) c ts (ap (λ (l : List (List Told)). get_elem? l c) (all_are run f ∙ run.ran.ended_is) ∙ at) in
         let Caused : Told → Type 0 = IsCaused state p (ids_of p slots) (tasks_of w.0) (Says run outcomes said_own) (deeds_of w.0) (view_of w.0) in
         let e : Caused one = all_at Caused w.0.thread.ended.calls.told.items i one (ended_caused run outcomes said_own c w.0 w.1).1 (ap (λ (l : List Told). get_elem? l i) w.2 ∙ there) in
         let number : one.number ≡ e.lock.content.operation = ap (λ (t : Told). t.number) e.is in
         let same : e.code ≡ code = same_end (id_in e.lock) e.code id code (sym (ap (λ (t : Told). t.outcome) e.is) ∙ is) in
-        let why = of_client c w.0 w.1 one e (subst IsReadCode (sym same) read) client asked (subst (λ (n : ℕ). IsOperation every outcomes client n (ops.Call asked)) number task) in
+        let shown : id_in e.lock ≡ id = same_id (id_in e.lock) e.code id code (sym (ap (λ (t : Told). t.outcome) e.is) ∙ is) in
+        let why = of_client c w.0 w.1 one e (was e.lock.slot (parts e.lock.word.0).first (sym shown) (let l = e.lock.fits.low in omega (arith, l))) (subst IsReadCode (sym same) read) client asked (subst (λ (n : ℕ). IsOperation every outcomes client n (ops.Call asked)) number task) in
         subst (λ (z : ℕ). EndedHere one.number asked z ⊎ DroppedHere one.number asked z) same (subst (λ (n : ℕ). EndedHere n asked e.code ⊎ DroppedHere n asked e.code) (sym number) why)

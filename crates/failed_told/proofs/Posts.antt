@@ -1,6 +1,7 @@
 -- What a reader posted when its reading ended: each error that it queued is for the attempt that a word of an operation names, with its link.
 use Rattle.std.proofs.Common.{◌≡◌, ℕ, ◌<◌, ◌⊎◌, inl, inr, Bool, true, false, List, [], ◌∷◌, Some, None, eqb-true, refl, ap, arith}
 use Rattle.std.specs.Prelude.{Option, position, ◌==◌}
+use Rattle.std.specs.List.{remove}
 use mathlib.Core.Logic.{dite}
 use native.Mathlib.Decide.{ℕ_discrete}
 use Rattle.sock_words.specs.Words.{at_word_link}
@@ -23,13 +24,13 @@ use Rattle.attempts_told.specs.call_whys.specs.expire_told.specs.call_client.pro
 use Rattle.attempts_told.specs.call_whys.specs.expire_told.specs.call_told.proofs.Resting.{is_word}
 use Rattle.attempts_told.specs.call_whys.specs.expire_told.specs.call_deeds.specs.rpc_reader.specs.Books.{Books}
 use Rattle.attempts_told.specs.call_whys.specs.expire_told.specs.call_deeds.specs.rpc_reader.specs.Met.{slot_in, is_asked, is_for, AnsweredBy, MetIf, FramesMet}
-use Rattle.attempts_told.specs.call_whys.specs.expire_told.specs.call_deeds.specs.rpc_reader.specs.Posting.{LostBy, LockLost, PostedTo, PostedIf, PostedAt, PostedAll, call_at, attempt_at}
+use Rattle.attempts_told.specs.call_whys.specs.expire_told.specs.call_deeds.specs.rpc_reader.specs.Posting.{LostBy, LockLost, PostedTo, MetKept, PostedIf, PostedAt, PostedAll, call_at, attempt_at}
 use Rattle.attempts_told.specs.call_whys.specs.expire_told.specs.call_deeds.specs.rpc_reader.specs.Resting.{HadEnded, EndedLast, OneEnded, RestEnded}
 use Rattle.failed_told.proofs.Views.{queued_silent, queued_in, Later, later_then, Stays, queued_one, same_stays, then_stays, did_later, quiet_stays, kept_stays, ended_stays, got_stays}
 
 -- ## What queues nothing
 
-books_stay : (b b' : Books) → b' ≡ b → Stays b.view b'.view
+pub books_stay : (b b' : Books) → b' ≡ b → Stays b.view b'.view
 books_stay b b' e = same_stays b.view b'.view (ap (λ (x : Books). x.view) e)
 
 answered_stays : (slots : ℕ) (f : Frame) (b b' : Books) → AnsweredBy slots f b b' → Stays b.view b'.view
@@ -39,6 +40,10 @@ met_stays : (slots : ℕ) (f : Frame) (a : Bool) (b b' : Books) → MetIf a slot
 met_stays slots f true b b' (inl a) = answered_stays slots f b b' a
 met_stays slots f true b b' (inr l) = quiet_stays b.view b'.view l.quiet
 met_stays slots f false b b' e = books_stay b b' e
+
+-- a response that was kept is met again
+pub again_stays : (slots w : ℕ) (b b' : Books) → MetKept slots w b b' → Stays b.view b'.view
+again_stays slots w b b' m = then_stays b.view m.seen b'.view (quiet_stays b.view m.seen m.quiet) (met_stays slots m.frame (is_asked slots m.frame) (record b { view = m.seen; early = remove b.early m.place }) b' m.met)
 
 pub frames_stay : (slots : ℕ) (fs : List Frame) (b b' : Books) → FramesMet slots fs b b' → Stays b.view b'.view
 frames_stay slots [] b b' m = books_stay b b' m
@@ -52,7 +57,7 @@ module _ (code : ℕ) where
       by None l = ended_stays slot w.first b.view b'.view l.0.ended
       by (Some i) l = ended_stays slot w.first b.view b'.view l.3.ended
 
-  posted_stays : (answer : Posted Asked) (b b' : Books) → PostedTo code answer b b' → Stays b.view b'.view
+  pub posted_stays : (answer : Posted Asked) (b b' : Books) → PostedTo code answer b b' → Stays b.view b'.view
   posted_stays (HasLock k) b b' h = lost_stays k.slot (parts k.word.0) k.content b b' h
   posted_stays IsQueued b b' h = books_stay b b' h
   posted_stays (Gone found) b b' h = books_stay b b' h
@@ -133,7 +138,8 @@ module _ (q : Plan) (link code : ℕ) where
 
   posted_if : (a : Bool) (word : ℕ) (b b' : Books) → (a ≡ true → IsPost q link b.view word) → PostedIf a q.slots code word b b' → Posts b.view b'.view
   posted_if false word b b' post h = posts_none b.view b'.view (books_stay b b' h)
-  posted_if true word b b' post h = posts_then b.view h.seen b'.view (post_posts word b.view h.seen h.answer (post refl) h.posted) (posts_none h.seen b'.view (posted_stays code h.answer (record b { view = h.seen }) b' h.then_))
+  posted_if true word b b' post (inl m) = posts_none b.view b'.view (again_stays q.slots word b b' m)
+  posted_if true word b b' post (inr h) = posts_then b.view h.seen b'.view (post_posts word b.view h.seen h.answer (post refl) h.posted) (posts_none h.seen b'.view (posted_stays code h.answer (record b { view = h.seen }) b' h.then_))
 
   -- the word that was found is kept in mind
   pub post_found : (operation word : ℕ) (v : View Asked) → (at_word_link word == link) ≡ true → IsPost q link (with_kept (at_index q operation) false word v) word

@@ -1,7 +1,7 @@
 -- Whoever reads the links tells no call to have failed but with one of those codes.
 use Rattle.std.proofs.Common.{◌≡◌, ℕ, zero, suc, ◌⊎◌, inl, inr, Bool, true, false, List, [], ◌∷◌, ◌++◌, map, append_assoc, append-nil, Some, None, pos, negsuc, refl, ap, ◌∙◌, subst, sym}
 use Rattle.std.specs.Prelude.{Option, ℤ, position, ◌==◌}
-use Rattle.std.specs.List.{AllByRecursion}
+use Rattle.std.specs.List.{AllByRecursion, remove}
 use Rattle.sock_words.specs.Codes.{ERESPONSE}
 use Rattle.sock_words.specs.Words.{at_word_link}
 use Rattle.sock_words.specs.declared.at_word.AtWord.{AtWord}
@@ -115,7 +115,8 @@ module _ (code : ℕ) (loss : IsReadCode code) where
 
   posted_if : (a : Bool) (slots w : ℕ) (b b' : Books) → PostedIf a slots code w b b' → TellsCodes b b'
   posted_if false slots w b b' h = codes_same b b' h
-  posted_if true slots w b b' h = posted_to h.answer (record b { view = h.seen }) b' h.then_
+  posted_if true slots w b b' (inl m) = met_codes slots m.frame (is_asked slots m.frame) (record b { view = m.seen; early = remove b.early m.place }) b' m.met
+  posted_if true slots w b b' (inr h) = posted_to h.answer (record b { view = h.seen }) b' h.then_
 
   posted_at : (p : Plan) (link operation : ℕ) (found : Option AtWord) (b b' : Books) → PostedAt p link code operation found b b' → TellsCodes b b'
   posted_at p link operation None b b' h = codes_same b b' h

@@ -1,7 +1,7 @@
 -- How each call ended of which a reader told, or whoever ended those that were left: by a response that a link gave, or with a code, and then by what is known of whoever posted it.
 use Rattle.std.proofs.Common.{◌≡◌, ℕ, suc, ◌<◌, Bool, true, false, List, [], ◌∷◌, ◌++◌, append_assoc, append-nil, ◌⊎◌, inl, inr, Some, None, refl, sym, ap, ◌∙◌, subst, arith}
 use Rattle.std.specs.Prelude.{Option, slice_get, position, ◌==◌}
-use Rattle.std.specs.List.{AllByRecursion}
+use Rattle.std.specs.List.{AllByRecursion, remove}
 use Rattle.std.proofs.lemmas.List.Quantifiers.{position-Some}
 use Rattle.std.proofs.lemmas.Nat.{div-add-mod'}
 use Rattle.sock_words.specs.Words.{at_word_link}
@@ -24,7 +24,7 @@ use Rattle.call_table.specs.Responses.{ending_of, is_early}
 use Rattle.attempts_told.specs.call_whys.specs.expire_told.specs.rpc_client.specs.declared.acting.Told.{Told}
 use Rattle.attempts_told.specs.call_whys.specs.expire_told.specs.call_deeds.specs.rpc_reader.specs.Books.{Books, EndedAs, ToldBy, id_of}
 use Rattle.attempts_told.specs.call_whys.specs.expire_told.specs.call_deeds.specs.rpc_reader.specs.Met.{has_response, slot_in, version_in, is_asked, is_for, AnsweredBy, LackedBy, KeptIf, MetIf, FrameMet, FramesMet}
-use Rattle.attempts_told.specs.call_whys.specs.expire_told.specs.call_deeds.specs.rpc_reader.specs.Posting.{LostBy, LockLost, PostedTo, PostedIf, PostedAt, PostedAll, call_at, attempt_at}
+use Rattle.attempts_told.specs.call_whys.specs.expire_told.specs.call_deeds.specs.rpc_reader.specs.Posting.{LostBy, LockLost, PostedTo, MetKept, PostedIf, PostedAt, PostedAll, call_at, attempt_at}
 use Rattle.attempts_told.specs.call_whys.specs.expire_told.specs.call_deeds.specs.rpc_reader.specs.Resting.{HadEnded, EndedLast, OneEnded, RestEnded}
 use Rattle.attempts_told.specs.call_whys.specs.expire_told.specs.call_deeds.specs.rpc_reader.proofs.Frames.{asked_responds}
 use Rattle.attempts_told.specs.call_whys.specs.expire_told.specs.call_told.specs.Answers.{IsGiven, AreGiven, IsGivenResponse}
@@ -32,7 +32,7 @@ use Rattle.attempts_told.specs.call_whys.specs.expire_told.specs.call_told.specs
 use Rattle.attempts_told.specs.call_whys.specs.expire_told.specs.call_told.proofs.Ends.{HasLocked, got_locked}
 use Rattle.attempts_told.specs.call_whys.specs.expire_told.specs.call_told.proofs.Given.{given_response, for_is}
 use Rattle.attempts_told.specs.call_whys.specs.expire_told.specs.call_told.proofs.Lists.{all_both, all_but, all_at, all_then, elem_or}
-use Rattle.failed_told.proofs.Posts.{IsPost, post_later, post_found}
+use Rattle.failed_told.proofs.Posts.{IsPost, post_later, post_found, again_stays}
 use Rattle.failed_told.proofs.Views.{Later, later_then, same_stays, quiet_stays, kept_stays, ended_stays, got_stays, did_later}
 
 -- the seat found a word of this slot open and locked it, with this call as its content; w is the word of the lock
@@ -156,6 +156,14 @@ module _ (q : Plan) (links : ℕ) (gave : ℕ → List ℕ) (code : ℕ) (Known 
         by true e (inl a) = answered_step f b b' (given (asked_responds q.slots f e)) a
         by true e (inr l) = lacked_step f b b' (given (asked_responds q.slots f e)) l
 
+    -- a response that was kept is met again
+    pub again_step : (w : ℕ) (b b' : Books) → MetKept q.slots w b b' → Step b b'
+    again_step w b b' m = let u : Books = record b { view = m.seen; early = remove b.early m.place } in record {
+      later = (again_stays q.slots w b b' m).later;
+      tells = λ given. (step_then b u b' (step_quiet b u (quiet_stays b.view m.seen m.quiet).later refl (all_but (λ x. IsGiven links gave (frame_of x)) m.place b.early))
+          (frame_step m.frame u b' (λ some_. all_at (λ x. IsGiven links gave (frame_of x)) b.early m.place m.frame given m.there) m.met)).tells given;
+    }
+
     pub frames_step : (fs : List Frame) (b b' : Books) → ((m : ℕ) (f : Frame) → slice_get fs m ≡ Some f → has_response f.meta.response ≡ true → IsGiven links gave (frame_of f)) → FramesMet q.slots fs b b' → Step b b'
     frames_step [] b b' given m = step_same b b' m
     frames_step (f ∷ fs) b b' given m = step_then b m.0 b' (frame_step f b m.0 (given 0 f refl) m.1) (frames_step fs m.0 b' (λ i x e. given (suc i) x e) m.2)
@@ -234,7 +242,8 @@ module _ (q : Plan) (links : ℕ) (gave : ℕ → List ℕ) (code link : ℕ) wh
 
   posted_if : (a : Bool) (word : ℕ) (b b' : Books) → (a ≡ true → IsPost q link b.view word) → PostedIf a q.slots code word b b' → Step_by b b'
   posted_if false word b b' is h = same_by b b' h
-  posted_if true word b b' is h =
+  posted_if true word b b' is (inl m) = again_step q links gave code Known (for_later q link) word b b' m
+  posted_if true word b b' is (inr h) =
       let u : Books = record b { view = h.seen } in let later = post_seen b.view h.seen word h.answer h.posted in
       then_by b u b' (step_seen q links gave code Known (for_later q link) b h.seen later) (posted_to b.view word h.answer u b' (post_later q link b.view h.seen later word (is refl)) h.posted h.then_)
 

@@ -1,5 +1,5 @@
 -- The calls whose last attempt is on the link whose reading has ended.
-use Rattle.std.specs.Prelude.{◌≡◌, ◌+◌, ◌*◌, ◌==◌, ℕ, Bool, true, false, List, [], ◌∷◌, Option, Some, None, if◌then◌else◌, position, nat_lt}
+use Rattle.std.specs.Prelude.{◌≡◌, ◌+◌, ◌*◌, ◌==◌, ◌⊎◌, ℕ, Bool, true, false, List, [], ◌∷◌, Option, Some, None, if◌then◌else◌, position, nat_lt}
 use Rattle.std.specs.List.{remove}
 use mathlib.Core.Option.{some}
 use lib.ListN.{get_elem?}
@@ -12,13 +12,14 @@ use Rattle.corr_core.specs.declared.marks.View.{View}
 use Rattle.id_rule.specs.Lawful.{at_index, with_kept}
 use Rattle.corr_id.specs.declared.posts.Posted.{Posted}
 use Rattle.corr_id.specs.declared.posts.Posted.TheVariants as posted
+use Rattle.corr_id.specs.Calls.{slot_of, version_of, Quiet, Found, HasId}
 use Rattle.corr_id.specs.Posts.{PostOk}
 use Rattle.sock_message.specs.Asked.{Asked}
 use Rattle.prpc_frame.specs.Meaning.{frame_of}
 use Rattle.prpc_frame.specs.declared.frame.Frame.{Frame}
 use Rattle.call_table.specs.Responses.{ending_of}
 use Rattle.rpc_reader.specs.Books.{Books, EndedAs, id_of}
-use Rattle.rpc_reader.specs.Met.{is_for}
+use Rattle.rpc_reader.specs.Met.{is_for, FrameMet}
 
 -- the first kept response of an attempt of the id ends its call; where none was kept, the code does
 abbrev pub LostBy : ℕ → Parts → Asked → ℕ → Option ℕ → Books → Books → Type 0
@@ -40,16 +41,45 @@ call_at w = at_word_slot w * 4294967296 + at_word_first w
 abbrev pub attempt_at : ℕ → Option ℕ
 attempt_at w = if nat_lt (at_word_attempt w) 7 then Some (at_word_attempt w) else None
 
+-- the seat found this word of the id that the at word names, and it has the id
+abbrev pub FoundOf : ℕ → ℕ → View Asked → Type 0
+FoundOf w word v = Found (slot_of (call_at w)) word v × HasId (parts word) (version_of (call_at w))
+
+-- the first response that is kept for an attempt of the id with that word
+abbrev pub kept_at : ℕ → ℕ → List Frame → Option ℕ
+kept_at w word early = position (is_for (slot_of (call_at w)) (parts word)) early
+
+-- where the code waits in the queue of the id, no response of the id was kept
+abbrev pub KeptNone : Posted Asked → ℕ → View Asked → List Frame → Type 0
+KeptNone posted.Queued w seen early = (word : ℕ) × FoundOf w word seen × (kept_at w word early ≡ None)
+KeptNone other w seen early = Unit {0}
+
 -- the code was posted to the id for that attempt
 pub record PostedLast (slots code w : ℕ) (b b' : Books) : Type 0 where
   pub answer : Posted Asked
   pub seen : View Asked
   pub posted : PostOk slots b.view seen (call_at w) code (attempt_at w) answer
+  pub none_kept : KeptNone answer w seen b.early
   pub then_ : PostedTo code answer (record b { view = seen }) b'
+
+-- in place of that: a response of the id was kept, and the first one is met again
+pub record MetKept (slots w : ℕ) (b b' : Books) : Type 0 where
+  pub seen : View Asked
+  pub quiet : Quiet b.view seen
+  pub word : ℕ
+  pub found : FoundOf w word seen
+  pub place : ℕ
+  pub first : kept_at w word b.early ≡ Some place
+  pub frame : Frame
+  pub there : get_elem? b.early place ≡ some frame
+  pub met : FrameMet slots frame (record b { view = seen; early = remove b.early place }) b'
+
+abbrev pub SeenTo : ℕ → ℕ → ℕ → Books → Books → Type 0
+SeenTo slots code w b b' = MetKept slots w b b' ⊎ PostedLast slots code w b b'
 
 -- where the at word names this link
 abbrev pub PostedIf : Bool → ℕ → ℕ → ℕ → Books → Books → Type 0
-PostedIf true slots code w b b' = PostedLast slots code w b b'
+PostedIf true slots code w b b' = SeenTo slots code w b b'
 PostedIf false slots code w b b' = b' ≡ b
 
 -- what the at word of the call of this operation led to

@@ -1,18 +1,19 @@
 // The calls that wait for a link whose reading has ended.
-ghost use Rattle.std.specs.Prelude.{◌≡◌, ◌≢◌, ◌==◌, ◌<◌, ◌≤◌, ℕ, [], All, MatchOption, position};
-ghost use Rattle.sock_words.specs.Words.{at_word_link};
+ghost use Rattle.std.specs.Prelude.{◌≡◌, ◌≢◌, ◌==◌, ◌<◌, ◌≤◌, ℕ, [], true, false, None, All, MatchOption, position};
+ghost use Rattle.sock_words.specs.Words.{at_word_link, at_word_slot, at_word_first};
 ghost use Rattle.corr_core.specs.Word.{parts};
 ghost use Rattle.corr_core.specs.declared.marks.Hand.TheVariants.{Empty};
 ghost use Rattle.id_rule.specs.Lawful.{tokens_in};
-ghost use Rattle.corr_id.specs.Calls.{Locks};
+ghost use Rattle.corr_id.specs.Calls.{slot_of, version_of, HasId, LacksId, Locks};
 ghost use Rattle.corr_id.specs.Seats.{Sits};
 ghost use Rattle.rpc_reader.specs.Seats.{IsOpen, Rests};
 ghost use Rattle.rpc_reader.specs.Books.{books};
 ghost use Rattle.rpc_reader.specs.Met.{is_for as answers};
-ghost use Rattle.rpc_reader.specs.Posting.{LockLost, attempt_at, call_at, PostedLast, PostedOne, PostedAll};
+ghost use Rattle.rpc_reader.specs.Posting.{LockLost, attempt_at, call_at, FoundOf, kept_at, PostedLast, SeenTo, PostedOne, PostedAll};
 
 use crate::books::{AnswerSeat, has_response};
 use crate::ending::{end_answered, end_failed};
+use crate::meeting::meet;
 use call_table::{Call, has_version};
 use corr_id::{IdLock, IdTable, Posted};
 use prpc_frame::Frame;
@@ -71,18 +72,29 @@ fn attempt_of(word: AtWord) -> Option<u8>
 
 // The id that it names.
 fn id_at(word: AtWord) -> u64
-    ensures { result ≡ call_at word.0 }
+    ensures id { result ≡ call_at word.0 }
+    ensures of_parts { (slot_of result ≡ at_word_slot word.0) × (version_of result ≡ at_word_first word.0) }
 {
     u64::from(word.slot()) * 4_294_967_296 + u64::from(word.first())
 }
 
-// The code is posted to the id that this at word names, for its attempt.
-fn post_last<R: Wait>(rt: &R, ids: &IdTable<Call>, calls: &mut AnswerSeat, code: u16, word: AtWord)
+// The code is posted to the id that this at word names, for its attempt. Its word was found before, and no response of it is kept.
+fn post_code<R: Wait>(
+    rt: &R,
+    ids: &IdTable<Call>,
+    calls: &mut AnswerSeat,
+    code: u16,
+    word: AtWord,
+    found: IdWord,
+)
     requires seat { IsOpen ids.now.table.shared.table_id calls.old.seat }
     requires code { (0 < code) × (code < 4096) }
+    requires found { FoundOf word.0 found.0 calls.old.seat.me.0 }
+    requires none_kept { kept_at word.0 found.0 calls.old.early.items ≡ None }
     ensures rest { Rests calls.old.seat calls.new.seat }
     ensures posted { PostedLast ids.now.plan.slots code word.0 (books calls.old) (books calls.new) }
 {
+    let _ = found;
     let attempt = attempt_of(word);
     match ids.post(rt, &mut calls.seat, id_at(word), code, attempt) {
         Posted::Locked(lock) => end_lost(ids, calls, lock, code),
@@ -91,6 +103,35 @@ fn post_last<R: Wait>(rt: &R, ids: &IdTable<Call>, calls: &mut AnswerSeat, code:
             first: _,
             second: _,
         } => {}
+    }
+}
+
+// Whether the word is free, or begins with another version.
+fn lacks_id(word: IdWord, first: u32) -> bool
+    ensures lacks { result ≡ true → LacksId (parts word.0) first }
+    ensures has { result ≡ false → HasId (parts word.0) first }
+{
+    word.first() != first || word.state() == IdWord::FREE
+}
+
+// The call that this at word names, unless its id has ended: the first response that was kept for it is met again, which waits
+// while the id is locked; where none was kept, the code is posted.
+fn post_last<R: Wait>(rt: &R, ids: &IdTable<Call>, calls: &mut AnswerSeat, code: u16, word: AtWord)
+    requires seat { IsOpen ids.now.table.shared.table_id calls.old.seat }
+    requires code { (0 < code) × (code < 4096) }
+    ensures rest { Rests calls.old.seat calls.new.seat }
+    ensures seen { SeenTo ids.now.plan.slots code word.0 (books calls.old) (books calls.new) }
+{
+    let found = IdWord::from_word(ids.word(&mut calls.seat, id_at(word)));
+    if lacks_id(found, word.first()) {
+        return;
+    }
+    match first_for(calls.early.as_slice(), word.slot(), found) {
+        Some(at) => {
+            let frame = calls.early.remove(at);
+            meet(rt, ids, calls, frame);
+        }
+        None => post_code(rt, ids, calls, code, word, found),
     }
 }
 
@@ -117,8 +158,8 @@ fn post_one<R: Wait>(
     }
 }
 
-/// Each of these calls whose last attempt is on this link gets the code with which its reading has ended: where its id is open, a
-/// response that was kept for it ends it, or the code does.
+/// Each of these calls whose last attempt is on this link gets the code with which its reading has ended, unless a response was
+/// kept for it: that ends it then.
 pub fn post_all<R: Wait>(
     rt: &R,
     ids: &IdTable<Call>,

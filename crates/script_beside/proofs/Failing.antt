@@ -1,10 +1,10 @@
 -- Why each call of a script failed whose links were read beside its clients, and why each attempt of one behind the first was made.
-use Rattle.std.proofs.Common.{◌≡◌, ℕ, ◌<◌, ◌≤◌, ◌⊎◌, inl, inr, List, [], ◌∷◌, ◌++◌, length, map, replicate, slice_get, Contains, true, Option, Some, None, Ok, refl, sym, ap, ◌∙◌, subst, arith}
+use Rattle.std.proofs.Common.{◌≡◌, ℕ, zero, suc, false, ◌+◌, ◌*◌, ◌<◌, ◌≤◌, ◌⊎◌, inl, inr, List, [], ◌∷◌, ◌++◌, length, map, replicate, slice_get, Contains, true, Option, Some, None, Ok, refl, sym, ap, ◌∙◌, subst, arith}
 use Rattle.std.specs.Prelude.{IfSome}
 use Rattle.std.specs.List.{AllByRecursion, flat_map}
 use Rattle.std.proofs.lemmas.List.{map-append, length-map}
 use Rattle.std.proofs.lemmas.Option.{slice_get_within}
-use mathlib.Core.Option.{some}
+use mathlib.Core.Option.{some, some-injective, some-ne-none}
 use lib.ListN.{get_elem?}
 use Rattle.sock_io.specs.declared.link.Out.{Ghosts}
 use Rattle.sock_io.specs.declared.link.Ends.{Ends}
@@ -20,7 +20,7 @@ use Rattle.brpc_model.specs.Causes.{HasFault}
 use Rattle.brpc_model.specs.Frame.{Frame}
 use Rattle.brpc_model.specs.Stream.{stream}
 use Rattle.prpc_frame.specs.declared.frame.Frame.{Frame as Answer}
-use Rattle.corr_core.specs.Law.{total}
+use Rattle.corr_core.specs.Law.{total, is_ended}
 use Rattle.corr_core.specs.Word.{code_of}
 use Rattle.corr_core.specs.declared.marks.Kept.{Kept}
 use Rattle.corr_core.specs.declared.marks.Note.{Note}
@@ -28,6 +28,7 @@ use Rattle.corr_core.specs.declared.marks.Noted.{Noted}
 use Rattle.corr_core.specs.declared.marks.Plan as id_plan
 use Rattle.corr_core.specs.declared.marks.View.{View}
 use Rattle.script_calls.specs.id_rule.specs.Lawful.{at_index, notes_of as notes_in}
+use Rattle.corr_core.proofs.Notes.{only-at}
 use Rattle.corr_id.proofs.Seats.{total_append}
 use Rattle.sock_message.specs.Asked.{Asked, name_of}
 use Rattle.seat_programs.specs.declared.task.Op.{Op}
@@ -38,7 +39,7 @@ use Rattle.seat_programs.specs.Told.{IsTask, Became}
 use Rattle.seat_programs.specs.ToldCalls.{Fixed, Order, FailedBy, WhyAgain, WhyExpire}
 use Rattle.rpc_client.specs.declared.acting.Told.{Told}
 use Rattle.rpc_reader.specs.Books.{Books}
-use Rattle.call_run.specs.Readers.{LinkReader}
+use Rattle.call_run.specs.Readers.{LinkReader, IsReader}
 use Rattle.call_run.specs.Threads.{Thread}
 use Rattle.script_calls.specs.report_fits.proofs.Sizes.{keeps_limits}
 use Rattle.script_calls.specs.report_fits.specs.Ends.{EndsEarly}
@@ -57,6 +58,7 @@ use Rattle.script_calls.specs.call_whys.specs.sock_deeds.proofs.Whole.{log_accep
 use Rattle.script_calls.specs.attempts_told.specs.Attempts.{last_attempt}
 use Rattle.script_calls.specs.failed_told.specs.Ends.{ReadingEnded, EndedByReading, AtFault, AtEnd, AtDrop, LeftOver}
 use Rattle.script_calls.specs.failed_told.proofs.Again.{again_with}
+use Rattle.script_calls.specs.failed_told.proofs.Alone.{NoResponse, told_alone, waits_alone}
 use Rattle.script_calls.specs.failed_told.proofs.ByLinks.{IsPosted, told_why, by_reader}
 use Rattle.script_calls.specs.failed_told.proofs.Codes.{IsReadCode}
 use Rattle.script_calls.specs.failed_told.proofs.DropsTold.{drops_with, expires_with}
@@ -69,7 +71,13 @@ use Rattle.script_calls.specs.failed_told.proofs.ReaderCodes.{StoredByReader}
 use Rattle.script_calls.specs.failed_told.proofs.ReaderStores.{setter}
 use Rattle.script_calls.specs.failed_told.proofs.Reading.{notes_flat, rest_queues, readers_queue, queued_beside, others_beside}
 use Rattle.script_calls.specs.failed_told.proofs.Tells.{ToldEnd, IsPostFor, rest_step}
+use Rattle.script_calls.specs.failed_told.proofs.Unmet.{HasMet, has_asked, reader_waits, reader_ends, AnyMet, any_asked, HasTaken, rest_ends}
 use Rattle.script_calls.specs.failed_told.proofs.Views.{Stays, queued_in}
+use Rattle.script_calls.specs.call_whys.specs.call_told.proofs.Unanswered.{CodeEnd}
+use Rattle.script_calls.specs.call_whys.specs.call_told.specs.Once.{ends_of}
+use Rattle.rpc_reader.specs.Posting.{call_at}
+use Rattle.sock_words.specs.Words.{at_word_link}
+use Rattle.std.proofs.lemmas.Nat.{div-add-mod'}
 use Rattle.script_calls.specs.Seats.{IdSeat}
 use Rattle.script_calls.specs.Told.{outcomes_of}
 use Rattle.script_calls.proofs.Clients as clients
@@ -88,6 +96,25 @@ use Rattle.script_beside.proofs.Attempts as attempts
 use Rattle.script_beside.proofs.Sockets as sockets
 use Rattle.script_beside.proofs.Telling as telling
 use Rattle.script_beside.proofs.WideCalls.{failure_still, again_still, expire_still}
+
+-- what stands in a list stands in a longer one, and in the lists put one behind the other
+in_front : {A : Type 0} (xs ys : List A) (n : ℕ) (x : A) → get_elem? xs n ≡ some x → get_elem? (xs ++ ys) n ≡ some x
+in_front [] ys n x e = absurd (some-ne-none x (sym e))
+in_front (y ∷ xs) ys zero x e = e
+in_front (y ∷ xs) ys (suc n) x e = in_front xs ys n x e
+
+behind_it : {A : Type 0} (xs ys : List A) (x : A) → (n : ℕ) × (get_elem? ys n ≡ some x) → (n : ℕ) × (get_elem? (xs ++ ys) n ≡ some x)
+behind_it [] ys x h = h
+behind_it (y ∷ xs) ys x h = let w = behind_it xs ys x h in (suc w.0, w.1)
+
+early_at : {O : Type 0} {g : Ghosts O} (xs : List (LinkReader g)) (j n : ℕ) (x : LinkReader g) (f : Answer) → get_elem? xs j ≡ some x → get_elem? x.books.early n ≡ some f → (m : ℕ) × (get_elem? (flat_map (λ (fs : List Answer). fs) (map (λ (y : LinkReader g). y.books.early) xs)) m ≡ some f)
+early_at [] j n x f e at = absurd (some-ne-none x (sym e))
+early_at {g = g} (y ∷ xs) zero n x f e at = (n, in_front y.books.early (flat_map (λ (fs : List Answer). fs) (map (λ (z : LinkReader g). z.books.early) xs)) n f (subst (λ (z : LinkReader g). get_elem? z.books.early n ≡ some f) (sym (some-injective y x e)) at))
+early_at {g = g} (y ∷ xs) (suc j) n x f e at = behind_it y.books.early (flat_map (λ (fs : List Answer). fs) (map (λ (z : LinkReader g). z.books.early) xs)) f (early_at xs j n x f e at)
+
+all_places : {A : Type 0} (Q : A → Type 0) (xs : List A) → ((j : ℕ) (x : A) → get_elem? xs j ≡ some x → Q x) → AllByRecursion Q xs
+all_places Q [] h = tt
+all_places Q (x ∷ xs) h = (h 0 x refl, all_places Q xs (λ j y at. h (suc j) y at))
 
 module _ (P : Type 0) {O I : Type 0} (g : Ghosts O) (out : O → OutState) (inn : I → InState) (bytes : List ℕ) (script : List Item) (reads : script_of bytes ≡ Ok script) (text : List ℕ) (links : List LinkEnd) (r : IsBesideRun P g out inn script text links) where
   abbrev p : Plan
@@ -123,7 +150,7 @@ module _ (P : Type 0) {O I : Type 0} (g : Ghosts O) (out : O → OutState) (inn 
   abbrev drun : DeedRun g out p all outcomes r.places r.left.vrefs r.left.outs
   drun = sockets.run P g out inn bytes script reads text links r
 
-  all_read : AllRead p q (calls script) readers
+  pub all_read : AllRead p q (calls script) readers
   all_read = each_read p q (calls script) 0 (opens script) readers r.left.readers_are
 
   -- ## Codes
@@ -166,6 +193,36 @@ module _ (P : Type 0) {O I : Type 0} (g : Ghosts O) (out : O → OutState) (inn 
       let a = term h (map view_of seats_) j x.ids.me.0 (mapped_at view_of seats_ j x.ids (mapped_at (λ (y : LinkReader g). y.ids) readers j x at)) in
       let b = total_append h own_ids (map view_of seats_) in let c = flat_total f (λ (v : View Asked). v.kept) (own_ids ++ map view_of seats_) in
       let d = ap (total f) (telling.taken P g out inn bytes script reads text links r) in let e = rest_quiet.later.kept f in omega (arith, a, b, c, d, e)
+
+  -- that it is a reader, and what it met one of them did
+  abbrev pub AnyMetBy : ℕ → LinkReader g → Type 0
+  AnyMetBy j y = (is : IsReader p q (calls script) y) × ((f : Answer) → HasMet p q (calls script) y is f → AnyMet p q (calls script) readers all_read f)
+
+  -- whoever ends the calls that are left begins with the notes of each reader, and with the responses that it keeps
+  has_taken : AllByRecursion (HasTaken p q (calls script) main) readers
+  has_taken = all_places (HasTaken p q (calls script) main) readers (λ j x at. (
+    (λ slot f. let w : View Asked → ℕ = λ v. total f (notes_in slot v.notes) in let views : List (View Asked) = map (λ (y : LinkReader g). y.ids.me.0) readers in
+        let a = term w views j x.ids.me.0 (mapped_at (λ (y : LinkReader g). y.ids.me.0) readers j x at) in
+        let b = total_append w own_ids views in let c = notes_flat slot f (own_ids ++ views) in let d = ap (λ (l : List (Noted Asked)). total f (notes_in slot l)) notes_are in
+        let k = ap (λ (v : View Asked). total f (notes_in slot v.notes)) (at_place j x at).is.view_is in omega (arith, a, b, c, d, k)),
+    (λ f n e. let w = early_at readers j n x f at e in (w.0, ap (λ (l : List (List Answer)). get_elem? (flat_map (λ (fs : List Answer). fs) l) w.0) (sym r.left.kept_is) ∙ w.1)),
+  ))
+
+  rest_calm : r.rest.last.starved ≡ true → ⊥
+  rest_calm h = let z : true ≡ false = sym h ∙ r.rest.calm in absurd (cc)
+
+  -- what it told with 1014
+  pub rest_codes : AllByRecursion (CodeEnd q.slots (AnyMet p q (calls script) readers all_read) (any_asked p q (calls script) readers all_read) last) r.last
+  rest_codes =
+      let t = rest_ends p q (calls script) readers all_read main has_taken EEOF (calls script) r.rest.last rest_calm r.rest.rest in
+      subst (AllByRecursion (CodeEnd q.slots (AnyMet p q (calls script) readers all_read) (any_asked p q (calls script) readers all_read) last)) (sym (r.rest.told_is ∙ t.told)) t.each
+
+  -- so no link whose reading ended with 1014 gave a response of such a call
+  pub rest_alone : (i id : ℕ) (x : Told) → get_elem? r.last i ≡ some x → x.outcome ≡ CallFailed id EEOF → (j : ℕ) (y : LinkReader g) → get_elem? readers j ≡ some y → (is : AnyMetBy j y) → ReadEnded p q (calls script) y is.0 EEOF → NoResponse q notes last.kept r.rest.words r.rest.closing id (reader_gave p q (calls script) y is.0)
+  rest_alone i id x at outcome j y here is ended =
+      told_alone q notes last.kept r.rest.words r.rest.closing p (calls script) y is.0 ended (λ slot f. let a = reader_notes j y here slot f in let b = ap (λ (v : View Asked). total f (notes_in slot v.notes)) is.0.view_is in omega (arith, a, b))
+      (AnyMet p q (calls script) readers all_read) (any_asked p q (calls script) readers all_read) is.1 last (λ slot f. omega arith) id
+      (all_at (CodeEnd q.slots (AnyMet p q (calls script) readers all_read) (any_asked p q (calls script) readers all_read) last) r.last i x rest_codes at id outcome)
 
   -- the link of a reader as it was given back
   record GivenBack (j : ℕ) (x : LinkReader g) : Type 0 where
@@ -241,22 +298,32 @@ module _ (P : Type 0) {O I : Type 0} (g : Ghosts O) (out : O → OutState) (inn 
           | inr e ↦ inr (e.0, (end_of (out b.end.out) (inn b.end.inn), b.link, subst (λ (i : InState). IfSome i.closed (λ closed. closed ≡ true) ⊎ ShowsEarly (gave j) i) (sym b.half) e.1))
         ])
 
+    -- the link that a word names gave no response of the call that the word names
+    abbrev Alone : ℕ → Type 0
+    Alone word = NoResponse q notes last.kept r.rest.words r.rest.closing (call_at word) (gave (at_word_link word))
+
+    alone_by : (j : ℕ) (x : LinkReader g) (h : HasPlaceHere j x) (word id : ℕ) → at_word_link word ≡ x.link → id ≡ call_at word → NoResponse q notes last.kept r.rest.words r.rest.closing id (reader_gave p q (calls script) x h.is) → Alone word
+    alone_by j x h word id link same none_ =
+        let l = h.link_is in let at : j ≡ at_word_link word = omega (arith, l, link) in
+        subst (λ (k : ℕ). NoResponse q notes last.kept r.rest.words r.rest.closing (call_at word) (gave k)) at
+        (subst (λ (b : List ℕ). NoResponse q notes last.kept r.rest.words r.rest.closing (call_at word) b) (its_bytes j x h) (subst (λ (i : ℕ). NoResponse q notes last.kept r.rest.words r.rest.closing i (reader_gave p q (calls script) x h.is)) same none_))
+
     abbrev EndedLink : ℕ → Asked → ℕ → Type 0
     EndedLink o asked code = EndedHere r.left.ran (sockets.are P g out inn bytes script reads text links r) (sockets.may P g out inn bytes script reads text links r) notes last.kept r.rest.words r.rest.closing (sockets.have P g out inn bytes script reads text links r) (telling.keeps P g out inn bytes script reads text links r) outcomes
-        (sockets.reports P g out inn bytes script reads text links r).said (telling.said_ended P g out inn bytes script reads text links r) (attempts.later P g out inn bytes script reads text links r) (attempts.are_ids P g out inn bytes script reads text links r).made drun seats refl (sockets.differ P g out inn bytes script reads text links r) gave (sockets.low P g out inn bytes script reads text links r) few_slots few_links bounds Reads read_code o asked code
+        (sockets.reports P g out inn bytes script reads text links r).said (telling.said_ended P g out inn bytes script reads text links r) (attempts.later P g out inn bytes script reads text links r) (attempts.are_ids P g out inn bytes script reads text links r).made drun seats refl (sockets.differ P g out inn bytes script reads text links r) gave (sockets.low P g out inn bytes script reads text links r) few_slots few_links bounds Reads Alone read_code o asked code
 
     abbrev DroppedLink : ℕ → Asked → ℕ → Type 0
     DroppedLink o asked code = DroppedHere r.left.ran (sockets.are P g out inn bytes script reads text links r) (sockets.may P g out inn bytes script reads text links r) notes last.kept r.rest.words r.rest.closing (sockets.have P g out inn bytes script reads text links r) (telling.keeps P g out inn bytes script reads text links r) outcomes
-        (sockets.reports P g out inn bytes script reads text links r).said (telling.said_ended P g out inn bytes script reads text links r) (attempts.later P g out inn bytes script reads text links r) (attempts.are_ids P g out inn bytes script reads text links r).made drun seats refl (sockets.differ P g out inn bytes script reads text links r) gave (sockets.low P g out inn bytes script reads text links r) few_slots few_links bounds Reads read_code o asked code
+        (sockets.reports P g out inn bytes script reads text links r).said (telling.said_ended P g out inn bytes script reads text links r) (attempts.later P g out inn bytes script reads text links r) (attempts.are_ids P g out inn bytes script reads text links r).made drun seats refl (sockets.differ P g out inn bytes script reads text links r) gave (sockets.low P g out inn bytes script reads text links r) few_slots few_links bounds Reads Alone read_code o asked code
 
     abbrev QueuedLink : ℕ → ℕ → ℕ → Type 0
     QueuedLink i first e = QueuedHere r.left.ran (sockets.are P g out inn bytes script reads text links r) (sockets.may P g out inn bytes script reads text links r) notes last.kept r.rest.words r.rest.closing (sockets.have P g out inn bytes script reads text links r) (telling.keeps P g out inn bytes script reads text links r) outcomes
-        (sockets.reports P g out inn bytes script reads text links r).said (telling.said_ended P g out inn bytes script reads text links r) (attempts.later P g out inn bytes script reads text links r) (attempts.are_ids P g out inn bytes script reads text links r).made drun seats refl (sockets.differ P g out inn bytes script reads text links r) gave (sockets.low P g out inn bytes script reads text links r) few_slots few_links bounds Reads read_code i first e
+        (sockets.reports P g out inn bytes script reads text links r).said (telling.said_ended P g out inn bytes script reads text links r) (attempts.later P g out inn bytes script reads text links r) (attempts.are_ids P g out inn bytes script reads text links r).made drun seats refl (sockets.differ P g out inn bytes script reads text links r) gave (sockets.low P g out inn bytes script reads text links r) few_slots few_links bounds Reads Alone read_code i first e
 
     -- a word that a reader found, with its link
     abbrev PostedLink : ℕ → ℕ → Type 0
     PostedLink word code = IsPosted r.left.ran (sockets.are P g out inn bytes script reads text links r) (sockets.may P g out inn bytes script reads text links r) notes last.kept r.rest.words r.rest.closing (sockets.have P g out inn bytes script reads text links r) (telling.keeps P g out inn bytes script reads text links r) outcomes
-        drun seats refl (sockets.differ P g out inn bytes script reads text links r) gave (log_accepted drun (sockets.differ P g out inn bytes script reads text links r) (λ k. [])) few_slots few_links (asked_so r.left.ran (sockets.are P g out inn bytes script reads text links r) (sockets.may P g out inn bytes script reads text links r) notes last.kept r.rest.words r.rest.closing (sockets.have P g out inn bytes script reads text links r) outcomes (attempts.later P g out inn bytes script reads text links r)) Reads word code
+        drun seats refl (sockets.differ P g out inn bytes script reads text links r) gave (log_accepted drun (sockets.differ P g out inn bytes script reads text links r) (λ k. [])) few_slots few_links (asked_so r.left.ran (sockets.are P g out inn bytes script reads text links r) (sockets.may P g out inn bytes script reads text links r) notes last.kept r.rest.words r.rest.closing (sockets.have P g out inn bytes script reads text links r) outcomes (attempts.later P g out inn bytes script reads text links r)) Reads Alone word code
 
     posted_by : (j : ℕ) (x : LinkReader g) → get_elem? readers j ≡ some x → (h : HasPlaceHere j x) (code : ℕ) → ReadEnded p q (calls script) x h.is code → (word : ℕ) → IsPost q x.link x.ids.me.0 word → PostedLink word code
     posted_by j x at h code ended word post = record {
@@ -265,15 +332,36 @@ module _ (P : Type 0) {O I : Type 0} (g : Ghosts O) (out : O → OutState) (inn 
       read = subst (λ (k : ℕ). Reads k code) (sym post.link_is) (read_by j x at h code ended);
     }
 
+    book_notes : (j : ℕ) (x : LinkReader g) → get_elem? readers j ≡ some x → (h : HasPlaceHere j x) (slot : ℕ) (f : Note Asked → ℕ) → total f (notes_in slot x.books.view.notes) ≤ total f (notes_in slot notes)
+    book_notes j x at h slot f = let a = reader_notes j x at slot f in let b = ap (λ (v : View Asked). total f (notes_in slot v.notes)) h.is.view_is in omega (arith, a, b)
+
+    -- what the clients noted besides
+    notes_besides : (j : ℕ) (x : LinkReader g) → get_elem? readers j ≡ some x → (h : HasPlaceHere j x) (slot : ℕ) (f : Note Asked → ℕ) → total f (notes_in slot x.books.view.notes) + total (λ (v : View Asked). total f (notes_in slot v.notes)) own_ids ≤ total f (notes_in slot notes)
+    notes_besides j x at h slot f =
+        let w : View Asked → ℕ = λ v. total f (notes_in slot v.notes) in let views : List (View Asked) = map (λ (y : LinkReader g). y.ids.me.0) readers in
+        let a = term w views j x.ids.me.0 (mapped_at (λ (y : LinkReader g). y.ids.me.0) readers j x at) in
+        let b = total_append w own_ids views in let c = notes_flat slot f (own_ids ++ views) in let d = ap (λ (l : List (Noted Asked)). total f (notes_in slot l)) notes_are in let e = rest_quiet.later.notes slot f in
+        let k = ap (λ (v : View Asked). total f (notes_in slot v.notes)) h.is.view_is in omega (arith, a, b, c, d, e, k)
+
     -- what no client queued, a reader did, with the code of its reading
     queued_so : (i first e : ℕ) → 0 < queued_in i first e notes → (0 < total (λ (v : View Asked). queued_in i first e v.notes) own_ids) ⊎ QueuedLink i first e
-    queued_so i first e there = elim (queued_beside own_ids (map (λ (x : LinkReader g). x.ids.me.0) readers) r.rest.main.me.0 last notes_are rest_quiet i first e there) [ inl own ↦ inl own | inr w ↦ inr (by w.0 w.1 w.2 w.3) ]
+    queued_so i first e_ there = elim (queued_beside own_ids (map (λ (x : LinkReader g). x.ids.me.0) readers) r.rest.main.me.0 last notes_are rest_quiet i first e_ there) [ inl own ↦ inl own | inr w ↦ inr (by w.0 w.1 w.2 w.3) ]
       where
-        by : (j : ℕ) (v : View Asked) → get_elem? (map (λ (x : LinkReader g). x.ids.me.0) readers) j ≡ some v → 0 < queued_in i first e v.notes → QueuedLink i first e
+        by : (j : ℕ) (v : View Asked) → get_elem? (map (λ (x : LinkReader g). x.ids.me.0) readers) j ≡ some v → 0 < queued_in i first e_ v.notes → QueuedLink i first e_
         by j v at some_ =
             let m = mapped_from (λ (x : LinkReader g). x.ids.me.0) readers j v at in let h = at_place j m.0 m.1 in
-            let w = reader_posts p q (calls script) m.0 h.is i first e (subst (λ (y : View Asked). 0 < queued_in i first e y.notes) (sym m.2) some_) in let post = w.2 in
-            record { word = post.word; code = w.0; posted = posted_by j m.0 m.1 h w.0 w.1 post.word post.post; slot_is = post.slot_is; first_is = post.first_is; error_is = post.error_is }
+            let w = reader_posts p q (calls script) m.0 h.is i first e_ (subst (λ (y : View Asked). 0 < queued_in i first e_ y.notes) (sym m.2) some_) in let post = w.2 in
+            record {
+              word = post.word;
+              code = w.0;
+              posted = posted_by j m.0 m.1 h w.0 w.1 post.word post.post;
+              slot_is = post.slot_is;
+              first_is = post.first_is;
+              error_is = post.error_is;
+              alone = λ was e. alone_by j m.0 h post.word (i * 4294967296 + first) post.post.link_is (let whole = div-add-mod' (call_at post.word) 4294967296 in let a = post.slot_is in let b = post.first_is in omega (arith, whole, a, b))
+                  (waits_alone q notes last.kept r.rest.words r.rest.closing p (calls script) m.0 h.is (subst (ReadEnded p q (calls script) m.0 h.is) e w.1) (book_notes j m.0 m.1 h) i first (let b = post.first_is in omega (arith, b))
+                  (reader_waits p q (calls script) m.0 h.is i first e_ (subst (λ (y : View Asked). 0 < queued_in i first e_ y.notes) (sym m.2 ∙ h.is.view_is) some_)) (let z = notes_besides j m.0 m.1 h i (is_ended first) in omega (arith, z, was)));
+            }
 
     -- in the words of what is told
     on_link : (number : ℕ) (asked : Asked) (code : ℕ) → EndedLink number asked code → WhyRead number asked code (last_attempt notes number)
@@ -318,6 +406,13 @@ module _ (P : Type 0) {O I : Type 0} (g : Ghosts O) (out : O → OutState) (inn 
 
     -- ### Calls that failed
 
+    -- whose end a client told, who noted it
+    ended_by : (c i : ℕ) (ts : List Told) (x : Told) → get_elem? r.ended c ≡ some ts → get_elem? ts i ≡ some x → (id code : ℕ) → x.outcome ≡ CallFailed id code → (slot first : ℕ) → id ≡ slot * 4294967296 + first → first < 4294967296
+        → 0 < total (λ (v : View Asked). total (is_ended first) (notes_in slot v.notes)) own_ids
+    ended_by c i ts x at there id code outcome slot first is low =
+        tellers.own_noted r.left.ran script r.left.tasks (sockets.are P g out inn bytes script reads text links r) last r.rest.words r.rest.closing (sockets.have P g out inn bytes script reads text links r) slot first low c i ts x at there
+        (ap (ends_of (slot * 4294967296 + first)) outcome ∙ only-at (slot * 4294967296 + first) id is)
+
     of_client : (c i : ℕ) (ts : List Told) (x : Told) → get_elem? r.ended c ≡ some ts → get_elem? ts i ≡ some x → (client number : ℕ) (asked : Asked) → IsOperation all outcomes client number (ops.Call asked) → (id code : ℕ) → x.number ≡ number → x.outcome ≡ CallFailed id code → FailedHere client number asked id code
     of_client c i ts x at there client n asked call id code number outcome =
         let own : IsOperation all outcomes client x.number (ops.Call asked) = subst (λ (m : ℕ). IsOperation all outcomes client m (ops.Call asked)) (sym number) call in
@@ -331,8 +426,8 @@ module _ (P : Type 0) {O I : Type 0} (g : Ghosts O) (out : O → OutState) (inn 
       where
         by_link : IsOperation all outcomes client x.number (ops.Call asked) → IsReadCode code → WhyRead x.number asked code (last_attempt notes x.number)
         by_link own read = elim (told_on r.left.ran (sockets.are P g out inn bytes script reads text links r) (sockets.may P g out inn bytes script reads text links r) notes last.kept r.rest.words r.rest.closing (sockets.have P g out inn bytes script reads text links r) (telling.keeps P g out inn bytes script reads text links r) outcomes
-            (sockets.reports P g out inn bytes script reads text links r).said (telling.said_ended P g out inn bytes script reads text links r) (attempts.later P g out inn bytes script reads text links r) (attempts.are_ids P g out inn bytes script reads text links r).made drun seats refl (sockets.differ P g out inn bytes script reads text links r) gave (sockets.low P g out inn bytes script reads text links r) few_slots few_links bounds Reads read_code queued_so
-            c i ts x at there id code outcome read client asked own) [
+            (sockets.reports P g out inn bytes script reads text links r).said (telling.said_ended P g out inn bytes script reads text links r) (attempts.later P g out inn bytes script reads text links r) (attempts.are_ids P g out inn bytes script reads text links r).made drun seats refl (sockets.differ P g out inn bytes script reads text links r) gave (sockets.low P g out inn bytes script reads text links r) few_slots few_links bounds Reads Alone read_code queued_so
+            c i ts x at there id code outcome (λ slot first e low. ended_by c i ts x at there id code outcome slot first e low) read client asked own) [
               | inl h ↦ on_link x.number asked code h
               | inr h ↦ on_drop x.number asked code read h
             ]
@@ -352,20 +447,23 @@ module _ (P : Type 0) {O I : Type 0} (g : Ghosts O) (out : O → OutState) (inn 
         let h = at_place c m.0 m.1 in
         let Ended : Told → Type 0 = ToldBy p q (calls script) m.0 h.is (length readers) gave in
         let w : Ended x = all_at Ended m.0.books.told i x (reader_tells p q (calls script) m.0 h.is (length readers) gave (given_one c m.0 m.1 h)) (ap (λ (l : List Told). get_elem? l i) m.2 ∙ there) in
-        by m.0 m.1 h w.0 w.1 w.2
+        by m.0 m.1 h (ap (λ (l : List Told). get_elem? l i) m.2 ∙ there) w.0 w.1 w.2
       where
-        by : (y : LinkReader g) → get_elem? readers c ≡ some y → (h : HasPlaceHere c y) (own : ℕ) → ReadEnded p q (calls script) y h.is own → ToldEnd q (length readers) gave own (IsPostFor q y.link) y.books.view x → FailedHere client x.number asked id code
-        by y here h own ended t =
+        by : (y : LinkReader g) → get_elem? readers c ≡ some y → (h : HasPlaceHere c y) → get_elem? y.books.told i ≡ some x → (own : ℕ) → ReadEnded p q (calls script) y h.is own → ToldEnd q (length readers) gave own (IsPostFor q y.link) y.books.view x → FailedHere client x.number asked id code
+        by y here h there_ own ended t =
             let view = h.is.view_is in
             let notes_ : (slot : ℕ) (f : Note Asked → ℕ) → total f (notes_in slot y.books.view.notes) ≤ total f (notes_in slot notes) = λ slot f. (let a = reader_notes c y here slot f in let b = ap (λ (v : View Asked). total f (notes_in slot v.notes)) view in omega (arith, a, b)) in
             elim (told_why r.left.ran (sockets.are P g out inn bytes script reads text links r) (sockets.may P g out inn bytes script reads text links r) notes last.kept r.rest.words r.rest.closing (sockets.have P g out inn bytes script reads text links r) (telling.keeps P g out inn bytes script reads text links r) outcomes
-            drun seats refl (sockets.differ P g out inn bytes script reads text links r) gave (log_accepted drun (sockets.differ P g out inn bytes script reads text links r) (λ k. [])) few_slots few_links (asked_so r.left.ran (sockets.are P g out inn bytes script reads text links r) (sockets.may P g out inn bytes script reads text links r) notes last.kept r.rest.words r.rest.closing (sockets.have P g out inn bytes script reads text links r) outcomes (attempts.later P g out inn bytes script reads text links r)) Reads
+            drun seats refl (sockets.differ P g out inn bytes script reads text links r) gave (log_accepted drun (sockets.differ P g out inn bytes script reads text links r) (λ k. [])) few_slots few_links (asked_so r.left.ran (sockets.are P g out inn bytes script reads text links r) (sockets.may P g out inn bytes script reads text links r) notes last.kept r.rest.words r.rest.closing (sockets.have P g out inn bytes script reads text links r) outcomes (attempts.later P g out inn bytes script reads text links r)) Reads Alone
             (length readers) few_readers (attempts.are_ids P g out inn bytes script reads text links r).made own (IsPostFor q y.link) y.books.view notes_ x t id code outcome client asked call (last_attempt notes x.number)) [
               | inl f ↦ inl f
               | inr l ↦ inr (on_link x.number asked code (subst (EndedLink x.number asked) l.0
                   (by_reader r.left.ran (sockets.are P g out inn bytes script reads text links r) (sockets.may P g out inn bytes script reads text links r) notes last.kept r.rest.words r.rest.closing (sockets.have P g out inn bytes script reads text links r) (telling.keeps P g out inn bytes script reads text links r) outcomes
-                  drun seats refl (sockets.differ P g out inn bytes script reads text links r) gave (log_accepted drun (sockets.differ P g out inn bytes script reads text links r) (λ k. [])) few_slots few_links (asked_so r.left.ran (sockets.are P g out inn bytes script reads text links r) (sockets.may P g out inn bytes script reads text links r) notes last.kept r.rest.words r.rest.closing (sockets.have P g out inn bytes script reads text links r) outcomes (attempts.later P g out inn bytes script reads text links r)) Reads
-                  y.link own y.books.view (λ word post. posted_by c y here h own ended word (subst (λ (v : View Asked). IsPost q y.link v word) (sym view) post)) x.number l.1 client asked call)))
+                  drun seats refl (sockets.differ P g out inn bytes script reads text links r) gave (log_accepted drun (sockets.differ P g out inn bytes script reads text links r) (λ k. [])) few_slots few_links (asked_so r.left.ran (sockets.are P g out inn bytes script reads text links r) (sockets.may P g out inn bytes script reads text links r) notes last.kept r.rest.words r.rest.closing (sockets.have P g out inn bytes script reads text links r) outcomes (attempts.later P g out inn bytes script reads text links r)) Reads Alone
+                  y.link own y.books.view (λ word post. posted_by c y here h own ended word (subst (λ (v : View Asked). IsPost q y.link v word) (sym view) post)) x.number l.1 client asked call
+                  (λ e. alone_by c y h l.1.known.0 id l.1.known.1.link_is (sym l.2 ∙ l.1.known.2)
+                  (told_alone q notes last.kept r.rest.words r.rest.closing p (calls script) y h.is (subst (ReadEnded p q (calls script) y h.is) e ended) (book_notes c y here h) (HasMet p q (calls script) y h.is) (has_asked p q (calls script) y h.is) (λ f z. z) y.books.view (book_notes c y here h) id
+                  (all_at (CodeEnd q.slots (HasMet p q (calls script) y h.is) (has_asked p q (calls script) y h.is) y.books.view) y.books.told i x (reader_ends p q (calls script) y h.is) there_ id (outcome ∙ ap (CallFailed id) (sym l.0 ∙ e))))))))
             ]
 
     -- the one that ended what was left told the rest
@@ -378,7 +476,7 @@ module _ (P : Type 0) {O I : Type 0} (g : Ghosts O) (out : O → OutState) (inn 
     of_rest : (i : ℕ) (x : Told) → get_elem? r.last i ≡ some x → (client : ℕ) (asked : Asked) → IsOperation all outcomes client x.number (ops.Call asked) → (id code : ℕ) → x.outcome ≡ CallFailed id code → FailedHere client x.number asked id code
     of_rest i x there client asked call id code outcome =
         elim (told_why r.left.ran (sockets.are P g out inn bytes script reads text links r) (sockets.may P g out inn bytes script reads text links r) notes last.kept r.rest.words r.rest.closing (sockets.have P g out inn bytes script reads text links r) (telling.keeps P g out inn bytes script reads text links r) outcomes
-        drun seats refl (sockets.differ P g out inn bytes script reads text links r) gave (log_accepted drun (sockets.differ P g out inn bytes script reads text links r) (λ k. [])) few_slots few_links (asked_so r.left.ran (sockets.are P g out inn bytes script reads text links r) (sockets.may P g out inn bytes script reads text links r) notes last.kept r.rest.words r.rest.closing (sockets.have P g out inn bytes script reads text links r) outcomes (attempts.later P g out inn bytes script reads text links r)) Reads
+        drun seats refl (sockets.differ P g out inn bytes script reads text links r) gave (log_accepted drun (sockets.differ P g out inn bytes script reads text links r) (λ k. [])) few_slots few_links (asked_so r.left.ran (sockets.are P g out inn bytes script reads text links r) (sockets.may P g out inn bytes script reads text links r) notes last.kept r.rest.words r.rest.closing (sockets.have P g out inn bytes script reads text links r) outcomes (attempts.later P g out inn bytes script reads text links r)) Reads Alone
         (length readers) few_readers (attempts.are_ids P g out inn bytes script reads text links r).made EEOF (λ v slot w. Unit {0}) last (λ slot f. omega arith) x (all_at (ToldEnd q (length readers) gave EEOF (λ v slot w. Unit {0}) last) r.last i x rest_told there) id code outcome client asked call (last_attempt notes x.number)) [
           | inl f ↦ inl f
           | inr l ↦ inr (LeftOver (sym l.0))

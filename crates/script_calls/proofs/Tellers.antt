@@ -235,6 +235,13 @@ module _ {O : Type 0} {g : Ghosts O} {state : O → OutState} {readers : List (L
         let b = each_notes slot (is_ended first) ids in
         let d = have.all slot (is_ended first) in omega arith
 
+    -- of what a client told of a call that it ended, a client noted the end
+    pub own_noted : (slot first : ℕ) → first < 4294967296 → (d j : ℕ) (ts : List Told) (x : Told) → get_elem? ended d ≡ some ts → get_elem? ts j ≡ some x → ends_of (slot * 4294967296 + first) x.outcome ≡ 1 → 0 < total (λ (y : View Asked). total (is_ended first) (notes_of slot y.notes)) ids
+    own_noted slot first low d j ts x at there is =
+        let id = slot * 4294967296 + first in
+        let a = balanced_all ended ids (balanced state p q setup clients opens told ended ran.seats ids ran.ran) slot first low in
+        let b = term (λ (y : Told). ends_of id y.outcome) ts j x there in let k = term (told_ends id) ended d ts at in let e = each_notes slot (is_ended first) ids in omega (arith, a, b, k, e, is)
+
     -- what a client told of the calls that it ended
     pub ended_told : (d j : ℕ) (ts : List Told) (x : Told) → get_elem? ended d ≡ some ts → get_elem? ts j ≡ some x → (e : IsEndTold slots v.notes x) × (e.first < 4294967296)
     ended_told d j ts x at there =

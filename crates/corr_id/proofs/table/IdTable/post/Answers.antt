@@ -1,8 +1,9 @@
 use Rattle.std.proofs.Common.{ℕ, ◌≡◌, ap, sym, refl, ◌∙◌, subst, arith}
 use Rattle.corr_core.specs.Word.{parts}
-use Rattle.corr_id.specs.Calls.{slot_of, version_of}
+use Rattle.corr_core.specs.declared.marks.Note.TheVariants.{Queued}
+use Rattle.corr_id.specs.Calls.{slot_of, version_of, FoundUpTo}
 use Rattle.corr_id.specs.Posts.{IsTimely}
-use Rattle.corr_id.proofs.Doing.{found_noted, found_grows, became_grows, quiet_none, quiet_more, queued_did, error_is, was_two}
+use Rattle.corr_id.proofs.Doing.{found_noted, found_grows, up_to_more, became_grows, quiet_none, quiet_more, queued_did, error_is, was_two}
 use Rattle.corr_id.proofs.table.IdTable.post.Goals as goal
 
 pub tries-init : goal.tries-init
@@ -32,6 +33,7 @@ returns-then-now-found-clause-posted g c =
           two,
           room,
           subst (λ (y : ℕ). IsTimely c.args.attempt (parts y).attempt) is (c.is_stale.ensures.timely c.if-is_stale.false),
+          subst (λ (y : ℕ). FoundUpTo at y w) first (up_to_more at (parts n).first v w _ (Queued (parts n).first c.error_bits-error.result) b (λ z. refl) (c.queue_id-now.ensures.latest c.if-now-found.true)),
         ),
       ),
     )

@@ -3,7 +3,7 @@ use mathlib.Core.Logic.{dite}
 use native.Mathlib.Decide.{ℕ_discrete}
 use Rattle.corr_core.specs.Word.{parts}
 use Rattle.corr_core.specs.declared.marks.Note.TheVariants.{Saw, Queued}
-use Rattle.corr_id.specs.Calls.{Became, one}
+use Rattle.corr_id.specs.Calls.{Became, one, FoundUpTo}
 use Rattle.corr_id.proofs.Steps.{queueing, queued_is, put_is}
 use Rattle.corr_id.proofs.Becoming.{became_as, became_note}
 use Rattle.corr_id.proofs.table.IdTable.queue_id.Goals as goal
@@ -20,11 +20,11 @@ pub returns-clause-seat : goal.returns-clause-seat
 returns-clause-seat g c = let t = c.compare_exchange.ensures.2 c.args.at refl in (
   c.compare_exchange.ensures.0,
   c.compare_exchange.ensures.1,
-  dite (ℕ_discrete c.compare_exchange.result c.args.from) (λ z. ap (λ m. m.1) (t.0 z)) (λ n. ap (λ m. m.1) (t.1 n)),
+  dite (ℕ_discrete c.compare_exchange.result c.args.from) (λ z. ap (λ m. m.1) (t.0 z).0) (λ n. ap (λ m. m.1) (t.1 n)),
 )
 
 pub returns-clause-won : goal.returns-clause-won
-returns-clause-won g c = λ hit. let t = (c.compare_exchange.ensures.2 c.args.at refl).0 hit in
+returns-clause-won g c = λ hit. let t = ((c.compare_exchange.ensures.2 c.args.at refl).0 hit).0 in
     let e = ap (Rattle.id_rule.specs.Plays.put_error (parts c.args.from)) (c.requires.next ∙ queued_is (parts c.args.from) c.args.error c.requires.from.0) ∙ put_is (parts c.args.from) c.args.error in
     subst (λ (y : ℕ). Became c.args.at c.args.seat.now.me.0 c.compare_exchange.new.seat.me.0 (Rattle.id_rule.specs.Lawful.tokens_in c.args.at c.args.seat.now.me.0) (one c.args.at (Queued (parts y).first c.args.error))) hit
     (subst (λ (y : ℕ). Became c.args.at c.args.seat.now.me.0 c.compare_exchange.new.seat.me.0 (Rattle.id_rule.specs.Lawful.tokens_in c.args.at c.args.seat.now.me.0) (one c.args.at (Queued (parts c.compare_exchange.result).first y))) e
@@ -32,3 +32,6 @@ returns-clause-won g c = λ hit. let t = (c.compare_exchange.ensures.2 c.args.at
 
 pub returns-clause-lost : goal.returns-clause-lost
 returns-clause-lost g c = λ miss. became_as c.args.at (ap (λ m. m.0) ((c.compare_exchange.ensures.2 c.args.at refl).1 miss)) (became_note c.args.at c.args.seat.now.me.0 (Saw c.compare_exchange.result))
+
+pub returns-clause-latest : goal.returns-clause-latest
+returns-clause-latest g c = λ hit. subst (λ (y : ℕ). FoundUpTo c.args.at (parts y).first c.args.seat.now.me.0) hit ((c.compare_exchange.ensures.2 c.args.at refl).0 hit).1
