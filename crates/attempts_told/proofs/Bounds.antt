@@ -128,8 +128,8 @@ unmoved_one at v w ts x none_ d = unmoved_did at v w ts (one at x) d (λ i f n. 
 pub unmoved_got : (at word : ℕ) (v w : View Asked) (p : Parts) (c : Asked) → GotLock at v w word p c → Unmoved v w
 unmoved_got at word v w p c g = unmoved_one at v w _ (Locker p.first c) (λ f n. refl) g.did
 
-pub unmoved_ended : (at f : ℕ) (v w : View Asked) → Became at v w [] (one at (Ended f)) → Unmoved v w
-unmoved_ended at f v w b = unmoved_one at v w [] (Ended f) (λ g n. refl) (became_did at v w [] (one at (Ended f)) b)
+pub unmoved_ended : {n : ℕ} (at f : ℕ) (v w : View Asked) → Became at v w [] (one at (Ended f n)) → Unmoved v w
+unmoved_ended {n} at f v w b = unmoved_one at v w [] (Ended f n) (λ g m. refl) (became_did at v w [] (one at (Ended f n)) b)
 
 pub unmoved_post : (slots : ℕ) (v w : View Asked) (id code : ℕ) (attempt : Maybe ℕ) (answer : Posted Asked) → PostOk slots v w id code attempt answer → Unmoved v w
 unmoved_post slots v w id code attempt (HasLock k) p = unmoved_got k.slot p.4.0 v w (parts k.word.0) k.content p.4.1
@@ -197,8 +197,8 @@ module _ (slots : ℕ) where
   bounds_got : (at word : ℕ) (v w : View Asked) (p : Parts) (c : Asked) → GotLock at v w word p c → Bounds v w
   bounds_got at word v w p c g = bounds_none v w g.did.grows (unmoved_got at word v w p c g)
 
-  bounds_ended : (at f : ℕ) (v w : View Asked) → Became at v w [] (one at (Ended f)) → Bounds v w
-  bounds_ended at f v w b = bounds_none v w (became_did at v w [] (one at (Ended f)) b).grows (unmoved_ended at f v w b)
+  bounds_ended : {n : ℕ} (at f : ℕ) (v w : View Asked) → Became at v w [] (one at (Ended f n)) → Bounds v w
+  bounds_ended {n} at f v w b = bounds_none v w (became_did at v w [] (one at (Ended f n)) b).grows (unmoved_ended at f v w b)
 
   -- ## Unlocking
 

@@ -17,7 +17,7 @@ use Rattle.attempts_told.specs.Attempts.{advanced_to, last_among}
 attempt_is : (f n : ℕ) (y : Note Asked) → 0 < is_attempt f n y → y ≡ Attempt f n
 attempt_is f n Tried h = absurd (omega arith)
 attempt_is f n (Made g r c) h = absurd (omega arith)
-attempt_is f n (Ended g) h = absurd (omega arith)
+attempt_is f n (Ended g y) h = absurd (omega arith)
 attempt_is f n (Locker g c) h = absurd (omega arith)
 attempt_is f n (Queued g e) h = absurd (omega arith)
 attempt_is f n (Saw w) h = absurd (omega arith)
@@ -47,7 +47,7 @@ module _ (o : ℕ) (all : List (Noted Asked)) where
   counted_by : (slot : ℕ) (y : Note Asked) → 0 < advanced_to o (notes_of slot all) y → (f : ℕ) × (y ≡ Attempt f (advanced_to o (notes_of slot all) y)) × (0 < total (is_made_for f o) (notes_of slot all))
   counted_by slot Tried h = absurd (omega arith)
   counted_by slot (Made g r c) h = absurd (omega arith)
-  counted_by slot (Ended g) h = absurd (omega arith)
+  counted_by slot (Ended g y) h = absurd (omega arith)
   counted_by slot (Locker g c) h = absurd (omega arith)
   counted_by slot (Queued g e) h = absurd (omega arith)
   counted_by slot (Saw w) h = absurd (omega arith)
@@ -128,7 +128,7 @@ each_sum f (suc m) ns = let a = each_sum f m ns in let b = total_sum (λ (x : No
 one_sum : (f m : ℕ) (x : Note Asked) → ((n : ℕ) → 0 < is_attempt f n x → (0 < n) × (n ≤ m)) → is_advance f x ≤ sum_to (λ k. is_attempt f k x) m
 one_sum f m Tried h = omega arith
 one_sum f m (Made g r c) h = omega arith
-one_sum f m (Ended g) h = omega arith
+one_sum f m (Ended g y) h = omega arith
 one_sum f m (Locker g c) h = omega arith
 one_sum f m (Queued g e) h = omega arith
 one_sum f m (Saw w) h = omega arith

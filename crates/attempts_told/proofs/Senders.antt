@@ -198,7 +198,7 @@ module _ {O : Type 0} {g : Ghosts O} {state : O → OutState} {p : Plan} {q : id
 
 made_for : (f o : ℕ) (n : Note Asked) → 0 < is_made_for f o n → (r : ℕ) × (c : Asked) × (n ≡ Made f r c) × (c.operation ≡ o)
 made_for f o Tried h = absurd (omega arith)
-made_for f o (Ended g) h = absurd (omega arith)
+made_for f o (Ended g y) h = absurd (omega arith)
 made_for f o (Locker g c) h = absurd (omega arith)
 made_for f o (Queued g e) h = absurd (omega arith)
 made_for f o (Attempt g n) h = absurd (omega arith)

@@ -71,7 +71,7 @@ ended_silent : (f : ℕ) (n : Note Asked) → is_event n ≡ false → is_ended 
 ended_silent f Tried e = refl
 ended_silent f (Saw w) e = refl
 ended_silent f (Made a b c) e = refl
-ended_silent f (Ended g) e = let k : true ≡ false = e in cc
+ended_silent f (Ended g y) e = let k : true ≡ false = e in cc
 ended_silent f (Locker g c) e = refl
 ended_silent f (Queued g d) e = refl
 ended_silent f (Attempt g n) e = refl

@@ -61,7 +61,7 @@ quiet_note : (f : ℕ) (n : Note Asked) → is_event n ≡ false → is_ended f 
 quiet_note f Tried e = refl
 quiet_note f (Saw w) e = refl
 quiet_note f (Made a b c) e = refl
-quiet_note f (Ended g) e = let k : true ≡ false = e in cc
+quiet_note f (Ended g y) e = let k : true ≡ false = e in cc
 quiet_note f (Locker g c) e = refl
 quiet_note f (Queued g d) e = refl
 quiet_note f (Attempt g n) e = refl
@@ -139,7 +139,7 @@ accounts_ended k code s t e = by e.tells
     by (told is) = inr (λ i f fl.
         let first = (parts k.word.0).first in let low = k.fits.low in
         let a : told_ends i f t.books ≡ told_ends i f s.books + (only (i * 4294967296 + f) (k.slot * 4294967296 + first) + 0) = ap (told_ends i f) is ∙ total_append (is_end (i * 4294967296 + f)) s.books.told (failed k code ∷ []) in
-        let b : noted_ends i f t.view ≡ cond (eqb k.slot i) (only f first) 0 + noted_ends i f s.view = ap (λ (l : List (Noted Asked)). total (is_ended f) (notes_of i l)) e.ended.notes ∙ one_more i f (record { slot = k.slot; note = Ended first }) s.view.notes in
+        let b : noted_ends i f t.view ≡ cond (eqb k.slot i) (only f first) 0 + noted_ends i f s.view = ap (λ (l : List (Noted Asked)). total (is_ended f) (notes_of i l)) e.ended.notes ∙ one_more i f (record { slot = k.slot; note = Ended first (parts k.word.0).attempt }) s.view.notes in
         let c = same_id i f k.slot first fl (omega (arith, low)) in omega arith)
 
 -- nothing was told, and nothing ended

@@ -16,5 +16,5 @@ failed k code = record { number = k.content.operation; outcome = CallFailed (id_
 
 -- the range of the lock ended, and that is told
 pub record EndedWith (k : IdLock Asked) (code : ℕ) (s t : CallStand) : Type 0 where
-  pub ended : Became k.slot s.view t.view [] (one k.slot (Ended (parts k.word.0).first))
+  pub ended : Became k.slot s.view t.view [] (one k.slot (Ended (parts k.word.0).first (parts k.word.0).attempt))
   pub tells : Tells (failed k code) s.books t.books

@@ -100,7 +100,7 @@ lock_stays k v w grows h = record {
 locks_silent : (f o : ℕ) (x : Note Asked) → is_event x ≡ false → locks_for f o x ≡ 0
 locks_silent f o Tried e = refl
 locks_silent f o (Made a b c) e = refl
-locks_silent f o (Ended g) e = refl
+locks_silent f o (Ended g y) e = refl
 locks_silent f o (Locker g c) e = let k : true ≡ false = e in cc
 locks_silent f o (Queued g d) e = refl
 locks_silent f o (Attempt g n) e = refl

@@ -66,7 +66,7 @@ none_post slots v w id code attempt (Stale current) p = none_quiet v w p.0
 none_post slots v w id code attempt (Crowded first second) p = none_quiet v w p.0
 
 none_ended : (slot : ℕ) (w : Parts) (call : Asked) (by : Outcome) (b b' : Books) → EndedAs slot w call by b b' → MadeNone b.view b'.view
-none_ended slot w call by b b' e = let one_end : List (Noted Asked) = one slot (Ended w.first) in record {
+none_ended slot w call by b b' e = let one_end : List (Noted Asked) = one slot (Ended w.first w.attempt) in record {
   grows = became_grows slot b.view b'.view [] one_end e.ended;
   made = λ o. (let a : total (makes o) b'.view.notes ≡ 0 + total (makes o) b.view.notes = became_all (makes o) slot b.view b'.view [] one_end e.ended in omega arith);
 }

@@ -106,7 +106,7 @@ makes_silent o n e = by n.note e
     by : (x : Note Asked) → is_event x ≡ false → makes_for o x ≡ 0
     by Tried e = refl
     by (Made f r c) e = let k : true ≡ false = e in cc
-    by (Ended g) e = refl
+    by (Ended g y) e = refl
     by (Locker g c) e = refl
     by (Queued g d) e = refl
     by (Attempt g m) e = refl
@@ -115,7 +115,7 @@ makes_silent o n e = by n.note e
 pub attempt_silent : (f n : ℕ) (x : Note Asked) → is_event x ≡ false → is_attempt f n x ≡ 0
 attempt_silent f n Tried e = refl
 attempt_silent f n (Made a b c) e = refl
-attempt_silent f n (Ended g) e = refl
+attempt_silent f n (Ended g y) e = refl
 attempt_silent f n (Locker g c) e = refl
 attempt_silent f n (Queued g d) e = refl
 attempt_silent f n (Attempt g m) e = let k : true ≡ false = e in cc
@@ -149,7 +149,7 @@ tells_retries x b c (lost e) = ap (λ (y : Books). y.retries) e
 
 ended_still : (k : IdLock Asked) (code : ℕ) (s t : CallStand) → EndedWith k code s t → Still s t
 ended_still k code s t h =
-    let one_end : List (Noted Asked) = one k.slot (Ended (parts k.word.0).first) in
+    let one_end : List (Noted Asked) = one k.slot (Ended (parts k.word.0).first (parts k.word.0).attempt) in
     by_view s t (tells_retries (failed k code) s.books t.books h.tells) (became_grows k.slot s.view t.view [] one_end h.ended)
     (λ o. let a : total (makes o) t.view.notes ≡ 0 + total (makes o) s.view.notes = became_all (makes o) k.slot s.view t.view [] one_end h.ended in omega arith)
 

@@ -85,9 +85,9 @@ same_id i f j g fl gl = dite (ℕ_discrete j i)
     (λ e. subst (λ (y : ℕ). SameId i f y g) (sym e) (same_first i f g))
     (λ n. only-else (i * 4294967296 + f) (j * 4294967296 + g) (λ q. n (omega (arith, q, fl, gl))) ∙ sym (if_not (eqb j i) (only f g) (ne_eqb j i n)))
 
-pub noted_one : (slot first at of_ : ℕ) → noted_ends slot first (one at (Ended of_)) ≡ cond (eqb at slot) (only first of_) 0
-noted_one slot first at of_ = elim (eqb at slot) as (λ b. total (is_ended {C = Asked} first) (cond b (Ended of_ ∷ []) []) ≡ cond b (only first of_) 0) [ true ↦ omega arith | false ↦ refl ]
+pub noted_one : (slot first at of_ n : ℕ) → noted_ends slot first (one at (Ended of_ n)) ≡ cond (eqb at slot) (only first of_) 0
+noted_one slot first at of_ n = elim (eqb at slot) as (λ b. total (is_ended {C = Asked} first) (cond b (Ended of_ n ∷ []) []) ≡ cond b (only first of_) 0) [ true ↦ omega arith | false ↦ refl ]
 
 -- one end is told where one is noted
-pub one_end : (slot first at of_ : ℕ) → first < 4294967296 → of_ < 4294967296 → only (slot * 4294967296 + first) (at * 4294967296 + of_) ≡ noted_ends slot first (one at (Ended of_))
-one_end slot first at of_ fl ol = same_id slot first at of_ fl ol ∙ sym (noted_one slot first at of_)
+pub one_end : (slot first at of_ n : ℕ) → first < 4294967296 → of_ < 4294967296 → only (slot * 4294967296 + first) (at * 4294967296 + of_) ≡ noted_ends slot first (one at (Ended of_ n))
+one_end slot first at of_ n fl ol = same_id slot first at of_ fl ol ∙ sym (noted_one slot first at of_ n)

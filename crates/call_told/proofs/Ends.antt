@@ -21,7 +21,7 @@ pub locked_silent : (first operation : ℕ) (n : Note Asked) → is_event n ≡ 
 locked_silent first operation Tried e = refl
 locked_silent first operation (Saw w) e = refl
 locked_silent first operation (Made a b c) e = refl
-locked_silent first operation (Ended g) e = refl
+locked_silent first operation (Ended g y) e = refl
 locked_silent first operation (Locker g c) e = let k : true ≡ false = e in cc
 locked_silent first operation (Queued g d) e = refl
 locked_silent first operation (Attempt g n) e = refl
@@ -30,7 +30,7 @@ pub made_silent : (first operation : ℕ) (n : Note Asked) → is_event n ≡ fa
 made_silent first operation Tried e = refl
 made_silent first operation (Saw w) e = refl
 made_silent first operation (Made a b c) e = let k : true ≡ false = e in cc
-made_silent first operation (Ended g) e = refl
+made_silent first operation (Ended g y) e = refl
 made_silent first operation (Locker g c) e = refl
 made_silent first operation (Queued g d) e = refl
 made_silent first operation (Attempt g n) e = refl

@@ -71,7 +71,7 @@ pair_apart f a b n g c = dite (ℕ_discrete c a)
 made_apart : (f a b : ℕ) → a ≢ b → (n : Note Asked) → is_made_for f a n + is_made_for f b n ≤ is_made f n
 made_apart f a b n (Made g r c) = pair_apart f a b n g c.operation
 made_apart f a b n Tried = omega arith
-made_apart f a b n (Ended g) = omega arith
+made_apart f a b n (Ended g y) = omega arith
 made_apart f a b n (Locker g c) = omega arith
 made_apart f a b n (Queued g e) = omega arith
 made_apart f a b n (Attempt g m) = omega arith
@@ -80,7 +80,7 @@ made_apart f a b n (Saw w) = omega arith
 made_is : (f a : ℕ) (n : Note Asked) → is_made_for f a n ≤ is_made f n
 made_is f a (Made g r c) = pair_le f a g c.operation
 made_is f a Tried = omega arith
-made_is f a (Ended g) = omega arith
+made_is f a (Ended g y) = omega arith
 made_is f a (Locker g c) = omega arith
 made_is f a (Queued g e) = omega arith
 made_is f a (Attempt g m) = omega arith
@@ -107,7 +107,7 @@ lock_of f o (Locker g c) h = dite (ℕ_discrete g f)
     (λ n. absurd (let a = pair-else_first f o g c.operation n in omega arith))
 lock_of f o Tried h = absurd (omega arith)
 lock_of f o (Made g r c) h = absurd (omega arith)
-lock_of f o (Ended g) h = absurd (omega arith)
+lock_of f o (Ended g y) h = absurd (omega arith)
 lock_of f o (Queued g e) h = absurd (omega arith)
 lock_of f o (Attempt g m) h = absurd (omega arith)
 lock_of f o (Saw w) h = absurd (omega arith)

@@ -76,7 +76,7 @@ module _ (P : ℕ → Asked → Type 0) where
   none_fits : (n : Note Asked) → is_any_made n ≡ 0 → FitsMade n
   none_fits Tried e = tt
   none_fits (Made f r asked) e = absurd (omega (arith, e))
-  none_fits (Ended f) e = tt
+  none_fits (Ended f y) e = tt
   none_fits (Locker f c) e = tt
   none_fits (Queued f d) e = tt
   none_fits (Attempt f n) e = tt
@@ -119,7 +119,7 @@ module _ (P : ℕ → Asked → Type 0) where
   event_fits : (n : Note Asked) → is_event n ≡ false → FitsMade n
   event_fits Tried e = tt
   event_fits (Made f r asked) e = let k : true ≡ false = e in absurd (cc)
-  event_fits (Ended f) e = tt
+  event_fits (Ended f y) e = tt
   event_fits (Locker f c) e = tt
   event_fits (Queued f d) e = tt
   event_fits (Attempt f n) e = tt

@@ -120,7 +120,7 @@ module _ (q : id_plan.Plan) (operation : ℕ) where
   lock_ends k code s t has e = record { grows = grown; ends = λ h. by h e.tells }
     where
       grown : Grows place 0 s.view t.view
-      grown = ended_grows place k.slot s.view t.view [] (one k.slot (Ended (parts k.word.0).first)) e.ended
+      grown = ended_grows place k.slot s.view t.view [] (one k.slot (Ended (parts k.word.0).first (parts k.word.0).attempt)) e.ended
 
       now : IsEndIn q.slots t.view (failed k code)
       now = record {

@@ -56,8 +56,8 @@ pub became_did : (i : ℕ) (v w : View Asked) (ts : List (Token Asked)) (ns : Li
 became_did i v w ts ns b = did_more i v v w _ ts [] ns (did_none i v v (quiet_none v)) b
 
 -- an id ended
-pub end_later : (slot first : ℕ) (v w : View Asked) → Became slot v w [] (one slot (Ended first)) → Later v w
-end_later slot first v w b = did_later slot v w [] _ (became_did slot v w [] (one slot (Ended first)) b) (refl, tt)
+pub end_later : {attempt : ℕ} (slot first : ℕ) (v w : View Asked) → Became slot v w [] (one slot (Ended first attempt)) → Later v w
+end_later {attempt} slot first v w b = did_later slot v w [] _ (became_did slot v w [] (one slot (Ended first attempt)) b) (refl, tt)
 
 pub post_later : (slots : ℕ) (v w : View Asked) (id code : ℕ) (attempt : Maybe ℕ) (answer : Posted Asked) → PostOk slots v w id code attempt answer → Later v w
 post_later slots v w id code attempt (HasLock k) p = got_later k.slot p.4.0 (parts k.word.0) k.content v w p.4.1
@@ -112,7 +112,7 @@ ended_in slot w call u v n h = record {
   was_open = h.was_open;
   word_is = h.word_is;
   locked = n.noted (record { slot = slot; note = Locker w.first call }) h.locked;
-  ended = n.noted (record { slot = slot; note = Ended w.first }) h.ended;
+  ended = n.noted (record { slot = slot; note = Ended w.first w.attempt }) h.ended;
 }
 
 pub told_in : (slots links : ℕ) (gave : ℕ → List ℕ) (u v : View Asked) → NotesIn u.notes v.notes → (x : Told) → ToldFrom slots links gave u x → ToldFrom slots links gave v x
@@ -125,9 +125,9 @@ pub ended_later : (slot : ℕ) (w : Parts) (call : Asked) (u v : View Asked) →
 ended_later slot w call u v l h = ended_in slot w call u v (later_in u v l) h
 
 -- what was locked has ended
-pub has_ended : (slot : ℕ) (w : Parts) (call : Asked) (u v v' : View Asked) (word : ℕ) → GotLock slot u v word w call → Became slot v v' [] (one slot (Ended w.first)) → HasEnded slot w call v'
+pub has_ended : (slot : ℕ) (w : Parts) (call : Asked) (u v v' : View Asked) (word : ℕ) → GotLock slot u v word w call → Became slot v v' [] (one slot (Ended w.first w.attempt)) → HasEnded slot w call v'
 has_ended slot w call u v v' word got b =
-    let d = became_did slot v v' [] (one slot (Ended w.first)) b in
+    let d = became_did slot v v' [] (one slot (Ended w.first w.attempt)) b in
     let l = end_later slot w.first v v' b in
     record {
       word = word;

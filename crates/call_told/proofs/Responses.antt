@@ -155,18 +155,18 @@ module _ (slots : ℕ) where
   told_starved number by told told' s s' (inr t) h = t.1
 
   ended_goes : (slot : ℕ) (w : Parts) (call : Asked) (by : Outcome) (b b' : Books) → EndedAs slot w call by b b' → b'.early ≡ b.early → Goes slots b b'
-  ended_goes slot w call by b b' e early = goes_so b b' (became_grows slot b.view b'.view [] (one slot (Ended w.first)) e.ended) (told_starved call.operation by b.told b'.told b.starved b'.starved e.told) early
+  ended_goes slot w call by b b' e early = goes_so b b' (became_grows slot b.view b'.view [] (one slot (Ended w.first w.attempt)) e.ended) (told_starved call.operation by b.told b'.told b.starved b'.starved e.told) early
 
-  ended_noted : (slot first : ℕ) (v w : View Asked) → Became slot v w [] (one slot (Ended first)) → 0 < total (is_ended first) (notes_of slot w.notes)
-  ended_noted slot first v w b = let e = ap (λ l. total (is_ended first) (notes_of slot l)) b.notes in
-      let g = ap (λ y. total (is_ended first) (cond y (Ended first ∷ notes_of slot v.notes) (notes_of slot v.notes))) (eq-eqb slot slot refl) in let k = only-same first in omega (arith, e, g, k)
+  ended_noted : {n : ℕ} (slot first : ℕ) (v w : View Asked) → Became slot v w [] (one slot (Ended first n)) → 0 < total (is_ended first) (notes_of slot w.notes)
+  ended_noted {n} slot first v w b = let e = ap (λ l. total (is_ended first) (notes_of slot l)) b.notes in
+      let g = ap (λ y. total (is_ended first) (cond y (Ended first n ∷ notes_of slot v.notes) (notes_of slot v.notes))) (eq-eqb slot slot refl) in let k = only-same first in omega (arith, e, g, k)
 
   -- a response of the range that was ended
   has_ended : (f : Frame) (slot word : ℕ) (w : Parts) (call : Asked) (by : Outcome) (b b' : Books) → slot_in f ≡ slot → w.first < version_in f → version_in f < w.first + w.range → Found slot word b.view → (parts word).state ≡ 1 → w ≡ locked_word (parts word) → EndedAs slot w call by b b' → HasEnded f b'.view
   has_ended f slot word w call by b b' at from below found open_ is e =
       let first : w.first ≡ (parts word).first = ap (λ (p : Parts). p.first) is in let range : w.range ≡ (parts word).range = ap (λ (p : Parts). p.range) is in record {
         word = word;
-        found = subst (λ (i : ℕ). Found i word b'.view) (sym at) (found_still slot word b.view b'.view (became_grows slot b.view b'.view [] (one slot (Ended w.first)) e.ended) found);
+        found = subst (λ (i : ℕ). Found i word b'.view) (sym at) (found_still slot word b.view b'.view (became_grows slot b.view b'.view [] (one slot (Ended w.first w.attempt)) e.ended) found);
         taken = omega (arith, open_);
         from = omega (arith, first, from);
         below = omega (arith, first, range, below);
@@ -237,7 +237,7 @@ module _ (slots : ℕ) where
         by : (o : Option ℕ) → position (is_for slot w) b.early ≡ o → LostBy slot w call code o b b' → Goes slots b b'
         by None e l = ended_goes slot w call (CallFailed (id_of slot w) code) b b' l.0 l.1
         by (Some i) e l = record {
-          grows = became_grows slot b.view b'.view [] (one slot (Ended w.first)) l.3.ended;
+          grows = became_grows slot b.view b'.view [] (one slot (Ended w.first w.attempt)) l.3.ended;
           starved = told_starved call.operation _ b.told b'.told b.starved b'.starved l.3.told;
           early = λ f n asked at. ⊎_elim
               (λ same. by_end (subst (λ (x : Frame). HasEnded x b'.view) (sym same) (has_ended l.0 slot word w call (ending_of (id_of slot w) (frame_of l.0)) b b' is.0 is.1 is.2 got.found got.was_open got.word_is l.3)))

@@ -29,12 +29,12 @@ is_word x word k = pair x word k.place k.word
 
 -- ## An end that is noted
 
-one_noted : (i f : ℕ) → noted_ends i f (one i (Ended f)) ≡ 1
-one_noted i f = noted_one i f i f ∙ ap (λ b. cond b (only f f) 0) (eq-eqb i i refl) ∙ only-same f
+one_noted : (i f n : ℕ) → noted_ends i f (one i (Ended f n)) ≡ 1
+one_noted i f n = noted_one i f i f n ∙ ap (λ b. cond b (only f f) 0) (eq-eqb i i refl) ∙ only-same f
 
 as_noted : (i : ℕ) (w : Parts) (call : Asked) (by : Outcome) (b b' : Books) → EndedAs i w call by b b' → 0 < noted_ends i w.first b'.view.notes
 as_noted i w call by b b' e =
-    let a = ap (noted_ends i w.first) e.ended.notes in let c = noted_more i w.first (one i (Ended w.first)) b.view.notes in let d = one_noted i w.first in omega arith
+    let a = ap (noted_ends i w.first) e.ended.notes in let c = noted_more i w.first (one i (Ended w.first w.attempt)) b.view.notes in let d = one_noted i w.first w.attempt in omega arith
 
 lost_noted : (i : ℕ) (w : Parts) (call : Asked) (code : ℕ) (b b' : Books) → LockLost i w call code b b' → 0 < noted_ends i w.first b'.view.notes
 lost_noted i w call code b b' lost = by (position (is_for i w) b.early) lost

@@ -83,7 +83,7 @@ ended_silent : (first : ℕ) (n : Note Asked) → is_event n ≡ false → is_en
 ended_silent first Tried e = refl
 ended_silent first (Saw w) e = refl
 ended_silent first (Made a b c) e = refl
-ended_silent first (Ended g) e = let k : true ≡ false = e in cc
+ended_silent first (Ended g y) e = let k : true ≡ false = e in cc
 ended_silent first (Locker g c) e = refl
 ended_silent first (Queued g d) e = refl
 ended_silent first (Attempt g n) e = refl
@@ -133,11 +133,11 @@ ended_tally slot w call by b b' low is locked e = tallies e.told
     accounted t i f fl =
         let id = i * 4294967296 + f in
         let x : told_ends id b'.told ≡ told_ends id b.told + (ends_of id by + 0) = ap (told_ends id) t ∙ told_more id b.told (now ∷ []) in
-        let y : noted_ends i f b'.view.notes ≡ noted_ends i f (one slot (Ended w.first)) + noted_ends i f b.view.notes = ap (noted_ends i f) e.ended.notes ∙ noted_more i f (one slot (Ended w.first)) b.view.notes in
-        let z = is id in let o = one_end i f slot w.first fl low in omega arith
+        let y : noted_ends i f b'.view.notes ≡ noted_ends i f (one slot (Ended w.first w.attempt)) + noted_ends i f b.view.notes = ap (noted_ends i f) e.ended.notes ∙ noted_more i f (one slot (Ended w.first w.attempt)) b.view.notes in
+        let z = is id in let o = one_end i f slot w.first w.attempt fl low in omega arith
 
     grows : (x : ℕ) → Grows x 0 b.view b'.view
-    grows x = ended_grows x slot b.view b'.view [] (one slot (Ended w.first)) e.ended
+    grows x = ended_grows x slot b.view b'.view [] (one slot (Ended w.first w.attempt)) e.ended
 
     still : AreEnds b.view b.told → AreEnds b'.view b.told
     still a = ends_later b.view b'.view (grows 0).notes b.told a

@@ -161,13 +161,13 @@ module _ (slots : ℕ) (Given : Frame → Type 0) (asked : (f : Frame) → Given
   -- ## Codes
 
   module _ (code : ℕ) where
-    ended_more : (slot first : ℕ) (g : ℕ) (v w : View Asked) → Became slot v w [] (one slot (Ended first)) → total (is_ended g) (notes_of slot w.notes) ≡ only g first + total (is_ended g) (notes_of slot v.notes)
-    ended_more slot first g v w b = ap (λ l. total (is_ended g) (notes_of slot l)) b.notes ∙ ap (λ y. total (is_ended g) (cond y (Ended first ∷ notes_of slot v.notes) (notes_of slot v.notes))) (eq-eqb slot slot refl)
+    ended_more : {n : ℕ} (slot first : ℕ) (g : ℕ) (v w : View Asked) → Became slot v w [] (one slot (Ended first n)) → total (is_ended g) (notes_of slot w.notes) ≡ only g first + total (is_ended g) (notes_of slot v.notes)
+    ended_more {n} slot first g v w b = ap (λ l. total (is_ended g) (notes_of slot l)) b.notes ∙ ap (λ y. total (is_ended g) (cond y (Ended first n ∷ notes_of slot v.notes) (notes_of slot v.notes))) (eq-eqb slot slot refl)
 
-    twice_ended : (f : Frame) (slot first : ℕ) (v w : View Asked) → slot_in f ≡ slot → Became slot v w [] (one slot (Ended first)) → HasEnded f v → Twice f slot first w
-    twice_ended f slot first v w at b h = record {
+    twice_ended : {n : ℕ} (f : Frame) (slot first : ℕ) (v w : View Asked) → slot_in f ≡ slot → Became slot v w [] (one slot (Ended first n)) → HasEnded f v → Twice f slot first w
+    twice_ended {n} f slot first v w at b h = record {
       word = h.word;
-      found = (let a = became_grows slot v w [] (one slot (Ended first)) b slot (is_saw h.word) in let c = subst (λ (i : ℕ). Found i h.word v) at h.found in omega (arith, a, c));
+      found = (let a = became_grows slot v w [] (one slot (Ended first n)) b slot (is_saw h.word) in let c = subst (λ (i : ℕ). Found i h.word v) at h.found in omega (arith, a, c));
       taken = h.taken;
       from = h.from;
       below = h.below;
@@ -188,7 +188,7 @@ module _ (slots : ℕ) (Given : Frame → Type 0) (asked : (f : Frame) → Given
           low = low;
           id_is = ids id e;
           word = word;
-          found = (let a = became_grows slot b.view b'.view [] (one slot (Ended w.first)) l.0.ended slot (is_saw word) in let c = got.found in omega (arith, a, c));
+          found = (let a = became_grows slot b.view b'.view [] (one slot (Ended w.first w.attempt)) l.0.ended slot (is_saw word) in let c = got.found in omega (arith, a, c));
           was_open = got.was_open;
           word_is = got.word_is;
           alone = λ f given is. ⊎_elim (λ s. absurd (calm s)) (λ h. twice_ended f slot w.first b.view b'.view (for_is slot w f is).0 l.0.ended h) (lost_met slots code slot w call u word b f got none_ is (all f given));

@@ -67,7 +67,7 @@ pub record HasEnded (slot : ℕ) (w : Parts) (call : Asked) (v : View Asked) : T
   pub was_open : (parts word).state ≡ 1
   pub word_is : w ≡ locked_word (parts word)
   pub locked : HasNoted slot (Locker w.first call) v
-  pub ended : HasNoted slot (Ended w.first) v
+  pub ended : HasNoted slot (Ended w.first w.attempt) v
 
 module _ (links : ℕ) (gave : ℕ → List ℕ) where
   -- the call of this lock ended with a code, or by a response that a link gave

@@ -87,11 +87,11 @@ module _ {C : Type 0} (i : ℕ) where
   out_fits (Locked f rg at c o s x) k h = h
   out_fits Leaving k h = h
 
-  pub ended_became : (v u : View C) (f next : ℕ) → u ≡ ended_view i f next v → next ≤ LAST → Became i v u (Leaving ∷ []) (one i (Ended f))
-  ended_became v u f next e le = became_as (e ∙ ap (λ b. with_note i (Ended f) (cond b (with_token i Leaving v) (no_token i v))) (le-leb next LAST le)) (noted_token v Leaving (Ended f))
+  pub ended_became : (v u : View C) (f at next : ℕ) → u ≡ ended_view i f at next v → next ≤ LAST → Became i v u (Leaving ∷ []) (one i (Ended f at))
+  ended_became v u f at next e le = became_as (e ∙ ap (λ b. with_note i (Ended f at) (cond b (with_token i Leaving v) (no_token i v))) (le-leb next LAST le)) (noted_token v Leaving (Ended f at))
 
-  pub retired_became : (v u : View C) (f next : ℕ) → u ≡ ended_view i f next v → LAST < next → Became i v u [] (one i (Ended f))
-  retired_became v u f next e lt = became_as (e ∙ ap (λ b. with_note i (Ended f) (cond b (with_token i Leaving v) (no_token i v))) (lt-leb next LAST lt)) (noted_drop v (Ended f))
+  pub retired_became : (v u : View C) (f at next : ℕ) → u ≡ ended_view i f at next v → LAST < next → Became i v u [] (one i (Ended f at))
+  retired_became v u f at next e lt = became_as (e ∙ ap (λ b. with_note i (Ended f at) (cond b (with_token i Leaving v) (no_token i v))) (lt-leb next LAST lt)) (noted_drop v (Ended f at))
 
   pub relocked_became : (v u : View C) (w q : Parts) (c : C) → Longer w.first w.range w.attempt w.oldest w.second q → u ≡ with_token i (Locked w.first w.range w.attempt c q.oldest q.second (Full c)) v → Became i v u (Locked q.first q.range q.attempt c q.oldest q.second (Full c) ∷ []) []
   relocked_became v u w q c l e = became_as (e ∙ λ z. with_token i (Locked (l.first_is z) (l.range_is z) (l.attempt_is z) c q.oldest q.second (Full c)) v) (became_token v (Locked q.first q.range q.attempt c q.oldest q.second (Full c)))

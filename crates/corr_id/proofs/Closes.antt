@@ -8,7 +8,7 @@ use native.Mathlib.Decide.{ℕ_discrete, dec_le}
 use lib.ListN.{get_elem?}
 use Rattle.atomic_table.specs.Table.{State}
 use Rattle.corr_core.specs.Word.{parts}
-use Rattle.corr_core.specs.Law.{total, Each, born, is_made, is_ended, is_attempt, is_tried, is_any_made, is_claim, SawFits, NoteFits, SlotLaw}
+use Rattle.corr_core.specs.Law.{total, Each, born, is_made, is_ended, is_ended_at, is_attempt, is_tried, is_any_made, is_claim, SawFits, NoteFits, SlotLaw}
 use Rattle.corr_core.specs.declared.marks.Plan.{Plan}
 use Rattle.corr_core.specs.declared.marks.Note.{Note}
 use Rattle.corr_core.specs.declared.marks.Note.TheVariants.{Tried, Made, Ended, Locker, Queued, Attempt, Saw}
@@ -46,7 +46,7 @@ only_one f (x ∷ xs) (suc i) v e h = (λ z. h zero x refl (λ q. omega arith) z
 pub saw_of : {C : Type 0} (w : ℕ) (n : Note C) → 0 < is_saw w n → n ≡ Saw w
 saw_of w Tried h = absurd (omega arith)
 saw_of w (Made f r c) h = absurd (omega arith)
-saw_of w (Ended f) h = absurd (omega arith)
+saw_of w (Ended f y) h = absurd (omega arith)
 saw_of w (Locker f c) h = absurd (omega arith)
 saw_of w (Queued f e) h = absurd (omega arith)
 saw_of w (Attempt f n) h = absurd (omega arith)
@@ -55,7 +55,7 @@ saw_of w (Saw x) h = dite (ℕ_discrete x w) (λ e. ap Saw e) (λ n. let k = onl
 made_of : {C : Type 0} (f : ℕ) (n : Note C) → 0 < is_made f n → (r : ℕ) × (c : C) × (n ≡ Made f r c)
 made_of f Tried h = absurd (omega arith)
 made_of f (Made g r c) h = dite (ℕ_discrete g f) (λ e. (r, c, ap (λ y. Made y r c) e)) (λ n. let k = only-else f g n in absurd (omega arith))
-made_of f (Ended g) h = absurd (omega arith)
+made_of f (Ended g y) h = absurd (omega arith)
 made_of f (Locker g c) h = absurd (omega arith)
 made_of f (Queued g e) h = absurd (omega arith)
 made_of f (Attempt g n) h = absurd (omega arith)
@@ -64,7 +64,7 @@ made_of f (Saw x) h = absurd (omega arith)
 attempt_of : {C : Type 0} (f m : ℕ) (n : Note C) → 0 < is_attempt f m n → n ≡ Attempt f m
 attempt_of f m Tried h = absurd (omega arith)
 attempt_of f m (Made g r c) h = absurd (omega arith)
-attempt_of f m (Ended g) h = absurd (omega arith)
+attempt_of f m (Ended g y) h = absurd (omega arith)
 attempt_of f m (Locker g c) h = absurd (omega arith)
 attempt_of f m (Queued g e) h = absurd (omega arith)
 attempt_of f m (Attempt g n) h = dite (ℕ_discrete g f)
@@ -151,6 +151,7 @@ module _ {C : Type 0} (p : Plan) (s : State (Maybe C) (View C)) (law : Lawful p 
     ended_once = λ i f il. once i il f;
     one_by_one = λ i f n il some_. let x = count i il (is_attempt f n) in let a = (o i il).story.one_by_one f n (omega arith) in (a.0, λ m p lt. let y = a.1 m p lt in let z = count i il (is_attempt f m) in omega arith);
     advanced_once = λ i f n il. let a = (o i il).story.attempt_once f n in let x = count i il (is_attempt f n) in omega arith;
+    ended_at = λ i f n m il e lt. let x = count i il (is_ended_at f n) in let y = count i il (is_attempt f m) in let a = (o i il).story.ended_at f n m (omega arith) lt in omega arith;
     locked_made = λ i f k c il at. lock_made i il f k c at;
     ended_is = λ i f il lt. past i il f (subst (λ (w : ℕ). f < (parts w).first) (words i il) lt);
     ended_not = λ i f il le. not_yet i il f (subst (λ (w : ℕ). (parts w).first ≤ f) (words i il) le);

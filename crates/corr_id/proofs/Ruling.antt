@@ -163,15 +163,15 @@ module _ {C : Type 0} (p : Plan) (id : ℕ) (me : Me (Maybe C) (View C)) (i : �
     pub behind : FreshBehind w₀ (Locked f rg att c q r' (Full c))
     behind = own_fresh p s r.lawful r.fresh id me.0 here i inside (Locked f rg att c q r' (Full c)) (own p id me i inside real s r.lawful here (Locked f rg att c q r' (Full c)) has)
 
-  pub ends_ruled : (f rg att q r' : ℕ) (c : C) → tokens_in i me.0 ≡ Locked f rg att c q r' Empty ∷ [] → (n : ℕ) → parts n ≡ free_word ((local s i).word.first + (local s i).word.range) → Ruled p (stepped s (id_index i) n id me.1 (ended_view i f ((local s i).word.first + (local s i).word.range) me.0) keeps)
+  pub ends_ruled : (f rg att q r' : ℕ) (c : C) → tokens_in i me.0 ≡ Locked f rg att c q r' Empty ∷ [] → (n : ℕ) → parts n ≡ free_word ((local s i).word.first + (local s i).word.range) → Ruled p (stepped s (id_index i) n id me.1 (ended_view i f att ((local s i).word.first + (local s i).word.range) me.0) keeps)
   ends_ruled f rg att q r' c has n is = let next : ℕ = (local s i).word.first + (local s i).word.range in let t : Token C = Locked f rg att c q r' Empty in record {
     lawful = ends_law p id me i inside real s r.lawful here f rg att q r' c has n is;
     fresh = dite (dec_le next LAST)
-        (λ le. let w : View C = with_note i (Ended f) (with_token i Leaving me.0) in subst (λ b. F (id_index i) n (with_note i (Ended f) (cond b (with_token i Leaving me.0) (no_token i me.0)))) (sym (le-leb next LAST le))
+        (λ le. let w : View C = with_note i (Ended f att) (with_token i Leaving me.0) in subst (λ b. F (id_index i) n (with_note i (Ended f att) (cond b (with_token i Leaving me.0) (no_token i me.0)))) (sym (le-leb next LAST le))
         (fresh_id p s r.lawful r.fresh id me.0 here i inside w (aside_token i Leaving me.0).tokens n s.homes (Leaving ∷ []) (own_tokens p s r.lawful id me.0 here real i inside w t has ∙ token_here i Leaving me.0) (tt, tt)))
-        (λ nle. let w : View C = with_note i (Ended f) (no_token i me.0) in subst (λ b. F (id_index i) n (with_note i (Ended f) (cond b (with_token i Leaving me.0) (no_token i me.0)))) (sym (lt-leb next LAST (lt_of_not-le nle)))
+        (λ nle. let w : View C = with_note i (Ended f att) (no_token i me.0) in subst (λ b. F (id_index i) n (with_note i (Ended f att) (cond b (with_token i Leaving me.0) (no_token i me.0)))) (sym (lt-leb next LAST (lt_of_not-le nle)))
         (fresh_id p s r.lawful r.fresh id me.0 here i inside w (aside_drop i me.0).tokens n s.homes [] (own_tokens p s r.lawful id me.0 here real i inside w t has ∙ drop_here i me.0) tt));
-    known = let u : View C = cond (nat_le next LAST) (with_token i Leaving me.0) (no_token i me.0) in adds_later s.views id me.0 (ended_view i f next me.0) here (adds_then me.0 u (ended_view i f next me.0) (adds_either (nat_le next LAST) me.0 (with_token i Leaving me.0) (no_token i me.0) (adds_none me.0 (with_token i Leaving me.0) refl refl) (adds_none me.0 (no_token i me.0) refl refl)) (adds_note i (Ended f) u (λ x. refl))) r.known;
+    known = let u : View C = cond (nat_le next LAST) (with_token i Leaving me.0) (no_token i me.0) in adds_later s.views id me.0 (ended_view i f att next me.0) here (adds_then me.0 u (ended_view i f att next me.0) (adds_either (nat_le next LAST) me.0 (with_token i Leaving me.0) (no_token i me.0) (adds_none me.0 (with_token i Leaving me.0) refl refl) (adds_none me.0 (no_token i me.0) refl refl)) (adds_note i (Ended f att) u (λ x. refl))) r.known;
   }
 
   pub frees_ruled : tokens_in i me.0 ≡ Leaving ∷ [] → Ruled p (stepped s (tag_index i) 0 id me.1 (no_token i me.0) keeps)

@@ -140,7 +140,7 @@ module _ {C : Type 0} where
           b = λ g. none;
           first_some = omega arith;
           first_low = omega arith;
-          story = record { fits = tt; births = λ g x e. absurd (some-ne-none x (sym e)); apart = λ g k x y e u lt. absurd (some-ne-none x (sym e)); made = λ g. refl; ended_past = λ g lt. refl; ended_not = λ g le. refl; attempt_once = λ g n. omega arith; one_by_one = λ g n some_. absurd (omega arith); unborn = λ g z. refl };
+          story = record { fits = tt; births = λ g x e. absurd (some-ne-none x (sym e)); apart = λ g k x y e u lt. absurd (some-ne-none x (sym e)); made = λ g. refl; ended_past = λ g lt. refl; ended_not = λ g le. refl; attempt_once = λ g n. omega arith; one_by_one = λ g n some_. absurd (omega arith); unborn = λ g z. refl; ended_at = λ g n m some_ lt. refl };
           now = record { not_later = omega arith; is_born = λ z. absurd (omega arith); was_locked = λ z. absurd (omega arith); advanced = λ z. absurd (omega arith); oldest_by = λ z n. absurd (omega arith); second_by = λ z n. absurd (omega arith) };
           stands = vacant refl tag state (omega arith) (all_none p.slots i il);
           used = λ z. absurd (omega arith);

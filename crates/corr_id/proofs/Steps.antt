@@ -301,12 +301,12 @@ module _ {C : Type 0} (p : Plan) (slots id : ℕ) (me : Me (Maybe C) (View C)) (
       let k = is_lock (local s i) (o p id me i inside real s ru.lawful here) f rg att c q r Empty (own p id me i inside real s ru.lawful here (Locked f rg att c q r Empty) has) in
       let next : f + rg ≡ (local s i).word.first + (local s i).word.range = (let a = k.first_is in let b = k.range_is in omega arith) in
       let to : (parts n).first ≡ (local s i).word.first + (local s i).word.range = ap (λ (y : Parts). y.first) is ∙ next in (
-        ended_view i f (parts n).first me.0,
+        ended_view i f att (parts n).first me.0,
         keeps,
         tt,
-        subst (λ (y : ℕ). After s n (ended_view i f y me.0)) (sym to) (ends_ruled p id me i inside real s ru here f rg att q r c has n (is ∙ ap free_word next)),
-        λ x f' rg' att' q' r' d at has'. let e : i ≡ x = omega arith in let t : Locked f rg att c q r Empty ≡ Locked f' rg' att' d q' r' Empty = which x (Locked f rg att c q r Empty) (Locked f' rg' att' d q' r' Empty) e has has' in let ff : f ≡ f' = cc in
-            λ y. (ended_view (e y) (ff y) (parts n).first me.0, me.1),
+        subst (λ (y : ℕ). After s n (ended_view i f att y me.0)) (sym to) (ends_ruled p id me i inside real s ru here f rg att q r c has n (is ∙ ap free_word next)),
+        λ x f' rg' att' q' r' d at has'. let e : i ≡ x = omega arith in let t : Locked f rg att c q r Empty ≡ Locked f' rg' att' d q' r' Empty = which x (Locked f rg att c q r Empty) (Locked f' rg' att' d q' r' Empty) e has has' in let ff : f ≡ f' = cc in let same : att ≡ att' = cc in
+            λ y. (ended_view (e y) (ff y) (same y) (parts n).first me.0, me.1),
       )
 
   pub freeing : tokens_in i me.0 ≡ Leaving ∷ [] → Allows (Ruled p) slots id me (tag_index i) (λ _. 0) (λ _. free_told (step slots (tag_index i) 0 0 none) me 0)

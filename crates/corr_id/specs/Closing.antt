@@ -3,7 +3,7 @@ use Rattle.std.specs.Prelude.{◌≡◌, ◌≢◌, ℕ, ◌+◌, ◌<◌, ◌�
 use mathlib.Core.Option.{some}
 use lib.ListN.{get_elem?}
 use Rattle.corr_core.specs.Word.{parts}
-use Rattle.corr_core.specs.Law.{total, is_made, is_ended, is_locker, is_queued, is_advance, is_attempt, is_tried, is_any_made}
+use Rattle.corr_core.specs.Law.{total, is_made, is_ended, is_ended_at, is_locker, is_queued, is_advance, is_attempt, is_tried, is_any_made}
 use Rattle.corr_core.specs.declared.marks.Plan.{Plan}
 use Rattle.corr_core.specs.declared.marks.Note.TheVariants.{Made, Locker}
 use Rattle.corr_core.specs.declared.marks.Noted.{Noted}
@@ -23,6 +23,8 @@ module _ {C : Type 0} where
     pub advanced_once : (i f n : ℕ) → i < p.slots → total (is_attempt f n) (notes_of i notes) ≤ 1
     -- an id advances to each attempt behind the first, one after the other
     pub one_by_one : (i f n : ℕ) → i < p.slots → 0 < total (is_attempt f n) (notes_of i notes) → (0 < n) × ((m : ℕ) → 0 < m → m < n → 0 < total (is_attempt f m) (notes_of i notes))
+    -- and to none behind the one at which it ended
+    pub ended_at : (i f n m : ℕ) → i < p.slots → 0 < total (is_ended_at f n) (notes_of i notes) → n < m → total (is_attempt f m) (notes_of i notes) ≡ 0
     -- a content that a lock gave is the one with which its id was made
     pub locked_made : (i f k : ℕ) (c : C) → i < p.slots → get_elem? (notes_of i notes) k ≡ some (Locker f c) → (r j : ℕ) × (get_elem? (notes_of i notes) j ≡ some (Made f r c))
     -- a range that was made has ended exactly where the slot's word has a later first version, and so where a later one was found

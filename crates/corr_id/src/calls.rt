@@ -201,7 +201,7 @@ impl<C> IdTable<C> {
         requires lock { (lock.slot < self.now.plan.slots) × Locks lock.slot seat.old.me.0 (parts lock.word.0) lock.content Empty }
         ensures seat { Stays seat.old seat.new }
         ensures content { result ≡ lock.content }
-        ensures ended { Became lock.slot seat.old.me.0 seat.new.me.0 [] (one lock.slot (Ended (parts lock.word.0).first)) }
+        ensures ended { Became lock.slot seat.old.me.0 seat.new.me.0 [] (one lock.slot (Ended (parts lock.word.0).first (parts lock.word.0).attempt)) }
     {
         let IdLock {
             content,

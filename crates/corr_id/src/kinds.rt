@@ -160,8 +160,8 @@ impl<C> IdTable<C> {
         requires next { parts next ≡ free_word ((parts from.0).first + (parts from.0).range) }
         requires lock { (c : C) × Locks at seat.old.me.0 (parts from.0) c Empty }
         ensures seat { Stays seat.old seat.new }
-        ensures freed { (parts next).first ≤ LAST → Became at seat.old.me.0 seat.new.me.0 (Leaving ∷ []) (one at (Ended (parts from.0).first)) }
-        ensures retired { LAST < (parts next).first → Became at seat.old.me.0 seat.new.me.0 [] (one at (Ended (parts from.0).first)) }
+        ensures freed { (parts next).first ≤ LAST → Became at seat.old.me.0 seat.new.me.0 (Leaving ∷ []) (one at (Ended (parts from.0).first (parts from.0).attempt)) }
+        ensures retired { LAST < (parts next).first → Became at seat.old.me.0 seat.new.me.0 [] (one at (Ended (parts from.0).first (parts from.0).attempt)) }
     {
         let word = 2 * at as usize + 1;
         let _ = from;

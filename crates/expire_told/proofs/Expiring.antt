@@ -59,9 +59,9 @@ decided_ends (handling.goes_on s k code attempt t u l next of a b e rest) none_ 
 once_more : (k : IdLock Asked) (code : ℕ) (s u t : CallStand) (id : ℕ) → k.slot ≡ slot_of id → (parts k.word.0).first ≡ version_of id → noted_ends k.slot (parts k.word.0).first s.view.notes ≤ noted_ends k.slot (parts k.word.0).first u.view.notes → EndedWith k code u t
     → 1 + noted_ends (slot_of id) (version_of id) s.view.notes ≤ noted_ends (slot_of id) (version_of id) t.view.notes
 once_more k code s u t id slot first grows e =
-    let i : ℕ = k.slot in let f : ℕ = (parts k.word.0).first in let now : List (Noted Asked) = one i (Ended f) in
+    let i : ℕ = k.slot in let f : ℕ = (parts k.word.0).first in let now : List (Noted Asked) = one i (Ended f (parts k.word.0).attempt) in
     let more : ℕ → ℕ → Type 0 = λ j g. 1 + noted_ends j g s.view.notes ≤ noted_ends j g t.view.notes in
-    let a = ap (noted_ends i f) e.ended.notes in let b = noted_more i f now u.view.notes in let c : noted_ends i f now ≡ 1 = counted_here (is_ended f) i (Ended f) ∙ only-same f in
+    let a = ap (noted_ends i f) e.ended.notes in let b = noted_more i f now u.view.notes in let c : noted_ends i f now ≡ 1 = counted_here (is_ended f) i (Ended f (parts k.word.0).attempt) ∙ only-same f in
     let here : more i f = omega (arith, a, b, c, grows) in
     subst (λ (j : ℕ). more j (version_of id)) slot (subst (λ (g : ℕ). more i g) first here)
 

@@ -112,7 +112,7 @@ module _ (q : id_plan.Plan) (operation : ℕ) where
   -- ## Errors of calls
 
   lock_ends : (k : IdLock Asked) (code : ℕ) (s t : CallStand) → EndedWith k code s t → Goes 0 s t
-  lock_ends k code s t e = record { grows = ended_grows place k.slot s.view t.view [] (one k.slot (Ended (parts k.word.0).first)) e.ended; books = onward_tells (failed k code) s.books t.books e.tells }
+  lock_ends k code s t e = record { grows = ended_grows place k.slot s.view t.view [] (one k.slot (Ended (parts k.word.0).first (parts k.word.0).attempt)) e.ended; books = onward_tells (failed k code) s.books t.books e.tells }
 
   starved_ends : (k : IdLock Asked) (s t : CallStand) → EndedWith k EINTERNAL (record { view = s.view; books = starving s.books }) t → Goes 0 s t
   starved_ends k s t e = let m = lock_ends k EINTERNAL (record { view = s.view; books = starving s.books }) t e in record { grows = m.grows; books = onward_then s.books (starving s.books) t.books (onward_starving s.books) m.books }

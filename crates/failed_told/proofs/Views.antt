@@ -29,7 +29,7 @@ pub queued_silent : (first e : ℕ) (n : Note Asked) → is_event n ≡ false �
 queued_silent first e Tried z = refl
 queued_silent first e (Saw w) z = refl
 queued_silent first e (Made a b c) z = refl
-queued_silent first e (Ended g) z = refl
+queued_silent first e (Ended g y) z = refl
 queued_silent first e (Locker g c) z = refl
 queued_silent first e (Queued g d) z = let k : true ≡ false = z in cc
 queued_silent first e (Attempt g n) z = refl
@@ -151,19 +151,19 @@ kept_stays v w place own word e = record {
 }
 
 -- a range ended
-pub ended_stays : (i first : ℕ) (v w : View Asked) → Became i v w [] (one i (Ended first)) → Stays v w
-ended_stays i first v w b = record {
-  later = of_grows v w (ended_grows 0 i v w [] (one i (Ended first)) b);
+pub ended_stays : {n : ℕ} (i first : ℕ) (v w : View Asked) → Became i v w [] (one i (Ended first n)) → Stays v w
+ended_stays {n} i first v w b = record {
+  later = of_grows v w (ended_grows 0 i v w [] (one i (Ended first n)) b);
   queued = λ j f e. (let a = more (is_queued f e) j in let d = silent.queued j f e in omega (arith, a, d));
   advanced = λ j f n. (let a = more (is_attempt f n) j in let d = silent.advanced j f n in omega (arith, a, d));
 }
   where
-    silent : AreSilent (one i (Ended first))
-    silent = one_silent i (Ended first) (λ f e. refl) (λ f n. refl)
+    silent : AreSilent (one i (Ended first n))
+    silent = one_silent i (Ended first n) (λ f e. refl) (λ f n. refl)
 
-    more : (W : Note Asked → ℕ) (j : ℕ) → total W (notes_of j w.notes) ≡ total W (notes_of j (one i (Ended first))) + total W (notes_of j v.notes)
+    more : (W : Note Asked → ℕ) (j : ℕ) → total W (notes_of j w.notes) ≡ total W (notes_of j (one i (Ended first n))) + total W (notes_of j v.notes)
     more W j =
-        let es : List (Noted Asked) = one i (Ended first) in
+        let es : List (Noted Asked) = one i (Ended first n) in
         ap (λ (l : List (Noted Asked)). total W (notes_of j l)) b.notes ∙ (ap (total W) (notes_append j es v.notes) ∙ total_append W (notes_of j es) (notes_of j v.notes))
 
 pub got_stays : (i : ℕ) (v w : View Asked) (word : ℕ) (k : Parts) (call : Asked) → GotLock i v w word k call → Stays v w

@@ -146,9 +146,9 @@ module _ {C : Type 0} (p : Plan) (id : ℕ) (me : Me (Maybe C) (View C)) (i : �
         (λ ns g. subst (word_law (t ∷ []) ns) (sym (is.1 m)) (pops (local s i) o f rg att c q r now 1 ns (advances (local s i) o c ns (omega arith) known.live room (own_note ns g)) m))))
 
   -- I6
-  pub ends_law : (f rg att q r : ℕ) (c : C) → tokens_in i me.0 ≡ Locked f rg att c q r Empty ∷ [] → (n : ℕ) → parts n ≡ free_word ((local s i).word.first + (local s i).word.range) → Lawful p (stepped s (id_index i) n id me.1 (ended_view i f ((local s i).word.first + (local s i).word.range) me.0) keeps)
+  pub ends_law : (f rg att q r : ℕ) (c : C) → tokens_in i me.0 ≡ Locked f rg att c q r Empty ∷ [] → (n : ℕ) → parts n ≡ free_word ((local s i).word.first + (local s i).word.range) → Lawful p (stepped s (id_index i) n id me.1 (ended_view i f att ((local s i).word.first + (local s i).word.range) me.0) keeps)
   ends_law f rg att q r c has n is =
-      let t : Token C = Locked f rg att c q r Empty in let x : Note C = Ended f in let next : ℕ = (local s i).word.first + (local s i).word.range in let now = own t has in let k = is_lock (local s i) o f rg att c q r Empty now in
+      let t : Token C = Locked f rg att c q r Empty in let x : Note C = Ended f att in let next : ℕ = (local s i).word.first + (local s i).word.range in let now = own t has in let k = is_lock (local s i) o f rg att c q r Empty now in
       let H : Bool → Type 0 = λ b. Lawful p (stepped s (id_index i) n id me.1 (with_note i x (cond b (with_token i Leaving me.0) (no_token i me.0))) keeps) in
       let W : (ts : List (Token C)) (ns : List (Note C)) → Parts → Type 0 = λ ts ns y. SlotLaw record { tag = (local s i).tag; word = y; home = (local s i).home; tokens = ts; notes = ns } in
       dite (dec_le next LAST)

@@ -124,11 +124,11 @@ module _ {C : Type 0} where
       × (found ≢ st.first → Becomes m n (with_token i (Locked f rg at c (parts found).oldest (parts found).second (Full c)) m.0) × Longer f rg at o s (parts found))
 
   -- a slot whose next first version is too high is retired
-  abbrev pub ended_view : ℕ → ℕ → ℕ → View C → View C
-  ended_view i f next v = with_note i (Ended f) (cond (nat_le next LAST) (with_token i Leaving v) (no_token i v))
+  abbrev pub ended_view : ℕ → ℕ → ℕ → ℕ → View C → View C
+  ended_view i f at next v = with_note i (Ended f at) (cond (nat_le next LAST) (with_token i Leaving v) (no_token i v))
 
   abbrev pub end_told : Step (Maybe C) → Me (Maybe C) (View C) → ℕ → Me (Maybe C) (View C) → Type 0
-  end_told st m found n = (i f rg at o s : ℕ) (c : C) → st.word ≡ id_index i → has_token i (Locked f rg at c o s Empty) m → Becomes m n (ended_view i f (parts st.first).first m.0)
+  end_told st m found n = (i f rg at o s : ℕ) (c : C) → st.word ≡ id_index i → has_token i (Locked f rg at c o s Empty) m → Becomes m n (ended_view i f at (parts st.first).first m.0)
 
   abbrev pub free_told : Step (Maybe C) → Me (Maybe C) (View C) → ℕ → Me (Maybe C) (View C) → Type 0
   free_told st m found n = (i : ℕ) → st.word ≡ tag_index i → Becomes m n (no_token i m.0)

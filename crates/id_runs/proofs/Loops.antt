@@ -200,10 +200,10 @@ module _ (p : Plan) (q : IdPlan) where
         (ended (leb ((parts found).first + (parts found).range) LAST)),
   )
     where
-      ended : (b : Bool) → Goes (with_note i (Ended f) (cond b (with_token i Leaving u) (no_token i u))) (cond b (Aside (FreeId i) (λ _. next)) next)
+      ended : (b : Bool) → Goes (with_note i (Ended f att) (cond b (with_token i Leaving u) (no_token i u))) (cond b (Aside (FreeId i) (λ _. next)) next)
       ended true = let w : IdView = with_token i Leaving u in let now : w.tokens ≡ one i Leaving = other_one i (Locked f rg att c o s Empty) u is Leaving in
-          ((inside, ap (tokens_of i) now ∙ tokens_one i Leaving), λ found d _. goes (no_token i (with_note i (Ended f) w)) (ap (without i) now ∙ without_one i Leaving))
-      ended false = goes (with_note i (Ended f) (no_token i u)) (none_left i (Locked f rg att c o s Empty) u is)
+          ((inside, ap (tokens_of i) now ∙ tokens_one i Leaving), λ found d _. goes (no_token i (with_note i (Ended f att) w)) (ap (without i) now ∙ without_one i Leaving))
+      ended false = goes (with_note i (Ended f att) (no_token i u)) (none_left i (Locked f rg att c o s Empty) u is)
 
   unlocked_goes : (r : Retry) (k : Deciding → Program) → FitsRetryId q r → ((exit : Deciding) (v : IdView) → IsFree v → Goes v (k exit)) → (exit : Unlocking) (v : IdView) → LeavesUnlock (id_slot r.id) exit v → Goes v (unlocked r k exit)
   unlocked_goes r k fits goes (IsOpen w) v free = (fits, goes GoesOn v free)

@@ -80,6 +80,7 @@ module _ {C : Type 0} where
       attempt_once = λ g n. omega arith;
       one_by_one = λ g n some_. absurd (omega arith);
       unborn = λ g none_. refl;
+      ended_at = λ g n m some_ less. refl;
     };
     now = record {
       not_later = omega arith;

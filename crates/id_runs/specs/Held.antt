@@ -49,7 +49,7 @@ unlocked_by i from more found u (Locked f rg att c o s h) = if found == from
 unlocked_by i from more found u other = u
 
 abbrev pub ended_by : ℕ → ℕ → IdView → Token Asked → IdView
-ended_by i found u (Locked f rg att c o s h) = ended_view i f ((parts found).first + (parts found).range) u
+ended_by i found u (Locked f rg att c o s h) = ended_view i f att ((parts found).first + (parts found).range) u
 ended_by i found u other = u
 
 abbrev pub locked_by : ℕ → ℕ → Asked → IdView → IdView

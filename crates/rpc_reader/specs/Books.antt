@@ -29,7 +29,7 @@ ToldBy number by told starved told' starved' = ((told' ≡ told ++ record { numb
 
 -- the range of a lock, whose word is w, has ended, and with it the call that was its content: with this outcome
 pub record EndedAs (slot : ℕ) (w : Parts) (call : Asked) (by : Outcome) (b b' : Books) : Type 0 where
-  pub ended : Became slot b.view b'.view [] (one slot (Ended w.first))
+  pub ended : Became slot b.view b'.view [] (one slot (Ended w.first w.attempt))
   pub told : ToldBy call.operation by b.told b.starved b'.told b'.starved
 
 -- the response was kept behind those before; or memory was wanting for that, which is noted

@@ -68,7 +68,7 @@ made_for f o (Made g r c) = dite (ℕ_discrete c.operation o)
     (λ e. dite (ℕ_discrete g f) (λ d. let a = pair-at f o g c.operation d e in let b = only-at o c.operation e in omega arith) (λ n. let a = pair-else_first f o g c.operation n in omega arith))
     (λ n. let a = pair-else f o g c.operation n in omega arith)
 made_for f o Tried = omega arith
-made_for f o (Ended g) = omega arith
+made_for f o (Ended g y) = omega arith
 made_for f o (Locker g c) = omega arith
 made_for f o (Queued g e) = omega arith
 made_for f o (Attempt g m) = omega arith

@@ -96,7 +96,7 @@ locks_silent : (c : Asked) (f : ℕ) (n : Note Asked) → is_event n ≡ false �
 unfolding locks_with
 locks_silent c f Tried e = refl
 locks_silent c f (Made a b d) e = refl
-locks_silent c f (Ended g) e = refl
+locks_silent c f (Ended g y) e = refl
 locks_silent c f (Locker g d) e = let k : true ≡ false = e in cc
 locks_silent c f (Queued g d) e = refl
 locks_silent c f (Attempt g n) e = refl
@@ -115,7 +115,7 @@ unfolding locks_with
 lock_is c f (Locker g d) h = lock_by c d f g (same_call c d) refl h
 lock_is c f Tried h = absurd (omega arith)
 lock_is c f (Made a b d) h = absurd (omega arith)
-lock_is c f (Ended g) h = absurd (omega arith)
+lock_is c f (Ended g y) h = absurd (omega arith)
 lock_is c f (Queued g d) h = absurd (omega arith)
 lock_is c f (Attempt g n) h = absurd (omega arith)
 lock_is c f (Saw w) h = absurd (omega arith)

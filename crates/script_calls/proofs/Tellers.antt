@@ -104,8 +104,8 @@ module _ (q : id_plan.Plan) (v : View Asked) (words : List ℕ) (closing : Closi
   pub from_told : (links : ℕ) (gave : ℕ → List ℕ) (x : Told) → ToldFrom q.slots links gave v x → IsEndTold q.slots v.notes x
   from_told links gave x t =
       let n = noted_place t.slot (Locker t.word.first t.call) v.notes t.lock.locked.0 t.lock.locked.1 in
-      let m = noted_place t.slot (Ended t.word.first) v.notes t.lock.ended.0 t.lock.ended.1 in
-      let one = term (is_ended t.word.first) (notes_of t.slot v.notes) m.0 (Ended t.word.first) m.1 in
+      let m = noted_place t.slot (Ended t.word.first t.word.attempt) v.notes t.lock.ended.0 t.lock.ended.1 in
+      let one = term (is_ended t.word.first) (notes_of t.slot v.notes) m.0 (Ended t.word.first t.word.attempt) m.1 in
       let same = only-at t.word.first t.word.first refl in
       locked_told x t.slot t.word.first n.0 t.call t.inside n.1 (sym t.number) (its_end t.slot t.word x.outcome t.by) (omega (arith, one, same))
     where

@@ -15,7 +15,7 @@ pub returns-clause-seat : goal.returns-clause-seat
 returns-clause-seat g c = let w = parts c.args.from.0 in (c.swap.ensures.0, c.swap.ensures.1, ap (λ m. m.1) (c.swap.ensures.2 c.args.at w.first w.range w.attempt w.oldest w.second c.requires.lock.0 refl c.requires.lock.1))
 
 pub returns-clause-freed : goal.returns-clause-freed
-returns-clause-freed g c = λ le. let w = parts c.args.from.0 in ended_became c.args.at c.args.seat.now.me.0 c.swap.new.seat.me.0 w.first (parts c.args.next).first (ap (λ m. m.0) (c.swap.ensures.2 c.args.at w.first w.range w.attempt w.oldest w.second c.requires.lock.0 refl c.requires.lock.1)) le
+returns-clause-freed g c = λ le. let w = parts c.args.from.0 in ended_became c.args.at c.args.seat.now.me.0 c.swap.new.seat.me.0 w.first w.attempt (parts c.args.next).first (ap (λ m. m.0) (c.swap.ensures.2 c.args.at w.first w.range w.attempt w.oldest w.second c.requires.lock.0 refl c.requires.lock.1)) le
 
 pub returns-clause-retired : goal.returns-clause-retired
-returns-clause-retired g c = λ lt. let w = parts c.args.from.0 in retired_became c.args.at c.args.seat.now.me.0 c.swap.new.seat.me.0 w.first (parts c.args.next).first (ap (λ m. m.0) (c.swap.ensures.2 c.args.at w.first w.range w.attempt w.oldest w.second c.requires.lock.0 refl c.requires.lock.1)) lt
+returns-clause-retired g c = λ lt. let w = parts c.args.from.0 in retired_became c.args.at c.args.seat.now.me.0 c.swap.new.seat.me.0 w.first w.attempt (parts c.args.next).first (ap (λ m. m.0) (c.swap.ensures.2 c.args.at w.first w.range w.attempt w.oldest w.second c.requires.lock.0 refl c.requires.lock.1)) lt
