@@ -1,5 +1,5 @@
 -- By which link's end or fault a call failed that whoever read the links ended.
-use Rattle.std.specs.Prelude.{ℕ, ◌≡◌, ◌≤◌, ◌⊎◌, true, List, slice_get, Option, Some, IfSome}
+use Rattle.std.specs.Prelude.{ℕ, ◌≡◌, ◌<◌, ◌⊎◌, true, List, slice_get, Option, Some, IfSome}
 use Rattle.sock_words.specs.Codes.{EEOF, ERESPONSE}
 use Rattle.sock_words.specs.declared.outcome.Outcome.{Outcome}
 use Rattle.sock_words.specs.declared.plain.Plan.{Plan}
@@ -7,7 +7,8 @@ use Rattle.sock_message.specs.Asked.{Asked, name_of}
 use Rattle.sock_message.specs.brpc_model.specs.Link.{LinkEnd}
 use Rattle.attempts_told.specs.call_whys.specs.expire_told.specs.report_fits.specs.Ends.{EndsEarly}
 use Rattle.seat_programs.specs.declared.task.Task.{Task}
-use Rattle.seat_programs.specs.ToldCalls.{Fixed, Order, GaveFault, StandsOn, IsDropped, IsUnordered, IsFailing, WasFull, MayBeOn}
+use Rattle.sock_message.specs.brpc_model.specs.Frame.{Frame}
+use Rattle.seat_programs.specs.ToldCalls.{Fixed, Order, Gave, GaveFault, IsResponse, StandsOn, IsDropped, IsUnordered, IsFailing, WasFull, MayBeOn}
 
 module _ (p : Plan) (clients : List (List Task)) (outcomes : List (Option Outcome)) (fixed : Fixed) (gave : ℕ → List ℕ) (orders : ℕ → Order) where
   -- link k was failing, or it accepted this attempt, or no link did, and each request may have been found taken
@@ -25,18 +26,23 @@ module _ (p : Plan) (clients : List (List Task)) (outcomes : List (Option Outcom
     pub ended : ReadingEnded k
     pub lost : LostOn p clients outcomes fixed gave orders o n k
 
-  -- the message of this attempt, which may be on k alone, was dropped, since the reader of k, whose reading ended at a fault in what k gave, had set its socket failed
+  -- the message of this attempt, which may be on k alone, was dropped, since the reader of k, whose reading ended, had set its socket failed
   pub record DroppedWith (o n name k : ℕ) : Type 0 where
     pub on : MayBeOn p clients outcomes fixed gave orders o n name k
     pub dropped : IsDropped p clients outcomes fixed gave orders o n
     pub failing : IsFailing p clients outcomes fixed gave orders k
-    pub fault : GaveFault p clients outcomes fixed gave orders k
     pub ended : ReadingEnded k
 
-  -- How the call that is operation o, whose last attempt this is, was ended with the code by whoever read the links: at a fault in what the link of one of its attempts gave, or as the reading of that link ended otherwise;
-  -- or since a message was dropped for which the reader of the link had set the socket failed with the code of a fault. Or it was one of those that were left when no link was read any more
-  pub data EndedByReading (o : ℕ) (asked : Asked) (code last : ℕ) : Type 0 where
-    AtFault : code ≡ ERESPONSE → (n k : ℕ) → n ≤ last → MayBeOn p clients outcomes fixed gave orders o n (name_of asked n) k → GaveFault p clients outcomes fixed gave orders k → EndedByReading o asked code last
-    AtEnd : code ≡ EEOF → (n k : ℕ) → n ≤ last → LostWith o n (name_of asked n) k → EndedByReading o asked code last
-    AtDrop : code ≡ ERESPONSE → (n k : ℕ) → n ≤ last → DroppedWith o n (name_of asked n) k → EndedByReading o asked code last
-    LeftOver : code ≡ EEOF → EndedByReading o asked code last
+  -- link k gave no response of the call with this id: no whole one before a frame fault
+  abbrev pub GaveNoResponse : Asked → ℕ → ℕ → Type 0
+  GaveNoResponse asked id k = (m : ℕ) (frame : Frame) → Gave p clients outcomes fixed gave orders k m frame → IsResponse p clients outcomes fixed gave orders asked id frame → ⊥
+
+  -- How the call that is operation o, with this id and this last attempt, was ended with the code by whoever read the links: at a fault in what the link of the attempt gave, or as the reading of that link ended
+  -- otherwise, which had given no response of the call; or since the attempt's message was dropped for which the reader of the link had set the socket failed with the code of a fault, or of another end.
+  -- Or it was one of those that were left when no link was read any more, and no link gave a response of it, but one at whose fault the reading ended
+  pub data EndedByReading (o : ℕ) (asked : Asked) (id code last : ℕ) : Type 0 where
+    AtFault : code ≡ ERESPONSE → (k : ℕ) → MayBeOn p clients outcomes fixed gave orders o last (name_of asked last) k → GaveFault p clients outcomes fixed gave orders k → EndedByReading o asked id code last
+    AtEnd : code ≡ EEOF → (k : ℕ) → LostWith o last (name_of asked last) k → GaveNoResponse asked id k → EndedByReading o asked id code last
+    AtFaultDrop : code ≡ ERESPONSE → (k : ℕ) → DroppedWith o last (name_of asked last) k → GaveFault p clients outcomes fixed gave orders k → EndedByReading o asked id code last
+    AtEndDrop : code ≡ EEOF → (k : ℕ) → DroppedWith o last (name_of asked last) k → EndedByReading o asked id code last
+    LeftOver : code ≡ EEOF → ((k : ℕ) → k < p.links → GaveFault p clients outcomes fixed gave orders k ⊎ GaveNoResponse asked id k) → EndedByReading o asked id code last
