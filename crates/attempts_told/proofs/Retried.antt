@@ -1,0 +1,394 @@
+-- Each advance of a call that a client noted has its retry waiting, or taken out; and what became of one that was taken out.
+use Rattle.std.proofs.Common.{◌≡◌, ℕ, zero, suc, ◌+◌, ◌*◌, ◌<◌, ◌≤◌, ◌⊎◌, inl, inr, Bool, true, false, cond, eqb, eq-eqb, ne_eqb, List, [], ◌∷◌, ◌++◌, Some, None, refl, sym, ap, ◌∙◌, subst, arith}
+use Rattle.std.specs.Prelude.{Option as Maybe}
+use Rattle.std.specs.List.{AllByRecursion}
+use Rattle.std.proofs.lemmas.Nat.{div-add-mod'}
+use mathlib.Core.Logic.{dite}
+use native.Mathlib.Decide.{ℕ_discrete}
+use Rattle.atomic_table.specs.Table.{Me}
+use Rattle.sock_io.specs.declared.link.Out.{Ghosts}
+use Rattle.sock_io.specs.Link.{OutState}
+use Rattle.sock_words.specs.Codes.{EFAILEDSOCKET, ERPCTIMEDOUT}
+use Rattle.sock_words.specs.declared.plain.Plan.{Plan}
+use Rattle.sock_words.specs.declared.socket_id.SocketId.{SocketId}
+use Rattle.sock_words.specs.declared.outcome.Outcome.{Outcome}
+use Rattle.sock_words.specs.declared.outcome.Outcome.TheVariants as outcome
+use Rattle.sock_model.specs.declared.view.View as sock_view
+use Rattle.call_whys.specs.call_told.specs.call_run.specs.sock_rule.specs.declared.homes.Letter.{Letter}
+use Rattle.call_whys.specs.call_told.specs.call_run.specs.sock_table.specs.declared.refs.SockRef.{SockRef}
+use Rattle.seat_programs.specs.declared.task.Op.{Op}
+use Rattle.seat_programs.specs.declared.task.Op.TheVariants as ops
+use Rattle.seat_programs.specs.declared.task.Task.{Task}
+use Rattle.call_whys.specs.call_told.specs.call_run.specs.write_chain.specs.declared.right.Undelivered.{Undelivered}
+use Rattle.corr_core.specs.Word.{Parts, parts}
+use Rattle.corr_core.specs.Law.{total, is_attempt, is_ended}
+use Rattle.corr_core.specs.declared.marks.Note.{Note}
+use Rattle.corr_core.specs.declared.marks.Note.TheVariants.{Made, Ended, Attempt}
+use Rattle.corr_core.specs.declared.marks.Noted.{Noted}
+use Rattle.corr_core.specs.declared.marks.Plan as id_plan
+use Rattle.corr_core.specs.declared.marks.Token.{Token}
+use Rattle.corr_core.specs.declared.marks.View.{View}
+use Rattle.corr_core.proofs.Notes.{only-at, pair-at, pair-else, pair-else_first}
+use Rattle.id_rule.specs.Lawful.{notes_of, call_index, with_kept}
+use Rattle.sock_message.specs.Asked.{Asked}
+use Rattle.corr_id.specs.declared.calls.IdLock.{IdLock}
+use Rattle.corr_id.specs.declared.posts.Posted.{Posted}
+use Rattle.corr_id.specs.declared.posts.Posted.TheVariants.{Locked as HasLock, Queued as IsQueued, Gone, Stale, Crowded}
+use Rattle.corr_id.specs.declared.unlocks.Unlocked.{Unlocked}
+use Rattle.corr_id.specs.declared.unlocks.Unlocked.TheVariants.{Open, Next}
+use Rattle.corr_id.specs.Calls.{Did, one, advance_note, slot_of, version_of}
+use Rattle.corr_id.specs.Unlocks.{UnlockOk}
+use Rattle.corr_id.proofs.Seats.{total_append}
+use Rattle.call_whys.specs.call_told.specs.call_run.specs.call_errors.specs.declared.retries.Retry.{Retry}
+use Rattle.call_whys.specs.call_told.specs.call_run.specs.call_errors.specs.Books.{Books, CallStand, stand_of, starving, keeping, Tells, told, lost}
+use Rattle.call_whys.specs.call_told.specs.call_run.specs.call_errors.specs.Ending.{EndedWith, failed}
+use Rattle.call_whys.specs.call_told.specs.call_run.specs.call_errors.specs.Handling.{Advanced, IsNext, Decided}
+use Rattle.call_whys.specs.call_told.specs.call_run.specs.call_errors.specs.Handling as handling
+use Rattle.call_whys.specs.call_told.specs.call_run.specs.call_errors.specs.Posting.{Handled, PostedBy}
+use Rattle.call_whys.specs.call_told.specs.call_run.specs.call_errors.specs.Asking.{found_id, TimedOut, ExpiredBy, JoinedBy}
+use Rattle.call_whys.specs.call_told.specs.call_run.specs.call_writes.specs.Draining.{ToldDrop, of_send, of_call, DroppedAll}
+use Rattle.call_whys.specs.call_told.specs.call_run.specs.call_writes.specs.Draining as draining
+use Rattle.call_whys.specs.call_told.specs.call_run.specs.call_writes.specs.Sending.{DeliveredCalling, SentCalling}
+use Rattle.call_whys.specs.call_told.specs.call_run.specs.call_attempts.specs.Both.{Both}
+use Rattle.call_whys.specs.call_told.specs.call_run.specs.call_attempts.specs.Attempting.{code_for, DeliveredBy, went_out, came_back, AttemptedBy, nowhere, over_link}
+use Rattle.call_whys.specs.call_told.specs.call_run.specs.call_attempts.specs.Calling.{MadeFor}
+use Rattle.call_whys.specs.call_told.specs.call_run.specs.call_attempts.specs.Retrying.{without_oldest, WentTo, stray, unopened, to_socket, RetriedBy, had_ended, overtaken, went_again, Retried, none_yet, one_more}
+use Rattle.call_whys.specs.call_told.specs.call_run.specs.call_client.specs.Acting.{Stand, stand, both_of, letter_of, Acted}
+use Rattle.call_whys.specs.call_told.specs.call_run.specs.call_client.specs.Running.{Course, Ran, begins}
+use Rattle.call_whys.specs.call_told.specs.call_run.specs.call_client.proofs.Telling.{did_total, none_of_one}
+use Rattle.call_whys.specs.call_told.specs.call_run.specs.Threads.{Thread, IsThread}
+use Rattle.call_whys.specs.call_told.proofs.Lists.{all_both, all_then}
+use Rattle.call_whys.specs.call_told.specs.call_places.specs.Deeds.{Deed, operates, retries, retries_of, ran_deeds, deeds}
+use Rattle.call_whys.specs.call_told.specs.call_places.proofs.Still.{is_retry, waiting, advances, attempt_silent, decided_still, retried_still}
+use Rattle.call_whys.specs.call_told.specs.call_places.proofs.Counts.{by_retry, Grows, acted_might}
+use Rattle.call_whys.specs.call_told.specs.call_places.proofs.Own.{came, end_is}
+use Rattle.attempts_told.proofs.Bounds.{Unmoved, unmoved_then, unmoved_noted, unmoved_quiet, unmoved_got, unmoved_ended, unmoved_post}
+
+-- ## Counts
+
+-- of each attempt no more advances are noted more than retries wait more
+abbrev pub Awaited : CallStand → CallStand → Type 0
+Awaited s t = (i f n : ℕ) → waiting (i * 4294967296 + f) n s.books + advances i f n t.view ≤ waiting (i * 4294967296 + f) n t.books + advances i f n s.view
+
+awaited_then : (s u t : CallStand) → Awaited s u → Awaited u t → Awaited s t
+awaited_then s u t a b i f n = let x = a i f n in let y = b i f n in omega arith
+
+-- where as many retries wait, and no attempt was noted
+by_view : (s t : CallStand) → t.books.retries ≡ s.books.retries → Unmoved s.view t.view → Awaited s t
+by_view s t e m i f n = let x = ap (total (is_retry (i * 4294967296 + f) n)) e in let y = m i f n in omega arith
+
+awaited_same : (s t : CallStand) → t ≡ s → Awaited s t
+awaited_same s t e = by_view s t (ap (λ (y : CallStand). y.books.retries) e) (unmoved_noted s.view t.view (ap (λ (y : CallStand). y.view.notes) e))
+
+tells_retries : (k : IdLock Asked) (code : ℕ) (b c : Books) → Tells (failed k code) b c → c.retries ≡ b.retries
+tells_retries k code b c (told e) = ap (λ (y : Books). y.retries) e
+tells_retries k code b c (lost e) = ap (λ (y : Books). y.retries) e
+
+ended_awaited : (k : IdLock Asked) (code : ℕ) (s t : CallStand) → EndedWith k code s t → Awaited s t
+ended_awaited k code s t h = by_view s t (tells_retries k code s.books t.books h.tells) (unmoved_ended k.slot (parts k.word.0).first s.view t.view h.ended)
+
+advance_there : (i : ℕ) (p q : Parts) → q.attempt ≡ p.attempt + 1 → advance_note {C = Asked} i p q ≡ one i (Attempt p.first q.attempt)
+advance_there i p q up = ap (λ (b : Bool). cond b [] (one i (Attempt p.first q.attempt))) (ne_eqb p.attempt q.attempt (λ e. omega (arith, e, up)))
+
+advance_none : (i : ℕ) (p q : Parts) → q.attempt ≡ p.attempt + 0 → advance_note {C = Asked} i p q ≡ []
+advance_none i p q up = ap (λ (b : Bool). cond b [] (one i (Attempt p.first q.attempt))) (eq-eqb p.attempt q.attempt (omega (arith, up)))
+
+-- one retry more waits, and the advance to its attempt is the one that was noted
+module _ (k : IdLock Asked) (s t : CallStand) (r : Retry) (next : IsNext k r) (kept : t.books ≡ keeping r s.books) (q : Parts) (ts : List (Token Asked)) (up : q.attempt ≡ (parts k.word.0).attempt + 1)
+    (d : Did k.slot s.view t.view ts (advance_note k.slot (parts k.word.0) q)) where
+  abbrev first : ℕ
+  first = (parts k.word.0).first
+
+  abbrev Counted : ℕ → ℕ → ℕ → ℕ
+  Counted i f n = cond (eqb k.slot i) (is_attempt {C = Asked} f n (Attempt first q.attempt)) 0
+
+  more_waits : (id n : ℕ) → waiting id n t.books ≡ waiting id n s.books + is_retry id n r
+  more_waits id n = let a = ap (λ (b : Books). waiting id n b) kept in let b = total_append (is_retry id n) s.books.retries (r ∷ []) in omega arith
+
+  more_noted : (i f n : ℕ) → advances i f n t.view ≡ Counted i f n + advances i f n s.view
+  more_noted i f n =
+      let a = did_total (is_attempt f n) (attempt_silent f n) k.slot s.view t.view ts (advance_note k.slot (parts k.word.0) q) d i in
+      let b = ap (λ (l : List (Noted Asked)). total (is_attempt f n) (notes_of i l)) (advance_there k.slot (parts k.word.0) q up) in
+      let c : total (is_attempt f n) (notes_of i (one k.slot (Attempt first q.attempt))) ≡ Counted i f n = by (eqb k.slot i) in
+      omega arith
+    where
+      by : (b : Bool) → total (is_attempt {C = Asked} f n) (cond b (Attempt first q.attempt ∷ []) []) ≡ cond b (is_attempt {C = Asked} f n (Attempt first q.attempt)) 0
+      by true = omega arith
+      by false = refl
+
+  -- the advance is counted where the retry is
+  same_counts : (i f n : ℕ) → Counted i f n ≤ is_retry (i * 4294967296 + f) n r
+  same_counts i f n = dite (ℕ_discrete k.slot i)
+      (λ e.
+      let z = ap (λ (b : Bool). cond b (is_attempt {C = Asked} f n (Attempt first q.attempt)) 0) (eq-eqb k.slot i e) in
+      dite (ℕ_discrete first f)
+      (λ y. dite (ℕ_discrete q.attempt n)
+      (λ m.
+      let id : r.id ≡ i * 4294967296 + f = next.id_is ∙ (λ j. e j * 4294967296 + y j) in
+      let at : r.attempt ≡ n = next.attempt_is ∙ (sym up ∙ m) in
+      let a = pair-at (i * 4294967296 + f) n r.id r.attempt id at in let b = pair-at f n first q.attempt y m in omega (arith, z, a, b))
+      (λ ne. let b = pair-else f n first q.attempt ne in omega (arith, z, b)))
+      (λ ne. let b = pair-else_first f n first q.attempt ne in omega (arith, z, b)))
+      (λ ne. let z = ap (λ (b : Bool). cond b (is_attempt {C = Asked} f n (Attempt first q.attempt)) 0) (ne_eqb k.slot i ne) in omega (arith, z))
+
+  keeps_awaited : Awaited s t
+  keeps_awaited i f n = let a = more_waits (i * 4294967296 + f) n in let b = more_noted i f n in let c = same_counts i f n in omega (arith, a, b, c)
+
+  -- it is there
+  keeps_noted : 0 < advances k.slot first ((parts k.word.0).attempt + 1) t.view
+  keeps_noted =
+      let n : ℕ = (parts k.word.0).attempt + 1 in
+      let b = more_noted k.slot first n in let c = pair-at first n first q.attempt refl up in
+      let z = ap (λ (b : Bool). cond b (is_attempt {C = Asked} first n (Attempt first q.attempt)) 0) (eq-eqb k.slot k.slot refl) in omega (arith, b, c, z)
+
+advanced_awaited : (k : IdLock Asked) (answer : Unlocked Asked) (s t : CallStand) → Advanced k answer s t → Awaited s t
+advanced_awaited k Open s t a = let u = a.unlocked in keeps_awaited k s t a.retry a.is_next a.kept u.1 [] u.2.attempt_is u.4
+advanced_awaited k (Next l code attempt) s t a = let u = a.unlocked in keeps_awaited k s t a.retry a.is_next a.kept (parts l.word.0) _ u.4.1.attempt_is u.3
+
+advanced_noted : (k : IdLock Asked) (answer : Unlocked Asked) (s t : CallStand) → Advanced k answer s t → 0 < advances k.slot (parts k.word.0).first ((parts k.word.0).attempt + 1) t.view
+advanced_noted k Open s t a = let u = a.unlocked in keeps_noted k s t a.retry a.is_next a.kept u.1 [] u.2.attempt_is u.4
+advanced_noted k (Next l code attempt) s t a = let u = a.unlocked in keeps_noted k s t a.retry a.is_next a.kept (parts l.word.0) _ u.4.1.attempt_is u.3
+
+-- ## Errors that are handled
+
+decided_awaited : {s : CallStand} {k : IdLock Asked} {code : ℕ} {attempt : Maybe ℕ} {t : CallStand} → Decided s k code attempt t → Awaited s t
+decided_awaited (handling.ends s k code attempt t a b e) = ended_awaited k code s t e
+decided_awaited (handling.starves s k code attempt t a e) = by_view s t (tells_retries k _ (starving s.books) t.books e.tells) (unmoved_ended k.slot (parts k.word.0).first s.view t.view e.ended)
+decided_awaited (handling.waits s k code attempt t a b e) = advanced_awaited k Open s t e
+decided_awaited (handling.goes_on s k code attempt t u l next of a b e rest) = awaited_then s u t (advanced_awaited k (Next l next of) s u e) (decided_awaited rest)
+
+-- the end of the lock's range was noted
+end_noted : (k : IdLock Asked) (s t : View Asked) → t.notes ≡ one k.slot (Ended (parts k.word.0).first (parts k.word.0).attempt) ++ s.notes → 0 < total (is_ended (parts k.word.0).first) (notes_of k.slot t.notes)
+end_noted k s t e =
+    let f : ℕ = (parts k.word.0).first in let x : Note Asked = Ended f (parts k.word.0).attempt in
+    let a = ap (λ (l : List (Noted Asked)). total (is_ended f) (notes_of k.slot l)) e in
+    let b = ap (λ (y : Bool). total (is_ended f) (cond y (x ∷ notes_of k.slot s.notes) (notes_of k.slot s.notes))) (eq-eqb k.slot k.slot refl) in
+    let c = only-at f f refl in omega (arith, a, b, c)
+
+-- the range of the lock ended by it, or it advanced to the next attempt
+abbrev pub Moves : IdLock Asked → View Asked → Type 0
+Moves k v = (0 < total (is_ended (parts k.word.0).first) (notes_of k.slot v.notes)) ⊎ (0 < advances k.slot (parts k.word.0).first ((parts k.word.0).attempt + 1) v)
+
+pub decided_moves : {s : CallStand} {k : IdLock Asked} {code : ℕ} {attempt : Maybe ℕ} {t : CallStand} → Decided s k code attempt t → Moves k t.view
+decided_moves (handling.ends s k code attempt t a b e) = inl (end_noted k s.view t.view e.ended.notes)
+decided_moves (handling.starves s k code attempt t a e) = inl (end_noted k s.view t.view e.ended.notes)
+decided_moves (handling.waits s k code attempt t a b e) = inr (advanced_noted k Open s t e)
+decided_moves (handling.goes_on s k code attempt t u l next of a b e rest) =
+    let n : ℕ = (parts k.word.0).attempt + 1 in let f : ℕ = (parts k.word.0).first in
+    let x = advanced_noted k (Next l next of) s u e in let y = (decided_still rest).grows k.slot (is_attempt f n) in inr (omega (arith, x, y))
+
+handled_awaited : (code : ℕ) (attempt : Maybe ℕ) (answer : Posted Asked) (s t : CallStand) → Handled code attempt answer s t → Awaited s t
+handled_awaited code attempt (HasLock k) s t h = decided_awaited h
+handled_awaited code attempt IsQueued s t h = awaited_same s t h
+handled_awaited code attempt (Gone found) s t h = awaited_same s t h
+handled_awaited code attempt (Stale current) s t h = awaited_same s t h
+handled_awaited code attempt (Crowded first second) s t h = awaited_same s t h
+
+posted_awaited : (slots : ℕ) (s : CallStand) (id code : ℕ) (attempt : Maybe ℕ) (t : CallStand) → PostedBy slots s id code attempt t → Awaited s t
+posted_awaited slots s id code attempt t p = let x = p.1 in let u : CallStand = record { view = x.view; books = s.books } in
+    awaited_then s u t (by_view s u refl (unmoved_post slots s.view x.view id code attempt p.0 x.post)) (handled_awaited code attempt p.0 u t x.handled)
+
+-- a word of an operation was noted
+kept_awaited : (s : CallStand) (place : ℕ) (own : Bool) (word : ℕ) (t : CallStand) → t.view ≡ with_kept place own word s.view → t.books ≡ s.books → Awaited s t
+kept_awaited s place own word t e b = by_view s t (ap (λ (y : Books). y.retries) b) (unmoved_noted s.view t.view (ap (λ (y : View Asked). y.notes) e))
+
+timed_out_awaited : (q : id_plan.Plan) (operation : ℕ) (by : Outcome) (s t : CallStand) → TimedOut q operation by s t → Awaited s t
+timed_out_awaited q operation by s t h = let u = found_id q operation h.id s in
+    awaited_then s u t (kept_awaited s (call_index q operation) false h.id u refl refl) (posted_awaited q.slots u h.id ERPCTIMEDOUT None t (h.answer, h.posted))
+
+expired_awaited : (q : id_plan.Plan) (operation : ℕ) (by : Outcome) (s t : CallStand) → ExpiredBy q operation by s t → Awaited s t
+expired_awaited q operation outcome.NotBegun s t h = awaited_same s t h.same
+expired_awaited q operation outcome.Expired s t h = timed_out_awaited q operation outcome.Expired s t h
+expired_awaited q operation outcome.Queued s t h = timed_out_awaited q operation outcome.Queued s t h
+expired_awaited q operation outcome.Late s t h = timed_out_awaited q operation outcome.Late s t h
+expired_awaited q operation (outcome.Crowded first second) s t h = timed_out_awaited q operation (outcome.Crowded first second) s t h
+expired_awaited q operation _ s t h = elim h [ ]
+
+joined_awaited : (q : id_plan.Plan) (operation : ℕ) (by : Outcome) (s t : CallStand) → JoinedBy q operation by s t → Awaited s t
+joined_awaited q operation outcome.NotBegun s t h = awaited_same s t h.same
+joined_awaited q operation outcome.Joined s t h = let u = found_id q operation h.id s in let x : CallStand = record { view = h.view; books = s.books } in
+    awaited_then s u t (kept_awaited s (call_index q operation) false h.id u refl refl) (awaited_then u x t (by_view u x refl (unmoved_quiet u.view h.view h.quiet)) (awaited_same x t h.after))
+joined_awaited q operation _ s t h = elim h [ ]
+
+-- ## Messages
+
+told_drop : (slots : ℕ) (msg : Undelivered) (code : ℕ) (s t : CallStand) → ToldDrop slots msg code s t → Awaited s t
+told_drop slots msg code s t (of_send e is) = awaited_same s t is
+told_drop slots msg code s t (of_call ne p) = posted_awaited slots s msg.owner code (Some msg.label.attempt) t p
+
+module _ {O : Type 0} (state : O → OutState) (p : Plan) (slots : ℕ) where
+  dropped_all : (id : ℕ) (v : sock_view.View) (s : CallStand) (w : sock_view.View) (t : CallStand) → DroppedAll state p slots id v s w t → Awaited s t
+  dropped_all id v s _ _ draining.none = awaited_same s s refl
+  dropped_all id v s _ _ (draining.one_more u r w t more one) = awaited_then s r t (dropped_all id v s u r more) (told_drop slots one.msg one.code r t one.told)
+
+  delivered : (sock : SockRef) (msg : Letter) (by : Maybe Outcome) (v : sock_view.View) (s : CallStand) (w : sock_view.View) (t : CallStand) → DeliveredCalling state p slots sock msg by v s w t → Awaited s t
+  delivered sock msg None v s w t d = dropped_all sock.id.0 d.through.wrote s _ t d.through.drained.dropped
+  delivered sock msg (Some (outcome.Gone found)) v s w t d = awaited_same s t d.1
+  delivered sock msg (Some outcome.Full) v s w t d = awaited_same s t d.1
+  delivered sock msg (Some _) v s w t d = elim d [ ]
+
+  sent_awaited : (n : ℕ) (msg : Letter) (by : Maybe Outcome) (v : sock_view.View) (s : CallStand) (w : sock_view.View) (t : CallStand) → SentCalling state p slots n msg by v s w t → Awaited s t
+  sent_awaited n msg None v s w t h = delivered h.sock msg None h.has s w t h.delivered
+  sent_awaited n msg (Some outcome.Unopened) v s w t h = awaited_same s t h.1
+  sent_awaited n msg (Some (outcome.Gone found)) v s w t (inl h) = awaited_same s t h.1
+  sent_awaited n msg (Some (outcome.Gone found)) v s w t (inr h) = delivered h.sock msg (Some (outcome.Gone found)) h.has s w t h.delivered
+  sent_awaited n msg (Some outcome.Full) v s w t h = delivered h.sock msg (Some outcome.Full) h.has s w t h.delivered
+  sent_awaited n msg (Some _) v s w t h = elim h [ ]
+
+-- ## Attempts
+
+module _ {O : Type 0} (state : O → OutState) (p : Plan) (q : id_plan.Plan) where
+  delivered_awaited : (socket : SocketId) (msg : Letter) (s t : Both) → DeliveredBy state p q socket msg s t → Awaited s.calls t.calls
+  delivered_awaited socket msg s t (went_out w) = dropped_all state p q.slots socket.0 w.through.wrote s.calls _ t.calls w.through.drained.dropped
+  delivered_awaited socket msg s t (came_back by c) = posted_awaited q.slots s.calls msg.owner (code_for by) (Some msg.label.attempt) t.calls c.posted
+
+  attempted_awaited : (socket : SocketId) (msg : Letter) (s t : Both) → AttemptedBy state p q socket msg s t → Awaited s.calls t.calls
+  attempted_awaited socket msg s t (nowhere g) = posted_awaited q.slots s.calls msg.owner EFAILEDSOCKET (Some msg.label.attempt) t.calls g.posted
+  attempted_awaited socket msg s t (over_link u l d) = awaited_then s.calls u.calls t.calls (kept_awaited s.calls _ _ _ u.calls l.stored l.books) (delivered_awaited socket msg u t d)
+
+  went_awaited : (name : ℕ) (msg : Letter) (s t : Both) → WentTo state p q name msg s t → Awaited s.calls t.calls
+  went_awaited name msg s t (stray a e h) = posted_awaited q.slots s.calls msg.owner EFAILEDSOCKET (Some msg.label.attempt) t.calls h
+  went_awaited name msg s t (unopened f h) = posted_awaited q.slots s.calls msg.owner EFAILEDSOCKET (Some msg.label.attempt) t.calls h
+  went_awaited name msg s t (to_socket socket u f e a) = awaited_then s.calls u.calls t.calls (awaited_same s.calls u.calls e) (attempted_awaited socket msg u t a)
+
+  -- the lock was given back, and no advance was made
+  unlocked_unmoved : (k : IdLock Asked) (answer : Unlocked Asked) (v w : View Asked) → UnlockOk v w k.slot (parts k.word.0) k.content false answer → Unmoved v w
+  unlocked_unmoved k Open v w u i f n =
+      let a = did_total (is_attempt f n) (attempt_silent f n) k.slot v w [] _ u.4 i in
+      let b = ap (λ (l : List (Noted Asked)). total (is_attempt f n) (notes_of i l)) (advance_none k.slot (parts k.word.0) u.1 u.2.attempt_is) in omega arith
+  unlocked_unmoved k (Next l code attempt) v w u i f n =
+      let a = did_total (is_attempt f n) (attempt_silent f n) k.slot v w _ _ u.3 i in
+      let b = ap (λ (y : List (Noted Asked)). total (is_attempt f n) (notes_of i y)) (advance_none k.slot (parts k.word.0) (parts l.word.0) u.4.1.attempt_is) in omega arith
+
+  retried_awaited : (r : Retry) (s t : Both) → RetriedBy state p q r s t → Awaited s.calls t.calls
+  retried_awaited r s t (had_ended h) = by_view s.calls t.calls (ap (λ (b : Books). b.retries) h.books) (unmoved_quiet s.calls.view t.calls.view h.gone.quiet)
+  retried_awaited r s t (overtaken k u l o) = let x : CallStand = record { view = o.view; books = u.calls.books } in
+      awaited_then s.calls x t.calls (by_view s.calls x (ap (λ (b : Books). b.retries) l.books)
+      (unmoved_then s.calls.view u.calls.view o.view (unmoved_got k.slot l.got.word s.calls.view u.calls.view (parts k.word.0) k.content l.got.got) (unlocked_unmoved k (Next o.next o.code o.attempt) u.calls.view o.view o.unlocked)))
+      (decided_awaited o.decided)
+  retried_awaited r s t (went_again k u l w) = let x : CallStand = record { view = w.view; books = u.calls.books } in
+      awaited_then s.calls x t.calls (by_view s.calls x (ap (λ (b : Books). b.retries) l.books)
+      (unmoved_then s.calls.view u.calls.view w.view (unmoved_got k.slot l.got.word s.calls.view u.calls.view (parts k.word.0) k.content l.got.got) (unlocked_unmoved k Open u.calls.view w.view w.unlocked)))
+      (went_awaited _ _ (record { socks = u.socks; calls = x }) t w.went)
+
+  made_awaited : (asked : Asked) (id : ℕ) (socket : SocketId) (s t : Both) → MadeFor state p q asked id socket s t → Awaited s.calls t.calls
+  made_awaited asked id socket s t m = by_view s.calls t.calls (ap (λ (b : Books). b.retries) m.books) (λ i f n. (
+      let a = did_total (is_attempt f n) (attempt_silent f n) (slot_of id) s.calls.view m.view [] (one (slot_of id) (Made (version_of id) asked.range asked)) m.made.did i in
+      let b = none_of_one (is_attempt f n) (attempt_silent f n) (slot_of id) (Made (version_of id) asked.range asked) refl i in
+      let c = ap (λ (v : View Asked). advances i f n v) m.noted in omega arith))
+
+  acted_awaited : {g : Ghosts O} (number : ℕ) (op : Op) (by : Maybe Outcome) (s t : Stand g) → Acted state p q number op by s t → Awaited s.calls t.calls
+  acted_awaited number (ops.Open n k) (Some by) s t a = awaited_same s.calls t.calls a.2
+  acted_awaited number (ops.Send n bytes) by s t a = sent_awaited state p q.slots n (letter_of number bytes) by s.me.0 s.calls t.me.0 t.calls a.0
+  acted_awaited number (ops.Call asked) (Some outcome.Unopened) s t a = awaited_same s.calls t.calls a.0.1
+  acted_awaited number (ops.Call asked) None s t a = let b = a.1 in awaited_then s.calls b.at.calls t.calls (made_awaited asked a.0 b.socket (both_of s) b.at b.made_for) (attempted_awaited b.socket _ b.at (both_of t) b.attempted)
+  acted_awaited number (ops.Expire of) (Some by) s t a = expired_awaited q of by s.calls t.calls a.0
+  acted_awaited number (ops.Join of) (Some by) s t a = joined_awaited q of by s.calls t.calls a.0
+  acted_awaited number (ops.Hold n) (Some by) s t a = awaited_same s.calls t.calls a.2
+  acted_awaited number (ops.Drop n) (Some by) s t a = awaited_same s.calls t.calls a.2
+  acted_awaited number (ops.Fail n code) (Some by) s t a = awaited_same s.calls t.calls a.2
+  acted_awaited number _ _ s t a = elim a [ ]
+
+-- ## Along deeds
+
+-- each retry that waits is one of an attempt to which the id advanced, as the seat noted
+abbrev pub Backed : CallStand → Type 0
+Backed s = (i f n : ℕ) → f < 4294967296 → waiting (i * 4294967296 + f) n s.books ≤ advances i f n s.view
+
+module _ {O : Type 0} {g : Ghosts O} {state : O → OutState} {p : Plan} {q : id_plan.Plan} where
+  -- a retry that was taken out was one of an attempt to which the id had advanced; and what the seat noted by it, it has still
+  abbrev pub Founded : View Asked → Deed g state p q → Type 0
+  Founded v (operates x by s t a) = Unit {0}
+  Founded v (retries r s t by) = (0 < advances (slot_of r.id) (version_of r.id) r.attempt s.calls.view) × Grows s.calls.view t.calls.view × Grows t.calls.view v
+
+  founded_stays : (v w : View Asked) → Grows v w → (d : Deed g state p q) → Founded v d → Founded w d
+  founded_stays v w grows (operates x by s t a) h = tt
+  founded_stays v w grows (retries r s t by) h = (h.0, h.1, λ i f. (let a = h.2 i f in let b = grows i f in omega (arith, a, b)))
+
+  record Walk (ds : List (Deed g state p q)) (s t : CallStand) : Type 0 where
+    pub grows : Grows s.view t.view
+    pub awaited : (i f n : ℕ) → waiting (i * 4294967296 + f) n s.books + advances i f n t.view ≤ total (by_retry (is_retry (i * 4294967296 + f) n)) ds + (waiting (i * 4294967296 + f) n t.books + advances i f n s.view)
+    pub backed : Backed s → Backed t
+    pub each : Backed s → AllByRecursion (Founded t.view) ds
+
+  walk_none : (s t : CallStand) → t ≡ s → Walk [] s t
+  walk_none s t e = record {
+    grows = λ i f. (let a = ap (λ (y : CallStand). total f (notes_of i y.view.notes)) e in omega (arith, a));
+    awaited = awaited_same s t e;
+    backed = λ b. subst Backed (sym e) b;
+    each = λ b. tt;
+  }
+
+  walk_then : (ds es : List (Deed g state p q)) (s u t : CallStand) → Walk ds s u → Walk es u t → Walk (ds ++ es) s t
+  walk_then ds es s u t a b = record {
+    grows = λ i f. (let x = a.grows i f in let y = b.grows i f in omega (arith, x, y));
+    awaited = λ i f n. (let x = a.awaited i f n in let y = b.awaited i f n in let z = total_append (by_retry (is_retry (i * 4294967296 + f) n)) ds es in omega (arith, x, y, z));
+    backed = λ h. b.backed (a.backed h);
+    each = λ h. all_both (Founded t.view) ds es (all_then (Founded u.view) (Founded t.view) ds (founded_stays u.view t.view b.grows) (a.each h)) (b.each (a.backed h));
+  }
+
+  -- a retry, which was taken out
+  walk_retry : (u t : Both) (r : Retry) (rest : List Retry) → u.calls.books.retries ≡ r ∷ rest → (by : RetriedBy state p q r (without_oldest rest u) t) → Walk (retries r (without_oldest rest u) t by ∷ []) u.calls t.calls
+  walk_retry u t r rest waits by =
+      let a = retried_still state p q r (without_oldest rest u) t by in let e = retried_awaited state p q r (without_oldest rest u) t by in record {
+        grows = a.grows;
+        awaited = λ i f n. (let x = e i f n in let y = ap (total (is_retry (i * 4294967296 + f) n)) waits in omega (arith, x, y));
+        backed = λ h i f n low. (let x = a.backed i f n low in let y = ap (total (is_retry (i * 4294967296 + f) n)) waits in let z = h i f n low in omega (arith, x, y, z));
+        each = λ h. ((noted h, a.grows, (λ i f. omega arith)), tt);
+      }
+    where
+      noted : Backed u.calls → 0 < advances (slot_of r.id) (version_of r.id) r.attempt u.calls.view
+      noted h =
+          let slot : ℕ = slot_of r.id in let version : ℕ = version_of r.id in
+          let whole : slot * 4294967296 + version ≡ r.id = div-add-mod' r.id 4294967296 in
+          let y = ap (total (is_retry (slot * 4294967296 + version) r.attempt)) waits in
+          let one_ = pair-at (slot * 4294967296 + version) r.attempt r.id r.attempt (sym whole) refl in
+          let z = h slot version r.attempt (omega arith) in omega (arith, y, one_, z)
+
+  walk_operation : (x : Task) (by : Maybe Outcome) (s t : Stand g) (a : Acted state p q x.number x.op by s t) → Walk (operates x by s t a ∷ []) s.calls t.calls
+  walk_operation x by s t a = let m = acted_might state p q x.number x.op by s t a in let e = acted_awaited state p q x.number x.op by s t a in record {
+    grows = m.grows;
+    awaited = λ i f n. (let y = e i f n in omega (arith, y));
+    backed = λ h i f n low. (let y = m.backed i f n low in let z = h i f n low in omega (arith, y, z));
+    each = λ h. (tt, tt);
+  }
+
+  retries_walk : (s t : Both) (r : Retried state p q s t) → Walk (retries_of {g = g} state p q s t r) s.calls t.calls
+  retries_walk s _ none_yet = walk_none s.calls s.calls refl
+  retries_walk s _ (one_more u t r rest before waits fed by) = walk_then (retries_of {g = g} state p q s u before) (retries r (without_oldest rest u) t by ∷ []) s.calls u.calls t.calls (retries_walk s u before) (walk_retry u t r rest waits by)
+
+  ran_walk : (xs : List Task) (n : ℕ) (s t : Course g) (h : Ran state p q xs n s t) → Walk (ran_deeds state p q xs n s t h) s.has.calls t.has.calls
+  ran_walk xs zero s t e = walk_none s.has.calls t.has.calls (ap (λ (c : Course g). c.has.calls) e)
+  ran_walk xs (suc n) s t h =
+      let m = h.4 in
+      let now : Deed g state p q = operates h.1 m.by m.ready t.has m.acted in
+      let waited : List (Deed g state p q) = retries_of state p q (both_of h.0.has) (both_of m.ready) m.retried.all.retried in
+      walk_then (ran_deeds state p q xs n s h.0 h.2) (waited ++ now ∷ []) s.has.calls h.0.has.calls t.has.calls (ran_walk xs n s h.0 h.2)
+      (walk_then waited (now ∷ []) h.0.has.calls m.ready.calls t.has.calls (retries_walk (both_of h.0.has) (both_of m.ready) m.retried.all.retried) (walk_operation h.1 m.by m.ready t.has m.acted))
+
+-- ## A whole run
+
+module _ {O : Type 0} {g : Ghosts O} {state : O → OutState} {p : Plan} {q : id_plan.Plan} {first : ℕ} (x : Thread g) (th : IsThread state p q first x) where
+  run_walk : Walk (deeds x th) (stand_of x.began.calls) th.ran.last.calls
+  run_walk = walk_then (ran_deeds state p q x.tasks th.ran.made (begins x.began) (came x th) th.ran.ran.ran) (retries_of {g = g} state p q (both_of (stand th.ran.came)) (both_of th.ran.last) th.ran.ends.1.all.retried)
+      (stand_of x.began.calls) (stand_of th.ran.came.calls) th.ran.last.calls
+      (ran_walk x.tasks th.ran.made (begins x.began) (came x th) th.ran.ran.ran)
+      (retries_walk (both_of (stand th.ran.came)) (both_of th.ran.last) th.ran.ends.1.all.retried)
+
+  last_view : x.ended.calls.seat.me.0 ≡ th.ran.last.calls.view
+  last_view = ap (λ (c : CallStand). c.view) (th.ran.calls ∙ ap (λ (s : Stand g). s.calls) (end_is x th))
+
+  none_waits : x.began.calls.retries.items ≡ []
+  none_waits = ap (λ (b : Books). b.retries) th.nothing.books
+
+  -- in the end no retry waits: each attempt to which an id advanced was taken out
+  pub taken_out : (i f n : ℕ) → advances i f n x.ended.calls.seat.me.0 ≤ total (by_retry (is_retry (i * 4294967296 + f) n)) (deeds x th)
+  taken_out i f n =
+      let a = run_walk.awaited i f n in
+      let b : advances i f n x.began.calls.seat.me.0 ≡ 0 = ap (λ (m : Me (Maybe Asked) (View Asked)). advances i f n m.0) th.ids in
+      let c = ap (total (is_retry (i * 4294967296 + f) n)) th.ran.ends.1.all.none_waits in
+      let d = ap (advances i f n) last_view in omega (arith, a, b, c, d)
+
+  pub all_founded : AllByRecursion (Founded x.ended.calls.seat.me.0) (deeds x th)
+  all_founded = subst (λ (v : View Asked). AllByRecursion (Founded v) (deeds x th)) (sym last_view)
+      (run_walk.each (λ i f n low. (let b = ap (total (is_retry (i * 4294967296 + f) n)) none_waits in omega (arith, b))))
