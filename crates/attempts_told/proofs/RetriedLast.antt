@@ -11,13 +11,13 @@ use Rattle.sock_words.specs.declared.place_word.PlaceWord.{PlaceWord}
 use Rattle.sock_words.specs.declared.vref.Vref.{Vref}
 use Rattle.seat_programs.specs.declared.task.Task.{Task}
 use Rattle.corr_core.specs.Word.{Parts, parts}
-use Rattle.corr_core.specs.Law.{total, is_attempt, is_ended}
+use Rattle.corr_core.specs.Law.{total, is_attempt, is_advance, is_ended}
 use Rattle.corr_core.specs.declared.marks.Note.{Note}
-use Rattle.corr_core.specs.declared.marks.Note.TheVariants.{Made}
+use Rattle.corr_core.specs.declared.marks.Note.TheVariants.{Tried, Made, Ended, Locker, Queued, Attempt, Saw}
 use Rattle.corr_core.specs.declared.marks.Noted.{Noted}
 use Rattle.corr_core.specs.declared.marks.Plan as id_plan
 use Rattle.corr_core.specs.declared.marks.View.{View}
-use Rattle.corr_core.proofs.Notes.{pair-else, pair-else_first, total_some}
+use Rattle.corr_core.proofs.Notes.{only-at, pair-at, pair-else, pair-else_first, total_some}
 use Rattle.id_rule.specs.Lawful.{notes_of}
 use Rattle.sock_message.specs.Asked.{Asked}
 use Rattle.corr_id.specs.declared.calls.IdLock.{IdLock}
@@ -31,7 +31,7 @@ use Rattle.call_whys.specs.call_told.specs.call_run.specs.Threads.{RanWith, ids_
 use Rattle.call_whys.specs.call_told.proofs.Lists.{all_at}
 use Rattle.call_whys.specs.call_told.specs.call_places.specs.Counted.{HaveNotesOf}
 use Rattle.call_whys.specs.call_told.specs.call_places.specs.Deeds.{Deed, operates, retries}
-use Rattle.call_whys.specs.call_told.specs.call_places.proofs.Weights.{term, mapped}
+use Rattle.call_whys.specs.call_told.specs.call_places.proofs.Weights.{term, mapped, each_less}
 use Rattle.call_whys.specs.call_told.specs.call_places.proofs.Still.{is_retry, advances, decided_still}
 use Rattle.call_whys.specs.call_told.specs.call_places.proofs.Counts.{by_retry, Grows}
 use Rattle.call_whys.specs.call_told.specs.call_places.proofs.Ids.{IdLaws}
@@ -50,13 +50,22 @@ retry_is id n r some_ = dite (ℕ_discrete r.id id)
 id_parts : (id i f : ℕ) → id ≡ i * 4294967296 + f → f < 4294967296 → (slot_of id ≡ i) × (version_of id ≡ f)
 id_parts id i f e low = (omega (arith, e, low), omega (arith, e, low))
 
-module _ {O : Type 0} {g : Ghosts O} {state : O → OutState} {p : Plan} {q : id_plan.Plan} where
-  -- What is used of the retries that were taken out, of attempts to which the id had advanced as the seat had noted: a word without the id has a later range, and a lock of its range no lower attempt
-  abbrev pub Heeds : Deed g state p q → Type 0
-  Heeds (operates x by s t a) = Unit {0}
-  Heeds (retries r s t (had_ended h)) = slot_of r.id < q.slots → 0 < advances (slot_of r.id) (version_of r.id) r.attempt s.calls.view → version_of r.id < (parts h.gone.found).first
-  Heeds (retries r s t (overtaken k u l o)) = (parts k.word.0).first ≡ version_of r.id → 0 < advances (slot_of r.id) (version_of r.id) r.attempt s.calls.view → r.attempt ≤ (parts k.word.0).attempt
-  Heeds (retries r s t (went_again k u l w)) = Unit {0}
+-- an advance to an attempt is one
+attempt_advance : (f n : ℕ) (x : Note Asked) → is_attempt f n x ≤ is_advance f x
+attempt_advance f n Tried = omega arith
+attempt_advance f n (Made g r c) = omega arith
+attempt_advance f n (Ended g m) = omega arith
+attempt_advance f n (Locker g c) = omega arith
+attempt_advance f n (Queued g e) = omega arith
+attempt_advance f n (Saw w) = omega arith
+attempt_advance f n (Attempt g m) = dite (ℕ_discrete g f)
+    (λ e. dite (ℕ_discrete m n)
+    (λ y. let a = pair-at f n g m e y in let b = only-at f g e in omega (arith, a, b))
+    (λ ne. let a = pair-else f n g m ne in omega (arith, a)))
+    (λ ne. let a = pair-else_first f n g m ne in omega (arith, a))
+
+attempts_few : (f n : ℕ) (ns : List (Note Asked)) → total (is_attempt f n) ns ≤ total (is_advance f) ns
+attempts_few f n ns = each_less (is_attempt f n) (is_advance f) ns (λ i x at. attempt_advance f n x)
 
 -- ## The run
 
@@ -122,8 +131,8 @@ module _ {O : Type 0} {g : Ghosts O} {state : O → OutState} {readers : List (L
           let a = latest j c at found here in omega (arith, a, later, version)
 
       -- another error that was handled would have ended the call, or advanced it further
-      not_overtaken : (x : Retry) (l : IdLock Asked) (s u t : Both) → Locked state p q x l s u → Overtaken state p q x l u t → x.attempt ≡ n → slot_of x.id ≡ i → version_of x.id ≡ f → Grows t.calls.view (view_of c) → ((parts l.word.0).first ≡ version_of x.id → x.attempt ≤ (parts l.word.0).attempt) → ⊥
-      not_overtaken x l s u t locked o attempt slot version grows heeds = by (decided_moves o.decided)
+      not_overtaken : (x : Retry) (l : IdLock Asked) (s u t : Both) → Locked state p q x l s u → Overtaken state p q x l u t → x.attempt ≡ n → slot_of x.id ≡ i → version_of x.id ≡ f → Grows t.calls.view (view_of c) → 0 < advances (slot_of x.id) (version_of x.id) x.attempt s.calls.view → ⊥
+      not_overtaken x l s u t locked o attempt slot version grows noted = by (decided_moves o.decided)
         where
           through : Grows u.calls.view t.calls.view
           through y h = let a = o.unlocked.3.grows y h in let b = (decided_still o.decided).grows y h in omega (arith, a, b)
@@ -137,8 +146,15 @@ module _ {O : Type 0} {g : Ghosts O} {state : O → OutState} {readers : List (L
           next_first : (parts o.next.word.0).first ≡ f
           next_first = let m = o.unlocked.4.1 in ap (λ (w : Parts). w.first) m.left.1 ∙ (m.same_id ∙ first_is)
 
+          -- the lock has no lower attempt than that to which the id had advanced
+          reached : x.attempt ≤ (parts l.word.0).attempt
+          reached = locked.got.got.reached x.attempt (
+              let here : 0 < total (is_attempt (parts l.word.0).first x.attempt) (notes_of l.slot s.calls.view.notes) =
+              subst (λ (y : ℕ). 0 < total (is_attempt y x.attempt) (notes_of l.slot s.calls.view.notes)) (sym (first_is ∙ sym version)) (subst (λ (y : ℕ). 0 < total (is_attempt (version_of x.id) x.attempt) (notes_of y s.calls.view.notes)) (sym locked.got.slot_is) noted) in
+              let a = locked.got.got.did.grows l.slot (is_attempt (parts l.word.0).first x.attempt) in omega (arith, here, a))
+
           next_attempt : n ≤ (parts o.next.word.0).attempt
-          next_attempt = let a = heeds (first_is ∙ sym version) in let b = o.unlocked.4.1.attempt_is in omega (arith, a, b, attempt)
+          next_attempt = let a = reached in let b = o.unlocked.4.1.attempt_is in omega (arith, a, b, attempt)
 
           by : Moves o.next t.calls.view → ⊥
           by (inl ended_) =
@@ -150,24 +166,25 @@ module _ {O : Type 0} {g : Ghosts O} {state : O → OutState} {readers : List (L
               let a = grows i (is_attempt f m) in let b = within j c at i (is_attempt f m) in
               let d = furthest m (omega (arith, here, a, b)) in let e = next_attempt in omega (arith, d, e)
 
-      by_deed : (h : ℕ) (d : Deed g state p q) → get_elem? (deeds_of c) h ≡ some d → 0 < by_retry (is_retry id n) d → Founded (view_of c) d → Heeds d → WentFor id n
-      by_deed h (operates x by s t a) there some_ founded heeds = absurd (omega (arith, some_))
-      by_deed h (retries x s t (had_ended e)) there some_ founded heeds =
+      by_deed : (h : ℕ) (d : Deed g state p q) → get_elem? (deeds_of c) h ≡ some d → 0 < by_retry (is_retry id n) d → Founded (view_of c) d → WentFor id n
+      by_deed h (operates x by s t a) there some_ founded = absurd (omega (arith, some_))
+      by_deed h (retries x s t (had_ended e)) there some_ founded =
           let is = retry_is id n x some_ in let at_ = id_parts x.id i f is.0 low in
-          absurd (not_gone x s t e.gone.found at_.0 at_.1 e.gone.cause founded.2 (heeds (let z = at_.0 in omega (arith, z, inside)) founded.0))
-      by_deed h (retries x s t (overtaken l u locked o)) there some_ founded heeds =
+          let advanced = attempts_few (version_of x.id) x.attempt (notes_of (slot_of x.id) s.calls.view.notes) in let noted = founded.0 in
+          absurd (not_gone x s t e.gone.found at_.0 at_.1 e.gone.cause founded.2 (e.gone.later (let z = at_.0 in omega (arith, z, inside)) (omega (arith, advanced, noted))))
+      by_deed h (retries x s t (overtaken l u locked o)) there some_ founded =
           let is = retry_is id n x some_ in let at_ = id_parts x.id i f is.0 low in
-          absurd (not_overtaken x l s u t locked o is.1 at_.0 at_.1 founded.2 (λ e. heeds e founded.0))
-      by_deed h (retries x s t (went_again l u locked w)) there some_ founded heeds =
+          absurd (not_overtaken x l s u t locked o is.1 at_.0 at_.1 founded.2 founded.0)
+      by_deed h (retries x s t (went_again l u locked w)) there some_ founded =
           let is = retry_is id n x some_ in
           record { place = j; client = c; in_crew = at; index = h; retry = x; before = s; after = t; lock = l; inside = u; locked = locked; again = w; there = there; id_is = is.0; attempt_is = is.1 }
 
     -- so its last attempt was made
-    pub last_went : 0 < total (is_attempt f n) (notes_of i notes) → ((j : ℕ) (c : Client g state p q) → get_elem? (all run) j ≡ some c → (h : ℕ) (d : Deed g state p q) → get_elem? (deeds_of c) h ≡ some d → Heeds d) → WentFor id n
-    last_went some_ heeds =
+    pub last_went : 0 < total (is_attempt f n) (notes_of i notes) → WentFor id n
+    last_went some_ =
         let w = total_some (λ (v : View Asked). advances i f n v) ids (let a = own i f n in omega (arith, some_, a)) in
         let c = map_back view_of (all run) w.0 w.1 (ap (λ (l : List (View Asked)). get_elem? l w.0) (views_are run) ∙ w.2) in
         let noted : 0 < advances i f n (view_of c.0) = subst (λ (v : View Asked). 0 < advances i f n v) (sym c.2) w.3 in
         let out = taken_out c.0.thread c.0.is i f n in
         let d = total_some (by_retry (is_retry id n)) (deeds_of c.0) (omega (arith, noted, out)) in
-        by_deed w.0 c.0 c.1 d.0 d.1 d.2 d.3 (all_at (Founded (view_of c.0)) (deeds_of c.0) d.0 d.1 (all_founded c.0.thread c.0.is) d.2) (heeds w.0 c.0 c.1 d.0 d.1 d.2)
+        by_deed w.0 c.0 c.1 d.0 d.1 d.2 d.3 (all_at (Founded (view_of c.0)) (deeds_of c.0) d.0 d.1 (all_founded c.0.thread c.0.is) d.2)

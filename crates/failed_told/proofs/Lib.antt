@@ -37,6 +37,7 @@ pub mod Named
 pub mod Ends
 pub mod ReaderStores
 pub mod ByLinks
+pub mod Left
 pub mod LinkEnds
 pub mod Waits
 pub mod Unmet
