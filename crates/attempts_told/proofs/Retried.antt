@@ -61,6 +61,7 @@ use Rattle.call_whys.specs.call_told.proofs.Lists.{all_both, all_then}
 use Rattle.call_whys.specs.call_told.specs.call_places.specs.Deeds.{Deed, operates, retries, retries_of, ran_deeds, deeds}
 use Rattle.call_whys.specs.call_told.specs.call_places.proofs.Still.{is_retry, waiting, advances, attempt_silent, decided_still, retried_still}
 use Rattle.call_whys.specs.call_told.specs.call_places.proofs.Counts.{by_retry, Grows, acted_might}
+use Rattle.call_whys.specs.call_told.specs.call_places.proofs.Ids.{version_low}
 use Rattle.call_whys.specs.call_told.specs.call_places.proofs.Own.{came, end_is}
 use Rattle.attempts_told.proofs.Bounds.{Unmoved, unmoved_then, unmoved_noted, unmoved_quiet, unmoved_got, unmoved_ended, unmoved_post}
 
@@ -222,7 +223,7 @@ module _ {O : Type 0} (state : O → OutState) (p : Plan) (slots : ℕ) where
   dropped_all id v s _ _ (draining.one_more u r w t more one) = awaited_then s r t (dropped_all id v s u r more) (told_drop slots one.msg one.code r t one.told)
 
   delivered : (sock : SockRef) (msg : Letter) (by : Maybe Outcome) (v : sock_view.View) (s : CallStand) (w : sock_view.View) (t : CallStand) → DeliveredCalling state p slots sock msg by v s w t → Awaited s t
-  delivered sock msg None v s w t d = dropped_all sock.id.0 d.through.wrote s _ t d.through.drained.dropped
+  delivered sock msg None v s w t d = dropped_all sock.id.0 d.taken s d.through.drained.last t d.through.drained.dropped
   delivered sock msg (Some (outcome.Gone found)) v s w t d = awaited_same s t d.1
   delivered sock msg (Some outcome.Full) v s w t d = awaited_same s t d.1
   delivered sock msg (Some _) v s w t d = elim d [ ]
@@ -239,7 +240,7 @@ module _ {O : Type 0} (state : O → OutState) (p : Plan) (slots : ℕ) where
 
 module _ {O : Type 0} (state : O → OutState) (p : Plan) (q : id_plan.Plan) where
   delivered_awaited : (socket : SocketId) (msg : Letter) (s t : Both) → DeliveredBy state p q socket msg s t → Awaited s.calls t.calls
-  delivered_awaited socket msg s t (went_out w) = dropped_all state p q.slots socket.0 w.through.wrote s.calls _ t.calls w.through.drained.dropped
+  delivered_awaited socket msg s t (went_out w) = dropped_all state p q.slots socket.0 w.taken s.calls w.through.drained.last t.calls w.through.drained.dropped
   delivered_awaited socket msg s t (came_back by c) = posted_awaited q.slots s.calls msg.owner (code_for by) (Some msg.label.attempt) t.calls c.posted
 
   attempted_awaited : (socket : SocketId) (msg : Letter) (s t : Both) → AttemptedBy state p q socket msg s t → Awaited s.calls t.calls
@@ -314,7 +315,7 @@ module _ {O : Type 0} {g : Ghosts O} {state : O → OutState} {p : Plan} {q : id
   walk_none : (s t : CallStand) → t ≡ s → Walk [] s t
   walk_none s t e = record {
     grows = λ i f. (let a = ap (λ (y : CallStand). total f (notes_of i y.view.notes)) e in omega (arith, a));
-    awaited = awaited_same s t e;
+    awaited = λ i f n. (let a = awaited_same s t e i f n in omega (arith, a));
     backed = λ b. subst Backed (sym e) b;
     each = λ b. tt;
   }
@@ -343,7 +344,7 @@ module _ {O : Type 0} {g : Ghosts O} {state : O → OutState} {p : Plan} {q : id
           let whole : slot * 4294967296 + version ≡ r.id = div-add-mod' r.id 4294967296 in
           let y = ap (total (is_retry (slot * 4294967296 + version) r.attempt)) waits in
           let one_ = pair-at (slot * 4294967296 + version) r.attempt r.id r.attempt (sym whole) refl in
-          let z = h slot version r.attempt (omega arith) in omega (arith, y, one_, z)
+          let z = h slot version r.attempt (version_low r.id) in omega (arith, y, one_, z)
 
   walk_operation : (x : Task) (by : Maybe Outcome) (s t : Stand g) (a : Acted state p q x.number x.op by s t) → Walk (operates x by s t a ∷ []) s.calls t.calls
   walk_operation x by s t a = let m = acted_might state p q x.number x.op by s t a in let e = acted_awaited state p q x.number x.op by s t a in record {

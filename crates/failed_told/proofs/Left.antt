@@ -278,7 +278,7 @@ module _ {O : Type 0} {g : Ghosts O} {state : O → OutState} {readers : List (L
           by_first v.0 y.0 y.1 b.0 here h.by h.before h.after h.acted h.place h.there (λ z e. (let w = h.tells z e in says_own run outcomes said v.0 y.0 y.1 w.0 record { number = o; outcome = z } w.1))
 
       -- no client ended it, or found a later range in its slot
-      module _ (over : (slot first : ℕ) → 0 < total (is_made_for first o) (notes_of slot notes) → (c : ℕ) (x : Client g state p q) → get_elem? crew c ≡ some x → (total (is_ended first) (notes_of slot (view_of x).notes) ≡ 0) × FoundUpTo slot first (view_of x)) where
+      module _ (over : (slot first : ℕ) → slot < slots → first < 4294967296 → 0 < total (is_made_for first o) (notes_of slot notes) → (c : ℕ) (x : Client g state p q) → get_elem? crew c ≡ some x → (total (is_ended first) (notes_of slot (view_of x).notes) ≡ 0) × FoundUpTo slot first (view_of x)) where
         by_reached : IsReached o notes notes (last o) → LeftHere client o asked (last o)
         by_reached r =
             let m = made_for_there r.first o (notes_of r.slot notes) r.made in
@@ -289,7 +289,7 @@ module _ {O : Type 0} {g : Ghosts O} {state : O → OutState} {readers : List (L
             let low : r.first < 4294967296 = (let l = a.lock.fits.low in let e = a.first_is in omega (arith, l, e)) in
             retry_left r.slot r.first (last o) m.0 m.2 m.1 inside low m.3 m.4
             (last_went run notes (laws run tasks may notes kept words closing noted) noted own r.slot r.first (last o) m.0 m.2 m.1 inside low m.3 (λ k some_. none_further o notes r.slot r.first k notes r.made some_)
-            (λ c x at. (over r.slot r.first r.made c x at).0) (λ c x at. (over r.slot r.first r.made c x at).1) r.noted)
+            (λ c x at. (over r.slot r.first inside low r.made c x at).0) (λ c x at. (over r.slot r.first inside low r.made c x at).1) r.noted)
 
         -- so it is of its last attempt
         pub left_at : 0 < total (makes o) notes → LeftHere client o asked (last o)

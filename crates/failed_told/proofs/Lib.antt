@@ -38,6 +38,7 @@ pub mod Ends
 pub mod ReaderStores
 pub mod ByLinks
 pub mod Left
+pub mod LeftOver
 pub mod LinkEnds
 pub mod Waits
 pub mod Unmet
