@@ -170,7 +170,7 @@ ended_stays {n} i first v w b = record {
 pub ended_over : {n : ℕ} (i first : ℕ) (v w : View Asked) → Became i v w [] (one i (Ended first n)) → 0 < total (is_ended_at first n) (notes_of i w.notes)
 ended_over {n} i first v w b =
     let f : Note Asked → ℕ = is_ended_at first n in
-    let a : total f (notes_of i w.notes) ≡ f (Ended first n) + total f (notes_of i v.notes)
+    let a : total f (notes_of i w.notes) ≡ pair first n first n + total f (notes_of i v.notes)
     = ap (λ (l : List (Noted Asked)). total f (notes_of i l)) b.notes ∙ ap (λ (y : Bool). total f (cond y (Ended first n ∷ notes_of i v.notes) (notes_of i v.notes))) (eq-eqb i i refl) in
     let c = pair-same first n in omega (arith, a, c)
 
