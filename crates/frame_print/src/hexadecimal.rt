@@ -47,6 +47,17 @@ fn print_blocks<K: Sink>(out: &mut K, buf: &IoBuf) -> Result<(), Failed>
 fn print_digits<K: Sink>(out: &mut K, bytes: &[u8]) -> Result<(), Failed>
     ensures { Writes (K.contents out.old) (K.contents out.new) (K.faults out.old) (K.faults out.new) (encode_lower bytes.now) result }
 {
+    if bytes.len() <= SHORT {
+        return print_short(out, bytes);
+    }
+    print_chunks(out, bytes)
+}
+
+// The same, chunk by chunk. It stands apart for the size of its room.
+#[inline(never)]
+fn print_chunks<K: Sink>(out: &mut K, bytes: &[u8]) -> Result<(), Failed>
+    ensures { Writes (K.contents out.old) (K.contents out.new) (K.faults out.old) (K.faults out.new) (encode_lower bytes.now) result }
+{
     let mut rest = bytes;
     while !rest.is_empty() {
         let count = rest.len().min(CHUNK);
