@@ -31,6 +31,7 @@ use Rattle.attempts_told.specs.call_whys.specs.expire_told.specs.call_deeds.proo
 use Rattle.attempts_told.specs.call_whys.specs.expire_told.specs.call_deeds.proofs.Told.{came, made, all_results}
 use Rattle.attempts_told.specs.call_whys.specs.expire_told.specs.sock_deeds.proofs.Flats.{append_first, append_later}
 use Rattle.attempts_told.specs.call_whys.specs.expire_told.specs.sock_deeds.proofs.Growing.{Grew, stays_as, grew_then}
+use Rattle.attempts_told.specs.call_whys.specs.expire_told.specs.sock_deeds.proofs.Places.{place_low}
 use Rattle.failed_told.proofs.Reaching.{retry_grew, acted_grew}
 
 -- ## From one stand to a later one
@@ -271,6 +272,13 @@ module _ {O : Type 0} {g : Ghosts O} {state : O → OutState} {p : Plan} {q : id
       all_both PlacedHere early late
       (all_then (Placed g state p q (all_results x th) th.ran.made (both_of (stand x.began)) (both_of (stand th.ran.came))) PlacedHere early placed_early (ran_placed g state p q x.tasks th.ran.made (begins x.began) (came x th) (made x th)))
       (all_then (Between (both_of (stand th.ran.came)) ends_at) PlacedHere late placed_late (retried_between g state p q (both_of (stand th.ran.came)) ends_at th.ran.ends.1.all.retried))
+
+  -- each of its operations was made
+  pub operation_made : (k : ℕ) (r : Result) → get_elem? (all_results x th) k ≡ some r → MadeBehind g state p q (all_results x th) k (both_of (stand x.began)) ends_at
+  operation_made k r at =
+      let low = place_low (all_results x th) k r at in let long = results_long state p q x.tasks th.ran.made (begins x.began) (came x th) (made x th) in
+      let b = ops_made g state p q x.tasks th.ran.made (begins x.began) (came x th) (made x th) k (omega (arith, low, long)) in
+      record { operation = b.operation; from = b.from; to = went_on (both_of b.operation.after) (both_of (stand th.ran.came)) ends_at b.to last_waits }
 
   -- what it noted of calls there it has noted in the end
   pub noted_last : Grows ends_at.calls.view x.ended.calls.seat.me.0

@@ -19,7 +19,7 @@ use Rattle.seat_programs.specs.declared.task.Op.TheVariants as ops
 use Rattle.seat_programs.specs.declared.task.Task.{Task}
 use Rattle.seat_programs.specs.Told.{AreTasks, IsTask}
 use Rattle.seat_programs.specs.ToldCalls.{Fixed, Order, IsAnsweredBy, MayBeOn, FailedBy, ByCompression, all_accepted}
-use Rattle.corr_core.specs.Law.{total, is_ended}
+use Rattle.corr_core.specs.Law.{total, is_ended, is_ended_at}
 use Rattle.attempts_told.specs.call_whys.specs.expire_told.specs.call_places.proofs.Ids.{IsIdOf}
 use Rattle.corr_core.specs.Word.{Parts, parts, code_of}
 use Rattle.corr_core.specs.declared.marks.Kept.{Kept}
@@ -33,6 +33,7 @@ use Rattle.id_rule.specs.Lawful.{at_index, notes_of}
 use Rattle.sock_message.specs.Asked.{Asked, name_of}
 use Rattle.corr_id.specs.Calls.{is_saw, slot_of, version_of, error_in}
 use Rattle.corr_id.specs.Closing.{Closing}
+use Rattle.corr_id.specs.Posts.{IsTimely}
 use Rattle.corr_id.proofs.Ranges.{lock_range}
 use Rattle.attempts_told.specs.call_whys.specs.expire_told.specs.rpc_client.specs.declared.acting.Told.{Told}
 use Rattle.attempts_told.specs.call_whys.specs.expire_told.specs.call_errors.specs.Locking.{id_in}
@@ -61,10 +62,11 @@ use Rattle.failed_told.proofs.Behind.{unread}
 use Rattle.failed_told.proofs.Clients.{Says}
 use Rattle.failed_told.proofs.Codes.{IsReadCode, IsMissCode, deed_code}
 use Rattle.failed_told.proofs.Fallen.{one_operation}
+use Rattle.failed_told.proofs.Lasts.{ended_last}
 use Rattle.failed_told.proofs.Losses.{IsAskedIn}
 use Rattle.failed_told.proofs.Named.{named}
 use Rattle.failed_told.proofs.Posts.{IsPost}
-use Rattle.failed_told.proofs.Single.{within}
+use Rattle.failed_told.proofs.Single.{within, made_once}
 use Rattle.failed_told.proofs.Posters.{IsLow, one_error, timely_low, by_clients}
 use Rattle.failed_told.proofs.Reading.{code_at}
 use Rattle.failed_told.proofs.Tells.{HadLock, EndsBy, on_response, on_code, ToldEnd, IsPostFor}
@@ -124,39 +126,44 @@ module _ {O : Type 0} {g : Ghosts O} {state : O → OutState} {readers : List (L
     pub found : 0 < total (is_word (at_index q operation) word) kept
     pub read : Reads (at_word_link word) code
 
-  -- one of the attempts of the call that is operation o may be on a link whose reading ended with the code
-  pub record EndedOn (o : ℕ) (asked : Asked) (code : ℕ) : Type 0 where
-    pub attempt : ℕ
+  -- the last attempt of the call that is operation o, with this id, may be on a link whose reading ended with the code
+  pub record EndedOn (o : ℕ) (asked : Asked) (id code : ℕ) : Type 0 where
     pub link : ℕ
-    pub low : attempt ≤ last_attempt notes o
-    pub on : MayBeOn p every outcomes fixed_here gave orders_here o attempt (name_of asked attempt) link
-    pub lost : LostOn p every outcomes fixed_here gave orders_here o attempt link
+    pub on : MayBeOn p every outcomes fixed_here gave orders_here o (last_attempt notes o) (name_of asked (last_attempt notes o)) link
+    pub lost : LostOn p every outcomes fixed_here gave orders_here o (last_attempt notes o) link
     pub read : Reads link code
     -- the word by which the code came to it; with 1014 the link gave no response of the call
     pub word : ℕ
     pub names : at_word_link word ≡ link
-    pub its : IsIdOf slots notes o (call_at word)
+    pub call_is : call_at word ≡ id
+    pub its : IsIdOf slots notes o id
     pub alone : code ≡ EEOF → Alone word
 
-  -- that for which the id was made that the word names
+  -- that for which the id was made that the word names, and the range ended at the attempt of the word
   posted_on : (word code : ℕ) → IsPosted word code → (slot first r j : ℕ) (call : Asked) → slot < slots → first < 4294967296 → call_at word ≡ slot * 4294967296 + first → get_elem? (notes_of slot notes) j ≡ some (Made first r call)
-      → (client o : ℕ) (asked : Asked) → IsOperation every outcomes client o (ops.Call asked) → call.operation ≡ o → (code ≡ EEOF → Alone word) → EndedOn o asked code
-  posted_on word code h slot first r j call inside low same made client o asked task number alone =
+      → (n : ℕ) → IsTimely (attempt_at word) n → 0 < total (is_ended_at first n) (notes_of slot notes)
+      → (client o : ℕ) (asked : Asked) → IsOperation every outcomes client o (ops.Call asked) → call.operation ≡ o → (code ≡ EEOF → Alone word) → EndedOn o asked (slot * 4294967296 + first) code
+  posted_on word code h slot first r j call inside low same made at timely over client o asked task number alone =
       let n = named run tasks may notes kept words closing noted keeps outcomes drun seats logged differ gave all_there few_slots few_links asked_so h.operation word h.found in
       let its : h.operation ≡ o = one_operation run tasks may notes kept words closing noted outcomes drun seats logged differ gave all_there h.operation (call_at word) slot first r j call inside low n.id same made ∙ number in
       let s = same_task drun n.client client record { number = h.operation; op = ops.Call n.asked } record { number = o; op = ops.Call asked } n.task task its in
       let whose : n.asked ≡ asked = same_asked n.asked asked (ap (λ (t : Task). t.op) s.1) in
+      let id : IsIdOf slots notes o (slot * 4294967296 + first) = record { slot = slot; first = first; inside = inside; low = low; id_is = refl; range = r; asked = call; place = j; made = made; operation = number } in
+      let current : n.attempt ≡ at = subst (λ (a : Option ℕ). IsTimely a at) n.attempt_is timely in
+      let most = ended_last q notes kept words closing o (slot * 4294967296 + first) at id (made_once run tasks may notes kept words closing noted o) over in
+      let below = subst (λ (m : ℕ). n.attempt ≤ last_attempt notes m) its n.low in
+      let last : n.attempt ≡ last_attempt notes o = omega (arith, current, most, below) in
       record {
-        attempt = n.attempt;
         link = at_word_link word;
-        low = subst (λ (m : ℕ). n.attempt ≤ last_attempt notes m) its n.low;
-        on = subst (λ (a : Asked). MayBeOn p every outcomes fixed_here gave orders_here o n.attempt (name_of a n.attempt) (at_word_link word)) whose
-            (subst (λ (m : ℕ). MayBeOn p every outcomes fixed_here gave orders_here m n.attempt (name_of n.asked n.attempt) (at_word_link word)) its n.on);
-        lost = subst (λ (m : ℕ). LostOn p every outcomes fixed_here gave orders_here m n.attempt (at_word_link word)) its n.lost;
+        on = subst (λ (m : ℕ). MayBeOn p every outcomes fixed_here gave orders_here o m (name_of asked m) (at_word_link word)) last
+            (subst (λ (a : Asked). MayBeOn p every outcomes fixed_here gave orders_here o n.attempt (name_of a n.attempt) (at_word_link word)) whose
+            (subst (λ (m : ℕ). MayBeOn p every outcomes fixed_here gave orders_here m n.attempt (name_of n.asked n.attempt) (at_word_link word)) its n.on));
+        lost = subst (λ (m : ℕ). LostOn p every outcomes fixed_here gave orders_here o m (at_word_link word)) last (subst (λ (m : ℕ). LostOn p every outcomes fixed_here gave orders_here m n.attempt (at_word_link word)) its n.lost);
         read = h.read;
         word = word;
         names = refl;
-        its = subst (λ (m : ℕ). IsIdOf slots notes m (call_at word)) its n.id;
+        call_is = same;
+        its = id;
         alone = alone;
       }
 
@@ -175,7 +182,7 @@ module _ {O : Type 0} {g : Ghosts O} {state : O → OutState} {readers : List (L
       let m = lock_range q notes kept words closing slot h.word n.0 l.0 inside saw (omega (arith, was)) there in
       (l.0, m.0, l.2, m.1 ∙ (λ i. some (Made (sym first i) (sym range i) l.0)))
 
-  -- the lock of the call that is operation o, for which this is known
+  -- the lock by which the call ended that is operation o, for which this is known
   pub record LockOf (o : ℕ) (Known : ℕ → Parts → Type 0) : Type 0 where
     pub slot : ℕ
     pub inside : slot < slots
@@ -184,6 +191,7 @@ module _ {O : Type 0} {g : Ghosts O} {state : O → OutState} {readers : List (L
     pub number : call.operation ≡ o
     pub place : ℕ
     pub made : get_elem? (notes_of slot notes) place ≡ some (Made word.first word.range call)
+    pub over : 0 < total (is_ended_at word.first word.attempt) (notes_of slot notes)
     pub known : Known slot word
 
   module _ (links : ℕ) (few : links ≤ p.links) (made : (i j f r : ℕ) (asked : Asked) → i < slots → get_elem? (notes_of i notes) j ≡ some (Made f r asked) → (c : ℕ) × IsTask every outcomes c record { number = asked.operation; op = ops.Call asked } × (r ≡ asked.range))
@@ -211,7 +219,13 @@ module _ {O : Type 0} {g : Ghosts O} {state : O → OutState} {readers : List (L
     told_why = by t.by
       where
         by : EndsBy q links gave code Known v t.slot t.word x.outcome → WhyTold
-        by (on_code known e) = inr (same_end (id_of t.slot t.word) code id with (sym e ∙ is), record { slot = t.slot; inside = t.inside; word = t.word; call = of_lock.0; number = number_is; place = of_lock.1; made = of_lock.3; known = known }, same_id (id_of t.slot t.word) code id with (sym e ∙ is))
+        by (on_code known e) =
+            let all = inside_notes t.slot (is_ended_at t.word.first t.word.attempt) in let own = t.over in
+            inr (
+              same_end (id_of t.slot t.word) code id with (sym e ∙ is),
+              record { slot = t.slot; inside = t.inside; word = t.word; call = of_lock.0; number = number_is; place = of_lock.1; made = of_lock.3; over = omega (arith, all, own); known = known },
+              same_id (id_of t.slot t.word) code id with (sym e ∙ is),
+            )
         by (on_response f given e) =
             let u = unread (id_of t.slot t.word) id with f given.given.responds (sym e ∙ is) in let low = given.below in let wide = versions in let link_low = given.given.whole.0 in
             let answered : IsAnsweredBy p every outcomes fixed_here gave orders_here asked (id_of t.slot t.word) (λ (frame : Frame). frame.meta.compress_type ≢ pos 0) =
@@ -219,8 +233,8 @@ module _ {O : Type 0} {g : Ghosts O} {state : O → OutState} {readers : List (L
             inl (ByCompression u.code_is (subst (λ (i : ℕ). IsAnsweredBy p every outcomes fixed_here gave orders_here asked i (λ (frame : Frame). frame.meta.compress_type ≢ pos 0)) u.id_is answered))
 
   -- of what a reader told
-  pub by_reader : (link code : ℕ) (v : View Asked) → ((word : ℕ) → IsPost q link v word → IsPosted word code) → (o : ℕ) (l : LockOf o (IsPostFor q link v)) → (client : ℕ) (asked : Asked) → IsOperation every outcomes client o (ops.Call asked) → (code ≡ EEOF → Alone l.known.0) → EndedOn o asked code
-  by_reader link code v posted o l client asked task alone = let k = l.known in posted_on k.0 code (posted k.0 k.1) l.slot l.word.first l.word.range l.place l.call l.inside k.3 (sym k.2) l.made client o asked task l.number alone
+  pub by_reader : (link code : ℕ) (v : View Asked) → ((word : ℕ) → IsPost q link v word → IsPosted word code) → (o : ℕ) (l : LockOf o (IsPostFor q link v)) → (client : ℕ) (asked : Asked) → IsOperation every outcomes client o (ops.Call asked) → (code ≡ EEOF → Alone l.known.0) → EndedOn o asked (id_of l.slot l.word) code
+  by_reader link code v posted o l client asked task alone = let k = l.known in posted_on k.0 code (posted k.0 k.1) l.slot l.word.first l.word.range l.place l.call l.inside k.3 (sym k.2) l.made l.word.attempt k.4 l.over client o asked task l.number alone
 
   -- ## What a client told
 
@@ -256,27 +270,33 @@ module _ {O : Type 0} {g : Ghosts O} {state : O → OutState} {readers : List (L
         pub client : Client g state p q
         pub in_crew : get_elem? (all_clients run) place ≡ some client
         pub attempt : ℕ
+        pub current : e.attempt ≡ Some attempt
         pub drop : WasDropped state p q (deeds_of client) (id_in e.lock) e.code attempt
 
       of_reason : IsReadCode e.code → (d : ℕ) (y : Client g state p q) → get_elem? (all_clients run) d ≡ some y → Reason state p q (tasks_of y) (Says run outcomes said_own) (deeds_of y) (view_of y) (id_in e.lock) e.code e.attempt → DroppedSo
       of_reason read d y there (timed_out i t operation by s u h at_ is says counts keeps_ a b z) = absurd (not_timed e.code read b)
       of_reason read d y there (missed i deed at_ is backed a b) = absurd (not_missed e.code read (deed_code deed e.code is))
-      of_reason read d y there (dropped n w z) = record { place = d; client = y; in_crew = there; attempt = n; drop = w }
+      of_reason read d y there (dropped n w z) = record { place = d; client = y; in_crew = there; attempt = n; current = z; drop = w }
 
-      of_queue : (client : ℕ) (asked : Asked) → IsOperation every outcomes client e.lock.content.operation (ops.Call asked) → QueuedSo e.lock.slot (parts e.lock.word.0).first (error_in e.code e.attempt) → WasEnded e.lock.slot (parts e.lock.word.0).first → EndedOn e.lock.content.operation asked e.code
+      -- at the attempt of the lock
+      pub over_here : 0 < total (is_ended_at (parts e.lock.word.0).first (parts e.lock.word.0).attempt) (notes_of e.lock.slot notes)
+      over_here = let a = within run tasks may notes kept words closing noted c x at e.lock.slot (is_ended_at (parts e.lock.word.0).first (parts e.lock.word.0).attempt) in let b = e.over in omega (arith, a, b)
+
+      of_queue : (client : ℕ) (asked : Asked) → IsOperation every outcomes client e.lock.content.operation (ops.Call asked) → QueuedSo e.lock.slot (parts e.lock.word.0).first (error_in e.code e.attempt) → WasEnded e.lock.slot (parts e.lock.word.0).first → EndedOn e.lock.content.operation asked (id_in e.lock) e.code
       of_queue client asked task r was =
           let n = named run tasks may notes kept words closing noted keeps outcomes drun seats logged differ gave all_there few_slots few_links asked_so r.posted.operation r.word r.posted.found in
           let timely = timely_low e.attempt (parts e.lock.word.0).attempt (let a = e.lock.fits.room in let b = e.lock.fits.range_high in omega (arith, a, b)) e.cause.timely in
-          let same = (one_error r.code e.code (attempt_at r.word) e.attempt (low_of (attempt_at r.word) n.attempt n.attempt_is n.few) timely r.error_is).0 in
+          let both = one_error r.code e.code (attempt_at r.word) e.attempt (low_of (attempt_at r.word) n.attempt n.attempt_is n.few) timely r.error_is in let same = both.0 in
+          let current = subst (λ (a : Option ℕ). IsTimely a (parts e.lock.word.0).attempt) (sym both.1) e.cause.timely in
           let m = made_so run tasks may notes kept words closing noted keeps outcomes said_own said_ended weak c x at one e in
           let whole = div-add-mod' (call_at r.word) 4294967296 in let slot = r.slot_is in let first = r.first_is in
-          posted_on r.word e.code (subst (IsPosted r.word) same r.posted) e.lock.slot (parts e.lock.word.0).first (parts e.lock.word.0).range m.1 m.0 e.cause.inside (let l = e.lock.fits.low in omega (arith, l)) (omega (arith, whole, slot, first)) m.3 client e.lock.content.operation asked task m.2 (λ k. r.alone was (same ∙ k))
+          posted_on r.word e.code (subst (IsPosted r.word) same r.posted) e.lock.slot (parts e.lock.word.0).first (parts e.lock.word.0).range m.1 m.0 e.cause.inside (let l = e.lock.fits.low in omega (arith, l)) (omega (arith, whole, slot, first)) m.3 (parts e.lock.word.0).attempt current over_here client e.lock.content.operation asked task m.2 (λ k. r.alone was (same ∙ k))
 
       -- its end goes back to what a reader queued, or to a drop
-      pub client_why : WasEnded e.lock.slot (parts e.lock.word.0).first → IsReadCode e.code → (client : ℕ) (asked : Asked) → IsOperation every outcomes client e.lock.content.operation (ops.Call asked) → EndedOn e.lock.content.operation asked e.code ⊎ DroppedSo
+      pub client_why : WasEnded e.lock.slot (parts e.lock.word.0).first → IsReadCode e.code → (client : ℕ) (asked : Asked) → IsOperation every outcomes client e.lock.content.operation (ops.Call asked) → EndedOn e.lock.content.operation asked (id_in e.lock) e.code ⊎ DroppedSo
       client_why was read client asked task = by e.cause.origin
         where
-          by : Origin state p q (tasks_of x) (Says run outcomes said_own) (deeds_of x) (view_of x) e.lock e.code e.attempt → EndedOn e.lock.content.operation asked e.code ⊎ DroppedSo
+          by : Origin state p q (tasks_of x) (Says run outcomes said_own) (deeds_of x) (view_of x) e.lock e.code e.attempt → EndedOn e.lock.content.operation asked (id_in e.lock) e.code ⊎ DroppedSo
           by (posted_so reason) = inr (of_reason read c x at reason)
           by (handed_out word found locked first oldest some_) =
               let here = within run tasks may notes kept words closing noted c x at e.lock.slot (is_saw word) in

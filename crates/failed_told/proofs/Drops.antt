@@ -154,9 +154,8 @@ module _ {O : Type 0} {g : Ghosts O} {state : O → OutState} {readers : List (L
   WhyDroppedWith client asked code n = ((code ≡ EFAILEDSOCKET) × WhyLost p every outcomes fixed_here gave orders_here client asked.operation n (name_of asked n))
       ⊎ (((1500 ≤ code) × (code ≤ 1999) × IsFailedWith p every outcomes fixed_here gave orders_here (name_of asked n) code) ⊎ IsReadCode code)
 
-  -- the message of one of the attempts of the call that is operation o, which may be on this link alone, was dropped, and the reader of the link had set the life failed with the code
-  pub record DroppedOn (o : ℕ) (asked : Asked) (code : ℕ) : Type 0 where
-    pub attempt : ℕ
+  -- the message of this attempt of the call that is operation o, which may be on this link alone, was dropped, and the reader of the link had set the life failed with the code
+  pub record DroppedOn (o : ℕ) (asked : Asked) (code attempt : ℕ) : Type 0 where
     pub link : ℕ
     pub low : attempt ≤ last_attempt notes o
     pub on : MayBeOn p every outcomes fixed_here gave orders_here o attempt (name_of asked attempt) link
@@ -347,13 +346,13 @@ module _ {O : Type 0} {g : Ghosts O} {state : O → OutState} {readers : List (L
           | inr o ↦ elim o [ inl f ↦ absurd (let b = bounds f.client f.number name code f.is in not_user code read b.0 b.1) | inr r ↦ r ]
         ]
 
-        read_drop : IsReadCode code → DroppedOn asked.operation asked code
-        read_drop read = record { attempt = n; link = dropped_at.entry.link; low = its_number; on = its_link; dropped = is_dropped; failing = is_failing; early = early_one dropped_at.entry.link code (its_reader read); by = its_reader read }
+        read_drop : IsReadCode code → DroppedOn asked.operation asked code n
+        read_drop read = record { link = dropped_at.entry.link; low = its_number; on = its_link; dropped = is_dropped; failing = is_failing; early = early_one dropped_at.entry.link code (its_reader read); by = its_reader read }
 
   -- where the code is one with which whoever reads the links ends calls
   pub read_dropped : (c : ℕ) (x : Client g state p q) → get_elem? crew c ≡ some x → (id code n : ℕ) → WasDropped state p q (deeds_of x) id code n → IsReadCode code
       → (slot first r j : ℕ) (asked : Asked) → slot < slots → first < 4294967296 → id ≡ slot * 4294967296 + first → get_elem? (notes_of slot notes) j ≡ some (Made first r asked)
-      → (client : ℕ) → IsOperation every outcomes client asked.operation (ops.Call asked) → DroppedOn asked.operation asked code
+      → (client : ℕ) → IsOperation every outcomes client asked.operation (ops.Call asked) → DroppedOn asked.operation asked code n
   read_dropped c x at id code n w read slot first r j asked inside low same made client task = read_drop c x at id code n w slot first r j asked inside low same made client task read
 
   pub dropped_why : (c : ℕ) (x : Client g state p q) → get_elem? crew c ≡ some x → (id code n : ℕ) → WasDropped state p q (deeds_of x) id code n

@@ -1,5 +1,5 @@
 -- What the readers of links queued and told when their readings ended, each with the code of its own reading.
-use Rattle.std.proofs.Common.{◌≡◌, ℕ, ◌<◌, inl, inr, Bool, false, List, [], ◌∷◌, Some, None, refl, sym, ap, subst, arith}
+use Rattle.std.proofs.Common.{◌≡◌, ℕ, ◌<◌, ◌⊎◌, inl, inr, Bool, false, List, [], ◌∷◌, Some, None, refl, sym, ap, subst, arith}
 use Rattle.std.specs.Prelude.{Option}
 use Rattle.std.specs.List.{AllByRecursion}
 use Rattle.sock_words.specs.declared.plain.Plan as sizes
@@ -55,6 +55,11 @@ module _ (q : Plan) (link : ℕ) (calls : List ℕ) (s t : InState) where
     | inr queued ↦ (reading.code_of r.how, refl, queued)
   ]
 
+  -- it ended with one, or the link gave nothing
+  if_read : (o : Option SocketId) (v w : sock_view.View) (b' : Books) (r : ReadIf q link calls false false s t o v w nothing_read b') → ((code : ℕ) × EndedIf o v w nothing_read b' r code) ⊎ (if_bytes q link calls false false s t o v w nothing_read b' r ≡ [])
+  if_read None v w b' r = inr refl
+  if_read (Some id) v w b' r = inl (reading.code_of r.how, refl)
+
   -- what is told is the end of a call, by a response or with the code of the reading
   abbrev pub ToldIf : (links : ℕ) (gave : ℕ → List ℕ) (o : Option SocketId) (v w : sock_view.View) (b' : Books) → ReadIf q link calls false false s t o v w nothing_read b' → Told → Type 0
   ToldIf links gave o v w b' r x = (code : ℕ) × EndedIf o v w nothing_read b' r code × ToldEnd q links gave code (IsPostFor q link) b'.view x
@@ -73,6 +78,10 @@ module _ (q : Plan) (link : ℕ) (calls : List ℕ) (s t : InState) where
 module _ {O : Type 0} {g : Ghosts O} (p : sizes.Plan) (q : Plan) (calls : List ℕ) (x : LinkReader g) (is : IsReader p q calls x) where
   abbrev pub ReadEnded : ℕ → Type 0
   ReadEnded code = EndedIf q x.link calls x.before x.behind is.ran.id is.ran.noted x.seat.me.0 nothing_read x.books is.ran.read code
+
+  -- its reading ended, or its link gave nothing
+  pub reader_read : ((code : ℕ) × ReadEnded code) ⊎ (reader_gave p q calls x is ≡ [])
+  reader_read = if_read q x.link calls x.before x.behind is.ran.id is.ran.noted x.seat.me.0 x.books is.ran.read
 
   -- each error that it noted as queued has the code of its reading, and is for the attempt that a word names with its link
   pub reader_posts : (i first e : ℕ) → 0 < queued_in i first e x.ids.me.0.notes → (code : ℕ) × ReadEnded code × QueuedBy q x.link code x.ids.me.0 i first e

@@ -44,3 +44,6 @@ pub mod Waits
 pub mod Unmet
 pub mod NoneGave
 pub mod Alone
+pub mod Lasts
+pub mod LowIds
+pub mod Silent

@@ -23,12 +23,14 @@ use Rattle.corr_core.specs.declared.marks.View.{View}
 use Rattle.id_rule.specs.Lawful.{notes_of}
 use Rattle.sock_message.specs.Asked.{Asked}
 use Rattle.corr_id.specs.Closing.{Closing}
+use Rattle.corr_id.specs.Posts.{IsTimely}
 use Rattle.attempts_told.specs.call_whys.specs.expire_told.specs.rpc_client.specs.declared.acting.Told.{Told}
 use Rattle.attempts_told.specs.call_whys.specs.expire_told.specs.call_errors.specs.Locking.{id_in}
 use Rattle.attempts_told.specs.call_whys.specs.expire_told.specs.call_run.specs.Readers.{LinkReader}
 use Rattle.attempts_told.specs.call_whys.specs.expire_told.specs.call_run.specs.Threads.{Thread, RanWith, MayRunAll, ids_of}
 use Rattle.attempts_told.specs.call_whys.specs.expire_told.specs.call_places.specs.Counted.{HaveNotesOf}
 use Rattle.attempts_told.specs.call_whys.specs.expire_told.specs.call_places.proofs.Clients.{Client, view_of, tasks_of, deeds_of}
+use Rattle.attempts_told.specs.call_whys.specs.expire_told.specs.call_places.proofs.Ids.{IsIdOf}
 use Rattle.attempts_told.specs.call_whys.specs.expire_told.specs.call_places.proofs.Places.{all as all_clients, all_are}
 use Rattle.attempts_told.specs.call_whys.specs.expire_told.specs.call_told.proofs.Lists.{all_at}
 use Rattle.attempts_told.specs.call_whys.specs.expire_told.specs.call_deeds.specs.Retried.{all_asked}
@@ -39,13 +41,16 @@ use Rattle.attempts_told.specs.call_whys.specs.expire_told.specs.sock_deeds.spec
 use Rattle.attempts_told.specs.call_whys.specs.expire_told.specs.sock_deeds.proofs.Accepting.{log}
 use Rattle.attempts_told.specs.call_whys.specs.expire_told.specs.sock_deeds.proofs.Tasks.{same_task}
 use Rattle.attempts_told.specs.call_whys.specs.expire_told.specs.sock_deeds.proofs.Whole.{log_accepted}
+use Rattle.attempts_told.specs.Attempts.{last_attempt}
 use Rattle.attempts_told.proofs.Told.{same_asked}
 use Rattle.failed_told.specs.Reasons.{IsCaused}
-use Rattle.failed_told.proofs.ByLinks.{EndedOn, QueuedSo, WasEnded, weak, DroppedSo, client_why, same_id, same_end}
+use Rattle.failed_told.proofs.ByLinks.{EndedOn, QueuedSo, WasEnded, weak, DroppedSo, over_here, client_why, same_id, same_end}
 use Rattle.failed_told.proofs.Clients.{Says, ended_caused}
 use Rattle.failed_told.proofs.Codes.{IsReadCode}
 use Rattle.failed_told.proofs.Drops.{DroppedOn, read_dropped}
+use Rattle.failed_told.proofs.Lasts.{ended_last}
 use Rattle.failed_told.proofs.Premises.{asked_so as asked_here}
+use Rattle.failed_told.proofs.Single.{made_once}
 use Rattle.failed_told.proofs.Verdicts.{made_so}
 use Rattle.failed_told.proofs.Views.{queued_in}
 
@@ -67,11 +72,15 @@ module _ {O : Type 0} {g : Ghosts O} {state : O → OutState} {readers : List (L
   pub low_links : p.links ≤ 65536
   low_links = omega (arith, few_links)
 
-  abbrev pub EndedHere : ℕ → Asked → ℕ → Type 0
-  EndedHere o asked code = EndedOn run tasks may notes kept words closing noted keeps outcomes drun seats logged differ gave (log_accepted drun differ (λ k. [])) few_slots few_links (asked_here run tasks may notes kept words closing noted outcomes later) Reads Alone o asked code
+  abbrev pub EndedHere : ℕ → Asked → ℕ → ℕ → Type 0
+  EndedHere o asked id code = EndedOn run tasks may notes kept words closing noted keeps outcomes drun seats logged differ gave (log_accepted drun differ (λ k. [])) few_slots few_links (asked_here run tasks may notes kept words closing noted outcomes later) Reads Alone o asked id code
+
+  -- an attempt's message was dropped, or that of the last one
+  abbrev DroppedAt : ℕ → Asked → ℕ → ℕ → Type 0
+  DroppedAt o asked code n = DroppedOn run tasks may notes kept words closing noted outcomes drun seats logged differ gave (log_accepted drun differ (λ k. [])) few (low_links) bounds o asked code n
 
   abbrev pub DroppedHere : ℕ → Asked → ℕ → Type 0
-  DroppedHere o asked code = DroppedOn run tasks may notes kept words closing noted outcomes drun seats logged differ gave (log_accepted drun differ (λ k. [])) few (low_links) bounds o asked code
+  DroppedHere o asked code = DroppedAt o asked code (last_attempt notes o)
 
   abbrev pub QueuedHere : ℕ → ℕ → ℕ → Type 0
   QueuedHere i first e = QueuedSo run tasks may notes kept words closing noted keeps outcomes drun seats logged differ gave (log_accepted drun differ (λ k. [])) few_slots few_links (asked_here run tasks may notes kept words closing noted outcomes later) Reads Alone i first e
@@ -82,7 +91,7 @@ module _ {O : Type 0} {g : Ghosts O} {state : O → OutState} {readers : List (L
   -- what no client queued, a reader did
   module _ (others : (i first e : ℕ) → 0 < queued_in i first e notes → (0 < total (λ (v : View Asked). queued_in i first e v.notes) ids) ⊎ QueuedHere i first e) where
     of_client : (c : ℕ) (x : Client g state p (ids_of p slots)) (at : get_elem? (all_clients run) c ≡ some x) (one : Told) (e : IsCaused state p (ids_of p slots) (tasks_of x) (Says run outcomes said_own) (deeds_of x) (view_of x) one) → WasEndedHere e.lock.slot (parts e.lock.word.0).first → IsReadCode e.code → (client : ℕ) (asked : Asked) → IsOperation every outcomes client e.lock.content.operation (ops.Call asked)
-        → EndedHere e.lock.content.operation asked e.code ⊎ DroppedHere e.lock.content.operation asked e.code
+        → EndedHere e.lock.content.operation asked (id_in e.lock) e.code ⊎ DroppedHere e.lock.content.operation asked e.code
     of_client c x at one e was read client asked task =
         elim (client_why run tasks may notes kept words closing noted keeps outcomes drun seats logged differ gave (log_accepted drun differ (λ k. [])) few_slots few_links (asked_here run tasks may notes kept words closing noted outcomes later) Reads Alone said_own said_ended others read_code c x at one e was read client asked task) [
           | inl h ↦ inl h
@@ -98,12 +107,29 @@ module _ {O : Type 0} {g : Ghosts O} {state : O → OutState} {readers : List (L
             let w = made e.lock.slot m.1 (parts e.lock.word.0).first (parts e.lock.word.0).range m.0 e.cause.inside m.3 in
             let s = same_task drun w.0 client record { number = m.0.operation; op = ops.Call m.0 } record { number = e.lock.content.operation; op = ops.Call asked } w.1 task m.2 in
             let same : m.0 ≡ asked = same_asked m.0 asked (ap (λ (t : Task). t.op) s.1) in
-            let dropped : DroppedHere m.0.operation m.0 e.code = read_dropped run tasks may notes kept words closing noted outcomes drun seats logged differ gave (log_accepted drun differ (λ k. [])) few (low_links) bounds d.place d.client d.in_crew (id_in e.lock) e.code d.attempt d.drop read
+            let dropped = read_dropped run tasks may notes kept words closing noted outcomes drun seats logged differ gave (log_accepted drun differ (λ k. [])) few (low_links) bounds d.place d.client d.in_crew (id_in e.lock) e.code d.attempt d.drop read
             e.lock.slot (parts e.lock.word.0).first (parts e.lock.word.0).range m.1 m.0 e.cause.inside (let l = e.lock.fits.low in omega (arith, l)) refl m.3 w.0 w.1 in
-            subst (λ (o : ℕ). DroppedHere o asked e.code) m.2 (subst (λ (a : Asked). DroppedHere m.0.operation a e.code) same dropped)
+            let id : IsIdOf slots notes m.0.operation (id_in e.lock) = record {
+              slot = e.lock.slot;
+              first = (parts e.lock.word.0).first;
+              inside = e.cause.inside;
+              low = (let l = e.lock.fits.low in omega (arith, l));
+              id_is = refl;
+              range = (parts e.lock.word.0).range;
+              asked = m.0;
+              place = m.1;
+              made = m.3;
+              operation = refl;
+            } in
+            let over = over_here run tasks may notes kept words closing noted keeps outcomes drun seats logged differ gave (log_accepted drun differ (λ k. [])) few_slots few_links (asked_here run tasks may notes kept words closing noted outcomes later) Reads Alone said_own said_ended others read_code c x at one e in
+            let most = ended_last (ids_of p slots) notes kept words closing m.0.operation (id_in e.lock) (parts e.lock.word.0).attempt id (made_once run tasks may notes kept words closing noted m.0.operation) over in
+            let current : d.attempt ≡ (parts e.lock.word.0).attempt = subst (λ (a : Option ℕ). IsTimely a (parts e.lock.word.0).attempt) d.current e.cause.timely in
+            let below = dropped.low in let last : d.attempt ≡ last_attempt notes m.0.operation = omega (arith, current, most, below) in
+            let dropped_last : DroppedHere m.0.operation m.0 e.code = subst (DroppedAt m.0.operation m.0 e.code) last dropped in
+            subst (λ (o : ℕ). DroppedHere o asked e.code) m.2 (subst (λ (a : Asked). DroppedHere m.0.operation a e.code) same dropped_last)
 
     -- of each end that is told behind the operations of a client
-    pub told_on : (c i : ℕ) (ts : List Told) (one : Told) → get_elem? ended c ≡ some ts → get_elem? ts i ≡ some one → (id code : ℕ) → one.outcome ≡ CallFailed id code → ((slot first : ℕ) → id ≡ slot * 4294967296 + first → first < 4294967296 → WasEndedHere slot first) → IsReadCode code → (client : ℕ) (asked : Asked) → IsOperation every outcomes client one.number (ops.Call asked) → EndedHere one.number asked code ⊎ DroppedHere one.number asked code
+    pub told_on : (c i : ℕ) (ts : List Told) (one : Told) → get_elem? ended c ≡ some ts → get_elem? ts i ≡ some one → (id code : ℕ) → one.outcome ≡ CallFailed id code → ((slot first : ℕ) → id ≡ slot * 4294967296 + first → first < 4294967296 → WasEndedHere slot first) → IsReadCode code → (client : ℕ) (asked : Asked) → IsOperation every outcomes client one.number (ops.Call asked) → EndedHere one.number asked id code ⊎ DroppedHere one.number asked code
     told_on c i ts one at there id code is was read client asked task =
         let f : Thread g → List Told = λ x. x.ended.calls.told.items in
         let w = mapped_from (λ (x : Client g state p (ids_of p slots)). f x.thread) (all_clients run) c ts (ap (λ (l : List (List Told)). get_elem? l c) (all_are run f ∙ run.ran.ended_is) ∙ at) in
@@ -113,4 +139,5 @@ module _ {O : Type 0} {g : Ghosts O} {state : O → OutState} {readers : List (L
         let same : e.code ≡ code = same_end (id_in e.lock) e.code id code (sym (ap (λ (t : Told). t.outcome) e.is) ∙ is) in
         let shown : id_in e.lock ≡ id = same_id (id_in e.lock) e.code id code (sym (ap (λ (t : Told). t.outcome) e.is) ∙ is) in
         let why = of_client c w.0 w.1 one e (was e.lock.slot (parts e.lock.word.0).first (sym shown) (let l = e.lock.fits.low in omega (arith, l))) (subst IsReadCode (sym same) read) client asked (subst (λ (n : ℕ). IsOperation every outcomes client n (ops.Call asked)) number task) in
-        subst (λ (z : ℕ). EndedHere one.number asked z ⊎ DroppedHere one.number asked z) same (subst (λ (n : ℕ). EndedHere n asked e.code ⊎ DroppedHere n asked e.code) (sym number) why)
+        subst (λ (z : ℕ). EndedHere one.number asked id z ⊎ DroppedHere one.number asked z) same
+        (subst (λ (z : ℕ). EndedHere one.number asked z e.code ⊎ DroppedHere one.number asked e.code) shown (subst (λ (n : ℕ). EndedHere n asked (id_in e.lock) e.code ⊎ DroppedHere n asked e.code) (sym number) why))

@@ -23,7 +23,7 @@ use Rattle.seat_programs.specs.declared.task.Op.{Op}
 use Rattle.seat_programs.specs.declared.task.Op.TheVariants as ops
 use Rattle.seat_programs.specs.declared.task.Task.{Task}
 use Rattle.corr_core.specs.Word.{Parts, parts}
-use Rattle.corr_core.specs.Law.{total, is_queued, is_attempt}
+use Rattle.corr_core.specs.Law.{total, is_queued, is_attempt, is_ended_at}
 use Rattle.corr_core.specs.declared.marks.Note.{Note}
 use Rattle.corr_core.specs.declared.marks.Note.TheVariants.{Made, Queued}
 use Rattle.corr_core.specs.declared.marks.Noted.{Noted}
@@ -75,7 +75,7 @@ use Rattle.attempts_told.specs.call_whys.specs.expire_told.specs.call_errors.spe
 use Rattle.failed_told.specs.Reasons.{Counts, StillHas, IsBehind, WasDropped, Reason, timed_out, missed, dropped, QueuedFor, AdvancedFor, Origin, posted_so, handed_out, IsSeen, Cause, IsCaused}
 use Rattle.failed_told.specs.Missed.{delivery_missed, attempt_missed, went_missed, retry_missed, acted_missed, acted_id, IsMadeBy, IsBacked, socks_behind}
 use Rattle.failed_told.proofs.Keeping.{still_as, still_then, wrote_still, drop_still}
-use Rattle.failed_told.proofs.Views.{queued_silent, queued_in, advanced_in, Later, later_then, Stays, Steps, one_silent, queued_one, same_stays, then_stays, did_later, did_stays, quiet_stays, kept_stays, ended_stays, got_stays, opened_stays, handed_stays, handed_later, opened_steps, handed_steps}
+use Rattle.failed_told.proofs.Views.{queued_silent, queued_in, advanced_in, Later, later_then, Stays, Steps, one_silent, queued_one, same_stays, then_stays, did_later, did_stays, quiet_stays, kept_stays, ended_stays, ended_over, got_stays, opened_stays, handed_stays, handed_later, opened_steps, handed_steps}
 
 -- the lock that was got has the word that was found
 got_seen : (v w : View Asked) (word : ℕ) (k : IdLock Asked) → GotLock k.slot v w word (parts k.word.0) k.content → IsSeen w k
@@ -161,7 +161,15 @@ module _ {O : Type 0} {g : Ghosts O} (state : O → OutState) (p : Plan) (q : id
   }
 
   caused_later : (v w : View Asked) → Later v w → (x : Told) → IsCausedHere v x → IsCausedHere w x
-  caused_later v w l x c = record { lock = c.lock; code = c.code; attempt = c.attempt; is = c.is; ends = c.ends; cause = cause_later v w l c.lock c.code c.attempt c.cause }
+  caused_later v w l x c = record {
+    lock = c.lock;
+    code = c.code;
+    attempt = c.attempt;
+    is = c.is;
+    ends = c.ends;
+    cause = cause_later v w l c.lock c.code c.attempt c.cause;
+    over = (let a = l.notes c.lock.slot (is_ended_at (parts c.lock.word.0).first (parts c.lock.word.0).attempt) in let b = c.over in omega (arith, a, b));
+  }
 
   advanced_later : (v w : View Asked) → Later v w → (i first n : ℕ) → AdvancedHere v i first n → AdvancedHere w i first n
   advanced_later v w l i first n h = record { lock = h.lock; code = h.code; attempt = h.attempt; slot_is = h.slot_is; first_is = h.first_is; next = h.next; goes_on = h.goes_on; cause = cause_later v w l h.lock h.code h.attempt h.cause }
@@ -238,7 +246,7 @@ module _ {O : Type 0} {g : Ghosts O} (state : O → OutState) (p : Plan) (q : id
       by : t.books.starved ≡ false → Tells (failed k code) s.books t.books → (s.books.starved ≡ false) × ((more : List Told) × (t.books.told ≡ s.books.told ++ more) × AllByRecursion (IsCausedHere t.view) more)
       by fed (told is) = (
         sym (ap (λ (b : Books). b.starved) is) ∙ fed,
-        (failed k code ∷ [], ap (λ (b : Books). b.told) is, (record { lock = k; code = code; attempt = attempt; is = refl; ends = end; cause = cause_later s.view t.view grown.later k code attempt c }, tt)),
+        (failed k code ∷ [], ap (λ (b : Books). b.told) is, (record { lock = k; code = code; attempt = attempt; is = refl; ends = end; cause = cause_later s.view t.view grown.later k code attempt c; over = ended_over k.slot (parts k.word.0).first s.view t.view e.ended }, tt)),
       )
       by fed (lost is) = let z : true ≡ false = sym (ap (λ (b : Books). b.starved) is) ∙ fed in absurd (cc)
 

@@ -163,7 +163,7 @@ deed_place {state = state} {p = p} {q = q} (retries r s t (overtaken k u l o)) a
 deed_place {state = state} {p = p} {q = q} (retries r s t (went_again k u l w)) asked is m e h = went_at state p q _ _ _ t w.went m e h ∙ ap (λ (y : Asked). 8 * y.operation + r.attempt) is
 
 -- a note that an id was made for this operation
-made_note : (f o : ℕ) (n : Note Asked) → 0 < is_made_for f o n → (r : ℕ) × (asked : Asked) × (n ≡ Made f r asked) × (asked.operation ≡ o)
+pub made_note : (f o : ℕ) (n : Note Asked) → 0 < is_made_for f o n → (r : ℕ) × (asked : Asked) × (n ≡ Made f r asked) × (asked.operation ≡ o)
 made_note f o (Made g r asked) h = dite (ℕ_discrete g f)
     (λ e. dite (ℕ_discrete asked.operation o) (λ d. (r, asked, ap (λ (y : ℕ). Made y r asked) e, d)) (λ n. absurd (let a = pair-else f o g asked.operation n in omega (arith, a, h))))
     (λ n. absurd (let a = pair-else_first f o g asked.operation n in omega (arith, a, h)))

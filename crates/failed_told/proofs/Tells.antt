@@ -8,16 +8,17 @@ use Rattle.sock_words.specs.Words.{at_word_link}
 use Rattle.sock_words.specs.declared.at_word.AtWord.{AtWord}
 use Rattle.sock_words.specs.declared.outcome.Outcome.{Outcome}
 use Rattle.sock_words.specs.declared.outcome.Outcome.TheVariants.{CallFailed}
+use Rattle.corr_core.specs.Law.{total, is_ended_at}
 use Rattle.corr_core.specs.Word.{Parts, parts, locked_word}
 use Rattle.corr_core.specs.declared.marks.Plan.{Plan}
 use Rattle.corr_core.specs.declared.marks.View.{View}
-use Rattle.id_rule.specs.Lawful.{at_index, call_index, with_kept}
+use Rattle.id_rule.specs.Lawful.{at_index, call_index, notes_of, with_kept}
 use Rattle.sock_message.specs.Asked.{Asked}
 use Rattle.sock_message.specs.brpc_model.specs.Frame as model
 use Rattle.corr_id.specs.declared.posts.Posted.{Posted}
 use Rattle.corr_id.specs.declared.posts.Posted.TheVariants.{Locked as HasLock, Queued as IsQueued, Gone, Stale, Crowded}
 use Rattle.corr_id.specs.Calls.{is_saw, slot_of, Found, GotLock}
-use Rattle.corr_id.specs.Posts.{PostOk}
+use Rattle.corr_id.specs.Posts.{IsTimely, PostOk}
 use Rattle.attempts_told.specs.call_whys.specs.expire_told.specs.call_run.specs.prpc_frame.specs.Meaning.{frame_of}
 use Rattle.attempts_told.specs.call_whys.specs.expire_told.specs.call_run.specs.prpc_frame.specs.declared.frame.Frame.{Frame}
 use Rattle.call_table.specs.Responses.{ending_of, is_early}
@@ -33,7 +34,7 @@ use Rattle.attempts_told.specs.call_whys.specs.expire_told.specs.call_told.proof
 use Rattle.attempts_told.specs.call_whys.specs.expire_told.specs.call_told.proofs.Given.{given_response, for_is}
 use Rattle.attempts_told.specs.call_whys.specs.expire_told.specs.call_told.proofs.Lists.{all_both, all_but, all_at, all_then, elem_or}
 use Rattle.failed_told.proofs.Posts.{IsPost, post_later, post_found, again_stays}
-use Rattle.failed_told.proofs.Views.{Later, later_then, same_stays, quiet_stays, kept_stays, ended_stays, got_stays, did_later}
+use Rattle.failed_told.proofs.Views.{Later, later_then, same_stays, quiet_stays, kept_stays, ended_stays, ended_over, got_stays, did_later}
 
 -- the seat found a word of this slot open and locked it, with this call as its content; w is the word of the lock
 pub record HadLock (slot : ℕ) (w : Parts) (call : Asked) (v : View Asked) : Type 0 where
@@ -62,7 +63,7 @@ module _ (q : Plan) (links : ℕ) (gave : ℕ → List ℕ) (code : ℕ) (Known 
     on_response : (f : model.Frame) → IsGivenResponse links gave slot w f → by ≡ ending_of (id_of slot w) f → EndsBy v slot w by
     on_code : Known v slot w → by ≡ CallFailed (id_of slot w) code → EndsBy v slot w by
 
-  -- what is told is the end of the call of a lock
+  -- what is told is the end of the call of a lock, at the attempt of the lock
   pub record ToldEnd (v : View Asked) (x : Told) : Type 0 where
     pub slot : ℕ
     pub inside : slot < q.slots
@@ -70,6 +71,7 @@ module _ (q : Plan) (links : ℕ) (gave : ℕ → List ℕ) (code : ℕ) (Known 
     pub call : Asked
     pub lock : HadLock slot word call v
     pub number : x.number ≡ call.operation
+    pub over : 0 < total (is_ended_at word.first word.attempt) (notes_of slot v.notes)
     pub by : EndsBy v slot word x.outcome
 
   abbrev GivenAll : List Frame → Type 0
@@ -92,7 +94,16 @@ module _ (q : Plan) (links : ℕ) (gave : ℕ → List ℕ) (code : ℕ) (Known 
     by_later u v l slot w by (on_code known e) = on_code (stays u v l slot w known) e
 
     told_later : (u v : View Asked) → Later u v → (x : Told) → ToldEnd u x → ToldEnd v x
-    told_later u v l x t = record { slot = t.slot; inside = t.inside; word = t.word; call = t.call; lock = lock_later t.slot t.word t.call u v l t.lock; number = t.number; by = by_later u v l t.slot t.word x.outcome t.by }
+    told_later u v l x t = record {
+      slot = t.slot;
+      inside = t.inside;
+      word = t.word;
+      call = t.call;
+      lock = lock_later t.slot t.word t.call u v l t.lock;
+      number = t.number;
+      over = (let a = l.notes t.slot (is_ended_at t.word.first t.word.attempt) in let b = t.over in omega (arith, a, b));
+      by = by_later u v l t.slot t.word x.outcome t.by;
+    }
 
     pub step_then : (a b c : Books) → Step a b → Step b c → Step a c
     step_then a b c s t = record {
@@ -125,7 +136,7 @@ module _ (q : Plan) (links : ℕ) (gave : ℕ → List ℕ) (code : ℕ) (Known 
         tells why early (inl t) = record {
           more = record { number = call.operation; outcome = by } ∷ [];
           told = t.0;
-          each = (record { slot = slot; inside = inside; word = w; call = call; lock = lock_later slot w call b.view b'.view later (lock_got slot word w call u b.view got); number = refl; by = by_later b.view b'.view later slot w by why }, tt);
+          each = (record { slot = slot; inside = inside; word = w; call = call; lock = lock_later slot w call b.view b'.view later (lock_got slot word w call u b.view got); number = refl; over = ended_over slot w.first b.view b'.view e.ended; by = by_later b.view b'.view later slot w by why }, tt);
           early = early;
         }
         tells why early (inr t) = record { more = []; told = t.0 ∙ sym (append-nil b.told); each = tt; early = early }
@@ -187,12 +198,12 @@ module _ (q : Plan) (links : ℕ) (gave : ℕ → List ℕ) (code : ℕ) (Known 
 
     -- ## What is left
 
-    module _ (always : (v : View Asked) (slot : ℕ) (w : Parts) → Known v slot w) where
+    module _ (always : (v : View Asked) (slot : ℕ) (w : Parts) → w.first < 4294967296 → Known v slot w) where
       id_step : (id : ℕ) (b b' : Books) → HadEnded q.slots id b b' ⊎ EndedLast q.slots code id b b' → Step b b'
       id_step id b b' (inl h) = step_quiet b b' (quiet_stays b.view b'.view h.quiet).later (ap (λ (x : Books). x.told) h.same) (subst GivenAll (sym (ap (λ (x : Books). x.early) h.same)))
       id_step id b b' (inr l) =
           let u : Books = record b { view = l.locked } in
-          step_then b u b' (step_seen b l.locked (got_stays (slot_of id) b.view l.locked l.found l.word l.call l.got).later) (lost_step (slot_of id) l.inside l.word l.call b.view l.found u b' l.got (always l.locked (slot_of id) l.word) l.lost)
+          step_then b u b' (step_seen b l.locked (got_stays (slot_of id) b.view l.locked l.found l.word l.call l.got).later) (lost_step (slot_of id) l.inside l.word l.call b.view l.found u b' l.got (always l.locked (slot_of id) l.word (let a = l.range.0 in omega (arith, a))) l.lost)
 
       rest_one : (operation : ℕ) (b b' : Books) → OneEnded q code operation b b' → Step b b'
       rest_one operation b b' (inl n) = step_same b b' (n.same ∙ ap (λ (v : View Asked). record b { view = v }) n.view)
@@ -204,12 +215,12 @@ module _ (q : Plan) (links : ℕ) (gave : ℕ → List ℕ) (code : ℕ) (Known 
 
 -- ## By a reader's post
 
--- the call of the lock is that which such a word names
+-- the call of the lock is that which such a word names, and its attempt the one of the word
 abbrev pub IsPostFor : Plan → ℕ → View Asked → ℕ → Parts → Type 0
-IsPostFor q link v slot w = (word : ℕ) × IsPost q link v word × (id_of slot w ≡ call_at word) × (w.first < 4294967296)
+IsPostFor q link v slot w = (word : ℕ) × IsPost q link v word × (id_of slot w ≡ call_at word) × (w.first < 4294967296) × IsTimely (attempt_at word) w.attempt
 
 pub for_later : (q : Plan) (link : ℕ) (u v : View Asked) → Later u v → (slot : ℕ) (w : Parts) → IsPostFor q link u slot w → IsPostFor q link v slot w
-for_later q link u v l slot w h = (h.0, post_later q link u v l h.0 h.1, h.2, h.3)
+for_later q link u v l slot w h = (h.0, post_later q link u v l h.0 h.1, h.2, h.3, h.4)
 
 module _ (q : Plan) (links : ℕ) (gave : ℕ → List ℕ) (code link : ℕ) where
   abbrev Known : View Asked → ℕ → Parts → Type 0
@@ -227,7 +238,7 @@ module _ (q : Plan) (links : ℕ) (gave : ℕ → List ℕ) (code link : ℕ) wh
   posted_to : (v : View Asked) (word : ℕ) (answer : Posted Asked) (b b' : Books) → IsPost q link b.view word → PostOk q.slots v b.view (call_at word) code (attempt_at word) answer → PostedTo code answer b b' → Step_by b b'
   posted_to v word (HasLock k) b b' is post h =
       let whole = div-add-mod' (call_at word) 4294967296 in let slot = post.0 in let first = post.2 in
-      lost_step q links gave code Known (for_later q link) k.slot post.1 (parts k.word.0) k.content v post.4.0 b b' post.4.1 (word, is, omega (arith, whole, slot, first), (let l = k.fits.low in omega (arith, l))) h
+      lost_step q links gave code Known (for_later q link) k.slot post.1 (parts k.word.0) k.content v post.4.0 b b' post.4.1 (word, is, omega (arith, whole, slot, first), (let l = k.fits.low in omega (arith, l)), post.3) h
   posted_to v word IsQueued b b' is post h = same_by b b' h
   posted_to v word (Gone found) b b' is post h = same_by b b' h
   posted_to v word (Stale current) b b' is post h = same_by b b' h

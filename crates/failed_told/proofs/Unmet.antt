@@ -1,8 +1,8 @@
 -- Of the responses that a reader met: where it told a call to have ended with 1014, or queued an error, there was none, unless a range with its version was ended besides; and each is met in what it leaves.
-use Rattle.std.proofs.Common.{◌≡◌, ℕ, ◌+◌, ◌<◌, ◌≤◌, ◌⊎◌, inl, inr, Bool, true, false, List, [], ◌∷◌, Some, None, refl, sym, ap, ◌∙◌, subst, arith}
+use Rattle.std.proofs.Common.{◌≡◌, ℕ, zero, suc, ◌+◌, ◌<◌, ◌≤◌, ◌⊎◌, inl, inr, Bool, true, false, List, [], ◌∷◌, Some, None, refl, sym, ap, ◌∙◌, subst, arith}
 use Rattle.std.specs.Prelude.{Option}
 use Rattle.std.specs.List.{AllByRecursion}
-use mathlib.Core.Option.{some}
+use mathlib.Core.Option.{some, some-injective, some-ne-none}
 use lib.ListN.{get_elem?}
 use Rattle.sock_words.specs.Codes.{EEOF}
 use Rattle.sock_words.specs.declared.plain.Plan as sizes
@@ -29,7 +29,7 @@ use Rattle.attempts_told.specs.call_whys.specs.expire_told.specs.call_deeds.spec
 use Rattle.attempts_told.specs.call_whys.specs.expire_told.specs.call_run.specs.Readers.{LinkReader, nothing_read, IsReader}
 use Rattle.attempts_told.specs.call_whys.specs.expire_told.specs.call_deeds.specs.rpc_reader.specs.Resting.{RestEnded}
 use Rattle.attempts_told.specs.call_whys.specs.expire_told.specs.call_told.proofs.MetFrames.{Responds, end_unanswered, wait_unanswered}
-use Rattle.attempts_told.specs.call_whys.specs.expire_told.specs.call_told.proofs.Readers.{AllRead, link_read, if_bytes, reader_gave}
+use Rattle.attempts_told.specs.call_whys.specs.expire_told.specs.call_told.proofs.Readers.{AllRead, link_read, if_bytes, reader_gave, readers_gave}
 use Rattle.attempts_told.specs.call_whys.specs.expire_told.specs.call_told.proofs.Responses.{NotesGrow, met_in}
 use Rattle.attempts_told.specs.call_whys.specs.expire_told.specs.call_told.proofs.Unanswered.{AllMet, CodeEnd, EndOf, TellsEnds, WasMet, was_asked, read_met, read_calm, left_met, read_tells, rest_tells}
 use Rattle.failed_told.proofs.Ends.{EndedIf, ReadEnded}
@@ -148,6 +148,17 @@ module _ {O : Type 0} {g : Ghosts O} (p : sizes.Plan) (q : Plan) (calls : List �
   any_asked [] a f m = absurd m
   any_asked (x ∷ xs) a f (inl m) = has_asked p q calls x a.0 f m
   any_asked (x ∷ xs) a f (inr m) = any_asked xs a.1 f m
+
+  -- the reader at a place of these: what it met one of them did
+  pub record AnyAt (xs : List (LinkReader g)) (a : AllRead p q calls xs) (k : ℕ) (x : LinkReader g) : Type 0 where
+    pub is : IsReader p q calls x
+    pub gave_is : readers_gave p q calls xs a k ≡ reader_gave p q calls x is
+    pub met : (f : Frame) → HasMet p q calls x is f → AnyMet xs a f
+
+  pub any_at : (xs : List (LinkReader g)) (a : AllRead p q calls xs) (k : ℕ) (x : LinkReader g) → get_elem? xs k ≡ some x → AnyAt xs a k x
+  any_at [] a k x e = absurd (some-ne-none x (sym e))
+  any_at (y ∷ xs) a zero x e = subst (AnyAt (y ∷ xs) a 0) (some-injective y x e) (record { is = a.0; gave_is = refl; met = λ f m. inl m })
+  any_at (y ∷ xs) a (suc k) x e = let r = any_at xs a.1 k x e in record { is = r.is; gave_is = r.gave_is; met = λ f m. inr (r.met f m) }
 
   -- a seat has what these noted and keep
   abbrev pub HasTaken : Books → LinkReader g → Type 0

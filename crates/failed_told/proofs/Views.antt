@@ -4,14 +4,14 @@ use Rattle.std.specs.Prelude.{Option}
 use mathlib.Core.Logic.{dite}
 use native.Mathlib.Decide.{ℕ_discrete}
 use Rattle.corr_core.specs.Word.{Parts, parts}
-use Rattle.corr_core.specs.Law.{total, pair, is_queued, is_attempt}
+use Rattle.corr_core.specs.Law.{total, pair, is_queued, is_attempt, is_ended_at}
 use Rattle.corr_core.specs.declared.marks.Kept.{Kept}
 use Rattle.corr_core.specs.declared.marks.Note.{Note}
 use Rattle.corr_core.specs.declared.marks.Note.TheVariants.{Tried, Made, Ended, Locker, Queued, Attempt, Saw}
 use Rattle.corr_core.specs.declared.marks.Noted.{Noted}
 use Rattle.corr_core.specs.declared.marks.Token.{Token}
 use Rattle.corr_core.specs.declared.marks.View.{View}
-use Rattle.corr_core.proofs.Notes.{pair-else, pair-else_first}
+use Rattle.corr_core.proofs.Notes.{pair-same, pair-else, pair-else_first}
 use Rattle.id_rule.specs.Lawful.{notes_of, with_kept}
 use Rattle.sock_message.specs.Asked.{Asked}
 use Rattle.corr_id.specs.declared.calls.IdLock.{IdLock}
@@ -165,6 +165,14 @@ ended_stays {n} i first v w b = record {
     more W j =
         let es : List (Noted Asked) = one i (Ended first n) in
         ap (λ (l : List (Noted Asked)). total W (notes_of j l)) b.notes ∙ (ap (total W) (notes_append j es v.notes) ∙ total_append W (notes_of j es) (notes_of j v.notes))
+
+-- and that is noted, with the attempt
+pub ended_over : {n : ℕ} (i first : ℕ) (v w : View Asked) → Became i v w [] (one i (Ended first n)) → 0 < total (is_ended_at first n) (notes_of i w.notes)
+ended_over {n} i first v w b =
+    let f : Note Asked → ℕ = is_ended_at first n in
+    let a : total f (notes_of i w.notes) ≡ pair first n first n + total f (notes_of i v.notes)
+    = ap (λ (l : List (Noted Asked)). total f (notes_of i l)) b.notes ∙ ap (λ (y : Bool). total f (cond y (Ended first n ∷ notes_of i v.notes) (notes_of i v.notes))) (eq-eqb i i refl) in
+    let c = pair-same first n in omega (arith, a, c)
 
 pub got_stays : (i : ℕ) (v w : View Asked) (word : ℕ) (k : Parts) (call : Asked) → GotLock i v w word k call → Stays v w
 got_stays i v w word k call g = did_stays i v w _ (one i (Locker k.first call)) (one_silent i (Locker k.first call) (λ x y. refl) (λ x y. refl)) g.did

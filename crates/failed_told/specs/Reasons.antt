@@ -19,7 +19,7 @@ use Rattle.attempts_told.specs.call_whys.specs.expire_told.specs.sock_rule.specs
 use Rattle.seat_programs.specs.declared.task.Op.TheVariants as ops
 use Rattle.seat_programs.specs.declared.task.Task.{Task}
 use Rattle.corr_core.specs.Word.{parts}
-use Rattle.corr_core.specs.Law.{total, pair}
+use Rattle.corr_core.specs.Law.{total, pair, is_ended_at}
 use Rattle.corr_core.specs.declared.marks.Kept.{Kept}
 use Rattle.corr_core.specs.declared.marks.Plan as id_plan
 use Rattle.corr_core.specs.declared.marks.View.{View}
@@ -125,7 +125,7 @@ module _ {O : Type 0} {g : Ghosts O} (state : O → OutState) (p : Plan) (q : id
     pub timely : IsTimely attempt (parts k.word.0).attempt
     pub origin : Origin v k code attempt
 
-  -- what is told is the end of the call of a lock, with an error that ended it
+  -- what is told is the end of the call of a lock, with an error that ended it, at the attempt of the lock
   pub record IsCaused (v : View Asked) (x : Told) : Type 0 where
     pub lock : IdLock Asked
     pub code : ℕ
@@ -133,6 +133,7 @@ module _ {O : Type 0} {g : Ghosts O} (state : O → OutState) (p : Plan) (q : id
     pub is : x ≡ failed lock code
     pub ends : decision lock code attempt ≡ decisions.End
     pub cause : Cause v lock code attempt
+    pub over : 0 < total (is_ended_at (parts lock.word.0).first (parts lock.word.0).attempt) (notes_of lock.slot v.notes)
 
   -- the id with this first version in slot i advanced to attempt n: for an error that left it retries, which a lock at the attempt before had
   pub record AdvancedFor (v : View Asked) (i first n : ℕ) : Type 0 where

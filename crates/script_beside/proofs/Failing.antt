@@ -3,7 +3,7 @@ use Rattle.std.proofs.Common.{◌≡◌, ℕ, zero, suc, false, ◌+◌, ◌*◌
 use Rattle.std.specs.Prelude.{IfSome}
 use Rattle.std.specs.List.{AllByRecursion, flat_map}
 use Rattle.std.proofs.lemmas.List.{map-append, length-map}
-use Rattle.std.proofs.lemmas.Option.{slice_get_within}
+use Rattle.std.proofs.lemmas.Option.{none-some, slice_get_within}
 use mathlib.Core.Option.{some, some-injective, some-ne-none}
 use lib.ListN.{get_elem?}
 use Rattle.sock_io.specs.declared.link.Out.{Ghosts}
@@ -21,7 +21,7 @@ use Rattle.brpc_model.specs.Frame.{Frame}
 use Rattle.brpc_model.specs.Stream.{stream}
 use Rattle.prpc_frame.specs.declared.frame.Frame.{Frame as Answer}
 use Rattle.corr_core.specs.Law.{total, is_ended}
-use Rattle.corr_core.specs.Word.{code_of}
+use Rattle.corr_core.specs.Word.{Parts, code_of}
 use Rattle.corr_core.specs.declared.marks.Kept.{Kept}
 use Rattle.corr_core.specs.declared.marks.Note.{Note}
 use Rattle.corr_core.specs.declared.marks.Noted.{Noted}
@@ -36,14 +36,15 @@ use Rattle.seat_programs.specs.declared.task.Op.TheVariants as ops
 use Rattle.seat_programs.specs.declared.task.Task.{Task}
 use Rattle.seat_programs.specs.Tasks.{plan_of, opens, calls}
 use Rattle.seat_programs.specs.Told.{IsTask, Became}
-use Rattle.seat_programs.specs.ToldCalls.{Fixed, Order, FailedBy, WhyAgain, WhyExpire}
+use Rattle.seat_programs.specs.ToldCalls.{Fixed, Order, GaveFault, FailedBy, WhyAgain, WhyExpire}
 use Rattle.rpc_client.specs.declared.acting.Told.{Told}
-use Rattle.rpc_reader.specs.Books.{Books}
+use Rattle.rpc_reader.specs.Books.{Books, id_of}
 use Rattle.call_run.specs.Readers.{LinkReader, IsReader}
 use Rattle.call_run.specs.Threads.{Thread}
 use Rattle.script_calls.specs.report_fits.proofs.Sizes.{keeps_limits}
 use Rattle.script_calls.specs.report_fits.specs.Ends.{EndsEarly}
 use Rattle.script_calls.specs.call_whys.specs.call_deeds.proofs.Runs.{seats_are, read_beside, early_with}
+use Rattle.script_calls.specs.call_whys.specs.call_places.proofs.Ids.{IsIdOf}
 use Rattle.script_calls.specs.call_whys.specs.call_places.proofs.Weights.{term, flat_total}
 use Rattle.script_calls.specs.call_whys.specs.call_told.specs.Answers.{IsGiven, AreGiven, IsOwn}
 use Rattle.script_calls.specs.call_whys.specs.call_told.proofs.Beside.{gave_is, early_given}
@@ -54,24 +55,26 @@ use Rattle.script_calls.specs.call_whys.specs.expire_told.proofs.Making.{mapped_
 use Rattle.script_calls.specs.call_whys.specs.expire_told.specs.Said.{WhyExpired}
 use Rattle.script_calls.specs.call_whys.specs.sock_deeds.specs.Runs.{IsOperation, seat_of, sits_of, DeedRun}
 use Rattle.script_calls.specs.call_whys.specs.sock_deeds.proofs.Orders.{orders}
+use Rattle.script_calls.specs.call_whys.specs.sock_deeds.proofs.Places.{place_there}
 use Rattle.script_calls.specs.call_whys.specs.sock_deeds.proofs.Whole.{log_accepted}
 use Rattle.script_calls.specs.attempts_told.specs.Attempts.{last_attempt}
-use Rattle.script_calls.specs.failed_told.specs.Ends.{ReadingEnded, EndedByReading, AtFault, AtEnd, AtDrop, LeftOver}
+use Rattle.script_calls.specs.failed_told.specs.Ends.{ReadingEnded, GaveNoResponse, EndedByReading, AtFault, AtEnd, AtFaultDrop, AtEndDrop, LeftOver}
 use Rattle.script_calls.specs.failed_told.proofs.Again.{again_with}
 use Rattle.script_calls.specs.failed_told.proofs.Alone.{NoResponse, told_alone, waits_alone}
-use Rattle.script_calls.specs.failed_told.proofs.ByLinks.{IsPosted, told_why, by_reader}
+use Rattle.script_calls.specs.failed_told.proofs.ByLinks.{IsPosted, LockOf, told_why, by_reader}
 use Rattle.script_calls.specs.failed_told.proofs.Codes.{IsReadCode}
 use Rattle.script_calls.specs.failed_told.proofs.DropsTold.{drops_with, expires_with}
 use Rattle.script_calls.specs.failed_told.proofs.Ended.{TellsDrops, ends_with}
-use Rattle.script_calls.specs.failed_told.proofs.Ends.{ReadEnded, reader_posts, ToldBy, reader_tells}
+use Rattle.script_calls.specs.failed_told.proofs.Ends.{ReadEnded, reader_read, reader_posts, ToldBy, reader_tells}
 use Rattle.script_calls.specs.failed_told.proofs.LinkEnds.{EndedHere, DroppedHere, QueuedHere, told_on}
 use Rattle.script_calls.specs.failed_told.proofs.Posts.{IsPost, rest_stays}
 use Rattle.script_calls.specs.failed_told.proofs.Premises.{asked_so}
 use Rattle.script_calls.specs.failed_told.proofs.ReaderCodes.{StoredByReader}
 use Rattle.script_calls.specs.failed_told.proofs.ReaderStores.{setter}
 use Rattle.script_calls.specs.failed_told.proofs.Reading.{notes_flat, rest_queues, readers_queue, queued_beside, others_beside}
+use Rattle.script_calls.specs.failed_told.proofs.Silent.{silent}
 use Rattle.script_calls.specs.failed_told.proofs.Tells.{ToldEnd, IsPostFor, rest_step}
-use Rattle.script_calls.specs.failed_told.proofs.Unmet.{HasMet, has_asked, reader_waits, reader_ends, AnyMet, any_asked, HasTaken, rest_ends}
+use Rattle.script_calls.specs.failed_told.proofs.Unmet.{HasMet, has_asked, reader_waits, reader_ends, AnyMet, any_asked, any_at, HasTaken, rest_ends}
 use Rattle.script_calls.specs.failed_told.proofs.Views.{Stays, queued_in}
 use Rattle.script_calls.specs.call_whys.specs.call_told.proofs.Unanswered.{CodeEnd}
 use Rattle.script_calls.specs.call_whys.specs.call_told.specs.Once.{ends_of}
@@ -180,6 +183,11 @@ module _ (P : Type 0) {O I : Type 0} (g : Ghosts O) (out : O → OutState) (inn 
   at_place : (j : ℕ) (x : LinkReader g) → get_elem? readers j ≡ some x → HasPlaceHere j x
   at_place = place_of p q (calls script) 0 (opens script) readers r.left.readers_are
 
+  -- and what it met one of them did
+  met_place : (j : ℕ) (x : LinkReader g) → get_elem? readers j ≡ some x → (h : HasPlaceHere j x) × ((f : Answer) → HasMet p q (calls script) x h.is f → AnyMet p q (calls script) readers all_read f)
+  unfolding all_read
+  met_place j x at = let h = at_place j x at in let m = any_at p q (calls script) readers all_read j x at in (record { is = m.is; link_is = h.link_is; operation = h.operation; gave_is = m.gave_is }, m.met)
+
   -- all notes of a reader are among those of all, and all words that it keeps in mind
   reader_notes : (j : ℕ) (x : LinkReader g) → get_elem? readers j ≡ some x → (slot : ℕ) (f : Note Asked → ℕ) → total f (notes_in slot x.ids.me.0.notes) ≤ total f (notes_in slot notes)
   reader_notes j x at slot f =
@@ -249,8 +257,11 @@ module _ (P : Type 0) {O I : Type 0} (g : Ghosts O) (out : O → OutState) (inn 
   few_slots : slots ≤ 65536
   few_slots = let k = few_calls bytes script reads slots refl in omega (arith, k)
 
+  as_many_readers : length readers ≡ p.links
+  as_many_readers = let a = length-map readers (λ (x : LinkReader g). x.behind) in let b = length-map r.ends (λ (e : Ends O I P). inn e.inn) in let c = ap length r.halves_read in let d = sockets.as_many P g out inn bytes script reads text links r in omega (arith, a, b, c, d)
+
   few_readers : length readers ≤ p.links
-  few_readers = let a = length-map readers (λ (x : LinkReader g). x.behind) in let b = length-map r.ends (λ (e : Ends O I P). inn e.inn) in let c = ap length r.halves_read in let d = sockets.as_many P g out inn bytes script reads text links r in omega (arith, a, b, c, d)
+  few_readers = let n = as_many_readers in omega (arith, n)
 
   -- ## Causes
 
@@ -261,11 +272,11 @@ module _ (P : Type 0) {O I : Type 0} (g : Ghosts O) (out : O → OutState) (inn 
     abbrev orders_here : ℕ → Order
     orders_here = orders drun (sockets.differ P g out inn bytes script reads text links r)
 
-    abbrev WhyRead : ℕ → Asked → ℕ → ℕ → Type 0
-    WhyRead number asked code n = EndedByReading (plan_of script) all outcomes fixed_here gave orders_here links number asked code n
+    abbrev WhyRead : ℕ → Asked → ℕ → ℕ → ℕ → Type 0
+    WhyRead number asked id code n = EndedByReading (plan_of script) all outcomes fixed_here gave orders_here links number asked id code n
 
     abbrev FailedHere : ℕ → ℕ → Asked → ℕ → ℕ → Type 0
-    FailedHere client number asked id code = FailedBy p all outcomes fixed_here gave orders_here client number asked id code (last_attempt notes number) ⊎ WhyRead number asked code (last_attempt notes number)
+    FailedHere client number asked id code = FailedBy p all outcomes fixed_here gave orders_here client number asked id code (last_attempt notes number) ⊎ WhyRead number asked id code (last_attempt notes number)
 
     seats : map seat_of drun.seats ≡ map (λ (x : Thread g). x.ended.seat) (r.left.ran.ran.main ∷ r.left.ran.ran.others)
     seats = seats_are r.left.ran outcomes (sockets.are P g out inn bytes script reads text links r) (sockets.may P g out inn bytes script reads text links r) (sockets.linked P g out inn bytes script reads text links r) (sockets.long P g out inn bytes script reads text links r) (sockets.reports P g out inn bytes script reads text links r)
@@ -289,6 +300,9 @@ module _ (P : Type 0) {O I : Type 0} (g : Ghosts O) (out : O → OutState) (inn 
     its_bytes : (j : ℕ) (x : LinkReader g) (h : HasPlaceHere j x) → reader_gave p q (calls script) x h.is ≡ gave j
     its_bytes j x h = sym h.gave_is ∙ (ap (λ (f : ℕ → List ℕ). f j) (sym (gave_is p q (calls script) (opens script) readers r.left.readers_are)) ∙ ap (λ (f : ℕ → List ℕ). f j) (sym is_gave))
 
+    its_link : (j : ℕ) (x : LinkReader g) → HasPlaceHere j x → x.link ≡ j
+    its_link j x h = let l = h.link_is in omega (arith, l)
+
     read_by : (j : ℕ) (x : LinkReader g) → get_elem? readers j ≡ some x → (h : HasPlaceHere j x) (code : ℕ) → ReadEnded p q (calls script) x h.is code → Reads x.link code
     read_by j x at h code ended =
         let b = given_back j x at in let l = h.link_is in let link : j ≡ x.link = omega (arith, l) in
@@ -297,6 +311,17 @@ module _ (P : Type 0) {O I : Type 0} (g : Ghosts O) (out : O → OutState) (inn 
           | inl f ↦ inl f
           | inr e ↦ inr (e.0, (end_of (out b.end.out) (inn b.end.inn), b.link, subst (λ (i : InState). IfSome i.closed (λ closed. closed ≡ true) ⊎ ShowsEarly (gave j) i) (sym b.half) e.1))
         ])
+
+    -- these bytes have no response of the id; so a link that gave them gave none of its call
+    abbrev NoResponseHere : ℕ → List ℕ → Type 0
+    NoResponseHere id given = NoResponse q notes last.kept r.rest.words r.rest.closing id given
+
+    abbrev GaveNone : Asked → ℕ → ℕ → Type 0
+    GaveNone asked id k = GaveNoResponse (plan_of script) all outcomes fixed_here gave orders_here links asked id k
+
+    gave_none : (number id : ℕ) → IsIdOf slots notes number id → (client : ℕ) (asked : Asked) → IsOperation all outcomes client number (ops.Call asked) → (k : ℕ) → NoResponseHere id (gave k) → GaveNone asked id k
+    gave_none number id its client asked call k none_ = λ m frame given responds. silent r.left.ran (sockets.are P g out inn bytes script reads text links r) (sockets.may P g out inn bytes script reads text links r) notes last.kept r.rest.words r.rest.closing (sockets.have P g out inn bytes script reads text links r) outcomes (attempts.are_ids P g out inn bytes script reads text links r)
+        number id its client asked call (gave k) none_ m frame given.1 responds.0 responds.1 responds.2
 
     -- the link that a word names gave no response of the call that the word names
     abbrev Alone : ℕ → Type 0
@@ -308,9 +333,9 @@ module _ (P : Type 0) {O I : Type 0} (g : Ghosts O) (out : O → OutState) (inn 
         subst (λ (k : ℕ). NoResponse q notes last.kept r.rest.words r.rest.closing (call_at word) (gave k)) at
         (subst (λ (b : List ℕ). NoResponse q notes last.kept r.rest.words r.rest.closing (call_at word) b) (its_bytes j x h) (subst (λ (i : ℕ). NoResponse q notes last.kept r.rest.words r.rest.closing i (reader_gave p q (calls script) x h.is)) same none_))
 
-    abbrev EndedLink : ℕ → Asked → ℕ → Type 0
-    EndedLink o asked code = EndedHere r.left.ran (sockets.are P g out inn bytes script reads text links r) (sockets.may P g out inn bytes script reads text links r) notes last.kept r.rest.words r.rest.closing (sockets.have P g out inn bytes script reads text links r) (telling.keeps P g out inn bytes script reads text links r) outcomes
-        (sockets.reports P g out inn bytes script reads text links r).said (telling.said_ended P g out inn bytes script reads text links r) (attempts.later P g out inn bytes script reads text links r) (attempts.are_ids P g out inn bytes script reads text links r).made drun seats refl (sockets.differ P g out inn bytes script reads text links r) gave (sockets.low P g out inn bytes script reads text links r) few_slots few_links bounds Reads Alone read_code o asked code
+    abbrev EndedLink : ℕ → Asked → ℕ → ℕ → Type 0
+    EndedLink o asked id code = EndedHere r.left.ran (sockets.are P g out inn bytes script reads text links r) (sockets.may P g out inn bytes script reads text links r) notes last.kept r.rest.words r.rest.closing (sockets.have P g out inn bytes script reads text links r) (telling.keeps P g out inn bytes script reads text links r) outcomes
+        (sockets.reports P g out inn bytes script reads text links r).said (telling.said_ended P g out inn bytes script reads text links r) (attempts.later P g out inn bytes script reads text links r) (attempts.are_ids P g out inn bytes script reads text links r).made drun seats refl (sockets.differ P g out inn bytes script reads text links r) gave (sockets.low P g out inn bytes script reads text links r) few_slots few_links bounds Reads Alone read_code o asked id code
 
     abbrev DroppedLink : ℕ → Asked → ℕ → Type 0
     DroppedLink o asked code = DroppedHere r.left.ran (sockets.are P g out inn bytes script reads text links r) (sockets.may P g out inn bytes script reads text links r) notes last.kept r.rest.words r.rest.closing (sockets.have P g out inn bytes script reads text links r) (telling.keeps P g out inn bytes script reads text links r) outcomes
@@ -364,10 +389,11 @@ module _ (P : Type 0) {O I : Type 0} (g : Ghosts O) (out : O → OutState) (inn 
             }
 
     -- in the words of what is told
-    on_link : (number : ℕ) (asked : Asked) (code : ℕ) → EndedLink number asked code → WhyRead number asked code (last_attempt notes number)
-    on_link number asked code h = elim h.read [
-      | inl f ↦ AtFault f.0 h.attempt h.link h.low h.on f.1
-      | inr e ↦ AtEnd e.0 h.attempt h.link h.low (record { on = h.on; ended = e.1; lost = h.lost })
+    on_link : (client number : ℕ) (asked : Asked) → IsOperation all outcomes client number (ops.Call asked) → (id code : ℕ) → EndedLink number asked id code → WhyRead number asked id code (last_attempt notes number)
+    on_link client number asked call id code h = elim h.read [
+      | inl f ↦ AtFault f.0 h.link h.on f.1
+      | inr e ↦ AtEnd e.0 h.link (record { on = h.on; ended = e.1; lost = h.lost }) (gave_none number id h.its client asked call h.link
+          (subst (λ (k : ℕ). NoResponseHere id (gave k)) h.names (subst (λ (i : ℕ). NoResponseHere i (gave (at_word_link h.word))) h.call_is (h.alone e.0))))
     ]
 
     -- the link of a reader whose reading ended early
@@ -398,10 +424,10 @@ module _ (P : Type 0) {O I : Type 0} (g : Ghosts O) (out : O → OutState) (inn 
           | inr end ↦ absurd (let e = end.0 in omega (arith, e))
         ]
 
-    on_drop : (number : ℕ) (asked : Asked) (code : ℕ) → IsReadCode code → DroppedLink number asked code → WhyRead number asked code (last_attempt notes number)
-    on_drop number asked code read h = elim read [
-      | inl e ↦ AtEnd e h.attempt h.link h.low (record { on = h.on; ended = ended_early h.link h.early; lost = inl h.failing })
-      | inr e ↦ AtDrop e h.attempt h.link h.low (record { on = h.on; dropped = h.dropped; failing = h.failing; fault = drop_fault h.link (subst (StoredByReader drun h.link) e h.by); ended = ended_early h.link h.early })
+    on_drop : (number : ℕ) (asked : Asked) (id code : ℕ) → IsReadCode code → DroppedLink number asked code → WhyRead number asked id code (last_attempt notes number)
+    on_drop number asked id code read h = elim read [
+      | inl e ↦ AtEndDrop e h.link (record { on = h.on; dropped = h.dropped; failing = h.failing; ended = ended_early h.link h.early })
+      | inr e ↦ AtFaultDrop e h.link (record { on = h.on; dropped = h.dropped; failing = h.failing; ended = ended_early h.link h.early }) (drop_fault h.link (subst (StoredByReader drun h.link) e h.by))
     ]
 
     -- ### Calls that failed
@@ -424,12 +450,12 @@ module _ (P : Type 0) {O I : Type 0} (g : Ghosts O) (out : O → OutState) (inn 
           | inr read ↦ inr (by_link own (subst IsReadCode same.1 read))
         ])
       where
-        by_link : IsOperation all outcomes client x.number (ops.Call asked) → IsReadCode code → WhyRead x.number asked code (last_attempt notes x.number)
+        by_link : IsOperation all outcomes client x.number (ops.Call asked) → IsReadCode code → WhyRead x.number asked id code (last_attempt notes x.number)
         by_link own read = elim (told_on r.left.ran (sockets.are P g out inn bytes script reads text links r) (sockets.may P g out inn bytes script reads text links r) notes last.kept r.rest.words r.rest.closing (sockets.have P g out inn bytes script reads text links r) (telling.keeps P g out inn bytes script reads text links r) outcomes
             (sockets.reports P g out inn bytes script reads text links r).said (telling.said_ended P g out inn bytes script reads text links r) (attempts.later P g out inn bytes script reads text links r) (attempts.are_ids P g out inn bytes script reads text links r).made drun seats refl (sockets.differ P g out inn bytes script reads text links r) gave (sockets.low P g out inn bytes script reads text links r) few_slots few_links bounds Reads Alone read_code queued_so
             c i ts x at there id code outcome (λ slot first e low. ended_by c i ts x at there id code outcome slot first e low) read client asked own) [
-              | inl h ↦ on_link x.number asked code h
-              | inr h ↦ on_drop x.number asked code read h
+              | inl h ↦ on_link client x.number asked own id code h
+              | inr h ↦ on_drop x.number asked id code read h
             ]
 
     -- what is given by one of the links is given
@@ -457,29 +483,53 @@ module _ (P : Type 0) {O I : Type 0} (g : Ghosts O) (out : O → OutState) (inn 
             drun seats refl (sockets.differ P g out inn bytes script reads text links r) gave (log_accepted drun (sockets.differ P g out inn bytes script reads text links r) (λ k. [])) few_slots few_links (asked_so r.left.ran (sockets.are P g out inn bytes script reads text links r) (sockets.may P g out inn bytes script reads text links r) notes last.kept r.rest.words r.rest.closing (sockets.have P g out inn bytes script reads text links r) outcomes (attempts.later P g out inn bytes script reads text links r)) Reads Alone
             (length readers) few_readers (attempts.are_ids P g out inn bytes script reads text links r).made own (IsPostFor q y.link) y.books.view notes_ x t id code outcome client asked call (last_attempt notes x.number)) [
               | inl f ↦ inl f
-              | inr l ↦ inr (on_link x.number asked code (subst (EndedLink x.number asked) l.0
+              | inr l ↦ inr (on_link client x.number asked call id code (subst (λ (i : ℕ). EndedLink x.number asked i code) l.2 (subst (EndedLink x.number asked (id_of l.1.slot l.1.word)) l.0
                   (by_reader r.left.ran (sockets.are P g out inn bytes script reads text links r) (sockets.may P g out inn bytes script reads text links r) notes last.kept r.rest.words r.rest.closing (sockets.have P g out inn bytes script reads text links r) (telling.keeps P g out inn bytes script reads text links r) outcomes
                   drun seats refl (sockets.differ P g out inn bytes script reads text links r) gave (log_accepted drun (sockets.differ P g out inn bytes script reads text links r) (λ k. [])) few_slots few_links (asked_so r.left.ran (sockets.are P g out inn bytes script reads text links r) (sockets.may P g out inn bytes script reads text links r) notes last.kept r.rest.words r.rest.closing (sockets.have P g out inn bytes script reads text links r) outcomes (attempts.later P g out inn bytes script reads text links r)) Reads Alone
                   y.link own y.books.view (λ word post. posted_by c y here h own ended word (subst (λ (v : View Asked). IsPost q y.link v word) (sym view) post)) x.number l.1 client asked call
                   (λ e. alone_by c y h l.1.known.0 id l.1.known.1.link_is (sym l.2 ∙ l.1.known.2)
                   (told_alone q notes last.kept r.rest.words r.rest.closing p (calls script) y h.is (subst (ReadEnded p q (calls script) y h.is) e ended) (book_notes c y here h) (HasMet p q (calls script) y h.is) (has_asked p q (calls script) y h.is) (λ f z. z) y.books.view (book_notes c y here h) id
-                  (all_at (CodeEnd q.slots (HasMet p q (calls script) y h.is) (has_asked p q (calls script) y h.is) y.books.view) y.books.told i x (reader_ends p q (calls script) y h.is) there_ id (outcome ∙ ap (CallFailed id) (sym l.0 ∙ e))))))))
+                  (all_at (CodeEnd q.slots (HasMet p q (calls script) y h.is) (has_asked p q (calls script) y h.is) y.books.view) y.books.told i x (reader_ends p q (calls script) y h.is) there_ id (outcome ∙ ap (CallFailed id) (sym l.0 ∙ e)))))))))
             ]
 
+    -- the range of a lock has its first version in the slot
+    abbrev LowFirst : View Asked → ℕ → Parts → Type 0
+    LowFirst v slot w = w.first < 4294967296
+
     -- the one that ended what was left told the rest
-    rest_told : AllByRecursion (ToldEnd q (length readers) gave EEOF (λ v slot w. Unit {0}) last) r.last
+    rest_told : AllByRecursion (ToldEnd q (length readers) gave EEOF LowFirst last) r.last
     rest_told =
-        let tells = (rest_step q (length readers) gave EEOF (λ v slot w. Unit {0}) (λ u v l slot w k. tt) (λ v slot w. tt) (calls script) main r.rest.last r.rest.rest).tells
+        let tells = (rest_step q (length readers) gave EEOF LowFirst (λ u v l slot w k. k) (λ v slot w k. k) (calls script) main r.rest.last r.rest.rest).tells
         (subst (λ (f : ℕ → List ℕ). AreGiven (length readers) f main.early) (sym is_gave) (subst (λ (l : List Answer). AreGiven (length readers) (sockets.gave P g out inn bytes script reads text links r) l) (sym (early_of r.left)) (early_given p q (calls script) (opens script) readers r.left.readers_are))) in
-        subst (AllByRecursion (ToldEnd q (length readers) gave EEOF (λ v slot w. Unit {0}) last)) (sym (r.rest.told_is ∙ tells.told)) tells.each
+        subst (AllByRecursion (ToldEnd q (length readers) gave EEOF LowFirst last)) (sym (r.rest.told_is ∙ tells.told)) tells.each
+
+    -- of a call that it ended with 1014 a link gave no response, unless its reading ended at a fault
+    rest_gave : (i : ℕ) (x : Told) → get_elem? r.last i ≡ some x → (client : ℕ) (asked : Asked) → IsOperation all outcomes client x.number (ops.Call asked) → (id : ℕ) → x.outcome ≡ CallFailed id EEOF → IsIdOf slots notes x.number id
+        → (k : ℕ) → k < (plan_of script).links → GaveFault (plan_of script) all outcomes fixed_here gave orders_here k ⊎ GaveNone asked id k
+    rest_gave i x there client asked call id outcome its k inside =
+        let y = place_there readers k (let n = as_many_readers in omega (arith, inside, n)) in let w = met_place k y.0 y.1 in let h = w.0 in
+        elim (reader_read p q (calls script) y.0 h.is) [
+          | inr none_ ↦ inr (λ m frame given responds. absurd (none-some frame (sym (ap (λ (l : List ℕ). slice_get (stream l).frames m) (sym (its_bytes k y.0 h) ∙ none_)) ∙ given.1)))
+          | inl ended ↦ elim (read_by k y.0 y.1 h ended.0 ended.1) [
+            | inl f ↦ inl (subst (λ (l : ℕ). HasFault (gave l)) (its_link k y.0 h) f.1)
+            | inr e ↦ inr (gave_none x.number id its client asked call k (subst (NoResponseHere id) (its_bytes k y.0 h) (rest_alone i id x there outcome k y.0 y.1 (h.is, w.1) (subst (ReadEnded p q (calls script) y.0 h.is) e.0 ended.1))))
+          ]
+        ]
+
+    abbrev RestLock : ℕ → Type 0
+    RestLock o = LockOf r.left.ran (sockets.are P g out inn bytes script reads text links r) (sockets.may P g out inn bytes script reads text links r) notes last.kept r.rest.words r.rest.closing (sockets.have P g out inn bytes script reads text links r) (telling.keeps P g out inn bytes script reads text links r) outcomes
+        drun seats refl (sockets.differ P g out inn bytes script reads text links r) gave (log_accepted drun (sockets.differ P g out inn bytes script reads text links r) (λ k. [])) few_slots few_links (asked_so r.left.ran (sockets.are P g out inn bytes script reads text links r) (sockets.may P g out inn bytes script reads text links r) notes last.kept r.rest.words r.rest.closing (sockets.have P g out inn bytes script reads text links r) outcomes (attempts.later P g out inn bytes script reads text links r)) Reads Alone o (LowFirst last)
+
+    rest_id : (o id : ℕ) (l : RestLock o) → id_of l.slot l.word ≡ id → IsIdOf slots notes o id
+    rest_id o id l same = record { slot = l.slot; first = l.word.first; inside = l.inside; low = l.known; id_is = sym same; range = l.word.range; asked = l.call; place = l.place; made = l.made; operation = l.number }
 
     of_rest : (i : ℕ) (x : Told) → get_elem? r.last i ≡ some x → (client : ℕ) (asked : Asked) → IsOperation all outcomes client x.number (ops.Call asked) → (id code : ℕ) → x.outcome ≡ CallFailed id code → FailedHere client x.number asked id code
     of_rest i x there client asked call id code outcome =
         elim (told_why r.left.ran (sockets.are P g out inn bytes script reads text links r) (sockets.may P g out inn bytes script reads text links r) notes last.kept r.rest.words r.rest.closing (sockets.have P g out inn bytes script reads text links r) (telling.keeps P g out inn bytes script reads text links r) outcomes
         drun seats refl (sockets.differ P g out inn bytes script reads text links r) gave (log_accepted drun (sockets.differ P g out inn bytes script reads text links r) (λ k. [])) few_slots few_links (asked_so r.left.ran (sockets.are P g out inn bytes script reads text links r) (sockets.may P g out inn bytes script reads text links r) notes last.kept r.rest.words r.rest.closing (sockets.have P g out inn bytes script reads text links r) outcomes (attempts.later P g out inn bytes script reads text links r)) Reads Alone
-        (length readers) few_readers (attempts.are_ids P g out inn bytes script reads text links r).made EEOF (λ v slot w. Unit {0}) last (λ slot f. omega arith) x (all_at (ToldEnd q (length readers) gave EEOF (λ v slot w. Unit {0}) last) r.last i x rest_told there) id code outcome client asked call (last_attempt notes x.number)) [
+        (length readers) few_readers (attempts.are_ids P g out inn bytes script reads text links r).made EEOF LowFirst last (λ slot f. omega arith) x (all_at (ToldEnd q (length readers) gave EEOF LowFirst last) r.last i x rest_told there) id code outcome client asked call (last_attempt notes x.number)) [
           | inl f ↦ inl f
-          | inr l ↦ inr (LeftOver (sym l.0))
+          | inr l ↦ inr (LeftOver (sym l.0) (rest_gave i x there client asked call id (outcome ∙ ap (CallFailed id) (sym l.0)) (rest_id x.number id l.1 l.2)))
         ]
 
     failed_here : (client id code : ℕ) (t : Task) (asked : Asked) → IsTask all outcomes client t → t.op ≡ ops.Call asked → Became all outcomes t.number (CallFailed id code) → FailedHere client t.number asked id code
@@ -512,7 +562,7 @@ module _ (P : Type 0) {O I : Type 0} (g : Ghosts O) (out : O → OutState) (inn 
     -- ### Over the tables without the readers' seats
 
     pub failed : (client id code : ℕ) (t : Task) (asked : Asked) → IsTask all outcomes client t → t.op ≡ ops.Call asked → Became all outcomes t.number (CallFailed id code)
-        → FailedBy (plan_of script) all outcomes (sockets.fixed P g out inn bytes script reads text links r) gave (orders drun (sockets.differ P g out inn bytes script reads text links r)) client t.number asked id code (last_attempt notes t.number) ⊎ WhyRead t.number asked code (last_attempt notes t.number)
+        → FailedBy (plan_of script) all outcomes (sockets.fixed P g out inn bytes script reads text links r) gave (orders drun (sockets.differ P g out inn bytes script reads text links r)) client t.number asked id code (last_attempt notes t.number) ⊎ WhyRead t.number asked id code (last_attempt notes t.number)
     failed client id code t asked is op became = elim (failed_here client id code t asked is op became) [
       | inl f ↦ inl (failure_still (plan_of script) p.seats all outcomes (sockets.fixed P g out inn bytes script reads text links r) gave (orders drun (sockets.differ P g out inn bytes script reads text links r)) client t.number asked id code (last_attempt notes t.number) f)
       | inr read ↦ inr read
