@@ -1,8 +1,7 @@
 -- Where nothing went wrong, the first attempt of a call that whoever read the links ended stands in the order of a link, and that link gave no response of the call.
-use Rattle.std.proofs.Common.{◌≡◌, ℕ, ◌+◌, ◌*◌, ◌<◌, ◌≤◌, ◌⊎◌, inl, inr, slice_get, slice_index, Some, refl, sym, ap, ◌∙◌, subst, arith}
+use Rattle.std.proofs.Common.{◌≡◌, ℕ, ◌*◌, ◌<◌, ◌⊎◌, inl, inr, slice_get, slice_index, Some, sym, ap, ◌∙◌, subst, arith}
 use Rattle.std.proofs.lemmas.Option.{slice_get_within}
 use Rattle.std.specs.Prelude.{Contains}
-use Rattle.sock_words.specs.declared.outcome.Outcome.{Outcome}
 use Rattle.sock_words.specs.declared.outcome.Outcome.TheVariants.{Unopened, CallFailed}
 use Rattle.brpc_model.specs.Attempts.{IsResponse}
 use Rattle.brpc_model.specs.Complete.{IsUntroubled}
@@ -21,7 +20,7 @@ use Rattle.sock_message.specs.Asked.{Asked, name_of}
 use Rattle.callless_fits.proofs.Sends.{run_of, links, labels_there, unfailed, life_low}
 use Rattle.callless_fits.specs.sock_deeds.specs.Told.{fixed_by}
 use Rattle.failed_told.specs.Ends.{AtFault, AtEnd, AtFaultDrop, AtEndDrop, LeftOver}
-use Rattle.calls_done.proofs.Calm.{WasFull_, At_, no_drop, unfull}
+use Rattle.calls_done.proofs.Calm.{WasFull_, no_drop, unfull}
 use Rattle.calls_done.proofs.Causes.{asked, task, Ended_}
 use Rattle.calls_done.proofs.Known.{Known}
 use Rattle.calls_done.proofs.Links.{link_at, faultless}
