@@ -8,14 +8,14 @@ use Rattle.corr_core.proofs.Notes.{only-same}
 use Rattle.corr_core.specs.declared.marks.Hand.TheVariants.{Empty, Full}
 use Rattle.corr_core.specs.declared.marks.Token.TheVariants.{Locked}
 use Rattle.corr_core.specs.declared.marks.Note.TheVariants.{Made, Locker, Queued, Saw}
-use Rattle.corr_core.specs.Law.{total, is_made}
+use Rattle.corr_core.specs.Law.{total, is_made, is_attempt, is_advance}
 use Rattle.corr_core.specs.declared.marks.Token.{Token}
 use Rattle.corr_core.specs.declared.marks.Note.{Note}
 use Rattle.corr_core.specs.declared.marks.Noted.{Noted}
 use Rattle.corr_core.specs.declared.marks.View.{View}
 use Rattle.id_rule.specs.Lawful.{tokens_in, notes_of}
 use Rattle.id_rule.specs.Plays.{LockFits}
-use Rattle.corr_id.specs.Calls.{Became, one, is_event, events, is_saw, Found, FoundUpTo, OutOf, Quiet, Did, GotLock, error_in}
+use Rattle.corr_id.specs.Calls.{Became, one, is_event, events, is_saw, Found, FoundUpTo, ReachedUpTo, OutOf, Quiet, Did, GotLock, error_in}
 use Rattle.corr_id.specs.Ruled.{IsBehind}
 use Rattle.corr_id.proofs.Seats.{notes_append, total_append}
 
@@ -80,23 +80,34 @@ module _ {C : Type 0} where
   pub up_to_same : (i f : ℕ) (v w : View C) (ts : List (Token C)) → Became i v w ts [] → FoundUpTo i f v → FoundUpTo i f w
   up_to_same i f v w ts b up x found = up x (let e = ap (λ l. total (is_saw x) (notes_of i l)) b.notes in omega arith)
 
+  -- nor with other notes an attempt more is reached
+  reached_more : (i f n : ℕ) (v w : View C) (ts : List (Token C)) (x : Note C) → Became i v w ts (one i x) → ((m : ℕ) → is_attempt f m x ≡ 0) → ReachedUpTo i f n v → ReachedUpTo i f n w
+  reached_more i f n v w ts x b other up m some_ = up m (let e = ap (λ l. total (is_attempt f m) (notes_of i l)) b.notes in
+      let g = ap (λ y. total (is_attempt f m) (cond y (x ∷ notes_of i v.notes) (notes_of i v.notes))) (eq-eqb i i refl) in let k = other m in omega arith)
+
+  reached_same : (i f n : ℕ) (v w : View C) (ts : List (Token C)) → Became i v w ts [] → ReachedUpTo i f n v → ReachedUpTo i f n w
+  reached_same i f n v w ts b up m some_ = up m (let e = ap (λ l. total (is_attempt f m) (notes_of i l)) b.notes in omega arith)
+
   -- a lock that was taken, with its content
   locked_did : (i : ℕ) (u v x y : View C) (ts : List (Token C)) (f f' : ℕ) (c d : C) → Quiet u v → Became i v x ts (one i (Locker f c)) → (ts' : List (Token C)) → Became i x y ts' [] → f ≡ f' → d ≡ c → Did i u y (tokens_in i y) (one i (Locker f' d))
   locked_did i u v x y ts f f' c d q a ts' b ff dd = let k = did_more i u x y ts ts' (one i (Locker f c)) [] (did_more i u v x (tokens_in i u) ts [] (one i (Locker f c)) (did_none i u v q) a) b in
       record { tokens = refl; others = k.others; added = k.added ∙ λ z. record { slot = i; note = Locker (ff z) (sym dd z) } ∷ events u.notes; grows = k.grows; kept = k.kept; share = k.share }
 
   -- the exchange found the open word that was noted before, and K2 took the content
-  pub got_lock : (i slot : ℕ) (u v x y : View C) (word : ℕ) (q k : Parts) (c d : C) → slot ≡ i → k ≡ q → d ≡ c → Quiet u v → Found i word v → (parts word).state ≡ 1 → FoundUpTo i (parts word).first v
+  pub got_lock : (i slot : ℕ) (u v x y : View C) (word : ℕ) (q k : Parts) (c d : C) → slot ≡ i → k ≡ q → d ≡ c → Quiet u v → Found i word v → (parts word).state ≡ 1 → FoundUpTo i (parts word).first v → ReachedUpTo i (parts word).first (parts word).attempt v
       → Became i v x (Locked (parts word).first (parts word).range (parts word).attempt c (parts word).oldest (parts word).second (Full c) ∷ []) (one i (Locker (parts word).first c))
       → Became i x y (Locked q.first q.range q.attempt c q.oldest q.second Empty ∷ []) [] → q ≡ locked_word (parts word) → GotLock slot u y word k d
-  got_lock i slot u v x y word q k c d ss kk dd quiet found open_ latest won taken e =
+  got_lock i slot u v x y word q k c d ss kk dd quiet found open_ latest reached won taken e =
       let w : Parts = parts word in let f : w.first ≡ k.first = sym (ap (λ (z : Parts). z.first) e) ∙ ap (λ (z : Parts). z.first) (sym kk) in
+      let n : w.attempt ≡ k.attempt = sym (ap (λ (z : Parts). z.attempt) e) ∙ ap (λ (z : Parts). z.attempt) (sym kk) in
       let did = locked_did i u v x y (Locked w.first w.range w.attempt c w.oldest w.second (Full c) ∷ []) w.first k.first c d quiet won (Locked q.first q.range q.attempt c q.oldest q.second Empty ∷ []) taken f dd in
       let at_i : GotLock i u y word k d = record {
         found = found_grows i word x y (became_grows i x y (Locked q.first q.range q.attempt c q.oldest q.second Empty ∷ []) [] taken) (found_grows i word v x (became_grows i v x (Locked w.first w.range w.attempt c w.oldest w.second (Full c) ∷ []) (one i (Locker w.first c)) won) found);
         was_open = open_;
         latest = subst (λ (z : ℕ). FoundUpTo i z y) f (up_to_same i w.first x y (Locked q.first q.range q.attempt c q.oldest q.second Empty ∷ []) taken
             (up_to_more i w.first v x (Locked w.first w.range w.attempt c w.oldest w.second (Full c) ∷ []) (Locker w.first c) won (λ z. refl) latest));
+        reached = subst (λ (z : ℕ). ReachedUpTo i z k.attempt y) f (subst (λ (z : ℕ). ReachedUpTo i w.first z y) n (reached_same i w.first w.attempt x y (Locked q.first q.range q.attempt c q.oldest q.second Empty ∷ []) taken
+            (reached_more i w.first w.attempt v x (Locked w.first w.range w.attempt c w.oldest w.second (Full c) ∷ []) (Locker w.first c) won (λ z. refl) reached)));
         word_is = kk ∙ e;
         locks = taken.tokens ∙ λ z. Locked (sym kk z).first (sym kk z).range (sym kk z).attempt (sym dd z) (sym kk z).oldest (sym kk z).second Empty ∷ [];
         did = did;
@@ -129,6 +140,7 @@ module _ {C : Type 0} where
     found = b.found;
     was_open = b.was_open;
     latest = b.latest;
+    reached = b.reached;
     word_is = b.word_is;
     locks = b.locks;
     did = record {
@@ -145,6 +157,9 @@ module _ {C : Type 0} where
 
 pub made_still : {C : Type 0} (i f : ℕ) (u v : View C) → Quiet u v → 0 < total (is_made f) (notes_of i u.notes) → 0 < total (is_made f) (notes_of i v.notes)
 made_still i f u v q known = let a = q.grows i (is_made f) in omega arith
+
+pub advanced_still : {C : Type 0} (i f : ℕ) (u v : View C) → Quiet u v → 0 < total (is_advance f) (notes_of i u.notes) → 0 < total (is_advance f) (notes_of i v.notes)
+advanced_still i f u v q known = let a = q.grows i (is_advance f) in omega arith
 
 -- a word without it is a later one
 pub gone_behind : (f : ℕ) (w : Parts) → IsBehind f w → OutOf w f → f < w.first

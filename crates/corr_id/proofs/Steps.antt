@@ -4,12 +4,12 @@ use Rattle.std.specs.Prelude.{Option as Maybe, ◌%◌, ◌/◌}
 use Rattle.std.specs.List.{flat_map}
 use mathlib.Core.Logic.{dite}
 use mathlib.Core.Option.{none, some, some-injective, some-ne-none}
-use native.Mathlib.Decide.{ℕ_discrete}
+use native.Mathlib.Decide.{ℕ_discrete, dec_lt}
 use lib.ListN.{get_elem?}
 use prog.Atomic.{either}
 use Rattle.atomic_table.specs.Table.{State, Me, step, Act, keeps, takes, gives, stepped, homes_after, carried_after, Allows}
 use Rattle.corr_core.specs.Word.{Parts, parts, made_word, locked_word, posted_word, unlocked_word, free_word}
-use Rattle.corr_core.specs.Law.{total, born, is_made, NoteFits, SlotLaw, vacant, retired, claimed, opened, locked, leaving}
+use Rattle.corr_core.specs.Law.{total, born, is_made, is_advance, is_attempt, NoteFits, SlotLaw, Live, Stands, vacant, retired, claimed, opened, locked, leaving}
 use Rattle.corr_core.specs.declared.marks.Plan.{Plan}
 use Rattle.corr_core.specs.declared.marks.Hand.{Hand}
 use Rattle.corr_core.specs.declared.marks.Hand.TheVariants.{Empty, Out, Full}
@@ -24,7 +24,7 @@ use Rattle.corr_core.proofs.Gather.{gather_none}
 use Rattle.corr_core.proofs.Notes.{each_at, total_some, pair-else, pair-else_first}
 use Rattle.corr_core.proofs.Shuffles.{each_of}
 use Rattle.corr_core.specs.declared.marks.Kept.{Kept}
-use Rattle.corr_id.specs.Calls.{slot_of, version_of, is_saw, is_at, FoundUpTo}
+use Rattle.corr_id.specs.Calls.{slot_of, version_of, is_saw, is_at, FoundUpTo, ReachedUpTo}
 use Rattle.corr_id.proofs.Closes.{saw_of}
 use Rattle.id_rule.specs.Lawful.{tag_index, id_index, all_words, is_stored, kept_in, KeptFits, notes_of, tokens_in, notes_in, local, with_token, no_token, with_note, with_kept}
 use Rattle.id_rule.specs.Plays.{IsHome, NotLeaving, Fitting, hand_of, with_hand, value_of, hand_by, claimed_view, locked_view, claim_told, take_told, give_told, make_told, end_told, free_told, store_told, found_view, put_error, popped_view, advanced_view, ended_view}
@@ -152,15 +152,28 @@ module _ {C : Type 0} (p : Plan) (slots id : ℕ) (me : Me (Maybe C) (View C)) (
   )
 
   -- the word of the slot, where the seat knows of an id that was made there
-  seen_behind : (s : State (Maybe C) (View C)) → Ruled p s → get_elem? s.views id ≡ some me.0 → (f : ℕ) → 0 < total (is_made f) (notes_in i me.0) → IsBehind f (local s i).word
-  seen_behind s r here f h =
+  born_behind : (s : State (Maybe C) (View C)) (r : Ruled p s) (here : get_elem? s.views id ≡ some me.0) (f : ℕ) → born ((o p id me i inside real s r.lawful here).b f) ≡ 1 → IsBehind f (local s i).word
+  born_behind s r here f some_ =
       let l = o p id me i inside real s r.lawful here in
-      let some_ : born (l.b f) ≡ 1 = (let a = counted (is_made f) s.views id me.0 here in let b = born_le (l.b f) in let c = l.story.made f in omega arith) in
       let x = born_is (l.b f) some_ in let y = l.story.births f x.0 x.1 in
       ⊎_elim
       (λ past. inl (let k = y.0 in omega arith))
       (λ now. let w = l.now.is_born now.1 in inr (now.0, now.1, (l.story.births (local s i).word.first ((local s i).word.range, w.0) w.1).0))
       y.1
+
+  seen_behind : (s : State (Maybe C) (View C)) → Ruled p s → get_elem? s.views id ≡ some me.0 → (f : ℕ) → 0 < total (is_made f) (notes_in i me.0) → IsBehind f (local s i).word
+  seen_behind s r here f h =
+      let l = o p id me i inside real s r.lawful here in
+      born_behind s r here f (let a = counted (is_made f) s.views id me.0 here in let b = born_le (l.b f) in let c = l.story.made f in omega arith)
+
+  -- what advanced was made
+  advanced_behind : (s : State (Maybe C) (View C)) → Ruled p s → get_elem? s.views id ≡ some me.0 → (f : ℕ) → 0 < total (is_advance f) (notes_in i me.0) → IsBehind f (local s i).word
+  advanced_behind s r here f h =
+      let l = o p id me i inside real s r.lawful here in
+      let a = counted (is_advance f) s.views id me.0 here in let b = born_le (l.b f) in
+      dite (ℕ_discrete (born (l.b f)) 0)
+      (λ z. absurd (let c = l.story.unborn f z in omega (arith, a, c, h)))
+      (λ n. born_behind s r here f (omega (arith, b, n)))
 
   pub seeing : Allows (Ruled p) slots id me (id_index i) (λ n. n) (see_told (step slots (id_index i) 0 0 none) me)
   seeing s r long here fits = let n : ℕ = get_or s.words (id_index i) 0 in let l = o p id me i inside real s r.lawful here in (
@@ -168,7 +181,12 @@ module _ {C : Type 0} (p : Plan) (slots id : ℕ) (me : Me (Maybe C) (View C)) (
     keeps,
     tt,
     sees_ruled p id me i inside real s r here,
-    λ x at. (of_id (λ y. with_note y (Saw n) me.0) x at, l.first_some, λ f h. let e : i ≡ x = omega arith in seen_behind s r here f (let y = ap (λ (z : ℕ). total (is_made f) (notes_in z me.0)) e in omega arith)),
+    λ x at. (
+      of_id (λ y. with_note y (Saw n) me.0) x at,
+      l.first_some,
+      λ f h. let e : i ≡ x = omega arith in seen_behind s r here f (let y = ap (λ (z : ℕ). total (is_made f) (notes_in z me.0)) e in omega arith),
+      λ f h. let e : i ≡ x = omega arith in advanced_behind s r here f (let y = ap (λ (z : ℕ). total (is_advance f) (notes_in z me.0)) e in omega arith),
+    ),
   )
 
   pub taking : (t : Token C) → tokens_in i me.0 ≡ t ∷ [] → IsHome (hand_of t) → Allows (Ruled p) slots id me (tag_index i) (λ n. n) (take_told (step slots (tag_index i) 0 0 none) me)
@@ -212,6 +230,29 @@ module _ {C : Type 0} (p : Plan) (slots id : ℕ) (me : Me (Maybe C) (View C)) (
   none_later_at : (s : State (Maybe C) (View C)) → Ruled p s → get_elem? s.views id ≡ some me.0 → (x : ℕ) → id_index i ≡ id_index x → FoundUpTo x (local s i).word.first me.0
   none_later_at s r here x at = let e : i ≡ x = omega arith in subst (λ (y : ℕ). FoundUpTo y (local s i).word.first me.0) e (none_later s r here)
 
+  -- and to no later attempt than that of an open word had it noted that its range advanced
+  none_beyond : (s : State (Maybe C) (View C)) → Ruled p s → get_elem? s.views id ≡ some me.0 → (local s i).word.state ≡ 1 → ReachedUpTo i (local s i).word.first (local s i).word.attempt me.0
+  none_beyond s r here open_ m some_ = by its.stands
+    where
+      its : SlotLaw (local s i)
+      its = o p id me i inside real s r.lawful here
+
+      live : (c : C) → Live its.b (local s i) c → m ≤ (local s i).word.attempt
+      live c v = dite (dec_lt (local s i).word.attempt m)
+          (λ lt. absurd (let a = v.beyond m lt in let b = counted (is_attempt (local s i).word.first m) s.views id me.0 here in omega (arith, a, b, some_)))
+          (λ ge. omega (arith, ge))
+
+      by : Stands its.b (local s i) → m ≤ (local s i).word.attempt
+      by (vacant a b z d e) = absurd (omega (arith, z, open_))
+      by (retired a b z d e) = absurd (omega (arith, z, open_))
+      by (claimed seen h a b z d e f) = absurd (omega (arith, z, open_))
+      by (opened c a z v d e f) = live c v
+      by (locked c q t h a z v d e f) = absurd (omega (arith, z, open_))
+      by (leaving a b z d e) = absurd (omega (arith, z, open_))
+
+  none_beyond_at : (s : State (Maybe C) (View C)) → Ruled p s → get_elem? s.views id ≡ some me.0 → (local s i).word.state ≡ 1 → (x : ℕ) → id_index i ≡ id_index x → ReachedUpTo x (local s i).word.first (local s i).word.attempt me.0
+  none_beyond_at s r here open_ x at = let e : i ≡ x = omega arith in subst (λ (y : ℕ). ReachedUpTo y (local s i).word.first (local s i).word.attempt me.0) e (none_beyond s r here open_)
+
   abbrev After : State (Maybe C) (View C) → ℕ → View C → Type 0
   After s n w = Ruled p (stepped s (id_index i) n id me.1 w keeps)
 
@@ -222,7 +263,7 @@ module _ {C : Type 0} (p : Plan) (slots id : ℕ) (me : Me (Maybe C) (View C)) (
         keeps,
         tt,
         subst (λ b. After s (either b new found) w) (sym (eq-eqb found old hit)) k.3,
-        λ x at. ((λ z. (k.0, of_id (λ y. locked_view y (parts found).first (parts found).range (parts found).attempt k.0 me.0) x at, k.1, k.2, none_later_at s r here x at)), (λ n. absurd (n hit))),
+        λ x at. ((λ z. (k.0, of_id (λ y. locked_view y (parts found).first (parts found).range (parts found).attempt k.0 me.0) x at, k.1, k.2, none_later_at s r here x at, none_beyond_at s r here (ap (λ (y : Parts). y.state) same ∙ one) x at)), (λ n. absurd (n hit))),
       ))
       (λ miss. let w : View C = with_note i (Saw found) me.0 in (
         w,

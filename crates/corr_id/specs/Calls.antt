@@ -2,7 +2,7 @@
 use Rattle.std.specs.Prelude.{◌≡◌, ◌≢◌, ℕ, ◌+◌, ◌/◌, ◌%◌, ◌<◌, ◌≤◌, ◌⊎◌, Bool, true, false, cond, ◌==◌, List, [], ◌∷◌, ◌++◌, Some, None}
 use Rattle.std.specs.Prelude.{Option as Maybe}
 use Rattle.corr_core.specs.Word.{Parts, parts, error_of, locked_word}
-use Rattle.corr_core.specs.Law.{LAST, total, only, pair}
+use Rattle.corr_core.specs.Law.{LAST, total, only, pair, is_attempt}
 use Rattle.corr_core.specs.declared.marks.Hand.{Hand}
 use Rattle.corr_core.specs.declared.marks.Hand.TheVariants.{Empty, Full}
 use Rattle.corr_core.specs.declared.marks.Token.{Token}
@@ -102,6 +102,10 @@ module _ {C : Type 0} where
   abbrev pub FoundUpTo : ℕ → ℕ → View C → Type 0
   FoundUpTo i f v = (x : ℕ) → Found i x v → (parts x).first ≤ f
 
+  -- each attempt to which it noted that this range advanced is this one or an earlier one
+  abbrev pub ReachedUpTo : ℕ → ℕ → ℕ → View C → Type 0
+  ReachedUpTo i f n v = (m : ℕ) → 0 < total (is_attempt f m) (notes_of i v.notes) → m ≤ n
+
   -- no event was added, all tokens stayed, and all notes
   pub record Quiet (v w : View C) : Type 0 where
     pub tokens : (j : ℕ) → tokens_in j w ≡ tokens_in j v
@@ -137,6 +141,8 @@ module _ {C : Type 0} where
     pub was_open : (parts open_word).state ≡ 1
     -- the words of a slot only go on to later ranges: none that it found had a later one
     pub latest : FoundUpTo i k.first w
+    -- and a range only advances: to no later attempt did the seat note that it had
+    pub reached : ReachedUpTo i k.first k.attempt w
     pub word_is : k ≡ locked_word (parts open_word)
     pub locks : Locks i w k c Empty
     pub did : Did i v w (tokens_in i w) (one i (Locker k.first c))

@@ -3,7 +3,7 @@ use Rattle.std.specs.Prelude.{◌≡◌, ◌≢◌, ℕ, ◌+◌, ◌*◌, ◌%�
 use Rattle.std.specs.Prelude.{Option as Maybe}
 use Rattle.atomic_table.specs.Table.{State, Me, Step}
 use Rattle.corr_core.specs.Word.{Parts, parts, attempt_of}
-use Rattle.corr_core.specs.Law.{LAST, Each, total, only, is_made}
+use Rattle.corr_core.specs.Law.{LAST, Each, total, only, is_made, is_advance}
 use Rattle.corr_core.specs.declared.marks.Plan.{Plan}
 use Rattle.corr_core.specs.declared.marks.Hand.{Hand}
 use Rattle.corr_core.specs.declared.marks.Hand.TheVariants.{Full}
@@ -14,7 +14,7 @@ use Rattle.corr_core.specs.declared.marks.Kept.{Kept}
 use Rattle.corr_core.specs.declared.marks.View.{View}
 use Rattle.std.specs.List.{flat_map}
 use Rattle.id_rule.specs.Lawful.{id_index, is_stored, kept_in, notes_in, local, Lawful, with_token, with_note}
-use Rattle.corr_id.specs.Calls.{slot_of, version_of, is_saw, is_at, FoundUpTo}
+use Rattle.corr_id.specs.Calls.{slot_of, version_of, is_saw, is_at, FoundUpTo, ReachedUpTo}
 use Rattle.id_rule.specs.Plays.{Becomes, has_token, LockFits, Longer, locked_view, put_error, popped_view, advanced_view, found_view}
 
 -- a word of this place
@@ -57,14 +57,15 @@ module _ {C : Type 0} where
       × ((w : ℕ) → 0 < total (is_saw w) (notes_in i m.0) → 0 < (parts w).state → (parts w).first < (parts found).first)
       × ((x : ℕ) → x % 2 ≡ 0 → total (is_at x (i * 4294967296 + (parts found).first)) m.0.kept ≡ 0)
 
-  -- I7: a word is never 0, and none that is found behind an id that the seat knows to be made has an earlier range
+  -- I7: a word is never 0, and none that is found behind an id that the seat knows to be made, or advanced, has an earlier range
   abbrev pub see_told : Step (Maybe C) → Me (Maybe C) (View C) → ℕ → Me (Maybe C) (View C) → Type 0
   see_told st m found n = (i : ℕ) → st.word ≡ id_index i → Becomes m n (with_note i (Saw found) m.0) × (1 ≤ (parts found).first) × ((f : ℕ) → 0 < total (is_made f) (notes_in i m.0) → IsBehind f (parts found))
+      × ((f : ℕ) → 0 < total (is_advance f) (notes_in i m.0) → IsBehind f (parts found))
 
-  -- I3, and I4 on an open id: no word that was found before has a later range
+  -- I3, and I4 on an open id: no word that was found before has a later range, and the range had advanced to no later attempt
   abbrev pub lock_told : Step (Maybe C) → Me (Maybe C) (View C) → ℕ → Me (Maybe C) (View C) → Type 0
   lock_told st m found n = (i : ℕ) → st.word ≡ id_index i
-      → (found ≡ st.first → (c : C) × Becomes m n (locked_view i (parts found).first (parts found).range (parts found).attempt c m.0) × LockFits (parts found) × (((parts found).oldest ≡ 0) × ((parts found).second ≡ 0)) × FoundUpTo i (parts found).first m.0)
+      → (found ≡ st.first → (c : C) × Becomes m n (locked_view i (parts found).first (parts found).range (parts found).attempt c m.0) × LockFits (parts found) × (((parts found).oldest ≡ 0) × ((parts found).second ≡ 0)) × FoundUpTo i (parts found).first m.0 × ReachedUpTo i (parts found).first (parts found).attempt m.0)
       × (found ≢ st.first → Becomes m n (with_note i (Saw found) m.0))
 
   -- I4 on a locked id: the same

@@ -1,7 +1,7 @@
 // Ids that are made, locked and ended.
 ghost use Rattle.std.specs.Prelude.{◌≡◌, ◌+◌, ◌*◌, ◌%◌, ◌<◌, ◌≤◌, ◌⊎◌, ℕ, [], ◌∷◌, true, false, IfOk, IfErr};
 ghost use Rattle.corr_core.specs.Word.{parts};
-ghost use Rattle.corr_core.specs.Law.{LAST, total, is_made, is_tried};
+ghost use Rattle.corr_core.specs.Law.{LAST, total, is_made, is_advance, is_tried};
 ghost use Rattle.corr_core.specs.declared.marks.Hand.TheVariants.{Empty, Full};
 ghost use Rattle.corr_core.specs.declared.marks.Token.TheVariants.{Locked};
 ghost use Rattle.corr_core.specs.declared.marks.Note.TheVariants.{Made, Ended};
@@ -135,7 +135,7 @@ impl<C> IdTable<C> {
     }
 
     /// Locks an id, by itself or by an attempt's version, once it is open (`bthread_id_lock`). It is gone exactly where the word
-    /// read has ended or has another range. Where the seat knows of the id that it was made, it has ended then.
+    /// read has ended or has another range. Where the seat knows of the id that it was made, or advanced, it has ended then.
     pub fn lock<R: Wait>(
         &self,
         rt: &R,
@@ -150,6 +150,7 @@ impl<C> IdTable<C> {
         ensures own { IfOk result (λ k. 0 < total (is_made (version_of version)) (notes_of (slot_of version) seat.old.me.0.notes) → (parts k.word.0).first ≡ version_of version) }
         ensures gone { IfErr result (λ e. Quiet seat.old.me.0 seat.new.me.0 × (((self.now.plan.slots ≤ slot_of version) × (e.found ≡ 0)) ⊎ (Found (slot_of version) e.found seat.new.me.0 × OutOf (parts e.found) (version_of version)))) }
         ensures ended { IfErr result (λ e. slot_of version < self.now.plan.slots → 0 < total (is_made (version_of version)) (notes_of (slot_of version) seat.old.me.0.notes) → version_of version < (parts e.found).first) }
+        ensures advanced { IfErr result (λ e. slot_of version < self.now.plan.slots → 0 < total (is_advance (version_of version)) (notes_of (slot_of version) seat.old.me.0.notes) → version_of version < (parts e.found).first) }
     {
         let slot = version / 4_294_967_296;
         if slot >= self.plan.slots as u64 {

@@ -1,7 +1,7 @@
 // A call for each kind of step.
 ghost use Rattle.std.specs.Prelude.{◌≡◌, ◌≢◌, ◌+◌, ◌*◌, ◌%◌, ◌<◌, ◌≤◌, ℕ, [], ◌∷◌, IsTrue, MatchOption};
 ghost use Rattle.corr_core.specs.Word.{parts, made_word, locked_word, posted_word, unlocked_word, free_word, tick};
-ghost use Rattle.corr_core.specs.Law.{LAST, total, is_made};
+ghost use Rattle.corr_core.specs.Law.{LAST, total, is_made, is_advance};
 ghost use Rattle.corr_core.specs.declared.marks.Hand.TheVariants.{Empty, Full};
 ghost use Rattle.corr_core.specs.declared.marks.Token.TheVariants.{Claimed, Locked, Leaving};
 ghost use Rattle.corr_core.specs.declared.marks.Note.TheVariants.{Tried, Made, Ended, Locker, Queued, Saw};
@@ -9,7 +9,7 @@ ghost use Rattle.id_rule.specs.Lawful.{tokens_in, notes_in, with_note};
 ghost use Rattle.id_rule.specs.Plays.{LockFits, Longer};
 ghost use Rattle.corr_id.specs.Ruled.{FreshBehind, IsBehind, IsFresh};
 ghost use Rattle.corr_id.specs.Seats.{Sits, Stays};
-ghost use Rattle.corr_id.specs.Calls.{is_saw, is_at, Became, one, MayMove, Moved, Claims, Locks, FoundUpTo, tokens_left, advance_note};
+ghost use Rattle.corr_id.specs.Calls.{is_saw, is_at, Became, one, MayMove, Moved, Claims, Locks, FoundUpTo, ReachedUpTo, tokens_left, advance_note};
 
 use crate::plays::{Claim, End, Free, Give, Lock, Make, Queue, Read, See, Take, Unlock};
 use crate::table::{IdSeat, IdTable};
@@ -52,6 +52,7 @@ impl<C> IdTable<C> {
         ensures saw { Became at seat.old.me.0 seat.new.me.0 (tokens_in at seat.old.me.0) (one at (Saw result)) }
         ensures first { 1 ≤ (parts result).first }
         ensures behind { (f : ℕ) → 0 < total (is_made f) (notes_in at seat.old.me.0) → IsBehind f (parts result) }
+        ensures advanced { (f : ℕ) → 0 < total (is_advance f) (notes_in at seat.old.me.0) → IsBehind f (parts result) }
     {
         let word = 2 * at as usize + 1;
         self.table.shared.load::<See>(seat, word)
@@ -94,6 +95,7 @@ impl<C> IdTable<C> {
         ensures won { result ≡ from → LockFits (parts from) × ((c : C) × Became at seat.old.me.0 seat.new.me.0 (Locked (parts from).first (parts from).range (parts from).attempt c (parts from).oldest (parts from).second (Full c) ∷ []) (one at (Locker (parts from).first c))) }
         ensures none_queued { result ≡ from → ((parts from).oldest ≡ 0) × ((parts from).second ≡ 0) }
         ensures latest { result ≡ from → FoundUpTo at (parts from).first seat.old.me.0 }
+        ensures reached { result ≡ from → ReachedUpTo at (parts from).first (parts from).attempt seat.old.me.0 }
         ensures lost { result ≢ from → Became at seat.old.me.0 seat.new.me.0 (tokens_in at seat.old.me.0) (one at (Saw result)) }
     {
         let word = 2 * at as usize + 1;

@@ -6,7 +6,7 @@ use Rattle.corr_core.specs.declared.marks.Hand.TheVariants.{Full}
 use Rattle.corr_core.specs.declared.marks.Token.TheVariants.{Locked}
 use Rattle.corr_core.specs.declared.marks.Note.TheVariants.{Saw, Locker}
 use Rattle.id_rule.specs.Plays.{LockFits}
-use Rattle.corr_id.specs.Calls.{Became, one, FoundUpTo}
+use Rattle.corr_id.specs.Calls.{Became, one, FoundUpTo, ReachedUpTo}
 use Rattle.corr_id.proofs.Steps.{locking}
 use Rattle.corr_id.proofs.Becoming.{became_as, noted_token, became_note}
 use Rattle.corr_id.proofs.table.IdTable.lock_id.Goals as goal
@@ -44,3 +44,6 @@ returns-clause-none_queued g c = λ hit. subst (λ (y : ℕ). ((parts y).oldest 
 
 pub returns-clause-latest : goal.returns-clause-latest
 returns-clause-latest g c = λ hit. subst (λ (y : ℕ). FoundUpTo c.args.at (parts y).first c.args.seat.now.me.0) hit ((c.compare_exchange.ensures.2 c.args.at refl).0 hit).4
+
+pub returns-clause-reached : goal.returns-clause-reached
+returns-clause-reached g c = λ hit. subst (λ (y : ℕ). ReachedUpTo c.args.at (parts y).first (parts y).attempt c.args.seat.now.me.0) hit ((c.compare_exchange.ensures.2 c.args.at refl).0 hit).5

@@ -1,9 +1,9 @@
 use Rattle.std.proofs.Common.{ℕ, ◌≡◌, ap, sym, refl, ◌∙◌, subst, arith}
-use Rattle.corr_core.specs.Word.{parts}
+use Rattle.corr_core.specs.Word.{Parts, parts}
 use Rattle.corr_core.specs.declared.marks.Note.TheVariants.{Queued}
-use Rattle.corr_id.specs.Calls.{slot_of, version_of, FoundUpTo}
+use Rattle.corr_id.specs.Calls.{slot_of, version_of, FoundUpTo, GotLock}
 use Rattle.corr_id.specs.Posts.{IsTimely}
-use Rattle.corr_id.proofs.Doing.{found_noted, found_grows, up_to_more, became_grows, quiet_none, quiet_more, queued_did, error_is, was_two}
+use Rattle.corr_id.proofs.Doing.{found_noted, found_grows, up_to_more, became_grows, quiet_none, quiet_more, queued_did, error_is, was_two, got_after}
 use Rattle.corr_id.proofs.table.IdTable.post.Goals as goal
 
 pub tries-init : goal.tries-init
@@ -48,3 +48,14 @@ tries-preserved g c = let at = slot_of c.args.id in let u = c.args.seat.now.me.0
   quiet = quiet_more at u v w _ c.tries.invariant.quiet b refl;
   found = found_noted at c.queue_id-now.result v w b;
 }
+
+pub returns-in-Ok-clause-posted : goal.returns-in-Ok-clause-posted
+returns-in-Ok-clause-posted g c =
+    let at = slot_of c.args.id in let u = c.args.seat.now.me.0 in let v = c.tries.seat.me.0 in let w = c.try_lock.new.seat.me.0 in let n = c.tries.found in
+    let is = c.from_word-word.ensures in let has = c.lacks_id.ensures.has c.if-lacks_id.false in let h = c.in-Ok.ensures.locked in let k = c.in-Ok.lock in (
+      h.0,
+      omega (arith, h.0, c.if-slot-self.false),
+      ap (λ (y : Parts). y.first) h.1.word_is ∙ (ap (λ (y : ℕ). (parts y).first) (sym is) ∙ has.0),
+      subst (λ (y : ℕ). IsTimely c.args.attempt y) (sym (ap (λ (y : Parts). y.attempt) h.1.word_is)) (subst (λ (y : ℕ). IsTimely c.args.attempt (parts y).attempt) is (c.is_stale.ensures.timely c.if-is_stale.false)),
+      (n, subst (λ (z : ℕ). GotLock z u w n (parts k.word.0) k.content) (sym h.0) (got_after at u v w n (parts k.word.0) k.content c.tries.invariant.quiet h.1)),
+    )

@@ -22,5 +22,5 @@ returns-clause-locked g c = let e = ap parts c.from_word-2.ensures ∙ ((c.lock_
     let has = locked_next c.lock_id-found.new.seat.me.0 c.args.at (parts c.args.from) (parts c.from_word-2.result.0) h.0 e h.1.tokens in let t = c.take_call.ensures.taken h.0 has in let k = c.take_call.result in (
       c.take_call.ensures.fields.0,
       got_lock c.args.at c.args.at c.args.seat.now.me.0 c.args.seat.now.me.0 c.lock_id-found.new.seat.me.0 c.take_call.new.seat.me.0 c.args.from (parts c.from_word-2.result.0) (parts k.word.0) h.0 k.content refl (ap (λ y. parts y.0) c.take_call.ensures.fields.1) t.0
-          (quiet_none c.args.seat.now.me.0) c.requires.from.1 c.requires.from.0 (c.lock_id-found.ensures.latest c.if-found-from.false) h.1 t.1 e,
+          (quiet_none c.args.seat.now.me.0) c.requires.from.1 c.requires.from.0 (c.lock_id-found.ensures.latest c.if-found-from.false) (c.lock_id-found.ensures.reached c.if-found-from.false) h.1 t.1 e,
     )
