@@ -216,6 +216,11 @@ pub not_ok : {A E : Type 0} (r : Result A E) (P : E → Type 0) → ((x : A) →
 not_ok (Ok x) P n h = absurd (n x refl)
 not_ok (Err e) P n h = (e, h)
 
+-- two facts of an error
+pub both_err : {A E : Type 0} (r : Result A E) (P Q : E → Type 0) → IfErr r P → IfErr r Q → IfErr r (λ e. P e × Q e)
+both_err (Ok x) P Q a b = tt
+both_err (Err e) P Q a b = (a, b)
+
 -- what holds of any error holds of the one that was met
 pub err_by : {A E : Type 0} (r : Result A E) (P : E → Type 0) → ((e : E) → P e) → IfErr r P
 err_by (Ok x) P h = tt

@@ -1,7 +1,9 @@
 -- What a lock by a version came to.
 use Rattle.std.specs.Prelude.{◌≡◌, ℕ, ◌+◌, ◌*◌, ◌<◌, ◌≤◌, ◌⊎◌}
 use Rattle.corr_core.specs.Word.{parts}
+use Rattle.corr_core.specs.Law.{total, is_advance}
 use Rattle.corr_core.specs.declared.marks.View.{View}
+use Rattle.corr_id.specs.id_rule.specs.Lawful.{notes_of}
 use Rattle.sock_message.specs.Asked.{Asked}
 use Rattle.corr_id.specs.declared.calls.IdLock.{IdLock}
 use Rattle.corr_id.specs.Calls.{slot_of, version_of, Quiet, GotLock, Found, OutOf}
@@ -24,3 +26,5 @@ pub record GoneBy (slots version : ℕ) (v w : View Asked) : Type 0 where
   pub quiet : Quiet v w
   pub found : ℕ
   pub cause : ((slots ≤ slot_of version) × (found ≡ 0)) ⊎ (Found (slot_of version) found w × OutOf (parts found) (version_of version))
+  -- and if the seat had noted that the id with this version advanced, the word has a later range
+  pub later : slot_of version < slots → 0 < total (is_advance (version_of version)) (notes_of (slot_of version) v.notes) → version_of version < (parts found).first

@@ -1,5 +1,5 @@
-ghost use Rattle.std.specs.Prelude.{◌≡◌, ◌*◌, ◌≤◌, length};
-ghost use Rattle.hex.specs.Hex.{encode_lower};
+ghost use Rattle.std.specs.Prelude.{◌≡◌, ◌*◌, ◌<◌, ◌≤◌, length, slice_index};
+ghost use Rattle.hex.specs.Hex.{encode_lower, lower_digits};
 ghost use Rattle.sock_words.specs.Printed.{hex_text};
 ghost use Rattle.frame_print.specs.Written.{Writes};
 
@@ -47,6 +47,17 @@ fn print_blocks<K: Sink>(out: &mut K, buf: &IoBuf) -> Result<(), Failed>
 fn print_digits<K: Sink>(out: &mut K, bytes: &[u8]) -> Result<(), Failed>
     ensures { Writes (K.contents out.old) (K.contents out.new) (K.faults out.old) (K.faults out.new) (encode_lower bytes.now) result }
 {
+    if bytes.len() <= SHORT {
+        return print_short(out, bytes);
+    }
+    print_chunks(out, bytes)
+}
+
+// The same, chunk by chunk. It stands apart for the size of its room.
+#[inline(never)]
+fn print_chunks<K: Sink>(out: &mut K, bytes: &[u8]) -> Result<(), Failed>
+    ensures { Writes (K.contents out.old) (K.contents out.new) (K.faults out.old) (K.faults out.new) (encode_lower bytes.now) result }
+{
     let mut rest = bytes;
     while !rest.is_empty() {
         let count = rest.len().min(CHUNK);
@@ -66,10 +77,8 @@ fn print_chunk<K: Sink>(out: &mut K, bytes: &[u8]) -> Result<(), Failed>
     }
     let mut room = [0; 2 * CHUNK];
     let digits = &mut room[..2 * bytes.len()];
-    match hex::encode_to_slice(bytes, digits) {
-        Ok(()) => write_all(out, digits),
-        Err(_) => unreachable!(),
-    }
+    put_digits(bytes, digits);
+    write_all(out, digits)
 }
 
 // The same of a few bytes.
@@ -79,8 +88,30 @@ fn print_short<K: Sink>(out: &mut K, bytes: &[u8]) -> Result<(), Failed>
 {
     let mut room = [0; 2 * SHORT];
     let digits = &mut room[..2 * bytes.len()];
-    match hex::encode_to_slice(bytes, digits) {
-        Ok(()) => write_all(out, digits),
-        Err(_) => unreachable!(),
+    put_digits(bytes, digits);
+    write_all(out, digits)
+}
+
+// Two digits a byte. They are worked out and not looked up, so that sixteen bytes are done at once.
+fn put_digits(bytes: &[u8], digits: &mut [u8])
+    requires { length digits.old ≡ 2 * length bytes.now }
+    ensures { digits.new ≡ encode_lower bytes.now }
+{
+    'bytes: for i in 0..bytes.len() {
+        let byte = bytes[i];
+        digits[2 * i] = digit(byte >> 4);
+        digits[2 * i + 1] = digit(byte & 15);
+    }
+}
+
+// The digit of a value below 16.
+fn digit(value: u8) -> u8
+    requires { value < 16 }
+    ensures { result ≡ slice_index lower_digits value }
+{
+    if value < 10 {
+        b'0' + value
+    } else {
+        b'a' + (value - 10)
     }
 }

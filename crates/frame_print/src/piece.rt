@@ -25,6 +25,7 @@ pub enum Piece<'a> {
 }
 
 /// Writes pieces one after another. It takes no memory.
+#[inline(always)]
 pub fn print_pieces<K: Sink>(out: &mut K, pieces: &[Piece]) -> Result<(), Failed>
     ensures { Writes (K.contents out.old) (K.contents out.new) (K.faults out.old) (K.faults out.new) (pieces_text pieces.now) result }
 {
@@ -34,6 +35,7 @@ pub fn print_pieces<K: Sink>(out: &mut K, pieces: &[Piece]) -> Result<(), Failed
     Ok(())
 }
 
+#[inline(always)]
 fn print_piece<K: Sink>(out: &mut K, piece: Piece) -> Result<(), Failed>
     ensures { Writes (K.contents out.old) (K.contents out.new) (K.faults out.old) (K.faults out.new) (piece_text piece.entry) result }
 {

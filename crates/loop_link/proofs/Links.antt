@@ -190,7 +190,9 @@ answers_over old took inn over = record {
 }
   where
     by : (e : Ending) → inn.ending ≡ e → IsOffered took inn old → (old.fed ≡ took) ⊎ (is_ended inn.ending ≡ true)
-    by ending.Open is o = absurd (let less = over (ap is_open is) in let b = o.begins in omega (arith, less, ap length b, length-append old.fed o.left))
+    by ending.Open is o =
+        let none : o.left ≡ [] = no_bytes o.left (let few = over (ap is_open is) in let b = o.begins in omega (arith, few, ap length b, length-append old.fed o.left)) in
+        inl (sym (o.begins ∙ ap (λ l. old.fed ++ l) none ∙ append-nil old.fed))
     by ending.Ended is o = inr (ap is_ended is)
     by ending.Closed is o = inl (sym (o.begins ∙ ap (λ l. old.fed ++ l) (o.closed is) ∙ append-nil old.fed))
 

@@ -1,5 +1,5 @@
 -- What the built-in server of a link gives for the bytes that it was fed, and what a link over it has been offered.
-use Rattle.std.specs.Prelude.{ℕ, ◌≡◌, ◌-◌, ◌<◌, ◌⊎◌, ◌&&◌, ◌||◌, nat_le, Bool, true, false, if◌then◌else◌, List, [], ◌++◌, length, take, flat_map, Option, None, Some}
+use Rattle.std.specs.Prelude.{ℕ, ◌≡◌, ◌-◌, ◌≤◌, ◌⊎◌, ◌&&◌, ◌||◌, nat_le, Bool, true, false, if◌then◌else◌, List, [], ◌++◌, length, take, flat_map, Option, None, Some}
 use Rattle.brpc_model.specs.Frame.{Frame, frame_bytes}
 use Rattle.brpc_model.specs.Reply.{reply_frames}
 use Rattle.brpc_model.specs.Served.{first_of}
@@ -85,9 +85,10 @@ first_ending serve end = if serve && is_reached end 0 then ending.Ended else end
 abbrev pub new_in : Bool → Option ℕ → LoopInState
 new_in serve end = record { half = empty_in (first_ending serve end); peer = record { serve = serve; end = end; fed = [] } }
 
--- nothing is left to be fed to the server: the link isn't open any more, or these bytes are another link's
+-- nothing is left to be fed to the server: the link isn't open any more, or took nothing new, or these bytes are another
+-- link's
 abbrev pub IsOver : LoopPeerState → List ℕ → MemInState → Type 0
-IsOver peer took inn = is_open inn.ending ≡ true → length took < length peer.fed
+IsOver peer took inn = is_open inn.ending ≡ true → length took ≤ length peer.fed
 
 -- the end stands exactly where it is given
 abbrev pub IsSteady : LoopPeerState → MemInState → Type 0

@@ -1,4 +1,4 @@
-ghost use Rattle.std.specs.Prelude.{◌≡◌, ◌≤◌, [], true, false, length, IfOk, OnErr, OnOk};
+ghost use Rattle.std.specs.Prelude.{◌≡◌, ◌<◌, [], true, false, length, IfOk, OnErr, OnOk};
 ghost use Rattle.loop_link.specs.Serving.{Answers, IsOver, is_open};
 
 use crate::counts::gives_end;
@@ -89,13 +89,14 @@ impl LoopPeer {
         self.serve
     }
 
-    // Whether nothing is left to be fed to the server. Fewer bytes than it was fed are another link's.
+    // Whether nothing is left to be fed to the server, as mostly where a reader looks again for bytes. Fewer bytes than it
+    // was fed are another link's.
     fn is_over(&self, took: &[u8], inn: &Half) -> bool
         ensures over { result ≡ true → IsOver self.now took.now inn.now }
         ensures live { result ≡ false → is_open inn.now.ending ≡ true }
-        ensures enough { result ≡ false → length self.now.fed ≤ length took.now }
+        ensures enough { result ≡ false → length self.now.fed < length took.now }
     {
-        !inn.is_open() || took.len() < self.fed_len
+        !inn.is_open() || took.len() <= self.fed_len
     }
 
     // How many bytes it was fed.

@@ -10,7 +10,7 @@ use Rattle.call_attempts.specs.Letters.{attempt_label}
 use Rattle.call_attempts.specs.Both.{both, IsCallId}
 use Rattle.call_attempts.specs.Retrying.{WentTo, had_ended, overtaken, went_again}
 use Rattle.call_attempts.proofs.Locking.{id_short, version_low, locked_but, let_go_free, next_locks, next_but}
-use Rattle.call_attempts.proofs.Leaving.{own_after, keeps_leaves, none_keeps, not_ok}
+use Rattle.call_attempts.proofs.Leaving.{own_after, keeps_leaves, none_keeps, not_ok, both_err}
 use Rattle.call_attempts.proofs.Framing.{letter_is}
 use Rattle.call_attempts.proofs.retrying.retry_one.Goals as goal
 
@@ -42,7 +42,7 @@ pub returns-in_default-clause-ids : goal.returns-in_default-clause-ids
 returns-in_default-clause-ids g c = (sits_on c.args.tables.now.ids.table.shared.table_id c.args.calls.now.seat c.lock.new.seat c.lock.ensures.seat (not_ok c.lock.result _ c.in_default.not-Ok c.lock.ensures.gone).1.0.share c.requires.ids.0, quiet_free c.args.calls.now.seat.me.0 c.lock.new.seat.me.0 (not_ok c.lock.result _ c.in_default.not-Ok c.lock.ensures.gone).1.0 c.requires.ids.1)
 
 pub returns-in_default-clause-by : goal.returns-in_default-clause-by
-returns-in_default-clause-by g c = let e = (not_ok c.lock.result _ c.in_default.not-Ok c.lock.ensures.gone) in had_ended record { gone = record { quiet = e.1.0; found = e.0.found; cause = e.1.1 }; books = refl; socks = refl }
+returns-in_default-clause-by g c = let e = not_ok c.lock.result _ c.in_default.not-Ok (both_err c.lock.result _ _ c.lock.ensures.gone c.lock.ensures.advanced) in had_ended record { gone = record { quiet = e.1.0.0; found = e.0.found; cause = e.1.0.1; later = e.1.1 }; books = refl; socks = refl }
 
 pub returns-in_default-clause-refs : goal.returns-in_default-clause-refs
 returns-in_default-clause-refs g c = (none_keeps c.args.seat.now.me.0).refs

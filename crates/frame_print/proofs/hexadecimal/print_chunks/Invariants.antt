@@ -1,7 +1,7 @@
 use Rattle.std.proofs.Common.{◌≡◌, ℕ, ◌++◌, List, length, Ok}
 use Rattle.hex.specs.Hex.{encode_lower}
 use Rattle.frame_print.specs.Written.{Writes}
-use Rattle.frame_print.proofs.hexadecimal.print_digits.Given as goal
+use Rattle.frame_print.proofs.hexadecimal.print_chunks.Given as goal
 
 abbrev pub invariant-loop-rest : goal.invariant-loop-rest
 invariant-loop-rest g l = record {
