@@ -37,7 +37,7 @@ module _ (s : Known) (untroubled : IsUntroubled s.run.script s.run.ends) (none_e
 
   -- ## The first attempt
 
-  abbrev WasFull_ : Type 0
+  abbrev pub WasFull_ : Type 0
   WasFull_ = told.WasFull (plan_of s.run.script) (all_tasks s.run.script) s.run.outcomes (fixed_by s.run.broken s.run.early s.run.fails) s.run.gave s.run.orders
 
   abbrev IsUnordered_ : ℕ → ℕ → Type 0

@@ -1,7 +1,6 @@
 -- Where nothing went wrong, a served call that no `expire` names has the reply to its own request, or its name had no socket yet, or whoever read the links ended it.
 use Rattle.std.proofs.Common.{◌≡◌, ◌≢◌, ℕ, zero, suc, ◌+◌, ◌<◌, ◌⊎◌, inl, inr, Bool, true, false, List, [], length, slice_get, option_and_then, Some, None, refl, sym, ap, ◌∙◌, subst, arith}
 use Rattle.std.specs.Prelude.{ℤ, pos, negsuc, Contains}
-use Rattle.sock_words.specs.Codes.{EEOF}
 use Rattle.sock_words.specs.declared.outcome.Outcome.{Outcome}
 use Rattle.sock_words.specs.declared.outcome.Outcome.TheVariants.{Unopened, Answered, Peer, CallFailed}
 use Rattle.brpc_model.specs.Attempts.{IsResponse}
@@ -30,13 +29,12 @@ use Rattle.seat_programs.specs.ToldCalls as told
 use Rattle.seat_programs.specs.ToldCalls.{Accepted, OfSend, OfCall}
 use Rattle.callless_fits.specs.sock_deeds.specs.Told.{fixed_by}
 use Rattle.failed_told.specs.call_whys.specs.call_told.specs.Answers.{HasAnswer}
-use Rattle.failed_told.specs.Ends.{EndedByReading, AtFault, AtEnd, AtDrop, LeftOver}
+use Rattle.failed_told.specs.Ends.{EndedByReading}
 use Rattle.calls_done.proofs.Known.{Known, IsOfCall}
-use Rattle.calls_done.specs.Done.{IsEndedByReading}
 use Rattle.calls_done.specs.Owed.{GivesWell}
 use Rattle.callless_fits.proofs.Sends.{run_of, Names, Words, links, task_at, said_or_placed_at, find_none, life_low}
 use Rattle.calls_done.proofs.Links.{LinkAt, link_at, unserved, unsent, faultless}
-use Rattle.calls_done.proofs.Calm.{Sent_, sent_at, no_fail, no_drop, unfull, no_loss, last_first}
+use Rattle.calls_done.proofs.Calm.{Sent_, sent_at, no_fail, unfull, no_loss, last_first}
 
 -- ## Replies
 
@@ -74,6 +72,17 @@ module _ (s : Known) (untroubled : IsUntroubled s.run.script s.run.ends) (none_e
 
     pub last_is : s.run.last i ≡ 0
     last_is = last_first s untroubled none_early i op call there item op.client asked task
+
+    -- whoever read the links ended it, with attempt n as its last
+    abbrev pub Ended_ : ℕ → ℕ → ℕ → Type 0
+    Ended_ id code n = EndedByReading (plan_of s.run.script) (all_tasks s.run.script) s.run.outcomes (fixed_by s.run.broken s.run.early s.run.fails) s.run.gave s.run.orders s.run.ends i asked id code n
+
+    pub record WasEndedByReading (outcome : Outcome) : Type 0 where
+      pub id : ℕ
+      pub code : ℕ
+      pub is : outcome ≡ CallFailed id code
+      pub by : Ended_ id code 0
+      pub became : Became (all_tasks s.run.script) s.run.outcomes i (CallFailed id code)
 
     -- ## Its outcome was said
 
@@ -156,22 +165,14 @@ module _ (s : Known) (untroubled : IsUntroubled s.run.script s.run.ends) (none_e
             let e : Call call' ≡ Call call = sym item' ∙ item in let same : call' ≡ call = cc in let coded = answer.coded in let given = answer.given in
             inl (id, f, coded.1, own_reply (Peer id code) has id refl given.link given.place f (let w = given.whole.0 in let m = s.run.given.as_many in omega (arith, w, m)) given.whole.1 (subst (λ c. IsResponse c id f) same answer.response), coded.2, subst (λ c. Gives id c f (Peer id code)) (sym coded.3) (gives_peer id code f other))
 
-        -- no link gave a fault, and no message was dropped
-        by_reading : (code : ℕ) → EndedByReading (plan_of s.run.script) (all_tasks s.run.script) s.run.outcomes (fixed_by s.run.broken s.run.early s.run.fails) s.run.gave s.run.orders s.run.ends i asked code (s.run.last i) → code ≡ EEOF
-        by_reading code (AtFault e n k few (slot, version, life, alone) fault) = absurd (faultless s untroubled well k (link_at s untroubled k (life_low s.run untroubled none_early (name_of asked n) k slot version life)) fault)
-        by_reading code (AtEnd e n k few w) = e
-        by_reading code (AtDrop e n k few w) = absurd (let d = w.dropped in no_drop s untroubled none_early i n d.0 d.1 d.2 d.3)
-        by_reading code (LeftOver e) = e
-
-        by_code : (id code : ℕ) → HasOutcome (run_of s.run) i (CallFailed id code) → Became (all_tasks s.run.script) s.run.outcomes i (CallFailed id code) → CallDone (run_of s.run) i op call name (CallFailed id code) ⊎ IsEndedByReading (CallFailed id code)
+        by_code : (id code : ℕ) → HasOutcome (run_of s.run) i (CallFailed id code) → Became (all_tasks s.run.script) s.run.outcomes i (CallFailed id code) → CallDone (run_of s.run) i op call name (CallFailed id code) ⊎ WasEndedByReading (CallFailed id code)
         by_code id code has b = by (s.failed op.client id code (record { number = i; op = ops.Call asked }) asked task refl b)
           where
-            by : told.FailedBy (plan_of s.run.script) (all_tasks s.run.script) s.run.outcomes (fixed_by s.run.broken s.run.early s.run.fails) s.run.gave s.run.orders op.client i asked id code (s.run.last i)
-                ⊎ EndedByReading (plan_of s.run.script) (all_tasks s.run.script) s.run.outcomes (fixed_by s.run.broken s.run.early s.run.fails) s.run.gave s.run.orders s.run.ends i asked code (s.run.last i) → CallDone (run_of s.run) i op call name (CallFailed id code) ⊎ IsEndedByReading (CallFailed id code)
+            by : told.FailedBy (plan_of s.run.script) (all_tasks s.run.script) s.run.outcomes (fixed_by s.run.broken s.run.early s.run.fails) s.run.gave s.run.orders op.client i asked id code (s.run.last i) ⊎ Ended_ id code (s.run.last i) → CallDone (run_of s.run) i op call name (CallFailed id code) ⊎ WasEndedByReading (CallFailed id code)
             by (inl why) = absurd (failed id code has (subst (λ n. told.FailedBy (plan_of s.run.script) (all_tasks s.run.script) s.run.outcomes (fixed_by s.run.broken s.run.early s.run.fails) s.run.gave s.run.orders op.client i asked id code n) last_is why))
-            by (inr read) = inr (id, ap (CallFailed id) (by_reading code read))
+            by (inr read) = inr record { id = id; code = code; is = refl; by = subst (Ended_ id code) last_is read; became = b }
 
-        by_outcome : (x : Outcome) → HasOutcome (run_of s.run) i x → Became (all_tasks s.run.script) s.run.outcomes i x → IsOfCall x → CallDone (run_of s.run) i op call name x ⊎ IsEndedByReading x
+        by_outcome : (x : Outcome) → HasOutcome (run_of s.run) i x → Became (all_tasks s.run.script) s.run.outcomes i x → IsOfCall x → CallDone (run_of s.run) i op call name x ⊎ WasEndedByReading x
         by_outcome Unopened has b kind = inl (by_found (s.run.tells.unopened op.client i asked task b))
         by_outcome (Answered id payload attachment) has b kind = inl (by_answer id payload attachment has (s.answers i (Answered id payload attachment) b op there))
         by_outcome (Peer id code) has b kind = inl (by_peer id code has (s.answers i (Peer id code) b op there))
@@ -180,9 +181,9 @@ module _ (s : Known) (untroubled : IsUntroubled s.run.script s.run.ends) (none_e
         by_outcome other has b (inr e) = absurd (cc)
 
         -- it has the reply to its own request, or its name had no socket yet, or whoever read the links ended it
-        pub answered_own : (x : Outcome) → HasOutcome (run_of s.run) i x → CallDone (run_of s.run) i op call name x ⊎ IsEndedByReading x
+        pub answered_own : (x : Outcome) → HasOutcome (run_of s.run) i x → CallDone (run_of s.run) i op call name x ⊎ WasEndedByReading x
         answered_own x has = by (said_or_placed_at s.run i x has)
           where
-            by : SaidOrPlaced (Words s.run) s.run.outcomes i x → CallDone (run_of s.run) i op call name x ⊎ IsEndedByReading x
+            by : SaidOrPlaced (Words s.run) s.run.outcomes i x → CallDone (run_of s.run) i op call name x ⊎ WasEndedByReading x
             by (inl b) = by_outcome x has b (s.kinds op.client (record { number = i; op = ops.Call asked }) asked x task refl b)
             by (inr w) = absurd (call_said w.0)

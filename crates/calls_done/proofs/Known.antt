@@ -11,6 +11,7 @@ use Rattle.seat_programs.specs.Tasks.{plan_of}
 use Rattle.seat_programs.specs.Told.{IsTask, Became}
 use Rattle.seat_programs.specs.ToldCalls.{StandsOn, FailedBy, WhyAgain}
 use Rattle.failed_told.specs.Ends.{EndedByReading}
+use Rattle.calls_done.specs.Begun.{FirstAttempt}
 use Rattle.callless_fits.proofs.Sends.{ToldRun}
 use Rattle.callless_fits.specs.sock_deeds.specs.Told.{fixed_by}
 use Rattle.failed_told.specs.call_whys.specs.call_told.specs.Answers.{HaveAnswers, ends_call}
@@ -30,6 +31,8 @@ pub record Known : Type 0 where
       ⊎ EndedByReading (plan_of run.script) (all_tasks run.script) run.outcomes (fixed_by run.broken run.early run.fails) run.gave run.orders run.ends t.number asked id code (run.last t.number)
   pub again : (client : ℕ) (t : Task) (asked : Asked) → IsTask (all_tasks run.script) run.outcomes client t → t.op ≡ ops.Call asked → (n : ℕ) → n < run.last t.number →
       WhyAgain (plan_of run.script) (all_tasks run.script) run.outcomes (fixed_by run.broken run.early run.fails) run.gave run.orders client t.number n (name_of asked n)
+  -- what became of the first attempt of each call
+  pub begun : (client o : ℕ) (asked : Asked) → IsTask (all_tasks run.script) run.outcomes client (record { number = o; op = ops.Call asked }) → FirstAttempt (plan_of run.script) (all_tasks run.script) run.outcomes (fixed_by run.broken run.early run.fails) run.gave run.orders o (name_of asked 0)
   -- each task has an outcome, or its message was accepted; and that of a call is one that a call can have
   pub each : (client : ℕ) (t : Task) → IsTask (all_tasks run.script) run.outcomes client t →
       ((outcome : Outcome) × Became (all_tasks run.script) run.outcomes t.number outcome) ⊎ ((k : ℕ) × StandsOn (plan_of run.script) (all_tasks run.script) run.outcomes (fixed_by run.broken run.early run.fails) run.gave run.orders t.number 0 k)

@@ -1,5 +1,5 @@
 pub mod Owed
-pub mod Done
+pub mod Begun
 pub use Rattle.failed_told
 pub use Rattle.served_told
 pub use Rattle.failed_told.specs.attempts_told

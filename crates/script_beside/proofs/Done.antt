@@ -1,4 +1,4 @@
--- Where nothing went wrong in a run of a script whose links were served and read beside its clients, its sends are done, and its served calls, but where whoever read the links ended one.
+-- Where nothing went wrong, the run of a script whose links were served and read beside its clients is complete.
 use Rattle.std.proofs.Common.{◌≡◌, ℕ, ◌⊎◌, inl, inr, true, List, slice_get, Some, Ok, refl, sym, subst, arith}
 use Rattle.std.specs.Prelude.{IsTrue}
 use Rattle.std.proofs.lemmas.Option.{slice_get_within}
@@ -7,6 +7,7 @@ use Rattle.sock_io.specs.Link.{OutState, InState}
 use Rattle.sock_words.specs.declared.outcome.Outcome.{Outcome}
 use Rattle.sock_words.specs.declared.outcome.Outcome.TheVariants.{Opened}
 use Rattle.sock_words.specs.declared.place_word.PlaceWord.{PlaceWord}
+use Rattle.brpc_model.specs.Complete.{Completeness}
 use Rattle.brpc_model.specs.Items.{Item, Shape}
 use Rattle.brpc_model.specs.Link.{LinkEnd}
 use Rattle.brpc_model.specs.Operations.{link_shapes}
@@ -22,13 +23,12 @@ use Rattle.seat_programs.specs.declared.task.Task.{Task}
 use Rattle.seat_programs.specs.Scripts.{all_tasks}
 use Rattle.seat_programs.specs.Told.{IsTask, Became}
 use Rattle.seat_programs.specs.ToldCalls.{Fixed}
-use Rattle.script_calls.specs.calls_done.specs.Done.{DoneOnThreads}
 use Rattle.script_calls.specs.calls_done.specs.Owed.{IsUnsent, OwesReplies, GivesWell, AreClosed}
-use Rattle.script_calls.specs.calls_done.proofs.Done.{done_on_threads}
+use Rattle.script_calls.specs.calls_done.proofs.Done.{complete}
 use Rattle.script_calls.specs.calls_done.proofs.Known.{Known, IsOfCall}
 use Rattle.script_calls.specs.calls_done.proofs.Links.{shapes_many}
 use Rattle.script_calls.specs.served_told.specs.Telling.{TellBytes, ShowSmallIds}
-use Rattle.script_calls.specs.served_told.proofs.Own.{no_fault, own_request, made_for}
+use Rattle.script_calls.specs.served_told.proofs.Own.{no_fault, own_request, made_for, reply_there}
 use Rattle.script_calls.specs.callless_fits.proofs.Each.{told_each}
 use Rattle.script_calls.specs.callless_fits.proofs.Sends.{ToldRun}
 use Rattle.script_calls.specs.call_whys.specs.sock_deeds.specs.Told.{fixed_by, IsOfSockets}
@@ -100,6 +100,7 @@ module _ (bytes : List ℕ) (script : List Item) (reads : script_of bytes ≡ Ok
     answers = is.answered.each;
     failed = is.on_calls.failed;
     again = is.on_calls.again;
+    begun = is.begun;
     each = told_each script is.outcomes fixed is.answered.gave is.sockets.orders is.sockets.core is.sockets.tells is.one_each (subst (λ (ws : List PlaceWord). HasEachOutcome ws is.outcomes) (sym is.sockets.words) is.reported.each);
     kinds = kinds;
   }
@@ -112,7 +113,7 @@ module _ (bytes : List ℕ) (script : List Item) (reads : script_of bytes ≡ Ok
         let low = slice_get_within is.reported.report.report.links k line at in let lines = is.reported.report.told.line_each in let many = is.sockets.ends_told.as_many in
         let e = within ends k (omega (arith, low, lines, many)) in at_end k e.0 shape line e.1 opened serves at (inr (closed k e.0 shape e.1 opened serves).0)
 
-    owes : (k : ℕ) (shape : Shape) (line : LinkLine) → slice_get (link_shapes script) k ≡ Some shape → IsTrue shape.serve → slice_get is.reported.report.report.links k ≡ Some line → IsUnsent (run is) k → OwesReplies (run is) k
+    owes : (k : ℕ) (shape : Shape) (line : LinkLine) → slice_get (link_shapes script) k ≡ Some shape → IsTrue shape.serve → slice_get is.reported.report.report.links k ≡ Some line → IsUnsent (run is) k → OwesReplies (run is) k shape
     owes k shape line opened serves at unsent = record {
       faultless = no_fault bytes script reads is.outcomes is.places text is.reported.took ends fixed is.answered.gave is.sockets.orders is.sockets.core is.sockets.words is.sockets.tells.are_orders is.sockets.ends_told is.attempts is.on_calls.versions is.reported.report is.reported.told small tell
           k shape line opened serves at (gives k shape line opened serves at) unsent;
@@ -125,6 +126,8 @@ module _ (bytes : List ℕ) (script : List Item) (reads : script_of bytes ≡ Ok
             m.1,
             m.2,
           ));
+      given = λ p m i id its op call endless c there stands placed. reply_there bytes script reads is.outcomes is.places text is.reported.took ends fixed is.answered.gave is.sockets.orders is.sockets.core is.sockets.words is.sockets.tells.are_orders is.sockets.ends_told is.attempts is.on_calls.versions is.reported.report is.reported.told small tell
+          k shape its opened serves there (gives k shape its opened serves there) unsent i id op call c.there c.item c.shows endless p m stands placed;
     }
 
     well : GivesWell (run is)
@@ -133,10 +136,10 @@ module _ (bytes : List ℕ) (script : List Item) (reads : script_of bytes ≡ Ok
         let line = within is.reported.report.report.links k (omega (arith, low, many, lines)) in owes k shape line.0 opened serves line.1 unsent
 
     -- where the reading of each link with the server ended at `Closed`
-    pub done_beside : DoneOnThreads (run is)
-    done_beside = done_on_threads known well closed
+    pub complete_beside : Completeness (run is)
+    complete_beside = complete known well closed
 
 -- so it is of each run whose links were served and read beside its clients
 module _ (P : Type 0) {O I : Type 0} (out : O → OutState) (inn : I → InState) (g : Ghosts O) (script : List Item) (text : List ℕ) (links : List LinkEnd) (r : IsBesideRun P g out inn script text links) (bytes : List ℕ) (reads : script_of bytes ≡ Ok script) where
-  pub text_done : TellBytes script links → GivesAtEnd (text_of P out inn g script text links r bytes reads) → AreClosed script links → DoneOnThreads (run (text_of P out inn g script text links r bytes reads))
-  text_done tell at_end closed = done_beside bytes script reads text links (text_of P out inn g script text links r bytes reads) (text_kinds P out inn g script text links r bytes reads) (text_small P g out inn bytes script reads text links r) tell at_end closed
+  pub text_complete : TellBytes script links → GivesAtEnd (text_of P out inn g script text links r bytes reads) → AreClosed script links → Completeness (run (text_of P out inn g script text links r bytes reads))
+  text_complete tell at_end closed = complete_beside bytes script reads text links (text_of P out inn g script text links r bytes reads) (text_kinds P out inn g script text links r bytes reads) (text_small P g out inn bytes script reads text links r) tell at_end closed

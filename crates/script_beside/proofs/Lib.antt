@@ -15,6 +15,7 @@ pub mod WideCalls
 pub mod Failing
 pub mod Expires
 pub mod Joins
+pub mod Begun
 pub mod Reports
 pub mod CallKinds
 pub mod Meeting

@@ -7,6 +7,7 @@ use Rattle.std.proofs.lemmas.Option.{slice_get_within}
 use mathlib.Core.Option.{some}
 use lib.ListN.{get_elem?}
 use Rattle.brpc_model.specs.Causes.{HasFault, reading_limit}
+use Rattle.brpc_model.specs.Complete.{Completeness}
 use Rattle.brpc_model.specs.Frame.{frame_bytes}
 use Rattle.brpc_model.specs.Items.{Item, Shape}
 use Rattle.brpc_model.specs.Link.{LinkEnd}
@@ -47,14 +48,13 @@ use Rattle.script_calls.specs.call_whys.specs.sock_deeds.proofs.Flats.{append_fi
 use Rattle.script_calls.specs.call_whys.specs.sock_deeds.proofs.Growing.{HasFound}
 use Rattle.script_calls.specs.call_whys.specs.sock_deeds.proofs.Places.{map_there, to_elem}
 use Rattle.script_calls.specs.call_whys.specs.sock_deeds.proofs.Tasks.{fits}
-use Rattle.script_calls.specs.calls_done.specs.Done.{DoneOnThreads}
 use Rattle.script_calls.specs.calls_done.specs.Owed.{AreClosed}
 use Rattle.script_calls.specs.served_told.specs.Telling.{TellBytes}
 use Rattle.script_calls.specs.served_told.proofs.Own.{own_replies}
 use Rattle.script_beside.specs.Gave.{offered_for, WasReadOut, GaveOffer, GaveOffers}
 use Rattle.script_beside.specs.Served.{run_of, IsServedText}
 use Rattle.script_beside.specs.Told.{seated_plan, seated_ids, HadGivenNone, IsBesideRun, IsBesideText}
-use Rattle.script_beside.proofs.Done.{text_done}
+use Rattle.script_beside.proofs.Done.{text_complete}
 use Rattle.script_beside.proofs.Linked.{opens_link}
 use Rattle.script_beside.proofs.ReadOut.{ShowsOut, read_or_none, found_none}
 use Rattle.script_beside.proofs.Reports.{text_of, text_outcomes}
@@ -280,12 +280,12 @@ module _ (P : Type 0) {O I : Type 0} (out : O → OutState) (inn : I → InState
           (text_small P g out inn bytes script reads text links r) tells gives_replies,
     )
 
-    all_done : AreClosed script links → DoneOnThreads (run_of is)
-    all_done closed = text_done P out inn g script text links r bytes reads tells (λ k e shape line at shaped serve there over. (let own = tells k e shape at shaped serve in gives_at_end is tells_in mode told gave k e shape line at shaped serve own.0 own.1 over there)) closed
+    all_complete : AreClosed script links → Completeness (run_of is)
+    all_complete closed = text_complete P out inn g script text links r bytes reads tells (λ k e shape line at shaped serve there over. (let own = tells k e shape at shaped serve in gives_at_end is tells_in mode told gave k e shape line at shaped serve own.0 own.1 over there)) closed
 
   -- all that a run over these links leaves
   pub served_text : (tells_in : Mode → Bool) (mode : Mode) → GaveOffers tells_in (specs_of mode script) links → IsServedText (tells_in mode ≡ true) script text links
-  served_text tells_in mode gave = record { is = is; serves = λ told tells. serves_all tells_in mode told gave tells; done = λ told tells closed. all_done tells_in mode told gave tells closed }
+  served_text tells_in mode gave = record { is = is; serves = λ told tells. serves_all tells_in mode told gave tells; complete = λ told tells closed. all_complete tells_in mode told gave tells closed }
 
 -- ## What a run of a script leaves
 

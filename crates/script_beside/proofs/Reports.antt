@@ -41,6 +41,7 @@ use Rattle.script_beside.specs.Sockets.{AreSocketsBeside}
 use Rattle.script_beside.proofs.Joins.{joins_told}
 use Rattle.script_beside.proofs.Left.{early_of, notes_of}
 use Rattle.script_beside.proofs.Attempts.{attempts_beside, attempts_last}
+use Rattle.script_beside.proofs.Begun.{AreBegun, begun_beside}
 use Rattle.script_beside.proofs.Expires.{calls_beside}
 use Rattle.script_beside.proofs.Sockets.{run, differ, fixed, answered_sockets}
 use Rattle.script_beside.proofs.Telling.{told_once}
@@ -92,14 +93,15 @@ module _ (P : Type 0) {O I : Type 0} (out : O → OutState) (inn : I → InState
       by_readers = subst (AllByRecursion (AllHave (length readers) gave (operations script))) r.left.read_is
           (readers_have p q (calls script) (opens script) readers r.left.readers_are r.ids main r.rest.last (notes_of r.left r.rest) r.rest.rest (early_of r.left) refl r.rest.words r.rest.closing (operations script) made_told)
 
-  -- how many attempts its calls made, and why; why each `expire` has its outcome, and why calls failed
+  -- how many attempts its calls made, and why; why each `expire` has its outcome, and why calls failed; and what became of their first attempts
   abbrev AreCalls : Fixed → (ℕ → List ℕ) → (ℕ → Order) → Type 0
-  AreCalls fixed given orders = (a : AreAttemptsTold (plan_of script) (all_tasks script) outcomes fixed given orders) × AreCallsTold (plan_of script) (all_tasks script) outcomes fixed given orders a.last links
+  AreCalls fixed given orders = (a : AreAttemptsTold (plan_of script) (all_tasks script) outcomes fixed given orders) × AreCallsTold (plan_of script) (all_tasks script) outcomes fixed given orders a.last links × AreBegun script outcomes fixed given orders
 
   known : (bytes : List ℕ) (reads : script_of bytes ≡ Ok script) (given : ℕ → List ℕ) → given ≡ gave → AreCalls (fixed P g out inn bytes script reads text links r) given (orders (run P g out inn bytes script reads text links r) (differ P g out inn bytes script reads text links r))
   known bytes reads given is = (
     attempts_beside P g out inn bytes script reads text links r given,
     subst (λ (last : ℕ → ℕ). AreCallsTold (plan_of script) (all_tasks script) outcomes (fixed P g out inn bytes script reads text links r) given (orders (run P g out inn bytes script reads text links r) (differ P g out inn bytes script reads text links r)) last links) (sym (attempts_last P g out inn bytes script reads text links r given)) (calls_beside P g out inn bytes script reads text links r given is),
+    begun_beside P g out inn bytes script reads text links r given,
   )
 
   -- its answers, by what the links gave, and with them why each operation on sockets has its outcome, and what is told of calls
@@ -121,6 +123,7 @@ module _ (P : Type 0) {O I : Type 0} (out : O → OutState) (inn : I → InState
     answered = both.0;
     sockets = both.1;
     attempts = both.2.0;
+    begun = both.2.2;
     on_calls = both.2.1;
     joins = joins_told P g out inn bytes script reads text links r (fixed_by both.1.broken both.1.early both.1.fails) both.0.gave both.1.orders;
     once = shown_once q.slots outcomes r.told (tellers ++ r.last ∷ []) (outcomes_few (plan_of script).operations r.told tellers r.last) own_told (told_once P g out inn bytes script reads text links r);

@@ -14,6 +14,8 @@ use Rattle.sock_io.specs.declared.link.Ends.{Ends}
 use Rattle.sock_io.specs.Link.{OutState, InState, end_of}
 use Rattle.corr_core.specs.declared.marks.Plan as id_plan
 use Rattle.corr_id.specs.Closing.{Closing}
+use Rattle.sock_message.specs.Asked.{Asked, name_of}
+use Rattle.seat_programs.specs.declared.task.Op.TheVariants as ops
 use Rattle.seat_programs.specs.declared.task.Task.{Task}
 use Rattle.seat_programs.specs.Scripts.{all_tasks, is_callless}
 use Rattle.seat_programs.specs.Tasks.{plan_of, opens, calls}
@@ -26,7 +28,9 @@ use Rattle.call_run.specs.Threads.{ids_of, RanWith}
 use Rattle.script_calls.specs.attempts_told.specs.Attempts.{AreAttemptsTold}
 use Rattle.script_calls.specs.call_whys.specs.call_told.specs.Answers.{AreAnsweredBy}
 use Rattle.script_calls.specs.call_whys.specs.call_told.specs.Once.{ShownOnce}
+use Rattle.script_calls.specs.call_whys.specs.sock_deeds.specs.Runs.{IsOperation}
 use Rattle.script_calls.specs.call_whys.specs.sock_deeds.specs.Told.{fixed_by}
+use Rattle.script_calls.specs.calls_done.specs.Begun.{FirstAttempt}
 use Rattle.script_calls.specs.callless_fits.specs.Whole.{IsWholeText}
 use Rattle.script_calls.specs.Seats.{IdSeat, TookAll}
 use Rattle.script_calls.specs.Told.{outcomes_of, IsReported, AreCallsTold}
@@ -109,6 +113,8 @@ pub record IsBesideText (script : List Item) (text : List ℕ) (ends : List Link
   pub sockets : AreSocketsBeside script outcomes places answered.gave ends
   -- no call made more attempts than it may; and each message that a link accepted is that of a `send` of which nothing is said, or of an attempt of a call, with the id that the call's outcome shows
   pub attempts : AreAttemptsTold (plan_of script) (all_tasks script) outcomes (fixed_by sockets.broken sockets.early sockets.fails) answered.gave sockets.orders
+  -- the first attempt of each call was accepted by a link, or its name had no socket, or it found a failing link, or each request taken
+  pub begun : (c o : ℕ) (asked : Asked) → IsOperation (all_tasks script) outcomes c o (ops.Call asked) → FirstAttempt (plan_of script) (all_tasks script) outcomes (fixed_by sockets.broken sockets.early sockets.fails) answered.gave sockets.orders o (name_of asked 0)
   -- each `expire` has its cause, and so has each call that failed: also one that whoever read its link ended, by which link's end or fault; and each attempt behind another
   pub on_calls : AreCallsTold (plan_of script) (all_tasks script) outcomes (fixed_by sockets.broken sockets.early sockets.fails) answered.gave sockets.orders attempts.last ends
   -- and each `join` has its cause
