@@ -75,7 +75,7 @@ module _ (s : Known) (untroubled : IsUntroubled s.run.script s.run.ends) (none_e
 
     -- whoever read the links ended it, with attempt n as its last
     abbrev pub Ended_ : ℕ → ℕ → ℕ → Type 0
-    Ended_ id code n = EndedByReading (plan_of s.run.script) (all_tasks s.run.script) s.run.outcomes (fixed_by s.run.broken s.run.early s.run.fails) s.run.gave s.run.orders s.run.ends i asked id code n
+    Ended_ id code n = EndedByReading (plan_of s.run.script) (all_tasks s.run.script) s.run.outcomes (fixed_by s.run.broken s.run.early s.run.fails) s.run.gave s.run.orders s.run.ends op.client i asked id code n
 
     pub record WasEndedByReading (outcome : Outcome) : Type 0 where
       pub id : ℕ

@@ -76,7 +76,7 @@ module _ (s : Known) (untroubled : IsUntroubled s.run.script s.run.ends) (none_e
       by (slot, version, life, alone) = none_ n frame (subst (λ m. (m < links s.run) × (slice_get (stream (s.run.gave m)).frames n ≡ Some frame)) (alone k on) (on.1.0, gave)) (some_, above, omega (arith, below))
   unanswered id code k n frame (AtFaultDrop e l w fault) on gave is = dropped w.dropped
   unanswered id code k n frame (AtEndDrop e l w) on gave is = dropped w.dropped
-  unanswered id code k n frame (LeftOver e each) on gave (some_, above, below) = elim (each k on.1.0) [
+  unanswered id code k n frame (LeftOver e at each) on gave (some_, above, below) = elim (each k on.1.0) [
     | inl fault ↦ faulty k on.1.0 fault
     | inr none_ ↦ none_ n frame (on.1.0, gave) (some_, above, omega (arith, below))
   ]

@@ -28,7 +28,7 @@ pub record Known : Type 0 where
   -- each call that failed has its code, also where whoever read the links ended it, and each attempt of a call but the last was followed by another
   pub failed : (client id code : ℕ) (t : Task) (asked : Asked) → IsTask (all_tasks run.script) run.outcomes client t → t.op ≡ ops.Call asked → Became (all_tasks run.script) run.outcomes t.number (CallFailed id code) →
       FailedBy (plan_of run.script) (all_tasks run.script) run.outcomes (fixed_by run.broken run.early run.fails) run.gave run.orders client t.number asked id code (run.last t.number)
-      ⊎ EndedByReading (plan_of run.script) (all_tasks run.script) run.outcomes (fixed_by run.broken run.early run.fails) run.gave run.orders run.ends t.number asked id code (run.last t.number)
+      ⊎ EndedByReading (plan_of run.script) (all_tasks run.script) run.outcomes (fixed_by run.broken run.early run.fails) run.gave run.orders run.ends client t.number asked id code (run.last t.number)
   pub again : (client : ℕ) (t : Task) (asked : Asked) → IsTask (all_tasks run.script) run.outcomes client t → t.op ≡ ops.Call asked → (n : ℕ) → n < run.last t.number →
       WhyAgain (plan_of run.script) (all_tasks run.script) run.outcomes (fixed_by run.broken run.early run.fails) run.gave run.orders client t.number n (name_of asked n)
   -- what became of the first attempt of each call

@@ -63,7 +63,7 @@ use Rattle.attempts_told.proofs.Last.{IsReached, one_reached, none_further}
 use Rattle.attempts_told.proofs.RetriedLast.{WentFor, last_went}
 use Rattle.attempts_told.proofs.Senders.{IsNoted, all_noted, made_for_there}
 use Rattle.attempts_told.proofs.Told.{same_asked}
-use Rattle.failed_told.specs.Left.{LeftAt, on_link, none_opened}
+use Rattle.failed_told.specs.Ends.{LeftAt, on_link, none_opened}
 use Rattle.failed_told.specs.Missed.{attempt_missed, went_missed, acted_missed, missed_in, id_of, IsBacked, attempt_of, socks_behind}
 use Rattle.failed_told.specs.Reasons.{AdvancedFor}
 use Rattle.failed_told.proofs.AtWords.{attempt_link, went_link, acted_link, link_in}

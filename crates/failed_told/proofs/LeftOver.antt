@@ -4,6 +4,7 @@ use Rattle.std.specs.Prelude.{Option, position}
 use Rattle.std.specs.List.{AllByRecursion}
 use mathlib.Core.Logic.{dite}
 use mathlib.Core.Option.{some}
+use native.Mathlib.Decide.{ℕ_discrete}
 use lib.ListN.{get_elem?}
 use Rattle.sock_io.specs.declared.link.Out.{Ghosts}
 use Rattle.sock_io.specs.Link.{OutState}
@@ -18,11 +19,11 @@ use Rattle.corr_core.specs.Word.{Parts, parts}
 use Rattle.corr_core.specs.Law.{total, is_ended}
 use Rattle.corr_core.specs.declared.marks.Kept.{Kept}
 use Rattle.corr_core.specs.declared.marks.Note.{Note}
-use Rattle.corr_core.specs.declared.marks.Note.TheVariants.{Ended}
+use Rattle.corr_core.specs.declared.marks.Note.TheVariants.{Made, Ended}
 use Rattle.corr_core.specs.declared.marks.Noted.{Noted}
 use Rattle.corr_core.specs.declared.marks.Plan.{Plan}
 use Rattle.corr_core.specs.declared.marks.View.{View}
-use Rattle.corr_core.proofs.Notes.{only-at}
+use Rattle.corr_core.proofs.Notes.{only-at, only-else}
 use Rattle.id_rule.specs.Lawful.{notes_of}
 use Rattle.sock_message.specs.Asked.{Asked}
 use Rattle.corr_id.specs.Calls.{FoundUpTo, is_saw, one, slot_of, version_of}
@@ -36,7 +37,8 @@ use Rattle.attempts_told.specs.call_whys.specs.expire_told.specs.call_deeds.spec
 use Rattle.attempts_told.specs.call_whys.specs.expire_told.specs.call_deeds.specs.rpc_reader.specs.Resting.{HadEnded, EndedLast, OneEnded, RestEnded}
 use Rattle.attempts_told.specs.call_whys.specs.expire_told.specs.call_run.specs.Readers.{LinkReader}
 use Rattle.attempts_told.specs.call_whys.specs.expire_told.specs.call_run.specs.Threads.{RanWith, MayRunAll, ids_of}
-use Rattle.attempts_told.specs.call_whys.specs.expire_told.specs.call_places.specs.Counted.{HaveNotesOf}
+use Rattle.attempts_told.specs.call_whys.specs.expire_told.specs.call_places.specs.Counted.{makes, HaveNotesOf}
+use Rattle.attempts_told.specs.call_whys.specs.expire_told.specs.call_places.proofs.Weights.{term, noted_at}
 use Rattle.attempts_told.specs.call_whys.specs.expire_told.specs.call_places.proofs.Ids.{IsIdOf, one_id}
 use Rattle.attempts_told.specs.call_whys.specs.expire_told.specs.call_places.proofs.Clients.{Client, view_of}
 use Rattle.attempts_told.specs.call_whys.specs.expire_told.specs.call_places.proofs.Places.{all as all_clients}
@@ -51,6 +53,10 @@ use Rattle.failed_told.proofs.Single.{made_once}
 -- notes with these more
 abbrev pub MoreNotes : List (Noted Asked) → List (Noted Asked) → Type 0
 MoreNotes ns ms = (j : ℕ) (f : Note Asked → ℕ) → total f (notes_of j ns) ≤ total f (notes_of j ms)
+
+-- the id of a call that is told to have ended so
+ended_id : (k id code : ℕ) → ends_of k (CallFailed id code) ≡ 1 → id ≡ k
+ended_id k id code is = dite (ℕ_discrete id k) (λ e. e) (λ n. absurd (let a = only-else k id n in omega (arith, a, is)))
 
 module _ (slots : ℕ) where
   -- what is told is the end of a call whose range ended behind these notes, among those ones; and none of these found a later range in its slot
@@ -138,10 +144,16 @@ module _ {O : Type 0} {g : Ghosts O} {state : O → OutState} {readers : List (L
     (notes : List (Noted Asked)) (kept : List Kept) (words : List ℕ) (closing : Closing (ids_of p slots) notes kept words) (noted : HaveNotesOf ids notes)
     -- the notes with which whoever ends what is left begins have those of each client
     (ns : List (Noted Asked)) (have : (c : ℕ) (x : Client g state p (ids_of p slots)) → get_elem? (all_clients run) c ≡ some x → MoreNotes (view_of x).notes ns) where
+  -- an id was made for the operation
+  pub some_made : (o id : ℕ) → IsIdOf slots notes o id → 0 < total (makes o) notes
+  some_made o id h =
+      let n = noted_at h.slot notes h.place (Made h.first h.range h.asked) h.made in
+      let a = term (makes o) notes n.0 _ n.1 in let b = only-at o h.asked.operation h.operation in omega (arith, a, b)
+
   -- so no client ended the range of the operation's call, or found a later one in its slot
-  pub over_last : (o : ℕ) (x : Told) (h : IsLast slots ns notes x) → IsIdOf slots notes o (h.slot * 4294967296 + h.first) → (slot first : ℕ) → slot < slots → first < 4294967296 → 0 < total (is_made_for first o) (notes_of slot notes)
+  pub over_last : (o id code : ℕ) (x : Told) (h : IsLast slots ns notes x) → x.outcome ≡ CallFailed id code → IsIdOf slots notes o id → (slot first : ℕ) → slot < slots → first < 4294967296 → 0 < total (is_made_for first o) (notes_of slot notes)
       → (c : ℕ) (y : Client g state p (ids_of p slots)) → get_elem? (all_clients run) c ≡ some y → (total (is_ended first) (notes_of slot (view_of y).notes) ≡ 0) × FoundUpTo slot first (view_of y)
-  over_last o x h its slot first inside low made c y at =
+  over_last o id code x h is its slot first inside low made c y at =
       subst (λ (i : ℕ). (total (is_ended first) (notes_of i (view_of y).notes) ≡ 0) × FoundUpTo i first (view_of y)) slot_is
       (subst (λ (f : ℕ). (total (is_ended f) (notes_of h.slot (view_of y).notes) ≡ 0) × FoundUpTo h.slot f (view_of y)) first_is
       ((let a = have c y at h.slot (is_ended h.first) in let b = h.noted in let once = closing.ended_once h.slot h.first h.inside in omega (arith, a, b, once)), λ w found. h.latest w (let a = have c y at h.slot (is_saw w) in omega (arith, a, found))))
@@ -150,7 +162,7 @@ module _ {O : Type 0} {g : Ghosts O} {state : O → OutState} {readers : List (L
       also = let m = made_for_there first o (notes_of slot notes) made in record { slot = slot; first = first; inside = inside; low = low; id_is = refl; range = m.0; asked = m.1; place = m.2; made = m.3; operation = m.4 }
 
       same : h.slot * 4294967296 + h.first ≡ slot * 4294967296 + first
-      same = one_id slots notes o (h.slot * 4294967296 + h.first) (slot * 4294967296 + first) (made_once run tasks may notes kept words closing noted o) its also
+      same = sym (ended_id (h.slot * 4294967296 + h.first) id code (sym (ap (ends_of (h.slot * 4294967296 + h.first)) is) ∙ h.is_end)) ∙ one_id slots notes o id (slot * 4294967296 + first) (made_once run tasks may notes kept words closing noted o) its also
 
       slot_is : h.slot ≡ slot
       slot_is = let a = same in let b = h.low in omega (arith, a, b, low)

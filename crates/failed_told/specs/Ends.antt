@@ -1,5 +1,5 @@
 -- By which link's end or fault a call failed that whoever read the links ended.
-use Rattle.std.specs.Prelude.{ℕ, ◌≡◌, ◌<◌, ◌⊎◌, true, List, slice_get, Option, Some, IfSome}
+use Rattle.std.specs.Prelude.{ℕ, ◌≡◌, ◌<◌, ◌≤◌, ◌⊎◌, true, List, length, slice_get, Option, Some, IfSome}
 use Rattle.sock_words.specs.Codes.{EEOF, ERESPONSE}
 use Rattle.sock_words.specs.declared.outcome.Outcome.{Outcome}
 use Rattle.sock_words.specs.declared.plain.Plan.{Plan}
@@ -8,12 +8,19 @@ use Rattle.sock_message.specs.brpc_model.specs.Link.{LinkEnd}
 use Rattle.attempts_told.specs.call_whys.specs.expire_told.specs.report_fits.specs.Ends.{EndsEarly}
 use Rattle.seat_programs.specs.declared.task.Task.{Task}
 use Rattle.sock_message.specs.brpc_model.specs.Frame.{Frame}
-use Rattle.seat_programs.specs.ToldCalls.{Fixed, Order, Gave, GaveFault, IsResponse, StandsOn, IsDropped, IsUnordered, IsFailing, WasFull, MayBeOn}
+use Rattle.seat_programs.specs.ToldCalls.{Fixed, Order, FoundNone, Gave, GaveFault, IsResponse, StandsOn, IsDropped, IsUnordered, IsFailing, WasFull, MayBeOn}
 
 module _ (p : Plan) (clients : List (List Task)) (outcomes : List (Option Outcome)) (fixed : Fixed) (gave : ℕ → List ℕ) (orders : ℕ → Order) where
   -- link k was failing, or it accepted this attempt, or no link did, and each request may have been found taken
   abbrev pub LostOn : ℕ → ℕ → ℕ → Type 0
   LostOn o n k = IsFailing p clients outcomes fixed gave orders k ⊎ (StandsOn p clients outcomes fixed gave orders o n k ⊎ (IsUnordered p clients outcomes fixed gave orders o n × WasFull p clients outcomes fixed gave orders))
+
+  -- where attempt n of the call that is operation o of this client went
+  pub data LeftAt (client o : ℕ) (asked : Asked) (n : ℕ) : Type 0 where
+    -- it may be on link k, which was failing, or accepted it; or no link did, and each request may have been found taken
+    on_link : (k : ℕ) → MayBeOn p clients outcomes fixed gave orders o n (name_of asked n) k → LostOn o n k → LeftAt client o asked n
+    -- a retry whose name had no socket, made by a client that had opened and found none, behind the call if it is its own
+    none_opened : 0 < n → (c m : ℕ) → 1 ≤ c → c < length clients → (c ≡ client → o < m) → FoundNone p clients outcomes fixed gave orders c m (name_of asked n) → LeftAt client o asked n
 
 module _ (p : Plan) (clients : List (List Task)) (outcomes : List (Option Outcome)) (fixed : Fixed) (gave : ℕ → List ℕ) (orders : ℕ → Order) (ends : List LinkEnd) where
   -- the reading of link k ended without a fault, as the link shows that was given back: its other end had closed it, as far as it tells that; or its reading ended early
@@ -37,12 +44,12 @@ module _ (p : Plan) (clients : List (List Task)) (outcomes : List (Option Outcom
   abbrev pub GaveNoResponse : Asked → ℕ → ℕ → Type 0
   GaveNoResponse asked id k = (m : ℕ) (frame : Frame) → Gave p clients outcomes fixed gave orders k m frame → IsResponse p clients outcomes fixed gave orders asked id frame → ⊥
 
-  -- How the call that is operation o, with this id and this last attempt, was ended with the code by whoever read the links: at a fault in what the link of the attempt gave, or as the reading of that link ended
+  -- How the call that is operation o of this client, with this id and this last attempt, was ended with the code by whoever read the links: at a fault in what the link of the attempt gave, or as the reading of that link ended
   -- otherwise, which had given no response of the call; or since the attempt's message was dropped for which the reader of the link had set the socket failed with the code of a fault, or of another end.
-  -- Or it was one of those that were left when no link was read any more, and no link gave a response of it, but one at whose fault the reading ended
-  pub data EndedByReading (o : ℕ) (asked : Asked) (id code last : ℕ) : Type 0 where
-    AtFault : code ≡ ERESPONSE → (k : ℕ) → MayBeOn p clients outcomes fixed gave orders o last (name_of asked last) k → GaveFault p clients outcomes fixed gave orders k → EndedByReading o asked id code last
-    AtEnd : code ≡ EEOF → (k : ℕ) → LostWith o last (name_of asked last) k → GaveNoResponse asked id k → EndedByReading o asked id code last
-    AtFaultDrop : code ≡ ERESPONSE → (k : ℕ) → DroppedWith o last (name_of asked last) k → GaveFault p clients outcomes fixed gave orders k → EndedByReading o asked id code last
-    AtEndDrop : code ≡ EEOF → (k : ℕ) → DroppedWith o last (name_of asked last) k → EndedByReading o asked id code last
-    LeftOver : code ≡ EEOF → ((k : ℕ) → k < p.links → GaveFault p clients outcomes fixed gave orders k ⊎ GaveNoResponse asked id k) → EndedByReading o asked id code last
+  -- Or it was one of those that were left when no link was read any more, and no link gave a response of it, but one at whose fault the reading ended; it is told where its last attempt went
+  pub data EndedByReading (client o : ℕ) (asked : Asked) (id code last : ℕ) : Type 0 where
+    AtFault : code ≡ ERESPONSE → (k : ℕ) → MayBeOn p clients outcomes fixed gave orders o last (name_of asked last) k → GaveFault p clients outcomes fixed gave orders k → EndedByReading client o asked id code last
+    AtEnd : code ≡ EEOF → (k : ℕ) → LostWith o last (name_of asked last) k → GaveNoResponse asked id k → EndedByReading client o asked id code last
+    AtFaultDrop : code ≡ ERESPONSE → (k : ℕ) → DroppedWith o last (name_of asked last) k → GaveFault p clients outcomes fixed gave orders k → EndedByReading client o asked id code last
+    AtEndDrop : code ≡ EEOF → (k : ℕ) → DroppedWith o last (name_of asked last) k → EndedByReading client o asked id code last
+    LeftOver : code ≡ EEOF → LeftAt p clients outcomes fixed gave orders client o asked last → ((k : ℕ) → k < p.links → GaveFault p clients outcomes fixed gave orders k ⊎ GaveNoResponse asked id k) → EndedByReading client o asked id code last

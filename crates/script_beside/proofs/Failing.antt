@@ -46,6 +46,8 @@ use Rattle.script_calls.specs.report_fits.specs.Ends.{EndsEarly}
 use Rattle.script_calls.specs.call_whys.specs.call_deeds.proofs.Runs.{seats_are, read_beside, early_with}
 use Rattle.script_calls.specs.call_whys.specs.call_places.proofs.Ids.{IsIdOf}
 use Rattle.script_calls.specs.call_whys.specs.call_places.proofs.Weights.{term, flat_total}
+use Rattle.script_calls.specs.call_whys.specs.call_places.proofs.Clients.{Client, view_of as ids_of}
+use Rattle.script_calls.specs.call_whys.specs.call_places.proofs.Places.{all as all_clients, views_are}
 use Rattle.script_calls.specs.call_whys.specs.call_told.specs.Answers.{IsGiven, AreGiven, IsOwn}
 use Rattle.script_calls.specs.call_whys.specs.call_told.proofs.Beside.{gave_is, early_given}
 use Rattle.script_calls.specs.call_whys.specs.call_told.proofs.Lists.{all_at}
@@ -58,7 +60,7 @@ use Rattle.script_calls.specs.call_whys.specs.sock_deeds.proofs.Orders.{orders}
 use Rattle.script_calls.specs.call_whys.specs.sock_deeds.proofs.Places.{place_there}
 use Rattle.script_calls.specs.call_whys.specs.sock_deeds.proofs.Whole.{log_accepted}
 use Rattle.script_calls.specs.attempts_told.specs.Attempts.{last_attempt}
-use Rattle.script_calls.specs.failed_told.specs.Ends.{ReadingEnded, GaveNoResponse, EndedByReading, AtFault, AtEnd, AtFaultDrop, AtEndDrop, LeftOver}
+use Rattle.script_calls.specs.failed_told.specs.Ends.{ReadingEnded, GaveNoResponse, EndedByReading, AtFault, AtEnd, AtFaultDrop, AtEndDrop, LeftOver, LeftAt}
 use Rattle.script_calls.specs.failed_told.proofs.Again.{again_with}
 use Rattle.script_calls.specs.failed_told.proofs.Alone.{NoResponse, told_alone, waits_alone}
 use Rattle.script_calls.specs.failed_told.proofs.ByLinks.{IsPosted, LockOf, told_why, by_reader}
@@ -66,6 +68,8 @@ use Rattle.script_calls.specs.failed_told.proofs.Codes.{IsReadCode}
 use Rattle.script_calls.specs.failed_told.proofs.DropsTold.{drops_with, expires_with}
 use Rattle.script_calls.specs.failed_told.proofs.Ended.{TellsDrops, ends_with}
 use Rattle.script_calls.specs.failed_told.proofs.Ends.{ReadEnded, reader_read, reader_posts, ToldBy, reader_tells}
+use Rattle.script_calls.specs.failed_told.proofs.Left.{left_at}
+use Rattle.script_calls.specs.failed_told.proofs.LeftOver.{MoreNotes, IsLast, rest_last, some_made, over_last}
 use Rattle.script_calls.specs.failed_told.proofs.LinkEnds.{EndedHere, DroppedHere, QueuedHere, told_on}
 use Rattle.script_calls.specs.failed_told.proofs.Posts.{IsPost, rest_stays}
 use Rattle.script_calls.specs.failed_told.proofs.Premises.{asked_so}
@@ -98,7 +102,7 @@ use Rattle.script_beside.proofs.Left.{all_seats, early_of, notes_of}
 use Rattle.script_beside.proofs.Attempts as attempts
 use Rattle.script_beside.proofs.Sockets as sockets
 use Rattle.script_beside.proofs.Telling as telling
-use Rattle.script_beside.proofs.WideCalls.{failure_still, again_still, expire_still}
+use Rattle.script_beside.proofs.WideCalls.{failure_still, left_still, again_still, expire_still}
 
 -- what stands in a list stands in a longer one, and in the lists put one behind the other
 in_front : {A : Type 0} (xs ys : List A) (n : ℕ) (x : A) → get_elem? xs n ≡ some x → get_elem? (xs ++ ys) n ≡ some x
@@ -272,11 +276,11 @@ module _ (P : Type 0) {O I : Type 0} (g : Ghosts O) (out : O → OutState) (inn 
     abbrev orders_here : ℕ → Order
     orders_here = orders drun (sockets.differ P g out inn bytes script reads text links r)
 
-    abbrev WhyRead : ℕ → Asked → ℕ → ℕ → ℕ → Type 0
-    WhyRead number asked id code n = EndedByReading (plan_of script) all outcomes fixed_here gave orders_here links number asked id code n
+    abbrev WhyRead : ℕ → ℕ → Asked → ℕ → ℕ → ℕ → Type 0
+    WhyRead client number asked id code n = EndedByReading (plan_of script) all outcomes fixed_here gave orders_here links client number asked id code n
 
     abbrev FailedHere : ℕ → ℕ → Asked → ℕ → ℕ → Type 0
-    FailedHere client number asked id code = FailedBy p all outcomes fixed_here gave orders_here client number asked id code (last_attempt notes number) ⊎ WhyRead number asked id code (last_attempt notes number)
+    FailedHere client number asked id code = FailedBy p all outcomes fixed_here gave orders_here client number asked id code (last_attempt notes number) ⊎ WhyRead client number asked id code (last_attempt notes number)
 
     seats : map seat_of drun.seats ≡ map (λ (x : Thread g). x.ended.seat) (r.left.ran.ran.main ∷ r.left.ran.ran.others)
     seats = seats_are r.left.ran outcomes (sockets.are P g out inn bytes script reads text links r) (sockets.may P g out inn bytes script reads text links r) (sockets.linked P g out inn bytes script reads text links r) (sockets.long P g out inn bytes script reads text links r) (sockets.reports P g out inn bytes script reads text links r)
@@ -389,7 +393,7 @@ module _ (P : Type 0) {O I : Type 0} (g : Ghosts O) (out : O → OutState) (inn 
             }
 
     -- in the words of what is told
-    on_link : (client number : ℕ) (asked : Asked) → IsOperation all outcomes client number (ops.Call asked) → (id code : ℕ) → EndedLink number asked id code → WhyRead number asked id code (last_attempt notes number)
+    on_link : (client number : ℕ) (asked : Asked) → IsOperation all outcomes client number (ops.Call asked) → (id code : ℕ) → EndedLink number asked id code → WhyRead client number asked id code (last_attempt notes number)
     on_link client number asked call id code h = elim h.read [
       | inl f ↦ AtFault f.0 h.link h.on f.1
       | inr e ↦ AtEnd e.0 h.link (record { on = h.on; ended = e.1; lost = h.lost }) (gave_none number id h.its client asked call h.link
@@ -424,8 +428,8 @@ module _ (P : Type 0) {O I : Type 0} (g : Ghosts O) (out : O → OutState) (inn 
           | inr end ↦ absurd (let e = end.0 in omega (arith, e))
         ]
 
-    on_drop : (number : ℕ) (asked : Asked) (id code : ℕ) → IsReadCode code → DroppedLink number asked code → WhyRead number asked id code (last_attempt notes number)
-    on_drop number asked id code read h = elim read [
+    on_drop : (client number : ℕ) (asked : Asked) (id code : ℕ) → IsReadCode code → DroppedLink number asked code → WhyRead client number asked id code (last_attempt notes number)
+    on_drop client number asked id code read h = elim read [
       | inl e ↦ AtEndDrop e h.link (record { on = h.on; dropped = h.dropped; failing = h.failing; ended = ended_early h.link h.early })
       | inr e ↦ AtFaultDrop e h.link (record { on = h.on; dropped = h.dropped; failing = h.failing; ended = ended_early h.link h.early }) (drop_fault h.link (subst (StoredByReader drun h.link) e h.by))
     ]
@@ -450,12 +454,12 @@ module _ (P : Type 0) {O I : Type 0} (g : Ghosts O) (out : O → OutState) (inn 
           | inr read ↦ inr (by_link own (subst IsReadCode same.1 read))
         ])
       where
-        by_link : IsOperation all outcomes client x.number (ops.Call asked) → IsReadCode code → WhyRead x.number asked id code (last_attempt notes x.number)
+        by_link : IsOperation all outcomes client x.number (ops.Call asked) → IsReadCode code → WhyRead client x.number asked id code (last_attempt notes x.number)
         by_link own read = elim (told_on r.left.ran (sockets.are P g out inn bytes script reads text links r) (sockets.may P g out inn bytes script reads text links r) notes last.kept r.rest.words r.rest.closing (sockets.have P g out inn bytes script reads text links r) (telling.keeps P g out inn bytes script reads text links r) outcomes
             (sockets.reports P g out inn bytes script reads text links r).said (telling.said_ended P g out inn bytes script reads text links r) (attempts.later P g out inn bytes script reads text links r) (attempts.are_ids P g out inn bytes script reads text links r).made drun seats refl (sockets.differ P g out inn bytes script reads text links r) gave (sockets.low P g out inn bytes script reads text links r) few_slots few_links bounds Reads Alone read_code queued_so
             c i ts x at there id code outcome (λ slot first e low. ended_by c i ts x at there id code outcome slot first e low) read client asked own) [
               | inl h ↦ on_link client x.number asked own id code h
-              | inr h ↦ on_drop x.number asked id code read h
+              | inr h ↦ on_drop client x.number asked id code read h
             ]
 
     -- what is given by one of the links is given
@@ -523,13 +527,34 @@ module _ (P : Type 0) {O I : Type 0} (g : Ghosts O) (out : O → OutState) (inn 
     rest_id : (o id : ℕ) (l : RestLock o) → id_of l.slot l.word ≡ id → IsIdOf slots notes o id
     rest_id o id l same = record { slot = l.slot; first = l.word.first; inside = l.inside; low = l.known; id_is = sym same; range = l.word.range; asked = l.call; place = l.place; made = l.made; operation = l.number }
 
-    of_rest : (i : ℕ) (x : Told) → get_elem? r.last i ≡ some x → (client : ℕ) (asked : Asked) → IsOperation all outcomes client x.number (ops.Call asked) → (id code : ℕ) → x.outcome ≡ CallFailed id code → FailedHere client x.number asked id code
-    of_rest i x there client asked call id code outcome =
+    -- whoever ends what is left begins with the notes of each client
+    main_notes : (c : ℕ) (x : Client g out p q) → get_elem? (all_clients r.left.ran) c ≡ some x → MoreNotes (ids_of x).notes main.view.notes
+    main_notes c x at slot f =
+        let h : View Asked → ℕ = λ v. total f (notes_in slot v.notes) in let views : List (View Asked) = map (λ (y : LinkReader g). y.ids.me.0) readers in
+        let a = term h own_ids c (ids_of x) (ap (λ (l : List (View Asked)). get_elem? l c) (sym (views_are r.left.ran)) ∙ mapped_at ids_of (all_clients r.left.ran) c x at) in
+        let b = total_append h own_ids views in let d = notes_flat slot f (own_ids ++ views) in let e = ap (λ (l : List (Noted Asked)). total f (notes_in slot l)) notes_are in omega (arith, a, b, d, e)
+
+    -- what it told are ends of ranges that had not ended, of which none was the earlier one of its slot
+    rest_lasts : AllByRecursion (IsLast q.slots main.view.notes notes) r.last
+    rest_lasts = let t = rest_last q.slots q refl EEOF (calls script) main r.rest.last r.rest.rest in subst (AllByRecursion (IsLast q.slots main.view.notes notes)) (sym (r.rest.told_is ∙ t.told)) t.each
+
+    -- where the last attempt of its call went
+    left_here : (i : ℕ) (x : Told) → get_elem? r.last i ≡ some x → (client : ℕ) (asked : Asked) → IsOperation all outcomes client x.number (ops.Call asked) → (id code : ℕ) → x.outcome ≡ CallFailed id code → Became all outcomes x.number (CallFailed id code) → IsIdOf slots notes x.number id
+        → LeftAt (plan_of script) all outcomes fixed_here gave orders_here client x.number asked (last_attempt notes x.number)
+    left_here i x there client asked call id code outcome became its = left_still (plan_of script) p.seats all outcomes fixed_here gave orders_here client x.number asked (last_attempt notes x.number)
+        (left_at r.left.ran (sockets.are P g out inn bytes script reads text links r) (sockets.may P g out inn bytes script reads text links r) notes last.kept r.rest.words r.rest.closing (sockets.have P g out inn bytes script reads text links r) outcomes
+        (sockets.reports P g out inn bytes script reads text links r).said (attempts.later P g out inn bytes script reads text links r) (attempts.own P g out inn bytes script reads text links r) drun seats refl (sockets.differ P g out inn bytes script reads text links r) gave client x.number asked call id code became
+        (over_last r.left.ran (sockets.are P g out inn bytes script reads text links r) (sockets.may P g out inn bytes script reads text links r) notes last.kept r.rest.words r.rest.closing (sockets.have P g out inn bytes script reads text links r) main.view.notes main_notes x.number id code x
+        (all_at (IsLast q.slots main.view.notes notes) r.last i x rest_lasts there) outcome its)
+        (some_made r.left.ran (sockets.are P g out inn bytes script reads text links r) (sockets.may P g out inn bytes script reads text links r) notes last.kept r.rest.words r.rest.closing (sockets.have P g out inn bytes script reads text links r) main.view.notes main_notes x.number id its))
+
+    of_rest : (i : ℕ) (x : Told) → get_elem? r.last i ≡ some x → (client : ℕ) (asked : Asked) → IsOperation all outcomes client x.number (ops.Call asked) → (id code : ℕ) → x.outcome ≡ CallFailed id code → Became all outcomes x.number (CallFailed id code) → FailedHere client x.number asked id code
+    of_rest i x there client asked call id code outcome became =
         elim (told_why r.left.ran (sockets.are P g out inn bytes script reads text links r) (sockets.may P g out inn bytes script reads text links r) notes last.kept r.rest.words r.rest.closing (sockets.have P g out inn bytes script reads text links r) (telling.keeps P g out inn bytes script reads text links r) outcomes
         drun seats refl (sockets.differ P g out inn bytes script reads text links r) gave (log_accepted drun (sockets.differ P g out inn bytes script reads text links r) (λ k. [])) few_slots few_links (asked_so r.left.ran (sockets.are P g out inn bytes script reads text links r) (sockets.may P g out inn bytes script reads text links r) notes last.kept r.rest.words r.rest.closing (sockets.have P g out inn bytes script reads text links r) outcomes (attempts.later P g out inn bytes script reads text links r)) Reads Alone
         (length readers) few_readers (attempts.are_ids P g out inn bytes script reads text links r).made EEOF LowFirst last (λ slot f. omega arith) x (all_at (ToldEnd q (length readers) gave EEOF LowFirst last) r.last i x rest_told there) id code outcome client asked call (last_attempt notes x.number)) [
           | inl f ↦ inl f
-          | inr l ↦ inr (LeftOver (sym l.0) (rest_gave i x there client asked call id (outcome ∙ ap (CallFailed id) (sym l.0)) (rest_id x.number id l.1 l.2)))
+          | inr l ↦ inr (LeftOver (sym l.0) (left_here i x there client asked call id code outcome became (rest_id x.number id l.1 l.2)) (rest_gave i x there client asked call id (outcome ∙ ap (CallFailed id) (sym l.0)) (rest_id x.number id l.1 l.2)))
         ]
 
     failed_here : (client id code : ℕ) (t : Task) (asked : Asked) → IsTask all outcomes client t → t.op ≡ ops.Call asked → Became all outcomes t.number (CallFailed id code) → FailedHere client t.number asked id code
@@ -556,13 +581,13 @@ module _ (P : Type 0) {O I : Type 0} (g : Ghosts O) (out : O → OutState) (inn 
             | inl at ↦ of_client over.0 j ts x at there client t.number asked call id code number outcome
             | inr at ↦ subst (λ (m : ℕ). FailedHere client m asked id code) number (of_reader at.0 j ts x at.1 there client asked (its_call x number) id code outcome)
           ]
-          | inr at ↦ subst (λ (m : ℕ). FailedHere client m asked id code) number (of_rest j x (ap (λ (l : List Told). get_elem? l j) (only_one r.last at.0 ts at.1) ∙ there) client asked (its_call x number) id code outcome)
+          | inr at ↦ subst (λ (m : ℕ). FailedHere client m asked id code) number (of_rest j x (ap (λ (l : List Told). get_elem? l j) (only_one r.last at.0 ts at.1) ∙ there) client asked (its_call x number) id code outcome (subst (λ (m : ℕ). Became all outcomes m (CallFailed id code)) (sym number) became))
         ]
 
     -- ### Over the tables without the readers' seats
 
     pub failed : (client id code : ℕ) (t : Task) (asked : Asked) → IsTask all outcomes client t → t.op ≡ ops.Call asked → Became all outcomes t.number (CallFailed id code)
-        → FailedBy (plan_of script) all outcomes (sockets.fixed P g out inn bytes script reads text links r) gave (orders drun (sockets.differ P g out inn bytes script reads text links r)) client t.number asked id code (last_attempt notes t.number) ⊎ WhyRead t.number asked id code (last_attempt notes t.number)
+        → FailedBy (plan_of script) all outcomes (sockets.fixed P g out inn bytes script reads text links r) gave (orders drun (sockets.differ P g out inn bytes script reads text links r)) client t.number asked id code (last_attempt notes t.number) ⊎ WhyRead client t.number asked id code (last_attempt notes t.number)
     failed client id code t asked is op became = elim (failed_here client id code t asked is op became) [
       | inl f ↦ inl (failure_still (plan_of script) p.seats all outcomes (sockets.fixed P g out inn bytes script reads text links r) gave (orders drun (sockets.differ P g out inn bytes script reads text links r)) client t.number asked id code (last_attempt notes t.number) f)
       | inr read ↦ inr read

@@ -37,7 +37,7 @@ pub record IsReported (script : List Item) (text : List ℕ) (outcomes : List (O
 pub record AreCallsTold (p : Plan) (clients : List (List Task)) (outcomes : List (Option Outcome)) (fixed : Fixed) (gave : ℕ → List ℕ) (orders : ℕ → Order) (last : ℕ → ℕ) (ends : List LinkEnd) : Type 0 where
   pub expires : (client of : ℕ) (t : Task) (by : Outcome) → IsTask clients outcomes client t → t.op ≡ ops.Expire of → Became clients outcomes t.number by → WhyExpire p clients outcomes fixed gave orders last client t.number of by
   pub expired_once : (c d of : ℕ) (t u : Task) → IsTask clients outcomes c t → IsTask clients outcomes d u → t.op ≡ ops.Expire of → u.op ≡ ops.Expire of → Became clients outcomes t.number Expired → Became clients outcomes u.number Expired → t.number ≡ u.number
-  pub failed : (client id code : ℕ) (t : Task) (asked : Asked) → IsTask clients outcomes client t → t.op ≡ ops.Call asked → Became clients outcomes t.number (CallFailed id code) → FailedBy p clients outcomes fixed gave orders client t.number asked id code (last t.number) ⊎ EndedByReading p clients outcomes fixed gave orders ends t.number asked id code (last t.number)
+  pub failed : (client id code : ℕ) (t : Task) (asked : Asked) → IsTask clients outcomes client t → t.op ≡ ops.Call asked → Became clients outcomes t.number (CallFailed id code) → FailedBy p clients outcomes fixed gave orders client t.number asked id code (last t.number) ⊎ EndedByReading p clients outcomes fixed gave orders ends client t.number asked id code (last t.number)
   pub again : (client : ℕ) (t : Task) (asked : Asked) → IsTask clients outcomes client t → t.op ≡ ops.Call asked → (n : ℕ) → n < last t.number → WhyAgain p clients outcomes fixed gave orders client t.number n (name_of asked n)
   -- no two calls have a version in common
   pub versions : (c d : ℕ) (t u : Task) (a b : Asked) (x y : Outcome) (i j : ℕ) → IsTask clients outcomes c t → IsTask clients outcomes d u → t.op ≡ ops.Call a → u.op ≡ ops.Call b → Became clients outcomes t.number x → Became clients outcomes u.number y
