@@ -62,7 +62,7 @@ use Rattle.calls_over.proofs.OpensNamed.{IsEarly, stored_early}
 use Rattle.calls_over.proofs.OpensOwed.{IsRead, open_read}
 use Rattle.calls_over.proofs.OpensQuiet.{has_server, unfailed, none_thrown}
 use Rattle.calls_over.proofs.OpensRequest.{own_told, IsAttempt, attempt_of, taken, taken_so, request_there}
-use Rattle.calls_over.proofs.OpensStill.{both, unlocked}
+use Rattle.served_fits.specs.send_causes.proofs.Standing.{both, unlocked}
 use Rattle.calls_over.proofs.SoonWords.{live_room}
 
 -- ## At words

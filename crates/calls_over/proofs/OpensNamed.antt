@@ -40,7 +40,7 @@ use Rattle.owed_calls.specs.Lives.{ClosesInRun}
 use Rattle.owed_calls.specs.Sound.{at_of}
 use Rattle.served_fits.specs.send_causes.proofs.Early.{start, go, fitting}
 use Rattle.served_fits.specs.send_causes.proofs.Sends.{narrow, opening_claims}
-use Rattle.calls_over.proofs.OpensStill.{both}
+use Rattle.served_fits.specs.send_causes.proofs.Standing.{both}
 
 -- what is known of an at word that was stored before the ending
 pub record IsEarly (script : List Item) (turns : List Turn) (core : Core) (is : IsRunWithCalls script turns core) (o w : ℕ) : Type 0 where
