@@ -46,7 +46,7 @@ use Rattle.served_fits.specs.call_causes.specs.Lists.{given, shows_in, times, ad
 use Rattle.served_fits.specs.call_causes.proofs.Posted.{run_few_attempts}
 use Rattle.served_fits.specs.send_causes.proofs.Assembled.{fixed_in_run}
 use Rattle.served_fits.specs.send_causes.proofs.AttemptedRuns.{Counted, played_counted, times_append}
-use Rattle.served_fits.specs.send_causes.proofs.AttemptedSent.{get_same}
+use Rattle.served_fits.specs.send_causes.proofs.DropWhole.{get_same}
 use Rattle.served_fits.specs.send_causes.proofs.AttemptedStored.{ids_at, stored_run}
 use Rattle.served_fits.specs.send_causes.proofs.ClosedLostTicks.{word_link, word_attempt}
 use Rattle.served_fits.specs.send_causes.proofs.Early.{start, go, fitting, known}

@@ -4,7 +4,6 @@ use Rattle.std.specs.List.{AllByRecursion}
 use Rattle.std.specs.Prelude.{IsTrue, Contains}
 use mathlib.Core.Option.{some}
 use lib.ListN.{get_elem?}
-use Rattle.sock_words.specs.declared.plain.Plan.{Plan}
 use Rattle.sock_model.specs.declared.view.View.{View}
 use Rattle.sock_model.specs.Links.{Failed}
 use Rattle.brpc_model.specs.Causes.{HasFault, reading_limit}
@@ -34,7 +33,7 @@ use Rattle.seat_programs.specs.Programs.{Rest, Round}
 use Rattle.seat_programs.specs.Readers.{LIMIT, reader}
 use Rattle.seat_programs.specs.Scripts.{Reports, all_tasks, opened, set_up, played, IsRunWithCalls}
 use Rattle.seat_programs.specs.Tasks.{opens, calls, numbered, plan_of, id_plan_of}
-use Rattle.seat_programs.specs.Ticks.{Moment, quiet, broken_in, ticked}
+use Rattle.seat_programs.specs.Ticks.{Moment, quiet, broken_in}
 use Rattle.seat_programs.specs.Told.{IsTask, IsFail, Made}
 use Rattle.seat_programs.specs.ToldCalls.{Order, Fixed, ToldCalls}
 use Rattle.sock_runs.specs.Sound.{state}
@@ -60,7 +59,7 @@ use Rattle.served_fits.specs.call_causes.specs.Scenes.{LeadsTo}
 use Rattle.served_fits.specs.send_causes.proofs.AttemptedStored.{played_leads}
 use Rattle.served_fits.specs.send_causes.proofs.Early.{start, go, fitting, closed_early}
 use Rattle.served_fits.specs.send_causes.proofs.Faults.{Faults, fault_stays}
-use Rattle.served_fits.specs.send_causes.proofs.Sends.{owed}
+use Rattle.served_fits.specs.send_causes.proofs.Sends.{owed, lost_so}
 use Rattle.outcome_causes.proofs.Scripts.{run_tells, failed_early}
 use Rattle.served_fits.specs.served_runs.specs.Offered.{OffersInRun}
 use Rattle.served_fits.specs.served_runs.specs.Served.{IsForCalls}
@@ -75,14 +74,6 @@ use Rattle.served_fits.specs.served_sizes.proofs.Few as sizes
 use Rattle.calls_over.proofs.OpensEntered.{rested_sound}
 use Rattle.calls_over.proofs.OpensOwed.{NoneThrown}
 use Rattle.calls_over.proofs.Soon.{named_shape, no_end, no_stray}
-
--- a link that was lost in some ticks answered that it failed, or its socket was closed
-lost_so : (p : Plan) (c : Core) (ms : List Moment) (k : ℕ) → In k (lost_in p c ms) → In k (broken_in p c ms) ⊎ In k (shown_in closed_at p c ms)
-lost_so p c [] k m = absurd m
-lost_so p c (x ∷ xs) k m = ⊎_elim
-    (λ a. ⊎_elim (λ b. inl (in_left _ (broken_in p (ticked p c x) xs) k b)) (λ b. inr (in_left (closed_at c x) (shown_in closed_at p (ticked p c x) xs) k b)) (in_both _ (closed_at c x) k a))
-    (λ a. ⊎_elim (λ b. inl (in_right _ (broken_in p (ticked p c x) xs) k b)) (λ b. inr (in_right (closed_at c x) (shown_in closed_at p (ticked p c x) xs) k b)) (lost_so p (ticked p c x) xs k a))
-    (in_both _ (lost_in p (ticked p c x) xs) k m)
 
 module _ (bytes : List ℕ) (script : List Item) (reads : script_of bytes ≡ Ok script) (short : length bytes ≤ 1048576) (turns : List Turn) (core : Core) (is : IsRunWithCalls script turns core) (closes : ClosesInRun script turns core is) (offers : OffersInRun script turns core is) (fixed : Fixed)
     (orders : ℕ → Order) (tells : ToldCalls (plan_of script) (all_tasks script) core.outcomes fixed (given core) orders core) (report : Report) (took : List (List ℕ)) (ends : List LinkEnd)

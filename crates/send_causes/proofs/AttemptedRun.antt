@@ -36,15 +36,13 @@ use Rattle.send_causes.proofs.Runs.{AreLabelledIn, IsCallOf, end_law}
 use Rattle.send_causes.proofs.Sends.{owed, orders_of_run, narrow, opening_claims}
 use Rattle.send_causes.proofs.AttemptedIds.{AreRisingIn}
 use Rattle.send_causes.proofs.AttemptedCalls.{AreStored}
-use Rattle.send_causes.proofs.AttemptedSent.{IsNamedOn, get_same, run_attempted}
+use Rattle.send_causes.proofs.AttemptedSent.{IsNamedOn, run_attempted}
+use Rattle.send_causes.proofs.DropWhole.{get_same}
 use Rattle.send_causes.proofs.EndedNamed.{tasks_are, end_named}
 use Rattle.send_causes.proofs.EndedLives.{all_named}
 use Rattle.send_causes.proofs.AttemptedStored.{ids_at, stored_run, words_stored}
 use Rattle.sock_runs.proofs.LinkTicks.{RetriesGo}
-
-all_on : {A : Type 0} (P Q : A → Type 0) → ((x : A) → P x → Q x) → (xs : List A) → AllByRecursion P xs → AllByRecursion Q xs
-all_on P Q f [] a = tt
-all_on P Q f (x ∷ xs) a = (f x a.0, all_on P Q f xs a.1)
+use Rattle.report_fits.proofs.Lists.{all_map}
 
 module _ (script : List Item) (made : AreMade script) (there : AreThere script) (range : AllByRecursion InRange script) (turns : List Turn) (core : Core) (is : IsRunWithCalls script turns core) (closes : ClosesInRun script turns core is)
     (ids : ℕ → ℕ) (labelled : AreLabelledIn ids script turns core is) where
@@ -75,7 +73,7 @@ module _ (script : List Item) (made : AreMade script) (there : AreThere script) 
       let law = end_law script made.are vs begins goes turns core is fits n bare ids labelled in
       let sound = ended_sound script made.are vs begins goes turns core is fits in let rests = end_rests script made.are vs begins goes turns core is fits (owed script made turns core is closes) in
       let tasks = tasks_are script made.are vs begins goes turns core is fits n bare ids labelled in
-      all_on (λ (a : Accepted). IsSpoken (told_tasks_of script) a.operation → (asked : Asked) × IsCallOf script asked × (asked.operation ≡ a.operation) × (slot version : ℕ) × Made (told_tasks_of script) core.outcomes (name_of asked a.attempt) k slot version)
+      all_map (λ (a : Accepted). IsSpoken (told_tasks_of script) a.operation → (asked : Asked) × IsCallOf script asked × (asked.operation ≡ a.operation) × (slot version : ℕ) × Made (told_tasks_of script) core.outcomes (name_of asked a.attempt) k slot version)
       (λ (a : Accepted). IsSpoken (told_tasks_of script) a.operation → IsNamedOn script core k a)
       (λ a has spoken c t asked it number op. let x = has spoken in let same = one_asked x.0 asked x.1 c t it op (x.2 ∙ sym number) in
       (x.3, x.4, made_up (all_tasks script) (length (opens script)) core.outcomes (name_of asked a.attempt) k x.3 x.4 (subst (λ (z : Asked). Made (told_tasks_of script) core.outcomes (name_of z a.attempt) k x.3 x.4) same x.5)))

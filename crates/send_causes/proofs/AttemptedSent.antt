@@ -1,8 +1,7 @@
 -- Each message that a link accepted is that of a `send` of which nothing is said, or of an attempt that was made of a call with an id.
-use Rattle.std.proofs.Common.{◌≡◌, ◌≢◌, ℕ, zero, suc, ◌+◌, ◌<◌, ◌≤◌, ◌⊎◌, inl, inr, ⊎_elim, Bool, true, false, cond, eqb, eq-eqb, ne_eqb, List, [], ◌∷◌, length, refl, sym, ap, ◌∙◌, subst, arith}
-use Rattle.std.specs.Prelude.{Some, slice_get}
+use Rattle.std.proofs.Common.{◌≡◌, ◌≢◌, ℕ, ◌+◌, ◌<◌, ◌≤◌, ◌⊎◌, inl, inr, ⊎_elim, true, false, cond, ne_eqb, List, [], ◌∷◌, length, sym, ap, ◌∙◌, subst, arith}
 use Rattle.std.specs.List.{AllByRecursion}
-use mathlib.Core.Option.{some, some-injective, some-ne-none}
+use mathlib.Core.Option.{some}
 use lib.ListN.{get_elem?}
 use Rattle.sock_words.specs.declared.plain.Plan.{Plan}
 use Rattle.sock_model.specs.declared.chain.Entry.{Entry}
@@ -51,13 +50,14 @@ use Rattle.send_causes.proofs.AttemptedIds.{AreRisingIn}
 use Rattle.send_causes.proofs.AttemptedRuns.{IsWithin, end_counted}
 use Rattle.send_causes.proofs.AttemptedCalls.{AreStored, single, shows}
 use Rattle.sock_runs.proofs.LinkTicks.{RetriesGo}
+use Rattle.send_causes.proofs.DropWhole.{get_same}
+use Rattle.send_causes.proofs.OwnDecisionsTicks.{pair_self}
+use Rattle.sock_runs.proofs.Recorded.{either_bool}
 
 -- ## Accepted messages
 
 module _ (p : Plan) (q : IdPlan) (is_call : Asked → Type 0) (ids : ℕ → ℕ) (clients : List (List Task)) (are : AreTasks p clients) (c : Core) (vs : List View) (es : List Event) (lost : List ℕ) (sound : Sound p c vs) (story : Story p clients true c vs es lost) (settled : AllRest c)
     (ts : List Trial) (law : LabelLaw is_call ids p q c vs ts) (P : ℕ → ℕ → Type 0) (stands : (id n : ℕ) → 0 < times_of id n c vs ts → P id n) where
-  pair_self : (id n : ℕ) → pair_of id n id n ≡ 1
-  pair_self id n = ap (λ b. cond b (cond (eqb n n) 1 0) 0) (eq-eqb id id refl) ∙ ap (λ b. cond b 1 0) (eq-eqb n n refl)
 
   own_heading : (w : Heading) → w.owner ≢ 0 → of_heading w.owner w.attempt w ≡ 1
   own_heading w some_ = ap (λ z. cond z 0 (pair_of w.owner w.attempt w.owner w.attempt)) (ne_eqb w.owner 0 some_) ∙ pair_self w.owner w.attempt
@@ -71,10 +71,6 @@ module _ (p : Plan) (q : IdPlan) (is_call : Asked → Type 0) (ids : ℕ → ℕ
       let view = term_le (of_view e.heading.owner e.heading.attempt) vs i h.view h.here in
       stands e.heading.owner e.heading.attempt (omega (arith, one, here, listed, view))
 
-  either_bool : (b : Bool) → (b ≡ true) ⊎ (b ≡ false)
-  either_bool true = inl refl
-  either_bool false = inr refl
-
   -- so of each message of a call
   pub all_stand : (k : ℕ) → AllByRecursion (λ (a : Accepted). IsSpoken clients a.operation → (ids a.operation ≢ 0) × P (ids a.operation) a.attempt) (orders_of p c vs sound.lawful k).accepted
   all_stand k = all_sent p c vs sound.lawful (each_made p clients are true c vs es lost sound story settled) (λ (a : Accepted). IsSpoken clients a.operation → (ids a.operation ≢ 0) × P (ids a.operation) a.attempt) k
@@ -84,11 +80,6 @@ module _ (p : Plan) (q : IdPlan) (is_call : Asked → Type 0) (ids : ℕ → ℕ
       (either_bool (is_of_send e)))
 
 -- ## Lists
-
-pub get_same : {A : Type 0} (xs : List A) (i : ℕ) (x : A) → get_elem? xs i ≡ some x → slice_get xs i ≡ Some x
-get_same [] i x e = absurd (some-ne-none x (sym e))
-get_same (y ∷ xs) zero x e = ap (λ z. Some z) (some-injective y x e)
-get_same (y ∷ xs) (suc i) x e = get_same xs i x e
 
 four : {A : Type 0} (P Q R S T : A → Type 0) → ((x : A) → P x → Q x → R x → S x → T x) → (xs : List A) → AllByRecursion P xs → AllByRecursion Q xs → AllByRecursion R xs → AllByRecursion S xs → AllByRecursion T xs
 four P Q R S T f [] a b c d = tt

@@ -56,7 +56,7 @@ use Rattle.send_causes.proofs.EndedAttempts.{IsAttemptOn, ending, of_load, only_
 use Rattle.send_causes.proofs.EndedOnce.{run_stored_once}
 use Rattle.send_causes.proofs.LateEnding.{ended_past}
 use Rattle.send_causes.proofs.LateLives.{Lives, lives_ticks}
-use Rattle.send_causes.proofs.LateRests.{others_along}
+use Rattle.send_causes.proofs.LateRests.{others_along, Any, NoOld}
 use Rattle.send_causes.proofs.RefusedClosing.{OnSockets, alone, set_first}
 use Rattle.send_causes.proofs.RefusedClosing as closing
 use Rattle.send_causes.proofs.RefusedMeans.{IsSo, run_keeps}
@@ -96,13 +96,6 @@ module _ (o n : ℕ) where
       by : IsThere xs ⊎ (IsThere xs → ⊥) → (Unit {0} → x.operation ≡ o → x.attempt ≡ n → ⊥) → IsThere (x ∷ xs) ⊎ (IsThere (x ∷ xs) → ⊥)
       by (inl t) no_ = inl (later t)
       by (inr none_) no_ = inr (none_here no_ none_)
-
--- of any link
-abbrev Any : ℕ → Type 0
-Any k = Unit {0}
-
-abbrev NoOld : ℕ → ℕ → Type 0
-NoOld i h = ⊥
 
 -- each life that isn't past has a link that became a socket's
 lives_along : (p : Plan) (base : Core) (L : ℕ → Type 0) → RetriesGo p → (ms : List Moment) (c : Core) (vs : List View) → Sound p c vs → AreAnswered p c ms → AreFitting p c ms → ((k : ℕ) → In k (shown_in born_at p c ms) → L k) → Lives p base L c vs

@@ -1,5 +1,5 @@
 -- A reader's post is for an attempt that went to its link: the at word that it loaded tells the attempt of an operation's call, over the link of a life of the attempt's name.
-use Rattle.std.proofs.Common.{◌≡◌, ◌≢◌, ℕ, ◌+◌, ◌-◌, ◌*◌, ◌/◌, ◌%◌, ◌<◌, ◌≤◌, ◌⊎◌, inl, inr, ⊎_elim, true, false, List, [], ◌∷◌, ◌++◌, length, replicate, Ok, refl, sym, ap, ◌∙◌, subst, arith}
+use Rattle.std.proofs.Common.{◌≡◌, ◌≢◌, ℕ, ◌+◌, ◌-◌, ◌<◌, ◌≤◌, ◌⊎◌, inl, inr, ⊎_elim, true, false, List, [], ◌∷◌, ◌++◌, length, replicate, Ok, refl, sym, ap, ◌∙◌, subst, arith}
 use Rattle.std.proofs.lemmas.Bool.{true≢false}
 use Rattle.std.specs.Prelude.{Contains, Some, slice_get}
 use Rattle.std.specs.List.{AllByRecursion}
@@ -43,7 +43,7 @@ use Rattle.run_theorems.proofs.Gave.{gave_heard}
 use Rattle.call_causes.specs.Lists.{shows_in}
 use Rattle.call_causes.specs.Posts.{Post}
 use Rattle.send_causes.specs.Counts.{AreLabelled}
-use Rattle.send_causes.specs.EndedCalls.{Load, Store, stores_by, stored_at, stores_of_run, reader_posts_of_run, AreStoredOnce, EndedSo, IsEndPost}
+use Rattle.send_causes.specs.EndedCalls.{Store, stores_by, stored_at, stores_of_run, reader_posts_of_run, AreStoredOnce, EndedSo, IsEndPost}
 use Rattle.send_causes.proofs.Apart as apart
 use Rattle.send_causes.proofs.Beside.{gave_of_run}
 use Rattle.send_causes.proofs.Early.{start, go, fitting}
@@ -53,6 +53,7 @@ use Rattle.send_causes.proofs.EndedLives.{at_made, all_over}
 use Rattle.send_causes.proofs.EndedNamed.{tasks_are, EndNamed, end_named}
 use Rattle.send_causes.proofs.EndedNames.{StoredFor}
 use Rattle.send_causes.proofs.EndedWhole.{run_end_posts}
+use Rattle.call_causes.proofs.Posts.{id_back}
 
 -- ## Numbers
 
@@ -69,9 +70,6 @@ module _ (f s k n : ℕ) (first : f < 4294967296) (slot : s < 65536) (link : k <
 
   word_first : at_word_first (at_word f s k n) ≡ f
   word_first = omega (arith, first, slot, link, few)
-
-id_again : (id : ℕ) → call_id (id_slot id) (id_first id) ≡ id
-id_again id = omega arith
 
 -- ## Stores
 
@@ -239,7 +237,7 @@ module _ (script : List Item) (made : AreMade script) (turns : List Turn) (core 
         let n_w : at_word_attempt w ≡ a.attempt = ap at_word_attempt a.word ∙ word_attempt (id_first (ids o)) (id_slot (ids o)) a.link a.attempt first a.slot a.small a.few in
         let s_w : at_word_slot w ≡ id_slot (ids o) = ap at_word_slot a.word ∙ word_slot (id_first (ids o)) (id_slot (ids o)) a.link a.attempt first a.slot a.small a.few in
         let f_w : at_word_first w ≡ id_first (ids o) = ap at_word_first a.word ∙ word_first (id_first (ids o)) (id_slot (ids o)) a.link a.attempt first a.slot a.small a.few in
-        let id : x.id ≡ ids o = post.id ∙ (ap (λ z. call_id z (at_word_first w)) s_w ∙ (ap (λ z. call_id (id_slot (ids o)) z) f_w ∙ id_again (ids o))) in
+        let id : x.id ≡ ids o = post.id ∙ (ap (λ z. call_id z (at_word_first w)) s_w ∙ (ap (λ z. call_id (id_slot (ids o)) z) f_w ∙ id_back (ids o))) in
         let errors : error_of code a.attempt ≡ error_of c m = ap (λ z. error_of code z) (sym n_w) ∙ (sym post.error ∙ error) in let fewer = a.few in
         let code_is : code ≡ c = omega (arith, errors, few, fewer) in let n_is : a.attempt ≡ m = omega (arith, errors, few, fewer) in record {
           asked = a.asked;

@@ -1,12 +1,11 @@
 -- An attempt of which nothing is left stands in no order.
-use Rattle.std.proofs.Common.{◌≡◌, ◌≢◌, ℕ, zero, suc, ◌+◌, Bool, true, false, cond, eqb, eq-eqb, ne_eqb, List, [], ◌∷◌, length, refl, sym, ap, ◌∙◌, subst, arith}
+use Rattle.std.proofs.Common.{◌≡◌, ◌≢◌, ℕ, zero, suc, ◌+◌, Bool, true, false, List, [], ◌∷◌, length, refl, sym, ap, ◌∙◌, subst, arith}
 use Rattle.std.proofs.lemmas.Bool.{true≢false}
 use Rattle.std.specs.Prelude.{Some, slice_get}
 use Rattle.std.specs.List.{AllByRecursion}
 use mathlib.Core.Option.{some}
 use lib.ListN.{get_elem?}
 use Rattle.sock_model.specs.declared.chain.Entry.{Entry}
-use Rattle.sock_model.specs.declared.chain.Heading.{Heading}
 use Rattle.sock_model.specs.declared.view.View.{View}
 use Rattle.sock_model.specs.Weights.{total}
 use Rattle.slot_steps.proofs.Sums.{term_le}
@@ -35,19 +34,16 @@ use Rattle.call_causes.specs.programs_allowed.specs.Openings.{all_seats}
 use Rattle.call_causes.specs.programs_allowed.proofs.Fresh.{opening_fresh}
 use Rattle.call_causes.specs.joint_runs.proofs.Runs.{AreMade, first_views}
 use Rattle.call_causes.specs.owed_calls.specs.Lives.{ClosesInRun}
-use Rattle.send_causes.specs.Counts.{pair_of, of_heading, of_entry, of_view}
+use Rattle.send_causes.specs.Counts.{of_entry, of_view}
 use Rattle.send_causes.specs.Refused.{RunWouldOwn}
 use Rattle.send_causes.proofs.Apart.{of_call_fits}
 use Rattle.send_causes.proofs.Beside.{fixed_of_run, gave_of_run, orders_here}
 use Rattle.send_causes.proofs.Early.{start, go, fitting}
 use Rattle.send_causes.proofs.Runs.{AreLabelledIn, IsCallOf, Lawful_, end_law}
 use Rattle.send_causes.proofs.Sends.{narrow, owed, opening_claims}
-use Rattle.send_causes.proofs.Whole.{get_same}
+use Rattle.send_causes.proofs.DropWhole.{get_same}
 use Rattle.send_causes.proofs.RefusedWhole.{IsGone}
-
--- a message of the attempt counts
-counts_one : (id n : ℕ) (h : Heading) → h.owner ≢ 0 → h.owner ≡ id → h.attempt ≡ n → of_heading id n h ≡ 1
-counts_one id n h some_ a b = ap (λ z. cond z 0 (pair_of id n h.owner h.attempt)) (ne_eqb h.owner 0 some_) ∙ (ap (λ z. cond z (cond (eqb h.attempt n) 1 0) 0) (eq-eqb h.owner id a) ∙ ap (λ z. cond z 1 0) (eq-eqb h.attempt n b))
+use Rattle.send_causes.proofs.DropPlaces.{heading_one}
 
 module _ (script : List Item) (made : AreMade script) (turns : List Turn) (core : Core) (is : IsRunWithCalls script turns core) (closes : ClosesInRun script turns core is) (ids : ℕ → ℕ) (labelled : AreLabelledIn ids script turns core is) (would : RunWouldOwn ids script turns core is) where
   abbrev vs : List View
@@ -102,7 +98,7 @@ module _ (script : List Item) (made : AreMade script) (turns : List Turn) (core 
             no_task i x.task x.asks (sym (number_of (plan_of script) (told_tasks_of script) told_seats true core vs told_run.after.events told_run.after.lost end_sound told_story rests i e x) ∙ same)
         by false other = let f = of_call_fits (plan_of script) (id_plan_of script) (IsCallOf script) ids (told_tasks_of script) told_seats core vs told_run.after.events told_run.after.lost end_sound told_story rests
             end_labels.0 end_labels.1 i m e h other in
-            let one = counts_one id n e.heading f.0 (sym f.1 ∙ ap ids same) at in let none_ = none_counts i m e h in omega (arith, one, none_)
+            let one = heading_one id n e.heading f.0 (sym f.1 ∙ ap ids same) at in let none_ = none_counts i m e h in omega (arith, one, none_)
 
     pub none_accepted : (k : ℕ) → AllByRecursion (λ (a : Accepted). a.operation ≡ asked.operation → a.attempt ≡ n → ⊥) (orders_here script made turns core is closes k).accepted
     none_accepted k = all_sent (plan_of script) core vs end_sound.lawful (each_made (plan_of script) (told_tasks_of script) told_seats true core vs told_run.after.events told_run.after.lost end_sound told_story rests)

@@ -58,9 +58,10 @@ use Rattle.send_causes.proofs.Labelled.{ids_of_run, run_labelled}
 use Rattle.send_causes.proofs.Rests.{clients_rest}
 use Rattle.send_causes.proofs.Runs.{AreLabelledIn}
 use Rattle.send_causes.proofs.Whole.{run_orders, run_sent}
+use Rattle.report_fits.proofs.Lists.{all_map}
 
 -- a link that was lost in some ticks answered that it failed, or its socket was closed
-lost_so : (p : Plan) (c : Core) (ms : List Moment) (k : ℕ) → In k (lost_in p c ms) → In k (broken_in p c ms) ⊎ In k (shown_in closed_at p c ms)
+pub lost_so : (p : Plan) (c : Core) (ms : List Moment) (k : ℕ) → In k (lost_in p c ms) → In k (broken_in p c ms) ⊎ In k (shown_in closed_at p c ms)
 lost_so p c [] k m = absurd m
 lost_so p c (x ∷ xs) k m = ⊎_elim
     (λ a. ⊎_elim (λ b. inl (in_left _ (broken_in p (ticked p c x) xs) k b)) (λ b. inr (in_left (closed_at c x) (shown_in closed_at p (ticked p c x) xs) k b)) (in_both _ (closed_at c x) k a))
@@ -79,10 +80,6 @@ in_all f (us ∷ clients) zero o ts e m = in_left (f us) (flat_map f clients) o 
     same : Some us ≡ Some ts → us ≡ ts
     same e = cc
 in_all f (us ∷ clients) (suc c) o ts e m = in_right (f us) (flat_map f clients) o (in_all f clients c o ts e m)
-
-all_map : {A : Type 0} (P Q : A → Type 0) → ((x : A) → P x → Q x) → (xs : List A) → AllByRecursion P xs → AllByRecursion Q xs
-all_map P Q f [] a = tt
-all_map P Q f (x ∷ xs) a = (f x a.0, all_map P Q f xs a.1)
 
 before_map : {A : Type 0} (P Q : A → A → Type 0) → ((x y : A) → P x y → Q x y) → (xs : List A) → EachBefore P xs → EachBefore Q xs
 before_map P Q f [] a = tt

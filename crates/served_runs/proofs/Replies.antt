@@ -52,16 +52,16 @@ use Rattle.served_runs.proofs.Readings.{Goes, IsOver}
 use Rattle.served_runs.proofs.Runs.{Kept, quiet_offered, quiet_takes, holds_along}
 use Rattle.served_runs.proofs.Ticks.{Stands}
 
-gave_long : (p : Plan) (ms : List Moment) (c : Core) → length (run p c ms).calls.gave ≡ length c.calls.gave
+pub gave_long : (p : Plan) (ms : List Moment) (c : Core) → length (run p c ms).calls.gave ≡ length c.calls.gave
 gave_long p [] c = refl
 gave_long p (m ∷ ms) c = gave_long p ms (ticked p c m) ∙ (tick_long p m c).gave
 
-empty_at : (n k : ℕ) → get_or (replicate n []) k [] ≡ (let e : List ℕ = [] in e)
+pub empty_at : (n k : ℕ) → get_or (replicate n []) k [] ≡ (let e : List ℕ = [] in e)
 empty_at zero k = refl
 empty_at (suc n) zero = refl
 empty_at (suc n) (suc k) = empty_at n k
 
-empty_long : (n : ℕ) → length (replicate n (let e : List ℕ = [] in e)) ≡ n
+pub empty_long : (n : ℕ) → length (replicate n (let e : List ℕ = [] in e)) ≡ n
 empty_long zero = refl
 empty_long (suc n) = ap suc (empty_long n)
 
