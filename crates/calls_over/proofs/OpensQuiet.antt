@@ -1,10 +1,7 @@
 -- Where each link has the server and nothing went wrong, no link failed before the ending, no reader throws bytes away, and each message that a link accepted is the request of a call.
-use Rattle.std.proofs.Common.{◌≡◌, ℕ, ◌<◌, ◌≤◌, ◌⊎◌, inl, inr, ⊎_elim, List, [], ◌∷◌, ◌++◌, length, replicate, Some, None, Ok, sym, ap, ◌∙◌, subst, arith}
+use Rattle.std.proofs.Common.{◌≡◌, ℕ, ◌<◌, ◌≤◌, ◌⊎◌, inl, inr, ⊎_elim, List, ◌++◌, length, replicate, Some, None, Ok, sym, ap, ◌∙◌, subst, arith}
 use Rattle.std.specs.List.{AllByRecursion}
 use Rattle.std.specs.Prelude.{IsTrue, Contains}
-use mathlib.Core.Option.{some}
-use lib.ListN.{get_elem?}
-use Rattle.sock_model.specs.declared.view.View.{View}
 use Rattle.sock_model.specs.Links.{Failed}
 use Rattle.brpc_model.specs.Causes.{HasFault, reading_limit}
 use Rattle.brpc_model.specs.Complete.{IsUntroubled}
@@ -46,8 +43,6 @@ use Rattle.outcome_causes.specs.Stories.{In}
 use Rattle.outcome_causes.proofs.Lifted.{task_up}
 use Rattle.outcome_causes.proofs.Members.{in_contains, contains_in}
 use Rattle.outcome_causes.proofs.Plain.{in_left, in_right, in_both}
-use Rattle.served_fits.specs.programs_allowed.specs.Openings.{all_seats}
-use Rattle.served_fits.specs.programs_allowed.proofs.Fresh.{opening_fresh}
 use Rattle.owed_calls.specs.joint_runs.proofs.Runs.{AreMade, first_views}
 use Rattle.owed_calls.specs.Lives.{ClosesInRun}
 use Rattle.served_fits.specs.run_theorems.specs.Heard.{heard_takes, given_by}
@@ -57,7 +52,7 @@ use Rattle.served_fits.specs.run_theorems.proofs.Starts.{made}
 use Rattle.served_fits.specs.call_causes.specs.Lists.{given}
 use Rattle.served_fits.specs.call_causes.specs.Scenes.{LeadsTo}
 use Rattle.served_fits.specs.send_causes.proofs.AttemptedStored.{played_leads}
-use Rattle.served_fits.specs.send_causes.proofs.Early.{start, go, fitting, closed_early}
+use Rattle.served_fits.specs.send_causes.proofs.Early.{start, go, fitting, closed_early, first_fresh}
 use Rattle.served_fits.specs.send_causes.proofs.Faults.{Faults, fault_stays}
 use Rattle.served_fits.specs.send_causes.proofs.Sends.{owed, lost_so}
 use Rattle.outcome_causes.proofs.Scripts.{run_tells, failed_early}
@@ -150,16 +145,13 @@ module _ (bytes : List ℕ) (script : List Item) (reads : script_of bytes ≡ Ok
   pub unfailed : (k : ℕ) → Failed (plan_of script) (state (played script is.setup (is.scheduled ++ is.later)) (views_played script turns core is (first_views script))) k → ⊥
   unfailed k failed = ⊎_elim (λ lost. by_lost (contains_in _ k lost))
       (λ at_fail.
-      let tale = run_tells script are_made.are (first_views script) (start script are_made turns core is) fresh (go script are_made turns core is) turns core is (fitting script are_made turns core is) (owed script are_made turns core is closes) in
+      let tale = run_tells script are_made.are (first_views script) (start script are_made turns core is) (first_fresh script) (go script are_made turns core is) turns core is (fitting script are_made turns core is) (owed script are_made turns core is closes) in
       let t = tale.tells in let f : IsFail (told_tasks_of script) core.outcomes (at_fail.0, k) = all_at (IsFail (told_tasks_of script) core.outcomes) t.fails (at_fail.0, k) t.are (has_from t.fails (at_fail.0, k) at_fail.1) in
       let it = task_up (all_tasks script) (length (opens script)) core.outcomes f.client f.task f.is in
       let w = task_is script core.outcomes f.client f.task it in let m = fail_asks (numbered script) (names script) (numbers_at script f.task.number w.operation) w.operation.item f.name f.code (w.asks ∙ ap Some f.op) in
       untroubled.no_fail m.0 f.code (contains_from script (Fail m.0 f.code) (known.in_script all_given.run f.task.number w.operation w.there (Fail m.0 f.code) m.1)))
-      (failed_early script are_made.are (first_views script) (start script are_made turns core is) fresh (go script are_made turns core is) turns core is (fitting script are_made turns core is) (owed script are_made turns core is closes) k failed)
+      (failed_early script are_made.are (first_views script) (start script are_made turns core is) (first_fresh script) (go script are_made turns core is) turns core is (fitting script are_made turns core is) (owed script are_made turns core is closes) k failed)
     where
-      fresh : (i : ℕ) (v : View) → get_elem? (first_views script) i ≡ some v → v.lists ≡ [] ∷ []
-      fresh = opening_fresh (plan_of script) (all_seats (all_tasks script) (length (opens script)))
-
       low : k < length (link_names script)
       low = let o = (rested_sound script are_made turns core is).lawful in o.in_slots.small failed.slot failed.version k failed.life
 

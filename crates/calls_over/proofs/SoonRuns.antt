@@ -27,15 +27,13 @@ use Rattle.sock_runs.proofs.Opening.{mapped}
 use Rattle.sock_runs.proofs.Whole.{views_played, set_up_answered}
 use Rattle.outcome_causes.proofs.Members.{all_in}
 use Rattle.outcome_causes.proofs.Tasks.{fits_of}
-use Rattle.served_fits.specs.programs_allowed.specs.Openings.{all_seats}
-use Rattle.served_fits.specs.programs_allowed.proofs.Fresh.{opening_fresh}
 use Rattle.owed_calls.specs.joint_runs.proofs.Runs.{AreMade, first_views, joint_runs}
 use Rattle.owed_calls.specs.Lives.{ClosesInRun, InHand}
 use Rattle.served_fits.specs.call_causes.specs.Scenes.{In}
 use Rattle.served_fits.specs.send_causes.proofs.Early.{start, go, fitting}
 use Rattle.served_fits.specs.send_causes.proofs.Labelled.{ids_of_run}
 use Rattle.served_fits.specs.send_causes.proofs.Runs.{IsCallOf, programs_go, begins_labels, asked_by}
-use Rattle.served_fits.specs.send_causes.proofs.Sends.{narrow, few_clients, opening_claims, labelled}
+use Rattle.served_fits.specs.send_causes.proofs.Sends.{narrow, few_clients, labelled, opening_bare}
 use Rattle.served_fits.specs.send_causes.proofs.DropWhole.{get_same}
 use Rattle.served_fits.specs.served_runs.specs.Offered.{TookSoFar, offered_by, OffersInRun}
 use Rattle.served_fits.specs.served_runs.proofs.Parts.{IsPart, part_along}
@@ -105,7 +103,7 @@ module _ (script : List Item) (made : AreMade script) (there : AreThere script) 
   first : S (opened script) (first_views script)
   first = let l = begins_labels (plan_of script) (id_plan_of script) small (IsCallOf script) ids (all_programs (programs (sizes_of (plan_of script) (id_plan_of script)) (all_tasks script)) (readers_from (calls script) 0 (opens script)))
       (programs_go (IsCallOf script) (sizes_of (plan_of script) (id_plan_of script)) (all_tasks script) (asked_by script) (calls script) (opens script)) (first_views script)
-      (λ i v at. (opening_claims (plan_of script) (all_seats (all_tasks script) (length (opens script))) i v at, opening_fresh (plan_of script) (all_seats (all_tasks script) (length (opens script))) i v at)) in record {
+      (opening_bare script) in record {
         trials = l.0;
         law = l.1;
         below = λ id n some_. absurd (let z = l.2 id n in omega (arith, z, some_));

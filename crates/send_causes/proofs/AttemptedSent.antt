@@ -1,8 +1,6 @@
 -- Each message that a link accepted is that of a `send` of which nothing is said, or of an attempt that was made of a call with an id.
 use Rattle.std.proofs.Common.{◌≡◌, ◌≢◌, ℕ, ◌+◌, ◌<◌, ◌≤◌, ◌⊎◌, inl, inr, ⊎_elim, true, false, cond, ne_eqb, List, [], ◌∷◌, length, sym, ap, ◌∙◌, subst, arith}
 use Rattle.std.specs.List.{AllByRecursion}
-use mathlib.Core.Option.{some}
-use lib.ListN.{get_elem?}
 use Rattle.sock_words.specs.declared.plain.Plan.{Plan}
 use Rattle.sock_model.specs.declared.chain.Entry.{Entry}
 use Rattle.sock_model.specs.declared.chain.Heading.{Heading}
@@ -33,8 +31,6 @@ use Rattle.outcome_causes.proofs.Members.{in_contains}
 use Rattle.outcome_causes.proofs.Messages.{each_made, message_of, number_of}
 use Rattle.outcome_causes.proofs.Scripts.{seats, final_told, story_end, run_told}
 use Rattle.outcome_causes.proofs.Senders.{HasSent, all_sent}
-use Rattle.call_causes.specs.programs_allowed.specs.Openings.{all_seats}
-use Rattle.call_causes.specs.programs_allowed.proofs.Fresh.{opening_fresh}
 use Rattle.call_causes.specs.joint_runs.proofs.Runs.{AreMade, first_views}
 use Rattle.report_fits.proofs.Reading.{InRange}
 use Rattle.report_fits.proofs.Targets.{AreThere}
@@ -43,9 +39,9 @@ use Rattle.call_causes.specs.Lists.{attempts_of_run}
 use Rattle.label_runs.specs.Labels.{Trial}
 use Rattle.send_causes.specs.Counts.{pair_of, of_heading, of_entry, of_view, times_of, LabelLaw}
 use Rattle.send_causes.proofs.Apart as apart
-use Rattle.send_causes.proofs.Early.{start, go, fitting}
+use Rattle.send_causes.proofs.Early.{start, go, fitting, first_fresh}
 use Rattle.send_causes.proofs.Runs.{AreLabelledIn, IsCallOf}
-use Rattle.send_causes.proofs.Sends.{owed, orders_of_run, narrow, opening_claims}
+use Rattle.send_causes.proofs.Sends.{owed, orders_of_run, narrow, opening_bare}
 use Rattle.send_causes.proofs.AttemptedIds.{AreRisingIn}
 use Rattle.send_causes.proofs.AttemptedRuns.{IsWithin, end_counted}
 use Rattle.send_causes.proofs.AttemptedCalls.{AreStored, single, shows}
@@ -109,12 +105,6 @@ module _ (script : List Item) (made : AreMade script) (there : AreThere script) 
   abbrev fits : AreFittingIn script turns core is
   fits = fitting script made turns core is
 
-  abbrev fresh : (i : ℕ) (v : View) → get_elem? (first_views script) i ≡ some v → v.lists ≡ [] ∷ []
-  fresh = opening_fresh (plan_of script) (all_seats (all_tasks script) (length (opens script)))
-
-  abbrev bare : (i : ℕ) (v : View) → get_elem? (first_views script) i ≡ some v → (v.claims ≡ []) × (v.lists ≡ [] ∷ [])
-  bare = λ i v at. (opening_claims (plan_of script) (all_seats (all_tasks script) (length (opens script))) i v at, opening_fresh (plan_of script) (all_seats (all_tasks script) (length (opens script))) i v at)
-
   abbrev owes : IsOwed script turns core is
   owes = owed script made turns core is closes
 
@@ -147,16 +137,16 @@ module _ (script : List Item) (made : AreMade script) (there : AreThere script) 
     -- what each link accepted
     pub run_attempted : (k : ℕ) → k < (plan_of script).links → AllByRecursion (IsSent (plan_of script) (all_tasks script) core.outcomes fixed gave (orders_of_run script made turns core is closes) (attempts_of_run script turns core is) k) (orders_of_run script made turns core is closes k).accepted
     run_attempted k low = let n = narrow script made turns core is closes in
-        let counted = end_counted script made.are vs begins goes turns core is fits n bare ids one_each labelled rising in
+        let counted = end_counted script made.are vs begins goes turns core is fits n (opening_bare script) ids one_each labelled rising in
         let sound = ended_sound script made.are vs begins goes turns core is fits in let rests = end_rests script made.are vs begins goes turns core is fits owes in
-        let tells = run_told script made.are vs begins fresh goes turns core is fits owes in
+        let tells = run_told script made.are vs begins (first_fresh script) goes turns core is fits owes in
         four (λ (a : Accepted). causes.IsSent (told_tasks_of script) core.outcomes k a ⊎ IsSpoken (told_tasks_of script) a.operation) IsKind IsMade (λ (a : Accepted). IsSpoken (told_tasks_of script) a.operation → IsNamedOn script core k a) (Sent k) (lift k) (orders_of_run script made turns core is closes k).accepted
         (tells.sent k low)
-        (apart.all_kinds (plan_of script) (id_plan_of script) (IsCallOf script) ids (told_tasks_of script) (seats script made.are vs begins fresh goes turns core is fits) core (views_ended script turns core is vs)
-        (final_told script made.are vs begins fresh goes turns core is fits).after.events (final_told script made.are vs begins fresh goes turns core is fits).after.lost sound
-        (story_end script made.are vs begins fresh goes turns core is fits owes) rests counted.trials counted.law k)
-        (all_stand (plan_of script) (id_plan_of script) (IsCallOf script) ids (told_tasks_of script) (seats script made.are vs begins fresh goes turns core is fits) core (views_ended script turns core is vs)
-        (final_told script made.are vs begins fresh goes turns core is fits).after.events (final_told script made.are vs begins fresh goes turns core is fits).after.lost sound
-        (story_end script made.are vs begins fresh goes turns core is fits owes) rests counted.trials counted.law
+        (apart.all_kinds (plan_of script) (id_plan_of script) (IsCallOf script) ids (told_tasks_of script) (seats script made.are vs begins (first_fresh script) goes turns core is fits) core (views_ended script turns core is vs)
+        (final_told script made.are vs begins (first_fresh script) goes turns core is fits).after.events (final_told script made.are vs begins (first_fresh script) goes turns core is fits).after.lost sound
+        (story_end script made.are vs begins (first_fresh script) goes turns core is fits owes) rests counted.trials counted.law k)
+        (all_stand (plan_of script) (id_plan_of script) (IsCallOf script) ids (told_tasks_of script) (seats script made.are vs begins (first_fresh script) goes turns core is fits) core (views_ended script turns core is vs)
+        (final_told script made.are vs begins (first_fresh script) goes turns core is fits).after.events (final_told script made.are vs begins (first_fresh script) goes turns core is fits).after.lost sound
+        (story_end script made.are vs begins (first_fresh script) goes turns core is fits owes) rests counted.trials counted.law
         (IsWithin (plan_of script) (id_plan_of script) n (IsCallOf script) ids one_each (attempts_of_run script turns core is)) counted.stands k)
         (named k low)

@@ -65,6 +65,7 @@ use Rattle.send_causes.proofs.Faults.{Faults, fault_stays}
 use Rattle.send_causes.proofs.Closers.{Ends}
 use Rattle.send_causes.proofs.ReaderRuns.{Keeps, founds, keeps_same, keeps_along, closes_along}
 use Rattle.send_causes.proofs.Takeless.{NoTakes, TakesNone, client_takes, ending_takes, takes_next}
+use Rattle.call_causes.specs.programs_allowed.proofs.Fresh.{opening_fresh}
 
 -- ## How a reading ends early
 
@@ -266,6 +267,10 @@ opens_apart script k l o at_k at_l = dite (ℕ_discrete k l) (λ e. e)
 
     before : (i j : ℕ) → i < j → get_elem? (opens script) i ≡ some o → get_elem? (opens script) j ≡ some o → o < o
     before i j less at_i at_j = before_at (λ (m n : ℕ). m < n) (opens script) increasing i j o o less (place_at (opens script) i o at_i) (place_at (opens script) j o at_j)
+
+-- nor has one taken anything
+pub first_fresh : (script : List Item) (i : ℕ) (v : View) → get_elem? (first_views script) i ≡ some v → v.lists ≡ [] ∷ []
+first_fresh script = opening_fresh (plan_of script) (all_seats (all_tasks script) (length (opens script)))
 
 module _ (script : List Item) (made : AreMade script) (turns : List Turn) (core : Core) (is : IsRunWithCalls script turns core) where
   abbrev p : Plan

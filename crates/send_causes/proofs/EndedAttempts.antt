@@ -35,8 +35,6 @@ use Rattle.outcome_causes.proofs.Lifted.{up, made_up}
 use Rattle.outcome_causes.proofs.Members.{in_contains, contains_in}
 use Rattle.outcome_causes.proofs.Plain.{in_both}
 use Rattle.outcome_causes.proofs.Tasks.{one_task}
-use Rattle.call_causes.specs.programs_allowed.specs.Openings.{all_seats}
-use Rattle.call_causes.specs.programs_allowed.proofs.Fresh.{opening_fresh}
 use Rattle.call_causes.specs.joint_runs.proofs.Runs.{AreMade, first_views}
 use Rattle.call_causes.specs.owed_calls.specs.Lives.{ClosesInRun}
 use Rattle.run_theorems.proofs.Gave.{gave_heard}
@@ -48,7 +46,7 @@ use Rattle.send_causes.proofs.Apart as apart
 use Rattle.send_causes.proofs.Beside.{gave_of_run}
 use Rattle.send_causes.proofs.Early.{start, go, fitting}
 use Rattle.send_causes.proofs.Runs.{AreLabelledIn, IsCallOf, end_law}
-use Rattle.send_causes.proofs.Sends.{owed, orders_of_run, narrow, opening_claims}
+use Rattle.send_causes.proofs.Sends.{owed, orders_of_run, narrow, opening_bare}
 use Rattle.send_causes.proofs.EndedLives.{at_made, all_over}
 use Rattle.send_causes.proofs.EndedNamed.{tasks_are, EndNamed, end_named}
 use Rattle.send_causes.proofs.EndedNames.{StoredFor}
@@ -107,9 +105,6 @@ module _ (script : List Item) (made : AreMade script) (turns : List Turn) (core 
   abbrev fits : AreFittingIn script turns core is
   fits = fitting script made turns core is
 
-  abbrev bare : (i : ℕ) (v : View) → get_elem? (first_views script) i ≡ some v → (v.claims ≡ []) × (v.lists ≡ [] ∷ [])
-  bare = λ i v at. (opening_claims (plan_of script) (all_seats (all_tasks script) (length (opens script))) i v at, opening_fresh (plan_of script) (all_seats (all_tasks script) (length (opens script))) i v at)
-
   pub own_store : (x : Store) → In x (stores_of_run script turns core is) → IsOwn ids (plan_of script) (id_plan_of script) x
   own_store x there = ⊎_elim (λ a. ticks_own ids (plan_of script) (id_plan_of script) (replicate is.setup (quiet 0)) (opened script) labelled.of_setup x a)
       (λ b. ⊎_elim (λ a. ticks_own ids (plan_of script) (id_plan_of script) (is.scheduled ++ is.later) (set_up script is.setup) labelled.of_played x a)
@@ -120,10 +115,10 @@ module _ (script : List Item) (made : AreMade script) (turns : List Turn) (core 
       (shows_in stored_at (plan_of script) (set_up script is.setup) (is.scheduled ++ is.later) ++ (shows_in stored_at (plan_of script) (closing_of script turns core is) (replicate is.last (quiet 0)) ++ shows_in stored_at (plan_of script) is.ended is.final)) x there)
 
   abbrev tasks : AreTasks (plan_of script) (told_tasks_of script)
-  tasks = tasks_are script made.are vs begins goes turns core is fits (narrow script made turns core is closes) bare ids labelled
+  tasks = tasks_are script made.are vs begins goes turns core is fits (narrow script made turns core is closes) (opening_bare script) ids labelled
 
-  pub ending : EndNamed script made.are vs begins goes turns core is fits (narrow script made turns core is closes) bare ids labelled core
-  ending = end_named script made.are vs begins goes turns core is fits (narrow script made turns core is closes) bare ids labelled
+  pub ending : EndNamed script made.are vs begins goes turns core is fits (narrow script made turns core is closes) (opening_bare script) ids labelled core
+  ending = end_named script made.are vs begins goes turns core is fits (narrow script made turns core is closes) (opening_bare script) ids labelled
 
   -- an at word that is loaded is that of an attempt of the operation's call, over a link of a life of its name
   pub record IsAttemptOn (o w : ℕ) : Type 0 where
@@ -167,7 +162,7 @@ module _ (script : List Item) (made : AreMade script) (turns : List Turn) (core 
   -- each message of a call that a link accepted has an at word that tells the link
   pub all_stored : (k : ℕ) → AllByRecursion (λ (a : Accepted). IsSpoken (told_tasks_of script) a.operation → In (record { operation = a.operation; word = at_word (id_first (ids a.operation)) (id_slot (ids a.operation)) k a.attempt }) (stores_of_run script turns core is)) (orders_of_run script made turns core is closes k).accepted
   all_stored k = let sound = ended_sound script made.are vs begins goes turns core is fits in let rests = end_rests script made.are vs begins goes turns core is fits (owed script made turns core is closes) in let e = ending in
-      let law = end_law script made.are vs begins goes turns core is fits (narrow script made turns core is closes) bare ids labelled in
+      let law = end_law script made.are vs begins goes turns core is fits (narrow script made turns core is closes) (opening_bare script) ids labelled in
       all_over (plan_of script) (told_tasks_of script) tasks core (views_ended script turns core is vs) e.named.events e.named.lost_links sound e.named.story rests (IsCallOf script) (stores_of_run script turns core is) e.named.trails e.named.law ids
       (λ i n x h not_. (let f = apart.of_call_fits (plan_of script) (id_plan_of script) (IsCallOf script) ids (told_tasks_of script) tasks core (views_ended script turns core is vs) e.named.events e.named.lost_links sound e.named.story rests law.0 law.1 i n x h not_ in (f.0, f.1))) k
 

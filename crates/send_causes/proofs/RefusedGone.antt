@@ -3,8 +3,6 @@ use Rattle.std.proofs.Common.{◌≡◌, ◌≢◌, ℕ, zero, suc, ◌+◌, Boo
 use Rattle.std.proofs.lemmas.Bool.{true≢false}
 use Rattle.std.specs.Prelude.{Some, slice_get}
 use Rattle.std.specs.List.{AllByRecursion}
-use mathlib.Core.Option.{some}
-use lib.ListN.{get_elem?}
 use Rattle.sock_model.specs.declared.chain.Entry.{Entry}
 use Rattle.sock_model.specs.declared.view.View.{View}
 use Rattle.sock_model.specs.Weights.{total}
@@ -30,17 +28,15 @@ use Rattle.outcome_causes.proofs.Runs.{Goes}
 use Rattle.outcome_causes.proofs.Scripts.{seats, ended_told, final_told, story_end}
 use Rattle.outcome_causes.proofs.Senders.{HasSent, all_sent}
 use Rattle.outcome_causes.proofs.Tasks.{one_task}
-use Rattle.call_causes.specs.programs_allowed.specs.Openings.{all_seats}
-use Rattle.call_causes.specs.programs_allowed.proofs.Fresh.{opening_fresh}
 use Rattle.call_causes.specs.joint_runs.proofs.Runs.{AreMade, first_views}
 use Rattle.call_causes.specs.owed_calls.specs.Lives.{ClosesInRun}
 use Rattle.send_causes.specs.Counts.{of_entry, of_view}
 use Rattle.send_causes.specs.Refused.{RunWouldOwn}
 use Rattle.send_causes.proofs.Apart.{of_call_fits}
 use Rattle.send_causes.proofs.Beside.{fixed_of_run, gave_of_run, orders_here}
-use Rattle.send_causes.proofs.Early.{start, go, fitting}
+use Rattle.send_causes.proofs.Early.{start, go, fitting, first_fresh}
 use Rattle.send_causes.proofs.Runs.{AreLabelledIn, IsCallOf, Lawful_, end_law}
-use Rattle.send_causes.proofs.Sends.{narrow, owed, opening_claims}
+use Rattle.send_causes.proofs.Sends.{narrow, owed, opening_bare}
 use Rattle.send_causes.proofs.DropWhole.{get_same}
 use Rattle.send_causes.proofs.RefusedWhole.{IsGone}
 use Rattle.send_causes.proofs.DropPlaces.{heading_one}
@@ -49,29 +45,23 @@ module _ (script : List Item) (made : AreMade script) (turns : List Turn) (core 
   abbrev vs : List View
   vs = views_ended script turns core is (first_views script)
 
-  abbrev fresh : (i : ℕ) (v : View) → get_elem? (first_views script) i ≡ some v → v.lists ≡ [] ∷ []
-  fresh = opening_fresh (plan_of script) (all_seats (all_tasks script) (length (opens script)))
-
-  bare_views : (i : ℕ) (v : View) → get_elem? (first_views script) i ≡ some v → (v.claims ≡ []) × (v.lists ≡ [] ∷ [])
-  bare_views i v at = (opening_claims (plan_of script) (all_seats (all_tasks script) (length (opens script))) i v at, fresh i v at)
-
   -- no link accepted a message of the attempt
   module _ (n : ℕ) (asked : Asked) (called : IsCallOf script asked) (gone : IsGone script made turns core is closes ids labelled would (ids asked.operation) n) where
     abbrev id : ℕ
     id = ids asked.operation
 
     end_labels : Lawful_ (plan_of script) (id_plan_of script) (narrow script made turns core is closes) (IsCallOf script) ids core vs
-    end_labels = end_law script made.are (first_views script) (start script made turns core is) (go script made turns core is) turns core is (fitting script made turns core is) (narrow script made turns core is closes) bare_views ids labelled
+    end_labels = end_law script made.are (first_views script) (start script made turns core is) (go script made turns core is) turns core is (fitting script made turns core is) (narrow script made turns core is closes) (opening_bare script) ids labelled
 
-    abbrev told_run : Goes (plan_of script) (told_tasks_of script) (seats script made.are (first_views script) (start script made turns core is) fresh (go script made turns core is) turns core is (fitting script made turns core is)) true is.final is.ended
-        (views_closed script turns core is (first_views script)) (ended_told script made.are (first_views script) (start script made turns core is) fresh (go script made turns core is) turns core is (fitting script made turns core is))
-    told_run = final_told script made.are (first_views script) (start script made turns core is) fresh (go script made turns core is) turns core is (fitting script made turns core is)
+    abbrev told_run : Goes (plan_of script) (told_tasks_of script) (seats script made.are (first_views script) (start script made turns core is) (first_fresh script) (go script made turns core is) turns core is (fitting script made turns core is)) true is.final is.ended
+        (views_closed script turns core is (first_views script)) (ended_told script made.are (first_views script) (start script made turns core is) (first_fresh script) (go script made turns core is) turns core is (fitting script made turns core is))
+    told_run = final_told script made.are (first_views script) (start script made turns core is) (first_fresh script) (go script made turns core is) turns core is (fitting script made turns core is)
 
     abbrev told_story : Story (plan_of script) (told_tasks_of script) true core vs told_run.after.events told_run.after.lost
-    told_story = story_end script made.are (first_views script) (start script made turns core is) fresh (go script made turns core is) turns core is (fitting script made turns core is) (owed script made turns core is closes)
+    told_story = story_end script made.are (first_views script) (start script made turns core is) (first_fresh script) (go script made turns core is) turns core is (fitting script made turns core is) (owed script made turns core is closes)
 
     abbrev told_seats : AreTasks (plan_of script) (told_tasks_of script)
-    told_seats = seats script made.are (first_views script) (start script made turns core is) fresh (go script made turns core is) turns core is (fitting script made turns core is)
+    told_seats = seats script made.are (first_views script) (start script made turns core is) (first_fresh script) (go script made turns core is) turns core is (fitting script made turns core is)
 
     abbrev end_sound : Sound (plan_of script) core vs
     end_sound = ended_sound script made.are (first_views script) (start script made turns core is) (go script made turns core is) turns core is (fitting script made turns core is)
