@@ -67,7 +67,6 @@ NonePlain k vs = (e : Entry) → Stood vs e → e.link ≡ k → e.heading.owner
 
 module _ (p : Plan) (q : IdPlan) (narrow : q.slots ≤ 65536) (is_call : Asked → Type 0) (short : (asked : Asked) → is_call asked → (id n : ℕ) → length (frame_of asked id n) ≤ 131072) (ids : ℕ → ℕ) (c : Core) (vs : List View) (ts : List Trial)
     (law : LabelLaw is_call ids p q c vs ts) (standing : (id n : ℕ) → 0 < times_of id n c vs ts → id_first id + n + 1 < bound (id_word_of c (id_slot id))) (us : List IdView) (real : SoundIds p q c us) (k : ℕ) (none_plain : NonePlain k vs) where
-
   own_heading : (w : Heading) → w.owner ≢ 0 → of_heading w.owner w.attempt w ≡ 1
   own_heading w some_ = ap (λ z. cond z 0 (pair_of w.owner w.attempt w.owner w.attempt)) (ne_eqb w.owner 0 some_) ∙ pair_self w.owner w.attempt
 

@@ -64,7 +64,6 @@ module _ (p : Plan) (clients : List (List Task)) (are : AreTasks p clients) (c :
         subst (λ z. HasStored h.operation h.owner h.attempt z) same a.6.2
 
     module _ (ts : List Trail) (names : NameLaw is_call seen es c vs ts) (ids : ℕ → ℕ) (owned : (i n : ℕ) (e : Entry) → HasSent vs i n e → is_of_send e ≡ false → (e.heading.owner ≢ 0) × (ids e.heading.operation ≡ e.heading.owner)) where
-
       entry_over : (i n : ℕ) (e : Entry) → HasSent vs i n e → EntryOver is_call seen es e
       entry_over i n e h = let all = (names.views i h.view h.here).1 in let one : AllByRecursion (AllByRecursion (EntryOver is_call seen es)) (h.made ∷ []) = subst (AllByRecursion (AllByRecursion (EntryOver is_call seen es))) h.lists all in
           all_in (EntryOver is_call seen es) h.made e one.0 (in_of_at h.made n e h.stands)
