@@ -76,7 +76,7 @@ reads_keep life calls r u g = posts_keep life calls r.link 1014 r.kept (with_dea
 -- no seat stores a word next where it stands so
 stores_nothing : (script : List Item) (c : Core) (program : Program) → Stands script c program → next_stores program ≡ none
 stores_nothing script c program (resting e) = ap next_stores e
-stores_nothing script c program (joining id next e) = ap next_stores e
+stores_nothing script c program (joining id next e inside waits_) = ap next_stores e
 stores_nothing script c program (opening o next e z) = ap next_stores e
 stores_nothing script c program (still.reading r next e) = ap next_stores e
 stores_nothing script c program (discarding k total next e) = ap next_stores e
@@ -326,7 +326,7 @@ module _ (script : List Item) (made : AreMade script) (turns : List Turn) (core 
 
           by : Stands script rested seat.0.program → IsRead id n
           by (resting e) = let r : OwesOn lives_there u Rest = subst (OwesOn lives_there u) e g in absurd (subst (InList o) r.1 left)
-          by (joining i next e) = let r : OwesOn lives_there u (Round (Joins i) next) = subst (OwesOn lives_there u) e g in absurd (subst (InList o) r.0.1 left)
+          by (joining i next e inside waits_) = let r : OwesOn lives_there u (Round (Joins i) next) = subst (OwesOn lives_there u) e g in absurd (subst (InList o) r.0.1 left)
           by (opening x next e z) = let same : x ≡ own.0 = waits_own p (calls script) (32 + k) k own.0 (in_script k own.0 own.1) rested seat.0 seat.1 (readers₂ k own.0 own.1) x next e in
               let word_is = (id_is (get_or rested.words (open_index p own.0) 0) s own.2).0 in let zero_ : get_or rested.words (open_index p own.0) 0 ≡ 0 = ap (λ m. get_or rested.words (open_index p m) 0) (sym same) ∙ z in absurd (let z : ⊥ = omega (arith, word_is, zero_) in z)
           by (still.reading r next e) = let x = reads_so k own.0 own.1 seat.0 seat.1 r next e in record {
