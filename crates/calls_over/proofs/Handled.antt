@@ -1,5 +1,5 @@
 -- Where the reader of a link waits for bytes as the ending begins, it has handled each frame that the link gave.
-use Rattle.std.proofs.Common.{◌≡◌, ℕ, zero, suc, ◌+◌, ◌<◌, ⊎_elim, List, [], ◌∷◌, ◌++◌, length, replicate, slice_get, Option, Some, None, append-nil, get_or, refl, sym, ap, ◌∙◌, subst, arith}
+use Rattle.std.proofs.Common.{◌≡◌, ℕ, zero, suc, ◌+◌, ◌<◌, ⊎_elim, List, [], ◌∷◌, ◌++◌, length, replicate, slice_get, Option, Some, None, append-nil, refl, sym, ap, ◌∙◌, subst, arith}
 use Rattle.std.specs.List.{AllByRecursion}
 use Rattle.std.proofs.lemmas.List.{length-map}
 use mathlib.Core.Option.{some, some-injective, some-ne-none}
@@ -29,16 +29,12 @@ use Rattle.served_fits.specs.call_causes.proofs.HandledSteps.{State, waiting, re
 use Rattle.served_fits.specs.call_causes.proofs.HandledStates.{After}
 use Rattle.served_fits.specs.call_causes.proofs.HandledTicks.{sit}
 use Rattle.served_fits.specs.call_causes.proofs.HandledRuns.{AreKnown, setup_known, played_known, Reads', reads_along}
+use Rattle.served_fits.specs.served_runs.proofs.Replies.{empty_at}
 
 each_at : {A : Type 0} (P : A → Type 0) (xs : List A) → AllByRecursion P xs → (i : ℕ) (x : A) → get_elem? xs i ≡ some x → P x
 each_at P [] all i x at = absurd (some-ne-none x (sym at))
 each_at P (y ∷ ys) all zero x at = subst P (some-injective y x at) all.0
 each_at P (y ∷ ys) all (suc i) x at = each_at P ys all.1 i x at
-
-empty_at : (n k : ℕ) → get_or (replicate n []) k [] ≡ (let e : List ℕ = [] in e)
-empty_at zero k = refl
-empty_at (suc n) zero = refl
-empty_at (suc n) (suc k) = empty_at n k
 
 -- what a program waits for at the head of a reading
 abbrev reading_in : Program → Option Reading

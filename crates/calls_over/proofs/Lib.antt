@@ -1,4 +1,3 @@
-pub mod OpensStill
 pub mod OpensOwed
 pub mod OpensNamed
 pub mod OpensHeld

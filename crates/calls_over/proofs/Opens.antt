@@ -34,8 +34,6 @@ use Rattle.sock_runs.proofs.Along.{place_inside}
 use Rattle.sock_runs.proofs.Whole.{closing_of, views_played}
 use Rattle.outcome_causes.specs.Facts.{broken_of_run}
 use Rattle.outcome_causes.proofs.Members.{in_contains}
-use Rattle.served_fits.specs.programs_allowed.specs.Openings.{all_seats}
-use Rattle.served_fits.specs.programs_allowed.proofs.Fresh.{opening_fresh}
 use Rattle.owed_calls.specs.joint_runs.proofs.Runs.{AreMade, first_views}
 use Rattle.owed_calls.specs.Lives.{ClosesInRun}
 use Rattle.owed_calls.specs.Sound.{id_word_of, at_of, IsOpen}
@@ -46,13 +44,13 @@ use Rattle.served_fits.specs.call_causes.specs.Lists.{given, shows_in, times, ad
 use Rattle.served_fits.specs.call_causes.proofs.Posted.{run_few_attempts}
 use Rattle.served_fits.specs.send_causes.proofs.Assembled.{fixed_in_run}
 use Rattle.served_fits.specs.send_causes.proofs.AttemptedRuns.{Counted, played_counted, times_append}
-use Rattle.served_fits.specs.send_causes.proofs.AttemptedSent.{get_same}
+use Rattle.served_fits.specs.send_causes.proofs.DropWhole.{get_same}
 use Rattle.served_fits.specs.send_causes.proofs.AttemptedStored.{ids_at, stored_run}
 use Rattle.served_fits.specs.send_causes.proofs.ClosedLostTicks.{word_link, word_attempt}
 use Rattle.served_fits.specs.send_causes.proofs.Early.{start, go, fitting, known}
 use Rattle.served_fits.specs.send_causes.proofs.OwnIds.{labelled_at, single_at}
 use Rattle.served_fits.specs.send_causes.proofs.Runs.{AreLabelledIn, IsCallOf}
-use Rattle.served_fits.specs.send_causes.proofs.Sends.{narrow, opening_claims}
+use Rattle.served_fits.specs.send_causes.proofs.Sends.{narrow, opening_bare}
 use Rattle.served_fits.specs.served_runs.specs.Offered.{OffersInRun}
 use Rattle.served_fits.specs.served_calls.specs.Quiet.{AreShown, HasServer}
 use Rattle.calls_over.specs.Open.{OpenCall}
@@ -62,7 +60,7 @@ use Rattle.calls_over.proofs.OpensNamed.{IsEarly, stored_early}
 use Rattle.calls_over.proofs.OpensOwed.{IsRead, open_read}
 use Rattle.calls_over.proofs.OpensQuiet.{has_server, unfailed, none_thrown}
 use Rattle.calls_over.proofs.OpensRequest.{own_told, IsAttempt, attempt_of, taken, taken_so, request_there}
-use Rattle.calls_over.proofs.OpensStill.{both, unlocked}
+use Rattle.served_fits.specs.send_causes.proofs.Standing.{both, unlocked}
 use Rattle.calls_over.proofs.SoonWords.{live_room}
 
 -- ## At words
@@ -127,7 +125,7 @@ module _ (bytes : List ℕ) (script : List Item) (reads : script_of bytes ≡ Ok
 
       counted : Counted (plan_of script) (id_plan_of script) (narrow script are_made turns core is closes) (IsCallOf script) (ids_at script core) (single_at script are_made targets range turns core is closes) since_clients rested (views_played script turns core is (first_views script))
       counted = played_counted script are_made.are (first_views script) (start script are_made turns core is) (go script are_made turns core is) turns core is (fitting script are_made turns core is) (narrow script are_made turns core is closes)
-          (λ j v at. (opening_claims (plan_of script) (all_seats (all_tasks script) (length (opens script))) j v at, opening_fresh (plan_of script) (all_seats (all_tasks script) (length (opens script))) j v at))
+          (opening_bare script)
           (ids_at script core) (single_at script are_made targets range turns core is closes) labelled (stored_run script are_made targets range turns core is (run_all_rest script are_made turns core is closes)).1
 
       all_parts : since_clients o ≤ attempts_of_run script turns core is o

@@ -33,16 +33,12 @@ use Rattle.served_fits.specs.send_causes.proofs.ClosedLostTicks.{AreTaken, Ended
 use Rattle.served_fits.specs.send_causes.proofs.Early.{start, go, fitting}
 use Rattle.served_fits.specs.send_causes.proofs.EndedAttempts.{all_stored, at_place, spoken_call, own_store}
 use Rattle.served_fits.specs.send_causes.proofs.EndedOnce.{run_stored_once}
-use Rattle.served_fits.specs.send_causes.proofs.LateRests.{HasNone, played_idle}
+use Rattle.served_fits.specs.send_causes.proofs.LateRests.{HasNone, played_idle, NoOld}
 use Rattle.served_fits.specs.send_causes.proofs.Runs.{AreLabelledIn}
 use Rattle.served_fits.specs.send_causes.proofs.Sends.{orders_of_run}
 use Rattle.calls_over.proofs.OpensHeld.{IsHeld, run_held}
 use Rattle.calls_over.proofs.OpensLog.{log, held_logged, logged_held, logged_on}
 use Rattle.calls_over.proofs.OpensNamed.{IsEarly}
-
--- no life is old
-abbrev pub NoOld : ℕ → ℕ → Type 0
-NoOld i h = ⊥
 
 module _ (script : List Item) (made : AreMade script) (turns : List Turn) (core : Core) (is : IsRunWithCalls script turns core) where
   abbrev rested : Core

@@ -39,7 +39,8 @@ use Rattle.owed_calls.specs.joint_runs.proofs.Runs.{AreMade, first_views}
 use Rattle.owed_calls.specs.Lives.{ClosesInRun}
 use Rattle.served_fits.specs.send_causes.proofs.ClosedLostTicks.{AreTaken}
 use Rattle.served_fits.specs.send_causes.proofs.Sends.{orders_of_run}
-use Rattle.calls_over.proofs.OpensEntered.{NoOld, early_log, late_log, rested_sound, idle_there, StandsLater, stands_later}
+use Rattle.calls_over.proofs.OpensEntered.{early_log, late_log, rested_sound, idle_there, StandsLater, stands_later}
+use Rattle.served_fits.specs.send_causes.proofs.LateRests.{NoOld}
 
 range_small : (item : Item) → InRange item → attempts_of item ≤ 8
 range_small (Send name bytes) h = omega arith

@@ -1,8 +1,6 @@
 -- Each at word that stands where the ending begins was stored before, for an attempt of the call that is its operation.
-use Rattle.std.proofs.Common.{◌≡◌, ◌≢◌, ℕ, ◌+◌, ◌<◌, ◌≤◌, get_or, true, false, List, [], ◌∷◌, ◌++◌, length, map, replicate, refl, sym, subst}
+use Rattle.std.proofs.Common.{◌≡◌, ◌≢◌, ℕ, ◌+◌, ◌<◌, ◌≤◌, get_or, true, false, List, [], ◌++◌, length, map, replicate, refl, sym, subst}
 use Rattle.std.specs.Prelude.{Bool}
-use mathlib.Core.Option.{some}
-use lib.ListN.{get_elem?}
 use Rattle.sock_words.specs.declared.plain.Plan.{Plan}
 use Rattle.sock_model.specs.declared.view.View.{View}
 use Rattle.brpc_model.specs.Items.{Item}
@@ -33,14 +31,12 @@ use Rattle.served_fits.specs.send_causes.proofs.EndedNamed.{all_follow, begins_n
 use Rattle.served_fits.specs.send_causes.proofs.EndedNames.{NameLaw, StoredFor}
 use Rattle.sock_words.specs.Words as sockets
 use Rattle.seat_programs.specs.Asides.{id_slot, id_first}
-use Rattle.served_fits.specs.programs_allowed.specs.Openings.{all_seats}
-use Rattle.served_fits.specs.programs_allowed.proofs.Fresh.{opening_fresh}
 use Rattle.owed_calls.specs.joint_runs.proofs.Runs.{AreMade, first_views}
 use Rattle.owed_calls.specs.Lives.{ClosesInRun}
 use Rattle.owed_calls.specs.Sound.{at_of}
-use Rattle.served_fits.specs.send_causes.proofs.Early.{start, go, fitting}
-use Rattle.served_fits.specs.send_causes.proofs.Sends.{narrow, opening_claims}
-use Rattle.calls_over.proofs.OpensStill.{both}
+use Rattle.served_fits.specs.send_causes.proofs.Early.{start, go, fitting, first_fresh}
+use Rattle.served_fits.specs.send_causes.proofs.Sends.{narrow, opening_bare}
+use Rattle.served_fits.specs.send_causes.proofs.Standing.{both}
 
 -- what is known of an at word that was stored before the ending
 pub record IsEarly (script : List Item) (turns : List Turn) (core : Core) (is : IsRunWithCalls script turns core) (o w : ℕ) : Type 0 where
@@ -81,9 +77,6 @@ module _ (script : List Item) (made : AreMade script) (turns : List Turn) (core 
   few_slots : (id_plan_of script).slots ≤ 65536
   few_slots = narrow script made turns core is closes
 
-  bare : (i : ℕ) (v : View) → get_elem? vs i ≡ some v → (v.claims ≡ []) × (v.lists ≡ [] ∷ [])
-  bare i v at = (opening_claims (plan_of script) (all_seats (all_tasks script) (length (opens script))) i v at, opening_fresh (plan_of script) (all_seats (all_tasks script) (length (opens script))) i v at)
-
   tasks_are : AreTasks (plan_of script) (told_tasks_of script)
   tasks_are = are_seats (plan_of script) (all_tasks script) made.are (length (opens script))
 
@@ -98,10 +91,10 @@ module _ (script : List Item) (made : AreMade script) (turns : List Turn) (core 
     events = [];
     lost_links = [];
     story = start_story (plan_of script) (id_plan_of script) (told_tasks_of script) tasks_are _ (all_explained (plan_of script) (all_tasks script) made.are (length (opens script)) (id_plan_of script) (own_from script 0 (clients script + 1)) (calls script) (opens script) refl) vs
-        (λ i v at. (bare i v at).1) (let s = start script made turns core is in s.sound);
+        (first_fresh script) (let s = start script made turns core is in s.sound);
     trails = map (λ (x : Program). lost) (all_programs (programs (sizes_of (plan_of script) (id_plan_of script)) (all_tasks script)) (readers_from (calls script) 0 (opens script)));
     law = begins_named (plan_of script) (id_plan_of script) (IsCallOf script) (s₁ ++ s₂) [] (all_programs (programs (sizes_of (plan_of script) (id_plan_of script)) (all_tasks script)) (readers_from (calls script) 0 (opens script)))
-        (all_follow (IsCallOf script) (sizes_of (plan_of script) (id_plan_of script)) (all_tasks script) (asked_by script) (calls script) (opens script)) vs bare;
+        (all_follow (IsCallOf script) (sizes_of (plan_of script) (id_plan_of script)) (all_tasks script) (asked_by script) (calls script) (opens script)) vs (opening_bare script);
   }
 
   setup_part : After false [] (opened script) vs in_setup

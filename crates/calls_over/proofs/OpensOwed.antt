@@ -59,8 +59,8 @@ use Rattle.served_fits.specs.call_causes.proofs.HandledStates.{After}
 use Rattle.served_fits.specs.send_causes.proofs.Early.{start, go, fitting, known, opens_apart, clients_take_none}
 use Rattle.served_fits.specs.send_causes.proofs.Takeless.{NoTakes}
 use Rattle.calls_over.proofs.Handled.{reads_before}
-use Rattle.calls_over.proofs.OpensStill.{Stands, resting, joining, opening, discarding, both, stands}
-use Rattle.calls_over.proofs.OpensStill as still
+use Rattle.served_fits.specs.send_causes.proofs.Standing.{Stands, resting, joining, opening, discarding, stands}
+use Rattle.served_fits.specs.send_causes.proofs.Standing as still
 
 -- ## A reader keeps no retry
 
@@ -76,7 +76,7 @@ reads_keep life calls r u g = posts_keep life calls r.link 1014 r.kept (with_dea
 -- no seat stores a word next where it stands so
 stores_nothing : (script : List Item) (c : Core) (program : Program) → Stands script c program → next_stores program ≡ none
 stores_nothing script c program (resting e) = ap next_stores e
-stores_nothing script c program (joining id next e) = ap next_stores e
+stores_nothing script c program (joining id next e inside waits_) = ap next_stores e
 stores_nothing script c program (opening o next e z) = ap next_stores e
 stores_nothing script c program (still.reading r next e) = ap next_stores e
 stores_nothing script c program (discarding k total next e) = ap next_stores e
@@ -256,7 +256,7 @@ module _ (script : List Item) (made : AreMade script) (turns : List Turn) (core 
     NoneThrown = (k o : ℕ) → get_elem? (opens script) k ≡ some o → (seat : SeatState) → get_elem? (played script is.setup (is.scheduled ++ is.later)).seats (32 + k) ≡ some seat → (l total : ℕ) (next : ℕ → Program) → seat.program ≡ Round (Discards l total) next → ⊥
 
     -- a seat that isn't a client's is that of the reader of a link
-    reader_of : (j : ℕ) (seat : SeatState) → get_elem? rested.seats j ≡ some seat → (NoTakes seat.program → ⊥) → (k o : ℕ) × (get_elem? os k ≡ some o) × (get_elem? rested.seats (32 + k) ≡ some seat)
+    reader_of : (j : ℕ) (seat : SeatState) → get_elem? rested.seats j ≡ some seat → (NoTakes (Unit {0}) seat.program → ⊥) → (k o : ℕ) × (get_elem? os k ≡ some o) × (get_elem? rested.seats (32 + k) ≡ some seat)
     reader_of j seat at takes = dite (dec_le 32 j) (λ high. let o = at_some os (j - 32) (let m = many in let low = place_inside rested.seats j seat at in omega (arith, m, low, high)) in
         (j - 32, o.0, o.1, ap (get_elem? rested.seats) (let z : 32 + (j - 32) ≡ j = omega (arith, high) in z) ∙ at))
         (λ low. absurd (takes (clients_take_none script made turns core is j (omega (arith, low)) seat at)))
@@ -284,10 +284,10 @@ module _ (script : List Item) (made : AreMade script) (turns : List Turn) (core 
 
           by : Stands script rested seat.0.program → (u.duty ≡ Free) × (u.keeps ≡ false)
           by (resting e) = let r : OwesOn lives_there u Rest = subst (OwesOn lives_there u) e g in (r.0, r.2)
-          by (joining id next e) = let r : OwesOn lives_there u (Round (Joins id) next) = subst (OwesOn lives_there u) e g in r.0.0
+          by (joining id next e inside waits_) = let r : OwesOn lives_there u (Round (Joins id) next) = subst (OwesOn lives_there u) e g in r.0.0
           by (opening o next e z) = let r : OwesOn lives_there u (Round (Opens o) next) = subst (OwesOn lives_there u) e g in r.0.1
-          by (still.reading r next e) = by_read (reader_of j seat.0 seat.1 (λ none_. let n : NoTakes (Round (Reads r) next) = subst NoTakes e none_ in n)) r next e
-          by (discarding l total next e) = let x = reader_of j seat.0 seat.1 (λ none_. let n : NoTakes (Round (Discards l total) next) = subst NoTakes e none_ in n) in absurd (none_thrown x.0 x.1 x.2 seat.0 x.3 l total next e)
+          by (still.reading r next e) = by_read (reader_of j seat.0 seat.1 (λ none_. let n : NoTakes (Unit {0}) (Round (Reads r) next) = subst (NoTakes (Unit {0})) e none_ in n)) r next e
+          by (discarding l total next e) = let x = reader_of j seat.0 seat.1 (λ none_. let n : NoTakes (Unit {0}) (Round (Discards l total) next) = subst (NoTakes (Unit {0})) e none_ in n) in absurd (none_thrown x.0 x.1 x.2 seat.0 x.3 l total next e)
 
       -- an id at an attempt whose at word names a link, which its reader reads
       pub record IsRead (id n : ℕ) : Type 0 where
@@ -326,7 +326,7 @@ module _ (script : List Item) (made : AreMade script) (turns : List Turn) (core 
 
           by : Stands script rested seat.0.program → IsRead id n
           by (resting e) = let r : OwesOn lives_there u Rest = subst (OwesOn lives_there u) e g in absurd (subst (InList o) r.1 left)
-          by (joining i next e) = let r : OwesOn lives_there u (Round (Joins i) next) = subst (OwesOn lives_there u) e g in absurd (subst (InList o) r.0.1 left)
+          by (joining i next e inside waits_) = let r : OwesOn lives_there u (Round (Joins i) next) = subst (OwesOn lives_there u) e g in absurd (subst (InList o) r.0.1 left)
           by (opening x next e z) = let same : x ≡ own.0 = waits_own p (calls script) (32 + k) k own.0 (in_script k own.0 own.1) rested seat.0 seat.1 (readers₂ k own.0 own.1) x next e in
               let word_is = (id_is (get_or rested.words (open_index p own.0) 0) s own.2).0 in let zero_ : get_or rested.words (open_index p own.0) 0 ≡ 0 = ap (λ m. get_or rested.words (open_index p m) 0) (sym same) ∙ z in absurd (let z : ⊥ = omega (arith, word_is, zero_) in z)
           by (still.reading r next e) = let x = reads_so k own.0 own.1 seat.0 seat.1 r next e in record {

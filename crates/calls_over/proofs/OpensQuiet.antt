@@ -1,11 +1,7 @@
 -- Where each link has the server and nothing went wrong, no link failed before the ending, no reader throws bytes away, and each message that a link accepted is the request of a call.
-use Rattle.std.proofs.Common.{◌≡◌, ℕ, ◌<◌, ◌≤◌, ◌⊎◌, inl, inr, ⊎_elim, List, [], ◌∷◌, ◌++◌, length, replicate, Some, None, Ok, sym, ap, ◌∙◌, subst, arith}
+use Rattle.std.proofs.Common.{◌≡◌, ℕ, ◌<◌, ◌≤◌, ◌⊎◌, inl, inr, ⊎_elim, List, ◌++◌, length, replicate, Some, None, Ok, sym, ap, ◌∙◌, subst, arith}
 use Rattle.std.specs.List.{AllByRecursion}
 use Rattle.std.specs.Prelude.{IsTrue, Contains}
-use mathlib.Core.Option.{some}
-use lib.ListN.{get_elem?}
-use Rattle.sock_words.specs.declared.plain.Plan.{Plan}
-use Rattle.sock_model.specs.declared.view.View.{View}
 use Rattle.sock_model.specs.Links.{Failed}
 use Rattle.brpc_model.specs.Causes.{HasFault, reading_limit}
 use Rattle.brpc_model.specs.Complete.{IsUntroubled}
@@ -34,7 +30,7 @@ use Rattle.seat_programs.specs.Programs.{Rest, Round}
 use Rattle.seat_programs.specs.Readers.{LIMIT, reader}
 use Rattle.seat_programs.specs.Scripts.{Reports, all_tasks, opened, set_up, played, IsRunWithCalls}
 use Rattle.seat_programs.specs.Tasks.{opens, calls, numbered, plan_of, id_plan_of}
-use Rattle.seat_programs.specs.Ticks.{Moment, quiet, broken_in, ticked}
+use Rattle.seat_programs.specs.Ticks.{Moment, quiet, broken_in}
 use Rattle.seat_programs.specs.Told.{IsTask, IsFail, Made}
 use Rattle.seat_programs.specs.ToldCalls.{Order, Fixed, ToldCalls}
 use Rattle.sock_runs.specs.Sound.{state}
@@ -47,8 +43,6 @@ use Rattle.outcome_causes.specs.Stories.{In}
 use Rattle.outcome_causes.proofs.Lifted.{task_up}
 use Rattle.outcome_causes.proofs.Members.{in_contains, contains_in}
 use Rattle.outcome_causes.proofs.Plain.{in_left, in_right, in_both}
-use Rattle.served_fits.specs.programs_allowed.specs.Openings.{all_seats}
-use Rattle.served_fits.specs.programs_allowed.proofs.Fresh.{opening_fresh}
 use Rattle.owed_calls.specs.joint_runs.proofs.Runs.{AreMade, first_views}
 use Rattle.owed_calls.specs.Lives.{ClosesInRun}
 use Rattle.served_fits.specs.run_theorems.specs.Heard.{heard_takes, given_by}
@@ -58,9 +52,9 @@ use Rattle.served_fits.specs.run_theorems.proofs.Starts.{made}
 use Rattle.served_fits.specs.call_causes.specs.Lists.{given}
 use Rattle.served_fits.specs.call_causes.specs.Scenes.{LeadsTo}
 use Rattle.served_fits.specs.send_causes.proofs.AttemptedStored.{played_leads}
-use Rattle.served_fits.specs.send_causes.proofs.Early.{start, go, fitting, closed_early}
+use Rattle.served_fits.specs.send_causes.proofs.Early.{start, go, fitting, closed_early, first_fresh}
 use Rattle.served_fits.specs.send_causes.proofs.Faults.{Faults, fault_stays}
-use Rattle.served_fits.specs.send_causes.proofs.Sends.{owed}
+use Rattle.served_fits.specs.send_causes.proofs.Sends.{owed, lost_so}
 use Rattle.outcome_causes.proofs.Scripts.{run_tells, failed_early}
 use Rattle.served_fits.specs.served_runs.specs.Offered.{OffersInRun}
 use Rattle.served_fits.specs.served_runs.specs.Served.{IsForCalls}
@@ -75,14 +69,6 @@ use Rattle.served_fits.specs.served_sizes.proofs.Few as sizes
 use Rattle.calls_over.proofs.OpensEntered.{rested_sound}
 use Rattle.calls_over.proofs.OpensOwed.{NoneThrown}
 use Rattle.calls_over.proofs.Soon.{named_shape, no_end, no_stray}
-
--- a link that was lost in some ticks answered that it failed, or its socket was closed
-lost_so : (p : Plan) (c : Core) (ms : List Moment) (k : ℕ) → In k (lost_in p c ms) → In k (broken_in p c ms) ⊎ In k (shown_in closed_at p c ms)
-lost_so p c [] k m = absurd m
-lost_so p c (x ∷ xs) k m = ⊎_elim
-    (λ a. ⊎_elim (λ b. inl (in_left _ (broken_in p (ticked p c x) xs) k b)) (λ b. inr (in_left (closed_at c x) (shown_in closed_at p (ticked p c x) xs) k b)) (in_both _ (closed_at c x) k a))
-    (λ a. ⊎_elim (λ b. inl (in_right _ (broken_in p (ticked p c x) xs) k b)) (λ b. inr (in_right (closed_at c x) (shown_in closed_at p (ticked p c x) xs) k b)) (lost_so p (ticked p c x) xs k a))
-    (in_both _ (lost_in p (ticked p c x) xs) k m)
 
 module _ (bytes : List ℕ) (script : List Item) (reads : script_of bytes ≡ Ok script) (short : length bytes ≤ 1048576) (turns : List Turn) (core : Core) (is : IsRunWithCalls script turns core) (closes : ClosesInRun script turns core is) (offers : OffersInRun script turns core is) (fixed : Fixed)
     (orders : ℕ → Order) (tells : ToldCalls (plan_of script) (all_tasks script) core.outcomes fixed (given core) orders core) (report : Report) (took : List (List ℕ)) (ends : List LinkEnd)
@@ -159,16 +145,13 @@ module _ (bytes : List ℕ) (script : List Item) (reads : script_of bytes ≡ Ok
   pub unfailed : (k : ℕ) → Failed (plan_of script) (state (played script is.setup (is.scheduled ++ is.later)) (views_played script turns core is (first_views script))) k → ⊥
   unfailed k failed = ⊎_elim (λ lost. by_lost (contains_in _ k lost))
       (λ at_fail.
-      let tale = run_tells script are_made.are (first_views script) (start script are_made turns core is) fresh (go script are_made turns core is) turns core is (fitting script are_made turns core is) (owed script are_made turns core is closes) in
+      let tale = run_tells script are_made.are (first_views script) (start script are_made turns core is) (first_fresh script) (go script are_made turns core is) turns core is (fitting script are_made turns core is) (owed script are_made turns core is closes) in
       let t = tale.tells in let f : IsFail (told_tasks_of script) core.outcomes (at_fail.0, k) = all_at (IsFail (told_tasks_of script) core.outcomes) t.fails (at_fail.0, k) t.are (has_from t.fails (at_fail.0, k) at_fail.1) in
       let it = task_up (all_tasks script) (length (opens script)) core.outcomes f.client f.task f.is in
       let w = task_is script core.outcomes f.client f.task it in let m = fail_asks (numbered script) (names script) (numbers_at script f.task.number w.operation) w.operation.item f.name f.code (w.asks ∙ ap Some f.op) in
       untroubled.no_fail m.0 f.code (contains_from script (Fail m.0 f.code) (known.in_script all_given.run f.task.number w.operation w.there (Fail m.0 f.code) m.1)))
-      (failed_early script are_made.are (first_views script) (start script are_made turns core is) fresh (go script are_made turns core is) turns core is (fitting script are_made turns core is) (owed script are_made turns core is closes) k failed)
+      (failed_early script are_made.are (first_views script) (start script are_made turns core is) (first_fresh script) (go script are_made turns core is) turns core is (fitting script are_made turns core is) (owed script are_made turns core is closes) k failed)
     where
-      fresh : (i : ℕ) (v : View) → get_elem? (first_views script) i ≡ some v → v.lists ≡ [] ∷ []
-      fresh = opening_fresh (plan_of script) (all_seats (all_tasks script) (length (opens script)))
-
       low : k < length (link_names script)
       low = let o = (rested_sound script are_made turns core is).lawful in o.in_slots.small failed.slot failed.version k failed.life
 

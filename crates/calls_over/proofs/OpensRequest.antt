@@ -38,7 +38,7 @@ use Rattle.served_fits.specs.run_theorems.proofs.Starts.{made}
 use Rattle.served_fits.specs.call_causes.specs.Lists.{given}
 use Rattle.served_fits.specs.send_causes.proofs.AllTold.{told_of_run}
 use Rattle.served_fits.specs.send_causes.proofs.Assembled.{fixed_in_run}
-use Rattle.served_fits.specs.send_causes.proofs.AttemptedSent.{get_same}
+use Rattle.served_fits.specs.send_causes.proofs.DropWhole.{get_same}
 use Rattle.served_fits.specs.send_causes.proofs.AttemptedStored.{ids_at}
 use Rattle.served_fits.specs.send_causes.proofs.OwnIds.{own_id}
 use Rattle.served_fits.specs.send_causes.proofs.Sends.{orders_of_run}

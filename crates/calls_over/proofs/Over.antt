@@ -22,7 +22,7 @@ use Rattle.served_fits.specs.served_calls.specs.Quiet.{AreShown}
 use Rattle.served_fits.specs.Shown.{AreSo}
 use Rattle.served_fits.proofs.Whole as fits
 use Rattle.calls_over.proofs.Opens.{open_call}
-use Rattle.calls_over.proofs.OpensStill.{unlocked}
+use Rattle.served_fits.specs.send_causes.proofs.Standing.{unlocked}
 use Rattle.calls_over.proofs.Soon.{no_open_call}
 
 module _ (bytes : List ℕ) (script : List Item) (reads : script_of bytes ≡ Ok script) (short : length bytes ≤ 1048576) (turns : List Turn) (core : Core) (is : IsRunWithCalls script turns core) (closes : ClosesInRun script turns core is) (offers : OffersInRun script turns core is) (fixed : Fixed)

@@ -1,5 +1,5 @@
 -- Each whole frame that a link takes of what it accepted is the request of an attempt of a call, of a version below the end of its range.
-use Rattle.std.proofs.Common.{◌≡◌, ◌≢◌, ℕ, zero, suc, ◌+◌, ◌<◌, ◌≤◌, cond, eqb, eq-eqb, ne_eqb, List, [], ◌∷◌, ◌++◌, length, take, flat_map, slice_get, Some, ⊎_elim, refl, sym, ap, ◌∙◌, subst, arith}
+use Rattle.std.proofs.Common.{◌≡◌, ◌≢◌, ℕ, zero, suc, ◌+◌, ◌<◌, ◌≤◌, cond, ne_eqb, List, [], ◌∷◌, ◌++◌, length, take, flat_map, slice_get, Some, ⊎_elim, refl, sym, ap, ◌∙◌, subst, arith}
 use Rattle.std.specs.List.{AllByRecursion}
 use mathlib.Core.Option.{some}
 use lib.ListN.{get_elem?}
@@ -31,6 +31,7 @@ use Rattle.served_fits.specs.send_causes.specs.Counts.{pair_of, of_heading, of_e
 use Rattle.served_fits.specs.served_runs.proofs.Frames.{IsPiece, piece_frames, IsSmall, request_is}
 use Rattle.calls_over.proofs.SoonLists.{Stood, log_stood}
 use Rattle.calls_over.proofs.SoonWords.{bound_low}
+use Rattle.served_fits.specs.send_causes.proofs.OwnDecisionsTicks.{pair_self}
 
 -- ## Requests of ranges that have begun
 
@@ -62,17 +63,10 @@ low_on q c d up f l = record {
 abbrev pub NonePlain : ℕ → List View → Type 0
 NonePlain k vs = (e : Entry) → Stood vs e → e.link ≡ k → e.heading.owner ≡ 0 → ⊥
 
-pub all_map : {A : Type 0} (P Q : A → Type 0) → ((x : A) → P x → Q x) → (xs : List A) → AllByRecursion P xs → AllByRecursion Q xs
-all_map P Q f [] a = tt
-all_map P Q f (x ∷ xs) a = (f x a.0, all_map P Q f xs a.1)
-
 -- ## Chains of pieces
 
 module _ (p : Plan) (q : IdPlan) (narrow : q.slots ≤ 65536) (is_call : Asked → Type 0) (short : (asked : Asked) → is_call asked → (id n : ℕ) → length (frame_of asked id n) ≤ 131072) (ids : ℕ → ℕ) (c : Core) (vs : List View) (ts : List Trial)
     (law : LabelLaw is_call ids p q c vs ts) (standing : (id n : ℕ) → 0 < times_of id n c vs ts → id_first id + n + 1 < bound (id_word_of c (id_slot id))) (us : List IdView) (real : SoundIds p q c us) (k : ℕ) (none_plain : NonePlain k vs) where
-  pair_self : (id n : ℕ) → pair_of id n id n ≡ 1
-  pair_self id n = ap (λ b. cond b (cond (eqb n n) 1 0) 0) (eq-eqb id id refl) ∙ ap (λ b. cond b 1 0) (eq-eqb n n refl)
-
   own_heading : (w : Heading) → w.owner ≢ 0 → of_heading w.owner w.attempt w ≡ 1
   own_heading w some_ = ap (λ z. cond z 0 (pair_of w.owner w.attempt w.owner w.attempt)) (ne_eqb w.owner 0 some_) ∙ pair_self w.owner w.attempt
 

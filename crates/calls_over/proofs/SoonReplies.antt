@@ -20,12 +20,10 @@ use Rattle.served_fits.specs.call_causes.proofs.Handled.{bound, early_is}
 use Rattle.served_fits.specs.call_causes.proofs.Streams.{frames_stay}
 use Rattle.served_fits.specs.served_runs.proofs.Frames.{IsPiece, piece_frames, reply_is}
 use Rattle.calls_over.proofs.SoonPieces.{IsLow}
+use Rattle.served_fits.specs.call_causes.proofs.Run.{in_either}
+use Rattle.served_fits.specs.call_causes.proofs.Posts.{and_right}
 
 -- ## One reply
-
-and_right : (a b : Bool) → (a && b) ≡ true → b ≡ true
-and_right true b e = e
-and_right false b e = absurd (let z : false ≡ true = e in cc)
 
 module _ (q : IdPlan) (c : Core) where
   -- where it is as a reader finds a response, it is of an id that ends higher
@@ -80,11 +78,6 @@ module _ (q : IdPlan) (c : Core) where
 
 -- ## Soon frames
 
-pub in_two : {A : Type 0} (x : A) (xs ys : List A) → In x (xs ++ ys) → In x xs ⊎ In x ys
-in_two x [] ys there = inr there
-in_two x (z ∷ xs) ys (inl same) = inl (inl same)
-in_two x (z ∷ xs) ys (inr there) = ⊎_elim (λ a. inl (inr a)) (λ a. inr a) (in_two x xs ys there)
-
 has_drop : {A : Type 0} (n : ℕ) (xs : List A) (x : A) → Has (drop n xs) x → Has xs x
 has_drop zero [] x h = h
 has_drop zero (y ∷ xs) x h = h
@@ -113,4 +106,4 @@ soon_of c d [] k j there = absurd there
 soon_of c d (t ∷ takes) k j there = ⊎_elim
     (λ here. let before = length (stream (given c t.link)).frames in let s = soon_in d t.link before (drop before (stream (given d t.link)).frames) (k, j) here in
     subst (λ l. IsSoonOf d l (stream (given d l)).frames) (sym s.0) (s.1.0, has_drop before (stream (given d t.link)).frames s.1.0 s.1.1, s.1.2))
-    (λ later. soon_of c d takes k j later) (in_two (k, j) (soon_by c d t) (flat_map (soon_by c d) takes) there)
+    (λ later. soon_of c d takes k j later) (in_either (k, j) (soon_by c d t) (flat_map (soon_by c d) takes) there)

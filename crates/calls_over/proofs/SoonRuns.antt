@@ -1,11 +1,10 @@
 -- In a run a link with the server, to whose socket no `send` is, gives no response before its call began, up to where the ending begins.
-use Rattle.std.proofs.Common.{◌≡◌, ℕ, zero, suc, ◌+◌, ◌<◌, ◌≤◌, inl, inr, ⊎_elim, Bool, false, List, [], ◌∷◌, ◌++◌, length, replicate, get_or, refl, sym, ap, ◌∙◌, subst, arith}
+use Rattle.std.proofs.Common.{◌≡◌, ℕ, zero, suc, ◌+◌, ◌<◌, ◌≤◌, inl, inr, ⊎_elim, Bool, false, List, [], ◌∷◌, ◌++◌, length, replicate, sym, ap, ◌∙◌, subst, arith}
 use Rattle.std.proofs.lemmas.Option.{slice_get_within}
 use Rattle.std.specs.List.{AllByRecursion}
 use Rattle.std.specs.Prelude.{slice_get, Some, IsTrue}
 use mathlib.Core.Option.{Option, none, some, some-injective, some-ne-none}
 use lib.ListN.{get_elem?}
-use Rattle.sock_words.specs.declared.plain.Plan.{Plan}
 use Rattle.sock_model.specs.declared.home.Home.TheVariants.{Link}
 use Rattle.sock_model.specs.declared.view.View.{View}
 use Rattle.brpc_model.specs.Items.{Item, Shape}
@@ -19,7 +18,7 @@ use Rattle.seat_programs.specs.declared.task.Task.{Task}
 use Rattle.seat_programs.specs.Programs.{Program}
 use Rattle.seat_programs.specs.Cores.{Core, SeatState, resolved, next_step}
 use Rattle.seat_programs.specs.Tasks.{opens, calls, plan_of, id_plan_of}
-use Rattle.seat_programs.specs.Ticks.{Moment, AreAnswered, quiet, ticked, run}
+use Rattle.seat_programs.specs.Ticks.{Moment, AreAnswered, quiet}
 use Rattle.seat_programs.specs.Told.{OpFits, TaskFits, IsTask, Made}
 use Rattle.seat_programs.specs.Scripts.{sizes_of, programs, readers_from, all_programs, all_tasks, new_links, opened, set_up, played, IsRunWithCalls}
 use Rattle.sock_runs.specs.Sound.{views_along}
@@ -28,26 +27,24 @@ use Rattle.sock_runs.proofs.Opening.{mapped}
 use Rattle.sock_runs.proofs.Whole.{views_played, set_up_answered}
 use Rattle.outcome_causes.proofs.Members.{all_in}
 use Rattle.outcome_causes.proofs.Tasks.{fits_of}
-use Rattle.served_fits.specs.programs_allowed.specs.Openings.{all_seats}
-use Rattle.served_fits.specs.programs_allowed.proofs.Fresh.{opening_fresh}
 use Rattle.owed_calls.specs.joint_runs.proofs.Runs.{AreMade, first_views, joint_runs}
 use Rattle.owed_calls.specs.Lives.{ClosesInRun, InHand}
-use Rattle.served_fits.specs.run_theorems.proofs.Lengths.{tick_long}
 use Rattle.served_fits.specs.call_causes.specs.Scenes.{In}
 use Rattle.served_fits.specs.send_causes.proofs.Early.{start, go, fitting}
 use Rattle.served_fits.specs.send_causes.proofs.Labelled.{ids_of_run}
 use Rattle.served_fits.specs.send_causes.proofs.Runs.{IsCallOf, programs_go, begins_labels, asked_by}
-use Rattle.served_fits.specs.send_causes.proofs.Sends.{narrow, few_clients, opening_claims, labelled}
-use Rattle.served_fits.specs.send_causes.proofs.Whole.{get_same}
+use Rattle.served_fits.specs.send_causes.proofs.Sends.{narrow, few_clients, labelled, opening_bare}
+use Rattle.served_fits.specs.send_causes.proofs.DropWhole.{get_same}
 use Rattle.served_fits.specs.served_runs.specs.Offered.{TookSoFar, offered_by, OffersInRun}
 use Rattle.served_fits.specs.served_runs.proofs.Parts.{IsPart, part_along}
 use Rattle.served_fits.specs.served_runs.proofs.Runs.{quiet_offered}
 use Rattle.served_fits.specs.served_runs.proofs.Served.{shapes_many}
 use Rattle.calls_over.proofs.Handled.{known_setup, known_clients, soon_setup, soon_clients}
 use Rattle.calls_over.proofs.SoonPieces.{IsLow, NonePlain}
-use Rattle.calls_over.proofs.SoonReplies.{in_two}
+use Rattle.served_fits.specs.call_causes.proofs.Run.{in_either as in_two}
 use Rattle.calls_over.proofs.SoonTicks.{Stands', plain_before, run_stands, quiet_soon, none_soon}
 use Rattle.calls_over.proofs.SoonUnsent.{plain_played}
+use Rattle.served_fits.specs.served_runs.proofs.Replies.{empty_at, gave_long, empty_long}
 
 -- ## How a run begins
 
@@ -65,19 +62,6 @@ opened_took : (script : List Item) (k : ℕ) (took : List ℕ) → TookSoFar (pl
 opened_took script k took (next, done, inl home) = new_empty 0 (plan_of script).links k k next took done (sym (behind_none (plan_of script).requests (new_links 0 (plan_of script).links) k) ∙ home)
 opened_took script k took (next, done, inr (j, seat, at, has)) = let x = mapped (λ (program : Program). record { program = next_step (resolved [] program); hand = [] }) _ j seat at in
     absurd (subst (λ (s : SeatState). InHand (Link k took next done) s.hand) (sym x.2) has)
-
-empty_at : (n k : ℕ) → get_or (replicate n []) k [] ≡ (let e : List ℕ = [] in e)
-empty_at zero k = refl
-empty_at (suc n) zero = refl
-empty_at (suc n) (suc k) = empty_at n k
-
-empty_long : (n : ℕ) → length (replicate n (let e : List ℕ = [] in e)) ≡ n
-empty_long zero = refl
-empty_long (suc n) = ap suc (empty_long n)
-
-gave_long : (p : Plan) (ms : List Moment) (c : Core) → length (run p c ms).calls.gave ≡ length c.calls.gave
-gave_long p [] c = refl
-gave_long p (m ∷ ms) c = gave_long p ms (ticked p c m) ∙ (tick_long p m c).gave
 
 module _ (script : List Item) (made : AreMade script) (there : AreThere script) (range : AllByRecursion InRange script) (turns : List Turn) (core : Core) (is : IsRunWithCalls script turns core) (closes : ClosesInRun script turns core is) (offers : OffersInRun script turns core is)
     (k : ℕ) (shape : Shape) (shape_is : slice_get (link_shapes script) k ≡ Some shape) (serves : IsTrue shape.serve)
@@ -119,7 +103,7 @@ module _ (script : List Item) (made : AreMade script) (there : AreThere script) 
   first : S (opened script) (first_views script)
   first = let l = begins_labels (plan_of script) (id_plan_of script) small (IsCallOf script) ids (all_programs (programs (sizes_of (plan_of script) (id_plan_of script)) (all_tasks script)) (readers_from (calls script) 0 (opens script)))
       (programs_go (IsCallOf script) (sizes_of (plan_of script) (id_plan_of script)) (all_tasks script) (asked_by script) (calls script) (opens script)) (first_views script)
-      (λ i v at. (opening_claims (plan_of script) (all_seats (all_tasks script) (length (opens script))) i v at, opening_fresh (plan_of script) (all_seats (all_tasks script) (length (opens script))) i v at)) in record {
+      (opening_bare script) in record {
         trials = l.0;
         law = l.1;
         below = λ id n some_. absurd (let z = l.2 id n in omega (arith, z, some_));

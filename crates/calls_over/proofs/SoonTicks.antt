@@ -32,9 +32,11 @@ use Rattle.served_fits.specs.send_causes.proofs.Ticks.{label_ticks}
 use Rattle.served_fits.specs.served_runs.specs.Offered.{TookSoFar, AreOffered}
 use Rattle.served_fits.specs.served_runs.proofs.Parts.{IsPart, part_along}
 use Rattle.calls_over.proofs.SoonLists.{run_stay}
-use Rattle.calls_over.proofs.SoonPieces.{IsLow, low_on, NonePlain, all_map, front_low}
+use Rattle.calls_over.proofs.SoonPieces.{IsLow, low_on, NonePlain, front_low}
+use Rattle.report_fits.proofs.Lists.{all_map}
 use Rattle.calls_over.proofs.SoonPuts.{took_behind, took_before}
-use Rattle.calls_over.proofs.SoonReplies.{in_two, soon_of, given_late}
+use Rattle.calls_over.proofs.SoonReplies.{soon_of, given_late}
+use Rattle.served_fits.specs.call_causes.proofs.Run.{in_either as in_two}
 use Rattle.calls_over.proofs.SoonWords.{begun_below, words_go}
 
 module _ (p : Plan) (q : IdPlan) (narrow : q.slots ≤ 65536) (is_call : Asked → Type 0) (short : (asked : Asked) → is_call asked → (id n : ℕ) → length (frame_of asked id n) ≤ 131072) (ids : ℕ → ℕ) (go : RetriesGo p) (k : ℕ) where

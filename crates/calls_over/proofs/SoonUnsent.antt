@@ -27,15 +27,13 @@ use Rattle.outcome_causes.proofs.Lifted.{task_up, made_up}
 use Rattle.outcome_causes.proofs.Messages.{each_made, message_of, number_of}
 use Rattle.outcome_causes.proofs.Scripts.{seats, final_told, story_end, orders, run_told}
 use Rattle.outcome_causes.proofs.Senders.{HasSent, sent_stands}
-use Rattle.served_fits.specs.programs_allowed.specs.Openings.{all_seats}
-use Rattle.served_fits.specs.programs_allowed.proofs.Fresh.{opening_fresh}
 use Rattle.owed_calls.specs.joint_runs.proofs.Runs.{AreMade, first_views}
 use Rattle.owed_calls.specs.Lives.{ClosesInRun}
 use Rattle.owed_calls.proofs.EndsStill as still
 use Rattle.served_fits.specs.send_causes.specs.Counts.{EntryFits}
-use Rattle.served_fits.specs.send_causes.proofs.Early.{start, go, fitting}
+use Rattle.served_fits.specs.send_causes.proofs.Early.{start, go, fitting, first_fresh}
 use Rattle.served_fits.specs.send_causes.proofs.Runs.{IsCallOf, end_law}
-use Rattle.served_fits.specs.send_causes.proofs.Sends.{owed, narrow, few_clients, opening_claims, labelled}
+use Rattle.served_fits.specs.send_causes.proofs.Sends.{owed, narrow, few_clients, labelled, opening_bare}
 use Rattle.served_fits.specs.send_causes.proofs.Labelled.{ids_of_run}
 use Rattle.calls_over.proofs.SoonLists.{Stood, run_stay}
 use Rattle.calls_over.proofs.SoonPieces.{NonePlain}
@@ -62,12 +60,6 @@ module _ (script : List Item) (made : AreMade script) (turns : List Turn) (core 
   abbrev fits : AreFittingIn script turns core is
   fits = fitting script made turns core is
 
-  abbrev fresh : (i : ℕ) (v : View) → get_elem? (first_views script) i ≡ some v → v.lists ≡ [] ∷ []
-  fresh = opening_fresh (plan_of script) (all_seats (all_tasks script) (length (opens script)))
-
-  abbrev bare : (i : ℕ) (v : View) → get_elem? (first_views script) i ≡ some v → (v.claims ≡ []) × (v.lists ≡ [] ∷ [])
-  bare = λ i v at. (opening_claims (plan_of script) (all_seats (all_tasks script) (length (opens script))) i v at, opening_fresh (plan_of script) (all_seats (all_tasks script) (length (opens script))) i v at)
-
   abbrev owes : IsOwed script turns core is
   owes = owed script made turns core is closes
 
@@ -85,26 +77,26 @@ module _ (script : List Item) (made : AreMade script) (turns : List Turn) (core 
   -- a message of a `send` that stands on a link is to its socket
   sent_end : (e : Entry) (i n : ℕ) → HasSent (views_ended script turns core is (first_views script)) i n e → e.link ≡ k → is_of_send e ≡ true → ⊥
   sent_end e i n h own send = let there = sent_stands (plan_of script) core (views_ended script turns core is vs) sound.lawful i n e h in
-      by (all_at (λ (a : Accepted). causes.IsSent (told_tasks_of script) core.outcomes e.link a ⊎ IsSpoken (told_tasks_of script) a.operation) (orders script made.are vs begins fresh goes turns core is fits owes e.link).accepted (accepted_of e)
-      ((run_told script made.are vs begins fresh goes turns core is fits owes).sent e.link there.0) (there.1, there.2))
+      by (all_at (λ (a : Accepted). causes.IsSent (told_tasks_of script) core.outcomes e.link a ⊎ IsSpoken (told_tasks_of script) a.operation) (orders script made.are vs begins (first_fresh script) goes turns core is fits owes e.link).accepted (accepted_of e)
+      ((run_told script made.are vs begins (first_fresh script) goes turns core is fits owes).sent e.link there.0) (there.1, there.2))
     where
       by : causes.IsSent (told_tasks_of script) core.outcomes e.link (accepted_of e) ⊎ IsSpoken (told_tasks_of script) e.heading.operation → ⊥
       by (inl s) = unsent s.client s.task s.name s.slot s.version e.bytes (task_up (all_tasks script) (length (opens script)) core.outcomes s.client s.task s.is) s.op
           (subst (λ l. Made (all_tasks script) core.outcomes s.name l s.slot s.version) own (made_up (all_tasks script) (length (opens script)) core.outcomes s.name e.link s.slot s.version s.life))
-      by (inr spoken) = let t = final_told script made.are vs begins fresh goes turns core is fits in
-          let x = message_of (plan_of script) (told_tasks_of script) (seats script made.are vs begins fresh goes turns core is fits) true core (views_ended script turns core is vs) t.after.events t.after.lost sound (story_end script made.are vs begins fresh goes turns core is fits owes) rests i n e h send in
-          spoken i x.task x.asks (sym (number_of (plan_of script) (told_tasks_of script) (seats script made.are vs begins fresh goes turns core is fits) true core (views_ended script turns core is vs) t.after.events t.after.lost sound (story_end script made.are vs begins fresh goes turns core is fits owes) rests i e x))
+      by (inr spoken) = let t = final_told script made.are vs begins (first_fresh script) goes turns core is fits in
+          let x = message_of (plan_of script) (told_tasks_of script) (seats script made.are vs begins (first_fresh script) goes turns core is fits) true core (views_ended script turns core is vs) t.after.events t.after.lost sound (story_end script made.are vs begins (first_fresh script) goes turns core is fits owes) rests i n e h send in
+          spoken i x.task x.asks (sym (number_of (plan_of script) (told_tasks_of script) (seats script made.are vs begins (first_fresh script) goes turns core is fits) true core (views_ended script turns core is vs) t.after.events t.after.lost sound (story_end script made.are vs begins (first_fresh script) goes turns core is fits owes) rests i e x))
 
   -- what has no owner is of a `send`
   plain_send : (e : Entry) → Stood (views_ended script turns core is (first_views script)) e → e.heading.owner ≡ 0 → is_of_send e ≡ true
-  plain_send e s plain = let law = end_law script made.are vs begins goes turns core is fits (narrow script made turns core is closes) bare (ids_of_run script made turns core is (narrow script made turns core is closes) (few_clients script made turns core is closes)) (labelled script made turns core is closes) in
+  plain_send e s plain = let law = end_law script made.are vs begins goes turns core is fits (narrow script made turns core is closes) (opening_bare script) (ids_of_run script made turns core is (narrow script made turns core is closes) (few_clients script made turns core is closes)) (labelled script made turns core is closes) in
       let fits_entry = still.all_at (EntryFits (IsCallOf script) ids (plan_of script)) s.made s.place e (still.all_at (AllByRecursion (EntryFits (IsCallOf script) ids (plan_of script))) s.view.lists s.list s.made (law.1.views s.seat s.view s.here).1 s.lists) s.stands in
       ⊎_elim (λ none_. ap (λ (l : List ℕ). elim l as (λ l. Bool) [ [] ↦ true | x ∷ xs ↦ false ]) none_.1) (λ call. absurd (call.0 plain)) fits_entry.0
 
   -- none is there in the end
   plain_end : NonePlain k (views_ended script turns core is (first_views script))
-  plain_end e s own plain = let t = final_told script made.are vs begins fresh goes turns core is fits in
-      let one = each_made (plan_of script) (told_tasks_of script) (seats script made.are vs begins fresh goes turns core is fits) true core (views_ended script turns core is vs) t.after.events t.after.lost sound (story_end script made.are vs begins fresh goes turns core is fits owes) rests s.seat s.view s.here in
+  plain_end e s own plain = let t = final_told script made.are vs begins (first_fresh script) goes turns core is fits in
+      let one = each_made (plan_of script) (told_tasks_of script) (seats script made.are vs begins (first_fresh script) goes turns core is fits) true core (views_ended script turns core is vs) t.after.events t.after.lost sound (story_end script made.are vs begins (first_fresh script) goes turns core is fits owes) rests s.seat s.view s.here in
       sent_end e s.seat s.place (stood_there (views_ended script turns core is vs) e s one.0 one.1) own (plain_send e s plain)
 
   -- ## Before

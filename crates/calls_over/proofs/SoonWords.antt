@@ -23,6 +23,7 @@ use Rattle.sock_runs.specs.Sound.{first_step}
 use Rattle.owed_calls.specs.Sound.{id_word_of}
 use Rattle.served_fits.specs.call_causes.proofs.Handled.{bound, Goes, goes_same}
 use Rattle.served_fits.specs.call_causes.proofs.HandledTicks.{Known}
+use Rattle.served_fits.specs.send_causes.proofs.Readings.{ticks_first}
 
 -- ## One range
 
@@ -56,11 +57,6 @@ module _ (p : Plan) (q : IdPlan) (c : Core) (us : List IdView) (ids : SoundIds p
       by_state false first = let eight : (id_word_of c i).range ≤ 8 = omega arith in omega (arith, first, eight)
 
 -- ## Ticks
-
-ticks_first : (p : Plan) (i : ℕ) (seat : SeatState) (c : Core) (answer : Answer) (program : Program) → tick_with p i seat c answer program ≡ step_with p i seat c answer (first_step program)
-ticks_first p i seat c answer (Write w after) = refl
-ticks_first p i seat c answer (Round head next) = refl
-ticks_first p i seat c answer program = refl
 
 module _ (p : Plan) (q : IdPlan) (c : Core) (m : Moment) (known : Known q c m) (i : ℕ) (low : i < q.slots) where
   abbrev On : Core → Type 0

@@ -1,4 +1,3 @@
-pub mod Locking
 pub mod Programs
 pub mod Ticks
 pub mod Resting

@@ -8,7 +8,6 @@ use mathlib.Core.Option.{some, some-injective, some-ne-none}
 use native.Mathlib.Decide.{dec_le}
 use lib.ListN.{get_elem?}
 use Rattle.sock_words.specs.declared.outcome.Outcome.{Outcome}
-use Rattle.sock_model.specs.declared.view.View.{View}
 use Rattle.brpc_model.specs.Items.{Item, Join}
 use Rattle.brpc_model.specs.Operations.{Turn}
 use Rattle.seat_programs.specs.declared.task.Task.{Task}
@@ -28,10 +27,8 @@ use Rattle.send_causes.specs.outcome_causes.specs.Kept.{IsSpoken}
 use Rattle.send_causes.specs.outcome_causes.specs.PlainTasks.{told_tasks_of}
 use Rattle.send_causes.specs.outcome_causes.specs.Stories.{In}
 use Rattle.send_causes.specs.outcome_causes.proofs.Plain.{in_both}
-use Rattle.send_causes.specs.programs_allowed.specs.Openings.{all_seats}
-use Rattle.send_causes.specs.programs_allowed.proofs.Fresh.{opening_fresh}
 use Rattle.send_causes.specs.joint_runs.proofs.Runs.{AreMade, first_views}
-use Rattle.send_causes.proofs.Early.{start, go, fitting, known}
+use Rattle.send_causes.proofs.Early.{start, go, fitting, known, first_fresh}
 use Rattle.send_causes.specs.outcome_causes.proofs.Scripts as stories
 use Rattle.send_causes.specs.owed_calls.specs.Settled.{IsAtRest}
 use Rattle.calm_runs.specs.Calm.{IsCalm}
@@ -90,9 +87,6 @@ module _ (script : List Item) (made : AreMade script) (turns : List Turn) (core 
   abbrev before : Core
   before = played script is.setup (is.scheduled ++ is.later)
 
-  fresh : (i : ℕ) (v : View) → get_elem? (first_views script) i ≡ some v → v.lists ≡ [] ∷ []
-  fresh = opening_fresh (plan_of script) (all_seats (all_tasks script) (length (opens script)))
-
   opened_calm : (j : ℕ) → 32 ≤ j → CalmAt S j (opened script)
   opened_calm j high s at =
       let clients : List Program = programs (sizes_of (plan_of script) (id_plan_of script)) (all_tasks script) in
@@ -104,8 +98,8 @@ module _ (script : List Item) (made : AreMade script) (turns : List Turn) (core 
 
   played_calm : (j : ℕ) → 32 ≤ j → CalmAt S j before
   played_calm j high = let g = go script made turns core is in let f = fitting script made turns core is in let s = start script made turns core is in
-      calm_along (plan_of script) (told_tasks_of script) (stories.seats script made.are (first_views script) s fresh g turns core is f) g (is.scheduled ++ is.later) (set_up script is.setup)
-      (stories.views_set script made.are (first_views script) s fresh g turns core is f) is.answered f.of_played (stories.over script made.are (first_views script) s fresh g turns core is f).0 j
+      calm_along (plan_of script) (told_tasks_of script) (stories.seats script made.are (first_views script) s (first_fresh script) g turns core is f) g (is.scheduled ++ is.later) (set_up script is.setup)
+      (stories.views_set script made.are (first_views script) s (first_fresh script) g turns core is f) is.answered f.of_played (stories.over script made.are (first_views script) s (first_fresh script) g turns core is f).0 j
       (calm_setup S (plan_of script) is.setup (opened script) j (λ e. let z : ⊥ = omega (arith, e, high) in z) (opened_calm j high))
 
   -- clients are at rest, and seat 0 makes the ending
@@ -117,20 +111,20 @@ module _ (script : List Item) (made : AreMade script) (turns : List Turn) (core 
   ended_calm : AllCalm S is.ended
   ended_calm j = let g = go script made turns core is in let f = fitting script made turns core is in let s = start script made turns core is in
       subst (CalmAt S j) (sym is.is_ended)
-      (calm_along (plan_of script) (told_tasks_of script) (stories.seats script made.are (first_views script) s fresh g turns core is f) g (replicate is.last (quiet 0)) (closing_of script turns core is)
-      (views_played script turns core is (first_views script)) (end_answered script made.are (first_views script) s g turns core is f) f.of_closing (stories.closing_told script made.are (first_views script) s fresh g turns core is f) j (closing_calm j))
+      (calm_along (plan_of script) (told_tasks_of script) (stories.seats script made.are (first_views script) s (first_fresh script) g turns core is f) g (replicate is.last (quiet 0)) (closing_of script turns core is)
+      (views_played script turns core is (first_views script)) (end_answered script made.are (first_views script) s g turns core is f) f.of_closing (stories.closing_told script made.are (first_views script) s (first_fresh script) g turns core is f) j (closing_calm j))
 
-  closing : StaysQuiet (plan_of script) (told_tasks_of script) (stories.seats script made.are (first_views script) (start script made turns core is) fresh (go script made turns core is) turns core is (fitting script made turns core is)) (go script made turns core is)
+  closing : StaysQuiet (plan_of script) (told_tasks_of script) (stories.seats script made.are (first_views script) (start script made turns core is) (first_fresh script) (go script made turns core is) turns core is (fitting script made turns core is)) (go script made turns core is)
       (closing_of script turns core is) (replicate is.last (quiet 0))
   closing = let g = go script made turns core is in let f = fitting script made turns core is in let s = start script made turns core is in
-      quiet_along (plan_of script) (told_tasks_of script) (stories.seats script made.are (first_views script) s fresh g turns core is f) g (replicate is.last (quiet 0)) (closing_of script turns core is)
-      (views_played script turns core is (first_views script)) (end_answered script made.are (first_views script) s g turns core is f) f.of_closing (stories.closing_told script made.are (first_views script) s fresh g turns core is f) closing_calm
+      quiet_along (plan_of script) (told_tasks_of script) (stories.seats script made.are (first_views script) s (first_fresh script) g turns core is f) g (replicate is.last (quiet 0)) (closing_of script turns core is)
+      (views_played script turns core is (first_views script)) (end_answered script made.are (first_views script) s g turns core is f) f.of_closing (stories.closing_told script made.are (first_views script) s (first_fresh script) g turns core is f) closing_calm
 
-  final : StaysQuiet (plan_of script) (told_tasks_of script) (stories.seats script made.are (first_views script) (start script made turns core is) fresh (go script made turns core is) turns core is (fitting script made turns core is)) (go script made turns core is)
+  final : StaysQuiet (plan_of script) (told_tasks_of script) (stories.seats script made.are (first_views script) (start script made turns core is) (first_fresh script) (go script made turns core is) turns core is (fitting script made turns core is)) (go script made turns core is)
       is.ended is.final
   final = let g = go script made turns core is in let f = fitting script made turns core is in let s = start script made turns core is in
-      quiet_along (plan_of script) (told_tasks_of script) (stories.seats script made.are (first_views script) s fresh g turns core is f) g is.final is.ended
-      (views_closed script turns core is (first_views script)) is.answered_again f.of_final (stories.ended_told script made.are (first_views script) s fresh g turns core is f) ended_calm
+      quiet_along (plan_of script) (told_tasks_of script) (stories.seats script made.are (first_views script) s (first_fresh script) g turns core is f) g is.final is.ended
+      (views_closed script turns core is (first_views script)) is.answered_again f.of_final (stories.ended_told script made.are (first_views script) s (first_fresh script) g turns core is f) ended_calm
 
   -- an operation that isn't on calls has its outcome before the ending, or never
   same_outcome : (o : ℕ) → (S o → ⊥) → slice_get core.outcomes o ≡ slice_get before.outcomes o

@@ -1,42 +1,12 @@
--- Programs that wait for nothing but a lock, and programs that begin nothing.
-use Rattle.std.specs.Prelude.{ℕ, ◌≡◌, true, List}
+-- Programs that begin nothing.
+use Rattle.std.specs.Prelude.{ℕ, ◌≡◌, true}
 use Rattle.corr_core.specs.Word.{parts}
-use Rattle.sock_io.specs.declared.link.Put.{Put}
-use Rattle.sock_io.specs.declared.link.Ready.{Ready}
 use Rattle.sock_message.specs.Asked.{Asked}
-use Rattle.sock_model.specs.declared.chain.Heading.{Heading}
-use Rattle.seat_programs.specs.declared.task.Op.{Op}
-use Rattle.seat_programs.specs.declared.task.Op.TheVariants as ops
 use Rattle.seat_programs.specs.Asides.{Found, PutCall, TakeCall}
 use Rattle.seat_programs.specs.Calls.{CreateLife}
-use Rattle.seat_programs.specs.Heads.{Exit, Posts, Decides, Locks, Joins, Opens, Reads, Discards, Posting, HasEnded, Locking, Ended}
+use Rattle.seat_programs.specs.Heads.{Posts, Decides, Locks, Opens, Reads, Discards, Posting, HasEnded, Locking, Ended}
 use Rattle.seat_programs.specs.Posts.{ends_call, is_final}
-use Rattle.seat_programs.specs.Programs.{Program, Do, Say, Sent, Rest, TakeMessage, TakeHome, PutHome, PutBytes, AskReady, Write, Aside, Round, Keep, Retries}
-
-abbrev pub IsNoJoin : Op → Type 0
-IsNoJoin (ops.Join t) = ⊥
-IsNoJoin other = Unit {0}
-
--- the program waits for the end of no range, the word of no `open`, and no bytes: only for locks, and as it writes a link
-abbrev pub OnlyLocks : Program → Type 0
-OnlyLocks (Do call next) = (found : ℕ) → OnlyLocks (next found)
-OnlyLocks (Say o outcome next) = OnlyLocks next
-OnlyLocks (Sent o next) = OnlyLocks next
-OnlyLocks Rest = Unit {0}
-OnlyLocks (TakeMessage q next) = (heading : Heading) (bytes : List ℕ) → OnlyLocks (next heading bytes)
-OnlyLocks (TakeHome k next) = (places : ℕ) → OnlyLocks (next places)
-OnlyLocks (PutHome k n after) = OnlyLocks after
-OnlyLocks (PutBytes k asked bytes next) = (answer : Put) → OnlyLocks (next answer)
-OnlyLocks (AskReady k next) = (answer : Ready) → OnlyLocks (next answer)
-OnlyLocks (Write w after) = OnlyLocks after
-OnlyLocks (Aside step next) = (found : Found step) → OnlyLocks (next found)
-OnlyLocks (Round (Joins id) next) = ⊥
-OnlyLocks (Round (Opens o) next) = ⊥
-OnlyLocks (Round (Reads r) next) = ⊥
-OnlyLocks (Round (Discards k total) next) = ⊥
-OnlyLocks (Round head next) = (exit : Exit head) → OnlyLocks (next exit)
-OnlyLocks (Keep r next) = OnlyLocks next
-OnlyLocks (Retries requests after) = OnlyLocks after
+use Rattle.seat_programs.specs.Programs.{Program, Do, Say, Rest, Aside, Round}
 
 -- where the calls at home are of these operations: the program makes no life, puts no call home, ends each call on which it decides, and says outcomes of these operations alone
 module _ (S : ℕ → Type 0) where

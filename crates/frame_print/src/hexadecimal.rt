@@ -92,7 +92,7 @@ fn print_short<K: Sink>(out: &mut K, bytes: &[u8]) -> Result<(), Failed>
     write_all(out, digits)
 }
 
-// Two digits a byte. They are worked out and not looked up, so that sixteen bytes are done at once.
+// Two digits a byte. They are worked out and not looked up, so that the compiler works many out at once.
 fn put_digits(bytes: &[u8], digits: &mut [u8])
     requires { length digits.old ≡ 2 * length bytes.now }
     ensures { digits.new ≡ encode_lower bytes.now }

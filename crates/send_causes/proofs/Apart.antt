@@ -33,9 +33,10 @@ use Rattle.outcome_causes.proofs.Senders.{HasSent, sent_in, each_of, apart_by, a
 use Rattle.outcome_causes.proofs.Tasks.{one_task}
 use Rattle.label_runs.specs.Labels.{Trial}
 use Rattle.send_causes.specs.Counts.{pair_of, of_heading, of_entry, of_view, IsOfCall, EntryFits, LabelLaw}
+use Rattle.sock_runs.proofs.Recorded.{either_bool}
 
 -- two places of a list count twice
-total_two : {A : Type 0} (g : A → ℕ) (l : List A) (m n : ℕ) (a b : A) → get_elem? l m ≡ some a → get_elem? l n ≡ some b → m ≢ n → g a + g b ≤ total g l
+pub total_two : {A : Type 0} (g : A → ℕ) (l : List A) (m n : ℕ) (a b : A) → get_elem? l m ≡ some a → get_elem? l n ≡ some b → m ≢ n → g a + g b ≤ total g l
 total_two g [] m n a b x y ne = absurd (some-ne-none a (sym x))
 total_two g (e ∷ l) zero zero a b x y ne = absurd (ne refl)
 total_two g (e ∷ l) zero (suc n) a b x y ne = let z : g e ≡ g a = ap g (some-injective e a x) in let t = term_le g l n b y in omega (arith, z, t)
@@ -71,10 +72,6 @@ module _ (p : Plan) (q : IdPlan) (is_call : Asked → Type 0) (ids : ℕ → ℕ
 
   spoken : (i n : ℕ) (e : Entry) → HasSent vs i n e → is_of_send e ≡ false → IsSpoken clients e.heading.operation
   spoken i n e h not_ = call_of p clients are true c vs es lost sound story settled i n e h not_
-
-  either_bool : (b : Bool) → (b ≡ true) ⊎ (b ≡ false)
-  either_bool true = inl refl
-  either_bool false = inr refl
 
   -- two messages of sends
   sends_apart : (i j m n : ℕ) (d e : Entry) (h : HasSent vs i m d) (k : HasSent vs j n e) → is_of_send d ≡ true → is_of_send e ≡ true → d.heading.place ≡ e.heading.place → (i ≡ j) × (m ≡ n)

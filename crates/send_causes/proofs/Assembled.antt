@@ -18,7 +18,7 @@ use Rattle.seat_programs.specs.Cores.{Core}
 use Rattle.seat_programs.specs.declared.task.Op.{Op}
 use Rattle.seat_programs.specs.declared.task.Op.TheVariants as ops
 use Rattle.seat_programs.specs.declared.task.Task.{Task}
-use Rattle.seat_programs.specs.Tasks.{opens, plan_of}
+use Rattle.seat_programs.specs.Tasks.{plan_of}
 use Rattle.seat_programs.specs.Scripts.{all_tasks, IsRunWithCalls}
 use Rattle.seat_programs.specs.Told.{IsTask, Became, Made}
 use Rattle.seat_programs.specs.ToldCalls.{Fixed, Order, IsSent, OfSend, OfCall, InOwnOrder, IsDropped, IsFailing, WhyLost, WasFailing, WhyAgain, FailedBy, ByExpiry, ByCompression, ByEnd, EndedWith, Why, WhyCall, ToldCalls}
@@ -26,8 +26,6 @@ use Rattle.outcome_causes.specs.Explains.{is_plain}
 use Rattle.outcome_causes.specs.Facts.{ToldPlain}
 use Rattle.outcome_causes.proofs.Members.{contains_in}
 use Rattle.outcome_causes.proofs.Tasks.{one_task}
-use Rattle.call_causes.specs.programs_allowed.specs.Openings.{all_seats}
-use Rattle.call_causes.specs.programs_allowed.proofs.Fresh.{opening_fresh}
 use Rattle.call_causes.specs.joint_runs.proofs.Runs.{AreMade, first_views}
 use Rattle.report_fits.proofs.Reading.{InRange}
 use Rattle.report_fits.proofs.Targets.{AreThere}
@@ -46,7 +44,7 @@ use Rattle.send_causes.proofs.CausedRanges.{few_last}
 use Rattle.send_causes.proofs.Early.{start, go, fitting}
 use Rattle.send_causes.proofs.FirstRuns.{run_own_order}
 use Rattle.send_causes.proofs.LateDropped.{dropped_of_run}
-use Rattle.send_causes.proofs.Sends.{fixed, orders_of_run, orders_are, opening_claims, told_plain}
+use Rattle.send_causes.proofs.Sends.{fixed, orders_of_run, orders_are, told_plain, opening_bare}
 
 -- an operation is on calls, or a plain one
 kind_of : (op : Op) → IsOnCalls op ⊎ (is_plain op ≡ true)
@@ -83,7 +81,7 @@ module _ (script : List Item) (made : AreMade script) (there : AreThere script) 
 
   own_order : (k : ℕ) → k < (plan_of script).links → EachBefore (InOwnOrder (plan_of script) (all_tasks script) core.outcomes fixed_in_run (given core) orders_in_run) (orders_in_run k).accepted
   own_order k kl = run_own_order script made.are (first_views script) (start script made turns core is) (go script made turns core is) turns core is (fitting script made turns core is)
-      (λ i v at. (opening_claims (plan_of script) (all_seats (all_tasks script) (length (opens script))) i v at, opening_fresh (plan_of script) (all_seats (all_tasks script) (length (opens script))) i v at))
+      (opening_bare script)
       fixed_in_run (given core) orders_in_run k
 
   dropped : (k : ℕ) → k < (plan_of script).links → (orders_in_run k).placed < length (orders_in_run k).accepted → IsFailing (plan_of script) (all_tasks script) core.outcomes fixed_in_run (given core) orders_in_run k

@@ -1,8 +1,6 @@
 -- What each link accepted in a whole run of a script with calls.
-use Rattle.std.proofs.Common.{◌≡◌, ℕ, ◌<◌, List, [], ◌∷◌, length, sym, ap, ◌∙◌, subst}
+use Rattle.std.proofs.Common.{◌≡◌, ℕ, ◌<◌, List, length, sym, ap, ◌∙◌, subst}
 use Rattle.std.specs.List.{AllByRecursion}
-use mathlib.Core.Option.{some}
-use lib.ListN.{get_elem?}
 use Rattle.sock_model.specs.declared.view.View.{View}
 use Rattle.brpc_model.specs.Items.{Item}
 use Rattle.brpc_model.specs.Operations.{Turn}
@@ -21,8 +19,6 @@ use Rattle.outcome_causes.specs.PlainTasks.{told_tasks_of}
 use Rattle.outcome_causes.proofs.Lifted.{made_up}
 use Rattle.outcome_causes.proofs.Members.{contains_in}
 use Rattle.outcome_causes.proofs.Tasks.{one_task}
-use Rattle.call_causes.specs.programs_allowed.specs.Openings.{all_seats}
-use Rattle.call_causes.specs.programs_allowed.proofs.Fresh.{opening_fresh}
 use Rattle.call_causes.specs.joint_runs.proofs.Runs.{AreMade, first_views}
 use Rattle.report_fits.proofs.Reading.{InRange}
 use Rattle.report_fits.proofs.Targets.{AreThere}
@@ -33,18 +29,16 @@ use Rattle.send_causes.proofs.Apart as apart
 use Rattle.send_causes.proofs.Early.{start, go, fitting}
 use Rattle.send_causes.specs.EndedCalls.{stores_of_run}
 use Rattle.send_causes.proofs.Runs.{AreLabelledIn, IsCallOf, end_law}
-use Rattle.send_causes.proofs.Sends.{owed, orders_of_run, narrow, opening_claims}
+use Rattle.send_causes.proofs.Sends.{owed, orders_of_run, narrow, opening_bare}
 use Rattle.send_causes.proofs.AttemptedIds.{AreRisingIn}
 use Rattle.send_causes.proofs.AttemptedCalls.{AreStored}
-use Rattle.send_causes.proofs.AttemptedSent.{IsNamedOn, get_same, run_attempted}
+use Rattle.send_causes.proofs.AttemptedSent.{IsNamedOn, run_attempted}
+use Rattle.send_causes.proofs.DropWhole.{get_same}
 use Rattle.send_causes.proofs.EndedNamed.{tasks_are, end_named}
 use Rattle.send_causes.proofs.EndedLives.{all_named}
 use Rattle.send_causes.proofs.AttemptedStored.{ids_at, stored_run, words_stored}
 use Rattle.sock_runs.proofs.LinkTicks.{RetriesGo}
-
-all_on : {A : Type 0} (P Q : A → Type 0) → ((x : A) → P x → Q x) → (xs : List A) → AllByRecursion P xs → AllByRecursion Q xs
-all_on P Q f [] a = tt
-all_on P Q f (x ∷ xs) a = (f x a.0, all_on P Q f xs a.1)
+use Rattle.report_fits.proofs.Lists.{all_map}
 
 module _ (script : List Item) (made : AreMade script) (there : AreThere script) (range : AllByRecursion InRange script) (turns : List Turn) (core : Core) (is : IsRunWithCalls script turns core) (closes : ClosesInRun script turns core is)
     (ids : ℕ → ℕ) (labelled : AreLabelledIn ids script turns core is) where
@@ -60,9 +54,6 @@ module _ (script : List Item) (made : AreMade script) (there : AreThere script) 
   abbrev fits : AreFittingIn script turns core is
   fits = fitting script made turns core is
 
-  abbrev bare : (i : ℕ) (v : View) → get_elem? (first_views script) i ≡ some v → (v.claims ≡ []) × (v.lists ≡ [] ∷ [])
-  bare = λ i v at. (opening_claims (plan_of script) (all_seats (all_tasks script) (length (opens script))) i v at, opening_fresh (plan_of script) (all_seats (all_tasks script) (length (opens script))) i v at)
-
   -- the call of an operation is its task's
   pub one_asked : (a b : Asked) → IsCallOf script a → (c : ℕ) (t : Task) → IsTask (all_tasks script) core.outcomes c t → t.op ≡ ops.Call b → a.operation ≡ t.number → a ≡ b
   one_asked a b of c t it op number = let asks : Asks (all_tasks script) c t = (it.0, it.1, contains_in it.0 t it.2) in
@@ -71,11 +62,11 @@ module _ (script : List Item) (made : AreMade script) (there : AreThere script) 
 
   -- the link of each attempt is that of a life of its name
   pub run_named : (k : ℕ) → k < (plan_of script).links → AllByRecursion (λ (a : Accepted). IsSpoken (told_tasks_of script) a.operation → IsNamedOn script core k a) (orders_of_run script made turns core is closes k).accepted
-  run_named k low = let n = narrow script made turns core is closes in let k' = (end_named script made.are vs begins goes turns core is fits n bare ids labelled).named in
-      let law = end_law script made.are vs begins goes turns core is fits n bare ids labelled in
+  run_named k low = let n = narrow script made turns core is closes in let k' = (end_named script made.are vs begins goes turns core is fits n (opening_bare script) ids labelled).named in
+      let law = end_law script made.are vs begins goes turns core is fits n (opening_bare script) ids labelled in
       let sound = ended_sound script made.are vs begins goes turns core is fits in let rests = end_rests script made.are vs begins goes turns core is fits (owed script made turns core is closes) in
-      let tasks = tasks_are script made.are vs begins goes turns core is fits n bare ids labelled in
-      all_on (λ (a : Accepted). IsSpoken (told_tasks_of script) a.operation → (asked : Asked) × IsCallOf script asked × (asked.operation ≡ a.operation) × (slot version : ℕ) × Made (told_tasks_of script) core.outcomes (name_of asked a.attempt) k slot version)
+      let tasks = tasks_are script made.are vs begins goes turns core is fits n (opening_bare script) ids labelled in
+      all_map (λ (a : Accepted). IsSpoken (told_tasks_of script) a.operation → (asked : Asked) × IsCallOf script asked × (asked.operation ≡ a.operation) × (slot version : ℕ) × Made (told_tasks_of script) core.outcomes (name_of asked a.attempt) k slot version)
       (λ (a : Accepted). IsSpoken (told_tasks_of script) a.operation → IsNamedOn script core k a)
       (λ a has spoken c t asked it number op. let x = has spoken in let same = one_asked x.0 asked x.1 c t it op (x.2 ∙ sym number) in
       (x.3, x.4, made_up (all_tasks script) (length (opens script)) core.outcomes (name_of asked a.attempt) k x.3 x.4 (subst (λ (z : Asked). Made (told_tasks_of script) core.outcomes (name_of z a.attempt) k x.3 x.4) same x.5)))

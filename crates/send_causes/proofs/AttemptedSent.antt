@@ -1,9 +1,6 @@
 -- Each message that a link accepted is that of a `send` of which nothing is said, or of an attempt that was made of a call with an id.
-use Rattle.std.proofs.Common.{◌≡◌, ◌≢◌, ℕ, zero, suc, ◌+◌, ◌<◌, ◌≤◌, ◌⊎◌, inl, inr, ⊎_elim, Bool, true, false, cond, eqb, eq-eqb, ne_eqb, List, [], ◌∷◌, length, refl, sym, ap, ◌∙◌, subst, arith}
-use Rattle.std.specs.Prelude.{Some, slice_get}
+use Rattle.std.proofs.Common.{◌≡◌, ◌≢◌, ℕ, ◌+◌, ◌<◌, ◌≤◌, ◌⊎◌, inl, inr, ⊎_elim, true, false, cond, ne_eqb, List, [], ◌∷◌, length, sym, ap, ◌∙◌, subst, arith}
 use Rattle.std.specs.List.{AllByRecursion}
-use mathlib.Core.Option.{some, some-injective, some-ne-none}
-use lib.ListN.{get_elem?}
 use Rattle.sock_words.specs.declared.plain.Plan.{Plan}
 use Rattle.sock_model.specs.declared.chain.Entry.{Entry}
 use Rattle.sock_model.specs.declared.chain.Heading.{Heading}
@@ -34,8 +31,6 @@ use Rattle.outcome_causes.proofs.Members.{in_contains}
 use Rattle.outcome_causes.proofs.Messages.{each_made, message_of, number_of}
 use Rattle.outcome_causes.proofs.Scripts.{seats, final_told, story_end, run_told}
 use Rattle.outcome_causes.proofs.Senders.{HasSent, all_sent}
-use Rattle.call_causes.specs.programs_allowed.specs.Openings.{all_seats}
-use Rattle.call_causes.specs.programs_allowed.proofs.Fresh.{opening_fresh}
 use Rattle.call_causes.specs.joint_runs.proofs.Runs.{AreMade, first_views}
 use Rattle.report_fits.proofs.Reading.{InRange}
 use Rattle.report_fits.proofs.Targets.{AreThere}
@@ -44,21 +39,21 @@ use Rattle.call_causes.specs.Lists.{attempts_of_run}
 use Rattle.label_runs.specs.Labels.{Trial}
 use Rattle.send_causes.specs.Counts.{pair_of, of_heading, of_entry, of_view, times_of, LabelLaw}
 use Rattle.send_causes.proofs.Apart as apart
-use Rattle.send_causes.proofs.Early.{start, go, fitting}
+use Rattle.send_causes.proofs.Early.{start, go, fitting, first_fresh}
 use Rattle.send_causes.proofs.Runs.{AreLabelledIn, IsCallOf}
-use Rattle.send_causes.proofs.Sends.{owed, orders_of_run, narrow, opening_claims}
+use Rattle.send_causes.proofs.Sends.{owed, orders_of_run, narrow, opening_bare}
 use Rattle.send_causes.proofs.AttemptedIds.{AreRisingIn}
 use Rattle.send_causes.proofs.AttemptedRuns.{IsWithin, end_counted}
 use Rattle.send_causes.proofs.AttemptedCalls.{AreStored, single, shows}
 use Rattle.sock_runs.proofs.LinkTicks.{RetriesGo}
+use Rattle.send_causes.proofs.DropWhole.{get_same}
+use Rattle.send_causes.proofs.OwnDecisionsTicks.{pair_self}
+use Rattle.sock_runs.proofs.Recorded.{either_bool}
 
 -- ## Accepted messages
 
 module _ (p : Plan) (q : IdPlan) (is_call : Asked → Type 0) (ids : ℕ → ℕ) (clients : List (List Task)) (are : AreTasks p clients) (c : Core) (vs : List View) (es : List Event) (lost : List ℕ) (sound : Sound p c vs) (story : Story p clients true c vs es lost) (settled : AllRest c)
     (ts : List Trial) (law : LabelLaw is_call ids p q c vs ts) (P : ℕ → ℕ → Type 0) (stands : (id n : ℕ) → 0 < times_of id n c vs ts → P id n) where
-  pair_self : (id n : ℕ) → pair_of id n id n ≡ 1
-  pair_self id n = ap (λ b. cond b (cond (eqb n n) 1 0) 0) (eq-eqb id id refl) ∙ ap (λ b. cond b 1 0) (eq-eqb n n refl)
-
   own_heading : (w : Heading) → w.owner ≢ 0 → of_heading w.owner w.attempt w ≡ 1
   own_heading w some_ = ap (λ z. cond z 0 (pair_of w.owner w.attempt w.owner w.attempt)) (ne_eqb w.owner 0 some_) ∙ pair_self w.owner w.attempt
 
@@ -71,10 +66,6 @@ module _ (p : Plan) (q : IdPlan) (is_call : Asked → Type 0) (ids : ℕ → ℕ
       let view = term_le (of_view e.heading.owner e.heading.attempt) vs i h.view h.here in
       stands e.heading.owner e.heading.attempt (omega (arith, one, here, listed, view))
 
-  either_bool : (b : Bool) → (b ≡ true) ⊎ (b ≡ false)
-  either_bool true = inl refl
-  either_bool false = inr refl
-
   -- so of each message of a call
   pub all_stand : (k : ℕ) → AllByRecursion (λ (a : Accepted). IsSpoken clients a.operation → (ids a.operation ≢ 0) × P (ids a.operation) a.attempt) (orders_of p c vs sound.lawful k).accepted
   all_stand k = all_sent p c vs sound.lawful (each_made p clients are true c vs es lost sound story settled) (λ (a : Accepted). IsSpoken clients a.operation → (ids a.operation ≢ 0) × P (ids a.operation) a.attempt) k
@@ -84,11 +75,6 @@ module _ (p : Plan) (q : IdPlan) (is_call : Asked → Type 0) (ids : ℕ → ℕ
       (either_bool (is_of_send e)))
 
 -- ## Lists
-
-pub get_same : {A : Type 0} (xs : List A) (i : ℕ) (x : A) → get_elem? xs i ≡ some x → slice_get xs i ≡ Some x
-get_same [] i x e = absurd (some-ne-none x (sym e))
-get_same (y ∷ xs) zero x e = ap (λ z. Some z) (some-injective y x e)
-get_same (y ∷ xs) (suc i) x e = get_same xs i x e
 
 four : {A : Type 0} (P Q R S T : A → Type 0) → ((x : A) → P x → Q x → R x → S x → T x) → (xs : List A) → AllByRecursion P xs → AllByRecursion Q xs → AllByRecursion R xs → AllByRecursion S xs → AllByRecursion T xs
 four P Q R S T f [] a b c d = tt
@@ -117,12 +103,6 @@ module _ (script : List Item) (made : AreMade script) (there : AreThere script) 
 
   abbrev fits : AreFittingIn script turns core is
   fits = fitting script made turns core is
-
-  abbrev fresh : (i : ℕ) (v : View) → get_elem? (first_views script) i ≡ some v → v.lists ≡ [] ∷ []
-  fresh = opening_fresh (plan_of script) (all_seats (all_tasks script) (length (opens script)))
-
-  abbrev bare : (i : ℕ) (v : View) → get_elem? (first_views script) i ≡ some v → (v.claims ≡ []) × (v.lists ≡ [] ∷ [])
-  bare = λ i v at. (opening_claims (plan_of script) (all_seats (all_tasks script) (length (opens script))) i v at, opening_fresh (plan_of script) (all_seats (all_tasks script) (length (opens script))) i v at)
 
   abbrev owes : IsOwed script turns core is
   owes = owed script made turns core is closes
@@ -156,16 +136,16 @@ module _ (script : List Item) (made : AreMade script) (there : AreThere script) 
     -- what each link accepted
     pub run_attempted : (k : ℕ) → k < (plan_of script).links → AllByRecursion (IsSent (plan_of script) (all_tasks script) core.outcomes fixed gave (orders_of_run script made turns core is closes) (attempts_of_run script turns core is) k) (orders_of_run script made turns core is closes k).accepted
     run_attempted k low = let n = narrow script made turns core is closes in
-        let counted = end_counted script made.are vs begins goes turns core is fits n bare ids one_each labelled rising in
+        let counted = end_counted script made.are vs begins goes turns core is fits n (opening_bare script) ids one_each labelled rising in
         let sound = ended_sound script made.are vs begins goes turns core is fits in let rests = end_rests script made.are vs begins goes turns core is fits owes in
-        let tells = run_told script made.are vs begins fresh goes turns core is fits owes in
+        let tells = run_told script made.are vs begins (first_fresh script) goes turns core is fits owes in
         four (λ (a : Accepted). causes.IsSent (told_tasks_of script) core.outcomes k a ⊎ IsSpoken (told_tasks_of script) a.operation) IsKind IsMade (λ (a : Accepted). IsSpoken (told_tasks_of script) a.operation → IsNamedOn script core k a) (Sent k) (lift k) (orders_of_run script made turns core is closes k).accepted
         (tells.sent k low)
-        (apart.all_kinds (plan_of script) (id_plan_of script) (IsCallOf script) ids (told_tasks_of script) (seats script made.are vs begins fresh goes turns core is fits) core (views_ended script turns core is vs)
-        (final_told script made.are vs begins fresh goes turns core is fits).after.events (final_told script made.are vs begins fresh goes turns core is fits).after.lost sound
-        (story_end script made.are vs begins fresh goes turns core is fits owes) rests counted.trials counted.law k)
-        (all_stand (plan_of script) (id_plan_of script) (IsCallOf script) ids (told_tasks_of script) (seats script made.are vs begins fresh goes turns core is fits) core (views_ended script turns core is vs)
-        (final_told script made.are vs begins fresh goes turns core is fits).after.events (final_told script made.are vs begins fresh goes turns core is fits).after.lost sound
-        (story_end script made.are vs begins fresh goes turns core is fits owes) rests counted.trials counted.law
+        (apart.all_kinds (plan_of script) (id_plan_of script) (IsCallOf script) ids (told_tasks_of script) (seats script made.are vs begins (first_fresh script) goes turns core is fits) core (views_ended script turns core is vs)
+        (final_told script made.are vs begins (first_fresh script) goes turns core is fits).after.events (final_told script made.are vs begins (first_fresh script) goes turns core is fits).after.lost sound
+        (story_end script made.are vs begins (first_fresh script) goes turns core is fits owes) rests counted.trials counted.law k)
+        (all_stand (plan_of script) (id_plan_of script) (IsCallOf script) ids (told_tasks_of script) (seats script made.are vs begins (first_fresh script) goes turns core is fits) core (views_ended script turns core is vs)
+        (final_told script made.are vs begins (first_fresh script) goes turns core is fits).after.events (final_told script made.are vs begins (first_fresh script) goes turns core is fits).after.lost sound
+        (story_end script made.are vs begins (first_fresh script) goes turns core is fits owes) rests counted.trials counted.law
         (IsWithin (plan_of script) (id_plan_of script) n (IsCallOf script) ids one_each (attempts_of_run script turns core is)) counted.stands k)
         (named k low)

@@ -55,9 +55,7 @@ use Rattle.label_runs.proofs.Loops.{id_back}
 use Rattle.send_causes.specs.Counts.{word_of_id, StoresOwn, AreLabelled}
 use Rattle.send_causes.proofs.Early.{start, go, fitting}
 use Rattle.send_causes.proofs.Runs.{AreLabelledIn, IsCallOf, asked_by}
-use Rattle.send_causes.proofs.Sends.{opening_claims}
-use Rattle.call_causes.specs.programs_allowed.specs.Openings.{all_seats}
-use Rattle.call_causes.specs.programs_allowed.proofs.Fresh.{opening_fresh}
+use Rattle.send_causes.proofs.Sends.{opening_bare}
 use Rattle.send_causes.proofs.AttemptedWords.{Rise, AdvancesAt, is_new, is_same, is_more, tick_rises}
 use Rattle.send_causes.proofs.AttemptedIds.{AdvancesId, AreRising, AreRisingIn}
 use Rattle.send_causes.specs.Refused.{WouldStore, WouldOwn, AllWouldOwn, RunWouldOwn}
@@ -304,7 +302,7 @@ module _ (script : List Item) (made : AreMade script) (there : AreThere script) 
   first : Has (opened script)
   first = let n = begins_named (plan_of script) (id_plan_of script) (IsCallOf script) [] [] (all_programs (programs (sizes_of (plan_of script) (id_plan_of script)) (all_tasks script)) (readers_from (calls script) 0 (opens script)))
       (all_follow (IsCallOf script) (sizes_of (plan_of script) (id_plan_of script)) (all_tasks script) (asked_by script) (calls script) (opens script)) (first_views script)
-      (λ i v at. (opening_claims (plan_of script) (all_seats (all_tasks script) (length (opens script))) i v at, opening_fresh (plan_of script) (all_seats (all_tasks script) (length (opens script))) i v at)) in record {
+      (opening_bare script) in record {
         posted = [];
         shown = [];
         story = first_story (plan_of script) (id_plan_of script) (all_tasks script) (given core) numbered slots (calls script) (opens script) (scripts.begins script made there range (given core)) made.seats length_is few_tries opened_leads;

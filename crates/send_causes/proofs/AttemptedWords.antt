@@ -35,6 +35,7 @@ use Rattle.seat_programs.specs.Ticks.{Answer, Unasked, OfPut, OfReady, OfTake, M
 use Rattle.call_causes.specs.owed_calls.proofs.EndsStill.{view_of}
 use Rattle.call_causes.specs.Lists.{advances_by, called_at, advanced_with, advanced_at}
 use Rattle.send_causes.specs.Counts.{word_of_id}
+use Rattle.send_causes.proofs.Words.{state_fits, small_first}
 
 -- the word of an id that lives, and what it was: its range is new, or its attempt is as it was, or one more; and what holds of a new one, and of one more
 pub data Rise (old new : Parts) (New More : Type 0) : Type 0 where
@@ -54,14 +55,6 @@ IsMakeAt other found i new = ⊥
 
 -- ## Words
 
-small_error : (b : Bool) (x y : ℕ) → x < 32768 → y < 32768 → cond b x y < 32768
-small_error true x y a b = a
-small_error false x y a b = b
-
-small_state : (b : Bool) → cond b 1 2 < 4
-small_state true = omega arith
-small_state false = omega arith
-
 -- a post or a lock leaves the attempt
 posted_rise : (from e : ℕ) (M : Type 0) → e < 32768 → 0 < (parts from).state → Rise (parts from) (parts (packed (posted_word (parts from) e))) ⊥ M
 posted_rise from e M small live = by (eqb (parts from).state 1)
@@ -69,11 +62,11 @@ posted_rise from e M small live = by (eqb (parts from).state 1)
     by : (b : Bool) → Rise (parts from) (parts (packed (cond b (locked_word (parts from)) record { first = (parts from).first; state = 2; range = (parts from).range; attempt = (parts from).attempt; oldest = cond (eqb (parts from).oldest 0) e (parts from).oldest; second = cond (eqb (parts from).oldest 0) 0 e }))) ⊥ M
     by true = let is = parts_packed (locked_word (parts from)) (omega arith) (omega arith) (omega arith) (omega arith) (omega arith) (omega arith) in is_same (ap (λ (w : Parts). w.first) is) live (ap (λ (w : Parts). w.attempt) is)
     by false = let w : Parts = record { first = (parts from).first; state = 2; range = (parts from).range; attempt = (parts from).attempt; oldest = cond (eqb (parts from).oldest 0) e (parts from).oldest; second = cond (eqb (parts from).oldest 0) 0 e } in
-        let is : parts (packed w) ≡ w = parts_packed w (omega arith) (omega arith) (omega arith) (omega arith) (small_error (eqb (parts from).oldest 0) e (parts from).oldest small (omega arith)) (small_error (eqb (parts from).oldest 0) 0 e (omega arith) small) in
+        let is : parts (packed w) ≡ w = parts_packed w (omega arith) (omega arith) (omega arith) (omega arith) (small_first (eqb (parts from).oldest 0) e (parts from).oldest small (omega arith)) (small_first (eqb (parts from).oldest 0) 0 e (omega arith) small) in
         is_same (ap (λ (x : Parts). x.first) is) live (ap (λ (x : Parts). x.attempt) is)
 
 unlocked_parts : (from n : ℕ) → (parts from).attempt + n ≤ 6 → parts (packed (unlocked_word (parts from) n)) ≡ unlocked_word (parts from) n
-unlocked_parts from n few = parts_packed (unlocked_word (parts from) n) (small_state (eqb (parts from).oldest 0)) (omega arith) (omega arith) (omega (arith, few)) (omega arith) (omega arith)
+unlocked_parts from n few = parts_packed (unlocked_word (parts from) n) (state_fits (eqb (parts from).oldest 0)) (omega arith) (omega arith) (omega (arith, few)) (omega arith) (omega arith)
 
 module _ (p : Plan) (q : IdPlan) (c : Core) (us : List IdView) (ids : SoundIds p q c us) where
   abbrev Raw : ℕ → ℕ

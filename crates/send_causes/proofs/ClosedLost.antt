@@ -42,8 +42,6 @@ use Rattle.outcome_causes.proofs.Runs.{Goes as ToldGoes}
 use Rattle.outcome_causes.proofs.Scripts.{seats, ended_told, final_told, story_end}
 use Rattle.outcome_causes.proofs.Senders.{sent_stands}
 use Rattle.outcome_causes.proofs.Ticks.{elem_there}
-use Rattle.call_causes.specs.programs_allowed.specs.Openings.{all_seats}
-use Rattle.call_causes.specs.programs_allowed.proofs.Fresh.{opening_fresh}
 use Rattle.call_causes.specs.joint_runs.proofs.Runs.{AreMade, first_views}
 use Rattle.call_causes.specs.owed_calls.specs.Lives.{ClosesInRun}
 use Rattle.call_causes.specs.Lists.{shows_in}
@@ -51,12 +49,12 @@ use Rattle.call_causes.specs.Posts.{Post}
 use Rattle.send_causes.specs.EndedCalls.{Store, stored_at, stores_of_run, loads_of_run, IsEndPost}
 use Rattle.send_causes.specs.Refused.{DidStep}
 use Rattle.send_causes.proofs.Beside.{fixed_of_run, gave_of_run, orders_here, failing_of_run}
-use Rattle.send_causes.proofs.Early.{start, go, fitting}
+use Rattle.send_causes.proofs.Early.{start, go, fitting, first_fresh}
 use Rattle.send_causes.proofs.EndedAttempts.{IsAttemptOn, ending, of_load, only_link}
 use Rattle.send_causes.proofs.EndedOnce.{run_stored_once}
 use Rattle.send_causes.proofs.LateEnding.{ended_past}
 use Rattle.send_causes.proofs.LateLives.{Lives, lives_ticks}
-use Rattle.send_causes.proofs.LateRests.{others_along}
+use Rattle.send_causes.proofs.LateRests.{others_along, Any, NoOld}
 use Rattle.send_causes.proofs.RefusedClosing.{OnSockets, alone, set_first}
 use Rattle.send_causes.proofs.RefusedClosing as closing
 use Rattle.send_causes.proofs.RefusedMeans.{IsSo, run_keeps}
@@ -96,13 +94,6 @@ module _ (o n : ℕ) where
       by : IsThere xs ⊎ (IsThere xs → ⊥) → (Unit {0} → x.operation ≡ o → x.attempt ≡ n → ⊥) → IsThere (x ∷ xs) ⊎ (IsThere (x ∷ xs) → ⊥)
       by (inl t) no_ = inl (later t)
       by (inr none_) no_ = inr (none_here no_ none_)
-
--- of any link
-abbrev Any : ℕ → Type 0
-Any k = Unit {0}
-
-abbrev NoOld : ℕ → ℕ → Type 0
-NoOld i h = ⊥
 
 -- each life that isn't past has a link that became a socket's
 lives_along : (p : Plan) (base : Core) (L : ℕ → Type 0) → RetriesGo p → (ms : List Moment) (c : Core) (vs : List View) → Sound p c vs → AreAnswered p c ms → AreFitting p c ms → ((k : ℕ) → In k (shown_in born_at p c ms) → L k) → Lives p base L c vs
@@ -249,18 +240,15 @@ module _ (script : List Item) (made : AreMade script) (turns : List Turn) (core 
         ⊎ (IsUnordered (plan_of script) (all_tasks script) core.outcomes (fixed_of_run script made turns core is closes) (gave_of_run script made turns core is closes) (orders_here script made turns core is closes) o n
         × WasFull (plan_of script) (all_tasks script) core.outcomes (fixed_of_run script made turns core is closes) (gave_of_run script made turns core is closes) (orders_here script made turns core is closes)))
 
-    abbrev fresh : (i : ℕ) (v : View) → get_elem? (first_views script) i ≡ some v → v.lists ≡ [] ∷ []
-    fresh = opening_fresh (plan_of script) (all_seats (all_tasks script) (length (opens script)))
-
-    abbrev told_run : ToldGoes (plan_of script) (told_tasks_of script) (seats script made.are (first_views script) (start script made turns core is) fresh (go script made turns core is) turns core is (fitting script made turns core is)) true is.final is.ended
-        closed_views (ended_told script made.are (first_views script) (start script made turns core is) fresh (go script made turns core is) turns core is (fitting script made turns core is))
-    told_run = final_told script made.are (first_views script) (start script made turns core is) fresh (go script made turns core is) turns core is (fitting script made turns core is)
+    abbrev told_run : ToldGoes (plan_of script) (told_tasks_of script) (seats script made.are (first_views script) (start script made turns core is) (first_fresh script) (go script made turns core is) turns core is (fitting script made turns core is)) true is.final is.ended
+        closed_views (ended_told script made.are (first_views script) (start script made turns core is) (first_fresh script) (go script made turns core is) turns core is (fitting script made turns core is))
+    told_run = final_told script made.are (first_views script) (start script made turns core is) (first_fresh script) (go script made turns core is) turns core is (fitting script made turns core is)
 
     abbrev told_story : Story (plan_of script) (told_tasks_of script) true core end_views told_run.after.events told_run.after.lost
-    told_story = story_end script made.are (first_views script) (start script made turns core is) fresh (go script made turns core is) turns core is (fitting script made turns core is) (owed script made turns core is closes)
+    told_story = story_end script made.are (first_views script) (start script made turns core is) (first_fresh script) (go script made turns core is) turns core is (fitting script made turns core is) (owed script made turns core is closes)
 
     abbrev told_seats : AreTasks (plan_of script) (told_tasks_of script)
-    told_seats = seats script made.are (first_views script) (start script made turns core is) fresh (go script made turns core is) turns core is (fitting script made turns core is)
+    told_seats = seats script made.are (first_views script) (start script made turns core is) (first_fresh script) (go script made turns core is) turns core is (fitting script made turns core is)
 
     abbrev end_sound : Sound (plan_of script) core end_views
     end_sound = ended_sound script made.are (first_views script) (start script made turns core is) (go script made turns core is) turns core is (fitting script made turns core is)

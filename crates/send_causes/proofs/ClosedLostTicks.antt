@@ -24,9 +24,9 @@ use Rattle.seat_programs.specs.Asides.{Step, Found, StoreAt, id_slot, id_first}
 use Rattle.seat_programs.specs.Beside.{calls_after}
 use Rattle.seat_programs.specs.Calls.{Call, AddRef, LookWord, FindLink, ClaimRequest, PutMessage, Unconnect, SwapHead}
 use Rattle.seat_programs.specs.Heads.{Retry}
-use Rattle.seat_programs.specs.Programs.{Program, Do, TakeMessage, TakeHome, PutHome, PutBytes, AskReady, Write, Aside, Round}
+use Rattle.seat_programs.specs.Programs.{Program, Do, TakeMessage, TakeHome, PutHome, PutBytes, AskReady, Aside}
 use Rattle.seat_programs.specs.Cores.{Core, SeatState, word_of, found_at, resolved, next_step, waiting_at, hand_after, link_place, lies_at, others_of}
-use Rattle.seat_programs.specs.Ticks.{Answer, Moment, IsAnswered, fed, onto_first, step_with, tick_with, ticked}
+use Rattle.seat_programs.specs.Ticks.{Moment, IsAnswered, fed, onto_first, step_with, tick_with, ticked}
 use Rattle.sock_runs.specs.Fits.{FitsRetry}
 use Rattle.sock_runs.specs.May.{May}
 use Rattle.sock_runs.specs.Rows.{row, hand_at, by_claim, exchanged, filled_claim, ready_claim, took_message, link_away, link_home_again, took_bytes}
@@ -42,7 +42,7 @@ use Rattle.outcome_causes.proofs.Plain.{in_left, in_right}
 use Rattle.outcome_causes.proofs.Ticks.{elem_there}
 use Rattle.send_causes.specs.EndedCalls.{Store, stores_by, stored_at}
 use Rattle.send_causes.specs.Refused.{Deed, DidStep, DidAt}
-use Rattle.send_causes.proofs.Readings.{ticks_first}
+use Rattle.send_causes.proofs.Readings.{ticks_first, views_first}
 use Rattle.send_causes.proofs.RefusedMeans.{IsSo, did_so, tick_keeps}
 use Rattle.send_causes.proofs.Ticks.{calls_waiting}
 use Rattle.send_causes.proofs.Views.{row_same}
@@ -294,11 +294,6 @@ module _ (f s k n : ℕ) (link : k < 65535) (few : n ≤ 6) where
 
   pub word_attempt : n ≡ at_word_attempt (at_word f s k n)
   word_attempt = omega (arith, link, few)
-
-views_first : (p : Plan) (i : ℕ) (c : Core) (vs : List View) (v : View) (answer : Answer) (program : Program) → views_of p i c vs v answer program ≡ views_with p i c vs v answer (first_step program)
-views_first p i c vs v answer (Write w after) = refl
-views_first p i c vs v answer (Round head next) = refl
-views_first p i c vs v answer program = refl
 
 -- a seat has another view, or none other
 entered_set : (o n : ℕ) (vs : List View) (i : ℕ) (v w : View) → get_elem? vs i ≡ some v → (HasEntry o n v → HasEntry o n w) → Entered o n vs → Entered o n (set vs i w)

@@ -1,10 +1,10 @@
 -- The place word of a call's message, once it is written, stays: no other message has this word.
-use Rattle.std.proofs.Common.{◌≡◌, ◌≢◌, ℕ, zero, suc, ◌+◌, ◌*◌, ◌<◌, ◌≤◌, ◌⊎◌, inl, inr, ⊎_elim, Bool, true, false, cond, eqb, eq-eqb, ne_eqb, List, [], ◌∷◌, ◌++◌, get_or, get_or-set_other, refl, sym, ap, ◌∙◌, subst, arith}
+use Rattle.std.proofs.Common.{◌≡◌, ◌≢◌, ℕ, ◌+◌, ◌*◌, ◌<◌, ◌≤◌, ◌⊎◌, inl, inr, ⊎_elim, Bool, true, false, cond, eqb, eq-eqb, ne_eqb, List, [], ◌∷◌, ◌++◌, get_or, get_or-set_other, refl, sym, ap, ◌∙◌, subst, arith}
 use Rattle.std.proofs.lemmas.Bool.{true≢false}
 use Rattle.std.specs.List.{AllByRecursion}
 use Rattle.std.specs.Prelude.{slice_get, Some}
 use mathlib.Core.Logic.{dite}
-use mathlib.Core.Option.{some, some-injective, some-ne-none}
+use mathlib.Core.Option.{some, some-injective}
 use native.Mathlib.Decide.{ℕ_discrete}
 use lib.ListN.{get_elem?}
 use lib.Seq.{set-get_or}
@@ -49,6 +49,7 @@ use Rattle.outcome_causes.proofs.Senders.{HasSent, sent_in, each_of, apart_by}
 use Rattle.outcome_causes.proofs.Ticks.{get_of}
 use Rattle.label_runs.specs.Labels.{Trial}
 use Rattle.send_causes.specs.Counts.{pair_of, of_heading, of_entry, of_view, IsOfCall, EntryFits, LabelLaw}
+use Rattle.send_causes.proofs.Apart.{total_two}
 
 -- ## Messages of tasks
 
@@ -77,14 +78,7 @@ module _ (es : List Event) (c : ℕ) where
 
 -- ## Two places of one list count twice
 
-total_two : {A : Type 0} (g : A → ℕ) (l : List A) (m n : ℕ) (a b : A) → get_elem? l m ≡ some a → get_elem? l n ≡ some b → m ≢ n → g a + g b ≤ total g l
-total_two g [] m n a b x y ne = absurd (some-ne-none a (sym x))
-total_two g (e ∷ l) zero zero a b x y ne = absurd (ne refl)
-total_two g (e ∷ l) zero (suc n) a b x y ne = let z : g e ≡ g a = ap g (some-injective e a x) in let t = term_le g l n b y in omega (arith, z, t)
-total_two g (e ∷ l) (suc m) zero a b x y ne = let z : g e ≡ g b = ap g (some-injective e b y) in let t = term_le g l m a x in omega (arith, z, t)
-total_two g (e ∷ l) (suc m) (suc n) a b x y ne = let t = total_two g l m n a b x y (λ q. ne (omega (arith, q))) in omega (arith, t)
-
-heading_one : (id n : ℕ) (h : Heading) → h.owner ≢ 0 → h.owner ≡ id → h.attempt ≡ n → of_heading id n h ≡ 1
+pub heading_one : (id n : ℕ) (h : Heading) → h.owner ≢ 0 → h.owner ≡ id → h.attempt ≡ n → of_heading id n h ≡ 1
 heading_one id n h some_ a b = ap (λ z. cond z 0 (pair_of id n h.owner h.attempt)) (ne_eqb h.owner 0 some_) ∙ (ap (λ z. cond z (cond (eqb h.attempt n) 1 0) 0) (eq-eqb h.owner id a) ∙ ap (λ z. cond z 1 0) (eq-eqb h.attempt n b))
 
 -- ## At any time of a run

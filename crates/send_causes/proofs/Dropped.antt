@@ -45,6 +45,7 @@ use Rattle.sock_runs.proofs.Ticks.{sound_ticks}
 use Rattle.outcome_causes.proofs.Delivered.{accepted_of, orders_of}
 use Rattle.send_causes.proofs.Places.{places_ticks}
 use Rattle.send_causes.proofs.Readings.{rights_none}
+use Rattle.outcome_causes.proofs.Accepting.{IsNoSwap}
 
 -- ## The ending exchanges no head
 
@@ -98,10 +99,6 @@ swap_first (Aside s next) x = absurd x
 swap_first (Round head next) x = absurd x
 swap_first (Keep r next) x = absurd x
 swap_first (Retries requests after) x = absurd x
-
-abbrev IsNoSwap : Call → Type 0
-IsNoSwap (SwapHead i own) = ⊥
-IsNoSwap other = Unit {0}
 
 swap_call : (call : Call) (next : ℕ → Program) → NoSwap (Do call next) → IsNoSwap call × ((found : ℕ) → NoSwap (next found))
 swap_call (SwapHead i own) next x = absurd x
@@ -171,7 +168,7 @@ beyond (x ∷ xs) zero low = absurd (let z : ⊥ = omega (arith, low) in z)
 beyond (x ∷ xs) (suc i) low = beyond xs i (omega (arith, low))
 
 -- few messages are accepted
-log_small : (p : Plan) (c : Core) (vs : List View) (sound : Sound p c vs) → AreFew vs → length sound.lawful.log ≤ 2147483648
+pub log_small : (p : Plan) (c : Core) (vs : List View) (sound : Sound p c vs) → AreFew vs → length sound.lawful.log ≤ 2147483648
 log_small p c vs sound few = few_log vs sound.lawful.log sound.lawful.authors (let n = few.few_seats in let b = total_bound lists_of 1 vs (λ i v at. (few.short i v at).0) in omega (arith, n, b)) (λ i v at. (few.short i v at).1)
 
 -- where the place words were so before, it was dropped then, and its link had failed

@@ -18,7 +18,7 @@ use Rattle.brpc_model.specs.Causes.{HasFault, reading_limit}
 use Rattle.brpc_model.specs.Items.{Item, is_open}
 use Rattle.brpc_model.specs.Operations.{Turn, operations, link_names}
 use Rattle.brpc_model.specs.Order.{EachBefore}
-use Rattle.report_fits.proofs.Lists.{some_is, before_from, before_at, before_filter_map}
+use Rattle.report_fits.proofs.Lists.{Has, some_is, before_from, before_at, before_filter_map}
 use Rattle.report_fits.proofs.Numbering.{is_numbered}
 use Rattle.seat_programs.specs.declared.task.Op.{Op}
 use Rattle.seat_programs.specs.declared.task.Op.TheVariants as ops
@@ -29,7 +29,7 @@ use Rattle.seat_programs.specs.Beside.{at_last}
 use Rattle.seat_programs.specs.Calls.{Call, SetOdd}
 use Rattle.seat_programs.specs.Drops.{call_in}
 use Rattle.seat_programs.specs.Programs.{Program, Do, Say, Sent, Rest, TakeMessage, TakeHome, PutHome, PutBytes, AskReady, Write, Aside, Round, Keep, Retries, open_from, make_socket}
-use Rattle.seat_programs.specs.Readers.{LIMIT}
+use Rattle.seat_programs.specs.Readers.{LIMIT, reader}
 use Rattle.seat_programs.specs.Heads.{Retry}
 use Rattle.seat_programs.specs.Clients.{operation, client_from, ending_of}
 use Rattle.seat_programs.specs.Cores.{Core, SeatState, word_of, found_at, resolved, next_step, still_waiting, waiting_at}
@@ -65,6 +65,7 @@ use Rattle.send_causes.proofs.Faults.{Faults, fault_stays}
 use Rattle.send_causes.proofs.Closers.{Ends}
 use Rattle.send_causes.proofs.ReaderRuns.{Keeps, founds, keeps_same, keeps_along, closes_along}
 use Rattle.send_causes.proofs.Takeless.{NoTakes, TakesNone, client_takes, ending_takes, takes_next}
+use Rattle.call_causes.specs.programs_allowed.proofs.Fresh.{opening_fresh}
 
 -- ## How a reading ends early
 
@@ -267,6 +268,10 @@ opens_apart script k l o at_k at_l = dite (ℕ_discrete k l) (λ e. e)
     before : (i j : ℕ) → i < j → get_elem? (opens script) i ≡ some o → get_elem? (opens script) j ≡ some o → o < o
     before i j less at_i at_j = before_at (λ (m n : ℕ). m < n) (opens script) increasing i j o o less (place_at (opens script) i o at_i) (place_at (opens script) j o at_j)
 
+-- nor has one taken anything
+pub first_fresh : (script : List Item) (i : ℕ) (v : View) → get_elem? (first_views script) i ≡ some v → v.lists ≡ [] ∷ []
+first_fresh script = opening_fresh (plan_of script) (all_seats (all_tasks script) (length (opens script)))
+
 module _ (script : List Item) (made : AreMade script) (turns : List Turn) (core : Core) (is : IsRunWithCalls script turns core) where
   abbrev p : Plan
   p = plan_of script
@@ -292,8 +297,20 @@ module _ (script : List Item) (made : AreMade script) (turns : List Turn) (core 
   no_word : (o : ℕ) → o < (plan_of script).operations → get_or (opened script).words (open_index (plan_of script) o) 0 ≡ 0
   no_word o low = (let u = clients_begin.unused (plan_of script) in u.opens) o low
 
+  -- a reader begins at its program
+  pub begins_at : (n o : ℕ) → get_elem? (opens script) n ≡ some o → (seat : SeatState) → get_elem? (opened script).seats (32 + n) ≡ some seat → seat.program ≡ reader (calls script) n o
+  begins_at n o at seat there = ⊎_elim (λ e. e) (λ x. absurd (x.0 (no_word o (known.in_script n o at)))) (readers_begin (plan_of script) (id_plan_of script) first (calls script) (opens script) first_few n o at seat there)
+
   abbrev views_set : List View
   views_set = views_along (plan_of script) (opened script) (first_views script) (replicate is.setup (quiet 0))
+
+  -- clients begin with no takes, and wait for the end of a call only where their tasks do
+  pub opened_takes : (J : Type 0) (j : ℕ) → j < 32 → ((ts : List Task) → get_elem? (all_tasks script) j ≡ some ts → (t : Task) → Has ts t → (o : ℕ) → t.op ≡ ops.Join o → J) → TakesNone J j (opened script)
+  opened_takes J j low may seat at = let x = mapped (λ (program : Program). record { program = next_step (resolved [] program); hand = [] }) (all_programs first (readers_from (calls script) 0 (opens script))) j seat at in
+      subst (λ (s : SeatState). NoTakes J s.program) x.2 (takes_next J [] x.0 (⊎_elim
+      (λ a. let y = mapped (client_from (sizes_of (plan_of script) (id_plan_of script)) []) (all_tasks script) j x.0 a in subst (NoTakes J) y.2 (client_takes J (sizes_of (plan_of script) (id_plan_of script)) y.0 (may y.0 y.1) []))
+      (λ e. subst (NoTakes J) (sym e) tt)
+      (before_readers first (32 - length first) (readers_from (calls script) 0 (opens script)) j x.0 (let f = first_few in omega (arith, f, low)) x.1)))
 
   -- ## Readers
 
@@ -308,13 +325,9 @@ module _ (script : List Item) (made : AreMade script) (turns : List Turn) (core 
     opened_keeps = record {
       readers = λ n o at seat v at_seat at_view. (
         opening_rights (plan_of script) (all_seats (all_tasks script) (length (opens script))) (32 + n) v at_view,
-        inl (⊎_elim (λ e. e) (λ x. absurd (x.0 (no_word o (known.in_script n o at)))) (readers_begin (plan_of script) (id_plan_of script) first (calls script) (opens script) first_few n o at seat at_seat), refl),
+        inl (begins_at n o at seat at_seat, refl),
       );
-      clients = λ j low seat at. let x = mapped (λ (program : Program). record { program = next_step (resolved [] program); hand = [] }) (all_programs first (readers_from (calls script) 0 (opens script))) j seat at in
-          subst (λ (s : SeatState). NoTakes s.program) x.2 (takes_next [] x.0 (⊎_elim
-          (λ a. let y = mapped (client_from (sizes_of (plan_of script) (id_plan_of script)) []) (all_tasks script) j x.0 a in subst NoTakes y.2 (client_takes (sizes_of (plan_of script) (id_plan_of script)) y.0 []))
-          (λ e. subst NoTakes (sym e) tt)
-          (before_readers first (32 - length first) (readers_from (calls script) 0 (opens script)) j x.0 (let f = first_few in omega (arith, f, low)) x.1)));
+      clients = λ j low. opened_takes (Unit {0}) j low (λ ts at t has o e. tt);
       many = opened_seats script known.few;
     }
 
@@ -332,7 +345,7 @@ module _ (script : List Item) (made : AreMade script) (turns : List Turn) (core 
         is.answered fitting.of_played (recorded_set_up script made.are (first_views script) start go turns core is fitting) (λ e. absurd (true≢false (sym e ∙ not_ending))) set_up_keeps
 
   -- clients take no bytes, and wait for the word of no `open`
-  pub clients_take_none : (j : ℕ) → j < 32 → TakesNone j (played script is.setup (is.scheduled ++ is.later))
+  pub clients_take_none : (j : ℕ) → j < 32 → TakesNone (Unit {0}) j (played script is.setup (is.scheduled ++ is.later))
   clients_take_none = let k = played_keeps Any (Unit {0}) ends_anyhow in k.clients
 
   -- ## The ending
@@ -341,7 +354,7 @@ module _ (script : List Item) (made : AreMade script) (turns : List Turn) (core 
     pub closing_keeps : Kept Any (Unit {0}) ends_anyhow (closing_of script turns core is) (views_played script turns core is (first_views script)) (found_in_clients Any (Unit {0}) ends_anyhow)
     closing_keeps = let k = played_keeps Any (Unit {0}) ends_anyhow in record {
       readers = λ n o at seat v at_seat at_view. k.readers n o at seat v (sym (set_else (played script is.setup (is.scheduled ++ is.later)).seats 0 (32 + n) _ (λ e. let z : ⊥ = omega (arith, e) in z)) ∙ at_seat) at_view;
-      clients = λ j low seat at. ⊎_elim (λ a. subst (λ (s : SeatState). NoTakes s.program) a.1 (takes_next _ (ending_of (opens script)) (ending_takes (opens script)))) (λ a. k.clients j low seat a.1) (at_set (played script is.setup (is.scheduled ++ is.later)).seats 0 j _ seat at);
+      clients = λ j low seat at. ⊎_elim (λ a. subst (λ (s : SeatState). NoTakes (Unit {0}) s.program) a.1 (takes_next (Unit {0}) _ (ending_of (opens script)) (ending_takes (Unit {0}) (opens script)))) (λ a. k.clients j low seat a.1) (at_set (played script is.setup (is.scheduled ++ is.later)).seats 0 j _ seat at);
       many = length-set (played script is.setup (is.scheduled ++ is.later)).seats 0 _ ∙ k.many;
     }
 

@@ -1,5 +1,5 @@
 -- A reader's post is for an attempt that went to its link: the at word that it loaded tells the attempt of an operation's call, over the link of a life of the attempt's name.
-use Rattle.std.proofs.Common.{◌≡◌, ◌≢◌, ℕ, ◌+◌, ◌-◌, ◌*◌, ◌/◌, ◌%◌, ◌<◌, ◌≤◌, ◌⊎◌, inl, inr, ⊎_elim, true, false, List, [], ◌∷◌, ◌++◌, length, replicate, Ok, refl, sym, ap, ◌∙◌, subst, arith}
+use Rattle.std.proofs.Common.{◌≡◌, ◌≢◌, ℕ, ◌+◌, ◌-◌, ◌<◌, ◌≤◌, ◌⊎◌, inl, inr, ⊎_elim, true, false, List, [], ◌∷◌, ◌++◌, length, replicate, Ok, refl, sym, ap, ◌∙◌, subst, arith}
 use Rattle.std.proofs.lemmas.Bool.{true≢false}
 use Rattle.std.specs.Prelude.{Contains, Some, slice_get}
 use Rattle.std.specs.List.{AllByRecursion}
@@ -35,24 +35,23 @@ use Rattle.outcome_causes.proofs.Lifted.{up, made_up}
 use Rattle.outcome_causes.proofs.Members.{in_contains, contains_in}
 use Rattle.outcome_causes.proofs.Plain.{in_both}
 use Rattle.outcome_causes.proofs.Tasks.{one_task}
-use Rattle.call_causes.specs.programs_allowed.specs.Openings.{all_seats}
-use Rattle.call_causes.specs.programs_allowed.proofs.Fresh.{opening_fresh}
 use Rattle.call_causes.specs.joint_runs.proofs.Runs.{AreMade, first_views}
 use Rattle.call_causes.specs.owed_calls.specs.Lives.{ClosesInRun}
 use Rattle.run_theorems.proofs.Gave.{gave_heard}
 use Rattle.call_causes.specs.Lists.{shows_in}
 use Rattle.call_causes.specs.Posts.{Post}
 use Rattle.send_causes.specs.Counts.{AreLabelled}
-use Rattle.send_causes.specs.EndedCalls.{Load, Store, stores_by, stored_at, stores_of_run, reader_posts_of_run, AreStoredOnce, EndedSo, IsEndPost}
+use Rattle.send_causes.specs.EndedCalls.{Store, stores_by, stored_at, stores_of_run, reader_posts_of_run, AreStoredOnce, EndedSo, IsEndPost}
 use Rattle.send_causes.proofs.Apart as apart
 use Rattle.send_causes.proofs.Beside.{gave_of_run}
 use Rattle.send_causes.proofs.Early.{start, go, fitting}
 use Rattle.send_causes.proofs.Runs.{AreLabelledIn, IsCallOf, end_law}
-use Rattle.send_causes.proofs.Sends.{owed, orders_of_run, narrow, opening_claims}
+use Rattle.send_causes.proofs.Sends.{owed, orders_of_run, narrow, opening_bare}
 use Rattle.send_causes.proofs.EndedLives.{at_made, all_over}
 use Rattle.send_causes.proofs.EndedNamed.{tasks_are, EndNamed, end_named}
 use Rattle.send_causes.proofs.EndedNames.{StoredFor}
 use Rattle.send_causes.proofs.EndedWhole.{run_end_posts}
+use Rattle.call_causes.proofs.Posts.{id_back}
 
 -- ## Numbers
 
@@ -69,9 +68,6 @@ module _ (f s k n : ℕ) (first : f < 4294967296) (slot : s < 65536) (link : k <
 
   word_first : at_word_first (at_word f s k n) ≡ f
   word_first = omega (arith, first, slot, link, few)
-
-id_again : (id : ℕ) → call_id (id_slot id) (id_first id) ≡ id
-id_again id = omega arith
 
 -- ## Stores
 
@@ -109,9 +105,6 @@ module _ (script : List Item) (made : AreMade script) (turns : List Turn) (core 
   abbrev fits : AreFittingIn script turns core is
   fits = fitting script made turns core is
 
-  abbrev bare : (i : ℕ) (v : View) → get_elem? (first_views script) i ≡ some v → (v.claims ≡ []) × (v.lists ≡ [] ∷ [])
-  bare = λ i v at. (opening_claims (plan_of script) (all_seats (all_tasks script) (length (opens script))) i v at, opening_fresh (plan_of script) (all_seats (all_tasks script) (length (opens script))) i v at)
-
   pub own_store : (x : Store) → In x (stores_of_run script turns core is) → IsOwn ids (plan_of script) (id_plan_of script) x
   own_store x there = ⊎_elim (λ a. ticks_own ids (plan_of script) (id_plan_of script) (replicate is.setup (quiet 0)) (opened script) labelled.of_setup x a)
       (λ b. ⊎_elim (λ a. ticks_own ids (plan_of script) (id_plan_of script) (is.scheduled ++ is.later) (set_up script is.setup) labelled.of_played x a)
@@ -122,10 +115,10 @@ module _ (script : List Item) (made : AreMade script) (turns : List Turn) (core 
       (shows_in stored_at (plan_of script) (set_up script is.setup) (is.scheduled ++ is.later) ++ (shows_in stored_at (plan_of script) (closing_of script turns core is) (replicate is.last (quiet 0)) ++ shows_in stored_at (plan_of script) is.ended is.final)) x there)
 
   abbrev tasks : AreTasks (plan_of script) (told_tasks_of script)
-  tasks = tasks_are script made.are vs begins goes turns core is fits (narrow script made turns core is closes) bare ids labelled
+  tasks = tasks_are script made.are vs begins goes turns core is fits (narrow script made turns core is closes) (opening_bare script) ids labelled
 
-  pub ending : EndNamed script made.are vs begins goes turns core is fits (narrow script made turns core is closes) bare ids labelled core
-  ending = end_named script made.are vs begins goes turns core is fits (narrow script made turns core is closes) bare ids labelled
+  pub ending : EndNamed script made.are vs begins goes turns core is fits (narrow script made turns core is closes) (opening_bare script) ids labelled core
+  ending = end_named script made.are vs begins goes turns core is fits (narrow script made turns core is closes) (opening_bare script) ids labelled
 
   -- an at word that is loaded is that of an attempt of the operation's call, over a link of a life of its name
   pub record IsAttemptOn (o w : ℕ) : Type 0 where
@@ -169,7 +162,7 @@ module _ (script : List Item) (made : AreMade script) (turns : List Turn) (core 
   -- each message of a call that a link accepted has an at word that tells the link
   pub all_stored : (k : ℕ) → AllByRecursion (λ (a : Accepted). IsSpoken (told_tasks_of script) a.operation → In (record { operation = a.operation; word = at_word (id_first (ids a.operation)) (id_slot (ids a.operation)) k a.attempt }) (stores_of_run script turns core is)) (orders_of_run script made turns core is closes k).accepted
   all_stored k = let sound = ended_sound script made.are vs begins goes turns core is fits in let rests = end_rests script made.are vs begins goes turns core is fits (owed script made turns core is closes) in let e = ending in
-      let law = end_law script made.are vs begins goes turns core is fits (narrow script made turns core is closes) bare ids labelled in
+      let law = end_law script made.are vs begins goes turns core is fits (narrow script made turns core is closes) (opening_bare script) ids labelled in
       all_over (plan_of script) (told_tasks_of script) tasks core (views_ended script turns core is vs) e.named.events e.named.lost_links sound e.named.story rests (IsCallOf script) (stores_of_run script turns core is) e.named.trails e.named.law ids
       (λ i n x h not_. (let f = apart.of_call_fits (plan_of script) (id_plan_of script) (IsCallOf script) ids (told_tasks_of script) tasks core (views_ended script turns core is vs) e.named.events e.named.lost_links sound e.named.story rests law.0 law.1 i n x h not_ in (f.0, f.1))) k
 
@@ -239,7 +232,7 @@ module _ (script : List Item) (made : AreMade script) (turns : List Turn) (core 
         let n_w : at_word_attempt w ≡ a.attempt = ap at_word_attempt a.word ∙ word_attempt (id_first (ids o)) (id_slot (ids o)) a.link a.attempt first a.slot a.small a.few in
         let s_w : at_word_slot w ≡ id_slot (ids o) = ap at_word_slot a.word ∙ word_slot (id_first (ids o)) (id_slot (ids o)) a.link a.attempt first a.slot a.small a.few in
         let f_w : at_word_first w ≡ id_first (ids o) = ap at_word_first a.word ∙ word_first (id_first (ids o)) (id_slot (ids o)) a.link a.attempt first a.slot a.small a.few in
-        let id : x.id ≡ ids o = post.id ∙ (ap (λ z. call_id z (at_word_first w)) s_w ∙ (ap (λ z. call_id (id_slot (ids o)) z) f_w ∙ id_again (ids o))) in
+        let id : x.id ≡ ids o = post.id ∙ (ap (λ z. call_id z (at_word_first w)) s_w ∙ (ap (λ z. call_id (id_slot (ids o)) z) f_w ∙ id_back (ids o))) in
         let errors : error_of code a.attempt ≡ error_of c m = ap (λ z. error_of code z) (sym n_w) ∙ (sym post.error ∙ error) in let fewer = a.few in
         let code_is : code ≡ c = omega (arith, errors, few, fewer) in let n_is : a.attempt ≡ m = omega (arith, errors, few, fewer) in record {
           asked = a.asked;

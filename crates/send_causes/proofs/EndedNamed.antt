@@ -12,7 +12,6 @@ use Rattle.brpc_model.specs.Items.{Item}
 use Rattle.brpc_model.specs.Operations.{Turn, clients}
 use Rattle.corr_core.specs.declared.marks.Plan.{Plan as IdPlan}
 use Rattle.sock_message.specs.Asked.{Asked}
-use Rattle.seat_programs.specs.Beside.{call_at}
 use Rattle.seat_programs.specs.Clients.{client_from, ending_of}
 use Rattle.seat_programs.specs.Cores.{Core, SeatState, resolved, next_step}
 use Rattle.seat_programs.specs.declared.task.Sizes.{Sizes}
@@ -46,10 +45,10 @@ use Rattle.id_runs.proofs.Opening.{unused}
 use Rattle.send_causes.specs.Counts.{AreLabelled}
 use Rattle.send_causes.specs.EndedCalls.{Load, loaded_at, loads_of_run, Store, stored_at, stores_of_run}
 use Rattle.send_causes.proofs.Runs.{AreLabelledIn, IsCallOf, behind_ids, asked_by}
-use Rattle.send_causes.proofs.Ticks.{none_asked}
 use Rattle.send_causes.proofs.EndedTrails.{Trail, lost, Follows}
 use Rattle.send_causes.proofs.EndedPrograms.{client_goes, ending_goes, reader_goes}
 use Rattle.send_causes.proofs.EndedNames.{NameLaw, StoredFor, for_up, lost_true, resolves, moves, name_ticks, tick_loads}
+use Rattle.send_causes.proofs.EndedOnce.{none_home}
 
 -- ## How a run begins
 
@@ -68,11 +67,6 @@ others_follow is_call (suc n) calls os k (suc i) x at = others_follow is_call n 
 
 pub all_follow : (is_call : Asked → Type 0) (sizes : Sizes) (cs : List (List Task)) → ((i : ℕ) (ts : List Task) → get_elem? cs i ≡ some ts → AllByRecursion (λ (t : Task). OpCalls is_call t.op) ts) → (calls os : List ℕ) (i : ℕ) (x : Program) → get_elem? (all_programs (programs sizes cs) (readers_from calls 0 os)) i ≡ some x → Follows is_call lost x
 all_follow is_call sizes cs asks calls os i x e = ⊎_elim (λ a. clients_follow is_call sizes cs asks i x a) (λ b. others_follow is_call (32 - length (programs sizes cs)) calls os 0 b.0 x b.1) (appended (programs sizes cs) (replicate (32 - length (programs sizes cs)) Rest ++ readers_from calls 0 os) i x e)
-
-none_home : (n k : ℕ) (asked : Asked) → call_at (get_elem? (replicate n (some none_asked)) k) ≡ some asked → ⊥
-none_home zero k asked e = some-ne-none asked (sym e)
-none_home (suc n) zero asked e = some-ne-none asked (sym e)
-none_home (suc n) (suc k) asked e = none_home n k asked e
 
 module _ (p : Plan) (q : IdPlan) (is_call : Asked → Type 0) (seen : List Store) (es : List Event) where
   pub begins_named : (xs : List Program) → ((i : ℕ) (x : Program) → get_elem? xs i ≡ some x → Follows is_call lost x) → (vs : List View) → ((i : ℕ) (v : View) → get_elem? vs i ≡ some v → (v.claims ≡ []) × (v.lists ≡ [] ∷ []))

@@ -1,5 +1,5 @@
 -- Each tick keeps that the at word of an attempt tells the link of a socket that was found under its name, and that its message is over that socket.
-use Rattle.std.proofs.Common.{◌≡◌, ◌≢◌, ℕ, zero, suc, ◌+◌, ◌-◌, ◌%◌, ◌<◌, ◌≤◌, ◌⊎◌, ◌==◌, inl, inr, ⊎_elim, Bool, true, false, cond, eqb, nat_lt, List, [], ◌∷◌, ◌++◌, length-set, get_or, set, get_or-set_other, refl, sym, ap, ◌∙◌, subst, arith}
+use Rattle.std.proofs.Common.{◌≡◌, ◌≢◌, ℕ, zero, suc, ◌+◌, ◌-◌, ◌%◌, ◌<◌, ◌≤◌, ◌⊎◌, ◌==◌, inl, inr, ⊎_elim, Bool, true, false, cond, nat_lt, List, [], ◌∷◌, ◌++◌, length-set, get_or, set, get_or-set_other, refl, sym, ap, ◌∙◌, subst, arith}
 use Rattle.std.specs.List.{AllByRecursion}
 use Rattle.std.specs.Prelude as std
 use Rattle.std.proofs.lemmas.Bool.{true≢false}
@@ -49,10 +49,12 @@ use Rattle.outcome_causes.proofs.Ticks.{elem_there}
 use Rattle.label_runs.specs.Labels.{FindsLabel}
 use Rattle.send_causes.specs.EndedCalls.{Load, loads_by, loaded_with, loaded_at, Store, stores_by, stored_at}
 use Rattle.send_causes.proofs.Words.{finds_label, makes_new}
-use Rattle.send_causes.proofs.Ticks.{AreTries, few_more, few_of, AreCalls, PutsCall, calls_behind, calls_waiting, ids_first, fits_as}
+use Rattle.send_causes.proofs.Ticks.{few_more, few_of, AreCalls, PutsCall, calls_behind, calls_waiting, ids_first, fits_as}
+use Rattle.call_causes.proofs.Chains.{AreFewTries as AreTries}
 use Rattle.send_causes.proofs.Views.{row_same}
 use Rattle.send_causes.proofs.EndedTrails.{Of, NoCall, Makes, Knows, Trail, lost, Stays, IsOwnStore, MayAttempt, GoesDo, GoesAside, Follows}
 use Rattle.send_causes.proofs.EndedPrograms.{follows_round, block_goes, retry_goes}
+use Rattle.report_fits.proofs.Lists.{all_map}
 
 -- ## First steps
 
@@ -244,10 +246,6 @@ module _ (is_call : Asked → Type 0) (seen : List Store) (es fs : List Event) (
   pub given_up : (j h k : ℕ) → WasGiven es j h k → WasGiven fs j h k
   given_up j h k given = let g = marked_given es j h k given in given_by fs g.0 g.1 g.2 j h k (up _ g.3) g.4
 
-  all_up : {A : Type 0} (P Q : A → Type 0) → ((x : A) → P x → Q x) → (xs : List A) → AllByRecursion P xs → AllByRecursion Q xs
-  all_up P Q f [] a = tt
-  all_up P Q f (x ∷ xs) a = (f x a.0, all_up P Q f xs a.1)
-
   named_up : (x : ℕ × ℕ) → IsNamed is_call seen es x → IsNamed is_call seen fs x
   named_up x n = (n.0, n.1, n.2, up _ n.3)
 
@@ -258,10 +256,10 @@ module _ (is_call : Asked → Type 0) (seen : List Store) (es fs : List Event) (
   for_up o w x = record { asked = x.asked; called = x.called; operation = x.operation; id = x.id; attempt = x.attempt; link = x.link; socket = x.socket; word = x.word; slot = x.slot; small = x.small; few = x.few; named = named_up (name_of x.asked x.attempt, x.socket) x.named; given = given_up (socket_id_slot x.socket) (socket_id_version x.socket) x.link x.given; stored = x.stored }
 
   pub view_up : (v : View) → ViewOver is_call seen es v → ViewOver is_call seen fs v
-  view_up v o = (all_up (ClaimOver is_call seen es) (ClaimOver is_call seen fs) (λ x a. over_up x.heading x.link a) v.claims o.0, all_up (AllByRecursion (EntryOver is_call seen es)) (AllByRecursion (EntryOver is_call seen fs)) (λ l a. all_up (EntryOver is_call seen es) (EntryOver is_call seen fs) (λ e b. over_up e.heading e.link b) l a) v.lists o.1)
+  view_up v o = (all_map (ClaimOver is_call seen es) (ClaimOver is_call seen fs) (λ x a. over_up x.heading x.link a) v.claims o.0, all_map (AllByRecursion (EntryOver is_call seen es)) (AllByRecursion (EntryOver is_call seen fs)) (λ l a. all_map (EntryOver is_call seen es) (EntryOver is_call seen fs) (λ e b. over_up e.heading e.link b) l a) v.lists o.1)
 
   pub true_up : (v : View) (t : Trail) → IsTrue is_call seen es v t → IsTrue is_call seen fs v t
-  true_up v t h = (all_up (IsNamed is_call seen es) (IsNamed is_call seen fs) named_up t.name h.0, λ b m s is. all_up (IsFor is_call seen es s) (IsFor is_call seen fs s) (λ x a. given_up (socket_id_slot s) (socket_id_version s) x.link a) v.claims (h.1 b m s is), λ m s k n l. given_up (socket_id_slot s) (socket_id_version s) k (h.2 m s k n l), h.3, h.4)
+  true_up v t h = (all_map (IsNamed is_call seen es) (IsNamed is_call seen fs) named_up t.name h.0, λ b m s is. all_map (IsFor is_call seen es s) (IsFor is_call seen fs s) (λ x a. given_up (socket_id_slot s) (socket_id_version s) x.link a) v.claims (h.1 b m s is), λ m s k n l. given_up (socket_id_slot s) (socket_id_version s) k (h.2 m s k n l), h.3, h.4)
 
 -- ## A tick
 

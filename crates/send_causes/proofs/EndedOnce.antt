@@ -12,12 +12,11 @@ use Rattle.brpc_model.specs.Operations.{Turn}
 use Rattle.corr_core.specs.declared.marks.Plan.{Plan as IdPlan}
 use Rattle.sock_message.specs.Asked.{Asked}
 use Rattle.seat_programs.specs.Beside.{call_at}
-use Rattle.seat_programs.specs.Clients.{client_from, ending_of}
+use Rattle.seat_programs.specs.Clients.{ending_of}
 use Rattle.seat_programs.specs.Cores.{Core, SeatState, resolved, next_step}
 use Rattle.seat_programs.specs.declared.task.Sizes.{Sizes}
 use Rattle.seat_programs.specs.declared.task.Task.{Task}
 use Rattle.seat_programs.specs.Programs.{Program, Do, Say, Sent, Rest, TakeMessage, TakeHome, PutHome, PutBytes, AskReady, Write, Aside, Round, Keep, Retries}
-use Rattle.seat_programs.specs.Readers.{reader}
 use Rattle.seat_programs.specs.Ticks.{Moment, AreAnswered, quiet, ticked, run}
 use Rattle.seat_programs.specs.Tasks.{opens, calls, plan_of, id_plan_of}
 use Rattle.seat_programs.specs.Scripts.{sizes_of, programs, readers_from, all_programs, all_tasks, beginning, opened, set_up, played, IsRunWithCalls}
@@ -34,44 +33,33 @@ use Rattle.outcome_causes.proofs.Ticks.{elem_there}
 use Rattle.call_causes.specs.joint_runs.proofs.Runs.{AreMade, first_views}
 use Rattle.label_runs.specs.Labels.{Trial, Idle, Labels}
 use Rattle.label_runs.proofs.Operations.{OpCalls}
-use Rattle.label_runs.proofs.Programs.{client_goes, ending_goes, reader_goes}
+use Rattle.label_runs.proofs.Programs.{ending_goes}
 use Rattle.call_causes.specs.owed_calls.specs.Lives.{ClosesInRun}
 use Rattle.call_causes.specs.Lists.{shows_in}
-use Rattle.send_causes.specs.Counts.{of_retry, AreLabelled}
+use Rattle.send_causes.specs.Counts.{AreLabelled}
 use Rattle.send_causes.specs.EndedCalls.{Store, stored_at, stores_of_run, AreStoredOnce}
 use Rattle.send_causes.proofs.Early.{start, go, fitting}
-use Rattle.send_causes.proofs.Runs.{AreLabelledIn, IsCallOf, behind_ids, asked_by}
+use Rattle.send_causes.proofs.Runs.{AreLabelledIn, IsCallOf, behind_ids, asked_by, clients_go, readers_go}
 use Rattle.send_causes.proofs.Sends.{narrow}
 use Rattle.send_causes.proofs.Ticks.{none_asked}
 use Rattle.send_causes.proofs.EndedTryTicks.{of_try, OnceLaw, moves, once_ticks}
 use Rattle.send_causes.proofs.EndedWhole.{seats_played}
+use Rattle.send_causes.proofs.OwnDecisionsRuns.{none_wait}
 
 -- ## How a run begins
 
-clients_stow : (is_call : Asked → Type 0) (sizes : Sizes) (cs : List (List Task)) → ((i : ℕ) (ts : List Task) → get_elem? cs i ≡ some ts → AllByRecursion (λ (t : Task). OpCalls is_call t.op) ts) → (i : ℕ) (x : Program) → get_elem? (programs sizes cs) i ≡ some x → Labels is_call Idle x
-clients_stow is_call sizes cs asks i x e = let t = mapped (client_from sizes []) cs i x e in subst (Labels is_call Idle) t.2 (client_goes is_call sizes [] t.0 (asks i t.0 t.1))
-
-readers_stow : (is_call : Asked → Type 0) (calls os : List ℕ) (k i : ℕ) (x : Program) → get_elem? (readers_from calls k os) i ≡ some x → Labels is_call Idle x
-readers_stow is_call calls [] k i x at = absurd (some-ne-none x (sym at))
-readers_stow is_call calls (o ∷ os) k zero x at = subst (Labels is_call Idle) (some-injective (reader calls k o) x at) (reader_goes is_call calls k o)
-readers_stow is_call calls (o ∷ os) k (suc i) x at = readers_stow is_call calls os (k + 1) i x at
-
 others_stow : (is_call : Asked → Type 0) (n : ℕ) (calls os : List ℕ) (k i : ℕ) (x : Program) → get_elem? (replicate n Rest ++ readers_from calls k os) i ≡ some x → Labels is_call Idle x
-others_stow is_call zero calls os k i x at = readers_stow is_call calls os k i x at
+others_stow is_call zero calls os k i x at = readers_go is_call calls os k i x at
 others_stow is_call (suc n) calls os k zero x at = subst (Labels is_call Idle) (some-injective Rest x at) tt
 others_stow is_call (suc n) calls os k (suc i) x at = others_stow is_call n calls os k i x at
 
 all_stow : (is_call : Asked → Type 0) (sizes : Sizes) (cs : List (List Task)) → ((i : ℕ) (ts : List Task) → get_elem? cs i ≡ some ts → AllByRecursion (λ (t : Task). OpCalls is_call t.op) ts) → (calls os : List ℕ) (i : ℕ) (x : Program) → get_elem? (all_programs (programs sizes cs) (readers_from calls 0 os)) i ≡ some x → Labels is_call Idle x
-all_stow is_call sizes cs asks calls os i x e = ⊎_elim (λ a. clients_stow is_call sizes cs asks i x a) (λ b. others_stow is_call (32 - length (programs sizes cs)) calls os 0 b.0 x b.1) (appended (programs sizes cs) (replicate (32 - length (programs sizes cs)) Rest ++ readers_from calls 0 os) i x e)
+all_stow is_call sizes cs asks calls os i x e = ⊎_elim (λ a. clients_go is_call sizes cs asks i x a) (λ b. others_stow is_call (32 - length (programs sizes cs)) calls os 0 b.0 x b.1) (appended (programs sizes cs) (replicate (32 - length (programs sizes cs)) Rest ++ readers_from calls 0 os) i x e)
 
-none_home : (n k : ℕ) (asked : Asked) → call_at (get_elem? (replicate n (some none_asked)) k) ≡ some asked → ⊥
+pub none_home : (n k : ℕ) (asked : Asked) → call_at (get_elem? (replicate n (some none_asked)) k) ≡ some asked → ⊥
 none_home zero k asked e = some-ne-none asked (sym e)
 none_home (suc n) zero asked e = some-ne-none asked (sym e)
 none_home (suc n) (suc k) asked e = none_home n k asked e
-
-none_wait : (id n m : ℕ) → total (total (of_retry id n)) (replicate m []) ≡ 0
-none_wait id n zero = refl
-none_wait id n (suc m) = let r = none_wait id n m in omega (arith, r)
 
 none_try : (id n : ℕ) (xs : List Program) → total (of_try id n) (map (λ (x : Program). Idle) xs) ≡ 0
 none_try id n [] = refl

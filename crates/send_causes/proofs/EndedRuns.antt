@@ -48,7 +48,7 @@ module _ (p : Plan) (calls os : List ℕ) (in_os : (k o : ℕ) → get_elem? os 
       (λ high. let r = reader_of c vs h k j seat at high in let v = at_some vs j (let l = place_inside c.seats j seat at in let e = sound.each in omega (arith, l, e)) in ⊎_elim (λ e. ap (filter (λ l. l == n)) e)
       (λ t. ap (filter (λ l. l == n)) t.1 ∙ ap (λ b. cond b (t.0 ∷ []) []) (ne_eqb t.0 n (λ e. far (r.2 ∙ ap (λ x. 32 + x) (sym t.2 ∙ e)))))
       (takes_own p calls r.0 r.1 (in_os r.0 r.1 r.3) Any (Unit {0}) (ends_anyhow r.0) _ (h r.0) seat.program v.0 (k.readers r.0 r.1 r.3 seat v.0 (sym (ap (get_elem? c.seats) r.2) ∙ at) (sym (ap (get_elem? vs) r.2) ∙ v.1))))
-      (λ low. ap (filter (λ l. l == n)) (none_taken seat.program (k.clients j (omega (arith, low)) seat at)))
+      (λ low. ap (filter (λ l. l == n)) (none_taken (Unit {0}) seat.program (k.clients j (omega (arith, low)) seat at)))
 
   module _ (seen : List Load) where
     abbrev pub Seen : ℕ → ℕ → ℕ → Type 0

@@ -33,11 +33,11 @@ use Rattle.send_causes.proofs.EndedReads.{Tells, MayPost, tell_first, tell_next}
 use Rattle.send_causes.proofs.Readings.{ticks_first, found_by}
 
 -- the link of which a step takes bytes, if it takes some
-abbrev takes_by : Program → List ℕ
+abbrev pub takes_by : Program → List ℕ
 takes_by (Aside (TakeBytes k room) next) = k ∷ []
 takes_by other = []
 
-takes_first : (program : Program) → taken_link program ≡ takes_by (first_step program)
+pub takes_first : (program : Program) → taken_link program ≡ takes_by (first_step program)
 takes_first (Round (Decides id asked w e) next) = either_way (ends_call (parts w) e) _ _ (λ x. [] ≡ takes_by x) refl refl
 takes_first (Round (Locks i sought (Some w)) next) = refl
 takes_first (Round (Locks i sought None) next) = refl

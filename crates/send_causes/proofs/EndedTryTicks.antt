@@ -1,5 +1,5 @@
 -- Each tick keeps that no attempt has two at words.
-use Rattle.std.proofs.Common.{◌≡◌, ◌≢◌, ℕ, ◌+◌, ◌<◌, ◌≤◌, ◌⊎◌, inl, inr, ⊎_elim, Bool, true, false, cond, eqb, eqb-true, eq-eqb, List, [], ◌∷◌, ◌++◌, length-set, set, refl, sym, ap, ◌∙◌, subst, arith}
+use Rattle.std.proofs.Common.{◌≡◌, ◌≢◌, ℕ, ◌+◌, ◌<◌, ◌≤◌, ◌⊎◌, inl, inr, ⊎_elim, Bool, true, false, cond, eqb, eqb-true, List, [], ◌∷◌, ◌++◌, length-set, set, refl, sym, ap, ◌∙◌, subst, arith}
 use Rattle.std.specs.List.{AllByRecursion}
 use Rattle.std.specs.Prelude as std
 use mathlib.Core.Logic.{dite}
@@ -35,8 +35,10 @@ use Rattle.send_causes.specs.Counts.{pair_of, of_retry, WasMade, WasNow, StoresO
 use Rattle.send_causes.specs.EndedCalls.{Store, stores_by, stored_at}
 use Rattle.send_causes.proofs.Words.{made_on, finds_label, words_forward, makes_new, advances_new}
 use Rattle.send_causes.proofs.Readings.{ticks_first}
-use Rattle.send_causes.proofs.Ticks.{AreTries, few_more, few_of, AreCalls, PutsCall, calls_behind, calls_waiting, ids_first, fits_as, pair_one, pair_same, waits_set}
-use Rattle.label_runs.proofs.Programs.{labels_round, block_goes, retry_goes}
+use Rattle.send_causes.proofs.Ticks.{few_more, few_of, AreCalls, PutsCall, calls_behind, calls_waiting, ids_first, fits_as, pair_one, pair_same, waits_set, labels_first}
+use Rattle.call_causes.proofs.Chains.{AreFewTries as AreTries}
+use Rattle.label_runs.proofs.Programs.{retry_goes}
+use Rattle.send_causes.proofs.OwnDecisionsTicks.{pair_self}
 
 -- ## Attempts that are tried
 
@@ -72,9 +74,6 @@ module _ (is_call : Asked → Type 0) (ids : ℕ → ℕ) (q : IdPlan) where
 
 -- ## Sums
 
-pair_self : (id n : ℕ) → pair_of id n id n ≡ 1
-pair_self id n = ap (λ b. cond b (cond (eqb n n) 1 0) 0) (eq-eqb id id refl) ∙ ap (λ b. cond b 1 0) (eq-eqb n n refl)
-
 word_attempt : (f s k n : ℕ) → f < 4294967296 → s < 65536 → k < 65535 → n ≤ 6 → at_word_attempt (at_word f s k n) ≡ n
 word_attempt f s k n first slot link few = omega (arith, first, slot, link, few)
 
@@ -108,22 +107,6 @@ resolves is_call t ws (AskReady k next) few g = stays is_call t ws (AskReady k n
 resolves is_call t ws (Write w after) few g = stays is_call t ws (Write w after) g refl
 resolves is_call t ws (Aside step next) few g = stays is_call t ws (Aside step next) g refl
 resolves is_call t ws (Round head next) few g = stays is_call t ws (Round head next) g refl
-
-stows_first : (is_call : Asked → Type 0) (t : Trial) (program : Program) → Labels is_call t program → Labels is_call t (first_step program)
-stows_first is_call t (Write w after) g = block_goes is_call t w after g
-stows_first is_call t (Round head next) g = labels_round is_call t head next g
-stows_first is_call t (Do call next) g = g
-stows_first is_call t (Say o outcome next) g = g
-stows_first is_call t (Sent o next) g = g
-stows_first is_call t Rest g = g
-stows_first is_call t (TakeMessage q next) g = g
-stows_first is_call t (TakeHome k next) g = g
-stows_first is_call t (PutHome k n after) g = g
-stows_first is_call t (PutBytes k asked bytes next) g = g
-stows_first is_call t (AskReady k next) g = g
-stows_first is_call t (Aside step next) g = g
-stows_first is_call t (Keep r next) g = g
-stows_first is_call t (Retries requests after) g = g
 
 kept_count : (id n : ℕ) (t u : Trial) → Kept t u → of_try id n u ≤ of_try id n t
 kept_count id n t u (inl e) = let z : of_try id n u ≡ of_try id n t = ap (of_try id n) e in omega (arith, z)
@@ -364,7 +347,7 @@ module _ (p : Plan) (q : IdPlan) (narrow : q.slots ≤ 65536) (is_call : Asked �
     view_of seat at = elem_there c.seats us m.seat seat real_ids.each at
 
     first_as : (seat : SeatState) (at : get_elem? c.seats m.seat ≡ some seat) (x : Program) → first_step seat.program ≡ x → Labels is_call (trial_of seat at).0 x
-    first_as seat at x is = let t = trial_of seat at in subst (Labels is_call t.0) is (stows_first is_call t.0 seat.program (law.programs m.seat seat t.0 at t.1))
+    first_as seat at x is = let t = trial_of seat at in subst (Labels is_call t.0) is (labels_first is_call t.0 seat.program (law.programs m.seat seat t.0 at t.1))
 
     may_as : (seat : SeatState) (at : get_elem? c.seats m.seat ≡ some seat) (x : Program) → first_step seat.program ≡ x → IdGoesOn p q (view_of seat at).0 x
     may_as seat at x is = let u = view_of seat at in subst (IdGoesOn p q u.0) is (ids_first p q narrow u.0 seat.program (real_ids.seats m.seat seat u.0 at u.1))

@@ -1,40 +1,32 @@
 -- Each post by a reader in a whole run: the reading of its link ended, and it loaded an at word that names its link.
-use Rattle.std.proofs.Common.{◌≡◌, ℕ, zero, suc, ◌+◌, ◌-◌, ◌<◌, ◌≤◌, ◌==◌, ◌&&◌, ◌||◌, eq-eqb, Bool, true, false, cond, nat_le, le-leb, List, [], ◌∷◌, ◌++◌, length, length-set, replicate, get_or, append-nil, inl, inr, ⊎_elim, ◌⊎◌, Ok, refl, sym, ap, ◌∙◌, subst, arith}
-use Rattle.std.proofs.lemmas.List.{length-map}
+use Rattle.std.proofs.Common.{◌≡◌, ℕ, zero, suc, ◌+◌, ◌-◌, ◌<◌, ◌≤◌, ◌==◌, ◌&&◌, ◌||◌, eq-eqb, Bool, true, false, cond, nat_le, le-leb, List, [], ◌∷◌, ◌++◌, length, length-set, replicate, append-nil, inl, inr, ⊎_elim, ◌⊎◌, Ok, refl, sym, ap, ◌∙◌, subst, arith}
 use Rattle.std.proofs.lemmas.List.Concat.{flat_map-append}
 use Rattle.std.specs.Prelude.{Contains}
 use Rattle.std.specs.List.{filter, list_any}
 use mathlib.Core.Logic.{dite}
-use mathlib.Core.Option.{some, some-injective, some-ne-none}
 use native.Mathlib.Decide.{ℕ_discrete}
-use lib.ListN.{get_elem?}
 use Rattle.atomic_table.proofs.Lists.{at_set, set_else}
 use Rattle.chain_steps.proofs.Lists.{at_some}
 use Rattle.sock_model.specs.declared.view.View.{View}
-use Rattle.sock_model.specs.Layout.{open_index}
 use Rattle.brpc_model.specs.Items.{Item}
 use Rattle.brpc_model.specs.Operations.{Turn}
 use Rattle.brpc_model.specs.Script.{script_of}
 use Rattle.brpc_model.specs.Stream.{stream}
 use Rattle.seat_programs.specs.Asides.{Taking, NoMore, AtEnd, Closed, Broken}
-use Rattle.seat_programs.specs.Clients.{client_from, ending_of}
-use Rattle.seat_programs.specs.Cores.{Core, SeatState, resolved, next_step}
-use Rattle.seat_programs.specs.Programs.{Program, Rest}
-use Rattle.seat_programs.specs.Readers.{LIMIT, reader}
+use Rattle.seat_programs.specs.Clients.{ending_of}
+use Rattle.seat_programs.specs.Cores.{Core, SeatState}
+use Rattle.seat_programs.specs.Readers.{LIMIT}
 use Rattle.seat_programs.specs.Runs.{from_to}
-use Rattle.seat_programs.specs.Tasks.{opens, calls, plan_of, id_plan_of}
+use Rattle.seat_programs.specs.Tasks.{opens, calls, plan_of}
 use Rattle.seat_programs.specs.Ticks.{Moment, quiet, ticked, run}
-use Rattle.seat_programs.specs.Scripts.{sizes_of, programs, readers_from, all_programs, all_tasks, opened, set_up, played, IsRunWithCalls}
+use Rattle.seat_programs.specs.Scripts.{all_tasks, opened, set_up, played, IsRunWithCalls}
 use Rattle.sock_runs.specs.Sound.{views_along}
 use Rattle.sock_runs.proofs.Along.{place_inside}
-use Rattle.sock_runs.proofs.Opening.{mapped}
-use Rattle.sock_runs.proofs.OpensStay.{readers_begin}
 use Rattle.sock_runs.proofs.Whole.{IsListed, closing_of, views_played, views_closed, set_up_answered, end_answered, set_up_sound, closing_sound, closed_sound, recorded_opened, recorded_set_up, recorded_closing, recorded_closed}
 use Rattle.outcome_causes.specs.Stories.{In}
 use Rattle.outcome_causes.proofs.Lifted.{filtered_in}
 use Rattle.outcome_causes.proofs.Members.{in_contains}
 use Rattle.outcome_causes.proofs.Plain.{in_left, in_right, in_both}
-use Rattle.call_causes.specs.programs_allowed.proofs.Beginning as clients_begin
 use Rattle.call_causes.specs.programs_allowed.specs.Openings.{all_seats}
 use Rattle.call_causes.specs.joint_runs.proofs.Runs.{AreMade, first_views}
 use Rattle.call_causes.specs.owed_calls.proofs.Owed.{opened_seats}
@@ -44,19 +36,11 @@ use Rattle.run_theorems.proofs.HeardRuns.{taken_append}
 use Rattle.call_causes.specs.Lists.{Take, takes_at, given, shows_in, takes_of_run, is_last, is_closed, is_no_more, found_so, is_fault, early_of_run}
 use Rattle.call_causes.specs.Posts.{Post, posted_at, posts_of_run}
 use Rattle.send_causes.specs.EndedCalls.{Load, loaded_at, reader_posts_at, client_posts_at, loads_of_run, reader_posts_of_run, client_posts_of_run, EndedSo, IsEndPost}
-use Rattle.send_causes.proofs.Early.{EndedBy, Any, ends_anyhow, opening_rights, start, go, fitting, known}
+use Rattle.send_causes.proofs.Early.{EndedBy, Any, ends_anyhow, opening_rights, start, go, fitting, known, begins_at, opened_takes}
 use Rattle.send_causes.proofs.EndedReads.{WasOver, Tells, reader_tells}
 use Rattle.send_causes.proofs.EndedRuns.{Keeping, finds, Seen, AllTold, IsPostOf, more_post, told_along, finds_taken, finds_give, quiet_finds}
 use Rattle.send_causes.proofs.ReaderRuns.{keeps_along}
-use Rattle.send_causes.proofs.Takeless.{NoTakes, client_takes, ending_takes, takes_next}
-
--- before the readers stand the clients, and seats with nothing to do
-before_readers : (xs : List Program) (n : ℕ) (rs : List Program) (j : ℕ) (x : Program) → j < length xs + n → get_elem? (xs ++ (replicate n Rest ++ rs)) j ≡ some x → (get_elem? xs j ≡ some x) ⊎ (x ≡ Rest)
-before_readers [] zero rs j x low e = absurd (let z : ⊥ = omega (arith, low) in z)
-before_readers [] (suc n) rs zero x low e = inr (sym (some-injective Rest x e))
-before_readers [] (suc n) rs (suc j) x low e = ⊎_elim (λ a. absurd (some-ne-none x (sym a))) (λ b. inr b) (before_readers [] n rs j x (omega (arith, low)) e)
-before_readers (y ∷ xs) n rs zero x low e = inl e
-before_readers (y ∷ xs) n rs (suc j) x low e = before_readers xs n rs j x (omega (arith, low)) e
+use Rattle.send_causes.proofs.Takeless.{NoTakes, ending_takes, takes_next}
 
 module _ (script : List Item) (made : AreMade script) (turns : List Turn) (core : Core) (is : IsRunWithCalls script turns core) where
   abbrev K : Core → List View → (ℕ → List Taking) → Type 0
@@ -71,35 +55,18 @@ module _ (script : List Item) (made : AreMade script) (turns : List Turn) (core 
   abbrev P : (ℕ → List Taking) → Post → Type 0
   P h x = IsPostOf (plan_of script) (calls script) (opens script) (let k = known script made turns core is in k.in_script) (loads_of_run script turns core is) h x
 
-  abbrev first : List Program
-  first = programs (sizes_of (plan_of script) (id_plan_of script)) (all_tasks script)
-
-  first_few : length (programs (sizes_of (plan_of script) (id_plan_of script)) (all_tasks script)) ≤ 32
-  first_few = let l = length-map (all_tasks script) (client_from (sizes_of (plan_of script) (id_plan_of script)) []) in let f = (let k = known script made turns core is in k.few) in omega (arith, l, f)
-
-  no_word : (o : ℕ) → o < (plan_of script).operations → get_or (opened script).words (open_index (plan_of script) o) 0 ≡ 0
-  no_word o low = (let u = clients_begin.unused (plan_of script) in u.opens) o low
-
-  -- a reader begins at its program
-  begins_at : (n o : ℕ) → get_elem? (opens script) n ≡ some o → (seat : SeatState) → get_elem? (opened script).seats (32 + n) ≡ some seat → seat.program ≡ reader (calls script) n o
-  begins_at n o at seat there = ⊎_elim (λ e. e) (λ x. absurd (x.0 (no_word o ((let k = known script made turns core is in k.in_script) n o at)))) (readers_begin (plan_of script) (id_plan_of script) first (calls script) (opens script) first_few n o at seat there)
-
   -- ## The parts of the run
 
   pub opened_keeps : K (opened script) (first_views script) (λ n. [])
   opened_keeps = record {
-    readers = λ n o at seat v at_seat at_view. (opening_rights (plan_of script) (all_seats (all_tasks script) (length (opens script))) (32 + n) v at_view, inl (begins_at n o at seat at_seat, refl));
-    clients = λ j low seat at. let x = mapped (λ (program : Program). record { program = next_step (resolved [] program); hand = [] }) (all_programs first (readers_from (calls script) 0 (opens script))) j seat at in
-        subst (λ (s : SeatState). NoTakes s.program) x.2 (takes_next [] x.0 (⊎_elim
-        (λ a. let y = mapped (client_from (sizes_of (plan_of script) (id_plan_of script)) []) (all_tasks script) j x.0 a in subst NoTakes y.2 (client_takes (sizes_of (plan_of script) (id_plan_of script)) y.0 []))
-        (λ e. subst NoTakes (sym e) tt)
-        (before_readers first (32 - length first) (readers_from (calls script) 0 (opens script)) j x.0 (let f = first_few in omega (arith, f, low)) x.1)));
+    readers = λ n o at seat v at_seat at_view. (opening_rights (plan_of script) (all_seats (all_tasks script) (length (opens script))) (32 + n) v at_view, inl (begins_at script made turns core is n o at seat at_seat, refl));
+    clients = λ j low. opened_takes script made turns core is (Unit {0}) j low (λ ts at t has o e. tt);
     many = opened_seats script (let k = known script made turns core is in k.few);
   }
 
   pub opened_told : T (λ n. []) (opened script)
   opened_told n seat at = let o = at_some (opens script) n (let l = place_inside (opened script).seats (32 + n) seat at in let m = opened_seats script (let k = known script made turns core is in k.few) in omega (arith, l, m)) in
-      subst (Tells n (Seen (plan_of script) (calls script) (opens script) (let k = known script made turns core is in k.in_script) (loads_of_run script turns core is) n) []) (sym (begins_at n o.0 o.1 seat at)) (reader_tells n (Seen (plan_of script) (calls script) (opens script) (let k = known script made turns core is in k.in_script) (loads_of_run script turns core is) n) (calls script) o.0)
+      subst (Tells n (Seen (plan_of script) (calls script) (opens script) (let k = known script made turns core is in k.in_script) (loads_of_run script turns core is) n) []) (sym (begins_at script made turns core is n o.0 o.1 seat at)) (reader_tells n (Seen (plan_of script) (calls script) (opens script) (let k = known script made turns core is in k.in_script) (loads_of_run script turns core is) n) (calls script) o.0)
 
   abbrev pub in_setup : List Moment
   in_setup = replicate is.setup (quiet 0)
@@ -166,7 +133,7 @@ module _ (script : List Item) (made : AreMade script) (turns : List Turn) (core 
   pub closing_keeps : K (closing_of script turns core is) (views_played script turns core is (first_views script)) h₂
   closing_keeps = let k = played_keeps in record {
     readers = λ n o at seat v at_seat at_view. k.readers n o at seat v (sym (set_else (played script is.setup in_clients).seats 0 (32 + n) _ (λ e. let z : ⊥ = omega (arith, e) in z)) ∙ at_seat) at_view;
-    clients = λ j low seat at. ⊎_elim (λ a. subst (λ (s : SeatState). NoTakes s.program) a.1 (takes_next _ (ending_of (opens script)) (ending_takes (opens script)))) (λ a. k.clients j low seat a.1) (at_set (played script is.setup in_clients).seats 0 j _ seat at);
+    clients = λ j low seat at. ⊎_elim (λ a. subst (λ (s : SeatState). NoTakes (Unit {0}) s.program) a.1 (takes_next (Unit {0}) _ (ending_of (opens script)) (ending_takes (Unit {0}) (opens script)))) (λ a. k.clients j low seat a.1) (at_set (played script is.setup in_clients).seats 0 j _ seat at);
     many = length-set (played script is.setup in_clients).seats 0 _ ∙ k.many;
   }
 

@@ -2,7 +2,6 @@
 use Rattle.std.proofs.Common.{◌≡◌, ◌≢◌, ℕ, zero, suc, ◌+◌, ◌-◌, ◌%◌, ◌<◌, ◌≤◌, ◌==◌, true, false, cond, eq-eqb, ne_eqb, nat_lt, List, [], ◌∷◌, ◌++◌, length, replicate, get_or, set, get_or-set_other, ⊎_elim, refl, sym, ap, ◌∙◌, subst, arith}
 use Rattle.std.proofs.lemmas.Bool.{true≢false}
 use Rattle.std.specs.List.{AllByRecursion}
-use Rattle.std.specs.Prelude.{slice_get, Some}
 use mathlib.Core.Logic.{dite}
 use mathlib.Core.Option.{Option, none, some, some-injective, some-ne-none}
 use native.Mathlib.Decide.{ℕ_discrete}
@@ -57,6 +56,8 @@ use Rattle.outcome_causes.proofs.Tests.{split}
 use Rattle.send_causes.proofs.Firsts.{behind, Firsts, AreLater, client_firsts, ending_firsts, reader_firsts, firsts_first, firsts_next}
 use Rattle.send_causes.proofs.Ticks.{calls_waiting}
 use Rattle.send_causes.proofs.Views.{Same, row_same}
+use Rattle.report_fits.proofs.Lists.{all_map}
+use Rattle.send_causes.proofs.DropWhole.{get_same}
 
 -- ## Messages of one seat
 
@@ -78,10 +79,6 @@ before_more (x ∷ l) e sorted all = (one_more l sorted.0, before_more l e sorte
 all_more : {A : Type 0} (P : A → Type 0) (l : List A) (e : A) → AllByRecursion P l → P e → AllByRecursion P (l ++ e ∷ [])
 all_more P [] e all one = (one, tt)
 all_more P (x ∷ l) e all one = (all.0, all_more P l e all.1 one)
-
-all_map : {A : Type 0} (P Q : A → Type 0) → ((x : A) → P x → Q x) → (xs : List A) → AllByRecursion P xs → AllByRecursion Q xs
-all_map P Q f [] a = tt
-all_map P Q f (x ∷ xs) a = (f x a.0, all_map P Q f xs a.1)
 
 all_get : {A : Type 0} (P : A → Type 0) (xs : List A) (n : ℕ) (x : A) → AllByRecursion P xs → get_elem? xs n ≡ some x → P x
 all_get P [] n x a e = absurd (some-ne-none x (sym e))
@@ -281,11 +278,6 @@ none_waits mine (suc n) (suc j) = none_waits mine n j
 -- the operations of client j
 abbrev pub IsOwnOperation : List (List Task) → ℕ → ℕ → Type 0
 IsOwnOperation clients j o = (t : Task) × Asks clients j t × (t.number ≡ o)
-
-get_same : {A : Type 0} (xs : List A) (i : ℕ) (x : A) → get_elem? xs i ≡ some x → slice_get xs i ≡ Some x
-get_same [] i x e = absurd (some-ne-none x (sym e))
-get_same (y ∷ xs) zero x e = ap (λ z. Some z) (some-injective y x e)
-get_same (y ∷ xs) (suc i) x e = get_same xs i x e
 
 readers_firsts : (mine : ℕ → Type 0) (calls os : List ℕ) (k i : ℕ) (x : Program) → get_elem? (readers_from calls k os) i ≡ some x → Firsts mine 0 x
 readers_firsts mine calls [] k i x at = absurd (some-ne-none x (sym at))

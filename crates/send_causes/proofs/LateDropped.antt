@@ -24,13 +24,12 @@ use Rattle.sock_runs.proofs.Along.{seat_rests, place_inside}
 use Rattle.sock_runs.proofs.Whole.{closing_of, views_played, views_closed, views_ended, end_answered, played_sound, closing_sound, closed_sound, ended_sound, rested_ahead, rested_idle}
 use Rattle.outcome_causes.specs.Facts.{late_links_of_run}
 use Rattle.outcome_causes.specs.Stories.{In}
-use Rattle.outcome_causes.proofs.Delivered.{orders_of}
 use Rattle.outcome_causes.proofs.Members.{get_there, in_contains}
 use Rattle.call_causes.specs.joint_runs.proofs.Both.{AreBounded}
 use Rattle.call_causes.specs.joint_runs.proofs.Runs.{AreMade, first_views, joint_runs, joint_bounded}
 use Rattle.call_causes.specs.owed_calls.specs.Lives.{ClosesInRun}
 use Rattle.send_causes.proofs.Beside.{gave_of_run, fixed_of_run, orders_here, failing_of_run}
-use Rattle.send_causes.proofs.Dropped.{ending_begins, ending_places}
+use Rattle.send_causes.proofs.Dropped.{ending_begins, ending_places, log_small}
 use Rattle.send_causes.proofs.Early.{start, go, fitting}
 use Rattle.send_causes.proofs.LateEnding.{ended_past}
 use Rattle.send_causes.proofs.LateLooks.{Idle}
@@ -38,14 +37,8 @@ use Rattle.send_causes.proofs.LatePlaces.{IsEnding, ending_along}
 use Rattle.send_causes.proofs.LateRests.{none_stands, ended_idle}
 use Rattle.send_causes.proofs.LateLives.{WasPast}
 use Rattle.send_causes.proofs.Sends.{orders_are}
-use Rattle.sock_steps.proofs.Positions.{few_log, on_shorter}
-use Rattle.slot_steps.proofs.Sums.{total_bound}
-use Rattle.sock_model.specs.Rule.{lists_of}
+use Rattle.sock_steps.proofs.Positions.{on_shorter}
 use Rattle.sock_runs.specs.Lasts.{MOST_TICKS}
-
--- few messages are accepted
-log_small : (p : Plan) (c : Core) (vs : List View) (sound : Sound p c vs) → AreFew vs → length sound.lawful.log ≤ 2147483648
-log_small p c vs sound few = few_log vs sound.lawful.log sound.lawful.authors (let n = few.few_seats in let b = total_bound lists_of 1 vs (λ i v at. (few.short i v at).0) in omega (arith, n, b)) (λ i v at. (few.short i v at).1)
 
 -- a place word tells that the message at this position of the link was dropped: then the link had failed
 failed_here : (p : Plan) (c : Core) (vs : List View) (sound : Sound p c vs) → AreFew vs → (l k position : ℕ) → l < 8 * p.operations → k < p.links → position < 2147483648 → get_or c.words (place_index p l) 0 ≡ place_value true k position → Failed p (state c vs) k

@@ -33,12 +33,8 @@ use Rattle.send_causes.specs.Refused.{DidStep, DidAt, DidIn}
 use Rattle.send_causes.proofs.Early.{start, go, fitting}
 use Rattle.send_causes.proofs.LateLives.{WasPast, Lives, lives_tell, lives_ticks}
 use Rattle.send_causes.proofs.LateLooks.{Mode, Idle, Saw, Claims, Writes}
-use Rattle.send_causes.proofs.LateRests.{none_stands, ended_idle}
+use Rattle.send_causes.proofs.LateRests.{none_stands, ended_idle, Any}
 use Rattle.send_causes.proofs.LateSeats.{Righted, rights_of, Stands, AllStand, Tells, stand_ticks}
-
--- of any link
-abbrev Any : ℕ → Type 0
-Any k = Unit {0}
 
 module _ (p : Plan) (base : Core) (L : ℕ → Type 0) where
   -- a life of before

@@ -44,7 +44,8 @@ use Rattle.send_causes.proofs.LateDropsEnding.{IsNew}
 use Rattle.send_causes.proofs.LateDropsRuns.{of_seat, none_late, none_behind, Told, Charged, says_more, LatePost, late_post_more, InTime, With, Behind, posts_along}
 use Rattle.send_causes.proofs.LateRests.{others_along}
 use Rattle.send_causes.proofs.RefusedRuns.{law_more}
-use Rattle.send_causes.proofs.RefusedWhole.{few_slots, bare_views, Law, first_doings, Nothing, first_charges, final_doings, final_charges, closing_none}
+use Rattle.send_causes.proofs.Sends.{opening_bare}
+use Rattle.send_causes.proofs.RefusedWhole.{few_slots, Law, first_doings, Nothing, first_charges, final_doings, final_charges, closing_none}
 use Rattle.send_causes.proofs.Runs.{AreLabelledIn, IsCallOf, Lawful_}
 use Rattle.send_causes.proofs.Runs as labels
 
@@ -153,7 +154,7 @@ module _ (script : List Item) (made : AreMade script) (turns : List Turn) (core 
   setup_part = part_goes AnyLife (replicate is.setup (quiet 0)) None (opened script) (first_views script) (let s = start script made turns core is in s.sound)
       (set_up_answered script made.are (first_views script) (start script made turns core is) (go script made turns core is) turns core is (fitting script made turns core is)) (let f = fitting script made turns core is in f.of_setup)
       (recorded_opened script made.are (first_views script) (start script made turns core is) (go script made turns core is) turns core is (fitting script made turns core is)) labelled.of_setup would.of_setup
-      (labels.first script made.are (first_views script) (start script made turns core is) (go script made turns core is) turns core is (fitting script made turns core is) small (bare_views script made turns core is closes ids labelled would) ids labelled)
+      (labels.first script made.are (first_views script) (start script made turns core is) (go script made turns core is) turns core is (fitting script made turns core is) small (opening_bare script) ids labelled)
       from_set_up (λ n. [])
       (let l = opened_law script made turns core is IsNoEnd no_end fits in record { keeps = l.keeps; clients = l.clients; known = λ j h new inside even version some_. absurd (some_ ((let u = clients_begin.unused (plan_of script) in u.codes) j inside)) })
       (first_doings script made turns core is closes ids labelled would) (begins AnyLife (opened script) (first_views script) (first_doings script made turns core is closes ids labelled would) (first_charges script made turns core is closes ids labelled would))
@@ -165,7 +166,7 @@ module _ (script : List Item) (made : AreMade script) (turns : List Turn) (core 
   clients_part = part_goes AnyLife (is.scheduled ++ is.later) DidSetup (set_up script is.setup) set_views
       (set_up_sound script made.are (first_views script) (start script made turns core is) (go script made turns core is) turns core is (fitting script made turns core is)) is.answered (let f = fitting script made turns core is in f.of_played)
       (recorded_set_up script made.are (first_views script) (start script made turns core is) (go script made turns core is) turns core is (fitting script made turns core is)) labelled.of_played would.of_played
-      (labels.set_up_law script made.are (first_views script) (start script made turns core is) (go script made turns core is) turns core is (fitting script made turns core is) small (bare_views script made turns core is closes ids labelled would) ids labelled)
+      (labels.set_up_law script made.are (first_views script) (start script made turns core is) (go script made turns core is) turns core is (fitting script made turns core is) small (opening_bare script) ids labelled)
       from_rested (let s = setup_part in s.taken)
       (late_more (plan_of script) (calls script) (opens script) (let k = known script made turns core is in k.in_script) Any (Unit {0}) ends_anyhow IsNoEnd no_end core.words AnyLife Late₁ Never none_yet (set_up script is.setup) set_views (let s = setup_part in s.taken) (let s = setup_part in s.law))
       (let s = setup_part in s.doings)
@@ -206,7 +207,7 @@ module _ (script : List Item) (made : AreMade script) (turns : List Turn) (core 
   final_part = part_goes (IsNew script made turns core is) is.final None is.ended (views_closed script turns core is (first_views script))
       (closed_sound script made.are (first_views script) (start script made turns core is) (go script made turns core is) turns core is (fitting script made turns core is)) is.answered_again (let f = fitting script made turns core is in f.of_final)
       (recorded_closed script made.are (first_views script) (start script made turns core is) (go script made turns core is) turns core is (fitting script made turns core is)) labelled.of_final would.of_final
-      (labels.closed_law script made.are (first_views script) (start script made turns core is) (go script made turns core is) turns core is (fitting script made turns core is) small (bare_views script made turns core is closes ids labelled would) ids labelled)
+      (labels.closed_law script made.are (first_views script) (start script made turns core is) (go script made turns core is) turns core is (fitting script made turns core is) small (opening_bare script) ids labelled)
       (λ o inside some_. ap (λ c. Word c o) is.is_end) (h₃ script made turns core is)
       (record { keeps = closed_keeps script made turns core is; clients = ended_stores; known = λ j h new inside even version some_. absurd (new (omega (arith, version))) })
       (final_doings script made turns core is closes ids labelled would)

@@ -66,10 +66,10 @@ readers_look calls k [] = tt
 readers_look calls k (o ∷ os) = (reader_looks calls k o, readers_look calls (k + 1) os)
 
 -- of all links, and no life is old
-abbrev Any : ℕ → Type 0
+abbrev pub Any : ℕ → Type 0
 Any k = Unit {0}
 
-abbrev NoOld : ℕ → ℕ → Type 0
+abbrev pub NoOld : ℕ → ℕ → Type 0
 NoOld i h = ⊥
 
 abbrev pub HasNone : View → Type 0

@@ -34,6 +34,7 @@ use Rattle.sock_runs.proofs.Cases.{tick_keeps}
 use Rattle.sock_runs.proofs.Rounds.{begins_round}
 use Rattle.sock_runs.proofs.Passes.{goes_round}
 use Rattle.send_causes.proofs.LateLooks.{Mode, Idle, Saw, Claims, Writes, IsCalm, seen, Looks, looks_first, looks_next}
+use Rattle.outcome_causes.proofs.Accepting.{IsNoSwap}
 
 -- ## Claims and rights
 
@@ -85,10 +86,6 @@ module _ (P : View → Type 0) (v : View) (same : P v) (r : Right) (rights : (s 
 abbrev IsNoClaim : Call → Type 0
 IsNoClaim (ClaimRequest id q) = ⊥
 IsNoClaim other = Unit {0}
-
-abbrev IsNoSwap : Call → Type 0
-IsNoSwap (SwapHead i own) = ⊥
-IsNoSwap other = Unit {0}
 
 module _ (p : Plan) (v : View) (found : ℕ) (hand : Hand) where
   -- no other step makes a claim for another link

@@ -14,6 +14,7 @@ pub mod ReaderRuns
 pub mod Early
 pub mod Places
 pub mod Rests
+pub mod Standing
 pub mod Dropped
 pub mod Sends
 pub mod Plain

@@ -33,7 +33,9 @@ use Rattle.call_causes.proofs.Scripts.{are_numbered, have_slots, begins}
 use Rattle.send_causes.proofs.Rests.{many}
 use Rattle.send_causes.proofs.Sends.{narrow}
 use Rattle.send_causes.proofs.OwnDecisionsPrograms.{ending_goes}
-use Rattle.send_causes.proofs.OwnDecisionsRuns.{in_left, in_right, in_either, AllQueued, setup_queued, played_queued, Along, run_aims, all_aim, begins_aims}
+use Rattle.send_causes.proofs.OwnDecisionsRuns.{in_right, AllQueued, setup_queued, played_queued, Along, run_aims, all_aim, begins_aims}
+use Rattle.call_causes.proofs.Attempts.{in_front as in_left}
+use Rattle.call_causes.proofs.Run.{in_either}
 use Rattle.send_causes.proofs.OwnDecisionsStands.{Stand, Calm}
 use Rattle.send_causes.proofs.OwnDecisionsTicks.{AimLaw, law_more, restarts}
 

@@ -1,5 +1,5 @@
 -- One round of each loop keeps to what its seat tries and posts.
-use Rattle.std.proofs.Common.{◌≡◌, ◌≢◌, ℕ, ◌+◌, ◌<◌, ◌≤◌, ◌⊎◌, inl, inr, ◌&&◌, not, Bool, true, false, cond, eqb, eqb-true, leb, nat_lt, List, [], ◌∷◌, ◌++◌, Option, Some, None, length, refl, sym, ap, ◌∙◌, subst, arith}
+use Rattle.std.proofs.Common.{◌≡◌, ◌≢◌, ℕ, ◌+◌, ◌≤◌, ◌⊎◌, inl, inr, ◌&&◌, not, Bool, true, false, cond, eqb, eqb-true, leb, nat_lt, List, [], ◌∷◌, ◌++◌, Option, Some, None, length, refl, sym, ap, ◌∙◌, subst, arith}
 use Rattle.brpc_model.specs.Frame.{Frame}
 use Rattle.brpc_model.specs.Stream as streams
 use Rattle.corr_core.specs.Word.{Parts, parts, posted_word, unlocked_word, code_of, attempt_of, error_of}
@@ -15,6 +15,7 @@ use Rattle.seat_programs.specs.Rounds.{round}
 use Rattle.label_runs.specs.Labels.{IsSoughtWord}
 use Rattle.label_runs.proofs.Loops.{id_back, not_true, not_equal, and_left, locked_parts}
 use Rattle.send_causes.proofs.OwnDecisionsStands.{Stand, Calm, Trying, Past, Posted, Eases, MayPost, MayDecide, IsTryingAt, FindsAside, unlocked_stand, unlocks_stand, posted_stand, locked_stand, LeavesUnlock, LeavesStand, Aims}
+use Rattle.send_causes.proofs.Words.{state_fits}
 
 pub way : (s : Stand) (b : Bool) (x y : Program) → (b ≡ true → Aims s x) → (b ≡ false → Aims s y) → Aims s (cond b x y)
 way s true x y f g = f refl
@@ -138,11 +139,7 @@ post_goes s id c n next eases goes = post_with_goes s (Past id n) id (error_of c
 
 -- ## Giving a lock back
 
-state_fits : (b : Bool) → cond b 1 2 < 4
-state_fits true = omega arith
-state_fits false = omega arith
-
-word_after : (from : ℕ) (advance : Bool) → (parts from).attempt + advance_of advance ≤ 6 → parts (packed (unlocked_word (parts from) (advance_of advance))) ≡ unlocked_word (parts from) (advance_of advance)
+pub word_after : (from : ℕ) (advance : Bool) → (parts from).attempt + advance_of advance ≤ 6 → parts (packed (unlocked_word (parts from) (advance_of advance))) ≡ unlocked_word (parts from) (advance_of advance)
 word_after from advance low = parts_packed (unlocked_word (parts from) (advance_of advance)) (state_fits (eqb (parts from).oldest 0)) (omega arith) (omega arith) (omega (arith, low)) (omega arith) (omega arith)
 
 module _ (s : Stand) (i from : ℕ) (advance : Bool) (k : Unlocking → Program) (trying : advance ≡ false → IsTryingAt s i (parts from).first) (goes : (exit : Unlocking) → LeavesStand (Unlocks i from advance) exit → Aims (unlocks_stand i from advance s) (k exit)) where

@@ -41,28 +41,19 @@ use Rattle.call_causes.specs.Stories.{IsCurrent, CallStory}
 use Rattle.call_causes.proofs.Claiming.{HaveSlots}
 use Rattle.call_causes.proofs.Leading.{run_leads}
 use Rattle.call_causes.proofs.Numbered.{AreNumbered}
-use Rattle.call_causes.proofs.Run.{Story, one_tick}
+use Rattle.call_causes.proofs.Run.{Story, one_tick, in_either}
 use Rattle.send_causes.specs.Counts.{of_retry, word_of_id}
 use Rattle.send_causes.proofs.OwnDecisionsHomes.{HandFits, HomesFit}
 use Rattle.send_causes.proofs.OwnDecisionsPrograms.{client_goes, reader_goes}
 use Rattle.send_causes.proofs.OwnDecisionsStands.{Stand, Calm, Aims}
 use Rattle.send_causes.proofs.OwnDecisionsTicks.{of_stand, IsPast, StandFits, HeadFits, AimLaw, QueuedAt, AreQueued, law_more, aim_ticks, decided_own}
+use Rattle.call_causes.proofs.Attempts.{in_front}
 
 -- ## Lists
-
-pub in_left : {A : Type 0} (x : A) (xs ys : List A) → In x xs → In x (xs ++ ys)
-in_left x [] ys there = absurd there
-in_left x (z ∷ xs) ys (inl same) = inl same
-in_left x (z ∷ xs) ys (inr there) = inr (in_left x xs ys there)
 
 pub in_right : {A : Type 0} (x : A) (xs ys : List A) → In x ys → In x (xs ++ ys)
 in_right x [] ys there = there
 in_right x (z ∷ xs) ys there = inr (in_right x xs ys there)
-
-pub in_either : {A : Type 0} (x : A) (xs ys : List A) → In x (xs ++ ys) → In x xs ⊎ In x ys
-in_either x [] ys there = inr there
-in_either x (z ∷ xs) ys (inl same) = inl (inl same)
-in_either x (z ∷ xs) ys (inr there) = ⊎_elim (λ a. inl (inr a)) (λ a. inr a) (in_either x xs ys there)
 
 -- ## Errors that wait
 
@@ -166,7 +157,7 @@ module _ (p : Plan) (q : IdPlan) (narrow : q.slots ≤ 65536) where
     where
       regroup : (j : ℕ) (x : Post) → (Mine j x ⊎ In x (posted_by j c m)) ⊎ In x (shows_in (posted_by j) p (ticked p c m) ms) → Mine j x ⊎ In x (posted_by j c m ++ shows_in (posted_by j) p (ticked p c m) ms)
       regroup j x (inl (inl old)) = inl old
-      regroup j x (inl (inr now)) = inr (in_left x (posted_by j c m) (shows_in (posted_by j) p (ticked p c m) ms) now)
+      regroup j x (inl (inr now)) = inr (in_front x (posted_by j c m) (shows_in (posted_by j) p (ticked p c m) ms) now)
       regroup j x (inr later) = inr (in_right x (posted_by j c m) (shows_in (posted_by j) p (ticked p c m) ms) later)
 
       here : (j : ℕ) (d : Decision) → In d (decided_by j c m) → attempt_of d.error ≢ WHOLE → Mine j (record { id = d.id; error = d.error })
@@ -192,7 +183,7 @@ pub all_aim : (sizes : Sizes) (cs : List (List Task)) (calls os : List ℕ) (i :
 all_aim sizes cs calls os i x e = ⊎_elim (λ a. (let t = mapped (client_from sizes []) cs i x a in subst (Aims Calm) t.2 (client_goes sizes [] t.0)))
     (λ b. others_aim (32 - length (programs sizes cs)) calls os 0 b.0 x b.1) (appended (programs sizes cs) (replicate (32 - length (programs sizes cs)) Rest ++ readers_from calls 0 os) i x e)
 
-none_wait : (id n m : ℕ) → total (total (of_retry id n)) (replicate m []) ≡ 0
+pub none_wait : (id n m : ℕ) → total (total (of_retry id n)) (replicate m []) ≡ 0
 none_wait id n zero = refl
 none_wait id n (suc m) = let r = none_wait id n m in omega (arith, r)
 

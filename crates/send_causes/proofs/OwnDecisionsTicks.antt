@@ -42,12 +42,14 @@ use Rattle.outcome_causes.proofs.Ticks.{elem_there}
 use Rattle.send_causes.specs.Counts.{pair_of, of_retry, word_of_id, WasMade, WasNow}
 use Rattle.send_causes.proofs.Words.{made_on, finds_label, words_forward, makes_new, advances_new}
 use Rattle.send_causes.proofs.Readings.{ticks_first}
-use Rattle.send_causes.proofs.Ticks.{AreTries, few_more, few_of, ids_first, calls_waiting, pair_one, pair_same, waits_set}
+use Rattle.send_causes.proofs.Ticks.{few_more, few_of, ids_first, calls_waiting, pair_one, pair_same, waits_set}
+use Rattle.call_causes.proofs.Chains.{AreFewTries as AreTries}
 use Rattle.label_runs.proofs.Loops.{id_back}
 use Rattle.send_causes.proofs.OwnDecisionsHomes.{HandFits, HomesFit, PutFits, hand_more, home_more, message_there, home_set, home_away, first_fits, others_fit, lies_fit, fed_fits, places_fit, hand_fits, homes_fit}
 use Rattle.send_causes.proofs.OwnDecisionsStands.{Stand, Calm, Trying, Past, Posted, Eases, MayPut, MayPost, MayAside, Stowing, unlocked_stand, Aims}
 use Rattle.send_causes.proofs.OwnDecisionsLoops.{aims_round}
 use Rattle.send_causes.proofs.OwnDecisionsPrograms.{block_goes, retry_goes}
+use Rattle.call_causes.specs.owed_calls.proofs.OwingRuns.{same_first}
 
 -- ## Attempts that are tried
 
@@ -130,7 +132,7 @@ law_more q Taken Taken' Mine Mine' c ss f g law = record {
   posts = λ x there. law.posts x (f x there);
 }
 
-pair_self : (id n : ℕ) → pair_of id n id n ≡ 1
+pub pair_self : (id n : ℕ) → pair_of id n id n ≡ 1
 pair_self id n = ap (λ b. cond b (cond (eqb n n) 1 0) 0) (eq-eqb id id refl) ∙ ap (λ b. cond b 1 0) (eq-eqb n n refl)
 
 module _ (f s k n : ℕ) (first : f < 4294967296) (slot : s < 65536) (link : k < 65535) (few : n ≤ 6) where
@@ -175,23 +177,6 @@ resolves s ws (AskReady k next) few g = stays s ws (AskReady k next) g refl
 resolves s ws (Write w after) few g = stays s ws (Write w after) g refl
 resolves s ws (Aside step next) few g = stays s ws (Aside step next) g refl
 resolves s ws (Round head next) few g = stays s ws (Round head next) g refl
-
--- the first step of a program is the same by either name
-pub same_first : (program : Program) → goes.first_of program ≡ first_step program
-same_first (Write w after) = refl
-same_first (Round head next) = refl
-same_first (Do call next) = refl
-same_first (Say o outcome next) = refl
-same_first (Sent o next) = refl
-same_first Rest = refl
-same_first (TakeMessage r next) = refl
-same_first (TakeHome k next) = refl
-same_first (PutHome k n after) = refl
-same_first (PutBytes k asked bytes next) = refl
-same_first (AskReady k next) = refl
-same_first (Aside step next) = refl
-same_first (Keep r next) = refl
-same_first (Retries many after) = refl
 
 pub aims_first : (s : Stand) (program : Program) → Aims s program → Aims s (first_step program)
 aims_first s (Write w after) g = block_goes s w after g

@@ -57,7 +57,7 @@ module _ (p : Plan) (calls os : List ℕ) (in_os : (k o : ℕ) → get_elem? os 
   -- each reader keeps to its link, behind these takes of it, and no client takes bytes
   pub record Keeps (c : Core) (vs : List View) (taken : ℕ → List Taking) : Type 0 where
     pub readers : (n o : ℕ) (at : get_elem? os n ≡ some o) → HasReader p calls n o (in_os n o at) Odd Lasts (ends n) (taken n) c vs
-    pub clients : (j : ℕ) → j < 32 → TakesNone j c
+    pub clients : (j : ℕ) → j < 32 → TakesNone (Unit {0}) j c
     pub many : length c.seats ≡ 32 + length os
 
   -- what takes found in these ticks, one after another
@@ -92,14 +92,14 @@ module _ (p : Plan) (calls os : List ℕ) (in_os : (k o : ℕ) → get_elem? os 
       (λ high. let r = reader_of c vs taken k j seat at high in let v = view_at c vs sound j seat at in ⊎_elim (λ e. ap (filter (λ l. l == n)) e)
       (λ t. ap (filter (λ l. l == n)) t.1 ∙ ap (λ b. cond b (t.0 ∷ []) []) (ne_eqb t.0 n (λ e. far (r.2 ∙ ap (λ x. 32 + x) (sym t.2 ∙ e)))))
       (takes_own p calls r.0 r.1 (in_os r.0 r.1 r.3) Odd Lasts (ends r.0) (get_or c.words (open_index p r.1) 0) (taken r.0) seat.program v.0 (state_at c vs taken k j seat v.0 at v.1 r)))
-      (λ low. ap (filter (λ l. l == n)) (none_taken seat.program (k.clients j (omega (arith, low)) seat at)))
+      (λ low. ap (filter (λ l. l == n)) (none_taken (Unit {0}) seat.program (k.clients j (omega (arith, low)) seat at)))
 
   module _ (Q : ℕ → ℕ → Type 0) (go : RetriesGo p) where
     pub keeps_ticks : (c : Core) (vs : List View) (m : Moment) (taken : ℕ → List Taking) → Sound p c vs → IsAnswered c m → IsFitting p c m → Recorded p Q c vs → (c.calls.ending ≡ true → Lasts) → Keeps c vs taken
         → Keeps (ticked p c m) (views_after p c vs m) (λ n. taken n ++ found_by c m n)
     keeps_ticks c vs m taken sound answered fitting recorded lasting k = record {
       readers = λ n o at. reader_ticks p calls n o (in_os n o at) Odd Lasts (ends n) Q go (taken n) c vs m sound answered fitting recorded (k.readers n o at) lasting (λ seat at_seat far. others_none c vs taken sound k m.seat seat at_seat n far);
-      clients = λ j low. run_takes p j go c vs (m ∷ []) sound (answered, tt) (fitting, tt) (k.clients j low);
+      clients = λ j low. run_takes (Unit {0}) p j go c vs (m ∷ []) sound (answered, tt) (fitting, tt) (k.clients j low);
       many = ticked_seats p c m ∙ k.many;
     }
 

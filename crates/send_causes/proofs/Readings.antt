@@ -116,7 +116,7 @@ ticks_first p i seat c answer (Write w after) = refl
 ticks_first p i seat c answer (Round head next) = refl
 ticks_first p i seat c answer program = refl
 
-views_first : (p : Plan) (i : ℕ) (c : Core) (vs : List View) (v : View) (answer : Answer) (program : Program) → views_of p i c vs v answer program ≡ views_with p i c vs v answer (first_step program)
+pub views_first : (p : Plan) (i : ℕ) (c : Core) (vs : List View) (v : View) (answer : Answer) (program : Program) → views_of p i c vs v answer program ≡ views_with p i c vs v answer (first_step program)
 views_first p i c vs v answer (Write w after) = refl
 views_first p i c vs v answer (Round head next) = refl
 views_first p i c vs v answer program = refl

@@ -1,12 +1,9 @@
 -- An attempt of which nothing is left stands in no order.
-use Rattle.std.proofs.Common.{◌≡◌, ◌≢◌, ℕ, zero, suc, ◌+◌, Bool, true, false, cond, eqb, eq-eqb, ne_eqb, List, [], ◌∷◌, length, refl, sym, ap, ◌∙◌, subst, arith}
+use Rattle.std.proofs.Common.{◌≡◌, ◌≢◌, ℕ, zero, suc, ◌+◌, Bool, true, false, List, [], ◌∷◌, length, refl, sym, ap, ◌∙◌, subst, arith}
 use Rattle.std.proofs.lemmas.Bool.{true≢false}
 use Rattle.std.specs.Prelude.{Some, slice_get}
 use Rattle.std.specs.List.{AllByRecursion}
-use mathlib.Core.Option.{some}
-use lib.ListN.{get_elem?}
 use Rattle.sock_model.specs.declared.chain.Entry.{Entry}
-use Rattle.sock_model.specs.declared.chain.Heading.{Heading}
 use Rattle.sock_model.specs.declared.view.View.{View}
 use Rattle.sock_model.specs.Weights.{total}
 use Rattle.slot_steps.proofs.Sums.{term_le}
@@ -31,33 +28,22 @@ use Rattle.outcome_causes.proofs.Runs.{Goes}
 use Rattle.outcome_causes.proofs.Scripts.{seats, ended_told, final_told, story_end}
 use Rattle.outcome_causes.proofs.Senders.{HasSent, all_sent}
 use Rattle.outcome_causes.proofs.Tasks.{one_task}
-use Rattle.call_causes.specs.programs_allowed.specs.Openings.{all_seats}
-use Rattle.call_causes.specs.programs_allowed.proofs.Fresh.{opening_fresh}
 use Rattle.call_causes.specs.joint_runs.proofs.Runs.{AreMade, first_views}
 use Rattle.call_causes.specs.owed_calls.specs.Lives.{ClosesInRun}
-use Rattle.send_causes.specs.Counts.{pair_of, of_heading, of_entry, of_view}
+use Rattle.send_causes.specs.Counts.{of_entry, of_view}
 use Rattle.send_causes.specs.Refused.{RunWouldOwn}
 use Rattle.send_causes.proofs.Apart.{of_call_fits}
 use Rattle.send_causes.proofs.Beside.{fixed_of_run, gave_of_run, orders_here}
-use Rattle.send_causes.proofs.Early.{start, go, fitting}
+use Rattle.send_causes.proofs.Early.{start, go, fitting, first_fresh}
 use Rattle.send_causes.proofs.Runs.{AreLabelledIn, IsCallOf, Lawful_, end_law}
-use Rattle.send_causes.proofs.Sends.{narrow, owed, opening_claims}
-use Rattle.send_causes.proofs.Whole.{get_same}
+use Rattle.send_causes.proofs.Sends.{narrow, owed, opening_bare}
+use Rattle.send_causes.proofs.DropWhole.{get_same}
 use Rattle.send_causes.proofs.RefusedWhole.{IsGone}
-
--- a message of the attempt counts
-counts_one : (id n : ℕ) (h : Heading) → h.owner ≢ 0 → h.owner ≡ id → h.attempt ≡ n → of_heading id n h ≡ 1
-counts_one id n h some_ a b = ap (λ z. cond z 0 (pair_of id n h.owner h.attempt)) (ne_eqb h.owner 0 some_) ∙ (ap (λ z. cond z (cond (eqb h.attempt n) 1 0) 0) (eq-eqb h.owner id a) ∙ ap (λ z. cond z 1 0) (eq-eqb h.attempt n b))
+use Rattle.send_causes.proofs.DropPlaces.{heading_one}
 
 module _ (script : List Item) (made : AreMade script) (turns : List Turn) (core : Core) (is : IsRunWithCalls script turns core) (closes : ClosesInRun script turns core is) (ids : ℕ → ℕ) (labelled : AreLabelledIn ids script turns core is) (would : RunWouldOwn ids script turns core is) where
   abbrev vs : List View
   vs = views_ended script turns core is (first_views script)
-
-  abbrev fresh : (i : ℕ) (v : View) → get_elem? (first_views script) i ≡ some v → v.lists ≡ [] ∷ []
-  fresh = opening_fresh (plan_of script) (all_seats (all_tasks script) (length (opens script)))
-
-  bare_views : (i : ℕ) (v : View) → get_elem? (first_views script) i ≡ some v → (v.claims ≡ []) × (v.lists ≡ [] ∷ [])
-  bare_views i v at = (opening_claims (plan_of script) (all_seats (all_tasks script) (length (opens script))) i v at, fresh i v at)
 
   -- no link accepted a message of the attempt
   module _ (n : ℕ) (asked : Asked) (called : IsCallOf script asked) (gone : IsGone script made turns core is closes ids labelled would (ids asked.operation) n) where
@@ -65,17 +51,17 @@ module _ (script : List Item) (made : AreMade script) (turns : List Turn) (core 
     id = ids asked.operation
 
     end_labels : Lawful_ (plan_of script) (id_plan_of script) (narrow script made turns core is closes) (IsCallOf script) ids core vs
-    end_labels = end_law script made.are (first_views script) (start script made turns core is) (go script made turns core is) turns core is (fitting script made turns core is) (narrow script made turns core is closes) bare_views ids labelled
+    end_labels = end_law script made.are (first_views script) (start script made turns core is) (go script made turns core is) turns core is (fitting script made turns core is) (narrow script made turns core is closes) (opening_bare script) ids labelled
 
-    abbrev told_run : Goes (plan_of script) (told_tasks_of script) (seats script made.are (first_views script) (start script made turns core is) fresh (go script made turns core is) turns core is (fitting script made turns core is)) true is.final is.ended
-        (views_closed script turns core is (first_views script)) (ended_told script made.are (first_views script) (start script made turns core is) fresh (go script made turns core is) turns core is (fitting script made turns core is))
-    told_run = final_told script made.are (first_views script) (start script made turns core is) fresh (go script made turns core is) turns core is (fitting script made turns core is)
+    abbrev told_run : Goes (plan_of script) (told_tasks_of script) (seats script made.are (first_views script) (start script made turns core is) (first_fresh script) (go script made turns core is) turns core is (fitting script made turns core is)) true is.final is.ended
+        (views_closed script turns core is (first_views script)) (ended_told script made.are (first_views script) (start script made turns core is) (first_fresh script) (go script made turns core is) turns core is (fitting script made turns core is))
+    told_run = final_told script made.are (first_views script) (start script made turns core is) (first_fresh script) (go script made turns core is) turns core is (fitting script made turns core is)
 
     abbrev told_story : Story (plan_of script) (told_tasks_of script) true core vs told_run.after.events told_run.after.lost
-    told_story = story_end script made.are (first_views script) (start script made turns core is) fresh (go script made turns core is) turns core is (fitting script made turns core is) (owed script made turns core is closes)
+    told_story = story_end script made.are (first_views script) (start script made turns core is) (first_fresh script) (go script made turns core is) turns core is (fitting script made turns core is) (owed script made turns core is closes)
 
     abbrev told_seats : AreTasks (plan_of script) (told_tasks_of script)
-    told_seats = seats script made.are (first_views script) (start script made turns core is) fresh (go script made turns core is) turns core is (fitting script made turns core is)
+    told_seats = seats script made.are (first_views script) (start script made turns core is) (first_fresh script) (go script made turns core is) turns core is (fitting script made turns core is)
 
     abbrev end_sound : Sound (plan_of script) core vs
     end_sound = ended_sound script made.are (first_views script) (start script made turns core is) (go script made turns core is) turns core is (fitting script made turns core is)
@@ -102,7 +88,7 @@ module _ (script : List Item) (made : AreMade script) (turns : List Turn) (core 
             no_task i x.task x.asks (sym (number_of (plan_of script) (told_tasks_of script) told_seats true core vs told_run.after.events told_run.after.lost end_sound told_story rests i e x) ∙ same)
         by false other = let f = of_call_fits (plan_of script) (id_plan_of script) (IsCallOf script) ids (told_tasks_of script) told_seats core vs told_run.after.events told_run.after.lost end_sound told_story rests
             end_labels.0 end_labels.1 i m e h other in
-            let one = counts_one id n e.heading f.0 (sym f.1 ∙ ap ids same) at in let none_ = none_counts i m e h in omega (arith, one, none_)
+            let one = heading_one id n e.heading f.0 (sym f.1 ∙ ap ids same) at in let none_ = none_counts i m e h in omega (arith, one, none_)
 
     pub none_accepted : (k : ℕ) → AllByRecursion (λ (a : Accepted). a.operation ≡ asked.operation → a.attempt ≡ n → ⊥) (orders_here script made turns core is closes k).accepted
     none_accepted k = all_sent (plan_of script) core vs end_sound.lawful (each_made (plan_of script) (told_tasks_of script) told_seats true core vs told_run.after.events told_run.after.lost end_sound told_story rests)

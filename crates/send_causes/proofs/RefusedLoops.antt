@@ -4,7 +4,6 @@ use Rattle.brpc_model.specs.Frame.{Frame}
 use Rattle.brpc_model.specs.Stream as streams
 use Rattle.corr_core.specs.Word.{Parts, parts, posted_word, unlocked_word, code_of}
 use Rattle.corr_core.specs.Law.{LAST}
-use Rattle.id_runs.proofs.Keeps.{parts_packed}
 use Rattle.sock_message.specs.Asked.{Asked}
 use Rattle.seat_programs.specs.Asides.{UnlockId, FreeId, Taking, Bytes, Nothing, NoMore, AtEnd, Closed, Broken, PutCall, id_slot, id_first, call_id}
 use Rattle.seat_programs.specs.Calls.{Call}
@@ -16,6 +15,7 @@ use Rattle.seat_programs.specs.Rounds.{round}
 use Rattle.label_runs.specs.Labels.{Trial, Idle, Tries, Kept, LeavesLabel, LeavesLock, LeavesUnlock, unlocks_trial, unlocked_trial, locked_trial, IsSoughtWord, FindsLabel}
 use Rattle.label_runs.proofs.Loops.{id_back, not_true, not_equal, and_left, locked_parts}
 use Rattle.send_causes.specs.Refused.{Deed, NoCharge, Doing, idle, Moves, Remembers, IsPostOf, Charges, LeavesCode}
+use Rattle.send_causes.proofs.OwnDecisionsLoops.{word_after}
 
 -- a seat that tries, or none, and has nothing to post
 abbrev pub bare : Trial → List Deed → Doing
@@ -128,13 +128,6 @@ module _ (requests : ℕ) (is_call : Asked → Type 0) (reads : Bool) where
   posted_goes id e next goes WasQueued l = goes
 
   -- ## Giving a lock back
-
-  state_fits : (b : Bool) → cond b 1 2 < 4
-  state_fits true = omega arith
-  state_fits false = omega arith
-
-  word_after : (from : ℕ) (advance : Bool) → (parts from).attempt + advance_of advance ≤ 6 → parts (packed (unlocked_word (parts from) (advance_of advance))) ≡ unlocked_word (parts from) (advance_of advance)
-  word_after from advance low = parts_packed (unlocked_word (parts from) (advance_of advance)) (state_fits (eqb (parts from).oldest 0)) (omega arith) (omega arith) (omega (arith, low)) (omega arith) (omega arith)
 
   module _ (t : Trial) (ds : List Deed) (i from : ℕ) (advance : Bool) (k : Unlocking → Program) (goes : (exit : Unlocking) → LeavesLabel (Unlocks i from advance) exit → Goes (bare (unlocks_trial i from advance t) ds) (k exit)) where
     abbrev after : ℕ

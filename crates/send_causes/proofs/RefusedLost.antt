@@ -11,9 +11,9 @@ use Rattle.brpc_model.specs.Operations.{Turn, clients}
 use Rattle.brpc_model.specs.Script.{script_of}
 use Rattle.corr_core.specs.Word.{parts}
 use Rattle.sock_message.specs.Asked.{Asked}
-use Rattle.seat_programs.specs.Asides.{Step, PutCall}
+use Rattle.seat_programs.specs.Asides.{PutCall}
 use Rattle.seat_programs.specs.Calls.{AddRef, LookWord, LoadName}
-use Rattle.seat_programs.specs.Heads.{Head, Exit, Posts, Unlocks, Decides, Locks, Joins, Opens, Reads, Discards}
+use Rattle.seat_programs.specs.Heads.{Posts, Unlocks, Decides, Locks, Joins, Opens, Reads, Discards}
 use Rattle.seat_programs.specs.Posts.{ends_call}
 use Rattle.seat_programs.specs.Programs.{Program, Do, Say, Sent, Rest, TakeMessage, TakeHome, PutHome, PutBytes, AskReady, Write, Aside, Round, Keep, Retries}
 use Rattle.seat_programs.specs.Writings.{Puts, Waits, Empties, Walks}
@@ -38,13 +38,11 @@ use Rattle.outcome_causes.proofs.Openings.{are_seats, all_explained}
 use Rattle.outcome_causes.proofs.Plain.{in_left, in_right}
 use Rattle.outcome_causes.proofs.Runs.{IsStoried, set_up_over, ending_story, is_ending_story}
 use Rattle.outcome_causes.proofs.Scripts.{own_from}
-use Rattle.call_causes.specs.programs_allowed.specs.Openings.{all_seats}
-use Rattle.call_causes.specs.programs_allowed.proofs.Fresh.{opening_fresh}
 use Rattle.call_causes.specs.joint_runs.proofs.Runs.{AreMade, first_views}
 use Rattle.call_causes.specs.owed_calls.specs.Lives.{ClosesInRun}
 use Rattle.send_causes.specs.Refused.{Deed, DidStep, DidPut, DidMiss, DidIn, DidEarly, DidLate, FoundLost, WasOther, WasOdd, WasNone}
 use Rattle.send_causes.proofs.Beside.{fixed_of_run, gave_of_run, orders_here, failing_of_run}
-use Rattle.send_causes.proofs.Early.{start, go, fitting}
+use Rattle.send_causes.proofs.Early.{start, go, fitting, first_fresh}
 use Rattle.send_causes.proofs.Sends.{owed}
 use Rattle.send_causes.proofs.RefusedNames.{IsNamed, named_more, Named, Then, seats_named, setup_named, named_life}
 use Rattle.send_causes.proofs.RefusedWhys.{early_so, all_in}
@@ -100,9 +98,6 @@ module _ (script : List Item) (made : AreMade script) (turns : List Turn) (core 
   abbrev p : Plan
   p = plan_of script
 
-  abbrev fresh : (i : ℕ) (v : View) → get_elem? (first_views script) i ≡ some v → v.lists ≡ [] ∷ []
-  fresh = opening_fresh (plan_of script) (all_seats (all_tasks script) (length (opens script)))
-
   told_are : AreTasks (plan_of script) (told_tasks_of script)
   told_are = are_seats (plan_of script) (all_tasks script) made.are (length (opens script))
 
@@ -131,7 +126,7 @@ module _ (script : List Item) (made : AreMade script) (turns : List Turn) (core 
     events = [];
     lost = [];
     story = start_story (plan_of script) (id_plan_of script) (told_tasks_of script) told_are _ (all_explained (plan_of script) (all_tasks script) made.are (length (opens script)) (id_plan_of script) (own_from script 0 (clients script + 1)) (calls script) (opens script) refl)
-        (first_views script) fresh (start script made turns core is).sound;
+        (first_views script) (first_fresh script) (start script made turns core is).sound;
   }
 
   setup_told : Then (plan_of script) (told_tasks_of script) told_are false (opened script) (first_views script) (replicate is.setup (quiet 0)) first_told.events

@@ -105,7 +105,7 @@ module _ (p : Plan) (clients : List (List Task)) (are : AreTasks p clients) (c :
   word_used : (q i u id found : ℕ) → In (event i u (ClaimRequest id q) found) es → found % 2 ≡ 1 → slice_index c.words (request_index p q) ≢ 0
   word_used q i u id found m odd = let x : StaysUsed p c.words (step (ClaimRequest id q) found) = story.used (event i u (ClaimRequest id q) found) m in let y = (x odd).1 in λ e. omega (arith, y, e)
 
-  world : World p clients c.outcomes lost (orders_of p c vs sound.lawful) es
+  pub world : World p clients c.outcomes lost (orders_of p c vs sound.lawful) es
   world = record {
     are = are;
     few = sound.limits.slots;

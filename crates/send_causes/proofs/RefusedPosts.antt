@@ -13,7 +13,7 @@ use Rattle.id_runs.specs.Goes as goes
 use Rattle.sock_message.specs.Asked.{Asked}
 use Rattle.seat_programs.specs.Asides.{Step, Found, PostId, call_id}
 use Rattle.seat_programs.specs.Beside.{found_in}
-use Rattle.seat_programs.specs.Programs.{Program, Do, Say, Sent, Rest, TakeMessage, TakeHome, PutHome, PutBytes, AskReady, Write, Aside, Round, Keep, Retries}
+use Rattle.seat_programs.specs.Programs.{Program, Aside}
 use Rattle.seat_programs.specs.Cores.{Core, SeatState}
 use Rattle.seat_programs.specs.Ticks.{Moment, taken}
 use Rattle.sock_runs.specs.Sound.{Sound, first_step}
@@ -23,6 +23,7 @@ use Rattle.call_causes.specs.Posts.{Post, posts_by, posted_with, posted_at}
 use Rattle.send_causes.specs.Refused.{Deed, Charge, NoCharge, IsRefused, HasDropped, Doing, IsChargeOf, IsPostOf, ChargeFits, ChargeLaw, IsSpent, PostKind, ByReader, ByExpiry, ByRefusal, ByDrop}
 use Rattle.send_causes.proofs.Ticks.{AreCalls}
 use Rattle.send_causes.proofs.RefusedTicks.{Then, First, first_as}
+use Rattle.call_causes.specs.owed_calls.proofs.OwingRuns.{same_first}
 
 -- what is known of what was done, and of attempts that are spent, may grow
 pub kind_more : (requests : ℕ) (is_call : Asked → Type 0) (ids : ℕ → ℕ) (Did Done : ℕ → Deed → Type 0) (Gone Went : ℕ → ℕ → Type 0) → ((j : ℕ) (d : Deed) → Did j d → Done j d) → ((id n : ℕ) → Gone id n → Went id n) → (j : ℕ) (x : Post) → PostKind requests is_call ids Did Gone j x
@@ -39,22 +40,6 @@ kind_more requests is_call ids Did Done Gone Went f g j x (ByDrop heading code d
     all_done : (ds : List Deed) → AllByRecursion (Did j) ds → AllByRecursion (Done j) ds
     all_done [] a = tt
     all_done (d ∷ ds) a = (f j d a.0, all_done ds a.1)
-
-pub same_first : (program : Program) → goes.first_of program ≡ first_step program
-same_first (Write w after) = refl
-same_first (Round head next) = refl
-same_first (Do call next) = refl
-same_first (Say o outcome next) = refl
-same_first (Sent o next) = refl
-same_first Rest = refl
-same_first (TakeMessage r next) = refl
-same_first (TakeHome k next) = refl
-same_first (PutHome k n after) = refl
-same_first (PutBytes k asked bytes next) = refl
-same_first (AskReady k next) = refl
-same_first (Aside step next) = refl
-same_first (Keep r next) = refl
-same_first (Retries many after) = refl
 
 module _ (p : Plan) (q : IdPlan) (narrow : q.slots ≤ 65536) (is_call : Asked → Type 0) (ids : ℕ → ℕ) (Did : ℕ → Deed → Type 0) (c : Core) (vs : List View) (ss : List Doing) (law : ChargeLaw p.requests is_call ids p q Did c vs ss)
     (calls : AreCalls is_call c.calls) (us : List IdView) (real_ids : SoundIds p q c us) (m : Moment) (sound : Sound p c vs) where

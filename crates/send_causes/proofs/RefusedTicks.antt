@@ -44,6 +44,8 @@ use Rattle.send_causes.proofs.Views.{put_of, row_count, rights_count}
 use Rattle.send_causes.proofs.Words.{made_on, finds_label, words_forward, makes_new, advances_new}
 use Rattle.send_causes.proofs.RefusedLoops.{bare, charges_round}
 use Rattle.send_causes.proofs.RefusedPrograms.{block_goes, retry_goes}
+use Rattle.report_fits.proofs.Lists.{all_map}
+use Rattle.send_causes.proofs.OwnDecisionsTicks.{pair_self}
 
 -- ## Lists
 
@@ -51,10 +53,6 @@ map_set : {A B : Type 0} (f : A → B) (xs : List A) (i : ℕ) (x : A) → map f
 map_set f [] i x = refl
 map_set f (y ∷ xs) zero x = refl
 map_set f (y ∷ xs) (suc i) x = ap (λ (l : List _). f y ∷ l) (map_set f xs i x)
-
-all_map : {A : Type 0} (P Q : A → Type 0) → ((x : A) → P x → Q x) → (xs : List A) → AllByRecursion P xs → AllByRecursion Q xs
-all_map P Q f [] a = tt
-all_map P Q f (x ∷ xs) a = (f x a.0, all_map P Q f xs a.1)
 
 abbrev AreLater : List Retry → Type 0
 AreLater ws = AllByRecursion (λ (r : Retry). 0 < r.attempt) ws
@@ -70,9 +68,6 @@ set_waits P (w ∷ ws) zero zero x new all = new
 set_waits P (w ∷ ws) zero (suc j) x new all = all (suc j)
 set_waits P (w ∷ ws) (suc i) zero x new all = all 0
 set_waits P (w ∷ ws) (suc i) (suc j) x new all = set_waits P ws i j x new (λ k. all (suc k))
-
-pair_here : (id n : ℕ) → pair_of id n id n ≡ 1
-pair_here id n = ap (λ b. cond b (cond (eqb n n) 1 0) 0) (eq-eqb id id refl) ∙ ap (λ b. cond b 1 0) (eq-eqb n n refl)
 
 -- ## What was done stays so
 
@@ -390,8 +385,8 @@ module _ (p : Plan) (q : IdPlan) (narrow : q.slots ≤ 65536) (is_call : Asked �
 
       -- the attempt that the seat tries counts
       counts : (t : Trial) (o id n : ℕ) → IsTrying t o id n (Do call next) → of_trial id n t ≡ 1
-      counts t o id n (inl e) = ap (of_trial id n) e ∙ pair_here id n
-      counts t o id n (inr e) = ap (of_trial id n) e.0 ∙ pair_here id n
+      counts t o id n (inl e) = ap (of_trial id n) e ∙ pair_self id n
+      counts t o id n (inr e) = ap (of_trial id n) e.0 ∙ pair_self id n
 
       stands : (id n : ℕ) → of_trial id n d.trial ≡ 1 → 0 < Times c vs ss id n
       stands id n one = let a = term_le (of_trial id n) (map trial_in ss) m.seat s.trial (mapped_at trial_in ss m.seat s at_doing) in let b = f.fewer id n in omega (arith, a, b, one)
@@ -554,7 +549,7 @@ module _ (p : Plan) (q : IdPlan) (narrow : q.slots ≤ 65536) (is_call : Asked �
 
         -- the slot of an id that the seat tries is one of the table
         tried_low : (id n : ℕ) → t.trial ≡ Tries id n → id_slot id < 65536
-        tried_low id n e = let here : of_trial id n t.trial ≡ 1 = ap (of_trial id n) e ∙ pair_here id n in
+        tried_low id n e = let here : of_trial id n t.trial ≡ 1 = ap (of_trial id n) e ∙ pair_self id n in
             let some_ = term_le (of_trial id n) (map trial_in ss) m.seat s.trial (mapped_at trial_in ss m.seat s at_doing) in let b = f.fewer id n in
             let made = (law.made id n (omega (arith, here, some_, b))).0 in omega (arith, made, narrow)
 

@@ -38,8 +38,6 @@ use Rattle.outcome_causes.specs.Stories.{In}
 use Rattle.outcome_causes.proofs.Final.{at_there}
 use Rattle.outcome_causes.proofs.Plain.{in_both}
 use Rattle.outcome_causes.proofs.Ticks.{elem_there}
-use Rattle.call_causes.specs.programs_allowed.specs.Openings.{all_seats}
-use Rattle.call_causes.specs.programs_allowed.proofs.Fresh.{opening_fresh}
 use Rattle.call_causes.specs.joint_runs.proofs.Runs.{AreMade, first_views}
 use Rattle.call_causes.specs.owed_calls.specs.Lives.{ClosesInRun}
 use Rattle.call_causes.specs.Decided.{posted_by}
@@ -49,9 +47,9 @@ use Rattle.send_causes.specs.Counts.{times_of, TrialFits}
 use Rattle.send_causes.specs.Refused.{Deed, Charge, NoCharge, IsRefused, HasDropped, Doing, idle, trial_in, Charges, DidAt, DidIn, DidEarly, DidLate, IsSpent, ChargeFits, ChargeLaw, PostKind, RunWouldOwn}
 use Rattle.send_causes.proofs.Early.{start, go, fitting}
 use Rattle.send_causes.proofs.Rests.{still}
-use Rattle.send_causes.proofs.Runs.{AreLabelledIn, IsCallOf, Lawful_, asked_by, behind_ids}
+use Rattle.send_causes.proofs.Runs.{AreLabelledIn, IsCallOf, asked_by, behind_ids}
 use Rattle.send_causes.proofs.Runs as labels
-use Rattle.send_causes.proofs.Sends.{narrow, few_clients, opening_claims}
+use Rattle.send_causes.proofs.Sends.{narrow, few_clients, opening_bare}
 use Rattle.send_causes.proofs.RefusedClosing.{OnSockets, ending_goes as on_sockets, alone, set_first, none_closing}
 use Rattle.send_causes.proofs.RefusedLoops.{bare}
 use Rattle.send_causes.proofs.PostSeats.{of_all}
@@ -222,9 +220,6 @@ module _ (script : List Item) (made : AreMade script) (turns : List Turn) (core 
   abbrev pub few_slots : (id_plan_of script).slots ≤ 65536
   few_slots = narrow script made turns core is closes
 
-  pub bare_views : (i : ℕ) (v : View) → get_elem? (first_views script) i ≡ some v → (v.claims ≡ []) × (v.lists ≡ [] ∷ [])
-  bare_views i v at = (opening_claims (plan_of script) (all_seats (all_tasks script) (length (opens script))) i v at, opening_fresh (plan_of script) (all_seats (all_tasks script) (length (opens script))) i v at)
-
   abbrev pub Law : (ℕ → Deed → Type 0) → Core → List View → List Doing → Type 0
   Law Did c ws ss = ChargeLaw (plan_of script).requests (IsCallOf script) ids (plan_of script) (id_plan_of script) Did c ws ss
 
@@ -246,12 +241,12 @@ module _ (script : List Item) (made : AreMade script) (turns : List Turn) (core 
   pub first_charges : Law Nothing (opened script) (first_views script) first_doings
   first_charges = begins_charges (plan_of script) (id_plan_of script) few_slots (IsCallOf script) ids seats_first
       (seats_charge (plan_of script).requests (IsCallOf script) (sizes_of (plan_of script) (id_plan_of script)) refl (all_tasks script) (few_clients script made turns core is closes) (asked_by script) (calls script) (opens script))
-      (first_views script) bare_views
+      (first_views script) (opening_bare script)
 
   setup_runs : Runs Nothing (opened script) (first_views script) first_doings (replicate is.setup (quiet 0))
   setup_runs = run_charges (plan_of script) (id_plan_of script) few_slots (IsCallOf script) ids (go script made turns core is) (replicate is.setup (quiet 0)) Nothing (opened script) (first_views script) (start script made turns core is).sound
       (set_up_answered script made.are (first_views script) (start script made turns core is) (go script made turns core is) turns core is (fitting script made turns core is)) (fitting script made turns core is).of_setup labelled.of_setup would.of_setup
-      (labels.first script made.are (first_views script) (start script made turns core is) (go script made turns core is) turns core is (fitting script made turns core is) few_slots bare_views ids labelled) first_doings first_charges
+      (labels.first script made.are (first_views script) (start script made turns core is) (go script made turns core is) turns core is (fitting script made turns core is) few_slots (opening_bare script) ids labelled) first_doings first_charges
 
   abbrev DidSetup : ℕ → Deed → Type 0
   DidSetup j d = Nothing j d ⊎ DidIn (plan_of script) (opened script) (replicate is.setup (quiet 0)) j d
@@ -262,7 +257,7 @@ module _ (script : List Item) (made : AreMade script) (turns : List Turn) (core 
   played_runs : Runs DidSetup (set_up script is.setup) set_views setup_runs.doings (is.scheduled ++ is.later)
   played_runs = run_charges (plan_of script) (id_plan_of script) few_slots (IsCallOf script) ids (go script made turns core is) (is.scheduled ++ is.later) DidSetup (set_up script is.setup) set_views
       (set_up_sound script made.are (first_views script) (start script made turns core is) (go script made turns core is) turns core is (fitting script made turns core is)) is.answered (fitting script made turns core is).of_played labelled.of_played would.of_played
-      (labels.set_up_law script made.are (first_views script) (start script made turns core is) (go script made turns core is) turns core is (fitting script made turns core is) few_slots bare_views ids labelled) setup_runs.doings setup_runs.law
+      (labels.set_up_law script made.are (first_views script) (start script made turns core is) (go script made turns core is) turns core is (fitting script made turns core is) few_slots (opening_bare script) ids labelled) setup_runs.doings setup_runs.law
 
   abbrev DidPlay : ℕ → Deed → Type 0
   DidPlay j d = DidSetup j d ⊎ DidIn (plan_of script) (set_up script is.setup) (is.scheduled ++ is.later) j d
@@ -284,7 +279,7 @@ module _ (script : List Item) (made : AreMade script) (turns : List Turn) (core 
       let sound = played_sound script made.are (first_views script) (start script made turns core is) (go script made turns core is) turns core is (fitting script made turns core is) in
       let close = closing_sound script made.are (first_views script) (start script made turns core is) (go script made turns core is) turns core is (fitting script made turns core is) in
       let seat = at_there c.seats 0 many in let v = elem_there c.seats ws 0 seat.0 sound.each seat.1 in
-      let labels_ = labels.played_law script made.are (first_views script) (start script made turns core is) (go script made turns core is) turns core is (fitting script made turns core is) few_slots bare_views ids labelled in
+      let labels_ = labels.played_law script made.are (first_views script) (start script made turns core is) (go script made turns core is) turns core is (fitting script made turns core is) few_slots (opening_bare script) ids labelled in
       let us = behind_ids (plan_of script) (id_plan_of script) few_slots (IsCallOf script) ids (is.scheduled ++ is.later) (set_up script is.setup) labelled.of_played in
       let d = elem_there c.seats played_runs.doings 0 seat.0 played_runs.law.each seat.1 in
       let rests = seat_rests c (rested_ahead script made.are (first_views script) (start script made turns core is) (go script made turns core is) turns core is (fitting script made turns core is)) 0
@@ -306,7 +301,7 @@ module _ (script : List Item) (made : AreMade script) (turns : List Turn) (core 
   closing_runs = run_charges (plan_of script) (id_plan_of script) few_slots (IsCallOf script) ids (go script made turns core is) (replicate is.last (quiet 0)) DidPlay (closing_of script turns core is) rested_views
       (closing_sound script made.are (first_views script) (start script made turns core is) (go script made turns core is) turns core is (fitting script made turns core is))
       (end_answered script made.are (first_views script) (start script made turns core is) (go script made turns core is) turns core is (fitting script made turns core is)) (fitting script made turns core is).of_closing labelled.of_closing would.of_closing
-      (labels.closing_law script made.are (first_views script) (start script made turns core is) (go script made turns core is) turns core is (fitting script made turns core is) few_slots bare_views ids labelled) begun.doings begun.law
+      (labels.closing_law script made.are (first_views script) (start script made turns core is) (go script made turns core is) turns core is (fitting script made turns core is) few_slots (opening_bare script) ids labelled) begun.doings begun.law
 
   abbrev DidClose : ℕ → Deed → Type 0
   DidClose j d = DidPlay j d ⊎ DidIn (plan_of script) (closing_of script turns core is) (replicate is.last (quiet 0)) j d
@@ -361,7 +356,7 @@ module _ (script : List Item) (made : AreMade script) (turns : List Turn) (core 
   final_runs : Runs Nothing is.ended closed_views (map ease closing_runs.doings) is.final
   final_runs = run_charges (plan_of script) (id_plan_of script) few_slots (IsCallOf script) ids (go script made turns core is) is.final Nothing is.ended closed_views
       (closed_sound script made.are (first_views script) (start script made turns core is) (go script made turns core is) turns core is (fitting script made turns core is)) is.answered_again (fitting script made turns core is).of_final labelled.of_final would.of_final
-      (labels.closed_law script made.are (first_views script) (start script made turns core is) (go script made turns core is) turns core is (fitting script made turns core is) few_slots bare_views ids labelled) (map ease closing_runs.doings) final_law
+      (labels.closed_law script made.are (first_views script) (start script made turns core is) (go script made turns core is) turns core is (fitting script made turns core is) few_slots (opening_bare script) ids labelled) (map ease closing_runs.doings) final_law
 
   -- ## What is left of refused attempts
 

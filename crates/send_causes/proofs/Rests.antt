@@ -88,7 +88,7 @@ module _ (script : List Item) (made : AreMade script) (turns : List Turn) (core 
     pub clients_rest : (j : ℕ) → j < 32 → j < length (played script is.setup (is.scheduled ++ is.later)).seats → IsAtRest (played script is.setup (is.scheduled ++ is.later)) j
     clients_rest j low inside = ⊎_elim (λ rest. rest) (λ s. absurd (never s)) (aside j inside)
       where
-        by_head : (u : IdView) (head : Head) (next : Exit head → Program) → NoTakes (Round head next) → IdGoesOn (plan_of script) (id_plan_of script) u (Round head next) → ⊥
+        by_head : (u : IdView) (head : Head) (next : Exit head → Program) → NoTakes (Unit {0}) (Round head next) → IdGoesOn (plan_of script) (id_plan_of script) u (Round head next) → ⊥
         by_head u (Posts id e w) next none_ g = let z = g.0.1 in omega (arith, z, callless)
         by_head u (Unlocks i w advance) next none_ g = let z = g.0.0 in omega (arith, z, callless)
         by_head u (Decides id asked w e) next none_ g = let z = g.0.0 in omega (arith, z, callless)
@@ -102,4 +102,4 @@ module _ (script : List Item) (made : AreMade script) (turns : List Turn) (core 
         never s = let runs = joint_runs script turns core is made in
             let both = behind_both (plan_of script) (id_plan_of script) (set_up script is.setup) _ (is.scheduled ++ is.later) runs.clients in let ids = both.ids in
             let u = view_of (played script is.setup (is.scheduled ++ is.later)).seats both.id_views j s.0 s.1 ids.each in
-            by_head u.0 s.2.0 s.2.1 (subst NoTakes s.2.2 (clients_take_none script made turns core is j low s.0 s.1)) (subst (IdGoesOn (plan_of script) (id_plan_of script) u.0) s.2.2 (ids.seats j s.0 u.0 s.1 u.1))
+            by_head u.0 s.2.0 s.2.1 (subst (NoTakes (Unit {0})) s.2.2 (clients_take_none script made turns core is j low s.0 s.1)) (subst (IdGoesOn (plan_of script) (id_plan_of script) u.0) s.2.2 (ids.seats j s.0 u.0 s.1 u.1))

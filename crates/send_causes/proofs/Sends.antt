@@ -46,21 +46,21 @@ use Rattle.outcome_causes.proofs.Lifted.{filtered_in, task_down, why_lifted, tol
 use Rattle.outcome_causes.proofs.Plain.{in_left, in_right, in_both}
 use Rattle.outcome_causes.proofs.Scripts.{lost_of_run, lost_before, late, orders, run_tells, failed_early}
 use Rattle.call_causes.specs.programs_allowed.specs.Openings.{links_of_all, without_passes, client_view, opening_views, all_seats}
-use Rattle.call_causes.specs.programs_allowed.proofs.Fresh.{opening_fresh}
 use Rattle.call_causes.specs.joint_runs.proofs.Both.{AreBounded}
 use Rattle.call_causes.specs.joint_runs.proofs.Runs.{AreMade, first_views, joint_runs, joint_bounded}
 use Rattle.call_causes.specs.owed_calls.specs.Lives.{ClosesInRun}
 use Rattle.call_causes.specs.owed_calls.proofs.Known.{run_owed_of}
 use Rattle.send_causes.specs.Sent.{IsAttempt}
 use Rattle.send_causes.proofs.Dropped.{ending_begins, ending_places, resting_places, failed_before}
-use Rattle.send_causes.proofs.Early.{start, go, fitting, known, Any, ends_anyhow, closed_keeps}
+use Rattle.send_causes.proofs.Early.{start, go, fitting, known, Any, ends_anyhow, closed_keeps, first_fresh}
 use Rattle.send_causes.proofs.Labelled.{ids_of_run, run_labelled}
 use Rattle.send_causes.proofs.Rests.{clients_rest}
 use Rattle.send_causes.proofs.Runs.{AreLabelledIn}
 use Rattle.send_causes.proofs.Whole.{run_orders, run_sent}
+use Rattle.report_fits.proofs.Lists.{all_map}
 
 -- a link that was lost in some ticks answered that it failed, or its socket was closed
-lost_so : (p : Plan) (c : Core) (ms : List Moment) (k : ℕ) → In k (lost_in p c ms) → In k (broken_in p c ms) ⊎ In k (shown_in closed_at p c ms)
+pub lost_so : (p : Plan) (c : Core) (ms : List Moment) (k : ℕ) → In k (lost_in p c ms) → In k (broken_in p c ms) ⊎ In k (shown_in closed_at p c ms)
 lost_so p c [] k m = absurd m
 lost_so p c (x ∷ xs) k m = ⊎_elim
     (λ a. ⊎_elim (λ b. inl (in_left _ (broken_in p (ticked p c x) xs) k b)) (λ b. inr (in_left (closed_at c x) (shown_in closed_at p (ticked p c x) xs) k b)) (in_both _ (closed_at c x) k a))
@@ -79,10 +79,6 @@ in_all f (us ∷ clients) zero o ts e m = in_left (f us) (flat_map f clients) o 
     same : Some us ≡ Some ts → us ≡ ts
     same e = cc
 in_all f (us ∷ clients) (suc c) o ts e m = in_right (f us) (flat_map f clients) o (in_all f clients c o ts e m)
-
-all_map : {A : Type 0} (P Q : A → Type 0) → ((x : A) → P x → Q x) → (xs : List A) → AllByRecursion P xs → AllByRecursion Q xs
-all_map P Q f [] a = tt
-all_map P Q f (x ∷ xs) a = (f x a.0, all_map P Q f xs a.1)
 
 before_map : {A : Type 0} (P Q : A → A → Type 0) → ((x y : A) → P x y → Q x y) → (xs : List A) → EachBefore P xs → EachBefore Q xs
 before_map P Q f [] a = tt
@@ -103,6 +99,9 @@ opening_claims p [] i v e = absurd (some-ne-none v (sym e))
 opening_claims p (ts ∷ clients) zero v e = subst (λ (u : View). u.claims ≡ []) (some-injective (newcomer p (without_passes (links_of_all clients) (below p.links)) (511 - length clients)) v e) refl
 opening_claims p (ts ∷ clients) (suc i) v e = clients_claim p clients i v e
 
+pub opening_bare : (script : List Item) (i : ℕ) (v : View) → get_elem? (first_views script) i ≡ some v → (v.claims ≡ []) × (v.lists ≡ [] ∷ [])
+opening_bare script i v at = (opening_claims (plan_of script) (all_seats (all_tasks script) (length (opens script))) i v at, first_fresh script i v at)
+
 module _ (script : List Item) (made : AreMade script) (turns : List Turn) (core : Core) (is : IsRunWithCalls script turns core) (closes : ClosesInRun script turns core is) where
   abbrev p : Plan
   p = plan_of script
@@ -122,9 +121,6 @@ module _ (script : List Item) (made : AreMade script) (turns : List Turn) (core 
   abbrev fits : AreFittingIn script turns core is
   fits = fitting script made turns core is
 
-  abbrev fresh : (i : ℕ) (v : View) → get_elem? (first_views script) i ≡ some v → v.lists ≡ [] ∷ []
-  fresh = opening_fresh (plan_of script) (all_seats (all_tasks script) (length (opens script)))
-
   pub narrow : (id_plan_of script).slots ≤ 65536
   narrow = let k = known script made turns core is in k.narrow
 
@@ -139,17 +135,17 @@ module _ (script : List Item) (made : AreMade script) (turns : List Turn) (core 
 
   -- what the links accepted
   abbrev pub orders_of_run : ℕ → Order
-  orders_of_run = orders script are vs begins fresh goes turns core is fits owed
+  orders_of_run = orders script are vs begins (first_fresh script) goes turns core is fits owed
 
   abbrev few : List ℕ
-  few = lost_before script are vs begins fresh goes turns core is fits
+  few = lost_before script are vs begins (first_fresh script) goes turns core is fits
 
   -- at words are those of the operations' own calls
   abbrev pub labelled : AreLabelledIn (ids_of_run script made turns core is narrow few_clients) script turns core is
   labelled = run_labelled script made turns core is narrow few_clients
 
-  tells : ToldTasks (told_tasks_of script) core.outcomes (plan_of script) orders_of_run (lost_of_run script turns core is) few (late script are vs begins fresh goes turns core is fits)
-  tells = let t = run_tells script are vs begins fresh goes turns core is fits owed in t.tells
+  tells : ToldTasks (told_tasks_of script) core.outcomes (plan_of script) orders_of_run (lost_of_run script turns core is) few (late script are vs begins (first_fresh script) goes turns core is fits)
+  tells = let t = run_tells script are vs begins (first_fresh script) goes turns core is fits owed in t.tells
 
   -- the fails that count
   pub fails_of_run : List (ℕ × ℕ)
@@ -157,12 +153,12 @@ module _ (script : List Item) (made : AreMade script) (turns : List Turn) (core 
 
   failed_by : (k : ℕ) → Failed (plan_of script) (state (played script is.setup (is.scheduled ++ is.later)) (views_played script turns core is (first_views script))) k → Contains few k ⊎ ((fail : ℕ) × Contains fails_of_run (fail, k))
   unfolding tells fails_of_run
-  failed_by k f = failed_early script are vs begins fresh goes turns core is fits owed k f
+  failed_by k f = failed_early script are vs begins (first_fresh script) goes turns core is fits owed k f
 
   -- ## The orders
 
   pub orders_are : AreOrders (plan_of script) core orders_of_run
-  orders_are = run_orders script are vs begins fresh goes turns core is fits owed narrow bare (ids_of_run script made turns core is narrow few_clients) labelled
+  orders_are = run_orders script are vs begins (first_fresh script) goes turns core is fits owed narrow bare (ids_of_run script made turns core is narrow few_clients) labelled
 
   module _ (early closed silent : List ℕ) (soon : List (ℕ × ℕ)) (gave : ℕ → List ℕ) (last : ℕ → ℕ) where
     -- what the run fixes
@@ -178,7 +174,7 @@ module _ (script : List Item) (made : AreMade script) (turns : List Turn) (core 
       fails = fails_of_run;
     }
 
-    lates : (c : ℕ) (t : Task) → IsTask (all_tasks script) core.outcomes c t → is_plain t.op ≡ true → late script are vs begins fresh goes turns core is fits t.number → Contains (late_of_run script turns core is) t.number
+    lates : (c : ℕ) (t : Task) → IsTask (all_tasks script) core.outcomes c t → is_plain t.op ≡ true → late script are vs begins (first_fresh script) goes turns core is fits t.number → Contains (late_of_run script turns core is) t.number
     lates c t it plain_ l = in_contains (late_of_run script turns core is) t.number (in_left _ _ t.number
         (filtered_in (is_said_late script turns core is) (flat_map (numbers_of script turns core is) (all_tasks script)) t.number
         (in_all (numbers_of script turns core is) (all_tasks script) c t.number it.0 it.1
@@ -195,7 +191,7 @@ module _ (script : List Item) (made : AreMade script) (turns : List Turn) (core 
           (in_both (lost_in p (opened script) ones) (lost_in p (set_up script is.setup) twos) k (contains_in few k m))
 
       abbrev later : ℕ → Type 0
-      later = late script are vs begins fresh goes turns core is fits
+      later = late script are vs begins (first_fresh script) goes turns core is fits
 
       abbrev lost : List ℕ
       lost = lost_of_run script turns core is
@@ -258,7 +254,7 @@ module _ (script : List Item) (made : AreMade script) (turns : List Turn) (core 
         sends_are : (k : ℕ) → k < (plan_of script).links → AllByRecursion (IsSent (plan_of script) (all_tasks script) core.outcomes fixed gave orders_of_run last k) (orders_of_run k).accepted
         sends_are k kl = all_map (λ (a : Accepted). IsSent (plan_of script) (all_tasks script) core.outcomes fixed gave orders_of_run last k a ⊎ IsAttempt (ids_of_run script made turns core is narrow few_clients) (all_tasks script) core.outcomes a)
             (IsSent (plan_of script) (all_tasks script) core.outcomes fixed gave orders_of_run last k) (λ a x. ⊎_elim (λ y. y) (λ y. absurd (no_call y.client y.task y.asked y.is y.op)) x) (orders_of_run k).accepted
-            (run_sent script are vs begins fresh goes turns core is fits owed narrow bare (ids_of_run script made turns core is narrow few_clients) labelled fixed gave last k kl)
+            (run_sent script are vs begins (first_fresh script) goes turns core is fits owed narrow bare (ids_of_run script made turns core is narrow few_clients) labelled fixed gave last k kl)
 
         in_order : (k : ℕ) → k < (plan_of script).links → EachBefore (InOwnOrder (plan_of script) (all_tasks script) core.outcomes fixed gave orders_of_run) (orders_of_run k).accepted
         in_order k kl = before_map (causes.InOwnOrder (told_tasks_of script) core.outcomes) (InOwnOrder (plan_of script) (all_tasks script) core.outcomes fixed gave orders_of_run)

@@ -43,6 +43,7 @@ use Rattle.label_runs.proofs.Programs.{labels_round, block_goes, retry_goes}
 use Rattle.send_causes.specs.Counts.{pair_of, of_trial, of_retry, of_view, times_of, WasMade, WasNow, ViewFits, TrialFits, IsOfCall, LabelLaw, StoresOwn}
 use Rattle.send_causes.proofs.Words.{made_on, finds_label, words_forward, makes_new, advances_new}
 use Rattle.send_causes.proofs.Views.{put_of, row_count, rights_count, PutsFit, row_fits, rights_fit}
+use Rattle.call_causes.proofs.Chains.{AreFewTries}
 
 -- ## Pairs
 
@@ -72,15 +73,11 @@ waits_set f none_ (w ∷ ws) (suc i) x = let r = waits_set f none_ ws i x in ome
 
 -- ## Retries that are kept and taken up
 
--- each is an attempt that a call may have
-abbrev pub AreTries : List Retry → Type 0
-AreTries ws = AllByRecursion (λ (r : Retry). r.attempt ≤ 6) ws
-
-pub few_more : (ws : List Retry) (r : Retry) → AreTries ws → r.attempt ≤ 6 → AreTries (ws ++ r ∷ [])
+pub few_more : (ws : List Retry) (r : Retry) → AreFewTries ws → r.attempt ≤ 6 → AreFewTries (ws ++ r ∷ [])
 few_more [] r all one = (one, tt)
 few_more (w ∷ ws) r all one = (all.0, few_more ws r all.1 one)
 
-pub few_of : (q : IdPlan) (ws : List Retry) → AllByRecursion (FitsRetryId q) ws → AreTries ws
+pub few_of : (q : IdPlan) (ws : List Retry) → AllByRecursion (FitsRetryId q) ws → AreFewTries ws
 few_of q [] all = tt
 few_of q (w ∷ ws) all = (all.0.1, few_of q ws all.1)
 
@@ -93,7 +90,7 @@ record Resolved (is_call : Asked → Type 0) (ids : ℕ → ℕ) (t : Trial) (ws
 stays : (is_call : Asked → Type 0) (ids : ℕ → ℕ) (t : Trial) (ws : List Retry) (x : Program) → Labels is_call t (next_step (resolved ws x)) → still_waiting ws x ≡ ws → Resolved is_call ids t ws x
 stays is_call ids t ws x g e = record { trial = t; labels = g; fewer = λ id n. (let z : total (of_retry id n) (still_waiting ws x) ≡ total (of_retry id n) ws = ap (total (of_retry id n)) e in omega (arith, z)); fits = λ f. f }
 
-resolves : (is_call : Asked → Type 0) (ids : ℕ → ℕ) (t : Trial) (ws : List Retry) (x : Program) → AreTries ws → Labels is_call t x → Resolved is_call ids t ws x
+resolves : (is_call : Asked → Type 0) (ids : ℕ → ℕ) (t : Trial) (ws : List Retry) (x : Program) → AreFewTries ws → Labels is_call t x → Resolved is_call ids t ws x
 resolves is_call ids t ws (Say o outcome next) few g = let r = resolves is_call ids t ws next few g in record { trial = r.trial; labels = r.labels; fewer = r.fewer; fits = r.fits }
 resolves is_call ids t ws (Sent o next) few g = let r = resolves is_call ids t ws next few g in record { trial = r.trial; labels = r.labels; fewer = r.fewer; fits = r.fits }
 resolves is_call ids t ws (Keep k next) few g = let r = resolves is_call ids Idle (ws ++ k ∷ []) next (few_more ws k few g.1) g.2 in record {
@@ -122,7 +119,7 @@ resolves is_call ids t ws (Round head next) few g = stays is_call ids t ws (Roun
 
 -- ## First steps
 
-labels_first : (is_call : Asked → Type 0) (t : Trial) (program : Program) → Labels is_call t program → Labels is_call t (first_step program)
+pub labels_first : (is_call : Asked → Type 0) (t : Trial) (program : Program) → Labels is_call t program → Labels is_call t (first_step program)
 labels_first is_call t (Write w after) g = block_goes is_call t w after g
 labels_first is_call t (Round head next) g = labels_round is_call t head next g
 labels_first is_call t (Do call next) g = g
@@ -262,7 +259,7 @@ module _ (p : Plan) (q : IdPlan) (narrow : q.slots ≤ 65536) (is_call : Asked �
       pub fresh : (id n : ℕ) → 0 < new id n → (new id n ≤ 1) × (times_of id n c vs ts ≡ 0) × WasNow q a.words id n
 
     module _ (a : Calls) (x : Program) (hand : List Home) (ws : List ℕ) (hs : List (Option Home)) (u : Trial) (w : View) (g : Goes a x u w) where
-      few : AreTries (waiting_at a.waiting i)
+      few : AreFewTries (waiting_at a.waiting i)
       few = few_of q (waiting_at a.waiting i) (subst (λ (l : List (List Retry)). AllByRecursion (FitsRetryId q) (waiting_at l i)) (sym g.kept) (real_ids.waiting i))
 
       abbrev r : Resolved is_call ids u (waiting_at a.waiting i) x

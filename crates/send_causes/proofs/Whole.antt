@@ -1,8 +1,7 @@
 -- In a whole run with calls the orders of the links are those that the place words and the links at home show.
-use Rattle.std.proofs.Common.{◌≡◌, ℕ, zero, suc, ◌<◌, ◌≤◌, ◌⊎◌, inl, inr, List, [], ◌∷◌, length, sym, ap, ◌∙◌, subst, arith}
-use Rattle.std.specs.Prelude.{Some, slice_get}
+use Rattle.std.proofs.Common.{◌≡◌, ℕ, ◌<◌, ◌≤◌, ◌⊎◌, inl, inr, List, [], ◌∷◌, length, sym, ◌∙◌, subst, arith}
 use Rattle.std.specs.List.{AllByRecursion}
-use mathlib.Core.Option.{some, some-injective, some-ne-none}
+use mathlib.Core.Option.{some}
 use lib.ListN.{get_elem?}
 use Rattle.sock_words.specs.declared.plain.Plan.{Plan}
 use Rattle.sock_model.specs.declared.view.View.{View}
@@ -31,16 +30,12 @@ use Rattle.seat_programs.specs.declared.task.Task.{Task}
 use Rattle.send_causes.specs.Sent.{IsAttempt}
 use Rattle.send_causes.proofs.Runs.{AreLabelledIn, IsCallOf, end_law}
 use Rattle.send_causes.proofs.Apart as apart
+use Rattle.send_causes.proofs.DropWhole.{get_same}
 
 -- no seat writes a link where none has anything left to do
 pub quiet_there : (p : Plan) (c : Core) (vs : List View) → Sound p c vs → AllRest c → AreQuiet vs
 quiet_there p c vs sound settled i v at = let seat = at_there c.seats i (omega (arith, at_within vs i v at, sound.each)) in
     let n : HasNothing v = subst (GoesOn p v) (settled i seat.0 seat.1) (sound.seats i seat.0 v seat.1 at).goes_on in n.quiet
-
-pub get_same : {A : Type 0} (xs : List A) (i : ℕ) (x : A) → get_elem? xs i ≡ some x → slice_get xs i ≡ Some x
-get_same [] i x e = absurd (some-ne-none x (sym e))
-get_same (y ∷ xs) zero x e = ap (λ z. Some z) (some-injective y x e)
-get_same (y ∷ xs) (suc i) x e = get_same xs i x e
 
 both : {A : Type 0} (P Q R : A → Type 0) → ((x : A) → P x → Q x → R x) → (xs : List A) → AllByRecursion P xs → AllByRecursion Q xs → AllByRecursion R xs
 both P Q R f [] a b = tt

@@ -24,13 +24,10 @@ use Rattle.seat_programs.specs.Cores.{Core}
 use Rattle.seat_programs.specs.Posts.{packed, advance_of}
 use Rattle.label_runs.specs.Labels.{FindsLabel}
 use Rattle.send_causes.specs.Counts.{word_of_id, WasMade, WasNow}
+use Rattle.call_causes.specs.owed_calls.proofs.Words.{Forward}
 
 abbrev pub AnyCall : Asked → Type 0
 AnyCall asked = Unit {0}
-
--- an id word only goes forward
-abbrev pub Forward : Parts → Parts → Type 0
-Forward w w' = (w.first < w'.first) ⊎ ((w'.first ≡ w.first) × (0 < w.state → (0 < w'.state) × (w.attempt ≤ w'.attempt)))
 
 same_forward : (w w' : Parts) → w' ≡ w → Forward w w'
 same_forward w w' e = inr (ap (λ (x : Parts). x.first) e, λ some_. (subst (λ (x : Parts). 0 < x.state) (sym e) some_, (let z : w'.attempt ≡ w.attempt = ap (λ (x : Parts). x.attempt) e in omega (arith, z))))
@@ -40,11 +37,11 @@ pub made_on : (q : IdPlan) (ws ws' : List ℕ) → ((j : ℕ) → j < q.slots �
 made_on q ws ws' forward id n (low, inl ended) = (low, ⊎_elim (λ f. inl (omega (arith, ended, f))) (λ f. let z = f.0 in inl (omega (arith, ended, z))) (forward (id_slot id) low))
 made_on q ws ws' forward id n (low, inr at) = (low, ⊎_elim (λ f. let z = at.0 in inl (omega (arith, z, f))) (λ f. let y = f.1 at.1 in let more = y.1 in let few = at.2 in inr (f.0 ∙ at.0, y.0, omega (arith, more, few))) (forward (id_slot id) low))
 
-small_first : (b : Bool) (x y : ℕ) → x < 32768 → y < 32768 → cond b x y < 32768
+pub small_first : (b : Bool) (x y : ℕ) → x < 32768 → y < 32768 → cond b x y < 32768
 small_first true x y a b = a
 small_first false x y a b = b
 
-state_fits : (b : Bool) → cond b 1 2 < 4
+pub state_fits : (b : Bool) → cond b 1 2 < 4
 state_fits true = omega arith
 state_fits false = omega arith
 

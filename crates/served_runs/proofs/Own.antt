@@ -43,6 +43,7 @@ use Rattle.send_causes.proofs.Early.{known}
 use Rattle.send_causes.proofs.Sends.{orders_are}
 use Rattle.served_runs.specs.Served.{request_with}
 use Rattle.served_runs.proofs.Frames.{IsPiece, piece_frames, pieces_end, IsSmall, request_is, reply_is}
+use Rattle.send_causes.specs.report_fits.proofs.Lists.{all_map}
 
 -- ## Lists
 
@@ -60,10 +61,6 @@ all_take P zero [] all = tt
 all_take P zero (x ∷ xs) all = tt
 all_take P (suc n) [] all = tt
 all_take P (suc n) (x ∷ xs) all = (all.0, all_take P n xs all.1)
-
-all_on : {A : Type 0} (P Q : A → Type 0) → ((x : A) → P x → Q x) → (xs : List A) → AllByRecursion P xs → AllByRecursion Q xs
-all_on P Q f [] a = tt
-all_on P Q f (x ∷ xs) a = (f x a.0, all_on P Q f xs a.1)
 
 all_in : {A : Type 0} (P : A → Type 0) (xs : List A) (x : A) → AllByRecursion P xs → In x xs → P x
 all_in P [] x all m = absurd m
@@ -149,7 +146,7 @@ module _ (script : List Item) (made : AreMade script) (there : AreThere script) 
     -- so is each whole frame that it took
     took_requests : AllByRecursion IsRequest (stream took).frames
     took_requests = all_get IsRequest (stream took).frames (λ i f e. get_all IsRequest (stream_from 0 (flat_map bytes_of accepted)).frames
-        (piece_frames bytes_of IsRequest accepted (all_on (IsSent (plan_of script) (all_tasks script) core.outcomes (fixed_of_run script made turns core is closes) (given core) (orders_here script made turns core is closes) (attempts_of_run script turns core is) k) (λ a. IsPiece IsRequest (bytes_of a))
+        (piece_frames bytes_of IsRequest accepted (all_map (IsSent (plan_of script) (all_tasks script) core.outcomes (fixed_of_run script made turns core is closes) (given core) (orders_here script made turns core is closes) (attempts_of_run script turns core is) k) (λ a. IsPiece IsRequest (bytes_of a))
         sent_piece accepted (attempted_of_run script made there range turns core is closes (fixed_of_run script made turns core is closes) (given core) k low)) 0) i f
         (subst (λ l. slice_get (stream_from 0 l).frames i ≡ Some f) whole.1 (frames_stay (suc (length took)) 0 took whole.0 i f (omega arith) e)))
       where
@@ -188,7 +185,7 @@ module _ (script : List Item) (made : AreMade script) (there : AreThere script) 
     -- it gave the front of those replies
     module _ (shape : Shape) (more : List ℕ) (gives : given core k ++ more ≡ given_for shape took) where
       pieces : AllByRecursion (λ g. IsPiece IsReplied (frame_bytes g)) (first_of shape.end (reply_frames took))
-      pieces = all_on IsReplied (λ g. IsPiece IsReplied (frame_bytes g)) (λ g r. record { frame = g; is = (of_request r.request g r.made_so r.replied).0; holds = r }) (first_of shape.end (reply_frames took))
+      pieces = all_map IsReplied (λ g. IsPiece IsReplied (frame_bytes g)) (λ g r. record { frame = g; is = (of_request r.request g r.made_so r.replied).0; holds = r }) (first_of shape.end (reply_frames took))
           (first_replied shape.end (reply_frames took) (replied_all (stream took).frames took_requests))
 
       pub replied_at : (n : ℕ) (frame : Frame) → slice_get (stream (given core k)).frames n ≡ Some frame → IsReplied frame

@@ -1,7 +1,6 @@
 -- In a whole run a link with the server gave the replies to all that it took, where it became a socket's before the run was ending, and its reading ended neither by a frame fault, nor by a failure, nor by its limit.
-use Rattle.std.proofs.Common.{◌≡◌, ◌⊎◌, ◌≢◌, ℕ, zero, suc, ◌+◌, ◌<◌, ◌≤◌, Bool, false, List, [], ◌∷◌, ◌++◌, length, map, flat_map, replicate, get_or, append-nil, inl, inr, ⊎_elim, refl, sym, ap, ◌∙◌, subst, arith}
+use Rattle.std.proofs.Common.{◌≡◌, ◌⊎◌, ◌≢◌, ℕ, zero, suc, ◌+◌, ◌<◌, Bool, false, List, [], ◌∷◌, ◌++◌, length, map, flat_map, replicate, get_or, append-nil, inl, inr, ⊎_elim, refl, sym, ap, ◌∙◌, subst, arith}
 use Rattle.std.proofs.lemmas.Bool.{true≢false}
-use Rattle.std.proofs.lemmas.List.{length-map}
 use Rattle.std.specs.Prelude.{slice_get, slice_index_or, Some}
 use mathlib.Core.Option.{Option, none, some}
 use lib.ListN.{get_elem?}
@@ -16,25 +15,22 @@ use Rattle.brpc_model.specs.Items.{Item, Shape}
 use Rattle.brpc_model.specs.Operations.{Turn, link_shapes}
 use Rattle.brpc_model.specs.Causes.{HasFault}
 use Rattle.seat_programs.specs.Asides.{AtEnd, Broken}
-use Rattle.seat_programs.specs.Clients.{client_from}
-use Rattle.seat_programs.specs.Programs.{Program, Rest, NO_SOCKET}
+use Rattle.seat_programs.specs.Programs.{Rest, NO_SOCKET}
 use Rattle.seat_programs.specs.Readers.{LIMIT, reader}
 use Rattle.seat_programs.specs.Cores.{Core, SeatState, lies_at, link_place}
 use Rattle.seat_programs.specs.Runs.{from_to}
-use Rattle.seat_programs.specs.Tasks.{opens, calls, plan_of, id_plan_of}
+use Rattle.seat_programs.specs.Tasks.{opens, calls, plan_of}
 use Rattle.seat_programs.specs.Ticks.{Moment, quiet, ticked, run}
-use Rattle.seat_programs.specs.Scripts.{sizes_of, programs, all_tasks, opened, ending, is_ending, set_up, played, taken_by, took_at_home, IsRunWithCalls}
+use Rattle.seat_programs.specs.Scripts.{opened, ending, is_ending, set_up, played, taken_by, took_at_home, IsRunWithCalls}
 use Rattle.sock_runs.specs.Sound.{AllRest, views_along}
 use Rattle.sock_runs.proofs.Along.{place_inside}
 use Rattle.sock_runs.proofs.Ends.{links_home}
-use Rattle.sock_runs.proofs.OpensStay.{readers_begin}
 use Rattle.sock_runs.proofs.Quiets.{run_seats}
 use Rattle.sock_runs.proofs.Whole.{IsListed, closing_of, views_played, views_closed, views_ended, set_up_answered, end_answered, set_up_sound, closing_sound, closed_sound, ended_sound, recorded_opened, recorded_set_up, recorded_closing, recorded_closed}
 use Rattle.sock_runs.proofs.HandTicks.{AtHome}
 use Rattle.send_causes.specs.outcome_causes.specs.Facts.{late_links_of_run}
 use Rattle.send_causes.specs.outcome_causes.specs.Stories.{In}
 use Rattle.send_causes.specs.outcome_causes.proofs.Plain.{in_left, in_right, in_both}
-use Rattle.send_causes.specs.programs_allowed.proofs.Beginning as clients_begin
 use Rattle.send_causes.specs.joint_runs.proofs.Runs.{AreMade, first_views}
 use Rattle.send_causes.specs.owed_calls.specs.Lives.{ClosesInRun}
 use Rattle.send_causes.specs.owed_calls.proofs.EndsStill.{run_ending}
@@ -43,7 +39,7 @@ use Rattle.send_causes.specs.run_theorems.specs.Heard.{as_taken, taken_in, heard
 use Rattle.send_causes.specs.run_theorems.proofs.HeardRuns.{taken_append}
 use Rattle.send_causes.specs.run_theorems.proofs.Lengths.{tick_long}
 use Rattle.send_causes.specs.call_causes.specs.Lists.{given}
-use Rattle.send_causes.proofs.Early.{Any, ends_anyhow, start, go, fitting, known}
+use Rattle.send_causes.proofs.Early.{Any, ends_anyhow, start, go, fitting, known, begins_at}
 use Rattle.send_causes.proofs.EndedWhole.{opened_keeps, closing_keeps, closed_keeps}
 use Rattle.send_causes.proofs.ReaderRuns.{founds, keeps_along}
 use Rattle.served_runs.specs.Offered.{TookSoFar, offered_by, OffersInRun}
@@ -56,16 +52,16 @@ use Rattle.served_runs.proofs.Readings.{Goes, IsOver}
 use Rattle.served_runs.proofs.Runs.{Kept, quiet_offered, quiet_takes, holds_along}
 use Rattle.served_runs.proofs.Ticks.{Stands}
 
-gave_long : (p : Plan) (ms : List Moment) (c : Core) → length (run p c ms).calls.gave ≡ length c.calls.gave
+pub gave_long : (p : Plan) (ms : List Moment) (c : Core) → length (run p c ms).calls.gave ≡ length c.calls.gave
 gave_long p [] c = refl
 gave_long p (m ∷ ms) c = gave_long p ms (ticked p c m) ∙ (tick_long p m c).gave
 
-empty_at : (n k : ℕ) → get_or (replicate n []) k [] ≡ (let e : List ℕ = [] in e)
+pub empty_at : (n k : ℕ) → get_or (replicate n []) k [] ≡ (let e : List ℕ = [] in e)
 empty_at zero k = refl
 empty_at (suc n) zero = refl
 empty_at (suc n) (suc k) = empty_at n k
 
-empty_long : (n : ℕ) → length (replicate n (let e : List ℕ = [] in e)) ≡ n
+pub empty_long : (n : ℕ) → length (replicate n (let e : List ℕ = [] in e)) ≡ n
 empty_long zero = refl
 empty_long (suc n) = ap suc (empty_long n)
 
@@ -104,17 +100,8 @@ module _ (script : List Item) (made : AreMade script) (turns : List Turn) (core 
 
   -- ## How it begins
 
-  abbrev first : List Program
-  first = programs (sizes_of (plan_of script) (id_plan_of script)) (all_tasks script)
-
-  first_few : length first ≤ 32
-  first_few = let l = length-map (all_tasks script) (client_from (sizes_of (plan_of script) (id_plan_of script)) []) in let f = (let x = known script made turns core is in x.few) in omega (arith, l, f)
-
-  begins_at : (seat : SeatState) → get_elem? (opened script).seats (32 + k) ≡ some seat → seat.program ≡ reader (calls script) k o
-  begins_at seat there = ⊎_elim (λ e. e) (λ x. absurd (x.0 ((let u = clients_begin.unused (plan_of script) in u.opens) o (in_os k o at)))) (readers_begin (plan_of script) (id_plan_of script) first (calls script) (opens script) first_few k o at seat there)
-
   opened_holds : H (opened script)
-  opened_holds = record { last = false; reader = λ seat there. inl (begins_at seat there, empty_at (plan_of script).links k, refl); over = λ e. absurd (true≢false (sym e)) }
+  opened_holds = record { last = false; reader = λ seat there. inl (begins_at script made turns core is k o at seat there, empty_at (plan_of script).links k, refl); over = λ e. absurd (true≢false (sym e)) }
 
   long_opened : k < length (opened script).calls.gave
   long_opened = let e = empty_long (plan_of script).links in let l = link_inside in omega (arith, e, l)

@@ -74,7 +74,7 @@ module _ (script : List Item) (in_os : (k o : ℕ) → get_elem? (opens script) 
       (λ t. ap (filter (λ l. l == n)) t.1 ∙ ap (λ b. cond b (t.0 ∷ []) []) (ne_eqb t.0 n (λ e. far (r.2 ∙ ap (λ x. 32 + x) (sym t.2 ∙ e)))))
       (takes_own (plan_of script) (calls script) r.0 r.1 (in_os r.0 r.1 r.3) Any (Unit {0}) (ends_anyhow r.0) (get_or c.words (open_index (plan_of script) r.1) 0) (h r.0) seat.program v.0
       (state_at (plan_of script) (calls script) (opens script) in_os Any (Unit {0}) ends_anyhow c vs h k j seat v.0 at v.1 r)))
-      (λ low. ap (filter (λ l. l == n)) (none_taken seat.program (k.clients j (omega (arith, low)) seat at)))
+      (λ low. ap (filter (λ l. l == n)) (none_taken (Unit {0}) seat.program (k.clients j (omega (arith, low)) seat at)))
 
   module _ (Q : ℕ → ℕ → Type 0) (go : RetriesGo (plan_of script)) (k o : ℕ) (inside : o < (plan_of script).operations) (shape : Shape) (shape_is : slice_get (link_shapes script) k ≡ Some shape) (Fails : Type 0) where
     -- while the run is ending no bytes are put into the link

@@ -1,6 +1,5 @@
 -- A tick keeps where the reader of a link stands, by what the link gave.
 use Rattle.std.proofs.Common.{◌≡◌, ◌≢◌, ℕ, ◌+◌, ◌-◌, ◌<◌, ◌==◌, eq-eqb, eqb-true, ◌||◌, Bool, true, false, cond, List, [], ◌∷◌, ◌++◌, length, filter, set, get_or, get_or-set_same, get_or-set_other, append-nil, ◌⊎◌, inl, inr, ⊎_elim, refl, sym, ap, ◌∙◌, subst, arith}
-use Rattle.std.specs.Prelude.{Some, None}
 use mathlib.Core.Option.{Option, none, some}
 use lib.ListN.{get_elem?}
 use Rattle.atomic_table.proofs.Lists.{at_set}
@@ -10,16 +9,12 @@ use Rattle.sock_io.specs.declared.link.Ready.{Ready}
 use Rattle.sock_model.specs.Layout.{open_index}
 use Rattle.sock_model.specs.Messages.{Letter}
 use Rattle.sock_model.specs.Reads.{message, link_home}
-use Rattle.send_causes.specs.sock_steps.proofs.Quiet.{either_way}
-use Rattle.corr_core.specs.Word.{parts}
 use Rattle.seat_programs.specs.Asides.{Step, Found, ClaimId, PutCall, MakeId, StoreCall, LoadCall, StoreAt, LoadAt, LoadIdWord, LockId, PostId, UnlockId, EndId, FreeId, TakeCall, TakeBytes, Taking, Bytes, Nothing, NoMore, AtEnd, Closed, Broken}
 use Rattle.seat_programs.specs.Beside.{at_last, found_in, calls_after, more_given}
 use Rattle.seat_programs.specs.Calls.{LoadOpen}
-use Rattle.seat_programs.specs.Heads.{Retry, Decides, Locks, Reads}
-use Rattle.seat_programs.specs.Posts.{ends_call}
+use Rattle.seat_programs.specs.Heads.{Retry, Reads}
 use Rattle.seat_programs.specs.Programs.{Program, Do, Rest, TakeMessage, TakeHome, PutHome, PutBytes, AskReady, Write, Aside, Round, Retries, NO_SOCKET}
 use Rattle.seat_programs.specs.Readers.{read, reader}
-use Rattle.seat_programs.specs.Writings.{Puts, Waits, Empties, Walks}
 use Rattle.seat_programs.specs.Cores.{Core, SeatState, word_of, found_at, waiting_at, with_seat, resolved, next_step}
 use Rattle.seat_programs.specs.Ticks.{Answer, OfPut, OfReady, OfTake, Moment, taken, with_message, with_link, with_put, with_ready, with_found, step_with, tick_with, ticked}
 use Rattle.sock_runs.specs.Sound.{first_step}
@@ -27,24 +22,9 @@ use Rattle.send_causes.specs.run_theorems.specs.Heard.{taken_link, bytes_found}
 use Rattle.send_causes.specs.call_causes.specs.Lists.{given}
 use Rattle.send_causes.proofs.Readings.{IsTake, ticks_first}
 use Rattle.served_runs.proofs.Readings.{Goes, is_last, goes_first, goes_next, begins_reading}
+use Rattle.send_causes.proofs.EndedTicks.{takes_by, takes_first}
 
 -- ## What is taken
-
--- the link of which a step takes bytes, if it takes some
-abbrev takes_by : Program → List ℕ
-takes_by (Aside (TakeBytes k room) next) = k ∷ []
-takes_by other = []
-
-takes_first : (program : Program) → taken_link program ≡ takes_by (first_step program)
-takes_first (Round (Decides id asked w e) next) = either_way (ends_call (parts w) e) _ _ (λ x. [] ≡ takes_by x) refl refl
-takes_first (Round (Locks i sought (Some w)) next) = refl
-takes_first (Round (Locks i sought None) next) = refl
-takes_first (Write (Puts h now heading left took put) after) = refl
-takes_first (Write (Waits h now heading left took) after) = refl
-takes_first (Write (Empties h) after) = refl
-takes_first (Write (Walks h top at after) then_) = refl
-takes_first (Aside (TakeBytes k room) next) = refl
-takes_first _ = refl
 
 -- none of link k
 abbrev NoneOf : ℕ → List ℕ → Type 0

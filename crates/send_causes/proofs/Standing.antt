@@ -8,6 +8,7 @@ use Rattle.brpc_model.specs.Items.{Item}
 use Rattle.brpc_model.specs.Operations.{Turn}
 use Rattle.sock_model.specs.Layout.{open_index}
 use Rattle.corr_core.specs.Word.{Parts}
+use Rattle.seat_programs.specs.Asides.{id_first, id_slot}
 use Rattle.seat_programs.specs.Cores.{Core, SeatState}
 use Rattle.seat_programs.specs.Heads.{Head, Exit, Reading, Sought, First, Version, Posts, Unlocks, Decides, Locks, Joins, Opens, Reads, Discards}
 use Rattle.seat_programs.specs.Posts.{is_sought}
@@ -23,14 +24,15 @@ use Rattle.sock_runs.proofs.Waiting.{StandsAside}
 use Rattle.sock_runs.proofs.Whole.{views_played, rested_ahead}
 use Rattle.id_runs.specs.Held.{IdView}
 use Rattle.id_runs.specs.Goes.{IdGoesOn}
-use Rattle.owed_calls.specs.joint_runs.proofs.Both.{BothSound, behind_both}
-use Rattle.owed_calls.specs.joint_runs.proofs.Runs.{AreMade, first_views, joint_runs}
-use Rattle.owed_calls.specs.Settled as settled
-use Rattle.owed_calls.specs.Sound.{id_word_of}
-use Rattle.owed_calls.proofs.AllSettled.{not_locked}
-use Rattle.owed_calls.proofs.EndsStill.{view_of}
-use Rattle.served_fits.specs.send_causes.proofs.Early.{start, go, fitting}
-use Rattle.served_fits.specs.send_causes.proofs.Rests.{still, aside}
+use Rattle.call_causes.specs.joint_runs.proofs.Both.{BothSound, behind_both}
+use Rattle.call_causes.specs.joint_runs.proofs.Runs.{AreMade, first_views, joint_runs}
+use Rattle.call_causes.specs.owed_calls.specs.Settled as settled
+use Rattle.call_causes.specs.owed_calls.specs.Sound.{id_word_of}
+use Rattle.call_causes.specs.owed_calls.proofs.AllSettled.{not_locked}
+use Rattle.call_causes.specs.owed_calls.proofs.EndsStill.{view_of}
+use Rattle.send_causes.proofs.Early.{start, go, fitting}
+use Rattle.send_causes.proofs.Rests.{still, aside}
+use Rattle.send_causes.proofs.Takeless.{NoTakes, TakesNone}
 
 -- a range that has ended isn't sought
 not_sought : (sought : Sought) (w : Parts) → w.state ≡ 0 → is_sought sought w ≡ true → ⊥
@@ -40,7 +42,7 @@ not_sought (Version v) w ended is = true≢false (sym (and_left (not (w.state ==
 -- where a seat stands that makes no step
 pub data Stands (script : List Item) (c : Core) (program : Program) : Type 0 where
   resting : program ≡ Rest → Stands script c program
-  joining : (id : ℕ) (next : ℕ → Program) → program ≡ Round (Joins id) next → Stands script c program
+  joining : (id : ℕ) (next : ℕ → Program) → program ≡ Round (Joins id) next → id_slot id < (id_plan_of script).slots → is_sought (First (id_first id)) (id_word_of c (id_slot id)) ≡ true → Stands script c program
   opening : (o : ℕ) (next : ℕ → Program) → program ≡ Round (Opens o) next → get_or c.words (open_index (plan_of script) o) 0 ≡ 0 → Stands script c program
   reading : (r : Reading) (next : Exit (Reads r) → Program) → program ≡ Round (Reads r) next → Stands script c program
   discarding : (k total : ℕ) (next : ℕ → Program) → program ≡ Round (Discards k total) next → Stands script c program
@@ -73,7 +75,7 @@ module _ (script : List Item) (made : AreMade script) (turns : List Turn) (core 
 
   by_head : (u : IdView) (seat : SeatState) (head : Head) (next : Exit head → Program) (answer : Answer) → seat.program ≡ Round head next → IdGoesOn (plan_of script) (id_plan_of script) u (Round head next)
       → waits_in (plan_of script) rested.words rested.calls answer head ≡ true → Stands script rested seat.program
-  by_head u seat (Joins id) next answer e g waits_ = joining id next e
+  by_head u seat (Joins id) next answer e g waits_ = joining id next e g.0.1 waits_
   by_head u seat (Opens o) next answer e g waits_ = opening o next e (eqb-true (get_or rested.words (open_index (plan_of script) o) 0) 0 waits_)
   by_head u seat (Reads r) next answer e g waits_ = reading r next e
   by_head u seat (Discards k total) next answer e g waits_ = discarding k total next e
@@ -92,3 +94,15 @@ module _ (script : List Item) (made : AreMade script) (turns : List Turn) (core 
       by_wait : settled.WaitsAside (plan_of script) rested j → Stands script rested seat.program
       by_wait w = let same : w.0 ≡ seat = some-injective w.0 seat (sym w.1 ∙ at) in let e = ap (λ (s : SeatState). s.program) (sym same) ∙ w.5 in
           let u = view_of rested.seats both.id_views j seat at both.ids.each in by_head u.0 seat w.2 w.3 w.4 e (subst (IdGoesOn (plan_of script) (id_plan_of script) u.0) e (both.ids.seats j seat u.0 at u.1)) w.6
+
+  -- a client is at rest that waits for the end of no range but where J is so, and then no id is open
+  module _ (J : Type 0) (over : J → (i : ℕ) → i < (id_plan_of script).slots → (id_word_of (played script is.setup (is.scheduled ++ is.later)) i).state ≡ 0) where
+    waits_none : (program : Program) → NoTakes J program → Stands script rested program → program ≡ Rest
+    waits_none program none_ (resting e) = e
+    waits_none program none_ (joining id next e inside waits_) = let n : NoTakes J (Round (Joins id) next) = subst (NoTakes J) e none_ in absurd (not_sought (First (id_first id)) (id_word_of rested (id_slot id)) (over n.0 (id_slot id) inside) waits_)
+    waits_none program none_ (opening o next e z) = absurd (let n : NoTakes J (Round (Opens o) next) = subst (NoTakes J) e none_ in n)
+    waits_none program none_ (reading r next e) = absurd (let n : NoTakes J (Round (Reads r) next) = subst (NoTakes J) e none_ in n)
+    waits_none program none_ (discarding k total next e) = absurd (let n : NoTakes J (Round (Discards k total) next) = subst (NoTakes J) e none_ in n)
+
+    pub takeless_rests : (j : ℕ) → TakesNone J j (played script is.setup (is.scheduled ++ is.later)) → settled.IsAtRest (played script is.setup (is.scheduled ++ is.later)) j
+    takeless_rests j none_ seat at = waits_none seat.program (none_ seat at) (stands j seat at)
