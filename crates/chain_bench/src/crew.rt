@@ -2,7 +2,6 @@
 ghost use Rattle.std.specs.Prelude.{◌≡◌, ◌*◌, ◌<◌, ◌≤◌, IfSome};
 ghost use Rattle.std.specs.Thread.{IsSync};
 ghost use Rattle.sock_model.specs.Rule.{MOST_ACCEPTED};
-ghost use Rattle.sock_table.specs.Passes.{IsPass};
 ghost use Rattle.sock_open.specs.Made.{AreMade, AreNewSeats, PassesFrom};
 ghost use Rattle.write_chain.specs.Ready.{IsSpent, IsFree};
 ghost use Rattle.chain_bench.specs.Senders.{HasRoomFor, IsLoad, MaySend};
@@ -63,13 +62,8 @@ fn begin(alloc: Global, room: Vec<u8>, turns: u64, requests: u16) -> Option<Made
         seats: 5,
         first: 0,
     };
-    let Ok(outs) = vec![in alloc; SlowOut::new(room, turns)] else {
-        return None;
-    };
-    let Ok(made) = new_table(alloc, &plan, outs) else {
-        return None;
-    };
-    Some(made)
+    let outs = vec![in alloc; SlowOut::new(room, turns)].ok()?;
+    new_table(alloc, &plan, outs).ok()
 }
 
 /// A seat of the table.
@@ -83,22 +77,14 @@ fn one_of(table: &Table, seats: &mut Vec<Seat>) -> Option<Seat>
     Some(seat)
 }
 
-/// The pass of the link.
-fn pass_of(table: &Table, mut passes: Vec<Pass>) -> Option<Pass>
-    requires { PassesFrom table.now.rule.table.shared.table_id table.now.rule.plan 0 passes.items }
-    ensures { IfSome result (λ x. IsPass table.now.rule.table.shared.table_id table.now.rule.plan x) }
-{
-    let pass = passes.pop()?;
-    Some(pass)
-}
-
 /// Makes the socket, under the name 0. The seat comes back.
-fn born(table: &Table, mut seat: Seat, pass: Pass) -> Option<Seat>
+fn born(table: &Table, mut seat: Seat, mut passes: Vec<Pass>) -> Option<Seat>
     requires seat { IsFree table.now.rule.table.shared.table_id table.now.rule.plan seat }
-    requires pass { IsPass table.now.rule.table.shared.table_id table.now.rule.plan pass }
+    requires passes { PassesFrom table.now.rule.table.shared.table_id table.now.rule.plan 0 passes.items }
     requires name { 0 < table.now.rule.plan.names }
     ensures { IfSome result (λ s. IsSpent table.now.rule.table.shared.table_id table.now.rule.plan s) }
 {
+    let pass = passes.pop()?;
     let Ok(id) = table.create(&mut seat, pass) else {
         return None;
     };
@@ -162,12 +148,14 @@ fn idle(alloc: Global, table: &Table, sender: Sender) -> Sent
     }
 }
 
+/// Both of them send, or the first alone.
 fn by_two<R: Threads + Wait + Clock + Sync>(
     rt: &R,
     alloc: Global,
     table: &Table,
     one: Sender,
     two: Sender,
+    both: bool,
     load: Load,
 ) -> (Sent, Sent)
     requires one { MaySend table.now.rule.table.shared.table_id table.now.rule.plan one }
@@ -176,6 +164,10 @@ fn by_two<R: Threads + Wait + Clock + Sync>(
     ensures one { IsSpent table.now.rule.table.shared.table_id table.now.rule.plan result.0.seat }
     ensures two { IsSpent table.now.rule.table.shared.table_id table.now.rule.plan result.1.seat }
 {
+    if !both {
+        let one = send_all(rt, alloc, table, one, load);
+        return (one, idle(alloc, table, two));
+    }
     thread::join(
         rt,
         move || -> Sent
@@ -189,11 +181,13 @@ fn by_two<R: Threads + Wait + Clock + Sync>(
     )
 }
 
-fn by_four<R: Threads + Wait + Clock + Sync>(
+/// All four of them send, the first two, or the first alone.
+fn by_all<R: Threads + Wait + Clock + Sync>(
     rt: &R,
     alloc: Global,
     table: &Table,
     senders: Senders,
+    threads: u32,
     load: Load,
 ) -> AllSent
     requires senders { AreSenders table.now.rule.table.shared.table_id table.now.rule.plan senders }
@@ -206,51 +200,21 @@ fn by_four<R: Threads + Wait + Clock + Sync>(
         three,
         four,
     } = senders;
-    let ((one, two), (three, four)) = thread::join(
-        rt,
-        move || -> (Sent, Sent)
-            requires { IsSync R.row × MaySend table.now.rule.table.shared.table_id table.now.rule.plan one × MaySend table.now.rule.table.shared.table_id table.now.rule.plan two × IsLoad table.now.rule.plan load }
-            ensures { IsSpent table.entry.now.rule.table.shared.table_id table.entry.now.rule.plan result.0.seat × IsSpent table.entry.now.rule.table.shared.table_id table.entry.now.rule.plan result.1.seat }
-        { by_two(rt, alloc, table, one, two, load) },
-        move || -> (Sent, Sent)
-            requires { IsSync R.row × MaySend table.now.rule.table.shared.table_id table.now.rule.plan three × MaySend table.now.rule.table.shared.table_id table.now.rule.plan four × IsLoad table.now.rule.plan load }
-            ensures { IsSpent table.entry.now.rule.table.shared.table_id table.entry.now.rule.plan result.0.seat × IsSpent table.entry.now.rule.table.shared.table_id table.entry.now.rule.plan result.1.seat }
-        { by_two(rt, alloc, table, three, four, load) },
-    );
-    AllSent {
-        one,
-        two,
-        three,
-        four,
-    }
-}
-
-/// The first two of them send, or the first alone.
-fn by_few<R: Threads + Wait + Clock + Sync>(
-    rt: &R,
-    alloc: Global,
-    table: &Table,
-    senders: Senders,
-    both: bool,
-    load: Load,
-) -> AllSent
-    requires senders { AreSenders table.now.rule.table.shared.table_id table.now.rule.plan senders }
-    requires load { IsLoad table.now.rule.plan load }
-    ensures { AreSpent table.now.rule.table.shared.table_id table.now.rule.plan result }
-{
-    let Senders {
-        one,
-        two,
-        three,
-        four,
-    } = senders;
-    let three = idle(alloc, table, three);
-    let four = idle(alloc, table, four);
-    let (one, two) = if both {
-        by_two(rt, alloc, table, one, two, load)
+    let ((one, two), (three, four)) = if threads == 4 {
+        thread::join(
+            rt,
+            move || -> (Sent, Sent)
+                requires { IsSync R.row × MaySend table.now.rule.table.shared.table_id table.now.rule.plan one × MaySend table.now.rule.table.shared.table_id table.now.rule.plan two × IsLoad table.now.rule.plan load }
+                ensures { IsSpent table.entry.now.rule.table.shared.table_id table.entry.now.rule.plan result.0.seat × IsSpent table.entry.now.rule.table.shared.table_id table.entry.now.rule.plan result.1.seat }
+            { by_two(rt, alloc, table, one, two, true, load) },
+            move || -> (Sent, Sent)
+                requires { IsSync R.row × MaySend table.now.rule.table.shared.table_id table.now.rule.plan three × MaySend table.now.rule.table.shared.table_id table.now.rule.plan four × IsLoad table.now.rule.plan load }
+                ensures { IsSpent table.entry.now.rule.table.shared.table_id table.entry.now.rule.plan result.0.seat × IsSpent table.entry.now.rule.table.shared.table_id table.entry.now.rule.plan result.1.seat }
+            { by_two(rt, alloc, table, three, four, true, load) },
+        )
     } else {
-        let one = send_all(rt, alloc, table, one, load);
-        (one, idle(alloc, table, two))
+        let first = by_two(rt, alloc, table, one, two, threads == 2, load);
+        (first, (idle(alloc, table, three), idle(alloc, table, four)))
     };
     AllSent {
         one,
@@ -313,14 +277,9 @@ pub fn on_threads<R: Threads + Wait + Clock + Sync>(
         mut seats,
         passes,
     } = begin(alloc, room, load.turns, requests)?;
-    let pass = pass_of(&table, passes)?;
     let first = one_of(&table, &mut seats)?;
-    let main = born(&table, first, pass)?;
+    let main = born(&table, first, passes)?;
     let senders = senders_of(&table, seats)?;
-    let sent = if threads == 4 {
-        by_four(rt, alloc, &table, senders, load)
-    } else {
-        by_few(rt, alloc, &table, senders, threads == 2, load)
-    };
+    let sent = by_all(rt, alloc, &table, senders, threads, load);
     end(alloc, table, main, sent)
 }

@@ -12,11 +12,12 @@ use crate::crew::{Told, on_threads};
 use crate::out::spin;
 use crate::sending::{Load, nanos_of};
 use crate::taken::{count_of, time_at};
+use bench_rows::{has_word, number, print_row};
 use sock_io::Out;
-use std::alloc::AllocError;
+use std::env::Env;
+use std::io;
 use std::process::ExitCode;
 use std::time::{Clock, Instant};
-use std::{env, io};
 
 /// How many turns are timed, to know how many a put takes.
 const SAMPLE: u64 = 1_000_000;
@@ -32,39 +33,14 @@ struct Asked {
     latency: bool,
 }
 
-/// The words behind the program's name.
-fn words_of(rt: &HostRuntime) -> Result<Vec<String>, AllocError> {
-    let mut words = Vec::new(rt.alloc());
-    if let Ok(args) = env::args(rt) {
-        for word in args.skip(1) {
-            words.push(word)?;
-        }
-    }
-    Ok(words)
-}
-
-fn number(words: &[String], place: usize) -> u32 {
-    match words.get(place) {
-        Some(word) => word.parse::<u32>().unwrap_or(0),
-        None => 0,
-    }
-}
-
-fn has_word(words: &[String], place: usize, wanted: &str) -> bool {
-    match words.get(place) {
-        Some(word) => word.as_str() == wanted,
-        None => false,
-    }
-}
-
-fn read_words(words: &[String]) -> Asked {
+fn read_words<R: AllocGlobal + Env>(rt: &R) -> Asked {
     Asked {
-        threads: number(words, 0),
-        count: number(words, 1),
-        nanos: number(words, 2),
-        requests: number(words, 3).min(65_535) as u16,
-        rate: has_word(words, 4, "rate"),
-        latency: has_word(words, 4, "latency"),
+        threads: number(rt, 0),
+        count: number(rt, 1),
+        nanos: number(rt, 2),
+        requests: number(rt, 3).min(65_535) as u16,
+        rate: has_word(rt, 4, "rate"),
+        latency: has_word(rt, 4, "latency"),
     }
 }
 
@@ -85,7 +61,7 @@ fn tell<R: Print>(rt: &R, asked: Asked, told: Told, nanos: u64) -> io::Result<Ex
     let Some(count) = count_of(out.taken()) else {
         return Ok(ExitCode::from(1));
     };
-    print!(rt; "{} {}: {count} messages", asked.threads, asked.count)?;
+    print_row(rt, &[asked.threads, asked.count], count, "messages")?;
     if asked.rate || asked.latency {
         let rate = u128::from(count) * 1_000_000_000 / u128::from(nanos.max(1));
         print!(rt; " {rate} a second")?;
@@ -103,10 +79,7 @@ fn tell<R: Print>(rt: &R, asked: Asked, told: Told, nanos: u64) -> io::Result<Ex
 }
 
 fn main(rt: HostRuntime) -> io::Result<ExitCode> {
-    let Ok(words) = words_of(&rt) else {
-        return Ok(ExitCode::from(7));
-    };
-    let asked = read_words(&words);
+    let asked = read_words(&rt);
     if asked.threads != 1 && asked.threads != 2 && asked.threads != 4 {
         return Ok(ExitCode::from(2));
     }

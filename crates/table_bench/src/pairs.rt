@@ -1,6 +1,5 @@
 ghost use Rattle.std.specs.Prelude.{◌≡◌, ◌<◌, IfSome};
 ghost use Rattle.sock_table.specs.Closed.{IsDoneSeat};
-ghost use Rattle.sock_table.specs.Passes.{IsPass};
 ghost use Rattle.sock_table.specs.Refs.{Knows};
 ghost use Rattle.std.specs.Thread.{IsSync};
 ghost use Rattle.sock_open.specs.Made.{AreMade, AreNewSeats, PassesFrom};
@@ -34,13 +33,8 @@ fn begin(alloc: Global) -> Option<Made<MemOut>>
         seats: 5,
         first: 0,
     };
-    let Ok(outs) = vec![in alloc; MemOut::new(0)] else {
-        return None;
-    };
-    let Ok(made) = new_table(alloc, &plan, outs) else {
-        return None;
-    };
-    Some(made)
+    let outs = vec![in alloc; MemOut::new(0)].ok()?;
+    new_table(alloc, &plan, outs).ok()
 }
 
 /// A seat of the table.
@@ -53,26 +47,18 @@ fn one_of(table: &Table, seats: &mut Vec<Seat>) -> Option<Seat>
     Some(seat)
 }
 
-/// The pass of the link.
-fn pass_of(table: &Table, mut passes: Vec<Pass>) -> Option<Pass>
-    requires { PassesFrom table.now.rule.table.shared.table_id table.now.rule.plan 0 passes.items }
-    ensures { IfSome result (λ r. IsPass table.now.rule.table.shared.table_id table.now.rule.plan r) }
-{
-    let pass = passes.pop()?;
-    Some(pass)
-}
-
-/// Makes a socket of the link and publishes it under the name; whether it did.
-fn open(table: &Table, mut seat: Seat, pass: Pass) -> bool
+/// Makes a socket of the link and publishes it under the name.
+fn open(table: &Table, mut seat: Seat, mut passes: Vec<Pass>) -> Option<()>
     requires seat { IsDoneSeat table.now.rule.table.shared.table_id table.now.rule.plan seat }
-    requires pass { IsPass table.now.rule.table.shared.table_id table.now.rule.plan pass }
+    requires passes { PassesFrom table.now.rule.table.shared.table_id table.now.rule.plan 0 passes.items }
     requires name { 0 < table.now.rule.plan.names }
 {
+    let pass = passes.pop()?;
     let Ok(id) = table.create(&mut seat, pass) else {
-        return false;
+        return None;
     };
     table.publish(&mut seat, 0, id);
-    true
+    Some(())
 }
 
 /// Addresses the id and gives the reference back, so often: how often it got one.
@@ -156,11 +142,8 @@ pub fn on_threads<R: Threads + Sync>(
         mut seats,
         passes,
     } = begin(alloc)?;
-    let pass = pass_of(&table, passes)?;
     let first = one_of(&table, &mut seats)?;
-    if !open(&table, first, pass) {
-        return None;
-    }
+    open(&table, first, passes)?;
     let one = one_of(&table, &mut seats)?;
     let two = one_of(&table, &mut seats)?;
     let three = one_of(&table, &mut seats)?;
