@@ -150,10 +150,10 @@ attempt_here i f n at g m h = dite (ℕ_discrete at i)
     (λ ne. absurd (let z = pair-else_first f n g m ne in omega arith)))
     (λ ne. absurd (let a : total (is_attempt {C = Asked} f n) (notes_of i (one at (Attempt g m))) ≡ 0 = ap (λ (b : Bool). total (is_attempt {C = Asked} f n) (cond b (Attempt g m ∷ []) [])) (ne_eqb at i ne) in omega arith))
 
-advance_there : (i : ℕ) (p q : Parts) → q.attempt ≡ p.attempt + 1 → advance_note {C = Asked} i p q ≡ one i (Attempt p.first q.attempt)
+pub advance_there : (i : ℕ) (p q : Parts) → q.attempt ≡ p.attempt + 1 → advance_note {C = Asked} i p q ≡ one i (Attempt p.first q.attempt)
 advance_there i p q up = ap (λ (b : Bool). cond b [] (one i (Attempt p.first q.attempt))) (ne_eqb p.attempt q.attempt (λ e. omega (arith, e, up)))
 
-advance_none : (i : ℕ) (p q : Parts) → q.attempt ≡ p.attempt + 0 → advance_note {C = Asked} i p q ≡ []
+pub advance_none : (i : ℕ) (p q : Parts) → q.attempt ≡ p.attempt + 0 → advance_note {C = Asked} i p q ≡ []
 advance_none i p q up = ap (λ (b : Bool). cond b [] (one i (Attempt p.first q.attempt))) (eq-eqb p.attempt q.attempt (omega (arith, up)))
 
 -- attempt n of the range with this first version in slot i is a later one, and the range has it, by a word that the seat found taken

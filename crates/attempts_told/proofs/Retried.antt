@@ -63,7 +63,7 @@ use Rattle.call_whys.specs.call_told.specs.call_places.proofs.Still.{is_retry, w
 use Rattle.call_whys.specs.call_told.specs.call_places.proofs.Counts.{by_retry, Grows, acted_might}
 use Rattle.call_whys.specs.call_told.specs.call_places.proofs.Ids.{version_low}
 use Rattle.call_whys.specs.call_told.specs.call_places.proofs.Own.{came, end_is}
-use Rattle.attempts_told.proofs.Bounds.{Unmoved, unmoved_then, unmoved_noted, unmoved_quiet, unmoved_got, unmoved_ended, unmoved_post}
+use Rattle.attempts_told.proofs.Bounds.{Unmoved, unmoved_then, unmoved_noted, unmoved_quiet, unmoved_got, unmoved_ended, unmoved_post, advance_there, advance_none}
 
 -- ## Counts
 
@@ -87,12 +87,6 @@ tells_retries k code b c (lost e) = ap (λ (y : Books). y.retries) e
 
 ended_awaited : (k : IdLock Asked) (code : ℕ) (s t : CallStand) → EndedWith k code s t → Awaited s t
 ended_awaited k code s t h = by_view s t (tells_retries k code s.books t.books h.tells) (unmoved_ended k.slot (parts k.word.0).first s.view t.view h.ended)
-
-advance_there : (i : ℕ) (p q : Parts) → q.attempt ≡ p.attempt + 1 → advance_note {C = Asked} i p q ≡ one i (Attempt p.first q.attempt)
-advance_there i p q up = ap (λ (b : Bool). cond b [] (one i (Attempt p.first q.attempt))) (ne_eqb p.attempt q.attempt (λ e. omega (arith, e, up)))
-
-advance_none : (i : ℕ) (p q : Parts) → q.attempt ≡ p.attempt + 0 → advance_note {C = Asked} i p q ≡ []
-advance_none i p q up = ap (λ (b : Bool). cond b [] (one i (Attempt p.first q.attempt))) (eq-eqb p.attempt q.attempt (omega (arith, up)))
 
 -- one retry more waits, and the advance to its attempt is the one that was noted
 module _ (k : IdLock Asked) (s t : CallStand) (r : Retry) (next : IsNext k r) (kept : t.books ≡ keeping r s.books) (q : Parts) (ts : List (Token Asked)) (up : q.attempt ≡ (parts k.word.0).attempt + 1)

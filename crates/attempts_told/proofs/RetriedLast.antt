@@ -1,5 +1,5 @@
 -- Where a call advanced, and no client ended it, a retry of its last attempt went out again.
-use Rattle.std.proofs.Common.{◌≡◌, ℕ, ◌+◌, ◌*◌, ◌<◌, ◌≤◌, ◌⊎◌, inl, inr, List, refl, sym, ap, ◌∙◌, subst, arith}
+use Rattle.std.proofs.Common.{◌≡◌, ℕ, ◌+◌, ◌*◌, ◌<◌, ◌≤◌, ◌⊎◌, inl, inr, List, sym, ap, ◌∙◌, subst, arith}
 use mathlib.Core.Logic.{dite}
 use mathlib.Core.Option.{some}
 use native.Mathlib.Decide.{ℕ_discrete, dec_lt}
@@ -25,7 +25,7 @@ use Rattle.corr_id.specs.Calls.{Found, FoundUpTo, OutOf, is_saw, slot_of, versio
 use Rattle.call_whys.specs.call_told.specs.call_run.specs.rpc_reader.specs.rpc_client.specs.declared.acting.Told.{Told}
 use Rattle.call_whys.specs.call_told.specs.call_run.specs.call_errors.specs.declared.retries.Retry.{Retry}
 use Rattle.call_whys.specs.call_told.specs.call_run.specs.call_attempts.specs.Both.{Both}
-use Rattle.call_whys.specs.call_told.specs.call_run.specs.call_attempts.specs.Retrying.{Locked, Overtaken, WentAgain, RetriedBy, had_ended, overtaken, went_again}
+use Rattle.call_whys.specs.call_told.specs.call_run.specs.call_attempts.specs.Retrying.{Locked, Overtaken, WentAgain, had_ended, overtaken, went_again}
 use Rattle.call_whys.specs.call_told.specs.call_run.specs.Readers.{LinkReader}
 use Rattle.call_whys.specs.call_told.specs.call_run.specs.Threads.{RanWith, ids_of}
 use Rattle.call_whys.specs.call_told.proofs.Lists.{all_at}

@@ -25,7 +25,7 @@ use Rattle.callless_fits.specs.sock_deeds.proofs.Names.{was_full}
 use Rattle.callless_fits.specs.sock_deeds.proofs.Orders.{orders, accepted_stands}
 use Rattle.callless_fits.specs.sock_deeds.proofs.Tasks.{fits, task_does}
 use Rattle.callless_fits.specs.sock_deeds.proofs.Whole.{fixed, log_accepted}
-use Rattle.calls_done.specs.Begun.{FirstAttempt, stands, none_opened, found_failing, found_full}
+use Rattle.calls_done.specs.Begun.{FirstAttempt, stands, became_unopened, found_failing, found_full}
 
 module _ {O : Type 0} {g : Ghosts O} {state : O → OutState} {p : Plan} {clients : List (List Task)} {outcomes : List (Option Outcome)} {places : List PlaceWord} {vrefs : List Vref} {outs : List O} (run : DeedRun g state p clients outcomes places vrefs outs) (differ : PlacesDiffer (log run)) (gave : ℕ → List ℕ) where
   abbrev First : ℕ → ℕ → Type 0
@@ -42,7 +42,7 @@ module _ {O : Type 0} {g : Ghosts O} {state : O → OutState} {p : Plan} {client
   -- by what became of its message
   by_message : (a : Act run) (n o : ℕ) (msg : Letter) (by : Option Outcome) → n < p.names → did_of run a ≡ sends n o 0 msg by → (by ≡ Some outcome.Unopened → Became clients outcomes o outcome.Unopened) → MessageBy state p n msg by (before run a) (after run a) → First o n
   by_message a n o msg None named is un b = let at = accepted_stands run differ (fixed run differ gave) gave a n o 0 msg is in stands at.0 at.1
-  by_message a n o msg (Some outcome.Unopened) named is un b = none_opened (un refl)
+  by_message a n o msg (Some outcome.Unopened) named is un b = became_unopened (un refl)
   by_message a n o msg (Some (outcome.Gone found)) named is un b = by_dead a n o (λ version. vref_version found.0 ≡ version → ⊥) (elim b [ inl r ↦ gone_cause run a none_ n named found r | inr s ↦ refused_cause run a none_ n named found msg s ])
     where
       none_ : FailsNone run a

@@ -24,7 +24,7 @@ use Rattle.calls_done.proofs.Calm.{WasFull_, no_drop, unfull}
 use Rattle.calls_done.proofs.Causes.{asked, task, Ended_}
 use Rattle.calls_done.proofs.Known.{Known}
 use Rattle.calls_done.proofs.Links.{link_at, faultless}
-use Rattle.calls_done.specs.Begun.{FirstAttempt, stands, none_opened, found_failing, found_full}
+use Rattle.calls_done.specs.Begun.{FirstAttempt, stands, became_unopened, found_failing, found_full}
 use Rattle.calls_done.specs.Owed.{GivesWell}
 
 module _ (s : Known) (untroubled : IsUntroubled s.run.script s.run.ends) (none_early : (k : ℕ) → k < links s.run → Contains s.run.early k → ⊥) (well : GivesWell (run_of s.run)) (i : ℕ) (op : Operation) (call : CallLine) (there : IsOperation (run_of s.run) i op) (item : op.item ≡ Call call) where
@@ -51,7 +51,7 @@ module _ (s : Known) (untroubled : IsUntroubled s.run.script s.run.ends) (none_e
 
   by_first : (id code : ℕ) → Became (all_tasks s.run.script) s.run.outcomes i (CallFailed id code) → FirstAttempt (plan_of s.run.script) (all_tasks s.run.script) s.run.outcomes (fixed_by s.run.broken s.run.early s.run.fails) s.run.gave s.run.orders i (name_of its 0) → (k : ℕ) × On_ k
   by_first id code b (stands k on) = (k, on)
-  by_first id code b (none_opened unopened) = absurd (let e : Some (Some Unopened) ≡ Some (Some (CallFailed id code)) = sym unopened ∙ b in cc)
+  by_first id code b (became_unopened unopened) = absurd (let e : Some (Some Unopened) ≡ Some (Some (CallFailed id code)) = sym unopened ∙ b in cc)
   by_first id code b (found_failing k slot version life failing) = absurd (unfailed s.run untroubled none_early (λ f. Unit {0}) k (life_low s.run untroubled none_early (name_of its 0) k slot version life) failing)
   by_first id code b (found_full full) = by_word full (s.run.tells.are_orders.alone (8 * i) (let low = slice_get_within (operations s.run.script) i op there in omega (arith, low)))
 
@@ -67,7 +67,7 @@ module _ (s : Known) (untroubled : IsUntroubled s.run.script s.run.ends) (none_e
   dropped : told.IsDropped (plan_of s.run.script) (all_tasks s.run.script) s.run.outcomes (fixed_by s.run.broken s.run.early s.run.fails) s.run.gave s.run.orders i 0 → ⊥
   dropped (k, p, at, behind) = no_drop s untroubled none_early i 0 k p at behind
 
-  -- came as no link on which the attempt stands had given a response
+  -- so no link on which the attempt stands gave a response of the call
   pub unanswered : (id code k n : ℕ) (frame : Frame) → Ended_ s untroubled none_early well i op call there item id code 0 → On_ k → slice_get (stream (s.run.gave k)).frames n ≡ Some frame → IsResponse call id frame → ⊥
   unanswered id code k n frame (AtFault e l (slot, version, life, alone) fault) on gave (some_, above, below) = faulty l (life_low s.run untroubled none_early (name_of its 0) l slot version life) fault
   unanswered id code k n frame (AtEnd e l w none_) on gave (some_, above, below) = by w.on

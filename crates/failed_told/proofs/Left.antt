@@ -1,5 +1,5 @@
 -- Where the last attempt of a call went that no client ended, by the deed of its client.
-use Rattle.std.proofs.Common.{◌≡◌, ℕ, ◌+◌, ◌*◌, ◌<◌, ◌≤◌, inl, inr, List, [], ◌∷◌, length, map, Some, None, refl, sym, ap, ◌∙◌, subst, arith}
+use Rattle.std.proofs.Common.{◌≡◌, ℕ, ◌+◌, ◌*◌, ◌<◌, ◌≤◌, inl, inr, List, [], ◌∷◌, map, Some, None, refl, sym, ap, ◌∙◌, subst, arith}
 use Rattle.std.specs.Prelude.{Option}
 use Rattle.std.proofs.lemmas.Option.{none-some, same_Some}
 use mathlib.Core.Option.{some}
@@ -185,7 +185,7 @@ module _ {O : Type 0} {g : Ghosts O} {state : O → OutState} {readers : List (L
   by_lost : (client o n : ℕ) (asked : Asked) → WhyLost p every outcomes fixed_here gave orders_here client o n (name_of asked n) → Unordered o n → LeftHere client o asked n
   by_lost client o n asked (WasFailing k slot version made failing) free = on_link k (slot, version, made, λ l stands. absurd (free l stands)) (inl failing)
   by_lost client o n asked (RunEnding late) free = absurd (has_none o (has_from [] o late))
-  by_lost client o n asked (WasUnopened some_ c m low high before none_) free = none_opened some_ c m low high before none_
+  by_lost client o n asked (WasUnopened some_ c m low high before none_) free = none_opened some_ free c m low high before none_
 
   -- ## An attempt that was made
 

@@ -26,7 +26,7 @@ use Rattle.corr_core.specs.declared.marks.View.{View}
 use Rattle.corr_core.proofs.Notes.{only-at, only-else}
 use Rattle.id_rule.specs.Lawful.{notes_of}
 use Rattle.sock_message.specs.Asked.{Asked}
-use Rattle.corr_id.specs.Calls.{FoundUpTo, is_saw, one, slot_of, version_of}
+use Rattle.corr_id.specs.Calls.{FoundUpTo, is_saw, one, slot_of}
 use Rattle.corr_id.specs.Closing.{Closing}
 use Rattle.attempts_told.specs.call_whys.specs.expire_told.specs.call_run.specs.prpc_frame.specs.Meaning.{frame_of}
 use Rattle.call_table.specs.Responses.{ending_of}
@@ -50,16 +50,16 @@ use Rattle.attempts_told.specs.call_whys.specs.expire_told.specs.call_told.proof
 use Rattle.attempts_told.proofs.Senders.{made_for_there}
 use Rattle.failed_told.proofs.Single.{made_once}
 
--- notes with these more
+-- all notes of the one list are in the other
 abbrev pub MoreNotes : List (Noted Asked) → List (Noted Asked) → Type 0
 MoreNotes ns ms = (j : ℕ) (f : Note Asked → ℕ) → total f (notes_of j ns) ≤ total f (notes_of j ms)
 
--- the id of a call that is told to have ended so
+-- an outcome that is the end of the call with this id shows it
 ended_id : (k id code : ℕ) → ends_of k (CallFailed id code) ≡ 1 → id ≡ k
 ended_id k id code is = dite (ℕ_discrete id k) (λ e. e) (λ n. absurd (let a = only-else k id n in omega (arith, a, is)))
 
 module _ (slots : ℕ) where
-  -- what is told is the end of a call whose range ended behind these notes, among those ones; and none of these found a later range in its slot
+  -- what is told is the end of a call: its range ended between the notes ns and the notes ms, and no word among ns has a later range
   pub record IsLast (ns ms : List (Noted Asked)) (x : Told) : Type 0 where
     pub slot : ℕ
     pub first : ℕ

@@ -42,7 +42,6 @@ pub mod LeftOver
 pub mod LinkEnds
 pub mod Waits
 pub mod Unmet
-pub mod NoneGave
 pub mod Alone
 pub mod Lasts
 pub mod LowIds

@@ -19,11 +19,11 @@ module _ (p : Plan) (clients : List (List Task)) (outcomes : List (Option Outcom
   pub data LeftAt (client o : ℕ) (asked : Asked) (n : ℕ) : Type 0 where
     -- it may be on link k, which was failing, or accepted it; or no link did, and each request may have been found taken
     on_link : (k : ℕ) → MayBeOn p clients outcomes fixed gave orders o n (name_of asked n) k → LostOn o n k → LeftAt client o asked n
-    -- a retry whose name had no socket, made by a client that had opened and found none, behind the call if it is its own
-    none_opened : 0 < n → (c m : ℕ) → 1 ≤ c → c < length clients → (c ≡ client → o < m) → FoundNone p clients outcomes fixed gave orders c m (name_of asked n) → LeftAt client o asked n
+    -- a retry that no link accepted, since its name had no socket: the setup opened none, nor had the client that made it opened or found one before its operation m, which is behind the call if that is its own
+    none_opened : 0 < n → IsUnordered p clients outcomes fixed gave orders o n → (c m : ℕ) → 1 ≤ c → c < length clients → (c ≡ client → o < m) → FoundNone p clients outcomes fixed gave orders c m (name_of asked n) → LeftAt client o asked n
 
 module _ (p : Plan) (clients : List (List Task)) (outcomes : List (Option Outcome)) (fixed : Fixed) (gave : ℕ → List ℕ) (orders : ℕ → Order) (ends : List LinkEnd) where
-  -- the reading of link k ended without a fault, as the link shows that was given back: its other end had closed it, as far as it tells that; or its reading ended early
+  -- the reading of link k ended, as the link shows that was given back: its other end had closed it, as far as it tells that; or its reading ended early
   abbrev pub ReadingEnded : ℕ → Type 0
   ReadingEnded k = (e : LinkEnd) × (slice_get ends k ≡ Some e) × (IfSome e.closed (λ closed. closed ≡ true) ⊎ EndsEarly (gave k) e)
 
@@ -44,9 +44,9 @@ module _ (p : Plan) (clients : List (List Task)) (outcomes : List (Option Outcom
   abbrev pub GaveNoResponse : Asked → ℕ → ℕ → Type 0
   GaveNoResponse asked id k = (m : ℕ) (frame : Frame) → Gave p clients outcomes fixed gave orders k m frame → IsResponse p clients outcomes fixed gave orders asked id frame → ⊥
 
-  -- How the call that is operation o of this client, with this id and this last attempt, was ended with the code by whoever read the links: at a fault in what the link of the attempt gave, or as the reading of that link ended
-  -- otherwise, which had given no response of the call; or since the attempt's message was dropped for which the reader of the link had set the socket failed with the code of a fault, or of another end.
-  -- Or it was one of those that were left when no link was read any more, and no link gave a response of it, but one at whose fault the reading ended; it is told where its last attempt went
+  -- How the call that is operation o of this client, with this id and this last attempt, was ended with the code by whoever read the links: the link of its last attempt gave a fault, or its reading ended and it
+  -- gave no response of the call; or the attempt's message was dropped, since the reader of the link had set its socket failed, at a fault or at another end. Or the call was left when no link was read any more:
+  -- then its last attempt went somewhere, and each link gave no response of it, or a fault
   pub data EndedByReading (client o : ℕ) (asked : Asked) (id code last : ℕ) : Type 0 where
     AtFault : code ≡ ERESPONSE → (k : ℕ) → MayBeOn p clients outcomes fixed gave orders o last (name_of asked last) k → GaveFault p clients outcomes fixed gave orders k → EndedByReading client o asked id code last
     AtEnd : code ≡ EEOF → (k : ℕ) → LostWith o last (name_of asked last) k → GaveNoResponse asked id k → EndedByReading client o asked id code last

@@ -534,7 +534,7 @@ module _ (P : Type 0) {O I : Type 0} (g : Ghosts O) (out : O → OutState) (inn 
         let a = term h own_ids c (ids_of x) (ap (λ (l : List (View Asked)). get_elem? l c) (sym (views_are r.left.ran)) ∙ mapped_at ids_of (all_clients r.left.ran) c x at) in
         let b = total_append h own_ids views in let d = notes_flat slot f (own_ids ++ views) in let e = ap (λ (l : List (Noted Asked)). total f (notes_in slot l)) notes_are in omega (arith, a, b, d, e)
 
-    -- what it told are ends of ranges that had not ended, of which none was the earlier one of its slot
+    -- what it told are ends of ranges that hadn't ended before; and in their slots no later range had been found
     rest_lasts : AllByRecursion (IsLast q.slots main.view.notes notes) r.last
     rest_lasts = let t = rest_last q.slots q refl EEOF (calls script) main r.rest.last r.rest.rest in subst (AllByRecursion (IsLast q.slots main.view.notes notes)) (sym (r.rest.told_is ∙ t.told)) t.each
 

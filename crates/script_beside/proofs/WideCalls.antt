@@ -22,7 +22,7 @@ module _ (p : Plan) (n : ℕ) (clients : List (List Task)) (outcomes : List (Opt
   -- where an attempt went
   pub left_still : (c o : ℕ) (asked : Asked) (m : ℕ) → LeftAt wide clients outcomes fixed gave orders c o asked m → LeftAt p clients outcomes fixed gave orders c o asked m
   left_still c o asked m (on_link k on lost) = on_link k on lost
-  left_still c o asked m (none_opened behind client before first low own none_) = none_opened behind client before first low own (none_still p n clients outcomes fixed gave orders client before _ none_)
+  left_still c o asked m (none_opened behind free client before first low own none_) = none_opened behind free client before first low own (none_still p n clients outcomes fixed gave orders client before _ none_)
 
   -- why an attempt was followed by another
   pub again_still : (c o m name : ℕ) → WhyAgain wide clients outcomes fixed gave orders c o m name → WhyAgain p clients outcomes fixed gave orders c o m name

@@ -113,7 +113,7 @@ pub record IsBesideText (script : List Item) (text : List ℕ) (ends : List Link
   pub sockets : AreSocketsBeside script outcomes places answered.gave ends
   -- no call made more attempts than it may; and each message that a link accepted is that of a `send` of which nothing is said, or of an attempt of a call, with the id that the call's outcome shows
   pub attempts : AreAttemptsTold (plan_of script) (all_tasks script) outcomes (fixed_by sockets.broken sockets.early sockets.fails) answered.gave sockets.orders
-  -- the first attempt of each call was accepted by a link, or its name had no socket, or it found a failing link, or each request taken
+  -- the first attempt of each call was accepted by a link, or the call became unopened, or a link of its name was failing, or each request may have been found taken
   pub begun : (c o : ℕ) (asked : Asked) → IsOperation (all_tasks script) outcomes c o (ops.Call asked) → FirstAttempt (plan_of script) (all_tasks script) outcomes (fixed_by sockets.broken sockets.early sockets.fails) answered.gave sockets.orders o (name_of asked 0)
   -- each `expire` has its cause, and so has each call that failed: also one that whoever read its link ended, by which link's end or fault; and each attempt behind another
   pub on_calls : AreCallsTold (plan_of script) (all_tasks script) outcomes (fixed_by sockets.broken sockets.early sockets.fails) answered.gave sockets.orders attempts.last ends
