@@ -39,7 +39,11 @@ pub fn replay<S: Source, K: Sink, L: Linker>(
         Err(InputFault::NoMemory) => return Status::NoMemory,
     };
     match read_script(alloc, &bytes) {
-        Ok(script) => run_and_report(alloc, &script, schedule, out, links),
+        Ok(script) => {
+            // The text isn't needed while the script runs.
+            drop(bytes);
+            run_and_report(alloc, &script, schedule, out, links)
+        }
         Err(ScriptError::Fault { line, kind }) => write_fault(alloc, line, kind, out),
         Err(ScriptError::NoMemory) => Status::NoMemory,
     }

@@ -58,7 +58,11 @@ pub fn run_threads<R: Threads + Wait + Sync, S: Source, K: Sink, L: Linker, G: G
         Err(InputFault::NoMemory) => return Status::NoMemory,
     };
     match read_script(alloc, &bytes) {
-        Ok(script) => threads_and_report(rt, alloc, port, &script, out, links, gate),
+        Ok(script) => {
+            // The text isn't needed while the script runs.
+            drop(bytes);
+            threads_and_report(rt, alloc, port, &script, out, links, gate)
+        }
         Err(ScriptError::Fault { line, kind }) => write_fault(alloc, line, kind, out),
         Err(ScriptError::NoMemory) => Status::NoMemory,
     }
