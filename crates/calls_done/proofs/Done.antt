@@ -13,7 +13,7 @@ use Rattle.calls_done.proofs.Causes.{WasEndedByReading, answered_own}
 use Rattle.calls_done.proofs.Ended.{call_stands, unanswered}
 use Rattle.calls_done.proofs.Known.{Known}
 use Rattle.calls_done.proofs.Links.{none_early}
-use Rattle.calls_done.specs.Owed.{GivesWell, AreClosed}
+use Rattle.calls_done.specs.Owed.{GivesWell, GaveFew}
 
 module _ (s : Known) (untroubled : IsUntroubled s.run.script s.run.ends) (none_early : (k : ℕ) → k < links s.run → Contains s.run.early k → ⊥) (well : GivesWell (run_of s.run)) where
   -- none is ended by whoever read the links: the link of its attempt gave the reply
@@ -29,8 +29,8 @@ module _ (s : Known) (untroubled : IsUntroubled s.run.script s.run.ends) (none_e
           let g = answered s untroubled none_early well i op call there item name first served (CallFailed w.id w.code) w.id failed refl at.0 at.1.0 at.1.1 in
           absurd (unanswered s untroubled none_early well i op call there item w.id w.code at.0 g.0 g.1 w.by at.1 g.2.1 g.3)
 
-pub complete : (s : Known) → GivesWell (run_of s.run) → AreClosed s.run.script s.run.ends → Completeness (run_of s.run)
-complete s well closed untroubled = record { sends = sends_done s.run untroubled early; calls = calls_done s untroubled early well }
+pub complete : (s : Known) → GivesWell (run_of s.run) → GaveFew s.run.script s.run.ends → Completeness (run_of s.run)
+complete s well few untroubled = record { sends = sends_done s.run untroubled early; calls = calls_done s untroubled early well }
   where
     early : (k : ℕ) → k < links s.run → Contains s.run.early k → ⊥
-    early = none_early s untroubled well closed
+    early = none_early s untroubled well few

@@ -2,6 +2,7 @@ pub mod Begun
 pub mod Known
 pub mod Links
 pub mod Calm
+pub mod Endless
 pub mod Causes
 pub mod Answered
 pub mod Ended

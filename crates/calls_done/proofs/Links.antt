@@ -12,7 +12,7 @@ use Rattle.report_fits.proofs.Lists.{Has, all_at, has_later, contains_from, some
 use Rattle.seat_programs.specs.Tasks.{plan_of}
 use Rattle.callless_fits.specs.sock_deeds.specs.Told.{fixed_by}
 use Rattle.calls_done.proofs.Known.{Known}
-use Rattle.calls_done.specs.Owed.{IsUnsent, GivesWell, AreClosed}
+use Rattle.calls_done.specs.Owed.{IsUnsent, GivesWell, GaveFew}
 use Rattle.callless_fits.proofs.Sends.{run_of, links}
 
 -- ## The shape of a link
@@ -72,18 +72,18 @@ module _ (s : Known) (untroubled : IsUntroubled s.run.script s.run.ends) where
       by false none_ = λ fault. no_fault_none (subst HasFault (unserved k l none_) fault)
 
   -- ended early
-  pub none_early : GivesWell (run_of s.run) → AreClosed s.run.script s.run.ends → (k : ℕ) → k < links s.run → Contains s.run.early k → ⊥
-  none_early well closed k low early = by (link_at k low) (let l = link_at k low in l.is.early early)
+  pub none_early : GivesWell (run_of s.run) → GaveFew s.run.script s.run.ends → (k : ℕ) → k < links s.run → Contains s.run.early k → ⊥
+  none_early well bounds k low early = by (link_at k low) (let l = link_at k low in l.is.early early)
     where
-      by_count : (l : LinkAt k) → l.end.gave_end ≡ false → l.end.gave_count < reading_limit → EndsEarly (s.run.gave k) l.end → ⊥
-      by_count l endless few (inl ended) = let z : false ≡ true = sym endless ∙ ended in cc
+      by_count : (l : LinkAt k) → (l.end.gave_end ≡ true → ⊥) → l.end.gave_count < reading_limit → EndsEarly (s.run.gave k) l.end → ⊥
+      by_count l endless few (inl ended) = endless ended
       by_count l endless few (inr (inl fault)) = faultless well k l fault
       by_count l endless few (inr (inr (inl most))) = let z : ⊥ = omega (arith, most, few) in z
       by_count l endless few (inr (inr (inr failed))) = let f = (unfailed k l).1 in let z : ⊥ = omega (arith, failed, f) in z
 
       by_server : (l : LinkAt k) (b : Bool) → l.shape.serve ≡ b → EndsEarly (s.run.gave k) l.end → ⊥
-      by_server l true serves = let c = closed k l.end l.shape l.at l.shaped serves in by_count l c.1 c.2
-      by_server l false none_ = let u = quiet k l none_ in by_count l u.1 (let z = u.0 in omega (arith, z))
+      by_server l true serves = by_count l ((well k l.shape l.shaped serves (unsent k l serves)).goes_on (untroubled.no_end l.name l.shape l.opened) l.end l.at) (bounds k l.end l.shape l.at l.shaped serves)
+      by_server l false none_ = let u = quiet k l none_ in by_count l (λ ended. let z : false ≡ true = sym u.1 ∙ ended in cc) (let z = u.0 in omega (arith, z))
 
       by : (l : LinkAt k) → EndsEarly (s.run.gave k) l.end → ⊥
       by l = by_server l l.shape.serve refl

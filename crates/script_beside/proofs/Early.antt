@@ -42,7 +42,7 @@ pub last_step : (xs : List Took) (x : Took) (s t : InState) → Takes (xs ++ x �
 last_step [] x s t h = (s, subst (λ (u : InState). TakeStep s u x.room x.answer) (sym h.2) h.1)
 last_step (y ∷ xs) x s t h = last_step xs x h.0 t h.2
 
-rose_some : (a b : ℕ) → Rose a b → 0 < b
+pub rose_some : (a b : ℕ) → Rose a b → 0 < b
 rose_some a b h = omega (arith, h)
 
 -- a fault behind the frames that were met is one of all bytes, also where more come

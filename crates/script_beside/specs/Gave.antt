@@ -1,5 +1,5 @@
 -- What links gave whose other ends were inside this process and told in the end what they offered.
-use Rattle.std.specs.Prelude.{ℕ, ◌≡◌, ◌⊎◌, if◌then◌else◌, Bool, true, List, [], ◌∷◌, flat_map, Some}
+use Rattle.std.specs.Prelude.{ℕ, ◌≡◌, ◌⊎◌, if◌then◌else◌, Bool, true, List, [], ◌∷◌, ◌++◌, flat_map, Some}
 use Rattle.brpc_model.specs.Frame.{frame_bytes}
 use Rattle.brpc_model.specs.Link.{LinkEnd}
 use Rattle.brpc_model.specs.Reply.{reply_frames}
@@ -15,9 +15,10 @@ offered_for spec took = if spec.serve then flat_map frame_bytes (first_of spec.e
 abbrev pub WasReadOut : LinkEnd → Type 0
 WasReadOut e = (e.gave_end ≡ true) ⊎ (e.closed ≡ Some true)
 
--- then it gave that for all that the link took, as far as it tells both
-abbrev pub GaveOffer : LinkSpec → LinkEnd → Type 0
-GaveOffer spec e = (took gave : List ℕ) → e.took ≡ Some took → e.gave ≡ Some gave → WasReadOut e → gave ≡ offered_for spec took
+-- Then it gave that for all that the link took, as far as it tells both; and where it answered its end, also for all that might follow.
+pub record GaveOffer (spec : LinkSpec) (e : LinkEnd) : Type 0 where
+  pub all : (took gave : List ℕ) → e.took ≡ Some took → e.gave ≡ Some gave → WasReadOut e → gave ≡ offered_for spec took
+  pub last : (took gave : List ℕ) → e.took ≡ Some took → e.gave ≡ Some gave → e.gave_end ≡ true → (more : List ℕ) → gave ≡ offered_for spec (took ++ more)
 
 -- so each link of which this was asked, in modes that tell
 abbrev pub GaveOffers : (Mode → Bool) → List LinkSpec → List LinkEnd → Type 0

@@ -5,7 +5,7 @@ use Rattle.brpc_model.specs.Items.{Item}
 use Rattle.brpc_model.specs.Link.{LinkEnd}
 use Rattle.brpc_model.specs.Run.{Run, nothing_late}
 use Rattle.brpc_model.specs.Served.{ServesAll}
-use Rattle.script_calls.specs.calls_done.specs.Owed.{AreClosed}
+use Rattle.script_calls.specs.calls_done.specs.Owed.{GaveFew}
 use Rattle.script_calls.specs.served_told.specs.Telling.{TellBytes}
 use Rattle.script_beside.specs.Told.{IsBesideText}
 
@@ -14,8 +14,8 @@ abbrev pub run_of : {script : List Item} {text : List ℕ} {ends : List LinkEnd}
 run_of {script} {text} {ends} is = record { script = script; report = is.reported.report.report; ends = ends; late = nothing_late; story = record { fails = is.sockets.fails; gave = is.answered.gave; last = is.attempts.last } }
 
 -- The text reports a run of the script. Over links that told in the end what their other ends offered, those with the server gave the replies to what
--- they took, and to each call its own; and it is complete, where nothing went wrong and each link with the server was read until it was closed
+-- they took, and to each call its own; and it is complete, where nothing went wrong and each of these gave less than is read at most
 pub record IsServedText (offering : Type 0) (script : List Item) (text : List ℕ) (ends : List LinkEnd) : Type 0 where
   pub is : IsBesideText script text ends
   pub serves : offering → TellBytes script ends → ServesAll (run_of is)
-  pub complete : offering → TellBytes script ends → AreClosed script ends → Completeness (run_of is)
+  pub complete : offering → TellBytes script ends → GaveFew script ends → Completeness (run_of is)
