@@ -1,5 +1,5 @@
 -- The links of a run, from being opened to their ends being compared behind it: what each gave.
-use Rattle.std.proofs.Common.{◌≡◌, ◌≢◌, ℕ, suc, ◌+◌, ◌<◌, if◌then◌else◌, Bool, true, false, List, [], ◌∷◌, ◌++◌, append-nil, length, map, take, drop, flat_map, get_or, Option, Some, None, refl, sym, ap, ◌∙◌, subst, arith}
+use Rattle.std.proofs.Common.{◌≡◌, ◌≢◌, ℕ, suc, ◌+◌, ◌<◌, if◌then◌else◌, Bool, true, false, List, [], ◌∷◌, ◌++◌, append-nil, append_assoc, length, map, take, drop, flat_map, get_or, Option, Some, None, inl, refl, sym, ap, ◌∙◌, subst, arith}
 use Rattle.std.specs.Prelude.{All}
 use Rattle.std.proofs.lemmas.List.{drop_all, take_all}
 use Rattle.std.proofs.lemmas.List.Elements.{All-nil, All-cons}
@@ -15,7 +15,7 @@ use Rattle.sock_io.specs.declared.link.LinkSpec.{LinkSpec}
 use Rattle.sock_io.specs.declared.link.Mode.{Mode}
 use Rattle.sock_io.specs.declared.link.Out.{Ghosts}
 use Rattle.sock_io.specs.Link.{OutState, InState, Offer, end_of, offered_by}
-use Rattle.sock_io.specs.Meeting.{AreEnds, IsAskedPeer}
+use Rattle.sock_io.specs.Meeting.{AreEnds, IsAskedPeer, IsFound, OffersFound, MeetStep}
 use Rattle.sock_io.specs.Peer.{PeerState, IsNewPeer}
 use Rattle.script_links.specs.Opened.{IsOpened, AreOpened}
 use Rattle.call_run.specs.Readers.{LinkReader, nothing_read, IsReader, AreReaders, AllServed}
@@ -26,7 +26,7 @@ use Rattle.call_run.specs.link_crew.proofs.Gave.{gave_all}
 use Rattle.call_run.specs.link_crew.proofs.Ways.{Stays, read_stays, ends_stay, asked_stays}
 use Rattle.call_run.specs.sock_table.specs.Closed.{ways_of}
 use Rattle.script_calls.specs.Halves.{rest_of, joined}
-use Rattle.script_beside.specs.Gave.{offered_for, GaveOffer, GaveOffers}
+use Rattle.script_beside.specs.Gave.{offered_for, WasReadOut, GaveOffer, GaveOffers}
 
 -- all of a list's places were written anew
 pub all_written : {A : Type 0} (new old : List A) (len : ℕ) → length new ≡ length old → len ≡ length old → take len (new ++ drop (length new) old) ≡ new
@@ -45,6 +45,15 @@ no_less x xs e = absurd (cc)
 there : {A : Type 0} (o : Option A) → o ≢ None → (x : A) × (o ≡ Some x)
 there None some = absurd (some refl)
 there (Some x) some = (x, refl)
+
+-- Where its offer became known by the comparison, and the reading half answered its end: it gave what the other end gives for all that the link took, and for all that might follow.
+gave_last : (out : OutState) (peer : PeerState) (old new : InState) (o : Offer) (took gave : List ℕ) → MeetStep out peer old new → old.offer ≡ None → new.offer ≡ Some o → out.took ≡ Some took → old.gave_bytes ≡ Some gave → old.gave_end ≡ true → (more : List ℕ) → gave ≡ offered_by o (took ++ more)
+gave_last out peer old new o took gave m unknown known t g ended more =
+    let f : IsFound out peer old o = subst (OffersFound out peer old None) known (subst (λ (b : Option Offer). OffersFound out peer old b new.offer) unknown m.offer) in
+    let w = f.ended ended in
+    let s = f.served took gave t g in
+    let follows : took ++ more ≡ o.fed ++ (s.left ++ more) = ap (λ (l : List ℕ). l ++ more) s.begins ∙ append_assoc o.fed s.left more in
+    sym (append-nil gave) ∙ sym (ap (λ (l : List ℕ). gave ++ l) w.0) ∙ s.offered ∙ sym (s.ended w.1 (s.left ++ more)) ∙ sym (ap (offered_by o) follows)
 
 module _ {O I P : Type 0} (tells_in : Mode → Bool) (out : O → OutState) (peer : P → PeerState) (inn : I → InState) where
   -- ## Served and read
@@ -136,17 +145,33 @@ module _ {O I P : Type 0} (tells_in : Mode → Bool) (out : O → OutState) (pee
   met_end : (e e' : Ends O I P) → HasMet out peer inn e e' → end_at e' ≡ end_at e
   met_end e e' m = λ i. end_of (m.out i) (m.inn.same i)
 
-  one_gave : (spec : LinkSpec) (e e' : Ends O I P) → IsKept spec e → HasMet out peer inn e e' → tells_in spec.mode ≡ true → GaveOffer spec (end_at e')
-  one_gave spec e e' kept m told = subst (GaveOffer spec) (sym (met_end e e' m)) gave
-    where
-      gave : GaveOffer spec (end_at e)
-      gave took given t g mark =
-          let w = kept.tells told in
-          let calm : (peer e.peer).starved ≡ false = kept.served.calm refl ∙ kept.new.starved in
-          let o = there (inn e'.inn).offer (m.inn.all w.0 calm mark) in
-          let a = gave_all (out e.out) (peer e.peer) (inn e.inn) (inn e'.inn) o.0 took given m.inn w.1 o.1 t g mark in
-          let s = asked_stays false kept.before (peer e.peer) kept.served spec kept.asked (kept.served.moved.2.present ∙ w.2) in
-          a.0 ∙ same_offer spec o.0 took (a.1 ∙ s.0) (a.2 ∙ s.1)
+  module _ (spec : LinkSpec) (e e' : Ends O I P) (kept : IsKept spec e) (m : HasMet out peer inn e e') (told : tells_in spec.mode ≡ true) where
+    -- its offer became known, and is what was asked for
+    record HasOffer : Type 0 where
+      offer : Offer
+      known : (inn e'.inn).offer ≡ Some offer
+      serve : offer.serve ≡ spec.serve
+      end : offer.end ≡ spec.end
+
+    offer_of : (took given : List ℕ) → (out e.out).took ≡ Some took → (inn e.inn).gave_bytes ≡ Some given → WasReadOut (end_at e) → HasOffer
+    offer_of took given t g mark =
+        let w = kept.tells told in
+        let calm : (peer e.peer).starved ≡ false = kept.served.calm refl ∙ kept.new.starved in
+        let o = there (inn e'.inn).offer (m.inn.all w.0 calm mark) in
+        let a = gave_all (out e.out) (peer e.peer) (inn e.inn) (inn e'.inn) o.0 took given m.inn w.1 o.1 t g mark in
+        let s = asked_stays false kept.before (peer e.peer) kept.served spec kept.asked (kept.served.moved.2.present ∙ w.2) in
+        record { offer = o.0; known = o.1; serve = a.1 ∙ s.0; end = a.2 ∙ s.1 }
+
+    gave_offer : GaveOffer spec (end_at e)
+    gave_offer = record {
+      all = λ took given t g mark. (let o = offer_of took given t g mark in let w = kept.tells told in
+          (gave_all (out e.out) (peer e.peer) (inn e.inn) (inn e'.inn) o.offer took given m.inn w.1 o.known t g mark).0 ∙ same_offer spec o.offer took o.serve o.end);
+      last = λ took given t g ended more. (let o = offer_of took given t g (inl ended) in let w = kept.tells told in
+          gave_last (out e.out) (peer e.peer) (inn e.inn) (inn e'.inn) o.offer took given m.inn w.1 o.known t g ended more ∙ same_offer spec o.offer (took ++ more) o.serve o.end);
+    }
+
+    one_gave : GaveOffer spec (end_at e')
+    one_gave = subst (GaveOffer spec) (sym (met_end e e' m)) gave_offer
 
   pub all_gave : (specs : List LinkSpec) (es es' : List (Ends O I P)) → AreKept specs es → length es' ≡ length es → ((k : ℕ) (d : Ends O I P) → k < length es → HasMet out peer inn (get_or es k d) (get_or es' k d)) → GaveOffers tells_in specs (map end_at es')
   all_gave [] [] [] a n m = tt
@@ -154,7 +179,7 @@ module _ {O I P : Type 0} (tells_in : Mode → Bool) (out : O → OutState) (pee
   all_gave [] (e ∷ es) fs a n m = absurd a
   all_gave (s ∷ ss) [] fs a n m = absurd a
   all_gave (s ∷ ss) (e ∷ es) [] a n m = absurd (omega arith)
-  all_gave (s ∷ ss) (e ∷ es) (f ∷ fs) a n m = (one_gave s e f a.0 (m 0 e (omega arith)), all_gave ss es fs a.1 (omega arith) (λ k d lt. m (suc k) d (omega arith)))
+  all_gave (s ∷ ss) (e ∷ es) (f ∷ fs) a n m = (λ told. one_gave s e f a.0 (m 0 e (omega arith)) told, all_gave ss es fs a.1 (omega arith) (λ k d lt. m (suc k) d (omega arith)))
 
   pub met_ends : (es es' : List (Ends O I P)) → length es' ≡ length es → ((k : ℕ) (d : Ends O I P) → k < length es → HasMet out peer inn (get_or es k d) (get_or es' k d)) → map end_at es' ≡ map end_at es
   met_ends [] [] n m = refl

@@ -6,8 +6,8 @@ use Rattle.std.proofs.Math.Seq.{take-nil, drop-nil}
 use Rattle.std.proofs.lemmas.Option.{slice_get_within}
 use mathlib.Core.Option.{some}
 use lib.ListN.{get_elem?}
-use Rattle.brpc_model.specs.Causes.{HasFault, reading_limit}
-use Rattle.brpc_model.specs.Complete.{Completeness}
+use Rattle.brpc_model.specs.Causes.{reading_limit}
+use Rattle.brpc_model.specs.Complete.{IsUntroubled, Completeness}
 use Rattle.brpc_model.specs.Frame.{frame_bytes}
 use Rattle.brpc_model.specs.Items.{Item, Shape}
 use Rattle.brpc_model.specs.Link.{LinkEnd}
@@ -17,7 +17,7 @@ use Rattle.brpc_model.specs.PlaceWords.{took_at}
 use Rattle.brpc_model.specs.Reply.{reply_frames}
 use Rattle.brpc_model.specs.Report.{LinkLine}
 use Rattle.brpc_model.specs.Script.{script_of}
-use Rattle.brpc_model.specs.Served.{first_of, given_for, IsServedLink, GivesReplies, ServesAll}
+use Rattle.brpc_model.specs.Served.{first_of, given_for, GivesReplies, ServesAll}
 use Rattle.corr_core.specs.declared.marks.Plan as id_plan
 use Rattle.sock_words.specs.declared.outcome.Outcome.{Outcome}
 use Rattle.sock_words.specs.declared.plain.Plan.{Plan}
@@ -39,7 +39,7 @@ use Rattle.call_run.specs.sock_rule.specs.Rows.{NOTHING}
 use Rattle.script_links.specs.Given.{spec_of, specs_of}
 use Rattle.script_links.proofs.Offers.{asked_at}
 use Rattle.script_calls.specs.report_fits.proofs.Flat.{at_map}
-use Rattle.script_calls.specs.report_fits.proofs.Lists.{has_from}
+use Rattle.script_calls.specs.report_fits.proofs.Lists.{all_at, has_from, within}
 use Rattle.script_calls.specs.call_whys.specs.call_told.proofs.Gains.{Gains, gains_none, gains_tell}
 use Rattle.script_calls.specs.call_whys.specs.sock_deeds.specs.Told.{fixed_by, IsAttempt}
 use Rattle.script_calls.specs.call_whys.specs.sock_deeds.specs.Runs.{DeedRun}
@@ -48,15 +48,15 @@ use Rattle.script_calls.specs.call_whys.specs.sock_deeds.proofs.Flats.{append_fi
 use Rattle.script_calls.specs.call_whys.specs.sock_deeds.proofs.Growing.{HasFound}
 use Rattle.script_calls.specs.call_whys.specs.sock_deeds.proofs.Places.{map_there, to_elem}
 use Rattle.script_calls.specs.call_whys.specs.sock_deeds.proofs.Tasks.{fits}
-use Rattle.script_calls.specs.calls_done.specs.Owed.{AreClosed}
+use Rattle.script_calls.specs.calls_done.specs.Owed.{GaveFew}
 use Rattle.script_calls.specs.served_told.specs.Telling.{TellBytes}
 use Rattle.script_calls.specs.served_told.proofs.Own.{own_replies}
 use Rattle.script_beside.specs.Gave.{offered_for, WasReadOut, GaveOffer, GaveOffers}
 use Rattle.script_beside.specs.Served.{run_of, IsServedText}
 use Rattle.script_beside.specs.Told.{seated_plan, seated_ids, HadGivenNone, IsBesideRun, IsBesideText}
-use Rattle.script_beside.proofs.Done.{text_complete}
+use Rattle.script_beside.proofs.Done.{GivesAll, GivesLast, text_complete}
 use Rattle.script_beside.proofs.Linked.{opens_link}
-use Rattle.script_beside.proofs.ReadOut.{ShowsOut, read_or_none, found_none}
+use Rattle.script_beside.proofs.ReadOut.{ShowsOut, at_end, at_closing, at_failure, at_limit, read_or_none, found_none}
 use Rattle.script_beside.proofs.Reports.{text_of, text_outcomes}
 use Rattle.script_beside.proofs.Small.{text_small}
 use Rattle.script_beside.proofs.Sockets.{outcomes, asked, run}
@@ -88,11 +88,19 @@ gives_at_end {script} {text} {ends} is tells_in mode told gave k e shape line at
     let took = some_there e.took took_told in
     let given = some_there e.gave gave_told in
     let offer = offers_at tells_in (specs_of mode script) ends gave k (spec_of mode shape) e (asked_at mode script k shape shaped) at told in
-    let all : given.0 ≡ offered_for (spec_of mode shape) took.0 = offer took.0 given.0 took.1 given.1 out in
+    let all : given.0 ≡ offered_for (spec_of mode shape) took.0 = offer.all took.0 given.0 took.1 given.1 out in
     let its : given.0 ≡ is.answered.gave k = told_of (λ (b : List ℕ). b ≡ is.answered.gave k) e.gave given.0 given.1 (is.answered.givers k e at).gives in
     let line_took : line.took ≡ took_at is.reported.took k = (is.reported.report.told.links k line there).took in
     let said : took_at is.reported.took k ≡ took.0 = told_of (λ (b : List ℕ). took_at is.reported.took k ≡ b) e.took took.0 took.1 (is.reported.told k e at) in
     sym its ∙ all ∙ serving shape mode took.0 serve ∙ ap (given_for shape) (sym (line_took ∙ said))
+
+-- one that answered its end gave also what the server gives for all that might follow
+gives_last : {script : List Item} {text : List ℕ} {ends : List LinkEnd} (is : IsBesideText script text ends) (tells_in : Mode → Bool) (mode : Mode) → tells_in mode ≡ true → GaveOffers tells_in (specs_of mode script) ends → TellBytes script ends → GivesLast is
+gives_last {script} {text} {ends} is tells_in mode told gave tells k e shape took at shaped serve took_ ended more =
+    let given = some_there e.gave (tells k e shape at shaped serve).1 in
+    let offer = offers_at tells_in (specs_of mode script) ends gave k (spec_of mode shape) e (asked_at mode script k shape shaped) at told in
+    let its : given.0 ≡ is.answered.gave k = told_of (λ (b : List ℕ). b ≡ is.answered.gave k) e.gave given.0 given.1 (is.answered.givers k e at).gives in
+    sym its ∙ offer.last took given.0 took_ given.1 ended more ∙ serving shape mode (took ++ more) serve
 
 -- ## What a link took that no message was accepted for
 
@@ -221,12 +229,12 @@ module _ (P : Type 0) {O I : Type 0} (out : O → OutState) (inn : I → InState
   -- ## Replies
 
   module _ (tells_in : Mode → Bool) (mode : Mode) (told : tells_in mode ≡ true) (gave : GaveOffers tells_in (specs_of mode script) links) (tells : TellBytes script links) where
-    module _ (k : ℕ) (shape : Shape) (line : LinkLine) (s : IsServedLink (run_of is) k shape) (there : slice_get (run_of is).report.links k ≡ Some line) (e : LinkEnd) (at : slice_get links k ≡ Some e) (quiet : (e.take_faults ≡ 0) × (HasFault (is.answered.gave k) → ⊥) × (e.gave_count < reading_limit)) where
+    module _ (k : ℕ) (shape : Shape) (line : LinkLine) (opened : slice_get (link_shapes script) k ≡ Some shape) (serves : IsTrue shape.serve) (there : slice_get (run_of is).report.links k ≡ Some line) (e : LinkEnd) (at : slice_get links k ≡ Some e) (quiet : e.take_faults ≡ 0) (few : e.gave_count < reading_limit) where
       own : IsSome e.took × IsSome e.gave × IsSome e.closed
-      own = tells k e shape at s.opened s.serves
+      own = tells k e shape at opened serves
 
       out_of : WasReadOut e → is.answered.gave k ≡ given_for shape line.took
-      out_of over = gives_at_end is tells_in mode told gave k e shape line at s.opened s.serves own.0 own.1 over there
+      out_of over = gives_at_end is tells_in mode told gave k e shape line at opened serves own.0 own.1 over there
 
       its_bytes : (given : List ℕ) → e.gave ≡ Some given → given ≡ is.answered.gave k
       its_bytes given g_ = told_of (λ (b : List ℕ). b ≡ is.answered.gave k) e.gave given g_ (is.answered.givers k e at).gives
@@ -238,26 +246,34 @@ module _ (P : Type 0) {O I : Type 0} (out : O → OutState) (inn : I → InState
             let its : given.0 ≡ bs = told_of (λ (b : List ℕ). b ≡ bs) x.behind.gave_bytes given.0 (behind.bytes ∙ given.1) (gains_tell x.before x.behind bs gains before.1) in
             sym its ∙ its_bytes given.0 given.1
 
-        by_showing : (bs : List ℕ) → Gains x.before x.behind bs → ShowsOut bs x.behind → is.answered.gave k ≡ given_for shape line.took
-        by_showing bs gains (inl (inl ended)) = out_of (inl (sym behind.gave_end ∙ ended))
-        by_showing bs gains (inl (inr (inl fault))) = absurd (quiet.1 (subst HasFault (read_bytes_are bs gains) fault))
-        by_showing bs gains (inl (inr (inr (inl most)))) = absurd (let a = behind.count in let b = quiet.2 in omega (arith, most))
-        by_showing bs gains (inl (inr (inr (inr failed)))) = absurd (let a = behind.faults in let b = quiet.0 in omega (arith, failed))
-        by_showing bs gains (inr closed) = out_of (inr (sym behind.closed ∙ closed (subst IsSome (sym behind.closed) own.2)))
+        by_showing : ShowsOut x.behind → is.answered.gave k ≡ given_for shape line.took
+        by_showing (at_end ended) = out_of (inl (sym behind.gave_end ∙ ended))
+        by_showing (at_closing closed) = out_of (inr (sym behind.closed ∙ closed (subst IsSome (sym behind.closed) own.2)))
+        by_showing (at_failure failed) = absurd (let a = behind.faults in omega (arith, failed, a, quiet))
+        by_showing (at_limit most) = absurd (let a = behind.count in omega (arith, most, a, few))
 
         by_reader : slice_get readers k ≡ Some x → (reader : IsReader p q (calls script) x) → get_elem? (opens script) k ≡ some x.operation → k < (plan_of script).links → is.answered.gave k ≡ given_for shape line.took
-        by_reader here reader opened low = elim (read_or_none q x.link (calls script) x.before x.behind reader.ran.id reader.ran.noted x.seat.me.0 nothing_read x.books reader.ran.read) [
+        by_reader here reader asks low = elim (read_or_none q x.link (calls script) x.before x.behind reader.ran.id reader.ran.noted x.seat.me.0 nothing_read x.books reader.ran.read) [
           | inl w ↦ nothing w.0 w.1
-          | inr w ↦ by_showing w.0 w.1 w.2
+          | inr w ↦ by_showing w.2
         ]
           where
             nothing : reader.ran.id ≡ None → x.behind ≡ x.before → is.answered.gave k ≡ given_for shape line.took
             nothing none same =
                 let took = some_there e.took own.0 in
-                let home : took.0 ≡ [] = told_of (λ (b : List ℕ). b ≡ slice_index_or (took_at_home (plan_of script) is.sockets.core.homes) k []) e.took took.0 took.1 (is.sockets.ends_told.each k e at).took ∙ took_nothing k x here reader opened none low in
+                let home : took.0 ≡ [] = told_of (λ (b : List ℕ). b ≡ slice_index_or (took_at_home (plan_of script) is.sockets.core.homes) k []) e.took took.0 took.1 (is.sockets.ends_told.each k e at).took ∙ took_nothing k x here reader asks none low in
                 let said : took_at is.reported.took k ≡ took.0 = told_of (λ (b : List ℕ). took_at is.reported.took k ≡ b) e.took took.0 took.1 (is.reported.told k e at) in
                 let line_took : line.took ≡ [] = (is.reported.report.told.links k line there).took ∙ said ∙ home in
                 sym (read_bytes_are [] (gains_none x.before x.behind same)) ∙ sym (ap (given_for shape) line_took ∙ given_none shape.end)
+
+      -- it gave the replies to what it took
+      replies_to_all : is.answered.gave k ≡ given_for shape line.took
+      replies_to_all =
+          let half = at_map (λ (h : Ends O I P). end_of (out h.out) (inn h.inn)) r.ends k e (ap (λ (l : List LinkEnd). slice_get l k) (sym r.given_back) ∙ at) in
+          let x = both_at (λ (z : LinkReader g). z.behind) (λ (h : Ends O I P). inn h.inn) readers r.ends k half.0 r.halves_read half.1 in
+          let reader = reader_is p q (calls script) 0 (opens script) readers r.left.readers_are k x.0 x.1 in
+          let low : k < (plan_of script).links = (let n = slice_get_within links k e at in let m = is.sockets.ends_told.as_many in omega (arith, n, m)) in
+          by_reader x.0 (shown x.0.behind (out half.0.out) (inn half.0.inn) e x.2 half.2) (each_at HadGivenNone readers k x.0 r.unread x.1) x.1 reader.0 reader.1 low
 
     -- each link with the server that became a socket's, and whose reading met no fault, gave the replies to what it took
     pub gives_replies : GivesReplies (run_of is)
@@ -266,11 +282,15 @@ module _ (P : Type 0) {O I : Type 0} (out : O → OutState) (inn : I → InState
         let w = has_from links e.0 e.1 in
         let place : w.0 ≡ k = sym (is.sockets.ends_told.each w.0 e.0 w.1).numbered ∙ e.2 in
         let at : slice_get links k ≡ Some e.0 = ap (slice_get links) (sym place) ∙ w.1 in
-        let half = at_map (λ (h : Ends O I P). end_of (out h.out) (inn h.inn)) r.ends k e.0 (ap (λ (l : List LinkEnd). slice_get l k) (sym r.given_back) ∙ at) in
-        let x = both_at (λ (z : LinkReader g). z.behind) (λ (h : Ends O I P). inn h.inn) readers r.ends k half.0 r.halves_read half.1 in
-        let reader = reader_is p q (calls script) 0 (opens script) readers r.left.readers_are k x.0 x.1 in
-        let low : k < (plan_of script).links = (let n = slice_get_within links k e.0 at in let m = is.sockets.ends_told.as_many in omega arith) in
-        by_reader k shape line s there e.0 at e.3 x.0 (shown x.0.behind (out half.0.out) (inn half.0.inn) e.0 x.2 half.2) (each_at HadGivenNone readers k x.0 r.unread x.1) x.1 reader.0 reader.1 low
+        replies_to_all k shape line s.opened s.serves there e.0 at e.3.0 e.3.2
+
+    -- and so did each of those in a run in which nothing went wrong
+    gives_all : GaveFew script links → IsUntroubled script links → GivesAll is
+    gives_all few untroubled k shape line opened serves there =
+        let low = slice_get_within is.reported.report.report.links k line there in let lines = is.reported.report.told.line_each in let many = is.sockets.ends_told.as_many in
+        let e = within links k (omega (arith, low, lines, many)) in
+        let unfailed = all_at (λ (x : LinkEnd). (x.put_faults ≡ 0) × (x.take_faults ≡ 0)) links e.0 untroubled.put (k, e.1) in
+        replies_to_all k shape line opened serves there e.0 e.1 unfailed.1 (few k e.0 shape e.1 opened serves)
 
     -- and to each call its own
     serves_all : ServesAll (run_of is)
@@ -280,12 +300,12 @@ module _ (P : Type 0) {O I : Type 0} (out : O → OutState) (inn : I → InState
           (text_small P g out inn bytes script reads text links r) tells gives_replies,
     )
 
-    all_complete : AreClosed script links → Completeness (run_of is)
-    all_complete closed = text_complete P out inn g script text links r bytes reads tells (λ k e shape line at shaped serve there over. (let own = tells k e shape at shaped serve in gives_at_end is tells_in mode told gave k e shape line at shaped serve own.0 own.1 over there)) closed
+    all_complete : GaveFew script links → Completeness (run_of is)
+    all_complete few = text_complete P out inn g script text links r bytes reads tells (gives_last is tells_in mode told gave tells) (gives_all few) few
 
   -- all that a run over these links leaves
   pub served_text : (tells_in : Mode → Bool) (mode : Mode) → GaveOffers tells_in (specs_of mode script) links → IsServedText (tells_in mode ≡ true) script text links
-  served_text tells_in mode gave = record { is = is; serves = λ told tells. serves_all tells_in mode told gave tells; complete = λ told tells closed. all_complete tells_in mode told gave tells closed }
+  served_text tells_in mode gave = record { is = is; serves = λ told tells. serves_all tells_in mode told gave tells; complete = λ told tells few. all_complete tells_in mode told gave tells few }
 
 -- ## What a run of a script leaves
 
