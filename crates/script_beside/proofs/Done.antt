@@ -1,5 +1,5 @@
 -- Where nothing went wrong, the run of a script whose links were served and read beside its clients is complete.
-use Rattle.std.proofs.Common.{◌≡◌, ℕ, ◌<◌, ◌++◌, true, List, [], length, slice_get, slice_index_or, Option, Some, None, IfSome, Ok, refl, sym, ap, ◌∙◌, subst, arith}
+use Rattle.std.proofs.Common.{◌≡◌, ℕ, ◌<◌, ◌++◌, inl, inr, true, List, [], length, slice_get, slice_index_or, Option, Some, None, IfSome, Ok, refl, sym, ap, ◌∙◌, subst, arith}
 use Rattle.std.specs.Prelude.{IsTrue, IsSome}
 use Rattle.std.proofs.lemmas.Option.{slice_get_within}
 use Rattle.sock_io.specs.declared.link.Out.{Ghosts}
