@@ -1,5 +1,5 @@
 -- The links of a run, from being opened to their ends being compared behind it: what each gave.
-use Rattle.std.proofs.Common.{◌≡◌, ◌≢◌, ℕ, suc, ◌+◌, ◌<◌, if◌then◌else◌, Bool, true, false, List, [], ◌∷◌, ◌++◌, append-nil, append_assoc, length, map, take, drop, flat_map, get_or, Option, Some, None, inl, refl, sym, ap, ◌∙◌, subst, arith}
+use Rattle.std.proofs.Common.{◌≡◌, ◌≢◌, ℕ, suc, ◌+◌, ◌<◌, if◌then◌else◌, Bool, true, false, List, [], ◌∷◌, ◌++◌, append-nil, length, map, take, drop, flat_map, get_or, Option, Some, None, inl, refl, sym, ap, ◌∙◌, subst, arith}
 use Rattle.std.specs.Prelude.{All}
 use Rattle.std.proofs.lemmas.List.{drop_all, take_all}
 use Rattle.std.proofs.lemmas.List.Elements.{All-nil, All-cons}
@@ -17,6 +17,7 @@ use Rattle.sock_io.specs.declared.link.Out.{Ghosts}
 use Rattle.sock_io.specs.Link.{OutState, InState, Offer, end_of, offered_by}
 use Rattle.sock_io.specs.Meeting.{AreEnds, IsAskedPeer, IsFound, OffersFound, MeetStep}
 use Rattle.sock_io.specs.Peer.{PeerState, IsNewPeer}
+use Rattle.sock_io.proofs.Offers.{gave_to_end}
 use Rattle.script_links.specs.Opened.{IsOpened, AreOpened}
 use Rattle.call_run.specs.Readers.{LinkReader, nothing_read, IsReader, AreReaders, AllServed}
 use Rattle.call_run.specs.link_crew.specs.Meeting.{HasMet}
@@ -48,12 +49,9 @@ there (Some x) some = (x, refl)
 
 -- Where its offer became known by the comparison, and the reading half answered its end: it gave what the other end gives for all that the link took, and for all that might follow.
 gave_last : (out : OutState) (peer : PeerState) (old new : InState) (o : Offer) (took gave : List ℕ) → MeetStep out peer old new → old.offer ≡ None → new.offer ≡ Some o → out.took ≡ Some took → old.gave_bytes ≡ Some gave → old.gave_end ≡ true → (more : List ℕ) → gave ≡ offered_by o (took ++ more)
-gave_last out peer old new o took gave m unknown known t g ended more =
+gave_last out peer old new o took gave m unknown known t g ended =
     let f : IsFound out peer old o = subst (OffersFound out peer old None) known (subst (λ (b : Option Offer). OffersFound out peer old b new.offer) unknown m.offer) in
-    let w = f.ended ended in
-    let s = f.served took gave t g in
-    let follows : took ++ more ≡ o.fed ++ (s.left ++ more) = ap (λ (l : List ℕ). l ++ more) s.begins ∙ append_assoc o.fed s.left more in
-    sym (append-nil gave) ∙ sym (ap (λ (l : List ℕ). gave ++ l) w.0) ∙ s.offered ∙ sym (s.ended w.1 (s.left ++ more)) ∙ sym (ap (offered_by o) follows)
+    let w = f.ended ended in gave_to_end took gave out.finished o (f.served took gave t g) w.0 w.1
 
 module _ {O I P : Type 0} (tells_in : Mode → Bool) (out : O → OutState) (peer : P → PeerState) (inn : I → InState) where
   -- ## Served and read
