@@ -7,21 +7,11 @@ mod frames;
 mod memory;
 mod scripts;
 
+use bench_rows::{number, tell_row, word};
 use io_buf::NoMemory;
-use std::alloc::{AllocError, Global};
+use std::alloc::Global;
+use std::io;
 use std::process::ExitCode;
-use std::{env, io};
-
-/// The words behind the program's name.
-fn words_of(rt: &HostRuntime) -> Result<Vec<String>, AllocError> {
-    let mut words = Vec::new(rt.alloc());
-    if let Ok(args) = env::args(rt) {
-        for word in args.skip(1) {
-            words.push(word)?;
-        }
-    }
-    Ok(words)
-}
 
 /// Runs the loop of this name; how many bytes went through.
 fn run(alloc: Global, name: &str, size: u32, count: u32) -> Result<u64, NoMemory> {
@@ -35,26 +25,14 @@ fn run(alloc: Global, name: &str, size: u32, count: u32) -> Result<u64, NoMemory
     }
 }
 
-fn number(words: &[String], place: usize) -> u32 {
-    match words.get(place) {
-        Some(word) => word.parse::<u32>().unwrap_or(0),
-        None => 0,
-    }
-}
-
 fn main(rt: HostRuntime) -> io::Result<ExitCode> {
-    let Ok(words) = words_of(&rt) else {
-        return Ok(ExitCode::from(7));
-    };
-    let (size, count) = (number(&words, 1), number(&words, 2));
-    let Some(name) = words.first() else {
+    let (size, count) = (number(&rt, 1), number(&rt, 2));
+    let Some(name) = word(&rt, 0) else {
         return Ok(ExitCode::from(2));
     };
-    match run(rt.alloc(), name, size, count) {
-        Ok(bytes) => {
-            println!(rt; "{name} {size} {count}: {bytes} bytes")?;
-            Ok(ExitCode::from(0))
-        }
-        Err(NoMemory) => Ok(ExitCode::from(7)),
+    let bytes = run(rt.alloc(), &name, size, count).ok();
+    if bytes.is_some() {
+        print!(rt; "{name} ")?;
     }
+    tell_row(&rt, &[size, count], bytes, "bytes")
 }

@@ -7,11 +7,12 @@ mod request;
 mod ring;
 
 use crate::ring::{called, carried};
-use std::alloc::{AllocError, Global};
+use bench_rows::{has_word, number, tell_row};
+use std::alloc::Global;
+use std::io;
 use std::process::ExitCode;
 use std::sync::Wait;
 use std::thread::Threads;
-use std::{env, io};
 
 /// What the words ask for.
 #[derive(Clone, Copy)]
@@ -20,31 +21,6 @@ struct Asked {
     size: u32,
     count: u32,
     links: u32,
-}
-
-/// The words behind the program's name.
-fn words_of(rt: &HostRuntime) -> Result<Vec<String>, AllocError> {
-    let mut words = Vec::new(rt.alloc());
-    if let Ok(args) = env::args(rt) {
-        for word in args.skip(1) {
-            words.push(word)?;
-        }
-    }
-    Ok(words)
-}
-
-fn number(words: &[String], place: usize) -> u32 {
-    match words.get(place) {
-        Some(word) => word.parse::<u32>().unwrap_or(0),
-        None => 0,
-    }
-}
-
-fn has_word(words: &[String], place: usize, wanted: &str) -> bool {
-    match words.get(place) {
-        Some(word) => word.as_str() == wanted,
-        None => false,
-    }
 }
 
 /// Goes over so many links, one behind the other: how many bytes came over all of them.
@@ -62,23 +38,12 @@ fn by_links<R: Threads + Wait + Sync>(rt: &R, alloc: Global, asked: Asked) -> Op
 }
 
 fn main(rt: HostRuntime) -> io::Result<ExitCode> {
-    let Ok(words) = words_of(&rt) else {
-        return Ok(ExitCode::from(7));
-    };
     let asked = Asked {
-        calls: has_word(&words, 0, "calls"),
-        size: number(&words, 1),
-        count: number(&words, 2),
-        links: number(&words, 3),
+        calls: has_word(&rt, 0, "calls"),
+        size: number(&rt, 1),
+        count: number(&rt, 2),
+        links: number(&rt, 3),
     };
-    match by_links(&rt, rt.alloc(), asked) {
-        Some(bytes) => {
-            println!(rt;
-                "{} {} {}: {bytes} bytes",
-                asked.size, asked.count, asked.links
-            )?;
-            Ok(ExitCode::from(0))
-        }
-        None => Ok(ExitCode::from(7)),
-    }
+    let bytes = by_links(&rt, rt.alloc(), asked);
+    tell_row(&rt, &[asked.size, asked.count, asked.links], bytes, "bytes")
 }
