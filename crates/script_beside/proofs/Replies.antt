@@ -320,7 +320,7 @@ module _ (P : Type 0) {O I : Type 0} (out : O → OutState) (inn : I → InState
         let low : k < (plan_of script).links = (let n = slice_get_within links k e at in let m = is.sockets.ends_told.as_many in omega (arith, n, m)) in
         let counted = (is.sockets.ends_told.each k e at).counted in
         let less = front_few short.0 script short.1 is.outcomes (fixed_by is.sockets.broken is.sockets.early is.sockets.fails) is.answered.gave is.sockets.orders is.sockets.core is.sockets.tells.are_orders is.attempts.last is.attempts.few is.attempts.sent
-            short.2 untroubled.few_attempts k low shape f.0 f.1 (is.answered.gave k) f.2 (sym home ∙ f.3) f.4 in
+        short.2 untroubled.few_attempts k low shape f.0 f.1 (is.answered.gave k) f.2 (sym home ∙ f.3) f.4 in
         omega (arith, less, counted)
 
     all_complete : IsShort script → Completeness (run_of is)
