@@ -4,9 +4,9 @@ use Rattle.sock_io.specs.declared.ending.Ending.{Ending}
 use Rattle.sock_io.specs.declared.ending.Ending.TheVariants as ending
 use Rattle.sock_io.specs.Link.{OutState, InState, Offer, IsServed, IsSettled, offered_by}
 use Rattle.sock_io.specs.Peer.{PeerState, has_ended}
-use Rattle.sock_io.specs.Meeting.{FindsAll, IsFound, OffersFound, MeetStep}
+use Rattle.sock_io.specs.Meeting.{FindsAll, IsFound, OffersFound, IsFront, GaveFront, MeetStep}
 use Rattle.loop_link.specs.Serving.{LoopInState}
-use Rattle.ring_link.specs.Inside.{InnerState, inner_gave, handed_on, offer_met, met_after}
+use Rattle.ring_link.specs.Inside.{InnerState, inner_offer, inner_gave, handed_on, offer_met, met_after}
 use Rattle.ring_link.proofs.Repeating.{ended_open}
 use Rattle.ring_link.specs.Halves.{ReaderState, WriterState, RingOutState, RingInState, RingPeerState, IsTakenOf, Repeats, ring_in, ring_peer, told_out}
 
@@ -22,39 +22,54 @@ opens : has_ended ending.Open ≡ true → ⊥
 opens e = cc
 
 -- `wo`, `rp`: from the link to its other end; `wp`, `ri`: from that to the link
-module _ (l : InnerState) (wo : WriterState) (rp : ReaderState) (wp : WriterState) (ri : ReaderState) (there : IsTakenOf rp wo) (back : IsTakenOf ri wp) (x : Repeats l rp wp) (mark : has_ended ri.ending ≡ true) where
-  whole : (wp.ending ≡ ri.ending) × (back.left ≡ [])
-  whole = back.marked (ended_open ri.ending mark)
-
+module _ (l : InnerState) (wo : WriterState) (rp : ReaderState) (wp : WriterState) (ri : ReaderState) (there : IsTakenOf rp wo) (back : IsTakenOf ri wp) (x : Repeats l rp wp) where
   begins : wo.bytes ≡ l.inn.peer.fed ++ ((x.served.left ++ x.rest) ++ there.left)
   begins = there.begins ∙ ap (λ (b : List ℕ). b ++ there.left) (x.took ∙ ap (λ (b : List ℕ). b ++ x.rest) x.served.begins ∙ append_assoc l.inn.peer.fed x.served.left x.rest)
       ∙ append_assoc l.inn.peer.fed (x.served.left ++ x.rest) there.left
 
-  given : ri.bytes ≡ inner_gave l
-  given = sym (back.begins ∙ ap (λ (b : List ℕ). ri.bytes ++ b) whole.1 ∙ append-nil ri.bytes) ∙ x.gave
-
-  nothing_left : x.served.left ≡ [] → x.rest ≡ [] → there.left ≡ [] → (x.served.left ++ x.rest) ++ there.left ≡ []
-  nothing_left a b c = ap (λ (t : List ℕ). (t ++ x.rest) ++ there.left) a ∙ ap (λ (t : List ℕ). t ++ there.left) b ∙ c
-
-  by : (e : Ending) → wp.ending ≡ e → has_ended e ≡ true → IsServed wo.bytes (has_ended wo.ending) ri.bytes (handed_on l.inn e)
-  by ending.Open is t = absurd (opens t)
-  by ending.Ended is t = let f = x.ended is in record {
+  -- what was given so far stands first in what belongs to the bytes that were fed
+  pub front_by : (peer : PeerState) → (inner_offer l).serve ≡ peer.serve → (inner_offer l).end ≡ peer.end → IsFront peer wo.bytes ri.bytes
+  front_by peer serve end = record {
+    offer = inner_offer l;
+    serve = serve;
+    end = end;
     left = (x.served.left ++ x.rest) ++ there.left;
     begins = begins;
-    offered = append-nil ri.bytes ∙ given ∙ sym (append-nil (inner_gave l)) ∙ ap (λ (b : List ℕ). inner_gave l ++ b) (sym f.0) ∙ x.served.offered;
-    ended = λ _. x.served.ended f.1;
-    closed = λ c. absurd (ended_closed ending.Ended refl c);
-  }
-  by ending.Closed is t = let f = x.closed is in let s = x.served.closed f.1 in let n = there.marked (ended_open rp.ending f.3) in record {
-    left = (x.served.left ++ x.rest) ++ there.left;
-    begins = begins;
-    offered = append-nil ri.bytes ∙ given ∙ sym (append-nil (inner_gave l)) ∙ ap (λ (b : List ℕ). inner_gave l ++ b) (sym f.0) ∙ x.served.offered;
-    ended = λ c. absurd (ended_closed ending.Closed c refl);
-    closed = λ _. (ap has_ended n.0 ∙ f.3, nothing_left s.1 f.2 n.1);
+    rest = back.left ++ (inner_offer l).waiting;
+    offered = sym (append_assoc ri.bytes back.left (inner_offer l).waiting) ∙ ap (λ (b : List ℕ). b ++ (inner_offer l).waiting) (sym back.begins ∙ x.gave) ∙ x.served.offered;
   }
 
-  pub served_by : IsServed wo.bytes (has_ended wo.ending) ri.bytes (handed_on l.inn ri.ending)
-  served_by = by ri.ending whole.0 mark
+  -- ### With the mark taken
+
+  module _ (mark : has_ended ri.ending ≡ true) where
+    whole : (wp.ending ≡ ri.ending) × (back.left ≡ [])
+    whole = back.marked (ended_open ri.ending mark)
+
+    given : ri.bytes ≡ inner_gave l
+    given = sym (back.begins ∙ ap (λ (b : List ℕ). ri.bytes ++ b) whole.1 ∙ append-nil ri.bytes) ∙ x.gave
+
+    nothing_left : x.served.left ≡ [] → x.rest ≡ [] → there.left ≡ [] → (x.served.left ++ x.rest) ++ there.left ≡ []
+    nothing_left a b c = ap (λ (t : List ℕ). (t ++ x.rest) ++ there.left) a ∙ ap (λ (t : List ℕ). t ++ there.left) b ∙ c
+
+    by : (e : Ending) → wp.ending ≡ e → has_ended e ≡ true → IsServed wo.bytes (has_ended wo.ending) ri.bytes (handed_on l.inn e)
+    by ending.Open is t = absurd (opens t)
+    by ending.Ended is t = let f = x.ended is in record {
+      left = (x.served.left ++ x.rest) ++ there.left;
+      begins = begins;
+      offered = append-nil ri.bytes ∙ given ∙ sym (append-nil (inner_gave l)) ∙ ap (λ (b : List ℕ). inner_gave l ++ b) (sym f.0) ∙ x.served.offered;
+      ended = λ _. x.served.ended f.1;
+      closed = λ c. absurd (ended_closed ending.Ended refl c);
+    }
+    by ending.Closed is t = let f = x.closed is in let s = x.served.closed f.1 in let n = there.marked (ended_open rp.ending f.3) in record {
+      left = (x.served.left ++ x.rest) ++ there.left;
+      begins = begins;
+      offered = append-nil ri.bytes ∙ given ∙ sym (append-nil (inner_gave l)) ∙ ap (λ (b : List ℕ). inner_gave l ++ b) (sym f.0) ∙ x.served.offered;
+      ended = λ c. absurd (ended_closed ending.Closed c refl);
+      closed = λ _. (ap has_ended n.0 ∙ f.3, nothing_left s.1 f.2 n.1);
+    }
+
+    pub served_by : IsServed wo.bytes (has_ended wo.ending) ri.bytes (handed_on l.inn ri.ending)
+    served_by = by ri.ending whole.0 mark
 
 -- ## What the two comparisons leave
 
@@ -135,9 +150,15 @@ module _ (out : RingOutState) (p : RingPeerState) (inn : RingInState) (rp : Read
   all_found : FindsAll (ring_peer p) (ring_in inn) (ring_in (record inn { reader = record inn.reader { seen = ri.seen }; met = met_after (not p.starved) inn.reader.ending inn.met p.inner.inn }))
   all_found known calm mark = found_whole (not p.starved) inn.reader.ending inn.met p.inner.inn (ap not calm) (marked mark)
 
+  -- what was given so far is known even without the mark
+  front : GaveFront (told_out out) (ring_peer p) (ring_in inn)
+  front known calm took gave t g = subst (λ (b : List ℕ). IsFront (ring_peer p) b gave) (some_same out.writer.bytes took t)
+      (subst (λ (b : List ℕ). IsFront (ring_peer p) out.writer.bytes b) (some_same inn.reader.bytes gave g)
+      (front_by p.inner out.writer p.reader p.writer inn.reader (taken_before p.reader rp out.writer wo e1 e2 there) (taken_before inn.reader ri p.writer wp e3 e4 back) (x calm) (ring_peer p) refl refl))
+
   pub met_step : (inn' : RingInState) → inn' ≡ record inn { reader = ri; met = met_after (not p.starved) inn.reader.ending inn.met p.inner.inn } → MeetStep (told_out out) (ring_peer p) (ring_in inn) (ring_in inn')
   met_step inn' is = subst (λ (n : RingInState). MeetStep (told_out out) (ring_peer p) (ring_in inn) (ring_in n)) (sym (is ∙ ap (λ (r : ReaderState). record inn { reader = r; met = met_after (not p.starved) inn.reader.ending inn.met p.inner.inn }) e3))
-      (record { same = refl; offer = found_after (told_out out) (ring_peer p) (ring_in inn) (not p.starved) inn.reader.ending inn.met p.inner.inn found; all = all_found })
+      (record { same = refl; offer = found_after (told_out out) (ring_peer p) (ring_in inn) (not p.starved) inn.reader.ending inn.met p.inner.inn found; all = all_found; front = front })
 
 -- ## A link that was compared is settled
 

@@ -151,14 +151,18 @@ module _ {O I P : Type 0} (tells_in : Mode → Bool) (out : O → OutState) (pee
       serve : offer.serve ≡ spec.serve
       end : offer.end ≡ spec.end
 
+    calm : (peer e.peer).starved ≡ false
+    calm = kept.served.calm refl ∙ kept.new.starved
+
+    same_asked : ((peer e.peer).serve ≡ spec.serve) × ((peer e.peer).end ≡ spec.end)
+    same_asked = let w = kept.tells told in asked_stays false kept.before (peer e.peer) kept.served spec kept.asked (kept.served.moved.2.present ∙ w.2)
+
     offer_of : (took given : List ℕ) → (out e.out).took ≡ Some took → (inn e.inn).gave_bytes ≡ Some given → WasReadOut (end_at e) → HasOffer
     offer_of took given t g mark =
         let w = kept.tells told in
-        let calm : (peer e.peer).starved ≡ false = kept.served.calm refl ∙ kept.new.starved in
         let o = there (inn e'.inn).offer (m.inn.all w.0 calm mark) in
         let a = gave_all (out e.out) (peer e.peer) (inn e.inn) (inn e'.inn) o.0 took given m.inn w.1 o.1 t g mark in
-        let s = asked_stays false kept.before (peer e.peer) kept.served spec kept.asked (kept.served.moved.2.present ∙ w.2) in
-        record { offer = o.0; known = o.1; serve = a.1 ∙ s.0; end = a.2 ∙ s.1 }
+        record { offer = o.0; known = o.1; serve = a.1 ∙ same_asked.0; end = a.2 ∙ same_asked.1 }
 
     gave_offer : GaveOffer spec (end_at e)
     gave_offer = record {
@@ -166,6 +170,8 @@ module _ {O I P : Type 0} (tells_in : Mode → Bool) (out : O → OutState) (pee
           (gave_all (out e.out) (peer e.peer) (inn e.inn) (inn e'.inn) o.offer took given m.inn w.1 o.known t g mark).0 ∙ same_offer spec o.offer took o.serve o.end);
       last = λ took given t g ended more. (let o = offer_of took given t g (inl ended) in let w = kept.tells told in
           gave_last (out e.out) (peer e.peer) (inn e.inn) (inn e'.inn) o.offer took given m.inn w.1 o.known t g ended more ∙ same_offer spec o.offer (took ++ more) o.serve o.end);
+      front = λ took given t g. (let w = kept.tells told in let f = m.inn.front w.0 calm took given t g in
+          (f.offer.fed, f.left, f.rest, f.begins, f.offered ∙ same_offer spec f.offer f.offer.fed (f.serve ∙ same_asked.0) (f.end ∙ same_asked.1)));
     }
 
     one_gave : GaveOffer spec (end_at e')

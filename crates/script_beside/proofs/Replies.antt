@@ -49,10 +49,11 @@ use Rattle.script_calls.specs.call_whys.specs.sock_deeds.proofs.Growing.{HasFoun
 use Rattle.script_calls.specs.call_whys.specs.sock_deeds.proofs.Places.{map_there, to_elem}
 use Rattle.script_calls.specs.call_whys.specs.sock_deeds.proofs.Tasks.{fits}
 use Rattle.script_calls.specs.calls_done.specs.Owed.{GaveFew}
+use Rattle.served_sizes.proofs.Few.{front_few}
 use Rattle.script_calls.specs.served_told.specs.Telling.{TellBytes}
 use Rattle.script_calls.specs.served_told.proofs.Own.{own_replies}
 use Rattle.script_beside.specs.Gave.{offered_for, WasReadOut, GaveOffer, GaveOffers}
-use Rattle.script_beside.specs.Served.{run_of, IsServedText}
+use Rattle.script_beside.specs.Served.{run_of, IsShort, IsServedText}
 use Rattle.script_beside.specs.Told.{seated_plan, seated_ids, HadGivenNone, IsBesideRun, IsBesideText}
 use Rattle.script_beside.proofs.Done.{GivesAll, GivesLast, text_complete}
 use Rattle.script_beside.proofs.Linked.{opens_link}
@@ -101,6 +102,16 @@ gives_last {script} {text} {ends} is tells_in mode told gave tells k e shape too
     let offer = offers_at tells_in (specs_of mode script) ends gave k (spec_of mode shape) e (asked_at mode script k shape shaped) at told in
     let its : given.0 ≡ is.answered.gave k = told_of (λ (b : List ℕ). b ≡ is.answered.gave k) e.gave given.0 given.1 (is.answered.givers k e at).gives in
     sym its ∙ offer.last took given.0 took_ given.1 ended more ∙ serving shape mode (took ++ more) serve
+
+-- and however its reading ended, the front of what the server gives for a front of what it took
+gives_front : {script : List Item} {text : List ℕ} {ends : List LinkEnd} (is : IsBesideText script text ends) (tells_in : Mode → Bool) (mode : Mode) → tells_in mode ≡ true → GaveOffers tells_in (specs_of mode script) ends → TellBytes script ends
+    → (k : ℕ) (e : LinkEnd) (shape : Shape) (took : List ℕ) → slice_get ends k ≡ Some e → slice_get (link_shapes script) k ≡ Some shape → IsTrue shape.serve → e.took ≡ Some took → (fed left rest : List ℕ) × (took ≡ fed ++ left) × (is.answered.gave k ++ rest ≡ given_for shape fed)
+gives_front {script} {text} {ends} is tells_in mode told gave tells k e shape took at shaped serve took_ =
+    let given = some_there e.gave (tells k e shape at shaped serve).1 in
+    let offer = offers_at tells_in (specs_of mode script) ends gave k (spec_of mode shape) e (asked_at mode script k shape shaped) at told in
+    let its : given.0 ≡ is.answered.gave k = told_of (λ (b : List ℕ). b ≡ is.answered.gave k) e.gave given.0 given.1 (is.answered.givers k e at).gives in
+    let f = offer.front took given.0 took_ given.1 in
+    (f.0, f.1, f.2, f.3, ap (λ (l : List ℕ). l ++ f.2) (sym its) ∙ f.4 ∙ serving shape mode f.0 serve)
 
 -- ## What a link took that no message was accepted for
 
@@ -300,12 +311,24 @@ module _ (P : Type 0) {O I : Type 0} (out : O → OutState) (inn : I → InState
           (text_small P g out inn bytes script reads text links r) tells gives_replies,
     )
 
-    all_complete : GaveFew script links → Completeness (run_of is)
-    all_complete few = text_complete P out inn g script text links r bytes reads tells (gives_last is tells_in mode told gave tells) (gives_all few) few
+    -- which is less than is read at most
+    few_all : IsShort script → IsUntroubled script links → GaveFew script links
+    few_all short untroubled k e shape at shaped serve =
+        let took = some_there e.took (tells k e shape at shaped serve).0 in
+        let home : took.0 ≡ slice_index_or (took_at_home (plan_of script) is.sockets.core.homes) k [] = told_of (λ (b : List ℕ). b ≡ slice_index_or (took_at_home (plan_of script) is.sockets.core.homes) k []) e.took took.0 took.1 (is.sockets.ends_told.each k e at).took in
+        let f = gives_front is tells_in mode told gave tells k e shape took.0 at shaped serve took.1 in
+        let low : k < (plan_of script).links = (let n = slice_get_within links k e at in let m = is.sockets.ends_told.as_many in omega (arith, n, m)) in
+        let counted = (is.sockets.ends_told.each k e at).counted in
+        let less = front_few short.0 script short.1 is.outcomes (fixed_by is.sockets.broken is.sockets.early is.sockets.fails) is.answered.gave is.sockets.orders is.sockets.core is.sockets.tells.are_orders is.attempts.last is.attempts.few is.attempts.sent
+        short.2 untroubled.few_attempts k low shape f.0 f.1 (is.answered.gave k) f.2 (sym home ∙ f.3) f.4 in
+        omega (arith, less, counted)
+
+    all_complete : IsShort script → Completeness (run_of is)
+    all_complete short untroubled = let few = few_all short untroubled in text_complete P out inn g script text links r bytes reads tells (gives_last is tells_in mode told gave tells) (gives_all few) few untroubled
 
   -- all that a run over these links leaves
   pub served_text : (tells_in : Mode → Bool) (mode : Mode) → GaveOffers tells_in (specs_of mode script) links → IsServedText (tells_in mode ≡ true) script text links
-  served_text tells_in mode gave = record { is = is; serves = λ told tells. serves_all tells_in mode told gave tells; complete = λ told tells few. all_complete tells_in mode told gave tells few }
+  served_text tells_in mode gave = record { is = is; serves = λ told tells. serves_all tells_in mode told gave tells; complete = λ told tells short. all_complete tells_in mode told gave tells short }
 
 -- ## What a run of a script leaves
 

@@ -15,10 +15,11 @@ offered_for spec took = if spec.serve then flat_map frame_bytes (first_of spec.e
 abbrev pub WasReadOut : LinkEnd → Type 0
 WasReadOut e = (e.gave_end ≡ true) ⊎ (e.closed ≡ Some true)
 
--- Then it gave that for all that the link took, as far as it tells both; and where it answered its end, also for all that might follow.
+-- Then it gave that for all that the link took, as far as it tells both; and where it answered its end, also for all that might follow. However its reading ended, it gave the front of that for a front of what the link took.
 pub record GaveOffer (spec : LinkSpec) (e : LinkEnd) : Type 0 where
   pub all : (took gave : List ℕ) → e.took ≡ Some took → e.gave ≡ Some gave → WasReadOut e → gave ≡ offered_for spec took
   pub last : (took gave : List ℕ) → e.took ≡ Some took → e.gave ≡ Some gave → e.gave_end ≡ true → (more : List ℕ) → gave ≡ offered_for spec (took ++ more)
+  pub front : (took gave : List ℕ) → e.took ≡ Some took → e.gave ≡ Some gave → (fed left rest : List ℕ) × (took ≡ fed ++ left) × (gave ++ rest ≡ offered_for spec fed)
 
 -- so each link of which this was asked, in modes that tell
 abbrev pub GaveOffers : (Mode → Bool) → List LinkSpec → List LinkEnd → Type 0

@@ -1,11 +1,11 @@
 -- What links with the server gave in the run that a text reports, and that it is complete where nothing went wrong.
-use Rattle.std.specs.Prelude.{ℕ, List}
+use Rattle.std.specs.Prelude.{ℕ, ◌≡◌, ◌≤◌, List, length, Ok}
 use Rattle.brpc_model.specs.Complete.{Completeness}
 use Rattle.brpc_model.specs.Items.{Item}
 use Rattle.brpc_model.specs.Link.{LinkEnd}
 use Rattle.brpc_model.specs.Run.{Run, nothing_late}
+use Rattle.brpc_model.specs.Script.{script_of}
 use Rattle.brpc_model.specs.Served.{ServesAll}
-use Rattle.script_calls.specs.calls_done.specs.Owed.{GaveFew}
 use Rattle.script_calls.specs.served_told.specs.Telling.{TellBytes}
 use Rattle.script_beside.specs.Told.{IsBesideText}
 
@@ -13,9 +13,13 @@ use Rattle.script_beside.specs.Told.{IsBesideText}
 abbrev pub run_of : {script : List Item} {text : List ℕ} {ends : List LinkEnd} → IsBesideText script text ends → Run
 run_of {script} {text} {ends} is = record { script = script; report = is.reported.report.report; ends = ends; late = nothing_late; story = record { fails = is.sockets.fails; gave = is.answered.gave; last = is.attempts.last } }
 
+-- it is what a text of at most 1,048,576 bytes says
+abbrev pub IsShort : List Item → Type 0
+IsShort script = (bytes : List ℕ) × (script_of bytes ≡ Ok script) × (length bytes ≤ 1048576)
+
 -- The text reports a run of the script. Over links that told in the end what their other ends offered, those with the server gave the replies to what
--- they took, and to each call its own; and it is complete, where nothing went wrong and each of these gave less than is read at most
+-- they took, and to each call its own; and that of a short script is complete, where nothing went wrong
 pub record IsServedText (offering : Type 0) (script : List Item) (text : List ℕ) (ends : List LinkEnd) : Type 0 where
   pub is : IsBesideText script text ends
   pub serves : offering → TellBytes script ends → ServesAll (run_of is)
-  pub complete : offering → TellBytes script ends → GaveFew script ends → Completeness (run_of is)
+  pub complete : offering → TellBytes script ends → IsShort script → Completeness (run_of is)

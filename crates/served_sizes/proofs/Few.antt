@@ -1,10 +1,11 @@
 -- A link with the built-in server gives less than the most that is read: what it took is no more than the script's calls and sends, and the replies are little longer.
-use Rattle.std.proofs.Common.{◌≡◌, ℕ, zero, suc, ◌+◌, ◌*◌, ◌<◌, ◌≤◌, List, [], ◌∷◌, ◌++◌, length, take, drop, map, flat_map, filter_map, slice_get, Some, None, Ok, length-append, append-nil, append_assoc, refl, sym, ap, ◌∙◌, subst, arith}
+use Rattle.std.proofs.Common.{◌≡◌, ℕ, zero, suc, ◌+◌, ◌*◌, ◌<◌, ◌≤◌, List, [], ◌∷◌, ◌++◌, length, take, drop, map, flat_map, filter_map, slice_get, slice_index_or, Option, Some, None, Ok, length-append, append-nil, append_assoc, refl, sym, ap, ◌∙◌, subst, arith}
 use Rattle.std.proofs.lemmas.Grind.{flat_map-append}
 use Rattle.std.proofs.lemmas.List.{take-append-drop}
 use Rattle.std.proofs.lemmas.Option.{slice_get_within}
 use Rattle.std.specs.Prelude.{pos, IsTrue}
 use Rattle.std.specs.List.{AllByRecursion}
+use Rattle.seat_programs.specs.sock_model.specs.sock_words.specs.declared.outcome.Outcome.{Outcome}
 use Rattle.brpc_model.specs.Items.{Item, Shape, Open, Send, Call, attempts_of, opened_name, opened_shape}
 use Rattle.brpc_model.specs.Operations.{Operation, Turn, operations, link_names, link_shapes, attempts, requests}
 use Rattle.brpc_model.specs.Order.{EachBefore, IsCut}
@@ -23,10 +24,13 @@ use Rattle.report_fits.proofs.Targets.{are_there}
 use Rattle.report_fits.proofs.TaskLemmas.{numbers_at, task_is, send_asks, call_asks}
 use Rattle.sock_message.specs.Asked.{Asked, meta_of, frame_of}
 use Rattle.seat_programs.specs.Readers.{LIMIT}
+use Rattle.seat_programs.specs.declared.task.Op.TheVariants as ops
+use Rattle.seat_programs.specs.declared.task.Task.{Task}
 use Rattle.seat_programs.specs.Cores.{Core}
 use Rattle.seat_programs.specs.Tasks.{numbered, plan_of}
-use Rattle.seat_programs.specs.ToldCalls.{Accepted, Order, Fixed, ToldCalls, IsTaken, IsSent, OfSend, OfCall, label, bytes_of}
-use Rattle.seat_programs.specs.Scripts.{all_tasks, IsRunWithCalls}
+use Rattle.seat_programs.specs.Told.{IsTask}
+use Rattle.seat_programs.specs.ToldCalls.{Accepted, Order, Fixed, AreOrders, ToldCalls, IsTaken, IsSent, OfSend, OfCall, label, bytes_of}
+use Rattle.seat_programs.specs.Scripts.{all_tasks, took_at_home, IsRunWithCalls}
 use Rattle.served_runs.specs.owed_calls.specs.Lives.{ClosesInRun}
 use Rattle.served_runs.specs.run_theorems.proofs.Starts.{made}
 use Rattle.served_runs.specs.call_causes.specs.Lists.{given}
@@ -101,8 +105,12 @@ at_label ops o n q a there number attempt low few short =
     let inside = slice_get_within ops o q there in let same : 8 * o + n ≡ label a = omega (arith, number, attempt) in
     (omega (arith, inside, number, attempt, low, few), subst (λ m. length a.bytes ≤ m) (sym (weight_at ops o n q there low (omega (arith, low, few))) ∙ ap (weight_of ops) same) short)
 
-module _ (bytes : List ℕ) (script : List Item) (reads : script_of bytes ≡ Ok script) (short : length bytes ≤ 1048576) (turns : List Turn) (core : Core) (is : IsRunWithCalls script turns core) (closes : ClosesInRun script turns core is) (offers : OffersInRun script turns core is)
-    (fixed : Fixed) (orders : ℕ → Order) (tells : ToldCalls (plan_of script) (all_tasks script) core.outcomes fixed (given core) orders core) where
+-- ## What a link took
+
+-- of what is told of the attempts of calls only the last of each, and what each link accepted
+module _ (bytes : List ℕ) (script : List Item) (reads : script_of bytes ≡ Ok script) (outcomes : List (Option Outcome)) (fixed : Fixed) (gave : ℕ → List ℕ) (orders : ℕ → Order) (core : Core) (are_orders : AreOrders (plan_of script) core orders) (last : ℕ → ℕ)
+    (tried : (client : ℕ) (t : Task) (asked : Asked) → IsTask (all_tasks script) outcomes client t → t.op ≡ ops.Call asked → last t.number + 2 ≤ asked.range)
+    (sent : (k : ℕ) → k < (plan_of script).links → AllByRecursion (IsSent (plan_of script) (all_tasks script) outcomes fixed gave orders last k) (orders k).accepted) where
   range : AllByRecursion InRange script
   range = let counted = is_counted bytes script reads in counted.in_range
 
@@ -112,14 +120,14 @@ module _ (bytes : List ℕ) (script : List Item) (reads : script_of bytes ≡ Ok
   small : AllByRecursion (λ (op : Operation). attempts_of op.item ≤ 7) (operations script)
   small = all_from (λ (op : Operation). attempts_of op.item ≤ 7) (operations script) (λ q h. attempts_low q.item (range_at h.0 q h.1))
 
-  sent_few : (k : ℕ) (a : Accepted) → IsSent (plan_of script) (all_tasks script) core.outcomes fixed (given core) orders tells.last k a → (label a < 8 * length (operations script)) × (length a.bytes ≤ weight_of (operations script) (label a))
+  sent_few : (k : ℕ) (a : Accepted) → IsSent (plan_of script) (all_tasks script) outcomes fixed gave orders last k a → (label a < 8 * length (operations script)) × (length a.bytes ≤ weight_of (operations script) (label a))
   sent_few k a (OfSend client t name slot version it number op first life untold) =
-      let w = task_is script core.outcomes client t it in let m = send_asks (numbered script) (names script) (numbers_at script t.number w.operation) w.operation.item name a.bytes (w.asks ∙ ap (λ x. Some x) op) in
-      let tried : attempts_of w.operation.item ≡ 1 = ap attempts_of m.1 in let carries : carried w.operation.item ≡ length a.bytes = ap carried m.1 in
-      at_label (operations script) t.number 0 w.operation a w.there number (sym first) (omega (arith, tried)) (omega (arith, tried)) (omega (arith, carries))
-  sent_few k a (OfCall client t asked outcome id slot version it number op became shows last is_frame life) =
-      let w = task_is script core.outcomes client t it in let m = call_asks (numbered script) (names script) (numbers_at script t.number w.operation) w.operation.item asked (w.asks ∙ ap (λ x. Some x) op) in
-      let tried : attempts_of w.operation.item ≡ m.0.retry + 1 = ap attempts_of m.1 in let carries : carried w.operation.item ≡ length m.0.payload + length m.0.attachment = ap carried m.1 in
+      let w = task_is script outcomes client t it in let m = send_asks (numbered script) (names script) (numbers_at script t.number w.operation) w.operation.item name a.bytes (w.asks ∙ ap (λ x. Some x) op) in
+      let counts : attempts_of w.operation.item ≡ 1 = ap attempts_of m.1 in let carries : carried w.operation.item ≡ length a.bytes = ap carried m.1 in
+      at_label (operations script) t.number 0 w.operation a w.there number (sym first) (omega (arith, counts)) (omega (arith, counts)) (omega (arith, carries))
+  sent_few k a (OfCall client t asked outcome id slot version it number op became shows least is_frame life) =
+      let w = task_is script outcomes client t it in let m = call_asks (numbered script) (names script) (numbers_at script t.number w.operation) w.operation.item asked (w.asks ∙ ap (λ x. Some x) op) in
+      let counts : attempts_of w.operation.item ≡ m.0.retry + 1 = ap attempts_of m.1 in let carries : carried w.operation.item ≡ length m.0.payload + length m.0.attachment = ap carried m.1 in
       let fits : CallInRange m.0 = subst InRange m.1 (range_at t.number w.operation w.there) in
       let retry = fits.retry in let service = fits.service in let method = fits.method in
       let ranges : asked.range ≡ m.0.retry + 2 = ap (λ (x : Asked). x.range) m.2 in
@@ -127,30 +135,48 @@ module _ (bytes : List ℕ) (script : List Item) (reads : script_of bytes ≡ Ok
       let attachment : length asked.attachment ≡ length m.0.attachment = ap (λ (x : Asked). length x.attachment) m.2 in
       let names_service : length asked.service ≡ length m.0.service = ap (λ (x : Asked). length x.service) m.2 in
       let names_method : length asked.method ≡ length m.0.method = ap (λ (x : Asked). length x.method) m.2 in
-      let most = (tells.again client t asked it op).0 in let last_same : tells.last t.number ≡ tells.last a.operation = ap tells.last number in
+      let most = tried client t asked it op in let last_same : last t.number ≡ last a.operation = ap last number in
       let long : length a.bytes ≡ length (frame_of asked id a.attempt) = ap length is_frame in
       let frame = frame_few asked id a.attempt (omega (arith, service, names_service)) (omega (arith, method, names_method)) in
-      at_label (operations script) t.number a.attempt w.operation a w.there number refl (omega (arith, last, last_same, most, ranges, tried)) (omega (arith, tried, retry)) (omega (arith, long, frame, payload, attachment, carries))
+      at_label (operations script) t.number a.attempt w.operation a w.there number refl (omega (arith, least, last_same, most, ranges, counts)) (omega (arith, counts, retry)) (omega (arith, long, frame, payload, attachment, carries))
 
   apart : (k : ℕ) → k < (plan_of script).links → EachBefore Differ (orders k).accepted
-  apart k low = before_from Differ (orders k).accepted (λ i j a b less at there same. (let e = (let are = tells.are_orders in are.apart) k k i j a b low low at there same in let z = e.1 in omega (arith, z, less)))
+  apart k low = before_from Differ (orders k).accepted (λ i j a b less at there same. (let e = are_orders.apart k k i j a b low low at there same in let z = e.1 in omega (arith, z, less)))
 
-  took_few : (k : ℕ) → k < (plan_of script).links → length (took_in_all script turns core is k) ≤ 240 * attempts script + 7 * all_carried script
-  took_few k low = let t = taken_few (orders k) (took_in_all script turns core is k) ((let are = tells.are_orders in are.taken) k low) in
-      let all = all_few script small (orders k).accepted (apart k low) (λ a h. sent_few k a (all_at (IsSent (plan_of script) (all_tasks script) core.outcomes fixed (given core) orders tells.last k) (orders k).accepted a (tells.sent k low) h)) in
-      up (length (took_in_all script turns core is k)) (length (flat_map bytes_of (orders k).accepted)) (240 * attempts script + 7 * all_carried script) t all
+  -- all that it took, in the end
+  abbrev pub took_of : ℕ → List ℕ
+  took_of k = slice_index_or (took_at_home (plan_of script) core.homes) k []
+
+  took_few : (k : ℕ) → k < (plan_of script).links → length (took_of k) ≤ 240 * attempts script + 7 * all_carried script
+  took_few k low = let t = taken_few (orders k) (took_of k) (are_orders.taken k low) in
+      let all = all_few script small (orders k).accepted (apart k low) (λ a h. sent_few k a (all_at (IsSent (plan_of script) (all_tasks script) outcomes fixed gave orders last k) (orders k).accepted a (sent k low) h)) in
+      up (length (took_of k)) (length (flat_map bytes_of (orders k).accepted)) (240 * attempts script + 7 * all_carried script) t all
     where
       up : (a b c : ℕ) → a ≤ b → b ≤ c → a ≤ c
       up a b c p q = omega (arith, p, q)
 
+  -- where there are requests for all attempts, a front of what the server gives for a front of that is less than is read at most
+  pub front_few : length bytes ≤ 1048576 → attempts script ≤ requests script → (k : ℕ) → k < (plan_of script).links → (shape : Shape) (fed left given_ rest : List ℕ) → took_of k ≡ fed ++ left → given_ ++ rest ≡ given_for shape fed → length given_ < LIMIT
+  front_few short enough k low shape fed left given_ rest begins front =
+      let limits = keeps_limits bytes script reads in let most = limits.requests in
+      let less : length fed ≤ length (took_of k) = (let long = ap length begins in let parts = length-append fed left in omega (arith, long, parts)) in
+      sums (length given_) (length rest) (length (given_for shape fed)) (length fed) (length (took_of k)) (attempts script) (requests script) (all_carried script) (length bytes)
+      (sym (length-append given_ rest) ∙ ap length front) (replies_short shape fed) less (took_few k low) enough most (carried_few bytes script reads) short
+    where
+      sums : (g m r f t a q c b : ℕ) → g + m ≡ r → 12 * r ≤ 41 * f → f ≤ t → t ≤ 240 * a + 7 * c → a ≤ q → q ≤ 4096 → 2 * c ≤ b → b ≤ 1048576 → g < 16777216
+      sums g m r f t a q c b e p l s u v w z = omega (arith, e, p, l, s, u, v, w, z)
+
+-- ## A run that was replayed
+
+module _ (bytes : List ℕ) (script : List Item) (reads : script_of bytes ≡ Ok script) (short : length bytes ≤ 1048576) (turns : List Turn) (core : Core) (is : IsRunWithCalls script turns core) (closes : ClosesInRun script turns core is) (offers : OffersInRun script turns core is)
+    (fixed : Fixed) (orders : ℕ → Order) (tells : ToldCalls (plan_of script) (all_tasks script) core.outcomes fixed (given core) orders core) where
+  in_range : AllByRecursion InRange script
+  in_range = let counted = is_counted bytes script reads in counted.in_range
+
   -- where there are requests for all attempts, each link with the server gives less than is read at most
   pub few : attempts script ≤ requests script → (k : ℕ) (shape : Shape) → slice_get (link_shapes script) k ≡ Some shape → IsTrue shape.serve → length (given core k) < LIMIT
   few enough k shape at serves =
-      let x = gives_front script (made bytes script reads) (are_there bytes script reads) range turns core is closes offers k shape at serves in
-      let limits = keeps_limits bytes script reads in let most = limits.requests in
+      let x = gives_front script (made bytes script reads) (are_there bytes script reads) in_range turns core is closes offers k shape at serves in
       let low : k < length (link_names script) = (let l = slice_get_within (link_shapes script) k shape at in let m = shapes_many script in omega (arith, l, m)) in
-      sums (length (given core k)) (length x.0) (length (given_for shape (took_in_all script turns core is k))) (length (took_in_all script turns core is k)) (attempts script) (requests script) (all_carried script) (length bytes)
-      (sym (length-append (given core k) x.0) ∙ ap length x.1) (replies_short shape (took_in_all script turns core is k)) (took_few k low) enough most (carried_few bytes script reads) short
-    where
-      sums : (g m r t a q c b : ℕ) → g + m ≡ r → 12 * r ≤ 41 * t → t ≤ 240 * a + 7 * c → a ≤ q → q ≤ 4096 → 2 * c ≤ b → b ≤ 1048576 → g < 16777216
-      sums g m r t a q c b e p s u v w z = omega (arith, e, p, s, u, v, w, z)
+      front_few bytes script reads core.outcomes fixed (given core) orders core (let are = tells.are_orders in are) tells.last (λ client t asked it op. (tells.again client t asked it op).0) tells.sent short enough k low shape
+      (took_in_all script turns core is k) [] (given core k) x.0 (sym (append-nil (took_in_all script turns core is k))) x.1

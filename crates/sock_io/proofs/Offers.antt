@@ -58,7 +58,7 @@ found_nothing out peer inn None = tt
 
 -- a link whose way isn't known finds nothing more
 pub met_nothing : (out : OutState) (peer : PeerState) (inn : InState) → inn.way ≡ [] → MeetStep out peer inn inn
-met_nothing out peer inn none = record { same = refl; offer = found_nothing out peer inn inn.offer; all = λ known. absurd (known none) }
+met_nothing out peer inn none = record { same = refl; offer = found_nothing out peer inn inn.offer; all = λ known. absurd (known none); front = λ known. absurd (known none) }
 
 -- ## What was given
 

@@ -1,8 +1,8 @@
 -- The ends of a link that are compared on one thread, by what is told of them.
-use Rattle.std.specs.Prelude.{ℕ, ◌≡◌, ◌≢◌, ◌⊎◌, true, false, List, [], Option, None, Some}
+use Rattle.std.specs.Prelude.{ℕ, ◌≡◌, ◌≢◌, ◌⊎◌, true, false, List, [], ◌++◌, Option, None, Some}
 use Rattle.sock_io.specs.declared.ending.Ending.TheVariants as ending
 use Rattle.sock_io.specs.declared.link.LinkSpec.{LinkSpec}
-use Rattle.sock_io.specs.Link.{OutState, InState, Offer, IsServed}
+use Rattle.sock_io.specs.Link.{OutState, InState, Offer, IsServed, offered_by}
 use Rattle.sock_io.specs.Peer.{PeerState}
 
 -- they are the halves and the other end of one link: each way leads from the one to the other
@@ -36,8 +36,23 @@ OffersFound out peer inn None (Some o) = IsFound out peer inn o
 abbrev pub FindsAll : PeerState → InState → InState → Type 0
 FindsAll peer old new = old.way ≢ [] → peer.starved ≡ false → (old.gave_end ≡ true) ⊎ (old.closed ≡ Some true) → new.offer ≢ None
 
+-- a link that took and gave these bytes gave the front of what its other end gives for the bytes of the link that it was fed
+pub record IsFront (peer : PeerState) (took gave : List ℕ) : Type 0 where
+  pub offer : Offer
+  pub serve : offer.serve ≡ peer.serve
+  pub end : offer.end ≡ peer.end
+  pub left : List ℕ
+  pub begins : took ≡ offer.fed ++ left
+  pub rest : List ℕ
+  pub offered : gave ++ rest ≡ offered_by offer offer.fed
+
+-- so does one over a way that is known, whatever its reading half answered, unless memory was wanting for the other end
+abbrev pub GaveFront : OutState → PeerState → InState → Type 0
+GaveFront out peer inn = inn.way ≢ [] → peer.starved ≡ false → (took gave : List ℕ) → out.took ≡ Some took → inn.gave_bytes ≡ Some gave → IsFront peer took gave
+
 -- of the reading half nothing changes but what its other end offers
 pub record MeetStep (out : OutState) (peer : PeerState) (old new : InState) : Type 0 where
   pub same : new ≡ record old { offer = new.offer }
   pub offer : OffersFound out peer old old.offer new.offer
   pub all : FindsAll peer old new
+  pub front : GaveFront out peer old
