@@ -85,29 +85,19 @@ module _ (p : Plan) (c : Core) (i : ℕ) (seat : SeatState) (ahead : IsAhead c) 
   step_ahead answer (PutBytes k asked bytes next) = put_ahead bytes answer next
   step_ahead answer (AskReady k next) = ready_ahead answer next
   step_ahead answer (Aside step next) = found_ahead step (found_in step c.calls (taken answer)) next
-  step_ahead answer (Round head next) = ahead
-  step_ahead answer (Keep r next) = ahead
-  step_ahead answer (Retries requests after) = ahead
-  step_ahead answer (Say o outcome next) = ahead
-  step_ahead answer (Sent o next) = ahead
-  step_ahead answer Rest = ahead
-  step_ahead answer (Write w after) = ahead
+  step_ahead answer _ = ahead
 
   tick_ahead : (answer : Answer) (program : Program) → IsAhead (tick_with p i seat c answer program)
   tick_ahead answer (Write w after) = step_ahead answer (block w after)
   tick_ahead answer (Round head next) = step_ahead answer (round head next)
   tick_ahead answer (Aside step next) = step_ahead answer (Aside step next)
-  tick_ahead answer (Keep r next) = ahead
-  tick_ahead answer (Retries requests after) = ahead
   tick_ahead answer (Do call next) = step_ahead answer (Do call next)
   tick_ahead answer (TakeMessage q next) = step_ahead answer (TakeMessage q next)
   tick_ahead answer (TakeHome k next) = step_ahead answer (TakeHome k next)
   tick_ahead answer (PutHome k n after) = step_ahead answer (PutHome k n after)
   tick_ahead answer (PutBytes k asked bytes next) = step_ahead answer (PutBytes k asked bytes next)
   tick_ahead answer (AskReady k next) = step_ahead answer (AskReady k next)
-  tick_ahead answer (Say o outcome next) = ahead
-  tick_ahead answer (Sent o next) = ahead
-  tick_ahead answer Rest = ahead
+  tick_ahead answer _ = ahead
 
 -- so is it behind a tick
 pub ticked_ahead : (p : Plan) (c : Core) (m : Moment) → IsAhead c → IsAhead (ticked p c m)
@@ -139,14 +129,9 @@ rests (Sent _ _) begun idle = absurd (true≢false (sym begun))
 rests (Keep _ _) begun idle = absurd (true≢false (sym begun))
 rests (Retries _ _) begun idle = absurd (true≢false (sym begun))
 rests Rest begun idle = refl
-rests (TakeMessage q next) begun idle = absurd (none-some _ (sym idle))
-rests (TakeHome k next) begun idle = absurd (none-some _ (sym idle))
-rests (PutHome k n after) begun idle = absurd (none-some _ (sym idle))
-rests (PutBytes k asked bytes next) begun idle = absurd (none-some _ (sym idle))
-rests (AskReady k next) begun idle = absurd (none-some _ (sym idle))
-rests (Write w after) begun idle = absurd (none-some _ (sym idle))
 rests (Aside step next) begun idle = absurd (none-some (kind_aside step) (sym idle))
 rests (Round head next) begun idle = absurd (none-some (kind_of_round head) (sym idle))
+rests _ begun idle = absurd (none-some _ (sym idle))
 
 pub place_inside : {A : Type 0} (l : List A) (i : ℕ) (a : A) → get_elem? l i ≡ some a → i < length l
 place_inside [] i a e = absurd (some-ne-none a (sym e))

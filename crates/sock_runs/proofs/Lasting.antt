@@ -262,9 +262,6 @@ module _ (p : Plan) (c : Core) (vs : List View) (n : ℕ) (lasts : Lasts p c vs 
     abbrev hand : Hand
     hand = hand_at p c.words c.homes (SwapHead j own)
 
-    abbrev counts : ℕ → ℕ
-    counts = accepted vs
-
     -- the seat's lists have one entry more, of its claim's link
     counts_after : (e : Entry) (w : View) → e.link ≡ may.1.claim.link → w.lists ≡ more v.lists e → (q : ℕ) → accepted (set vs i w) q ≡ accepted vs q + only may.1.claim.link q
     counts_after e w is lists q = let x = may.1 in let f : View → ℕ = λ u. total (λ (l : List Entry). length (on q l)) u.lists in
@@ -394,14 +391,10 @@ module _ (p : Plan) (c : Core) (vs : List View) (n : ℕ) (lasts : Lasts p c vs 
       first_moves (PutBytes j asked bytes next) step goes l a = inr (subst (λ (x : Answer). Fewer p n (step_with p i seat c x (PutBytes j asked bytes next)) (views_with p i c vs v x (PutBytes j asked bytes next))) (sym a.1) (put_moves j asked bytes next a.0 a.2 goes l))
       first_moves (AskReady j next) step goes l a = inr (subst (λ (x : Answer). Fewer p n (step_with p i seat c x (AskReady j next)) (views_with p i c vs v x (AskReady j next))) (sym a.1)
           (ready_moves j next a.0 (λ e. always_ready (a.1 ∙ ap OfReady e)) goes l))
-      first_moves (Say o outcome next) step goes l a = inl refl
-      first_moves (Sent o next) step goes l a = inl refl
-      first_moves Rest step goes l a = inl refl
-      first_moves (Keep r next) step goes l a = inl refl
-      first_moves (Retries requests after) step goes l a = inl refl
       first_moves (Write w after) step goes l a = absurd step
       first_moves (Aside x next) step goes l a = absurd step
       first_moves (Round head next) step goes l a = absurd step
+      first_moves _ step goes l a = inl refl
 
       -- the seat is at rest or waits, or fewer are left behind its tick
       abbrev pub Moves : Program → Type 0

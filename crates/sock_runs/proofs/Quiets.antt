@@ -16,7 +16,7 @@ use Rattle.sock_model.specs.declared.home.Home.{Home}
 use Rattle.sock_model.specs.Messages.{Letter}
 use Rattle.sock_model.specs.Reads.{message, link_home}
 use Rattle.seat_programs.specs.Calls.{kind_of}
-use Rattle.seat_programs.specs.Programs.{Program, Do, Say, Sent, Rest, TakeMessage, TakeHome, PutHome, PutBytes, AskReady, Write, Aside, Round, Keep, Retries}
+use Rattle.seat_programs.specs.Programs.{Program, Do, TakeMessage, TakeHome, PutHome, PutBytes, AskReady, Write, Aside, Round}
 use Rattle.seat_programs.specs.Asides.{Step, Found, kind_aside}
 use Rattle.seat_programs.specs.Beside.{found_in}
 use Rattle.seat_programs.specs.Rounds.{round, kind_of_round}
@@ -62,13 +62,7 @@ module _ (p : Plan) (c : Core) (i : ℕ) (seat : SeatState) (P : List SeatState 
   step_keeps change answer (PutBytes k asked bytes next) = put_keeps change bytes answer next
   step_keeps change answer (AskReady k next) = ready_keeps change answer next
   step_keeps change answer (Aside step next) = found_keeps change step (found_in step c.calls (taken answer)) next
-  step_keeps change answer (Round head next) = same
-  step_keeps change answer (Keep r next) = same
-  step_keeps change answer (Retries requests after) = same
-  step_keeps change answer (Say o outcome next) = same
-  step_keeps change answer (Sent o next) = same
-  step_keeps change answer Rest = same
-  step_keeps change answer (Write w after) = same
+  step_keeps change answer _ = same
 
   -- where it has a step left
   tick_keeps : (answer : Answer) (program : Program) → (kind_in program ≢ None → Changes) → P (tick_with p i seat c answer program).seats
@@ -81,11 +75,7 @@ module _ (p : Plan) (c : Core) (i : ℕ) (seat : SeatState) (P : List SeatState 
   tick_keeps answer (PutHome k n after) change = step_keeps (change (λ e. none-some _ (sym e))) answer (PutHome k n after)
   tick_keeps answer (PutBytes k asked bytes next) change = step_keeps (change (λ e. none-some _ (sym e))) answer (PutBytes k asked bytes next)
   tick_keeps answer (AskReady k next) change = step_keeps (change (λ e. none-some _ (sym e))) answer (AskReady k next)
-  tick_keeps answer (Keep r next) change = same
-  tick_keeps answer (Retries requests after) change = same
-  tick_keeps answer (Say o outcome next) change = same
-  tick_keeps answer (Sent o next) change = same
-  tick_keeps answer Rest change = same
+  tick_keeps answer _ change = same
 
 -- of a tick of any seat
 ticked_keeps : (p : Plan) (c : Core) (m : Moment) (P : List SeatState → Type 0) → P c.seats → ((seat new : SeatState) → get_elem? c.seats m.seat ≡ some seat → kind_in seat.program ≢ None → P (set c.seats m.seat new)) → P (ticked p c m).seats

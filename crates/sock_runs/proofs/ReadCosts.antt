@@ -111,7 +111,4 @@ module _ (p : Plan) (v : View) where
       by_limit true m room leave = let some_ = fits.0 in let few = fits.1 in (LIMIT - (total + length bytes) + 1 + m, omega (arith, room, some_, few), (m, omega arith, leave))
       by_limit false m room leave = (m + 0, omega (arith, room), leave (total + length bytes) tt)
   discards_fall j total k n l Nothing fits moves = absurd (moves refl)
-  discards_fall j total k n l NoMore fits moves = let room = l.1 in (l.0 + 0, omega (arith, room), l.2 total tt)
-  discards_fall j total k n l AtEnd fits moves = let room = l.1 in (l.0 + 0, omega (arith, room), l.2 total tt)
-  discards_fall j total k n l Closed fits moves = let room = l.1 in (l.0 + 0, omega (arith, room), l.2 total tt)
-  discards_fall j total k n l Broken fits moves = let room = l.1 in (l.0 + 0, omega (arith, room), l.2 total tt)
+  discards_fall j total k n l _ fits moves = let room = l.1 in (l.0 + 0, omega (arith, room), l.2 total tt)

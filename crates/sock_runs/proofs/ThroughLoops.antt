@@ -63,10 +63,7 @@ module _ (G : Program → Type 0) (g : Passes G) where
 
   pub through_posted : (id e : ℕ) (next : Program) → G next → (exit : Posting) → G (posted id e next exit)
   through_posted id e next after (HasLocked word) = through_decide id word e (decided id next) (through_decided id next after)
-  through_posted id e next after WasGone = after
-  through_posted id e next after WasStale = after
-  through_posted id e next after (WasCrowded a b) = after
-  through_posted id e next after WasQueued = after
+  through_posted id e next after _ = after
 
   pub through_post : (id c attempt : ℕ) (next : Program) → G next → G (post id c attempt next)
   through_post id c attempt next after = through_post_with id (error_of c attempt) (posted id (error_of c attempt) next) (through_posted id (error_of c attempt) next after)
@@ -120,10 +117,7 @@ module _ (G : Program → Type 0) (g : Passes G) where
   through_discarded : (l total : ℕ) (k : ℕ → Program) → ((x : ℕ) → G (k x)) → (t : Taking) → G (discarded l total k t)
   through_discarded l total k after (Bytes bytes) = either_way (nat_lt (total + length bytes) LIMIT) _ _ G (g.round (Discards l (total + length bytes)) refl k after) (after (total + length bytes))
   through_discarded l total k after Nothing = g.round (Discards l total) refl k after
-  through_discarded l total k after NoMore = after total
-  through_discarded l total k after AtEnd = after total
-  through_discarded l total k after Closed = after total
-  through_discarded l total k after Broken = after total
+  through_discarded l total k after _ = after total
 
   -- one round of each loop but that which waits for an `open`
   pub through_round : (head : Head) → awaits head ≡ none → (k : Exit head → Program) → ((x : Exit head) → G (k x)) → G (round head k)
