@@ -61,10 +61,7 @@ module _ (slots requests : ℕ) (calls : ℕ → Type 0) (w : Way) (broken : Lis
 
   pub posted_goes : (id e : ℕ) (next : Program) → Goes next → Exits (posted id e next)
   posted_goes id e next g (HasLocked word) = decide_goes id word e (decided id next) (decided_goes id next g)
-  posted_goes id e next g WasGone = g
-  posted_goes id e next g WasStale = g
-  posted_goes id e next g (WasCrowded a b) = g
-  posted_goes id e next g WasQueued = g
+  posted_goes id e next g _ = g
 
   pub post_with_goes : (id e : ℕ) (k : Posting → Program) → Exits k → Goes (post_with id e k)
   post_with_goes id e k goes = (tt, λ found _. judged_goes id e found k goes)
@@ -125,10 +122,7 @@ module _ (slots requests : ℕ) (calls : ℕ → Type 0) (w : Way) (broken : Lis
   discarded_goes : (l total : ℕ) (k : ℕ → Program) → Exits k → (t : Taking) → Goes (discarded l total k t)
   discarded_goes l total k goes (Bytes bytes) = split (nat_lt (total + length bytes) LIMIT) (Round (Discards l (total + length bytes)) k) (k (total + length bytes)) Goes ((tt, tt), λ exit _. goes exit) (goes (total + length bytes))
   discarded_goes l total k goes Nothing = ((tt, tt), λ exit _. goes exit)
-  discarded_goes l total k goes NoMore = goes total
-  discarded_goes l total k goes AtEnd = goes total
-  discarded_goes l total k goes Closed = goes total
-  discarded_goes l total k goes taking.Broken = goes total
+  discarded_goes l total k goes _ = goes total
 
   opens_goes : (o : ℕ) (k : ℕ → Program) → IsClosing w → Exits k → Goes (round (Opens o) k)
   opens_goes o k is goes = opens_by slots requests calls w broken done trace todo o k is goes
