@@ -98,12 +98,7 @@ call_prop p l i _ = hlevel props
 
 may_prop : (p : Plan) (l : LinksData) (i : ℕ) (first : First) → IsProp (MayMake p l i first)
 may_prop p l i (OfCall call) = call_prop p l i call
-may_prop p l i (OfAside step) = hlevel props
-may_prop p l i (OfMessage q) = hlevel props
-may_prop p l i (OfLink k) = hlevel props
-may_prop p l i (OfHome k n) = hlevel props
-may_prop p l i (kinds.OfPut k asked bytes) = hlevel props
-may_prop p l i (kinds.OfReady k) = hlevel props
+may_prop p l i _ = hlevel props
 
 unfinished_prop : (l : LinksData) (first : First) → IsProp (AsksUnfinished l first)
 unfinished_prop l (kinds.OfPut k asked bytes) = hlevel props
