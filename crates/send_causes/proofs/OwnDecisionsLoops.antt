@@ -129,10 +129,7 @@ decided_goes id next goes GoesOn = goes
 
 pub posted_goes : (id e : ℕ) (next : Program) → Aims Calm next → (exit : Posting) → LeavesStand (Posts id e 0) exit → Aims (posted_stand id e exit) (posted id e next exit)
 posted_goes id e next goes (HasLocked w) l = decide_goes (Posted id e) (Posted id e) id w e (decided id next) (inl refl) l (inr refl) (decided_goes id next goes)
-posted_goes id e next goes WasGone l = goes
-posted_goes id e next goes WasStale l = goes
-posted_goes id e next goes (WasCrowded a b) l = goes
-posted_goes id e next goes WasQueued l = goes
+posted_goes id e next goes _ l = goes
 
 pub post_goes : (s : Stand) (id c n : ℕ) (next : Program) → Eases s (Past id n) → Aims Calm next → Aims s (post id c n next)
 post_goes s id c n next eases goes = post_with_goes s (Past id n) id (error_of c n) (posted id (error_of c n) next) eases (inr (c, n, refl, refl)) (posted_goes id (error_of c n) next goes)
@@ -251,10 +248,7 @@ took_goes r k goes Broken = goes (how_ended 1014 false false r)
 discarded_goes : (l total : ℕ) (k : ℕ → Program) → ((exit : ℕ) → Aims Calm (k exit)) → (t : Taking) → Aims Calm (discarded l total k t)
 discarded_goes l total k goes (Bytes bytes) = way Calm (nat_lt (total + length bytes) LIMIT) (Round (Discards l (total + length bytes)) k) (k (total + length bytes)) (λ _. (tt, λ exit _. goes exit)) (λ _. goes (total + length bytes))
 discarded_goes l total k goes Nothing = (tt, λ exit _. goes exit)
-discarded_goes l total k goes NoMore = goes total
-discarded_goes l total k goes AtEnd = goes total
-discarded_goes l total k goes Closed = goes total
-discarded_goes l total k goes Broken = goes total
+discarded_goes l total k goes _ = goes total
 
 -- one round of each loop
 pub aims_round : (s : Stand) (head : Head) (k : Exit head → Program) → Aims s (Round head k) → Aims s (round head k)

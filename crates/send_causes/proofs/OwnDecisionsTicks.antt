@@ -181,18 +181,7 @@ resolves s ws (Round head next) few g = stays s ws (Round head next) g refl
 pub aims_first : (s : Stand) (program : Program) → Aims s program → Aims s (first_step program)
 aims_first s (Write w after) g = block_goes s w after g
 aims_first s (Round head next) g = aims_round s head next g
-aims_first s (Do call next) g = g
-aims_first s (Say o outcome next) g = g
-aims_first s (Sent o next) g = g
-aims_first s Rest g = g
-aims_first s (TakeMessage q next) g = g
-aims_first s (TakeHome k next) g = g
-aims_first s (PutHome k n after) g = g
-aims_first s (PutBytes k asked bytes next) g = g
-aims_first s (AskReady k next) g = g
-aims_first s (Aside step next) g = g
-aims_first s (Keep r next) g = g
-aims_first s (Retries requests after) g = g
+aims_first s _ g = g
 
 eased_count : (id n : ℕ) (s u : Stand) → Eases s u → of_stand id n u ≤ of_stand id n s
 eased_count id n s u (inl e) = let z : of_stand id n u ≡ of_stand id n s = ap (of_stand id n) e in omega (arith, z)
@@ -420,21 +409,17 @@ module _ (p : Plan) (q : IdPlan) (narrow : q.slots ≤ 65536) (Taken : Post → 
       -- the at words stay in any other step
       word_kept : (step : Step) (found : Found step) → MayId p q u step → StoresNone step → (o : ℕ) → get_or (calls_after step found c.calls).words (at_index q o) 0 ≡ get_or c.calls.words (at_index q o) 0
       word_kept (ClaimId k) found may none_ o = low_kept (tag_index k) 1 o (omega (arith, may))
-      word_kept (PutCall k b) found may none_ o = refl
       word_kept (MakeId k range) found may none_ o = let inside = may.0 in low_kept (id_index k) (packed (made_word (parts found).first range)) o (omega (arith, inside))
       word_kept (StoreCall x id) found may none_ o = subst (λ (r : IdPlan). get_or (set c.calls.words (call_index r x) id) (at_index q o) 0 ≡ get_or c.calls.words (at_index q o) 0) (sym ids.plan) (get_or-set_other c.calls.words (call_index q x) (at_index q o) id 0 (λ e. omega (arith, e)))
-      word_kept (LoadCall x) found may none_ o = refl
       word_kept (StoreAt x w) found may none_ o = absurd none_
-      word_kept (LoadAt x) found may none_ o = refl
-      word_kept (LoadIdWord k) found may none_ o = refl
       word_kept (LockId k from) found may none_ o = let inside = may.0 in low_kept (id_index k) (cond (eqb found from) (packed (posted_word (parts from) 0)) found) o (omega (arith, inside))
       word_kept (PostId k from e) found may none_ o = let inside = may.0 in low_kept (id_index k) (cond (eqb found from) (packed (posted_word (parts from) e)) found) o (omega (arith, inside))
       word_kept (UnlockId k from advance) found may none_ o = let inside = may.0 in low_kept (id_index k) (cond (eqb found from) (packed (unlocked_word (parts from) (advance_of advance))) found) o (omega (arith, inside))
       word_kept (EndId k) found may none_ o = let inside = may.0 in low_kept (id_index k) (packed (free_word ((parts found).first + (parts found).range))) o (omega (arith, inside))
       word_kept (FreeId k) found may none_ o = let inside = may.0 in low_kept (tag_index k) 0 o (omega (arith, inside))
-      word_kept (TakeCall k) found may none_ o = refl
       word_kept (TakeBytes l room) (Bytes bytes) may none_ o = refl
       word_kept (TakeBytes l room) _ may none_ o = refl
+      word_kept _ found may none_ o = refl
 
       module _ (step : Step) (next : Found step → Program) (found : Found step) (t : Option Taking) (is : found_in step c.calls t ≡ some found) (may : MayId p q u step) where
         finds : FindsId p q u step found
@@ -650,13 +635,7 @@ module _ (p : Plan) (q : IdPlan) (narrow : q.slots ≤ 65536) (Taken : Post → 
       steps known answer (PutBytes k asked bytes next) g go fits = by_put bytes next g answer
       steps known answer (AskReady k next) g go fits = by_ready next g answer
       steps known answer (Aside step next) g go fits = by_found known step next (taken answer) go.0 g (found_in step c.calls (taken answer)) refl
-      steps known answer (Say o outcome next) g go fits = before
-      steps known answer (Sent o next) g go fits = before
-      steps known answer Rest g go fits = before
-      steps known answer (Write w after) g go fits = before
-      steps known answer (Round head next) g go fits = before
-      steps known answer (Keep r next) g go fits = before
-      steps known answer (Retries requests after) g go fits = before
+      steps known answer _ g go fits = before
 
   -- ## A tick of any seat
 

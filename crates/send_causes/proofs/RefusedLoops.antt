@@ -122,10 +122,7 @@ module _ (requests : ℕ) (is_call : Asked → Type 0) (reads : Bool) where
 
   pub posted_goes : (id e : ℕ) (next : Program) → Goes idle next → (exit : Posting) → LeavesLabel (Posts id e 0) exit → Goes idle (posted id e next exit)
   posted_goes id e next goes (HasLocked w) l = decide_goes idle id w e (decided id next) l (decided_goes id next goes)
-  posted_goes id e next goes WasGone l = goes
-  posted_goes id e next goes WasStale l = goes
-  posted_goes id e next goes (WasCrowded a b) l = goes
-  posted_goes id e next goes WasQueued l = goes
+  posted_goes id e next goes _ l = goes
 
   -- ## Giving a lock back
 
@@ -233,10 +230,7 @@ module _ (requests : ℕ) (is_call : Asked → Type 0) (reads : Bool) where
   discarded_goes : (l total : ℕ) (k : ℕ → Program) → ((exit : ℕ) → Goes idle (k exit)) → (t : Taking) → Goes idle (discarded l total k t)
   discarded_goes l total k goes (Bytes bytes) = way idle (nat_lt (total + length bytes) LIMIT) (Round (Discards l (total + length bytes)) k) (k (total + length bytes)) (λ _. ((tt, tt), λ exit _ _. goes exit)) (λ _. goes (total + length bytes))
   discarded_goes l total k goes Nothing = ((tt, tt), λ exit _ _. goes exit)
-  discarded_goes l total k goes NoMore = goes total
-  discarded_goes l total k goes AtEnd = goes total
-  discarded_goes l total k goes Closed = goes total
-  discarded_goes l total k goes Broken = goes total
+  discarded_goes l total k goes _ = goes total
 
   joins_goes : (s : Doing) (id : ℕ) (k : ℕ → Program) → ((exit : ℕ) → Goes idle (k exit)) → Goes s (round (Joins id) k)
   joins_goes s id k goes = (tt, λ found _. let_go s.deeds s (cond (is_first (id_first id) (parts found)) (Round (Joins id) k) (k found)) (way idle (is_first (id_first id) (parts found)) (Round (Joins id) k) (k found) (λ _. ((tt, tt), λ exit _ _. goes exit)) (λ _. goes found)))

@@ -23,7 +23,7 @@ use Rattle.seat_programs.specs.Asides.{Step, Found}
 use Rattle.seat_programs.specs.Beside.{found_in}
 use Rattle.seat_programs.specs.Clients.{ending_of}
 use Rattle.seat_programs.specs.Heads.{Posts, Unlocks, Decides, Locks, Joins, Opens, Reads, Discards}
-use Rattle.seat_programs.specs.Programs.{Program, Do, Say, Sent, Rest, TakeMessage, TakeHome, PutHome, PutBytes, AskReady, Write, Aside, Round, Keep, Retries}
+use Rattle.seat_programs.specs.Programs.{Program, Do, Rest, TakeMessage, TakeHome, PutHome, PutBytes, AskReady, Write, Aside, Round}
 use Rattle.seat_programs.specs.Rounds.{round}
 use Rattle.seat_programs.specs.Runs.{IsAtRest}
 use Rattle.seat_programs.specs.Sends.{block}
@@ -160,11 +160,7 @@ module _ (p : Plan) (c : Core) (m : Moment) (j : ℕ) (other : j ≢ m.seat) (se
   by_tick answer (PutBytes k asked bytes next) = by_step answer (PutBytes k asked bytes next)
   by_tick answer (AskReady k next) = by_step answer (AskReady k next)
   by_tick answer (Aside step next) = by_step answer (Aside step next)
-  by_tick answer (Say o outcome next) = refl
-  by_tick answer (Sent o next) = refl
-  by_tick answer Rest = refl
-  by_tick answer (Keep r next) = refl
-  by_tick answer (Retries n after) = refl
+  by_tick answer _ = refl
 
 tick_other : (p : Plan) (c : Core) (m : Moment) (j : ℕ) → j ≢ m.seat → get_elem? (ticked p c m).seats j ≡ get_elem? c.seats j
 tick_other p c m j other = by (get_elem? c.seats m.seat)

@@ -122,34 +122,12 @@ resolves is_call ids t ws (Round head next) few g = stays is_call ids t ws (Roun
 pub labels_first : (is_call : Asked → Type 0) (t : Trial) (program : Program) → Labels is_call t program → Labels is_call t (first_step program)
 labels_first is_call t (Write w after) g = block_goes is_call t w after g
 labels_first is_call t (Round head next) g = labels_round is_call t head next g
-labels_first is_call t (Do call next) g = g
-labels_first is_call t (Say o outcome next) g = g
-labels_first is_call t (Sent o next) g = g
-labels_first is_call t Rest g = g
-labels_first is_call t (TakeMessage q next) g = g
-labels_first is_call t (TakeHome k next) g = g
-labels_first is_call t (PutHome k n after) g = g
-labels_first is_call t (PutBytes k asked bytes next) g = g
-labels_first is_call t (AskReady k next) g = g
-labels_first is_call t (Aside step next) g = g
-labels_first is_call t (Keep r next) g = g
-labels_first is_call t (Retries requests after) g = g
+labels_first is_call t _ g = g
 
 pub ids_first : (p : Plan) (q : IdPlan) → q.slots ≤ 65536 → (u : IdView) (program : Program) → IdGoesOn p q u program → IdGoesOn p q u (first_step program)
 ids_first p q narrow u (Write w after) g = id_programs.block_goes p q narrow u w after g
 ids_first p q narrow u (Round head next) g = ids_round p q u head next g
-ids_first p q narrow u (Do call next) g = g
-ids_first p q narrow u (Say o outcome next) g = g
-ids_first p q narrow u (Sent o next) g = g
-ids_first p q narrow u Rest g = g
-ids_first p q narrow u (TakeMessage r next) g = g
-ids_first p q narrow u (TakeHome k next) g = g
-ids_first p q narrow u (PutHome k n after) g = g
-ids_first p q narrow u (PutBytes k asked bytes next) g = g
-ids_first p q narrow u (AskReady k next) g = g
-ids_first p q narrow u (Aside step next) g = g
-ids_first p q narrow u (Keep r next) g = g
-ids_first p q narrow u (Retries requests after) g = g
+ids_first p q narrow u _ g = g
 
 -- what is found of a step on the sockets
 pub fits_as : (p : Plan) (c : Core) (program : Program) (call : Call) (next : ℕ → Program) → first_step program ≡ Do call next → FitsFirst p c (goes.first_of program) → FitsSock call (found_at c.words (word_of p call))
@@ -214,20 +192,7 @@ calls_behind is_call _ found a puts h = h
 pub calls_waiting : (step : Step) (found : Found step) (a : Calls) → (calls_after step found a).waiting ≡ a.waiting
 calls_waiting (TakeBytes k room) (Bytes bytes) a = refl
 calls_waiting (TakeBytes k room) _ a = refl
-calls_waiting (ClaimId i) found a = refl
-calls_waiting (PutCall i asked) found a = refl
-calls_waiting (MakeId i range) found a = refl
-calls_waiting (StoreCall o id) found a = refl
-calls_waiting (LoadCall o) found a = refl
-calls_waiting (StoreAt o w) found a = refl
-calls_waiting (LoadAt o) found a = refl
-calls_waiting (LoadIdWord i) found a = refl
-calls_waiting (LockId i from) found a = refl
-calls_waiting (PostId i from e) found a = refl
-calls_waiting (UnlockId i from advance) found a = refl
-calls_waiting (EndId i) found a = refl
-calls_waiting (FreeId i) found a = refl
-calls_waiting (TakeCall i) found a = refl
+calls_waiting _ found a = refl
 
 pub kept_count : (id n : ℕ) (t u : Trial) → Kept t u → of_trial id n u ≤ of_trial id n t
 kept_count id n t u (inl e) = let z : of_trial id n u ≡ of_trial id n t = ap (of_trial id n) e in omega (arith, z)
