@@ -151,10 +151,7 @@ module _ {K : Type 0} {lost : K} {unlocked_behind : ℕ → ℕ → Bool → K �
 
   pub posted_goes : (id e : ℕ) (next : Program) → G lost next → (exit : Posting) → LeavesLabel (Posts id e 0) exit → G lost (posted id e next exit)
   posted_goes id e next goes (HasLocked w) l = decide_goes lost id w e (decided id next) l (decided_goes id next goes)
-  posted_goes id e next goes WasGone l = goes
-  posted_goes id e next goes WasStale l = goes
-  posted_goes id e next goes (WasCrowded a b) l = goes
-  posted_goes id e next goes WasQueued l = goes
+  posted_goes id e next goes _ l = goes
 
   pub post_goes : (t : K) (id c n : ℕ) (next : Program) → G lost next → G t (post id c n next)
   post_goes t id c n next goes = post_with_goes t id _ (posted id _ next) (posted_goes id _ next goes)
@@ -262,10 +259,7 @@ module _ {K : Type 0} {lost : K} {unlocked_behind : ℕ → ℕ → Bool → K �
   discarded_goes : (l total : ℕ) (k : ℕ → Program) → ((exit : ℕ) → G lost (k exit)) → (t : Taking) → G lost (discarded l total k t)
   discarded_goes l total k goes (Bytes bytes) = way lost (nat_lt (total + length bytes) LIMIT) (Round (Discards l (total + length bytes)) k) (k (total + length bytes)) (λ _. g.round lost (Discards l (total + length bytes)) k tt (λ exit _. goes exit)) (λ _. goes (total + length bytes))
   discarded_goes l total k goes Nothing = g.round lost (Discards l total) k tt (λ exit _. goes exit)
-  discarded_goes l total k goes NoMore = goes total
-  discarded_goes l total k goes AtEnd = goes total
-  discarded_goes l total k goes Closed = goes total
-  discarded_goes l total k goes Broken = goes total
+  discarded_goes l total k goes _ = goes total
 
   -- one round of each loop
   pub round_goes : (t : K) (head : Head) (k : Exit head → Program) → AtLabel is_call head → ((exit : Exit head) → LeavesLabel head exit → G (behind lost unlocked_behind locked_behind head exit t) (k exit)) → G t (round head k)
