@@ -72,14 +72,7 @@ module _ (p : Plan) (i : ℕ) (seat : SeatState) (c : Core) (o : ℕ) (t : IsSai
   tick_said : (answer : Answer) (program : Program) → IsSaidOf (tick_with p i seat c answer program).outcomes o
   tick_said answer (Write w after) = step_said answer (block w after)
   tick_said answer (Round head next) = step_said answer (round head next)
-  tick_said answer (Do call next) = step_said answer (Do call next)
-  tick_said answer (TakeMessage q next) = step_said answer (TakeMessage q next)
-  tick_said answer (TakeHome k next) = step_said answer (TakeHome k next)
-  tick_said answer (PutHome k n after) = step_said answer (PutHome k n after)
-  tick_said answer (PutBytes k asked bytes next) = step_said answer (PutBytes k asked bytes next)
-  tick_said answer (AskReady k next) = step_said answer (AskReady k next)
-  tick_said answer (Aside step next) = step_said answer (Aside step next)
-  tick_said answer _ = t
+  tick_said answer program = step_said answer program
 
 pub ticked_said : (p : Plan) (c : Core) (m : Moment) (o : ℕ) → IsSaidOf c.outcomes o → IsSaidOf (ticked p c m).outcomes o
 ticked_said p c m o t = by_seat (get_elem? c.seats m.seat)

@@ -28,7 +28,7 @@ use Rattle.seat_programs.specs.Asides.{Step, Found, ClaimId, PutCall, MakeId, St
 use Rattle.seat_programs.specs.Beside.{found_in, calls_after, call_at}
 use Rattle.seat_programs.specs.Cores.{Core, SeatState}
 use Rattle.seat_programs.specs.Posts.{packed, advance_of}
-use Rattle.seat_programs.specs.Programs.{Program, Do, Say, Sent, Rest, TakeMessage, TakeHome, PutHome, PutBytes, AskReady, Write, Aside, Round, Keep, Retries}
+use Rattle.seat_programs.specs.Programs.{Program, TakeMessage, TakeHome, PutBytes, AskReady, Write, Aside, Round}
 use Rattle.seat_programs.specs.Rounds.{round}
 use Rattle.seat_programs.specs.Sends.{block}
 use Rattle.seat_programs.specs.Ticks.{Answer, OfPut, OfReady, Moment, taken, with_message, with_link, with_put, with_ready, with_found, step_with, tick_with, ticked}
@@ -191,18 +191,7 @@ module _ (p : Plan) (q : IdPlan) (narrow : q.slots ≤ 65536) (c : Core) (j : �
   tick_effect : (answer : Answer) (program : Program) → IdGoesOn p q u program → Effect p q c u (tick_with p j seat c answer program) (advanced_with c.calls (taken answer) (goes.first_of program))
   tick_effect answer (Write w after) go = first_effect answer (block w after) (block_goes p q narrow u w after go)
   tick_effect answer (Round head next) go = first_effect answer (round head next) (ids_round p q u head next go)
-  tick_effect answer (Aside step next) go = first_effect answer (Aside step next) go
-  tick_effect answer (TakeMessage r next) go = first_effect answer (TakeMessage r next) go
-  tick_effect answer (TakeHome k next) go = first_effect answer (TakeHome k next) go
-  tick_effect answer (PutBytes k asked bytes next) go = first_effect answer (PutBytes k asked bytes next) go
-  tick_effect answer (AskReady k next) go = first_effect answer (AskReady k next) go
-  tick_effect answer (Do call next) go = first_effect answer (Do call next) go
-  tick_effect answer (PutHome k n after) go = first_effect answer (PutHome k n after) go
-  tick_effect answer (Say o outcome next) go = first_effect answer (Say o outcome next) go
-  tick_effect answer (Sent o next) go = first_effect answer (Sent o next) go
-  tick_effect answer Rest go = first_effect answer Rest go
-  tick_effect answer (Keep r next) go = first_effect answer (Keep r next) go
-  tick_effect answer (Retries n after) go = first_effect answer (Retries n after) go
+  tick_effect answer other go = first_effect answer other go
 
 -- the call at home there is advanced in the tick
 abbrev pub AdvancesAt : Core → Moment → ℕ → Type 0

@@ -31,7 +31,7 @@ use Rattle.seat_programs.specs.Beside.{found_in, calls_after}
 use Rattle.seat_programs.specs.Calls.{Call, PutMessage}
 use Rattle.seat_programs.specs.Heads.{Retry, Decides}
 use Rattle.seat_programs.specs.Posts.{WHOLE, packed, advance_of, is_stale}
-use Rattle.seat_programs.specs.Programs.{Program, Do, Say, Sent, Rest, TakeMessage, TakeHome, PutHome, PutBytes, AskReady, Write, Aside, Round, Keep, Retries}
+use Rattle.seat_programs.specs.Programs.{Program, Do, Say, Sent, TakeMessage, TakeHome, PutHome, PutBytes, AskReady, Write, Aside, Round, Keep, Retries}
 use Rattle.seat_programs.specs.Cores.{Calls, Core, SeatState, word_of, found_at, words_after, word_after, homes_after, hand_after, lies_at, first_of, others_of, link_place, resolved, still_waiting, waiting_at, next_step, with_seat}
 use Rattle.seat_programs.specs.Ticks.{Answer, Unasked, OfPut, OfReady, OfTake, Moment, fed, with_places, onto_first, taken, with_message, with_link, with_put, with_ready, with_found, step_with, tick_with, ticked}
 use Rattle.sock_runs.specs.Sound.{first_step}
@@ -167,16 +167,7 @@ resolves s ws (Keep k next) few g = let r = resolves Calm (ws ++ k ∷ []) next 
 }
 resolves s [] (Retries requests after) few g = let r = resolves Calm [] after tt g in record { stand = r.stand; aims = r.aims; fewer = λ id n. (let a = r.fewer id n in omega (arith, a)); is = ⊎_elim (λ e. inr (inl e)) (λ e. inr e) r.is }
 resolves s (k ∷ ws) (Retries requests after) few g = record { stand = Trying k.id k.attempt; aims = retry_goes requests k.id k.attempt (Retries requests after) few.0 g; fewer = λ id n. omega arith; is = inr (inr (k.id, k.attempt, refl, few.0)) }
-resolves s ws (Do call next) few g = stays s ws (Do call next) g refl
-resolves s ws Rest few g = stays s ws Rest g refl
-resolves s ws (TakeMessage q next) few g = stays s ws (TakeMessage q next) g refl
-resolves s ws (TakeHome k next) few g = stays s ws (TakeHome k next) g refl
-resolves s ws (PutHome k n after) few g = stays s ws (PutHome k n after) g refl
-resolves s ws (PutBytes k asked bytes next) few g = stays s ws (PutBytes k asked bytes next) g refl
-resolves s ws (AskReady k next) few g = stays s ws (AskReady k next) g refl
-resolves s ws (Write w after) few g = stays s ws (Write w after) g refl
-resolves s ws (Aside step next) few g = stays s ws (Aside step next) g refl
-resolves s ws (Round head next) few g = stays s ws (Round head next) g refl
+resolves s ws program few g = stays s ws program g refl
 
 pub aims_first : (s : Stand) (program : Program) → Aims s program → Aims s (first_step program)
 aims_first s (Write w after) g = block_goes s w after g

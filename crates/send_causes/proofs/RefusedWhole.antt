@@ -153,14 +153,7 @@ module _ (p : Plan) (c : Core) (m : Moment) (j : ℕ) (other : j ≢ m.seat) (se
   by_tick : (answer : Answer) (program : Program) → Same (tick_with p m.seat seat c answer program)
   by_tick answer (Write w after) = by_step answer (block w after)
   by_tick answer (Round head next) = by_step answer (round head next)
-  by_tick answer (Do call next) = by_step answer (Do call next)
-  by_tick answer (TakeMessage r next) = by_step answer (TakeMessage r next)
-  by_tick answer (TakeHome k next) = by_step answer (TakeHome k next)
-  by_tick answer (PutHome k n after) = by_step answer (PutHome k n after)
-  by_tick answer (PutBytes k asked bytes next) = by_step answer (PutBytes k asked bytes next)
-  by_tick answer (AskReady k next) = by_step answer (AskReady k next)
-  by_tick answer (Aside step next) = by_step answer (Aside step next)
-  by_tick answer _ = refl
+  by_tick answer program = by_step answer program
 
 tick_other : (p : Plan) (c : Core) (m : Moment) (j : ℕ) → j ≢ m.seat → get_elem? (ticked p c m).seats j ≡ get_elem? c.seats j
 tick_other p c m j other = by (get_elem? c.seats m.seat)

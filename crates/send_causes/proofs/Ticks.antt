@@ -23,7 +23,7 @@ use Rattle.id_runs.specs.Goes as goes
 use Rattle.id_runs.proofs.Steps.{finds_ids}
 use Rattle.id_runs.proofs.Loops.{ids_round}
 use Rattle.id_runs.proofs.Programs as id_programs
-use Rattle.seat_programs.specs.Asides.{Step, Found, ClaimId, PutCall, MakeId, StoreCall, LoadCall, StoreAt, LoadAt, LoadIdWord, LockId, PostId, UnlockId, EndId, FreeId, TakeCall, TakeBytes, Taking, Bytes, call_id, id_slot, id_first}
+use Rattle.seat_programs.specs.Asides.{Step, Found, PutCall, MakeId, StoreAt, UnlockId, TakeCall, TakeBytes, Taking, Bytes, call_id, id_slot, id_first}
 use Rattle.sock_message.specs.Asked.{Asked, frame_of}
 use Rattle.seat_programs.specs.Beside.{found_in, calls_after, call_at, more_given}
 use Rattle.seat_programs.specs.Calls.{Call, PutMessage}
@@ -406,18 +406,9 @@ module _ (p : Plan) (q : IdPlan) (narrow : q.slots ≤ 65536) (is_call : Asked �
           by true hit y e h = let m = advances_new p q c us real_ids i u at k from found is (eqb-true found from hit) may (finds_label p q c us real_ids i u at (UnlockId k from true) found may (finds (UnlockId k from true) next found answer is may tt)) in
               makes (UnlockId k from true) next found answer is may tt (call_id k (parts from).first) ((parts from).attempt + 1) (subst (λ z. Labels is_call z (next found)) (e ∙ ap (λ b. cond b (Tries (call_id k (parts from).first) ((parts from).attempt + 1)) t) hit) h) m.0 m.1
           by false miss y e h = keeps (UnlockId k from true) next found answer is may tt y (inl (e ∙ ap (λ b. cond b (Tries (call_id k (parts from).first) ((parts from).attempt + 1)) t) miss)) h
-      asides (ClaimId k) next found answer is may g own = let x = g found tt in keeps (ClaimId k) next found answer is may tt x.0 x.1 x.2
       asides (PutCall k asked) next found answer is may g own = let x = g found tt in keeps (PutCall k asked) next found answer is may x.1.1 x.0 x.1.0 x.2
-      asides (StoreCall o id) next found answer is may g own = let x = g found tt in keeps (StoreCall o id) next found answer is may tt x.0 x.1 x.2
-      asides (LoadCall o) next found answer is may g own = let x = g found tt in keeps (LoadCall o) next found answer is may tt x.0 x.1 x.2
-      asides (LoadAt o) next found answer is may g own = let x = g found tt in keeps (LoadAt o) next found answer is may tt x.0 x.1 x.2
-      asides (LoadIdWord k) next found answer is may g own = let x = g found tt in keeps (LoadIdWord k) next found answer is may tt x.0 x.1 x.2
-      asides (LockId k from) next found answer is may g own = let x = g found tt in keeps (LockId k from) next found answer is may tt x.0 x.1 x.2
-      asides (PostId k from e) next found answer is may g own = let x = g found tt in keeps (PostId k from e) next found answer is may tt x.0 x.1 x.2
-      asides (EndId k) next found answer is may g own = let x = g found tt in keeps (EndId k) next found answer is may tt x.0 x.1 x.2
-      asides (FreeId k) next found answer is may g own = let x = g found tt in keeps (FreeId k) next found answer is may tt x.0 x.1 x.2
       asides (TakeCall k) next found answer is may g own = let x = g found (law.calls k found is) in keeps (TakeCall k) next found answer is may tt x.0 x.1 x.2
-      asides (TakeBytes k room) next found answer is may g own = let x = g found tt in keeps (TakeBytes k room) next found answer is may tt x.0 x.1 x.2
+      asides other next found answer is may g own = let x = g found tt in keeps other next found answer is may tt x.0 x.1 x.2
 
   -- a tick of any seat
   module _ (sound : Sound p c vs) (m : Moment) (answered : IsAnswered c m) (fitting : IsFittingIds p c m) (own : StoresOwn ids c m) where

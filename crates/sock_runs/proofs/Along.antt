@@ -90,14 +90,7 @@ module _ (p : Plan) (c : Core) (i : ℕ) (seat : SeatState) (ahead : IsAhead c) 
   tick_ahead : (answer : Answer) (program : Program) → IsAhead (tick_with p i seat c answer program)
   tick_ahead answer (Write w after) = step_ahead answer (block w after)
   tick_ahead answer (Round head next) = step_ahead answer (round head next)
-  tick_ahead answer (Aside step next) = step_ahead answer (Aside step next)
-  tick_ahead answer (Do call next) = step_ahead answer (Do call next)
-  tick_ahead answer (TakeMessage q next) = step_ahead answer (TakeMessage q next)
-  tick_ahead answer (TakeHome k next) = step_ahead answer (TakeHome k next)
-  tick_ahead answer (PutHome k n after) = step_ahead answer (PutHome k n after)
-  tick_ahead answer (PutBytes k asked bytes next) = step_ahead answer (PutBytes k asked bytes next)
-  tick_ahead answer (AskReady k next) = step_ahead answer (AskReady k next)
-  tick_ahead answer _ = ahead
+  tick_ahead answer other = step_ahead answer other
 
 -- so is it behind a tick
 pub ticked_ahead : (p : Plan) (c : Core) (m : Moment) → IsAhead c → IsAhead (ticked p c m)

@@ -437,12 +437,7 @@ module _ (p : Plan) (c : Core) (vs : List View) (n : ℕ) (lasts : Lasts p c vs 
           inr (round_moves (Waits h now heading left taken) after tt goes (lasts_round p v (Waits h now heading left taken) after k goes.0 (λ x. x) l) (answer_begins (Write (Waits h now heading left taken) after) answer a))
       tick_moves (Write (Empties h) after) of goes l a =
           inr (round_moves (Empties h) after tt goes (lasts_round p v (Empties h) after k goes.0 (λ x. x) l) (answer_begins (Write (Empties h) after) answer a))
-      tick_moves (Do call next) of goes l a = no_loop (Do call next) (first_moves (Do call next) tt goes l a)
       tick_moves (Say o outcome next) of goes l a = inl (inl refl)
       tick_moves (Sent o next) of goes l a = inl (inl refl)
       tick_moves Rest of goes l a = inl (inl refl)
-      tick_moves (TakeMessage q next) of goes l a = no_loop (TakeMessage q next) (first_moves (TakeMessage q next) tt goes l a)
-      tick_moves (TakeHome j next) of goes l a = no_loop (TakeHome j next) (first_moves (TakeHome j next) tt goes l a)
-      tick_moves (PutHome j places after) of goes l a = no_loop (PutHome j places after) (first_moves (PutHome j places after) tt goes l a)
-      tick_moves (PutBytes j asked bytes next) of goes l a = no_loop (PutBytes j asked bytes next) (first_moves (PutBytes j asked bytes next) tt goes l a)
-      tick_moves (AskReady j next) of goes l a = no_loop (AskReady j next) (first_moves (AskReady j next) tt goes l a)
+      tick_moves program of goes l a = no_loop program (first_moves program tt goes l a)

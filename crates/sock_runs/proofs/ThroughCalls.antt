@@ -10,7 +10,7 @@ use Rattle.seat_programs.specs.brpc_model.specs.Frame.{Frame}
 use Rattle.seat_programs.specs.sock_message.specs.Asked.{Asked, name_of, frame_of}
 use Rattle.seat_programs.specs.Calls.{LookWord, FindLink, ClaimRequest, LoadName}
 use Rattle.seat_programs.specs.Asides.{ClaimId, PutCall, MakeId, StoreCall, LoadCall, StoreAt, LoadAt, TakeCall, call_id, id_slot, id_first}
-use Rattle.seat_programs.specs.Heads.{Head, Exit, First, Posts, Unlocks, Decides, Locks, Joins, Opens, Reads, Discards, Retry, Posting, HasLocked, Unlocking, IsOpen, HasNext, Locking, NotThere, Has, Ended}
+use Rattle.seat_programs.specs.Heads.{Head, Exit, First, Unlocks, Locks, Joins, Opens, Reads, Discards, Retry, Posting, HasLocked, Unlocking, IsOpen, HasNext, Locking, NotThere, Has, Ended}
 use Rattle.seat_programs.specs.Programs.{Program, Do, Say, Sent, Rest, Write, Aside, Round, Keep, Retries, NO_SOCKET, release, address}
 use Rattle.seat_programs.specs.Posts.{WHOLE, post, posted, decided}
 use Rattle.seat_programs.specs.Attempts.{claims_from, heading_for, attempt, begin_call, claim_id, call, tried_again, retry_locked, retry, expire_outcome, expire, join}
@@ -116,13 +116,7 @@ module _ (G : Program → Type 0) (g : Passes G) where
 
   first_round : (head : Head) (next : Exit head → Program) → ((o : ℕ) → (exits : ℕ → Program) → G (Round (Opens o) exits) → G (round (Opens o) exits)) → Follows G → G (Round head next) → G (round head next)
   first_round (Opens o) next opened f x = opened o next x
-  first_round (Posts id e w) next opened f x = through_round G g (Posts id e w) refl next (f.round (Posts id e w) next x)
-  first_round (Unlocks i w advance) next opened f x = through_round G g (Unlocks i w advance) refl next (f.round (Unlocks i w advance) next x)
-  first_round (Decides id asked w e) next opened f x = through_round G g (Decides id asked w e) refl next (f.round (Decides id asked w e) next x)
-  first_round (Locks i sought w) next opened f x = through_round G g (Locks i sought w) refl next (f.round (Locks i sought w) next x)
-  first_round (Joins id) next opened f x = through_round G g (Joins id) refl next (f.round (Joins id) next x)
-  first_round (Reads r) next opened f x = through_round G g (Reads r) refl next (f.round (Reads r) next x)
-  first_round (Discards l total) next opened f x = through_round G g (Discards l total) refl next (f.round (Discards l total) next x)
+  first_round other next opened f x = through_round G g other refl next (f.round other next x)
 
   -- the first step of a round, where the seat is at the head of a loop; of one that waits for an `open` it has to be said
   pub through_head : ((o : ℕ) → (exits : ℕ → Program) → G (Round (Opens o) exits) → G (round (Opens o) exits)) → Follows G → (program : Program) → G program → G (first_step program)
