@@ -242,9 +242,7 @@ module _ (clients : List (List Task)) (readers : ℕ) where
         lifts (ops.Hold n) o plain_ = lift_hold n o
         lifts (ops.Drop n) o plain_ = lift_drop n o
         lifts (ops.Fail n code) o plain_ = lift_fail n code o
-        lifts (ops.Call asked) o plain_ = absurd (true≢false (sym plain_))
-        lifts (ops.Expire u) o plain_ = absurd (true≢false (sym plain_))
-        lifts (ops.Join u) o plain_ = absurd (true≢false (sym plain_))
+        lifts _ o plain_ = absurd (true≢false (sym plain_))
 
       -- each outcome of a task that isn't on calls has its cause
       pub why_lifted : (c : ℕ) (t : Task) (o : Outcome) → IsTask clients outcomes c t → is_plain t.op ≡ true → Became clients outcomes t.number o → Why p clients outcomes fixed gave orders last c t.number t.op o

@@ -24,7 +24,7 @@ use Rattle.seat_programs.specs.Rounds.{round, kind_of_round}
 use Rattle.seat_programs.specs.corr_core.specs.declared.marks.Plan.{Plan as IdPlan}
 use Rattle.seat_programs.specs.Cores.{Core, SeatState, word_of, word_after, found_at, words_after, homes_after, hand_after, lies_at, first_of, others_of, link_place, with_seat, next_step, resolved, waiting_at}
 use Rattle.seat_programs.specs.Sends.{block}
-use Rattle.seat_programs.specs.Ticks.{Answer, Unasked, OfPut, OfReady, OfTake, Moment, AreAnswered, fed, with_places, onto_first, with_message, with_link, with_put, with_ready, with_found, taken, step_with, tick_with, ticked, run}
+use Rattle.seat_programs.specs.Ticks.{Answer, OfPut, OfReady, Moment, AreAnswered, fed, with_places, onto_first, with_message, with_link, with_put, with_ready, with_found, taken, step_with, tick_with, ticked, run}
 use Rattle.seat_programs.specs.Runs.{kind_in, IsAtRest, IsSettled}
 use Rattle.seat_programs.specs.Scripts.{beginning}
 use Rattle.sock_runs.specs.Sound.{Sound, IsAhead, AllRest, is_begun, AreFitting, views_after, views_along}
@@ -61,16 +61,12 @@ module _ (p : Plan) (c : Core) (i : ℕ) (seat : SeatState) (ahead : IsAhead c) 
   home_ahead k (some home) next = seat_ahead c i (next home.1) (lies_at c.homes (link_place p k) ++ seat.hand) c.words (set c.homes (link_place p k) none) ahead
 
   put_ahead : (bytes : List ℕ) (answer : Answer) (next : Put → Program) → IsAhead (with_put p i seat c bytes answer next)
-  put_ahead bytes Unasked next = ahead
-  put_ahead bytes (OfReady answer) next = ahead
-  put_ahead bytes (OfTake answer) next = ahead
   put_ahead bytes (OfPut answer) next = seat_ahead c i (next answer) (onto_first (fed bytes answer) seat.hand) c.words c.homes ahead
+  put_ahead bytes _ next = ahead
 
   ready_ahead : (answer : Answer) (next : Ready → Program) → IsAhead (with_ready p i seat c answer next)
-  ready_ahead Unasked next = ahead
-  ready_ahead (OfPut answer) next = ahead
-  ready_ahead (OfTake answer) next = ahead
   ready_ahead (OfReady answer) next = seat_ahead c i (next answer) seat.hand c.words c.homes ahead
+  ready_ahead _ next = ahead
 
   found_ahead : (step : Step) (x : Option (Found step)) (next : Found step → Program) → IsAhead (with_found p i seat c step x next)
   found_ahead step none next = ahead

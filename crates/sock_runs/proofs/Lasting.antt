@@ -80,10 +80,8 @@ IsOfSockets other = Unit {0}
 
 -- a round begins with a step
 never_rests : (w : Writing) (after : Program) → kind_in (block w after) ≡ None → ⊥
-never_rests (Puts h now heading left taken asked) after e = none-some _ (sym e)
-never_rests (Waits h now heading left taken) after e = none-some _ (sym e)
-never_rests (Empties h) after e = none-some _ (sym e)
 never_rests (Walks h top place successor) then_ e = none-some _ (sym e)
+never_rests _ after e = none-some _ (sym e)
 
 -- a link that is told how many places it has is no message
 light_places : (n : ℕ) (xs : List Home) → home_weight (first_of xs) ≡ 0 → home_weight (first_of (onto_first (with_places n) xs)) ≡ 0

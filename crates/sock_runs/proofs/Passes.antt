@@ -6,7 +6,7 @@ use Rattle.sock_model.specs.declared.view.View.{View}
 use Rattle.seat_programs.specs.corr_core.specs.Word.{Parts, parts, posted_word, locked_word, unlocked_word, code_of, error_of}
 use Rattle.seat_programs.specs.brpc_model.specs.Frame.{Frame}
 use Rattle.seat_programs.specs.brpc_model.specs.Stream as streams
-use Rattle.seat_programs.specs.Asides.{Taking, Bytes, Nothing, NoMore, AtEnd, Closed, Broken, FreeId, id_slot, id_first}
+use Rattle.seat_programs.specs.Asides.{Taking, Bytes, Nothing, Closed, FreeId, id_slot, id_first}
 use Rattle.seat_programs.specs.Heads.{Head, Exit, Retry, Sought, Version, Reading, Posts, Unlocks, Decides, Locks, Joins, Opens, Reads, Discards, Posting, WasGone, WasStale, WasCrowded, WasQueued, HasLocked, Unlocking, IsOpen, HasNext, Deciding, HasEnded, GoesOn as OpenAgain, Locking, NotThere, Has, Ended}
 use Rattle.seat_programs.specs.Programs.{Program, Say, Aside, Round}
 use Rattle.seat_programs.specs.Posts.{packed, advance_of, is_first, is_sought, is_stale, is_full, judged, post_with, post, posted, popped, end_id, ends_call, is_final, decide, decided, unlocked, locking}
@@ -165,10 +165,8 @@ module _ (p : Plan) (v : View) where
       responses_goes loose r.ids s.frames r.kept (λ kept. read_on (record { ids = r.ids; link = r.link; id = r.id; rest = r.rest; total = r.total + length bytes; kept = kept }) (r.rest ++ bytes) s.ending k)
       (λ kept. read_goes loose (record { ids = r.ids; link = r.link; id = r.id; rest = r.rest; total = r.total + length bytes; kept = kept }) (r.rest ++ bytes) s.ending k goes)
   took_goes loose r k goes Nothing = ((tt, loose), goes)
-  took_goes loose r k goes NoMore = goes (Rattle.seat_programs.specs.Readers.ended_by 1014 false false r) (refl, λ z. absurd (omega (arith, z)))
-  took_goes loose r k goes AtEnd = goes (Rattle.seat_programs.specs.Readers.ended_by 1014 false false r) (refl, λ z. absurd (omega (arith, z)))
   took_goes loose r k goes Closed = goes (Rattle.seat_programs.specs.Readers.ended_by 1014 true false r) (refl, λ z. absurd (omega (arith, z)))
-  took_goes loose r k goes Broken = goes (Rattle.seat_programs.specs.Readers.ended_by 1014 false false r) (refl, λ z. absurd (omega (arith, z)))
+  took_goes loose r k goes _ = goes (Rattle.seat_programs.specs.Readers.ended_by 1014 false false r) (refl, λ z. absurd (omega (arith, z)))
 
   discarded_goes : v.loose ≡ [] → (l total : ℕ) (k : ℕ → Program) → ((exit : ℕ) → GoesOn p v (k exit)) → (t : Taking) → GoesOn p v (Rattle.seat_programs.specs.Readers.discarded l total k t)
   discarded_goes loose l total k goes (Bytes bytes) = way p v (nat_lt (total + length bytes) LIMIT) (Round (Discards l (total + length bytes)) k) (k (total + length bytes)) (λ _. ((tt, loose), λ exit _. goes exit)) (λ _. goes (total + length bytes))

@@ -22,7 +22,7 @@ use Rattle.seat_programs.specs.Beside.{found_in}
 use Rattle.seat_programs.specs.Rounds.{round, kind_of_round}
 use Rattle.seat_programs.specs.Sends.{block}
 use Rattle.seat_programs.specs.Cores.{Core, SeatState}
-use Rattle.seat_programs.specs.Ticks.{Answer, Unasked, OfPut, OfReady, OfTake, Moment, with_message, with_link, with_put, with_ready, with_found, taken, step_with, tick_with, ticked, run}
+use Rattle.seat_programs.specs.Ticks.{Answer, OfPut, OfReady, Moment, with_message, with_link, with_put, with_ready, with_found, taken, step_with, tick_with, ticked, run}
 use Rattle.seat_programs.specs.Runs.{kind_in, IsAtRest}
 
 -- what is said of the seats, whatever state one seat has
@@ -39,16 +39,12 @@ module _ (p : Plan) (c : Core) (i : ℕ) (seat : SeatState) (P : List SeatState 
   home_keeps change k (some home) next = change _
 
   put_keeps : Changes → (bytes : List ℕ) (answer : Answer) (next : Put → Program) → P (with_put p i seat c bytes answer next).seats
-  put_keeps change bytes Unasked next = same
-  put_keeps change bytes (OfReady answer) next = same
-  put_keeps change bytes (OfTake answer) next = same
   put_keeps change bytes (OfPut answer) next = change _
+  put_keeps change bytes _ next = same
 
   ready_keeps : Changes → (answer : Answer) (next : Ready → Program) → P (with_ready p i seat c answer next).seats
-  ready_keeps change Unasked next = same
-  ready_keeps change (OfPut answer) next = same
-  ready_keeps change (OfTake answer) next = same
   ready_keeps change (OfReady answer) next = change _
+  ready_keeps change _ next = same
 
   found_keeps : Changes → (step : Step) (x : Option (Found step)) (next : Found step → Program) → P (with_found p i seat c step x next).seats
   found_keeps change step none next = same

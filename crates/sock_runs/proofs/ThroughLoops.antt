@@ -9,7 +9,7 @@ use Rattle.seat_programs.specs.corr_core.specs.Law.{LAST}
 use Rattle.seat_programs.specs.brpc_model.specs.Frame.{Frame}
 use Rattle.seat_programs.specs.brpc_model.specs.Stream as streams
 use Rattle.seat_programs.specs.sock_message.specs.Asked.{Asked}
-use Rattle.seat_programs.specs.Asides.{PutCall, LoadIdWord, LockId, PostId, UnlockId, EndId, FreeId, TakeCall, TakeBytes, Taking, Bytes, Nothing, NoMore, AtEnd, Closed, Broken, call_id, id_slot, id_first}
+use Rattle.seat_programs.specs.Asides.{PutCall, LoadIdWord, LockId, PostId, UnlockId, EndId, FreeId, TakeCall, TakeBytes, Taking, Bytes, Nothing, Closed, call_id, id_slot, id_first}
 use Rattle.seat_programs.specs.Heads.{Head, Exit, Retry, Sought, Version, Reading, Posts, Unlocks, Decides, Locks, Joins, Opens, Reads, Discards, Posting, WasGone, WasStale, WasCrowded, WasQueued, HasLocked, Unlocking, IsOpen, HasNext, Deciding, HasEnded, GoesOn, Locking, NotThere, Has, Ended}
 use Rattle.seat_programs.specs.Programs.{Program, Say}
 use Rattle.seat_programs.specs.Posts.{packed, advance_of, is_first, is_sought, is_stale, is_full, judged, posts_round, post_with, posted, post, popped, unlocks_round, ends_call, end_id, decide, decided, unlocked, decides_round, locking, locks_round, joins_round}
@@ -109,10 +109,8 @@ module _ (G : Program → Type 0) (g : Passes G) where
       through_responses r.ids s.frames r.kept (λ kept. read_on (record { ids = r.ids; link = r.link; id = r.id; rest = r.rest; total = r.total + length bytes; kept = kept }) (r.rest ++ bytes) s.ending k)
       (λ kept. through_read_on (record { ids = r.ids; link = r.link; id = r.id; rest = r.rest; total = r.total + length bytes; kept = kept }) (r.rest ++ bytes) s.ending k after)
   through_took r k after Nothing = g.round (Reads r) refl k after
-  through_took r k after NoMore = after (ended_by 1014 false false r)
-  through_took r k after AtEnd = after (ended_by 1014 false false r)
   through_took r k after Closed = after (ended_by 1014 true false r)
-  through_took r k after Broken = after (ended_by 1014 false false r)
+  through_took r k after _ = after (ended_by 1014 false false r)
 
   through_discarded : (l total : ℕ) (k : ℕ → Program) → ((x : ℕ) → G (k x)) → (t : Taking) → G (discarded l total k t)
   through_discarded l total k after (Bytes bytes) = either_way (nat_lt (total + length bytes) LIMIT) _ _ G (g.round (Discards l (total + length bytes)) refl k after) (after (total + length bytes))
