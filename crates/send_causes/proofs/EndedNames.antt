@@ -25,7 +25,7 @@ use Rattle.id_rule.specs.Lawful as ids
 use Rattle.id_runs.specs.Held.{IdView, MayId}
 use Rattle.id_runs.specs.Goes.{FitsRetryId, FitsSock, IdGoesOn, SoundIds, IsFittingIds}
 use Rattle.id_runs.proofs.Steps.{finds_ids}
-use Rattle.seat_programs.specs.Asides.{Step, Found, ClaimId, PutCall, MakeId, StoreCall, LoadCall, StoreAt, LoadAt, LoadIdWord, LockId, PostId, UnlockId, EndId, FreeId, TakeCall, TakeBytes, Taking, Bytes, Nothing, NoMore, AtEnd, Closed, Broken, id_slot, id_first}
+use Rattle.seat_programs.specs.Asides.{Step, Found, ClaimId, PutCall, MakeId, StoreCall, StoreAt, LoadAt, LockId, PostId, UnlockId, EndId, FreeId, TakeCall, TakeBytes, Taking, Bytes, Nothing, NoMore, AtEnd, Closed, Broken, id_slot, id_first}
 use Rattle.sock_message.specs.Asked.{Asked, name_of}
 use Rattle.seat_programs.specs.Beside.{found_in, calls_after, more_given}
 use Rattle.seat_programs.specs.Calls.{Call, StoreName, LoadName, FindLink, ClaimRequest, PutMessage, Unconnect, SwapHead}
@@ -403,10 +403,7 @@ module _ (p : Plan) (q : IdPlan) (narrow : q.slots ≤ 65536) (is_call : Asked �
       ats_behind (PutCall k asked) after found x may shown g = at_same (calls_after (PutCall k asked) found c.calls) refl refl
       ats_behind (MakeId k range) after found x may shown g = beside_id k _ may.0
       ats_behind (StoreCall o id) after found x may shown g = at_else (ids.call_index c.calls.plan o) id (λ n _. λ e. omega (arith, e))
-      ats_behind (LoadCall o) after found x may shown g = ats_here
       ats_behind (StoreAt o w) after found x may shown g = at_stored o w shown g.1
-      ats_behind (LoadAt o) after found x may shown g = ats_here
-      ats_behind (LoadIdWord k) after found x may shown g = ats_here
       ats_behind (LockId k from) after found x may shown g = beside_id k _ may.0
       ats_behind (PostId k from e) after found x may shown g = beside_id k _ may.0
       ats_behind (UnlockId k from advance) after found x may shown g = beside_id k _ may.0
@@ -422,6 +419,7 @@ module _ (p : Plan) (q : IdPlan) (narrow : q.slots ≤ 65536) (is_call : Asked �
           given_more AtEnd = ats_here
           given_more Closed = ats_here
           given_more Broken = ats_here
+      ats_behind _ after found x may shown g = ats_here
 
       -- a step aside
       asides : (step : Step) (next : Found step → Program) (found : Found step) (answer : Option Taking) → found_in step c.calls answer ≡ some found → MayId p q u step → IsShown step → Follows is_call t (Aside step next)

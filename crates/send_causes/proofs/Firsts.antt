@@ -20,7 +20,7 @@ use Rattle.seat_programs.specs.declared.task.Task.{Task}
 use Rattle.seat_programs.specs.declared.task.Sizes.{Sizes}
 use Rattle.seat_programs.specs.Calls.{PutMessage}
 use Rattle.seat_programs.specs.Writings.{Holder, Writing, Puts, Waits, Empties, Walks}
-use Rattle.seat_programs.specs.Asides.{Found, Taking, Bytes, Nothing, NoMore, AtEnd, Closed, Broken, call_id, id_slot, id_first}
+use Rattle.seat_programs.specs.Asides.{Found, Taking, Bytes, Nothing, Closed, call_id, id_slot, id_first}
 use Rattle.seat_programs.specs.Heads.{Head, Exit, Retry, Sought, Reading, Ended, Posts, Unlocks, Decides, Locks, Joins, Opens, Reads, Discards, Posting, WasGone, WasStale, WasCrowded, WasQueued, HasLocked, Unlocking, IsOpen, HasNext, Deciding, HasEnded, GoesOn, Locking, NotThere, Has}
 use Rattle.seat_programs.specs.Programs.{Program, Do, Say, Sent, Rest, TakeMessage, TakeHome, PutHome, PutBytes, AskReady, Write, Aside, Round, Keep, Retries, LAST_VERSION, LAST_GENERATION, NO_SOCKET, recycle, release, address, reach, set_failed, fail, fail_outcome, hold, drop_held, open_from, make_socket}
 use Rattle.seat_programs.specs.Posts.{WHOLE, packed, advance_of, is_first, is_sought, is_stale, is_full, judged, posts_round, post_with, posted, post, popped, unlocks_round, ends_call, end_id, decide, decided, unlocked, decides_round, locking, locks_round, joins_round}
@@ -176,10 +176,8 @@ module _ (mine : ℕ → Type 0) where
         firsts_responses r.ids s.frames r.kept (λ kept. read_on (record { ids = r.ids; link = r.link; id = r.id; rest = r.rest; total = r.total + length bytes; kept = kept }) (r.rest ++ bytes) s.ending k)
         (λ kept. firsts_read_on (record { ids = r.ids; link = r.link; id = r.id; rest = r.rest; total = r.total + length bytes; kept = kept }) (r.rest ++ bytes) s.ending k after)
     firsts_took r k after Nothing = after
-    firsts_took r k after NoMore = after (ended_by 1014 false false r)
-    firsts_took r k after AtEnd = after (ended_by 1014 false false r)
     firsts_took r k after Closed = after (ended_by 1014 true false r)
-    firsts_took r k after Broken = after (ended_by 1014 false false r)
+    firsts_took r k after _ = after (ended_by 1014 false false r)
 
     firsts_discarded : (l total : ℕ) (k : ℕ → Program) → ((x : ℕ) → G (k x)) → (t : Taking) → G (discarded l total k t)
     firsts_discarded l total k after (Bytes bytes) = either_way (nat_lt (total + length bytes) LIMIT) _ _ G (after) (after (total + length bytes))

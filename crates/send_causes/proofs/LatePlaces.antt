@@ -27,7 +27,7 @@ use Rattle.call_causes.specs.joint_runs.proofs.Both.{AreBounded}
 use Rattle.outcome_causes.specs.Facts.{born_at, shown_in}
 use Rattle.outcome_causes.specs.Stories.{In}
 use Rattle.outcome_causes.proofs.Plain.{in_left, in_right}
-use Rattle.send_causes.proofs.LateLooks.{Mode, Idle, Saw, Claims, Writes}
+use Rattle.send_causes.proofs.LateLooks.{Mode, Writes}
 use Rattle.send_causes.proofs.LateSeats.{Righted, rights_of, Stands, AllStand, stand_ticks}
 use Rattle.send_causes.proofs.LateLives.{WasPast, Lives, lives_tell, lives_ticks}
 
@@ -44,9 +44,7 @@ module _ (p : Plan) (base : Core) (L : ℕ → Type 0) where
 
   late_right : (m : Mode) (k : ℕ) → rights_of p L (WasPast p base L) m k → L k
   late_right Writes k x = x
-  late_right Idle k x = absurd x
-  late_right (Saw id) k x = absurd x
-  late_right Claims k x = absurd x
+  late_right _ k x = absurd x
 
   -- ## A step
 

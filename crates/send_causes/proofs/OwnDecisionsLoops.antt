@@ -6,7 +6,7 @@ use Rattle.corr_core.specs.Word.{Parts, parts, posted_word, unlocked_word, code_
 use Rattle.corr_core.specs.Law.{LAST}
 use Rattle.id_runs.proofs.Keeps.{parts_packed}
 use Rattle.sock_message.specs.Asked.{Asked}
-use Rattle.seat_programs.specs.Asides.{FreeId, UnlockId, Taking, Bytes, Nothing, NoMore, AtEnd, Closed, Broken, PutCall, id_slot, id_first, call_id}
+use Rattle.seat_programs.specs.Asides.{FreeId, UnlockId, Taking, Bytes, Nothing, Closed, PutCall, id_slot, id_first, call_id}
 use Rattle.seat_programs.specs.Heads.{Head, Exit, Sought, First, Version, Reading, Posts, Unlocks, Decides, Locks, Joins, Opens, Reads, Discards, Retry, Posting, WasGone, WasStale, WasCrowded, WasQueued, HasLocked, Unlocking, IsOpen, HasNext, Deciding, HasEnded, GoesOn, Locking, NotThere, Has, Ended}
 use Rattle.seat_programs.specs.Posts.{WHOLE, packed, advance_of, is_first, is_sought, is_stale, is_full, judged, posted, post_with, post, popped, end_id, ends_call, decide, decided, unlocked, locking}
 use Rattle.seat_programs.specs.Programs.{Program, Say, Aside, Round}
@@ -240,10 +240,8 @@ took_goes r k goes (Bytes bytes) = let s = streams.stream (r.rest ++ bytes) in
     by_ending r' bytes (streams.Rest n) = let x : Reading = record r' { rest = last_of n bytes } in way Calm (nat_lt r'.total LIMIT) (Round (Reads x) k) (k (how_ended 1014 false false x)) (λ _. (tt, λ exit _. goes exit)) (λ _. goes (how_ended 1014 false false x))
     by_ending r' bytes (streams.Fault at_ fault) = goes (how_ended 2002 false true r')
 took_goes r k goes Nothing = (tt, λ exit _. goes exit)
-took_goes r k goes NoMore = goes (how_ended 1014 false false r)
-took_goes r k goes AtEnd = goes (how_ended 1014 false false r)
 took_goes r k goes Closed = goes (how_ended 1014 true false r)
-took_goes r k goes Broken = goes (how_ended 1014 false false r)
+took_goes r k goes _ = goes (how_ended 1014 false false r)
 
 discarded_goes : (l total : ℕ) (k : ℕ → Program) → ((exit : ℕ) → Aims Calm (k exit)) → (t : Taking) → Aims Calm (discarded l total k t)
 discarded_goes l total k goes (Bytes bytes) = way Calm (nat_lt (total + length bytes) LIMIT) (Round (Discards l (total + length bytes)) k) (k (total + length bytes)) (λ _. (tt, λ exit _. goes exit)) (λ _. goes (total + length bytes))

@@ -33,7 +33,7 @@ use Rattle.seat_programs.specs.Heads.{Retry, Decides}
 use Rattle.seat_programs.specs.Posts.{WHOLE, packed, advance_of, is_stale}
 use Rattle.seat_programs.specs.Programs.{Program, Do, Say, Sent, TakeMessage, TakeHome, PutHome, PutBytes, AskReady, Write, Aside, Round, Keep, Retries}
 use Rattle.seat_programs.specs.Cores.{Calls, Core, SeatState, word_of, found_at, words_after, word_after, homes_after, hand_after, lies_at, first_of, others_of, link_place, resolved, still_waiting, waiting_at, next_step, with_seat}
-use Rattle.seat_programs.specs.Ticks.{Answer, Unasked, OfPut, OfReady, OfTake, Moment, fed, with_places, onto_first, taken, with_message, with_link, with_put, with_ready, with_found, step_with, tick_with, ticked}
+use Rattle.seat_programs.specs.Ticks.{Answer, OfPut, OfReady, Moment, fed, with_places, onto_first, taken, with_message, with_link, with_put, with_ready, with_found, step_with, tick_with, ticked}
 use Rattle.sock_runs.specs.Sound.{first_step}
 use Rattle.call_causes.specs.Decided.{posted_by, Decision, decision_in, decided_at}
 use Rattle.call_causes.specs.Posts.{Post, posts_by, posted_with, posted_at}
@@ -380,15 +380,11 @@ module _ (p : Plan) (q : IdPlan) (narrow : q.slots ≤ 65536) (Taken : Post → 
 
     by_put : (bytes : List ℕ) (next : Put → Program) → ((answer : Put) → Aims s (next answer)) → (answer : Answer) → Result [] (with_put p i seat c bytes answer next)
     by_put bytes next go (OfPut answer) = same (next answer) (onto_first (fed bytes answer) seat.hand) c.words c.homes (old_homes s) (fed_fits (HeadFits (Behind s)) bytes answer seat.hand (old_hands s)) (go answer)
-    by_put bytes next go Unasked = before
-    by_put bytes next go (OfReady r) = before
-    by_put bytes next go (OfTake t) = before
+    by_put bytes next go _ = before
 
     by_ready : (next : Ready → Program) → ((answer : Ready) → Aims s (next answer)) → (answer : Answer) → Result [] (with_ready p i seat c answer next)
     by_ready next go (OfReady answer) = same (next answer) seat.hand c.words c.homes (old_homes s) (old_hands s) (go answer)
-    by_ready next go Unasked = before
-    by_ready next go (OfPut a) = before
-    by_ready next go (OfTake t) = before
+    by_ready next go _ = before
 
     -- ## Steps aside
 

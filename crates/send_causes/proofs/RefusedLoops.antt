@@ -5,7 +5,7 @@ use Rattle.brpc_model.specs.Stream as streams
 use Rattle.corr_core.specs.Word.{Parts, parts, posted_word, unlocked_word, code_of}
 use Rattle.corr_core.specs.Law.{LAST}
 use Rattle.sock_message.specs.Asked.{Asked}
-use Rattle.seat_programs.specs.Asides.{UnlockId, FreeId, Taking, Bytes, Nothing, NoMore, AtEnd, Closed, Broken, PutCall, id_slot, id_first, call_id}
+use Rattle.seat_programs.specs.Asides.{UnlockId, FreeId, Taking, Bytes, Nothing, Closed, PutCall, id_slot, id_first, call_id}
 use Rattle.seat_programs.specs.Calls.{Call}
 use Rattle.seat_programs.specs.Heads.{Head, Exit, Sought, First, Version, Reading, Posts, Unlocks, Decides, Locks, Joins, Opens, Reads, Discards, Retry, Posting, WasGone, WasStale, WasCrowded, WasQueued, HasLocked, Unlocking, IsOpen, HasNext, Deciding, HasEnded, GoesOn, Locking, NotThere, Has, Ended}
 use Rattle.seat_programs.specs.Posts.{packed, advance_of, is_first, is_sought, is_stale, is_full, judged, posted, post_with, popped, end_id, ends_call, decide, decided, unlocked, locking}
@@ -222,10 +222,8 @@ module _ (requests : ℕ) (is_call : Asked → Type 0) (reads : Bool) where
       by_ending r' bytes (streams.Rest n) = let x : Reading = record r' { rest = last_of n bytes } in way idle (nat_lt r'.total LIMIT) (Round (Reads x) k) (k (how_ended 1014 false false x)) (λ _. ((tt, tt), λ exit _ c. goes exit c)) (λ _. goes (how_ended 1014 false false x) (inl refl))
       by_ending r' bytes (streams.Fault at_ fault) = goes (how_ended 2002 false true r') (inr refl)
   took_goes r k goes Nothing = ((tt, tt), λ exit _ c. goes exit c)
-  took_goes r k goes NoMore = goes (how_ended 1014 false false r) (inl refl)
-  took_goes r k goes AtEnd = goes (how_ended 1014 false false r) (inl refl)
   took_goes r k goes Closed = goes (how_ended 1014 true false r) (inl refl)
-  took_goes r k goes Broken = goes (how_ended 1014 false false r) (inl refl)
+  took_goes r k goes _ = goes (how_ended 1014 false false r) (inl refl)
 
   discarded_goes : (l total : ℕ) (k : ℕ → Program) → ((exit : ℕ) → Goes idle (k exit)) → (t : Taking) → Goes idle (discarded l total k t)
   discarded_goes l total k goes (Bytes bytes) = way idle (nat_lt (total + length bytes) LIMIT) (Round (Discards l (total + length bytes)) k) (k (total + length bytes)) (λ _. ((tt, tt), λ exit _ _. goes exit)) (λ _. goes (total + length bytes))

@@ -28,7 +28,7 @@ use Rattle.seat_programs.specs.Rounds.{round}
 use Rattle.seat_programs.specs.Runs.{IsAtRest}
 use Rattle.seat_programs.specs.Sends.{block}
 use Rattle.seat_programs.specs.Cores.{Core, SeatState, waiting_at}
-use Rattle.seat_programs.specs.Ticks.{Answer, Unasked, OfPut, OfReady, OfTake, Moment, IsAlwaysReady, waits, waits_at, quiet, ticked, run, taken, with_message, with_link, with_put, with_ready, with_found, step_with, tick_with}
+use Rattle.seat_programs.specs.Ticks.{Answer, OfPut, OfReady, Moment, IsAlwaysReady, waits, waits_at, quiet, ticked, run, taken, with_message, with_link, with_put, with_ready, with_found, step_with, tick_with}
 use Rattle.seat_programs.specs.Tasks.{opens, calls, plan_of, id_plan_of}
 use Rattle.seat_programs.specs.Scripts.{sizes_of, programs, readers_from, all_programs, all_tasks, opened, set_up, played, is_ending, IsRunWithCalls}
 use Rattle.sock_runs.specs.Sound.{views_along}
@@ -126,15 +126,11 @@ module _ (p : Plan) (c : Core) (m : Moment) (j : ℕ) (other : j ≢ m.seat) (se
 
   by_put : (bytes : List ℕ) (answer : Answer) (next : Put → Program) → Same (with_put p m.seat seat c bytes answer next)
   by_put bytes (OfPut answer) next = else_ _
-  by_put bytes Unasked next = refl
-  by_put bytes (OfReady answer) next = refl
-  by_put bytes (OfTake answer) next = refl
+  by_put bytes _ next = refl
 
   by_ready : (answer : Answer) (next : _) → Same (with_ready p m.seat seat c answer next)
   by_ready (OfReady answer) next = else_ _
-  by_ready Unasked next = refl
-  by_ready (OfPut answer) next = refl
-  by_ready (OfTake answer) next = refl
+  by_ready _ next = refl
 
   by_found : (step : Step) (x : Option (Found step)) (next : Found step → Program) → Same (with_found p m.seat seat c step x next)
   by_found step none next = refl

@@ -316,9 +316,7 @@ module _ (J : Type 0) where
   takes_round (Decides id asked w e) next x = takes_decides id asked w e next x
   takes_round (Locks i sought w) next x = takes_locks i sought w next x
   takes_round (Joins id) next x = takes_joins x.0 id next x.1
-  takes_round (Opens o) next x = absurd x
-  takes_round (Reads r) next x = absurd x
-  takes_round (Discards k total) next x = absurd x
+  takes_round _ next x = absurd x
 
   takes_first : (program : Program) → NoTakes program → NoTakes (first_step program)
   takes_first (Write w after) x = takes_block w after x
