@@ -57,14 +57,11 @@ module _ (p : Plan) (q : IdPlan) (clients : List (List Task)) (gives : ℕ → L
   opens_none n t h k slot version op became = let x = h k op in x.2 (subst IsOpened (one_outcome p q clients gives w ms e t.number (outcomes.Opened slot version k) x.0 became (e.tasks.said t.number x.0 x.1)) tt)
 
   seeks : (n : ℕ) (op : Op) → Seeks p clients w.core.outcomes fixed (given w.core) orders n op → SeeksName n op
-  seeks n (ops.Fail m code) s = s
-  seeks n (ops.Hold m) s = s
-  seeks n (ops.Send m bytes) s = s
-  seeks n (ops.Call asked) s = s
   seeks n (ops.Open m k) s = absurd s
   seeks n (ops.Expire t) s = absurd s
   seeks n (ops.Join t) s = absurd s
   seeks n (ops.Drop m) s = absurd s
+  seeks n _ s = s
 
   found_none : (c : ℕ) (t : Task) (d : IsDone p q clients gives ascending w ms e c t) (n : ℕ) → NoneFound p q clients gives w d.before n → FoundNone p clients w.core.outcomes fixed (given w.core) orders c t.number n
   found_none c t d n f = record {

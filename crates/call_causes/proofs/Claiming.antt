@@ -1,5 +1,5 @@
 -- Each id slot is claimed for one call, and no call claims two: so there is room for each call, also behind a step aside.
-use Rattle.std.proofs.Common.{◌≡◌, ◌≢◌, ℕ, zero, suc, ◌+◌, ◌*◌, ◌<◌, ◌≤◌, ◌⊎◌, inl, inr, ⊎_elim, Bool, true, false, cond, eqb, eqb-true, List, [], ◌∷◌, ◌++◌, length, get_or, set, Option, None, Some, refl, sym, ap, ◌∙◌, subst, arith}
+use Rattle.std.proofs.Common.{◌≡◌, ◌≢◌, ℕ, zero, suc, ◌+◌, ◌*◌, ◌<◌, ◌≤◌, ◌⊎◌, inl, inr, ⊎_elim, Bool, true, false, cond, eqb, List, [], ◌∷◌, ◌++◌, length, get_or, set, Option, None, refl, sym, ap, ◌∙◌, subst, arith}
 use mathlib.Core.Logic.{dite}
 use native.Mathlib.Decide.{ℕ_discrete}
 use Rattle.sock_words.specs.declared.plain.Plan.{Plan}
@@ -65,10 +65,7 @@ module _ (p : Plan) (q : IdPlan) (clients : List (List Task)) (gives : ℕ → L
 
   pub in_unclaimed : (s : Slot) (bs : List Birth) (todo : List Task) (t : Task) → In t (unclaimed p q clients gives s bs todo) → In t todo
   in_unclaimed (Claims i c) bs todo t there = in_tasks_behind todo t there
-  in_unclaimed NoSlot bs todo t there = in_ahead bs todo t there
-  in_unclaimed (Locked i f range) bs todo t there = in_ahead bs todo t there
-  in_unclaimed (Holds i f range asked) bs todo t there = in_ahead bs todo t there
-  in_unclaimed (Leaves i) bs todo t there = in_ahead bs todo t there
+  in_unclaimed _ bs todo t there = in_ahead bs todo t there
 
 module _ (p : Plan) (q : IdPlan) (clients : List (List Task)) (gives : ℕ → List ℕ) (numbered : AreNumbered p q clients gives) (w w' : Scene) (ms : List Mark) (j : ℕ) (m : Mark) (at : At ms j m) (plan : w.core.calls.plan ≡ q) (sized : length w.core.calls.words ≡ all_words q) (fits : SlotFits q w m.slot) (births : BirthsLaw p q clients gives w)
     (os : List (Option Outcome)) (ss : List Saying) (tasks : TasksLaw p q clients gives w os ss ms) (claims : ClaimsLaw p q clients gives w ms) where
@@ -102,12 +99,7 @@ module _ (p : Plan) (q : IdPlan) (clients : List (List Task)) (gives : ℕ → L
   touched_tag (EndId i) found b knows k here some_ = inl (word_tag i k (packed (free_word ((parts found).first + (parts found).range))) here knows.0 b.words some_)
   touched_tag (FreeId i) found b knows k here some_ = absurd (some_ (subst (λ n. tag_at w' n ≡ 0) here (tag_is p q clients gives w w' m plan i knows sized 0 b.words)))
   touched_tag (TakeCall i) found b knows k here some_ = inl (words_tag k b.words some_)
-  touched_tag (StoreCall o id) found b knows k t some_ = absurd t
-  touched_tag (LoadCall o) found b knows k t some_ = absurd t
-  touched_tag (StoreAt o x) found b knows k t some_ = absurd t
-  touched_tag (LoadAt o) found b knows k t some_ = absurd t
-  touched_tag (LoadIdWord i) found b knows k t some_ = absurd t
-  touched_tag (TakeBytes l room) found b knows k t some_ = absurd t
+  touched_tag _ found b knows k t some_ = absurd t
 
   -- a slot that is taken was, or the step claims it
   tag_before : (step : Step) (found : Found step) → Behind step found → Knows step found → (k : ℕ) → k < q.slots → tag_at w' k ≢ 0 → (tag_at w k ≢ 0) ⊎ IsNewAt step found k
@@ -131,25 +123,17 @@ module _ (p : Plan) (q : IdPlan) (clients : List (List Task)) (gives : ℕ → L
 
   put_less : (s : Slot) (asked : Asked) (bs : List Birth) (todo : List Task) (u : Task) → In u (unclaimed p q clients gives (put_in asked s) bs todo) → In u (unclaimed p q clients gives s bs todo)
   put_less NoSlot asked bs todo u x = x
-  put_less (Claims i c) asked bs todo u x = x
-  put_less (Locked i f range) asked bs todo u x = x
-  put_less (Holds i f range a) asked bs todo u x = x
-  put_less (Leaves i) asked bs todo u x = x
+  put_less _ asked bs todo u x = x
 
   taken_less : (s : Slot) (asked : Asked) (bs : List Birth) (todo : List Task) (u : Task) → In u (unclaimed p q clients gives (taken_out asked s) bs todo) → In u (unclaimed p q clients gives s bs todo)
   taken_less NoSlot asked bs todo u x = x
-  taken_less (Claims i c) asked bs todo u x = x
-  taken_less (Locked i f range) asked bs todo u x = x
-  taken_less (Holds i f range a) asked bs todo u x = x
-  taken_less (Leaves i) asked bs todo u x = x
+  taken_less _ asked bs todo u x = x
 
   -- a seat that holds no id has claimed nothing
   vacant_less : (s : Slot) (bs : List Birth) (todo : List Task) (u : Task) → IsVacant s → In u (ahead p q clients gives bs todo) → In u (unclaimed p q clients gives s bs todo)
   vacant_less NoSlot bs todo u v x = x
   vacant_less (Leaves i) bs todo u v x = x
-  vacant_less (Claims i c) bs todo u v x = absurd v
-  vacant_less (Locked i f range) bs todo u v x = absurd v
-  vacant_less (Holds i f range asked) bs todo u v x = absurd v
+  vacant_less _ bs todo u v x = absurd v
 
   tested : (c : Bool) (s t : Slot) (bs : List Birth) (todo : List Task) (u : Task) → (In u (unclaimed p q clients gives t bs todo) → In u (unclaimed p q clients gives s bs todo)) → (n : Mark) → n.slot ≡ s → n.makes ≡ bs → n.todo ≡ todo
       → In u (unclaimed p q clients gives (cond c (with_slot t n) n).slot (cond c (with_slot t n) n).makes (cond c (with_slot t n) n).todo) → In u (unclaimed p q clients gives s bs todo)
