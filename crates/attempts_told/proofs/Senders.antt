@@ -52,7 +52,7 @@ use Rattle.call_whys.specs.call_told.specs.call_places.proofs.Own.{came, end_is}
 use Rattle.call_whys.specs.call_told.specs.call_places.proofs.Counts.{by_retry, Knows, tried_few, all_known}
 use Rattle.call_whys.specs.call_told.specs.call_places.proofs.Ids.{IdLaws, IsIdOf, version_low, lock_id}
 use Rattle.call_whys.specs.call_told.specs.call_places.proofs.Clients.{Client, view_of, tasks_of, deeds_of, own_of}
-use Rattle.call_whys.specs.call_told.specs.call_places.proofs.Places.{all, views_are, tasks_are, lists_are}
+use Rattle.call_whys.specs.call_told.specs.call_places.proofs.Places.{all, noted_among, tasks_are, lists_are}
 use Rattle.call_whys.specs.call_told.specs.call_places.proofs.Log.{authored}
 use Rattle.call_whys.specs.call_told.specs.call_deeds.specs.Retried.{Again, asked_by, asked_in, asked_before, all_asked}
 use Rattle.call_whys.specs.call_told.specs.call_deeds.proofs.Links.{IsOwnCall, call_at}
@@ -252,12 +252,6 @@ module _ {O : Type 0} {g : Ghosts O} {state : O → OutState} {readers : List (L
   abbrev tasks_all : List (List Task)
   tasks_all = setup ∷ clients
 
-  -- what a client noted is among the notes
-  pub among : (j : ℕ) (c : Client g state p q) → get_elem? (all run) j ≡ some c → (i : ℕ) (f : Note Asked → ℕ) → total f (notes_of i (view_of c).notes) ≤ total f (notes_of i notes)
-  among j c at i f =
-      let a = term (λ (v : View Asked). total f (notes_of i v.notes)) ids j (view_of c) (ap (λ (l : List (View Asked)). get_elem? l j) (sym (views_are run)) ∙ mapped view_of (all run) j c at) in
-      let b = have.all i f in omega arith
-
   tasks_at : (j : ℕ) (c : Client g state p q) → get_elem? (all run) j ≡ some c → get_elem? tasks_all j ≡ some (tasks_of c)
   tasks_at j c at = ap (λ (l : List (List Task)). get_elem? l j) (sym (tasks_are run)) ∙ mapped tasks_of (all run) j c at
 
@@ -328,7 +322,7 @@ module _ {O : Type 0} {g : Ghosts O} {state : O → OutState} {readers : List (L
   deed_sent : (j : ℕ) (c : Client g state p q) → get_elem? (all run) j ≡ some c → (k : ℕ) (d : Deed g state p q) → get_elem? (deeds_of c) k ≡ some d → (i : ℕ) (e : Entry) → get_elem? (entries_of d) i ≡ some e → SentBy (accepted_of e)
   deed_sent j c at k (operates x by s t a) there i e in_it =
       let n = all_at (IsNoted g state p q (tasks_of c) (view_of c)) (deeds_of c) k (operates x by s t a) (all_noted c.thread c.is) there in
-      acted_sent j x.number x.op by s t a (is_operation j c at n.0.0 x n.0.1) (own_call j c at n.0.0 x n.0.1) (view_of c) n.1 (among j c at) i e in_it
+      acted_sent j x.number x.op by s t a (is_operation j c at n.0.0 x n.0.1) (own_call j c at n.0.0 x n.0.1) (view_of c) n.1 (noted_among run notes have j c at) i e in_it
   deed_sent j c at k (retries r s t (had_ended h)) there i e in_it = none_there i e in_it
   deed_sent j c at k (retries r s t (overtaken l u a b)) there i e in_it = none_there i e in_it
   deed_sent j c at k (retries r s t (went_again l u lock w)) there i e in_it =
@@ -340,11 +334,11 @@ module _ {O : Type 0} {g : Ghosts O} {state : O → OutState} {readers : List (L
       let one_ = pair-at (slot * 4294967296 + version) r.attempt r.id r.attempt (sym whole) refl in
       let few = tried_few c.thread c.is slot version r.attempt (version_low r.id) in
       let noted : 0 < advances slot version r.attempt (view_of c) = omega arith in
-      let its = lock_id laws r.id r.attempt l s.calls.view (view_of c) u.calls.view lock.got knows (among j c at) noted in
+      let its = lock_id laws r.id r.attempt l s.calls.view (view_of c) u.calls.view lock.got knows (noted_among run notes have j c at) noted in
       let f = went_frame state p q l.content r.id r.attempt r.low _ _ t w.went i e in_it in
       let again = asked_there c.thread c.is k d 0 record { asked = l.content; attempt = r.attempt } there refl in
       let x = later j c at again.0 record { asked = l.content; attempt = r.attempt } again.1 in
-      of_call (own_attempt x.client l.content r.id r.attempt e r.low x.is its f (inr (let y = among j c at slot (is_attempt version r.attempt) in omega arith)))
+      of_call (own_attempt x.client l.content r.id r.attempt e r.low x.is its f (inr (let y = noted_among run notes have j c at slot (is_attempt version r.attempt) in omega arith)))
 
   -- each message that a link accepted
   pub sent_by : (k : ℕ) (e : Entry) → get_elem? run.closed.ordered.log k ≡ some e → SentBy (accepted_of e)

@@ -34,10 +34,12 @@ use Rattle.seat_programs.specs.declared.task.Task.{Task}
 use Rattle.seat_programs.specs.Told.{AreTasks}
 use Rattle.corr_core.specs.Law.{total}
 use Rattle.corr_core.specs.declared.marks.Kept.{Kept}
+use Rattle.corr_core.specs.declared.marks.Note.{Note}
 use Rattle.corr_core.specs.declared.marks.Noted.{Noted}
 use Rattle.corr_core.specs.declared.marks.Plan as id_plan
 use Rattle.corr_core.specs.declared.marks.View.{View}
 use Rattle.corr_core.proofs.Notes.{only-at}
+use Rattle.id_rule.specs.Lawful.{notes_of}
 use Rattle.sock_message.specs.Asked.{Asked}
 use Rattle.corr_id.specs.Closing.{Closing}
 use Rattle.sock_deeds.specs.rpc_client.specs.declared.acting.Told.{Told}
@@ -47,6 +49,7 @@ use Rattle.call_run.specs.Readers.{LinkReader}
 use Rattle.call_run.specs.Threads.{Thread, AreThreads, RanWith, AllMayRun, MayRunAll, ids_of, opens_of, opened_names, openings}
 use Rattle.sock_deeds.proofs.Entries.{before, from_pick, from_on, on_there}
 use Rattle.sock_deeds.proofs.Flats.{flat_there}
+use Rattle.sock_deeds.proofs.Places.{map_back}
 use Rattle.call_places.specs.Counted.{HaveNotesOf}
 use Rattle.call_places.specs.Deeds.{acted_entries, entries_of, own_entries}
 use Rattle.call_places.proofs.Weights.{term, at_low, there, mapped}
@@ -59,11 +62,6 @@ use Rattle.call_places.proofs.Clients.{Client, total_map, view_of, tasks_of, dee
 use Rattle.call_places.proofs.Log as log
 
 -- ## Lists by places
-
-map_from : {A B : Type 0} (f : A → B) (xs : List A) (c : ℕ) (b : B) → get_elem? (map f xs) c ≡ some b → (x : A) × (get_elem? xs c ≡ some x) × (f x ≡ b)
-map_from f [] c b e = absurd (some-ne-none b (sym e))
-map_from f (y ∷ ys) zero b e = (y, refl, some-injective (f y) b e)
-map_from f (y ∷ ys) (suc c) b e = map_from f ys c b e
 
 got : {A : Type 0} (xs : List A) (i : ℕ) (x : A) → get_elem? xs i ≡ some x → slice_get xs i ≡ Some x
 got [] i x e = absurd (some-ne-none x (sym e))
@@ -146,6 +144,12 @@ module _ {O : Type 0} {g : Ghosts O} {state : O → OutState} {readers : List (L
   pub views_are : map view_of all ≡ ids
   views_are = all_are (λ (x : Thread g). x.ended.calls.seat.me.0) ∙ run.ran.ids_are
 
+  -- what a client noted is among the notes
+  pub noted_among : (notes : List (Noted Asked)) → HaveNotesOf ids notes → (j : ℕ) (c : Client g state p (ids_of p slots)) → get_elem? all j ≡ some c → (i : ℕ) (f : Note Asked → ℕ) → total f (notes_of i (view_of c).notes) ≤ total f (notes_of i notes)
+  noted_among notes have j c at i f =
+      let a = term (λ (v : View Asked). total f (notes_of i v.notes)) ids j (view_of c) (ap (λ (l : List (View Asked)). get_elem? l j) (sym views_are) ∙ mapped view_of all j c at) in
+      let b = have.all i f in omega (arith, a, b)
+
   pub tasks_are : map tasks_of all ≡ setup ∷ clients
   tasks_are = all_are (λ (x : Thread g). x.tasks) ∙ (ap (λ (t : List Task). t ∷ map (λ (x : Thread g). x.tasks) run.ran.others) run.ran.setup_asked ∙ ap (λ l. setup ∷ l) run.ran.asked)
 
@@ -190,7 +194,7 @@ module _ {O : Type 0} {g : Ghosts O} {state : O → OutState} {readers : List (L
         let w = log.authored p run.closed.view.found run.closed.view.lists run.closed.ordered k e at in
         let m : ℕ = before w.author run.closed.ordered.by k in
         let own = own_behind readers (map own_of all) w.seat _ m e (ap (λ l. get_elem? l w.seat) (sym lists_are) ∙ w.list) w.place in
-        let c = map_from own_of all own.0 _ own.1 in
+        let c = map_back own_of all own.0 _ own.1 in
         let here = term (at_place e.heading.place) (own_of c.0) m e (ap (λ l. get_elem? l m) c.2 ∙ w.place) in
         let one = only-at e.heading.place e.heading.place refl in
         inside all notes laws have_all may_make numbers e.heading.place own.0 c.0 c.1 (omega arith)
@@ -292,7 +296,7 @@ module _ {O : Type 0} {g : Ghosts O} {state : O → OutState} {readers : List (L
           let e = send_entry state p (ids_of p slots) t.number n bytes t.op is m.by untold m.before m.after m.acted in
           let own = flat_there entries_of (deeds_of c) m.place _ 0 e.0 m.there e.1 in
           let seat = behind_own readers (map own_of all) j in
-          let list = map_from (λ a. pick a run.closed.ordered.by accepted) run.closed.ordered.names seat.0 (own_of c) (ap (λ l. get_elem? l seat.0) (sym run.closed.ordered.lists_are ∙ lists_are) ∙ (seat.1 ∙ mapped own_of all j c at)) in
+          let list = map_back (λ a. pick a run.closed.ordered.by accepted) run.closed.ordered.names seat.0 (own_of c) (ap (λ l. get_elem? l seat.0) (sym run.closed.ordered.lists_are ∙ lists_are) ∙ (seat.1 ∙ mapped own_of all j c at)) in
           let q = from_pick list.0 run.closed.ordered.by accepted own.0 e.0 (ap (λ l. get_elem? l own.0) list.2 ∙ own.1) in
           let i = on_there e.0.link accepted q.0 e.0 q.2 refl in
           (tells (8 * t.number) e.0.link i.0 (record { inside = e.3; entry = e.0; at = i.1; place = omega (arith, e.2) })).1.has_position

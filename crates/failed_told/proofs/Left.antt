@@ -44,7 +44,7 @@ use Rattle.attempts_told.specs.call_whys.specs.expire_told.specs.call_places.pro
 use Rattle.attempts_told.specs.call_whys.specs.expire_told.specs.call_places.proofs.Own.{deed_of}
 use Rattle.attempts_told.specs.call_whys.specs.expire_told.specs.call_places.proofs.Ids.{IsIdOf}
 use Rattle.attempts_told.specs.call_whys.specs.expire_told.specs.call_places.proofs.Clients.{Client, total_map, view_of, tasks_of, deeds_of}
-use Rattle.attempts_told.specs.call_whys.specs.expire_told.specs.call_places.proofs.Places.{all as all_clients, views_are}
+use Rattle.attempts_told.specs.call_whys.specs.expire_told.specs.call_places.proofs.Places.{all as all_clients, views_are, noted_among}
 use Rattle.attempts_told.specs.call_whys.specs.expire_told.specs.call_told.specs.Least.{is_made_for}
 use Rattle.attempts_told.specs.call_whys.specs.expire_told.specs.call_told.proofs.Lists.{all_at}
 use Rattle.attempts_told.specs.call_whys.specs.expire_told.specs.call_deeds.specs.Retried.{all_asked}
@@ -73,7 +73,7 @@ use Rattle.failed_told.proofs.Fallen.{one_operation, unordered, WhyNothing, had_
 use Rattle.failed_told.proofs.Losses.{WhyMissed, IsAskedIn, deed_why}
 use Rattle.failed_told.proofs.Makers.{made_begun}
 use Rattle.failed_told.proofs.Premises.{asked_so as asked_here}
-use Rattle.failed_told.proofs.Single.{laws, within, may_make, IsAttemptOf, at_first, again_id, again_attempt, first_id}
+use Rattle.failed_told.proofs.Single.{laws, may_make, IsAttemptOf, at_first, again_id, again_attempt, first_id}
 use Rattle.failed_told.proofs.Standing.{may_be_on, lost_on}
 use Rattle.failed_told.proofs.Unopened.{unopened_why}
 
@@ -259,7 +259,7 @@ module _ {O : Type 0} {g : Ghosts O} {state : O → OutState} {readers : List (L
           let m = may_make run tasks may notes kept words closing noted c x at in
           let mine : asked.operation ≡ o = own_call p q (tasks_of x) m.0 m.1 k its_task here asked refl in
           let made_ : 0 < total (is_made_for (version_of a.0) asked.operation) (notes_of (slot_of a.0) (view_of x).notes) = n.1.1 in
-          let its = first_id run tasks may notes kept words closing noted asked.operation a.0 n.1.0 (let b = within run tasks may notes kept words closing noted c x at (slot_of a.0) (is_made_for (version_of a.0) asked.operation) in omega (arith, b, made_)) in
+          let its = first_id run tasks may notes kept words closing noted asked.operation a.0 n.1.0 (let b = noted_among run notes noted c x at (slot_of a.0) (is_made_for (version_of a.0) asked.operation) in omega (arith, b, made_)) in
           let task = subst (λ (y : ℕ). IsOperation every outcomes client y (ops.Call asked)) (sym mine) is in
           let label = only-at (8 * asked.operation + 0) (8 * asked.operation + 0) refl in
           subst (λ (y : ℕ). LeftHere client y asked 0) mine (deed_left c x at i d there asked refl refl made_ client task its (at_first refl (omega (arith, label))) n.1.0 (omega arith))

@@ -52,7 +52,7 @@ use Rattle.attempts_told.specs.call_whys.specs.expire_told.specs.call_places.pro
 use Rattle.attempts_told.specs.call_whys.specs.expire_told.specs.call_places.proofs.Numbers.{numbered, numbered_once, own_calls, own_labels, no_labels}
 use Rattle.attempts_told.specs.call_whys.specs.expire_told.specs.call_places.proofs.Ids.{IdLaws, laws_of, IsIdOf, version_low, lock_id, one_id}
 use Rattle.attempts_told.specs.call_whys.specs.expire_told.specs.call_places.proofs.Clients.{Client, total_map, view_of, tasks_of, deeds_of, own_of}
-use Rattle.attempts_told.specs.call_whys.specs.expire_told.specs.call_places.proofs.Places.{all as all_clients, views_are, tasks_are, lists_are}
+use Rattle.attempts_told.specs.call_whys.specs.expire_told.specs.call_places.proofs.Places.{all as all_clients, views_are, tasks_are, lists_are, noted_among}
 use Rattle.attempts_told.specs.call_whys.specs.expire_told.specs.call_places.proofs.Log as log
 use Rattle.attempts_told.specs.call_whys.specs.expire_told.specs.call_told.specs.Least.{is_made_for}
 use Rattle.attempts_told.specs.call_whys.specs.expire_told.specs.call_told.proofs.Lists.{all_at}
@@ -194,11 +194,6 @@ module _ {O : Type 0} {g : Ghosts O} {state : O → OutState} {readers : List (L
   pub laws : IdLaws slots notes
   laws = laws_of q notes kept words closing
 
-  pub within : (c : ℕ) (x : Client g state p q) → get_elem? crew c ≡ some x → (slot : ℕ) (f : Note Asked → ℕ) → total f (notes_of slot (view_of x).notes) ≤ total f (notes_of slot notes)
-  within c x at slot f =
-      let h : View Asked → ℕ = λ v. total f (notes_of slot v.notes) in
-      let a = term (λ (y : Client g state p q). h (view_of y)) crew c x at in let b = total_map h view_of crew in let d = ap (total h) (views_are run) in let e = noted.all slot f in omega (arith, a, b, d, e)
-
   pub may_make : (c : ℕ) (x : Client g state p q) → get_elem? crew c ≡ some x → (n : ℕ) × MayMakeAll p q (tasks_of x) n
   may_make c x at = may_at p q (setup ∷ clients) (may.setup_may, may.clients_may) c (tasks_of x) (ap (λ (l : List (List Task)). get_elem? l c) (sym (tasks_are run)) ∙ mapped tasks_of crew c x at)
 
@@ -275,7 +270,7 @@ module _ {O : Type 0} {g : Ghosts O} {state : O → OutState} {readers : List (L
         let counted = term (by_retry (is_retry (slot * 4294967296 + version) r.attempt)) (deeds_of x) i went there in
         let one = pair-at (slot * 4294967296 + version) r.attempt r.id r.attempt (sym whole) refl in
         let few = tried_few x.thread x.is slot version r.attempt (version_low r.id) in
-        lock_id laws r.id r.attempt k s.calls.view (view_of x) u.calls.view l.got knows (within c x at) (omega (arith, counted, one, few))
+        lock_id laws r.id r.attempt k s.calls.view (view_of x) u.calls.view l.got knows (noted_among run notes noted c x at) (omega (arith, counted, one, few))
 
     pub again_later : get_elem? (deeds_of x) i ≡ some went → 0 < r.attempt
     again_later there = dite (ℕ_discrete r.attempt 0)
@@ -323,7 +318,7 @@ module _ {O : Type 0} {g : Ghosts O} {state : O → OutState} {readers : List (L
       let f = acted_first state p q code (view_of x) y.number y.op by s t a is backed in let id : ℕ = acted_id state p q y.number y.op by s t a in
       record {
         operation = f.operation;
-        id = first_id f.operation id inside (let b = within c x at (slot_of id) (is_made_for (version_of id) f.operation) in let m = f.made in omega (arith, b, m));
+        id = first_id f.operation id inside (let b = noted_among run notes noted c x at (slot_of id) (is_made_for (version_of id) f.operation) in let m = f.made in omega (arith, b, m));
         attempt = at_first refl f.label;
         no_frame = f.no_frame;
         asks = f.asks;
@@ -381,6 +376,6 @@ module _ {O : Type 0} {g : Ghosts O} {state : O → OutState} {readers : List (L
       let f : ℕ = is.first in
       let made = term (by_retry (is_retry id n)) (deeds_of x) i d there in
       let few : total (by_retry (is_retry id n)) (deeds_of x) ≤ total (is_attempt f n) (notes_of is.slot (view_of x).notes) = subst (λ (z : ℕ). total (by_retry (is_retry z n)) (deeds_of x) ≤ total (is_attempt f n) (notes_of is.slot (view_of x).notes)) (sym is.id_is) (tried_few x.thread x.is is.slot f n is.low) in
-      let all = within c x at is.slot (is_attempt f n) in
+      let all = noted_among run notes noted c x at is.slot (is_attempt f n) in
       let one = term (is_made_for f o) (notes_of is.slot notes) is.place (Made f is.range is.asked) is.made in let here = pair-at f o f is.asked.operation refl is.operation in
       none_further o notes is.slot f n notes (omega (arith, one, here)) (omega (arith, made, few, all, w))

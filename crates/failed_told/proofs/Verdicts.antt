@@ -45,7 +45,7 @@ use Rattle.attempts_told.specs.call_whys.specs.expire_told.specs.call_places.spe
 use Rattle.attempts_told.specs.call_whys.specs.expire_told.specs.call_places.specs.Deeds.{Deed}
 use Rattle.attempts_told.specs.call_whys.specs.expire_told.specs.call_places.proofs.Weights.{mapped}
 use Rattle.attempts_told.specs.call_whys.specs.expire_told.specs.call_places.proofs.Clients.{Client, view_of, tasks_of, deeds_of}
-use Rattle.attempts_told.specs.call_whys.specs.expire_told.specs.call_places.proofs.Places.{all as all_clients, tasks_are}
+use Rattle.attempts_told.specs.call_whys.specs.expire_told.specs.call_places.proofs.Places.{all as all_clients, tasks_are, noted_among}
 use Rattle.attempts_told.specs.call_whys.specs.expire_told.specs.call_told.specs.Least.{is_made_for, is_locked_for}
 use Rattle.attempts_told.specs.call_whys.specs.expire_told.specs.call_told.proofs.Ends.{IsEndOf}
 use Rattle.attempts_told.specs.call_whys.specs.expire_told.specs.call_told.proofs.Least.{lock_of, end_number}
@@ -56,7 +56,7 @@ use Rattle.failed_told.specs.Missed.{missed_in, id_of, IsBacked, attempt_of}
 use Rattle.failed_told.specs.Reasons.{KeepsWord, WasDropped, Reason, timed_out, missed, dropped, IsCaused}
 use Rattle.failed_told.proofs.Clients.{Says}
 use Rattle.failed_told.proofs.Codes.{IsMissCode, IsReadCode, deed_code}
-use Rattle.failed_told.proofs.Posters.{Poster, within, posted_by}
+use Rattle.failed_told.proofs.Posters.{Poster, posted_by}
 use Rattle.failed_told.proofs.Views.{queued_in}
 
 -- ## The last attempt
@@ -94,7 +94,7 @@ module _ {O : Type 0} {g : Ghosts O} {state : O → OutState} {readers : List (L
   PosterHere id code attempt = Poster run outcomes said_own notes kept words closing noted others id code attempt
 
   inside_notes : (c : ℕ) (x : Client g state p q) → get_elem? crew c ≡ some x → (slot : ℕ) (f : Note Asked → ℕ) → total f (notes_of slot (view_of x).notes) ≤ total f (notes_of slot notes)
-  inside_notes = within run outcomes said_own notes kept words closing noted others
+  inside_notes = noted_among run notes noted
 
   task_is : (d : ℕ) (y : Client g state p q) → get_elem? crew d ≡ some y → (i : ℕ) (t : Task) → get_elem? (tasks_of y) i ≡ some t → IsTask every outcomes d t
   task_is d y at i t there =

@@ -1,10 +1,10 @@
 -- Why each call of a script failed whose links were read beside its clients, and why each attempt of one behind the first was made.
-use Rattle.std.proofs.Common.{◌≡◌, ℕ, zero, suc, false, ◌+◌, ◌*◌, ◌<◌, ◌≤◌, ◌⊎◌, inl, inr, List, [], ◌∷◌, ◌++◌, length, map, replicate, slice_get, Contains, true, Option, Some, None, Ok, refl, sym, ap, ◌∙◌, subst, arith}
+use Rattle.std.proofs.Common.{◌≡◌, ℕ, suc, false, ◌+◌, ◌*◌, ◌<◌, ◌≤◌, ◌⊎◌, inl, inr, List, [], ◌∷◌, ◌++◌, length, map, replicate, slice_get, Contains, true, Option, Some, None, Ok, refl, sym, ap, ◌∙◌, subst, arith}
 use Rattle.std.specs.Prelude.{IfSome}
 use Rattle.std.specs.List.{AllByRecursion, flat_map}
 use Rattle.std.proofs.lemmas.List.{map-append, length-map}
 use Rattle.std.proofs.lemmas.Option.{none-some, slice_get_within}
-use mathlib.Core.Option.{some, some-injective, some-ne-none}
+use mathlib.Core.Option.{some}
 use lib.ListN.{get_elem?}
 use Rattle.sock_io.specs.declared.link.Out.{Ghosts}
 use Rattle.sock_io.specs.declared.link.Ends.{Ends}
@@ -44,7 +44,7 @@ use Rattle.call_run.specs.Threads.{Thread}
 use Rattle.script_calls.specs.report_fits.proofs.Sizes.{keeps_limits}
 use Rattle.script_calls.specs.report_fits.specs.Ends.{EndsEarly}
 use Rattle.script_calls.specs.call_whys.specs.call_deeds.proofs.Runs.{seats_are, read_beside, early_with}
-use Rattle.script_calls.specs.call_whys.specs.call_places.proofs.Ids.{IsIdOf}
+use Rattle.script_calls.specs.call_whys.specs.call_places.proofs.Ids.{IsIdOf, some_made}
 use Rattle.script_calls.specs.call_whys.specs.call_places.proofs.Weights.{term, flat_total}
 use Rattle.script_calls.specs.call_whys.specs.call_places.proofs.Clients.{Client, view_of as ids_of}
 use Rattle.script_calls.specs.call_whys.specs.call_places.proofs.Places.{all as all_clients, views_are}
@@ -57,8 +57,9 @@ use Rattle.script_calls.specs.call_whys.specs.expire_told.proofs.Making.{mapped_
 use Rattle.script_calls.specs.call_whys.specs.expire_told.specs.Said.{WhyExpired}
 use Rattle.script_calls.specs.call_whys.specs.sock_deeds.specs.Runs.{IsOperation, seat_of, sits_of, DeedRun}
 use Rattle.script_calls.specs.call_whys.specs.sock_deeds.proofs.Orders.{orders}
-use Rattle.script_calls.specs.call_whys.specs.sock_deeds.proofs.Places.{place_there}
+use Rattle.script_calls.specs.call_whys.specs.sock_deeds.proofs.Places.{place_there, map_there}
 use Rattle.script_calls.specs.call_whys.specs.sock_deeds.proofs.Whole.{log_accepted}
+use Rattle.script_calls.specs.call_whys.specs.sock_deeds.proofs.Flats.{flat_there}
 use Rattle.script_calls.specs.attempts_told.specs.Attempts.{last_attempt}
 use Rattle.script_calls.specs.failed_told.specs.Ends.{ReadingEnded, GaveNoResponse, EndedByReading, AtFault, AtEnd, AtFaultDrop, AtEndDrop, LeftOver, LeftAt}
 use Rattle.script_calls.specs.failed_told.proofs.Again.{again_with}
@@ -69,7 +70,7 @@ use Rattle.script_calls.specs.failed_told.proofs.DropsTold.{drops_with, expires_
 use Rattle.script_calls.specs.failed_told.proofs.Ended.{TellsDrops, ends_with}
 use Rattle.script_calls.specs.failed_told.proofs.Ends.{ReadEnded, reader_read, reader_posts, ToldBy, reader_tells}
 use Rattle.script_calls.specs.failed_told.proofs.Left.{left_at}
-use Rattle.script_calls.specs.failed_told.proofs.LeftOver.{MoreNotes, IsLast, rest_last, some_made, over_last}
+use Rattle.script_calls.specs.failed_told.proofs.LeftOver.{MoreNotes, IsLast, rest_last, over_last}
 use Rattle.script_calls.specs.failed_told.proofs.LinkEnds.{EndedHere, DroppedHere, QueuedHere, told_on}
 use Rattle.script_calls.specs.failed_told.proofs.Posts.{IsPost, rest_stays}
 use Rattle.script_calls.specs.failed_told.proofs.Premises.{asked_so}
@@ -104,20 +105,9 @@ use Rattle.script_beside.proofs.Sockets as sockets
 use Rattle.script_beside.proofs.Telling as telling
 use Rattle.script_beside.proofs.WideCalls.{failure_still, left_still, again_still, expire_still}
 
--- what stands in a list stands in a longer one, and in the lists put one behind the other
-in_front : {A : Type 0} (xs ys : List A) (n : ℕ) (x : A) → get_elem? xs n ≡ some x → get_elem? (xs ++ ys) n ≡ some x
-in_front [] ys n x e = absurd (some-ne-none x (sym e))
-in_front (y ∷ xs) ys zero x e = e
-in_front (y ∷ xs) ys (suc n) x e = in_front xs ys n x e
-
-behind_it : {A : Type 0} (xs ys : List A) (x : A) → (n : ℕ) × (get_elem? ys n ≡ some x) → (n : ℕ) × (get_elem? (xs ++ ys) n ≡ some x)
-behind_it [] ys x h = h
-behind_it (y ∷ xs) ys x h = let w = behind_it xs ys x h in (suc w.0, w.1)
-
+-- a frame that is kept early by one of these is among those of all
 early_at : {O : Type 0} {g : Ghosts O} (xs : List (LinkReader g)) (j n : ℕ) (x : LinkReader g) (f : Answer) → get_elem? xs j ≡ some x → get_elem? x.books.early n ≡ some f → (m : ℕ) × (get_elem? (flat_map (λ (fs : List Answer). fs) (map (λ (y : LinkReader g). y.books.early) xs)) m ≡ some f)
-early_at [] j n x f e at = absurd (some-ne-none x (sym e))
-early_at {g = g} (y ∷ xs) zero n x f e at = (n, in_front y.books.early (flat_map (λ (fs : List Answer). fs) (map (λ (z : LinkReader g). z.books.early) xs)) n f (subst (λ (z : LinkReader g). get_elem? z.books.early n ≡ some f) (sym (some-injective y x e)) at))
-early_at {g = g} (y ∷ xs) (suc j) n x f e at = behind_it y.books.early (flat_map (λ (fs : List Answer). fs) (map (λ (z : LinkReader g). z.books.early) xs)) f (early_at xs j n x f e at)
+early_at {g = g} xs j n x f e at = flat_there (λ (fs : List Answer). fs) (map (λ (y : LinkReader g). y.books.early) xs) j x.books.early n f (map_there (λ (y : LinkReader g). y.books.early) xs j x e) at
 
 all_places : {A : Type 0} (Q : A → Type 0) (xs : List A) → ((j : ℕ) (x : A) → get_elem? xs j ≡ some x → Q x) → AllByRecursion Q xs
 all_places Q [] h = tt
@@ -546,7 +536,7 @@ module _ (P : Type 0) {O I : Type 0} (g : Ghosts O) (out : O → OutState) (inn 
         (sockets.reports P g out inn bytes script reads text links r).said (attempts.later P g out inn bytes script reads text links r) (attempts.own P g out inn bytes script reads text links r) drun seats refl (sockets.differ P g out inn bytes script reads text links r) gave client x.number asked call id code became
         (over_last r.left.ran (sockets.are P g out inn bytes script reads text links r) (sockets.may P g out inn bytes script reads text links r) notes last.kept r.rest.words r.rest.closing (sockets.have P g out inn bytes script reads text links r) main.view.notes main_notes x.number id code x
         (all_at (IsLast q.slots main.view.notes notes) r.last i x rest_lasts there) outcome its)
-        (some_made r.left.ran (sockets.are P g out inn bytes script reads text links r) (sockets.may P g out inn bytes script reads text links r) notes last.kept r.rest.words r.rest.closing (sockets.have P g out inn bytes script reads text links r) main.view.notes main_notes x.number id its))
+        (some_made x.number id its))
 
     of_rest : (i : ℕ) (x : Told) → get_elem? r.last i ≡ some x → (client : ℕ) (asked : Asked) → IsOperation all outcomes client x.number (ops.Call asked) → (id code : ℕ) → x.outcome ≡ CallFailed id code → Became all outcomes x.number (CallFailed id code) → FailedHere client x.number asked id code
     of_rest i x there client asked call id code outcome became =

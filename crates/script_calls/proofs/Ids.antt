@@ -46,7 +46,7 @@ use Rattle.calls_done.specs.call_whys.specs.call_told.proofs.Making.{AllMade, ma
 use Rattle.calls_done.specs.call_whys.specs.call_places.specs.Counted.{makes_for, makes, HaveNotesOf}
 use Rattle.calls_done.specs.call_whys.specs.call_places.proofs.Clients.{Client, total_map, tasks_of, view_of as ids_seen}
 use Rattle.calls_done.specs.call_whys.specs.call_places.proofs.Counts.{call_in, made_few, task_total}
-use Rattle.calls_done.specs.call_whys.specs.call_places.proofs.Ids.{IsIdOf, one_id}
+use Rattle.calls_done.specs.call_whys.specs.call_places.proofs.Ids.{IsIdOf, some_made, one_id}
 use Rattle.calls_done.specs.call_whys.specs.call_places.proofs.Numbers.{numbered, numbered_once, own_calls}
 use Rattle.calls_done.specs.call_whys.specs.call_places.proofs.Places.{all as all_clients, tasks_are as of_clients}
 use Rattle.calls_done.specs.call_whys.specs.call_places.proofs.Weights.{term, two_terms, each_less, mapped, noted_at}
@@ -289,11 +289,6 @@ module _ {O : Type 0} {g : Ghosts O} {state : O → OutState} {readers : List (L
   -- ## Where each call is told
 
   module _ (called : (c k : ℕ) (ts : List Task) (t : Task) (asked : Asked) → get_elem? (setup ∷ clients) c ≡ some ts → get_elem? ts k ≡ some t → t.op ≡ ops.Call asked → IsSaid (outcomes_of (plan_of script).operations told tellers last) t.number) where
-    some_made : (o id : ℕ) → IsIdOf slots v.notes o id → 0 < total (makes o) v.notes
-    some_made o id h =
-        let n = noted_at h.slot v.notes h.place (Made h.first h.range h.asked) h.made in
-        let a = term (makes o) v.notes n.0 _ n.1 in let b = only-at o h.asked.operation h.operation in omega arith
-
     -- a call for which an id was made
     is_told : (o id : ℕ) → IsIdOf slots v.notes o id → (by : Outcome) × Became asked_for became_all o by
     is_told o id h =
