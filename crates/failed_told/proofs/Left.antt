@@ -63,7 +63,7 @@ use Rattle.attempts_told.proofs.Last.{IsReached, one_reached, none_further}
 use Rattle.attempts_told.proofs.RetriedLast.{WentFor, last_went}
 use Rattle.attempts_told.proofs.Senders.{IsNoted, all_noted, made_for_there}
 use Rattle.attempts_told.proofs.Told.{same_asked}
-use Rattle.failed_told.specs.Ends.{LeftAt, on_link, none_opened}
+use Rattle.failed_told.specs.Ends.{LeftAt, OnLink, NoneOpened}
 use Rattle.failed_told.specs.Missed.{attempt_missed, went_missed, acted_missed, missed_in, id_of, IsBacked, attempt_of, socks_behind}
 use Rattle.failed_told.specs.Reasons.{AdvancedFor}
 use Rattle.failed_told.proofs.AtWords.{attempt_link, went_link, acted_link, link_in}
@@ -183,9 +183,9 @@ module _ {O : Type 0} {g : Ghosts O} {state : O → OutState} {readers : List (L
   Unordered o n = IsUnordered p every outcomes fixed_here gave orders_here o n
 
   by_lost : (client o n : ℕ) (asked : Asked) → WhyLost p every outcomes fixed_here gave orders_here client o n (name_of asked n) → Unordered o n → LeftHere client o asked n
-  by_lost client o n asked (WasFailing k slot version made failing) free = on_link k (slot, version, made, λ l stands. absurd (free l stands)) (inl failing)
+  by_lost client o n asked (WasFailing k slot version made failing) free = OnLink k (slot, version, made, λ l stands. absurd (free l stands)) (inl failing)
   by_lost client o n asked (RunEnding late) free = absurd (has_none o (has_from [] o late))
-  by_lost client o n asked (WasUnopened some_ c m low high before none_) free = none_opened some_ free c m low high before none_
+  by_lost client o n asked (WasUnopened some_ c m low high before none_) free = NoneOpened some_ free c m low high before none_
 
   -- ## An attempt that was made
 
@@ -216,7 +216,7 @@ module _ {O : Type 0} {g : Ghosts O} {state : O → OutState} {readers : List (L
       where
         by : (k : Option ℕ) → link_in d ≡ k → LeftHere client asked.operation asked (attempt_of d)
         by None is = by_nothing is
-        by (Some link) is = on_link link
+        by (Some link) is = OnLink link
             (may_be_on run tasks may notes kept words closing noted outcomes drun seats logged differ gave (log_accepted drun differ (λ k. [])) c x at i d there client asked.operation (id_of d) asked task its attempt few inside asked asks refl link is)
             (lost_on run tasks may notes kept words closing noted outcomes drun seats logged differ gave (log_accepted drun differ (λ k. [])) c x at i d there client asked.operation (id_of d) asked task its attempt few inside asked asks refl link is refl (deed_low d link is))
 
