@@ -46,8 +46,8 @@ use Rattle.attempts_told.specs.call_whys.specs.expire_told.proofs.Making.{mapped
 use Rattle.attempts_told.specs.call_whys.specs.expire_told.specs.sock_deeds.specs.Runs.{IsOperation, seat_of, sits_of, DeedRun}
 use Rattle.attempts_told.specs.call_whys.specs.expire_told.specs.sock_deeds.proofs.Growing.{HasFound}
 use Rattle.attempts_told.specs.call_whys.specs.expire_told.specs.sock_deeds.proofs.Tasks.{same_task}
+use Rattle.attempts_told.specs.call_whys.specs.expire_told.specs.sock_deeds.proofs.DropCodes.{StoredByReader, first_found}
 use Rattle.failed_told.proofs.Ends.{EndedIf, ReadEnded}
-use Rattle.failed_told.proofs.ReaderCodes.{StoredByReader, first_found}
 
 -- ## Notes that are no codes
 

@@ -60,6 +60,7 @@ use Rattle.script_calls.specs.call_whys.specs.sock_deeds.proofs.Orders.{orders}
 use Rattle.script_calls.specs.call_whys.specs.sock_deeds.proofs.Places.{place_there, map_there}
 use Rattle.script_calls.specs.call_whys.specs.sock_deeds.proofs.Whole.{log_accepted}
 use Rattle.script_calls.specs.call_whys.specs.sock_deeds.proofs.Flats.{flat_there}
+use Rattle.script_calls.specs.call_whys.specs.sock_deeds.proofs.DropCodes.{StoredByReader}
 use Rattle.script_calls.specs.attempts_told.specs.Attempts.{last_attempt}
 use Rattle.script_calls.specs.failed_told.specs.Ends.{ReadingEnded, GaveNoResponse, EndedByReading, AtFault, AtEnd, AtFaultDrop, AtEndDrop, LeftOver, LeftAt}
 use Rattle.script_calls.specs.failed_told.proofs.Again.{again_with}
@@ -74,7 +75,6 @@ use Rattle.script_calls.specs.failed_told.proofs.LeftOver.{MoreNotes, IsLast, re
 use Rattle.script_calls.specs.failed_told.proofs.LinkEnds.{EndedHere, DroppedHere, QueuedHere, told_on}
 use Rattle.script_calls.specs.failed_told.proofs.Posts.{IsPost, rest_stays}
 use Rattle.script_calls.specs.failed_told.proofs.Premises.{asked_so}
-use Rattle.script_calls.specs.failed_told.proofs.ReaderCodes.{StoredByReader}
 use Rattle.script_calls.specs.failed_told.proofs.ReaderStores.{setter}
 use Rattle.script_calls.specs.failed_told.proofs.Reading.{notes_flat, rest_queues, readers_queue, queued_beside, others_beside}
 use Rattle.script_calls.specs.failed_told.proofs.Silent.{silent}
