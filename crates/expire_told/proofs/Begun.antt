@@ -28,8 +28,7 @@ use Rattle.call_told.specs.Least.{is_made_for, HasBegun}
 use Rattle.call_told.proofs.Ends.{made_silent, counted_here}
 use Rattle.call_told.proofs.Growing.{Grows, own_at}
 use Rattle.call_told.proofs.Lists.{all_at}
-use Rattle.call_told.proofs.Moves.{Fits}
-use Rattle.expire_told.proofs.Going.{Goes, attempted_by, retried_here, begun_by, BeginsCall, acted_or, made_goes}
+use Rattle.call_told.proofs.Moves.{Fits, Moves, attempted_by, retried_here, begun_by, BeginsCall, acted_or, made_moves}
 
 module _ (q : id_plan.Plan) where
   pub begun_later : (x n operation id : ℕ) (v w : View Asked) → Grows x n v w → HasBegun q operation id v → HasBegun q operation id w
@@ -77,7 +76,7 @@ module _ (q : id_plan.Plan) where
               (λ e. record { place = n; task = x; there = at; asked = b.asked; is_call = b.is_call; operation = e; id = b.id; begun = subst (λ (y : ℕ). HasBegun q y b.id t.has.calls.view) e (made_begun b.asked b.id (both_of m.ready) (both_of t.has) b.called) })
               (λ ne. absurd (let a = (begun_by q o state p b.asked b.id (both_of m.ready) (both_of t.has) b.called).grows.own in let c = only-else o b.asked.operation ne in omega (arith, some_, zero_, a, c)))
 
-          by : Goes q o 0 m.ready.calls t.has.calls ⊎ BeginsCall q o state p x.op m.ready t.has → total (own_at (call_index q o)) m.ready.calls.view.kept ≡ 0 → BegunIn o xs t.has.calls.view
+          by : Moves q o 0 m.ready.calls t.has.calls ⊎ BeginsCall q o state p x.op m.ready t.has → total (own_at (call_index q o)) m.ready.calls.view.kept ≡ 0 → BegunIn o xs t.has.calls.view
           by (inl goes) zero_ = absurd (let a = goes.grows.own in omega (arith, some_, zero_, a))
           by (inr b) zero_ = begins b zero_
 
@@ -85,4 +84,4 @@ module _ (q : id_plan.Plan) where
       ran_stored xs fits zero s t h none_ some_ = absurd (let e = ap (λ (c : Course g). total (own_at (call_index q o)) c.has.calls.view.kept) h in omega (arith, none_, some_, e))
       ran_stored xs fits (suc n) s t h none_ some_ = dite (ℕ_discrete (total (own_at (call_index q o)) h.0.has.calls.view.kept) 0)
           (λ z. made_stored xs n h.1 h.0 t h.3 h.4 z some_)
-          (λ ne. stays o xs _ h.0.has.calls.view t.has.calls.view (made_goes q o state p h.1 h.0 t (all_at Fits xs n h.1 fits h.3) h.4).grows (ran_stored xs fits n s h.0 h.2 none_ (omega (arith, ne))))
+          (λ ne. stays o xs _ h.0.has.calls.view t.has.calls.view (made_moves q o state p h.1 h.0 t (all_at Fits xs n h.1 fits h.3) h.4).grows (ran_stored xs fits n s h.0 h.2 none_ (omega (arith, ne))))

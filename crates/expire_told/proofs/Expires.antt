@@ -56,10 +56,9 @@ use Rattle.call_told.proofs.Balance.{noted_ends}
 use Rattle.call_told.proofs.Growing.{own_at}
 use Rattle.call_told.proofs.Least.{end_number}
 use Rattle.call_told.proofs.Lists.{all_at}
-use Rattle.call_told.proofs.Moves.{Fits, is_task}
+use Rattle.call_told.proofs.Moves.{Fits, is_task, expired_by, retried_here, made_moves, end_moves, run_moves}
 use Rattle.call_told.proofs.Resting.{is_word}
 use Rattle.expire_told.specs.Said.{AreSaid, AreOfCalls, HaveKeptOf}
-use Rattle.expire_told.proofs.Going.{expired_by, retried_here, made_goes, end_goes, run_goes}
 use Rattle.expire_told.proofs.Doing.{GoesOn, on_then, Split, ran_split, Done, done_of, run_fed}
 use Rattle.expire_told.proofs.Begun.{begun_later, BegunIn, made_begun, ran_stored}
 use Rattle.expire_told.proofs.Making.{mapped_from, elem_at, before_in, word_is, owned, placed, same_stored}
@@ -178,7 +177,7 @@ module _ {O : Type 0} {g : Ghosts O} {state : O → OutState} {readers : List (L
   -- a client stores as many ids for an operation as it has tasks of that number
   own_stored : (c : ℕ) (x : Client g state p q) → get_elem? crew c ≡ some x → (o : ℕ) → total (own_at (call_index q o)) (view_of x).kept ≤ total (is_task o) (tasks_of x)
   own_stored c x at o =
-      let a = (run_goes q o state p x.thread.tasks x.thread.began x.thread.ended (fits c x at) x.is.ran).grows.own in
+      let a = (run_moves q o state p x.thread.tasks x.thread.began x.thread.ended (fits c x at) x.is.ran).grows.own in
       let b = ap (λ (m : Me (Option Asked) (View Asked)). total (own_at (call_index q o)) m.0.kept) x.is.ids in omega arith
 
   -- which is one at most
@@ -209,7 +208,7 @@ module _ {O : Type 0} {g : Ghosts O} {state : O → OutState} {readers : List (L
   maker : (o id c : ℕ) (x : Client g state p q) → get_elem? crew c ≡ some x → 0 < total (is_stored (call_index q o) id) (view_of x).kept → IsMaker o id
   maker o id c x at stored =
       let r = x.is.ran in let w = call_index q o in
-      let e = end_goes q o state p x.thread.tasks x.thread.began x.thread.ended r in
+      let e = end_moves q o state p x.thread.tasks x.thread.began x.thread.ended r in
       let a = owned w id (view_of x).kept in let b = e.grows.own in
       let none_ = ap (λ (m : Me (Option Asked) (View Asked)). total (own_at w) m.0.kept) x.is.ids in
       let h = ran_stored q state p o x.thread.tasks (fits c x at) r.made (begins x.thread.began) (record { has = stand r.came; told = r.came.outcomes.items; names = r.ran.names }) r.ran.ran none_ (omega arith) in
@@ -387,7 +386,7 @@ module _ {O : Type 0} {g : Ghosts O} {state : O → OutState} {readers : List (L
 
           kept_last : 0 < total (is_word (call_index q of) h.id) (view_of n.client).kept
           kept_last =
-              let a = kept_then in let b = (made_goes q of state p u n.done.before n.done.after (all_at Fits (tasks_of n.client) n.place u (fits c n.client n.at) n.there) n.done.made).grows.kept (is_word (call_index q of) h.id) in
+              let a = kept_then in let b = (made_moves q of state p u n.done.before n.done.after (all_at Fits (tasks_of n.client) n.place u (fits c n.client n.at) n.there) n.done.made).grows.kept (is_word (call_index q of) h.id) in
               let d = (n.done.later of).1.grows.kept (is_word (call_index q of) h.id) in omega (arith, a, b, d)
 
           or_begun : (n.done.made.by ≡ Some outcome.Unopened) ⊎ ((id : ℕ) × HasBegun q asked.operation id n.done.after.has.calls.view × ((x : ℕ) → x % 2 ≡ 0 → total (is_word x id) n.done.made.ready.calls.view.kept ≡ 0)) → ⊥
