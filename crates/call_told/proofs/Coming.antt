@@ -45,7 +45,7 @@ pub data HasCome (q : id_plan.Plan) (x : Task) (told : List Told) (v : View Aske
 
 module _ (q : id_plan.Plan) where
   -- a call that began has begun
-  begun_later : (x n operation id : ℕ) (v w : View Asked) → Grows x n v w → HasBegun q operation id v → HasBegun q operation id w
+  pub begun_later : (x n operation id : ℕ) (v w : View Asked) → Grows x n v w → HasBegun q operation id v → HasBegun q operation id w
   begun_later x n operation id v w g h = record {
     inside = h.inside;
     made = (let a = g.notes (slot_of id) (is_made_for (version_of id) operation) in let b = h.made in omega arith);
@@ -64,7 +64,7 @@ module _ (q : id_plan.Plan) where
 
   module _ {O : Type 0} (state : O → OutState) (p : Plan) where
     -- the id of a call is made and noted
-    made_begun : (asked : Asked) (id : ℕ) (s t : Both) → CalledBy state p q asked (called.Begun id) s t → HasBegun q asked.operation id t.calls.view
+    pub made_begun : (asked : Asked) (id : ℕ) (s t : Both) → CalledBy state p q asked (called.Begun id) s t → HasBegun q asked.operation id t.calls.view
     made_begun asked id s t h =
         let m = h.made_for in let u = h.at.calls.view in let o = asked.operation in let slot = slot_of id in let f = version_of id in
         let notes = did_total (is_made_for f o) (made_silent f o) slot s.calls.view m.view _ (one slot (made_note f asked.range asked)) m.made.did slot in

@@ -58,11 +58,13 @@ use Rattle.call_told.proofs.Least.{end_number}
 use Rattle.call_told.proofs.Lists.{all_at}
 use Rattle.call_told.proofs.Moves.{Fits, is_task, expired_by, retried_here, made_moves, end_moves, run_moves}
 use Rattle.call_told.proofs.Resting.{is_word}
+use Rattle.call_told.proofs.Coming.{begun_later, made_begun}
 use Rattle.expire_told.specs.Said.{AreSaid, AreOfCalls, HaveKeptOf}
 use Rattle.expire_told.proofs.Doing.{GoesOn, on_then, Split, ran_split, Done, done_of, run_fed}
-use Rattle.expire_told.proofs.Begun.{begun_later, BegunIn, made_begun, ran_stored}
-use Rattle.expire_told.proofs.Making.{mapped_from, elem_at, before_in, word_is, owned, placed, same_stored}
+use Rattle.expire_told.proofs.Begun.{BegunIn, ran_stored}
+use Rattle.expire_told.proofs.Making.{before_in, word_is, owned, placed, same_stored}
 use Rattle.expire_told.proofs.Expiring.{EndsAs, timed_out_word, timed_out_ends}
+use Rattle.call_told.specs.sock_deeds.proofs.Places.{map_back, to_elem}
 
 -- ## Calls have their own numbers
 
@@ -118,7 +120,7 @@ module _ {O : Type 0} {g : Ghosts O} {state : O → OutState} {readers : List (L
   -- ## Clients and their tasks
 
   client_at : (c : ℕ) (ts : List Task) → slice_get every c ≡ Some ts → (x : Client g state p q) × (get_elem? crew c ≡ some x) × (tasks_of x ≡ ts)
-  client_at c ts e = mapped_from tasks_of crew c ts (ap (λ (l : List (List Task)). get_elem? l c) (tasks_are run) ∙ elem_at every c ts e)
+  client_at c ts e = map_back tasks_of crew c ts (ap (λ (l : List (List Task)). get_elem? l c) (tasks_are run) ∙ to_elem every c ts e)
 
   pub tasks_at : (c : ℕ) (x : Client g state p q) → get_elem? crew c ≡ some x → get_elem? every c ≡ some (tasks_of x)
   tasks_at c x at = ap (λ (l : List (List Task)). get_elem? l c) (sym (tasks_are run)) ∙ mapped tasks_of crew c x at
@@ -137,7 +139,7 @@ module _ {O : Type 0} {g : Ghosts O} {state : O → OutState} {readers : List (L
   pub made_of : (c : ℕ) (t : Task) → IsTask every outcomes c t → IsMade c t
   made_of c t is =
       let x = client_at c is.0 is.1 in let h = has_from is.0 t is.2 in
-      let there : get_elem? (tasks_of x.0) h.0 ≡ some t = ap (λ (l : List Task). get_elem? l h.0) x.2 ∙ elem_at is.0 h.0 t h.1 in record {
+      let there : get_elem? (tasks_of x.0) h.0 ≡ some t = ap (λ (l : List Task). get_elem? l h.0) x.2 ∙ to_elem is.0 h.0 t h.1 in record {
         client = x.0;
         at = x.1;
         place = h.0;

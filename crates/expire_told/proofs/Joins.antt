@@ -45,10 +45,10 @@ use Rattle.call_told.specs.Least.{HasBegun}
 use Rattle.call_told.proofs.Lists.{all_at}
 use Rattle.call_told.proofs.Moves.{Fits, retried_here, made_moves}
 use Rattle.call_told.proofs.Resting.{is_word}
+use Rattle.call_told.proofs.Coming.{begun_later}
 use Rattle.expire_told.specs.Joined.{AreJoinsOfCalls}
 use Rattle.expire_told.specs.Said.{AreSaid, HaveKeptOf}
 use Rattle.expire_told.proofs.Doing.{Split, ran_split}
-use Rattle.expire_told.proofs.Begun.{begun_later}
 use Rattle.expire_told.proofs.Making.{before_in, placed}
 use Rattle.expire_told.proofs.Expires.{call_acted, InOrder, fits, tasks_at, IsMade, made_of, own_told, one_stored, IsMaker, found_maker, stands_before, earlier_told}
 use Rattle.expire_told.proofs.Whole.{maker_begun}

@@ -48,7 +48,6 @@ use Rattle.attempts_told.specs.call_whys.specs.expire_told.specs.call_places.pro
 use Rattle.attempts_told.specs.call_whys.specs.expire_told.specs.call_places.proofs.Clients.{Client, view_of, deeds_of}
 use Rattle.attempts_told.specs.call_whys.specs.expire_told.specs.call_places.proofs.Places.{all as all_clients, all_are}
 use Rattle.attempts_told.specs.call_whys.specs.expire_told.specs.call_told.proofs.Lists.{all_at}
-use Rattle.attempts_told.specs.call_whys.specs.expire_told.proofs.Making.{mapped_from}
 use Rattle.attempts_told.specs.call_whys.specs.expire_told.specs.sock_deeds.specs.Deeds as socks
 use Rattle.attempts_told.specs.call_whys.specs.expire_told.specs.sock_deeds.specs.Runs.{IsOperation, Seated, seat_of, DeedRun}
 use Rattle.attempts_told.specs.call_whys.specs.expire_told.specs.sock_deeds.proofs.Accepting.{log}
@@ -62,6 +61,7 @@ use Rattle.failed_told.specs.Missed.{missed_in, id_of, IsBacked, attempt_of, soc
 use Rattle.failed_told.proofs.Losses.{SawDead, SawFull, dead_later, full_later, WhyMissed, was_dead, was_full, was_unopened, was_stray}
 use Rattle.failed_told.proofs.Reaching.{Reaches, deeds_reach}
 use Rattle.failed_told.proofs.Single.{IsNothing, not_accepted}
+use Rattle.attempts_told.specs.call_whys.specs.expire_told.specs.sock_deeds.proofs.Places.{map_back}
 
 -- ## Of notes and operations
 
@@ -163,7 +163,7 @@ module _ {O : Type 0} {g : Ghosts O} {state : O → OutState} {readers : List (L
   its_seat c x at =
       let f : Thread g → Seat (SockHome O g) sock_view.View = λ z. z.ended.seat in
       let list : get_elem? (map seat_of drun.seats) c ≡ some x.thread.ended.seat = ap (λ l. get_elem? l c) (seats ∙ sym (all_are run f)) ∙ mapped (λ (z : Client g state p q). f z.thread) crew c x at in
-      let w = mapped_from seat_of drun.seats c x.thread.ended.seat list in
+      let w = map_back seat_of drun.seats c x.thread.ended.seat list in
       (w.0, w.1, sym w.0.left ∙ ap (λ s. s.me.0) w.2)
 
   -- what a deed's seat saw by it, it has in the end

@@ -52,7 +52,6 @@ use Rattle.attempts_told.specs.call_whys.specs.expire_told.specs.call_deeds.proo
 use Rattle.attempts_told.specs.call_whys.specs.expire_told.specs.call_deeds.proofs.Told.{task_at}
 use Rattle.attempts_told.specs.call_whys.specs.expire_told.specs.report_fits.proofs.Lists.{has_from, has_none}
 use Rattle.attempts_told.specs.call_whys.specs.expire_told.specs.Said.{AreSaid}
-use Rattle.attempts_told.specs.call_whys.specs.expire_told.proofs.Making.{mapped_from}
 use Rattle.attempts_told.specs.call_whys.specs.expire_told.specs.sock_deeds.specs.Runs.{IsOperation, seat_of, DeedRun}
 use Rattle.attempts_told.specs.call_whys.specs.expire_told.specs.sock_deeds.proofs.Accepting.{log}
 use Rattle.attempts_told.specs.call_whys.specs.expire_told.specs.sock_deeds.proofs.Orders.{orders}
@@ -76,6 +75,7 @@ use Rattle.failed_told.proofs.Premises.{asked_so as asked_here}
 use Rattle.failed_told.proofs.Single.{laws, may_make, IsAttemptOf, at_first, again_id, again_attempt, first_id}
 use Rattle.failed_told.proofs.Standing.{may_be_on, lost_on}
 use Rattle.failed_told.proofs.Unopened.{unopened_why}
+use Rattle.attempts_told.specs.call_whys.specs.expire_told.specs.sock_deeds.proofs.Places.{map_back}
 
 -- ## Of deeds
 
@@ -267,7 +267,7 @@ module _ {O : Type 0} {g : Ghosts O} {state : O → OutState} {readers : List (L
       first_left : 0 < total (makes o) notes → LeftHere client o asked 0
       first_left made =
           let v = total_some (λ (v : View Asked). total (makes o) v.notes) ids (let a = noted.made o in omega (arith, a, made)) in
-          let y = mapped_from view_of crew v.0 v.1 (ap (λ (vs : List (View Asked)). get_elem? vs v.0) (views_are run) ∙ v.2) in
+          let y = map_back view_of crew v.0 v.1 (ap (λ (vs : List (View Asked)). get_elem? vs v.0) (views_are run) ∙ v.2) in
           let b = made_begun y.0.thread y.0.is o (subst (λ (z : View Asked). 0 < total (makes o) z.notes) (sym y.2) v.3) in
           let task = task_at y.0.thread y.0.is b.0 b.1 b.2 in
           let m = may_make run tasks may notes kept words closing noted v.0 y.0 y.1 in

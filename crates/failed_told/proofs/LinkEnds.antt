@@ -36,7 +36,6 @@ use Rattle.attempts_told.specs.call_whys.specs.expire_told.specs.call_told.proof
 use Rattle.attempts_told.specs.call_whys.specs.expire_told.specs.call_deeds.specs.Retried.{all_asked}
 use Rattle.attempts_told.specs.call_whys.specs.expire_told.specs.call_deeds.proofs.Ran.{AreLater}
 use Rattle.attempts_told.specs.call_whys.specs.expire_told.specs.Said.{AreSaid, HaveKeptOf}
-use Rattle.attempts_told.specs.call_whys.specs.expire_told.proofs.Making.{mapped_from}
 use Rattle.attempts_told.specs.call_whys.specs.expire_told.specs.sock_deeds.specs.Runs.{IsOperation, seat_of, DeedRun}
 use Rattle.attempts_told.specs.call_whys.specs.expire_told.specs.sock_deeds.proofs.Accepting.{log}
 use Rattle.attempts_told.specs.call_whys.specs.expire_told.specs.sock_deeds.proofs.Tasks.{same_task}
@@ -53,6 +52,7 @@ use Rattle.failed_told.proofs.Premises.{asked_so as asked_here}
 use Rattle.failed_told.proofs.Single.{made_once}
 use Rattle.failed_told.proofs.Verdicts.{made_so}
 use Rattle.failed_told.proofs.Views.{queued_in}
+use Rattle.attempts_told.specs.call_whys.specs.expire_told.specs.sock_deeds.proofs.Places.{map_back}
 
 module _ {O : Type 0} {g : Ghosts O} {state : O → OutState} {readers : List (LinkReader g)} {p : Plan} {slots : ℕ} {setup : List Task} {clients : List (List Task)} {opens : List ℕ} {told ended : List (List Told)} {places : List PlaceWord} {vrefs : List Vref} {outs : List O} {ids : List (View Asked)}
     (run : RanWith g state readers p slots setup clients opens told ended places vrefs outs ids) (tasks : AreTasks p (setup ∷ clients)) (may : MayRunAll p (ids_of p slots) setup clients)
@@ -132,7 +132,7 @@ module _ {O : Type 0} {g : Ghosts O} {state : O → OutState} {readers : List (L
     pub told_on : (c i : ℕ) (ts : List Told) (one : Told) → get_elem? ended c ≡ some ts → get_elem? ts i ≡ some one → (id code : ℕ) → one.outcome ≡ CallFailed id code → ((slot first : ℕ) → id ≡ slot * 4294967296 + first → first < 4294967296 → WasEndedHere slot first) → IsReadCode code → (client : ℕ) (asked : Asked) → IsOperation every outcomes client one.number (ops.Call asked) → EndedHere one.number asked id code ⊎ DroppedHere one.number asked code
     told_on c i ts one at there id code is was read client asked task =
         let f : Thread g → List Told = λ x. x.ended.calls.told.items in
-        let w = mapped_from (λ (x : Client g state p (ids_of p slots)). f x.thread) (all_clients run) c ts (ap (λ (l : List (List Told)). get_elem? l c) (all_are run f ∙ run.ran.ended_is) ∙ at) in
+        let w = map_back (λ (x : Client g state p (ids_of p slots)). f x.thread) (all_clients run) c ts (ap (λ (l : List (List Told)). get_elem? l c) (all_are run f ∙ run.ran.ended_is) ∙ at) in
         let Caused : Told → Type 0 = IsCaused state p (ids_of p slots) (tasks_of w.0) (Says run outcomes said_own) (deeds_of w.0) (view_of w.0) in
         let e : Caused one = all_at Caused w.0.thread.ended.calls.told.items i one (ended_caused run outcomes said_own c w.0 w.1).1 (ap (λ (l : List Told). get_elem? l i) w.2 ∙ there) in
         let number : one.number ≡ e.lock.content.operation = ap (λ (t : Told). t.number) e.is in

@@ -35,7 +35,7 @@ use Rattle.attempts_told.specs.call_whys.specs.expire_told.specs.call_places.pro
 use Rattle.attempts_told.specs.call_whys.specs.expire_told.specs.call_places.proofs.Weights.{term, noted_at}
 use Rattle.attempts_told.specs.call_whys.specs.expire_told.specs.call_told.specs.Least.{is_made_for}
 use Rattle.attempts_told.specs.call_whys.specs.expire_told.specs.call_deeds.proofs.Ran.{Result}
-use Rattle.attempts_told.specs.call_whys.specs.expire_told.proofs.Begun.{made_begun as begun_behind}
+use Rattle.attempts_told.specs.call_whys.specs.expire_told.specs.call_told.proofs.Coming.{made_begun as begun_behind}
 use Rattle.failed_told.proofs.Before.{operation_made, noted_last}
 use Rattle.failed_told.proofs.Lasts.{one_made}
 use Rattle.failed_told.proofs.Makers.{made_begun}

@@ -56,7 +56,6 @@ use Rattle.attempts_told.specs.call_whys.specs.expire_told.specs.call_places.pro
 use Rattle.attempts_told.specs.call_whys.specs.expire_told.specs.call_places.proofs.Log as log
 use Rattle.attempts_told.specs.call_whys.specs.expire_told.specs.call_told.specs.Least.{is_made_for}
 use Rattle.attempts_told.specs.call_whys.specs.expire_told.specs.call_told.proofs.Lists.{all_at}
-use Rattle.attempts_told.specs.call_whys.specs.expire_told.proofs.Making.{mapped_from}
 use Rattle.attempts_told.specs.Attempts.{last_attempt}
 use Rattle.attempts_told.proofs.Last.{none_further}
 use Rattle.attempts_told.proofs.Senders.{behind_empty}
@@ -65,6 +64,7 @@ use Rattle.attempts_told.specs.call_whys.specs.expire_told.specs.sock_deeds.proo
 use Rattle.failed_told.specs.Missed.{delivery_missed, attempt_missed, went_missed, acted_missed, acted_id, IsMadeBy, missed_in, id_of, IsBacked, attempt_of}
 use Rattle.failed_told.proofs.Losses.{IsAskedIn}
 use Rattle.failed_told.proofs.Posters.{attempt_low}
+use Rattle.attempts_told.specs.call_whys.specs.expire_told.specs.sock_deeds.proofs.Places.{map_back}
 
 -- ## Frames of a deed
 
@@ -349,7 +349,7 @@ module _ {O : Type 0} {g : Ghosts O} {state : O → OutState} {readers : List (L
   sender o id n low is k e logged place =
       let a = log.authored p run.closed.view.found run.closed.view.lists run.closed.ordered k e logged in
       let j = behind_empty readers (map own_of crew) a.seat _ _ e (ap (λ (l : List (List Entry)). get_elem? l a.seat) (sym (lists_are run)) ∙ a.list) a.place in
-      let y = mapped_from own_of crew j.0 _ j.1 in
+      let y = map_back own_of crew j.0 _ j.1 in
       let m : ℕ = before a.author run.closed.ordered.by k in
       let own = flat_from entries_of (deeds_of y.0) m e (subst (λ (l : List Entry). get_elem? l m ≡ some e) (sym y.2) a.place) in
       record { place = j.0; client = y.0; in_crew = y.1; index = own.0; deed = own.1; there = own.2; at = own.3; sent = own.4; attempt = frame_attempt o id n low is j.0 y.0 y.1 own.0 own.1 own.2 own.3 e own.4 place }

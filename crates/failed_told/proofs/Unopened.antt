@@ -60,10 +60,9 @@ use Rattle.attempts_told.specs.call_whys.specs.expire_told.specs.outcome_causes.
 use Rattle.attempts_told.specs.call_whys.specs.expire_told.specs.outcome_causes.proofs.Tasks.{sorted_of}
 use Rattle.attempts_told.specs.call_whys.specs.expire_told.specs.sock_deeds.specs.Runs.{IsOperation}
 use Rattle.attempts_told.specs.call_whys.specs.expire_told.specs.sock_deeds.proofs.Names.{SeenBy}
-use Rattle.attempts_told.specs.call_whys.specs.expire_told.specs.sock_deeds.proofs.Places.{place_low}
+use Rattle.attempts_told.specs.call_whys.specs.expire_told.specs.sock_deeds.proofs.Places.{place_low, map_back}
 use Rattle.attempts_told.specs.call_whys.specs.expire_told.specs.Said.{AreSaid}
-use Rattle.attempts_told.specs.call_whys.specs.expire_told.proofs.Begun.{made_begun as begun_made}
-use Rattle.attempts_told.specs.call_whys.specs.expire_told.proofs.Making.{mapped_from}
+use Rattle.attempts_told.specs.call_whys.specs.expire_told.specs.call_told.proofs.Coming.{made_begun as begun_made}
 use Rattle.failed_told.specs.Missed.{missed_in, attempt_of, socks_behind}
 use Rattle.failed_told.proofs.Losses.{IsAskedIn}
 use Rattle.failed_told.proofs.Reaching.{retry_grew}
@@ -190,7 +189,7 @@ module _ {O : Type 0} {g : Ghosts O} {state : O → OutState} {readers : List (L
               by (suc b) here some_ =
                   let threads : List (Thread g) = run.ran.main ∷ run.ran.others in
                   let list : get_elem? (map (λ (y : Thread g). y) threads) (suc b) ≡ some x.thread = ap (λ (l : List (Thread g)). get_elem? l (suc b)) (sym (all_are run (λ (y : Thread g). y))) ∙ mapped (λ (y : Client g state p q). y.thread) crew (suc b) x here in
-                  let w = mapped_from (λ (y : Thread g). y) threads (suc b) x.thread list in
+                  let w = map_back (λ (y : Thread g). y) threads (suc b) x.thread list in
                   ap (λ (y : Thread g). y.names) (sym w.2) ∙ names_are g state p q (opened_names run.ran.main.ended.outcomes.items (openings setup)) (opens_of setup) run.ran.others run.ran.others_are b w.0 w.1
 
       found_none : FoundNone p every outcomes fixed gave orders c cut.number n
@@ -260,7 +259,7 @@ module _ {O : Type 0} {g : Ghosts O} {state : O → OutState} {readers : List (L
     began_before asked same client is e =
         let o : ℕ = k.content.operation in
         let v = total_some (λ (v : View Asked). total (makes o) v.notes) ids (let a = noted.made o in let b = some_made o (k.slot * 4294967296 + first) lock_is in omega (arith, a, b)) in
-        let y = mapped_from view_of crew v.0 v.1 (ap (λ (vs : List (View Asked)). get_elem? vs v.0) (views_are run) ∙ v.2) in
+        let y = map_back view_of crew v.0 v.1 (ap (λ (vs : List (View Asked)). get_elem? vs v.0) (views_are run) ∙ v.2) in
         let b = made_begun y.0.thread y.0.is o (subst (λ (z : View Asked). 0 < total (makes o) z.notes) (sym y.2) v.3) in
         let task = task_at y.0.thread y.0.is b.0 b.1 b.2 in
         let makes_all = may_make run tasks may notes kept words closing noted v.0 y.0 y.1 in

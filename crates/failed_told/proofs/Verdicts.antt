@@ -51,13 +51,13 @@ use Rattle.attempts_told.specs.call_whys.specs.expire_told.specs.call_told.proof
 use Rattle.attempts_told.specs.call_whys.specs.expire_told.specs.call_told.proofs.Least.{lock_of, end_number}
 use Rattle.attempts_told.specs.call_whys.specs.expire_told.specs.Said.{AreSaid, HaveKeptOf}
 use Rattle.attempts_told.specs.call_whys.specs.expire_told.proofs.Expires.{found_maker}
-use Rattle.attempts_told.specs.call_whys.specs.expire_told.proofs.Making.{slice_at}
 use Rattle.failed_told.specs.Missed.{missed_in, id_of, IsBacked, attempt_of}
 use Rattle.failed_told.specs.Reasons.{KeepsWord, WasDropped, Reason, timed_out, missed, dropped, IsCaused}
 use Rattle.failed_told.proofs.Clients.{Says}
 use Rattle.failed_told.proofs.Codes.{IsMissCode, IsReadCode, deed_code}
 use Rattle.failed_told.proofs.Posters.{Poster, posted_by}
 use Rattle.failed_told.proofs.Views.{queued_in}
+use Rattle.attempts_told.specs.call_whys.specs.expire_told.specs.sock_deeds.proofs.Places.{to_slice}
 
 -- ## The last attempt
 
@@ -99,7 +99,7 @@ module _ {O : Type 0} {g : Ghosts O} {state : O → OutState} {readers : List (L
   task_is : (d : ℕ) (y : Client g state p q) → get_elem? crew d ≡ some y → (i : ℕ) (t : Task) → get_elem? (tasks_of y) i ≡ some t → IsTask every outcomes d t
   task_is d y at i t there =
       let its : get_elem? every d ≡ some (tasks_of y) = ap (λ (l : List (List Task)). get_elem? l d) (sym (tasks_are run)) ∙ mapped tasks_of crew d y at in
-      (tasks_of y, slice_at every d (tasks_of y) its, contains_from (tasks_of y) t (i, slice_at (tasks_of y) i t there))
+      (tasks_of y, to_slice every d (tasks_of y) its, contains_from (tasks_of y) t (i, to_slice (tasks_of y) i t there))
 
   -- of an end that client c told, and had a cause for
   module _ (c : ℕ) (x : Client g state p q) (at : get_elem? crew c ≡ some x) (one : Told) (e : IsCaused state p q (tasks_of x) (Says run outcomes said_own) (deeds_of x) (view_of x) one) where

@@ -58,9 +58,10 @@ use Rattle.script_calls.proofs.Began.{only_is}
 use Rattle.script_calls.proofs.Clients as clients_of
 use Rattle.script_calls.proofs.MayCall.{IsOwnTask}
 use Rattle.script_calls.proofs.Said.{IsSaid, end_said}
-use Rattle.script_calls.proofs.Sayings.{to_slice, told_each, none_told}
+use Rattle.script_calls.proofs.Sayings.{told_each, none_told}
 use Rattle.script_calls.proofs.Tellers as tellers_of
 use Rattle.script_calls.proofs.Tellers.{IsEndTold, end_made}
+use Rattle.callless_fits.specs.sock_deeds.proofs.Places.{to_slice}
 
 -- an id that was made for an operation's call
 made_for : (f o : ℕ) (n : Note Asked) → is_made_for f o n ≤ makes_for o n
