@@ -36,11 +36,11 @@ use Rattle.call_whys.specs.call_told.specs.call_run.specs.call_attempts.specs.Le
 use Rattle.call_whys.specs.call_told.specs.call_run.specs.call_attempts.specs.Attempting.{AttemptedBy, went_out, came_back, nowhere, over_link}
 use Rattle.call_whys.specs.call_told.specs.call_run.specs.call_attempts.specs.Retrying.{without_oldest, WentTo, stray, unopened, to_socket, had_ended, overtaken, went_again, Retried, none_yet, one_more}
 use Rattle.call_whys.specs.call_told.specs.call_run.specs.call_client.specs.Acting.{Stand, stand, both_of, Acted}
-use Rattle.call_whys.specs.call_told.specs.call_run.specs.call_client.specs.Running.{Course, Ran, begins, MayMakeAll}
+use Rattle.call_whys.specs.call_told.specs.call_run.specs.call_client.specs.Running.{Course, Ran, begins}
 use Rattle.call_whys.specs.call_told.specs.call_run.specs.call_client.proofs.Telling.{did_total}
 use Rattle.call_whys.specs.call_told.specs.call_run.specs.rpc_reader.specs.rpc_client.specs.declared.acting.Told.{Told}
 use Rattle.call_whys.specs.call_told.specs.call_run.specs.Readers.{LinkReader}
-use Rattle.call_whys.specs.call_told.specs.call_run.specs.Threads.{Thread, IsThread, RanWith, AllMayRun, MayRunAll, ids_of, opens_of}
+use Rattle.call_whys.specs.call_told.specs.call_run.specs.Threads.{Thread, IsThread, RanWith, MayRunAll, ids_of}
 use Rattle.call_whys.specs.call_told.specs.Least.{is_made_for}
 use Rattle.call_whys.specs.call_told.proofs.Ends.{made_silent, counted_here}
 use Rattle.call_whys.specs.call_told.proofs.Lists.{all_both, all_then, all_at}
@@ -52,7 +52,7 @@ use Rattle.call_whys.specs.call_told.specs.call_places.proofs.Own.{came, end_is}
 use Rattle.call_whys.specs.call_told.specs.call_places.proofs.Counts.{by_retry, Knows, tried_few, all_known}
 use Rattle.call_whys.specs.call_told.specs.call_places.proofs.Ids.{IdLaws, IsIdOf, version_low, lock_id}
 use Rattle.call_whys.specs.call_told.specs.call_places.proofs.Clients.{Client, view_of, tasks_of, deeds_of, own_of}
-use Rattle.call_whys.specs.call_told.specs.call_places.proofs.Places.{all, noted_among, tasks_are, lists_are}
+use Rattle.call_whys.specs.call_told.specs.call_places.proofs.Places.{own_behind, all, noted_among, may_make, tasks_are, lists_are}
 use Rattle.call_whys.specs.call_told.specs.call_places.proofs.Log.{authored}
 use Rattle.call_whys.specs.call_told.specs.call_deeds.specs.Retried.{Again, asked_by, asked_in, asked_before, all_asked}
 use Rattle.call_whys.specs.call_told.specs.call_deeds.proofs.Links.{IsOwnCall, call_at}
@@ -231,17 +231,6 @@ id_made slots notes o id inside some_ = let m = made_for_there (version_of id) o
 carried : {A : Type 0} (l m : List A) (i : ℕ) (x : A) → l ≡ m → get_elem? m i ≡ some x → (k : ℕ) × (get_elem? l k ≡ some x)
 carried l m i x e at = (i, ap (λ y. get_elem? y i) e ∙ at)
 
--- what stands in a list behind empty ones stands in one of the others
-pub behind_empty : {X A : Type 0} (rs : List X) (ls : List (List A)) (k : ℕ) (l : List A) (m : ℕ) (e : A) → get_elem? (map (λ (x : X). []) rs ++ ls) k ≡ some l → get_elem? l m ≡ some e → (j : ℕ) × (get_elem? ls j ≡ some l)
-behind_empty [] ls k l m e at there = (k, at)
-behind_empty {X} {A} (r ∷ rs) ls zero l m e at there = none_there m e (ap (λ (x : List A). get_elem? x m) (some-injective [] l at) ∙ there)
-behind_empty (r ∷ rs) ls (suc k) l m e at there = behind_empty rs ls k l m e at there
-
-may_at : (p : Plan) (q : id_plan.Plan) (tss : List (List Task)) → AllMayRun p q tss → (j : ℕ) (ts : List Task) → get_elem? tss j ≡ some ts → (n : ℕ) × MayMakeAll p q ts n
-may_at p q [] a j ts e = none_there j ts e
-may_at p q (us ∷ tss) a zero ts e = subst (λ (x : List Task). (n : ℕ) × MayMakeAll p q x n) (some-injective us ts e) (opens_of us, a.0.may)
-may_at p q (us ∷ tss) a (suc j) ts e = may_at p q tss a.1 j ts e
-
 module _ {O : Type 0} {g : Ghosts O} {state : O → OutState} {readers : List (LinkReader g)} {p : Plan} {slots : ℕ} {setup : List Task} {clients : List (List Task)} {opens : List ℕ} {told ended : List (List Told)} {places : List PlaceWord} {vrefs : List Vref} {outs : List O} {ids : List (View Asked)}
     (run : RanWith g state readers p slots setup clients opens told ended places vrefs outs ids) (outcomes : List (Option Outcome)) (may : MayRunAll p (ids_of p slots) setup clients) (notes : List (Noted Asked)) (laws : IdLaws slots notes) (have : HaveNotesOf ids notes)
     -- each retry is one of a later attempt of a call
@@ -260,7 +249,7 @@ module _ {O : Type 0} {g : Ghosts O} {state : O → OutState} {readers : List (L
   is_operation j c at i x there = (tasks_of c, to_slice tasks_all j (tasks_of c) (tasks_at j c at), contains_from (tasks_of c) x (i, to_slice (tasks_of c) i x there))
 
   own_call : (j : ℕ) (c : Client g state p q) → get_elem? (all run) j ≡ some c → (i : ℕ) (x : Task) → get_elem? (tasks_of c) i ≡ some x → IsOwnCall x.number x.op
-  own_call j c at i x there = let m = may_at p q tasks_all (may.setup_may, may.clients_may) j (tasks_of c) (tasks_at j c at) in call_at p q (tasks_of c) m.0 i x m.1 there
+  own_call j c at i x there = let m = may_make run may j c at in call_at p q (tasks_of c) m.0 i x m.1 there
 
   -- ## Whose a message is
 
@@ -344,7 +333,7 @@ module _ {O : Type 0} {g : Ghosts O} {state : O → OutState} {readers : List (L
   pub sent_by : (k : ℕ) (e : Entry) → get_elem? run.closed.ordered.log k ≡ some e → SentBy (accepted_of e)
   sent_by k e at =
       let w = authored p run.closed.view.found run.closed.view.lists run.closed.ordered k e at in
-      let j = behind_empty readers (map own_of (all run)) w.seat _ _ e (ap (λ (l : List (List Entry)). get_elem? l w.seat) (sym (lists_are run)) ∙ w.list) w.place in
+      let j = own_behind readers (map own_of (all run)) w.seat _ _ e (ap (λ (l : List (List Entry)). get_elem? l w.seat) (sym (lists_are run)) ∙ w.list) w.place in
       let c = map_back own_of (all run) j.0 _ j.1 in
       let own = carried _ _ _ e c.2 w.place in
       let d = flat_from entries_of (deeds_of c.0) own.0 e own.1 in

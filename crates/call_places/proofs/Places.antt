@@ -50,7 +50,7 @@ use Rattle.call_run.specs.Threads.{Thread, AreThreads, RanWith, AllMayRun, MayRu
 use Rattle.sock_deeds.proofs.Entries.{before, from_pick, from_on, on_there}
 use Rattle.sock_deeds.proofs.Flats.{flat_there}
 use Rattle.sock_deeds.proofs.Places.{map_back}
-use Rattle.call_places.specs.Counted.{HaveNotesOf}
+use Rattle.call_places.specs.Counted.{HaveNotesOf, makes}
 use Rattle.call_places.specs.Deeds.{acted_entries, entries_of, own_entries}
 use Rattle.call_places.proofs.Weights.{term, at_low, there, mapped}
 use Rattle.call_places.proofs.Lists.{each_ended_lists}
@@ -58,7 +58,7 @@ use Rattle.call_places.proofs.Own.{IsMade, own_list}
 use Rattle.call_places.proofs.Labels.{at_place}
 use Rattle.call_places.proofs.Numbers.{numbered, numbered_once}
 use Rattle.call_places.proofs.Ids.{IdLaws, laws_of}
-use Rattle.call_places.proofs.Clients.{Client, total_map, view_of, tasks_of, deeds_of, own_of, once, inside}
+use Rattle.call_places.proofs.Clients.{Client, total_map, view_of, tasks_of, deeds_of, own_of, made_once as once_made, once, inside}
 use Rattle.call_places.proofs.Log as log
 
 -- ## Lists by places
@@ -85,7 +85,7 @@ module _ {X : Type 0} where
   none_listed f (r ∷ rs) ls e = let a = none_listed f rs ls e in omega arith
 
   -- a list that has an entry isn't one of theirs
-  own_behind : (rs : List X) (ls : List (List Entry)) (k : ℕ) (l : List Entry) (m : ℕ) (e : Entry) → get_elem? (map (λ (x : X). []) rs ++ ls) k ≡ some l → get_elem? l m ≡ some e → (j : ℕ) × (get_elem? ls j ≡ some l)
+  pub own_behind : (rs : List X) (ls : List (List Entry)) (k : ℕ) (l : List Entry) (m : ℕ) (e : Entry) → get_elem? (map (λ (x : X). []) rs ++ ls) k ≡ some l → get_elem? l m ≡ some e → (j : ℕ) × (get_elem? ls j ≡ some l)
   own_behind [] ls k l m e at there = (k, at)
   own_behind (r ∷ rs) ls zero l m e at there = absurd (some-ne-none e (sym there ∙ ap (λ (x : List Entry). get_elem? x m) (sym (some-injective [] l at))))
   own_behind (r ∷ rs) ls (suc k) l m e at there = own_behind rs ls k l m e at there
@@ -153,6 +153,20 @@ module _ {O : Type 0} {g : Ghosts O} {state : O → OutState} {readers : List (L
   pub tasks_are : map tasks_of all ≡ setup ∷ clients
   tasks_are = all_are (λ (x : Thread g). x.tasks) ∙ (ap (λ (t : List Task). t ∷ map (λ (x : Thread g). x.tasks) run.ran.others) run.ran.setup_asked ∙ ap (λ l. setup ∷ l) run.ran.asked)
 
+  -- each may make its operations, and no two of those have one number
+  pub may_make : MayRunAll p (ids_of p slots) setup clients → (j : ℕ) (c : Client g state p (ids_of p slots)) → get_elem? all j ≡ some c → (n : ℕ) × MayMakeAll p (ids_of p slots) (tasks_of c) n
+  may_make may j c at = may_at p (ids_of p slots) (setup ∷ clients) (may.setup_may, may.clients_may) j (tasks_of c) (ap (λ l. get_elem? l j) (sym tasks_are) ∙ mapped tasks_of all j c at)
+
+  pub one_number : AreTasks p (setup ∷ clients) → (o : ℕ) → total (λ (c : Client g state p (ids_of p slots)). total (numbered o) (tasks_of c)) all ≤ 1
+  one_number tasks o = let a = total_map (λ (ts : List Task). total (numbered o) ts) tasks_of all in let b = ap (total (λ (ts : List Task). total (numbered o) ts)) tasks_are in let d = numbered_once p (setup ∷ clients) tasks o in omega (arith, a, b, d)
+
+  have_all : (notes : List (Noted Asked)) → HaveNotesOf ids notes → HaveNotesOf (map view_of all) notes
+  have_all notes have = subst (λ (vs : List (View Asked)). HaveNotesOf vs notes) (sym views_are) have
+
+  -- one id at most was made for an operation
+  pub made_once : AreTasks p (setup ∷ clients) → MayRunAll p (ids_of p slots) setup clients → (notes : List (Noted Asked)) → HaveNotesOf ids notes → (o : ℕ) → total (makes o) notes ≤ 1
+  made_once tasks may notes have o = once_made all notes (have_all notes have) (may_make may) (one_number tasks) o
+
   -- one list for each client, its own, behind one for each reader, which is empty: the seat that is left took in those of all clients, and ended the sockets without a list more
   pub lists_are : run.closed.view.lists ≡ map (λ (x : LinkReader g). []) readers ++ map own_of all
   lists_are =
@@ -165,15 +179,6 @@ module _ {O : Type 0} {g : Ghosts O} {state : O → OutState} {readers : List (L
       ∙ (ap (λ l. l ++ rest) mains ∙ ap (λ l. own_entries run.ran.main run.ran.main_is ∷ l) (others_lists state p (ids_of p slots) (opened_names run.ran.main.ended.outcomes.items (openings setup)) (opens_of setup) run.ran.others run.ran.others_are))))))
 
   module _ (tasks : AreTasks p (setup ∷ clients)) (may : MayRunAll p (ids_of p slots) setup clients) (notes : List (Noted Asked)) (laws : IdLaws slots notes) (have : HaveNotesOf ids notes) where
-    may_make : (j : ℕ) (c : Client g state p (ids_of p slots)) → get_elem? all j ≡ some c → (n : ℕ) × MayMakeAll p (ids_of p slots) (tasks_of c) n
-    may_make j c at = may_at p (ids_of p slots) (setup ∷ clients) (may.setup_may, may.clients_may) j (tasks_of c) (ap (λ l. get_elem? l j) (sym tasks_are) ∙ mapped tasks_of all j c at)
-
-    numbers : (o : ℕ) → total (λ (c : Client g state p (ids_of p slots)). total (numbered o) (tasks_of c)) all ≤ 1
-    numbers o = let a = total_map (λ (ts : List Task). total (numbered o) ts) tasks_of all in let b = ap (total (λ (ts : List Task). total (numbered o) ts)) tasks_are in let d = numbered_once p (setup ∷ clients) tasks o in omega arith
-
-    have_all : HaveNotesOf (map view_of all) notes
-    have_all = subst (λ (vs : List (View Asked)). HaveNotesOf vs notes) (sym views_are) have
-
     -- ## The log
 
     abbrev pub accepted : List Entry
@@ -182,7 +187,7 @@ module _ {O : Type 0} {g : Ghosts O} {state : O → OutState} {readers : List (L
     once_listed : (l : ℕ) → total (λ (es : List Entry). total (at_place l) es) run.closed.view.lists ≤ 1
     once_listed l =
         let a = ap (total (λ (es : List Entry). total (at_place l) es)) lists_are in let n = none_listed (λ (es : List Entry). total (at_place l) es) readers (map own_of all) refl in let b = total_map (λ (es : List Entry). total (at_place l) es) own_of all in
-        let d = once all notes laws have_all may_make numbers l in omega arith
+        let d = once all notes laws (have_all notes have) (may_make may) (one_number tasks) l in omega arith
 
     -- no two messages have one place index
     pub log_differs : PlacesDiffer accepted
@@ -197,7 +202,7 @@ module _ {O : Type 0} {g : Ghosts O} {state : O → OutState} {readers : List (L
         let c = map_back own_of all own.0 _ own.1 in
         let here = term (at_place e.heading.place) (own_of c.0) m e (ap (λ l. get_elem? l m) c.2 ∙ w.place) in
         let one = only-at e.heading.place e.heading.place refl in
-        inside all notes laws have_all may_make numbers e.heading.place own.0 c.0 c.1 (omega arith)
+        inside all notes laws (have_all notes have) (may_make may) (one_number tasks) e.heading.place own.0 c.0 c.1 (omega arith)
 
     low_on : (k i : ℕ) (e : Entry) → get_elem? (on k accepted) i ≡ some e → e.heading.place < 8 * p.operations
     low_on k i e at = let w = from_on k accepted i e at in low_place w.0 e w.1

@@ -44,7 +44,7 @@ use Rattle.attempts_told.specs.call_whys.specs.expire_told.specs.call_run.specs.
 use Rattle.attempts_told.specs.call_whys.specs.expire_told.specs.call_places.specs.Counted.{HaveNotesOf}
 use Rattle.attempts_told.specs.call_whys.specs.expire_told.specs.call_places.specs.Deeds.{Deed}
 use Rattle.attempts_told.specs.call_whys.specs.expire_told.specs.call_places.proofs.Clients.{Client, view_of, tasks_of, deeds_of}
-use Rattle.attempts_told.specs.call_whys.specs.expire_told.specs.call_places.proofs.Places.{all as all_clients, noted_among}
+use Rattle.attempts_told.specs.call_whys.specs.expire_told.specs.call_places.proofs.Places.{all as all_clients, noted_among, made_once}
 use Rattle.attempts_told.specs.call_whys.specs.expire_told.specs.call_told.specs.Least.{is_locked_for}
 use Rattle.attempts_told.specs.call_whys.specs.expire_told.specs.call_told.proofs.Least.{lock_of}
 use Rattle.attempts_told.specs.call_whys.specs.expire_told.specs.call_told.proofs.Resting.{is_word}
@@ -66,7 +66,6 @@ use Rattle.failed_told.proofs.Lasts.{ended_last}
 use Rattle.failed_told.proofs.Losses.{IsAskedIn}
 use Rattle.failed_told.proofs.Named.{named}
 use Rattle.failed_told.proofs.Posts.{IsPost}
-use Rattle.failed_told.proofs.Single.{made_once}
 use Rattle.failed_told.proofs.Posters.{IsLow, one_error, timely_low, by_clients}
 use Rattle.failed_told.proofs.Reading.{code_at}
 use Rattle.failed_told.proofs.Tells.{HadLock, EndsBy, on_response, on_code, ToldEnd, IsPostFor}
@@ -150,7 +149,7 @@ module _ {O : Type 0} {g : Ghosts O} {state : O → OutState} {readers : List (L
       let whose : n.asked ≡ asked = same_asked n.asked asked (ap (λ (t : Task). t.op) s.1) in
       let id : IsIdOf slots notes o (slot * 4294967296 + first) = record { slot = slot; first = first; inside = inside; low = low; id_is = refl; range = r; asked = call; place = j; made = made; operation = number } in
       let current : n.attempt ≡ at = subst (λ (a : Option ℕ). IsTimely a at) n.attempt_is timely in
-      let most = ended_last q notes kept words closing o (slot * 4294967296 + first) at id (made_once run tasks may notes kept words closing noted o) over in
+      let most = ended_last q notes kept words closing o (slot * 4294967296 + first) at id (made_once run tasks may notes noted o) over in
       let below = subst (λ (m : ℕ). n.attempt ≤ last_attempt notes m) its n.low in
       let last : n.attempt ≡ last_attempt notes o = omega (arith, current, most, below) in
       record {

@@ -44,7 +44,7 @@ use Rattle.attempts_told.specs.call_whys.specs.expire_told.specs.call_places.pro
 use Rattle.attempts_told.specs.call_whys.specs.expire_told.specs.call_places.proofs.Own.{deed_of}
 use Rattle.attempts_told.specs.call_whys.specs.expire_told.specs.call_places.proofs.Ids.{IsIdOf}
 use Rattle.attempts_told.specs.call_whys.specs.expire_told.specs.call_places.proofs.Clients.{Client, total_map, view_of, tasks_of, deeds_of}
-use Rattle.attempts_told.specs.call_whys.specs.expire_told.specs.call_places.proofs.Places.{all as all_clients, views_are, noted_among}
+use Rattle.attempts_told.specs.call_whys.specs.expire_told.specs.call_places.proofs.Places.{all as all_clients, views_are, noted_among, may_make}
 use Rattle.attempts_told.specs.call_whys.specs.expire_told.specs.call_told.specs.Least.{is_made_for}
 use Rattle.attempts_told.specs.call_whys.specs.expire_told.specs.call_told.proofs.Lists.{all_at}
 use Rattle.attempts_told.specs.call_whys.specs.expire_told.specs.call_deeds.specs.Retried.{all_asked}
@@ -72,7 +72,7 @@ use Rattle.failed_told.proofs.Fallen.{one_operation, unordered, WhyNothing, had_
 use Rattle.failed_told.proofs.Losses.{WhyMissed, IsAskedIn, deed_why}
 use Rattle.failed_told.proofs.Makers.{made_begun}
 use Rattle.failed_told.proofs.Premises.{asked_so as asked_here}
-use Rattle.failed_told.proofs.Single.{laws, may_make, IsAttemptOf, at_first, again_id, again_attempt, first_id}
+use Rattle.failed_told.proofs.Single.{laws, IsAttemptOf, at_first, again_id, again_attempt, first_id}
 use Rattle.failed_told.proofs.Standing.{may_be_on, lost_on}
 use Rattle.failed_told.proofs.Unopened.{unopened_why}
 use Rattle.attempts_told.specs.call_whys.specs.expire_told.specs.sock_deeds.proofs.Places.{map_back}
@@ -256,7 +256,7 @@ module _ {O : Type 0} {g : Ghosts O} {state : O → OutState} {readers : List (L
       by_first c x at k here None s t a i there tells =
           let d : Deed g state p q = operates its_task None s t a in
           let n = all_at (IsNoted g state p q (tasks_of x) (view_of x)) (deeds_of x) i d (all_noted x.thread x.is) there in
-          let m = may_make run tasks may notes kept words closing noted c x at in
+          let m = may_make run may c x at in
           let mine : asked.operation ≡ o = own_call p q (tasks_of x) m.0 m.1 k its_task here asked refl in
           let made_ : 0 < total (is_made_for (version_of a.0) asked.operation) (notes_of (slot_of a.0) (view_of x).notes) = n.1.1 in
           let its = first_id run tasks may notes kept words closing noted asked.operation a.0 n.1.0 (let b = noted_among run notes noted c x at (slot_of a.0) (is_made_for (version_of a.0) asked.operation) in omega (arith, b, made_)) in
@@ -270,7 +270,7 @@ module _ {O : Type 0} {g : Ghosts O} {state : O → OutState} {readers : List (L
           let y = map_back view_of crew v.0 v.1 (ap (λ (vs : List (View Asked)). get_elem? vs v.0) (views_are run) ∙ v.2) in
           let b = made_begun y.0.thread y.0.is o (subst (λ (z : View Asked). 0 < total (makes o) z.notes) (sym y.2) v.3) in
           let task = task_at y.0.thread y.0.is b.0 b.1 b.2 in
-          let m = may_make run tasks may notes kept words closing noted v.0 y.0 y.1 in
+          let m = may_make run may v.0 y.0 y.1 in
           let mine : b.3.asked.operation ≡ b.1.task.number = own_call p q (tasks_of y.0) m.0 m.1 b.0 b.1.task task b.3.asked b.3.op in
           let one = same_task drun v.0 client b.1.task its_task (is_task run outcomes v.0 y.0 y.1 b.0 b.1.task task) is (sym mine ∙ b.3.operation) in
           let here : get_elem? (tasks_of y.0) b.0 ≡ some its_task = task ∙ ap some one.1 in

@@ -40,14 +40,13 @@ use Rattle.attempts_told.specs.call_whys.specs.expire_told.specs.call_run.specs.
 use Rattle.attempts_told.specs.call_whys.specs.expire_told.specs.call_places.specs.Counted.{HaveNotesOf}
 use Rattle.attempts_told.specs.call_whys.specs.expire_told.specs.call_places.proofs.Ids.{IsIdOf, one_id}
 use Rattle.attempts_told.specs.call_whys.specs.expire_told.specs.call_places.proofs.Clients.{Client, view_of}
-use Rattle.attempts_told.specs.call_whys.specs.expire_told.specs.call_places.proofs.Places.{all as all_clients}
+use Rattle.attempts_told.specs.call_whys.specs.expire_told.specs.call_places.proofs.Places.{all as all_clients, made_once}
 use Rattle.attempts_told.specs.call_whys.specs.expire_told.specs.call_told.specs.Least.{is_made_for}
 use Rattle.attempts_told.specs.call_whys.specs.expire_told.specs.call_told.specs.Once.{ends_of}
 use Rattle.attempts_told.specs.call_whys.specs.expire_told.specs.call_told.proofs.Lists.{all_both, all_then}
 use Rattle.attempts_told.specs.call_whys.specs.expire_told.specs.call_told.proofs.Responses.{one_goes, rest_goes}
 use Rattle.attempts_told.specs.call_whys.specs.expire_told.specs.call_told.proofs.Tallies.{ending_is, version_low}
 use Rattle.attempts_told.proofs.Senders.{made_for_there}
-use Rattle.failed_told.proofs.Single.{made_once}
 
 -- all notes of the one list are in the other
 abbrev pub MoreNotes : List (Noted Asked) → List (Noted Asked) → Type 0
@@ -155,7 +154,7 @@ module _ {O : Type 0} {g : Ghosts O} {state : O → OutState} {readers : List (L
       also = let m = made_for_there first o (notes_of slot notes) made in record { slot = slot; first = first; inside = inside; low = low; id_is = refl; range = m.0; asked = m.1; place = m.2; made = m.3; operation = m.4 }
 
       same : h.slot * 4294967296 + h.first ≡ slot * 4294967296 + first
-      same = sym (ended_id (h.slot * 4294967296 + h.first) id code (sym (ap (ends_of (h.slot * 4294967296 + h.first)) is) ∙ h.is_end)) ∙ one_id slots notes o id (slot * 4294967296 + first) (made_once run tasks may notes kept words closing noted o) its also
+      same = sym (ended_id (h.slot * 4294967296 + h.first) id code (sym (ap (ends_of (h.slot * 4294967296 + h.first)) is) ∙ h.is_end)) ∙ one_id slots notes o id (slot * 4294967296 + first) (made_once run tasks may notes noted o) its also
 
       slot_is : h.slot ≡ slot
       slot_is = let a = same in let b = h.low in omega (arith, a, b, low)

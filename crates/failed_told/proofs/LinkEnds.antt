@@ -31,7 +31,7 @@ use Rattle.attempts_told.specs.call_whys.specs.expire_told.specs.call_run.specs.
 use Rattle.attempts_told.specs.call_whys.specs.expire_told.specs.call_places.specs.Counted.{HaveNotesOf}
 use Rattle.attempts_told.specs.call_whys.specs.expire_told.specs.call_places.proofs.Clients.{Client, view_of, tasks_of, deeds_of}
 use Rattle.attempts_told.specs.call_whys.specs.expire_told.specs.call_places.proofs.Ids.{IsIdOf}
-use Rattle.attempts_told.specs.call_whys.specs.expire_told.specs.call_places.proofs.Places.{all as all_clients, all_are}
+use Rattle.attempts_told.specs.call_whys.specs.expire_told.specs.call_places.proofs.Places.{all as all_clients, all_are, made_once}
 use Rattle.attempts_told.specs.call_whys.specs.expire_told.specs.call_told.proofs.Lists.{all_at}
 use Rattle.attempts_told.specs.call_whys.specs.expire_told.specs.call_deeds.specs.Retried.{all_asked}
 use Rattle.attempts_told.specs.call_whys.specs.expire_told.specs.call_deeds.proofs.Ran.{AreLater}
@@ -49,7 +49,6 @@ use Rattle.failed_told.proofs.Codes.{IsReadCode}
 use Rattle.failed_told.proofs.Drops.{DroppedOn, read_dropped}
 use Rattle.failed_told.proofs.Lasts.{ended_last}
 use Rattle.failed_told.proofs.Premises.{asked_so as asked_here}
-use Rattle.failed_told.proofs.Single.{made_once}
 use Rattle.failed_told.proofs.Verdicts.{made_so}
 use Rattle.failed_told.proofs.Views.{queued_in}
 use Rattle.attempts_told.specs.call_whys.specs.expire_told.specs.sock_deeds.proofs.Places.{map_back}
@@ -122,7 +121,7 @@ module _ {O : Type 0} {g : Ghosts O} {state : O → OutState} {readers : List (L
               operation = refl;
             } in
             let over = over_here run tasks may notes kept words closing noted keeps outcomes drun seats logged differ gave (log_accepted drun differ (λ k. [])) few_slots few_links (asked_here run tasks may notes kept words closing noted outcomes later) Reads Alone said_own said_ended others read_code c x at one e in
-            let most = ended_last (ids_of p slots) notes kept words closing m.0.operation (id_in e.lock) (parts e.lock.word.0).attempt id (made_once run tasks may notes kept words closing noted m.0.operation) over in
+            let most = ended_last (ids_of p slots) notes kept words closing m.0.operation (id_in e.lock) (parts e.lock.word.0).attempt id (made_once run tasks may notes noted m.0.operation) over in
             let current : d.attempt ≡ (parts e.lock.word.0).attempt = subst (λ (a : Option ℕ). IsTimely a (parts e.lock.word.0).attempt) d.current e.cause.timely in
             let below = dropped.low in let last : d.attempt ≡ last_attempt notes m.0.operation = omega (arith, current, most, below) in
             let dropped_last : DroppedHere m.0.operation m.0 e.code = subst (DroppedAt m.0.operation m.0 e.code) last dropped in

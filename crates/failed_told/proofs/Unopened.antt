@@ -50,7 +50,7 @@ use Rattle.attempts_told.specs.call_whys.specs.expire_told.specs.call_places.pro
 use Rattle.attempts_told.specs.call_whys.specs.expire_told.specs.call_places.proofs.Counts.{locks_for, KnowsLock, Grows, lock_stays, lock_known}
 use Rattle.attempts_told.specs.call_whys.specs.expire_told.specs.call_places.proofs.Ids.{IsIdOf, some_made, version_low, locker_there, one_id}
 use Rattle.attempts_told.specs.call_whys.specs.expire_told.specs.call_places.proofs.Clients.{Client, view_of, tasks_of, deeds_of}
-use Rattle.attempts_told.specs.call_whys.specs.expire_told.specs.call_places.proofs.Places.{all as all_clients, all_are, views_are, noted_among}
+use Rattle.attempts_told.specs.call_whys.specs.expire_told.specs.call_places.proofs.Places.{all as all_clients, all_are, views_are, noted_among, may_make, made_once}
 use Rattle.attempts_told.specs.call_whys.specs.expire_told.specs.call_told.specs.Least.{is_made_for}
 use Rattle.attempts_told.specs.call_whys.specs.expire_told.specs.call_told.proofs.Lists.{all_at}
 use Rattle.attempts_told.specs.call_whys.specs.expire_told.specs.call_deeds.proofs.Ran.{Result}
@@ -66,7 +66,7 @@ use Rattle.attempts_told.specs.call_whys.specs.expire_told.specs.call_told.proof
 use Rattle.failed_told.specs.Missed.{missed_in, attempt_of, socks_behind}
 use Rattle.failed_told.proofs.Losses.{IsAskedIn}
 use Rattle.failed_told.proofs.Reaching.{retry_grew}
-use Rattle.failed_told.proofs.Single.{may_make, made_once, first_id, again_later}
+use Rattle.failed_told.proofs.Single.{first_id, again_later}
 use Rattle.failed_told.proofs.Clients.{says_own}
 use Rattle.failed_told.proofs.Makers.{IsBegun, made_begun}
 use Rattle.failed_told.proofs.Crew.{tasks_there, its_tasks, place_of, is_task, own_call}
@@ -235,7 +235,7 @@ module _ {O : Type 0} {g : Ghosts O} {state : O → OutState} {readers : List (L
         let h = begun_made q state p asked id (both_of before) (both_of after) b in
         let made_ : 0 < total (is_made_for f o) (notes_of (slot_of id) notes) = (let a = h.made in let d = to (slot_of id) (is_made_for f o) in let e = among (slot_of id) (is_made_for f o) in omega (arith, a, d, e)) in
         let its = subst (λ (z : ℕ). IsIdOf slots notes z id) same (first_id run tasks may notes kept words closing noted o id h.inside made_) in
-        let one : id ≡ k.slot * 4294967296 + first = one_id slots notes k.content.operation id (k.slot * 4294967296 + first) (made_once run tasks may notes kept words closing noted k.content.operation) its lock_is in
+        let one : id ≡ k.slot * 4294967296 + first = one_id slots notes k.content.operation id (k.slot * 4294967296 + first) (made_once run tasks may notes noted k.content.operation) its lock_is in
         let slot : k.slot ≡ slot_of id = (let a = first_low in omega (arith, one, a)) in
         let version : version_of id ≡ first = (let a = first_low in omega (arith, one, a)) in
         let seen = lock_stays k t.calls.view before.calls.view from known in
@@ -262,7 +262,7 @@ module _ {O : Type 0} {g : Ghosts O} {state : O → OutState} {readers : List (L
         let y = map_back view_of crew v.0 v.1 (ap (λ (vs : List (View Asked)). get_elem? vs v.0) (views_are run) ∙ v.2) in
         let b = made_begun y.0.thread y.0.is o (subst (λ (z : View Asked). 0 < total (makes o) z.notes) (sym y.2) v.3) in
         let task = task_at y.0.thread y.0.is b.0 b.1 b.2 in
-        let makes_all = may_make run tasks may notes kept words closing noted v.0 y.0 y.1 in
+        let makes_all = may_make run may v.0 y.0 y.1 in
         let own : b.3.asked.operation ≡ b.1.task.number = own_call p q (tasks_of y.0) makes_all.0 makes_all.1 b.0 b.1.task task b.3.asked b.3.op in
         let number : b.1.task.number ≡ asked.operation = sym own ∙ (b.3.operation ∙ sym same) in
         let its = same_task g state p q every outcomes tasks v.0 client b.1.task record { number = asked.operation; op = ops.Call asked } (is_task run outcomes v.0 y.0 y.1 b.0 b.1.task task) is number in
