@@ -46,7 +46,7 @@ use Rattle.call_whys.specs.call_told.proofs.Ends.{made_silent, counted_here}
 use Rattle.call_whys.specs.call_told.proofs.Lists.{all_both, all_then, all_at}
 use Rattle.call_whys.specs.call_told.specs.call_places.specs.Counted.{HaveNotesOf}
 use Rattle.call_whys.specs.call_told.specs.call_places.specs.Deeds.{Deed, operates, retries, retries_of, ran_deeds, deeds, attempt_entries, went_entries, acted_entries, entries_of}
-use Rattle.call_whys.specs.call_told.specs.call_places.proofs.Weights.{term, mapped}
+use Rattle.call_whys.specs.call_told.specs.call_places.proofs.Weights.{term}
 use Rattle.call_whys.specs.call_told.specs.call_places.proofs.Still.{is_retry, advances}
 use Rattle.call_whys.specs.call_told.specs.call_places.proofs.Own.{came, end_is}
 use Rattle.call_whys.specs.call_told.specs.call_places.proofs.Counts.{by_retry, Knows, tried_few, all_known}
@@ -60,7 +60,7 @@ use Rattle.call_whys.specs.call_told.specs.call_deeds.proofs.Ran.{AreLater}
 use Rattle.call_whys.specs.call_told.specs.sock_deeds.specs.Left.{accepted_of}
 use Rattle.call_whys.specs.call_told.specs.sock_deeds.specs.Runs.{IsOperation}
 use Rattle.call_whys.specs.call_told.specs.sock_deeds.proofs.Flats.{flat_from, flat_there, flat-append}
-use Rattle.call_whys.specs.call_told.specs.sock_deeds.proofs.Places.{to_slice, map_back}
+use Rattle.call_whys.specs.call_told.specs.sock_deeds.proofs.Places.{to_slice, map_back, map_there}
 use Rattle.call_whys.specs.call_told.specs.report_fits.proofs.Lists.{contains_from}
 use Rattle.attempts_told.proofs.Bounds.{attempted_by, retried, acted}
 
@@ -242,7 +242,7 @@ module _ {O : Type 0} {g : Ghosts O} {state : O → OutState} {readers : List (L
   tasks_all = setup ∷ clients
 
   tasks_at : (j : ℕ) (c : Client g state p q) → get_elem? (all run) j ≡ some c → get_elem? tasks_all j ≡ some (tasks_of c)
-  tasks_at j c at = ap (λ (l : List (List Task)). get_elem? l j) (sym (tasks_are run)) ∙ mapped tasks_of (all run) j c at
+  tasks_at j c at = ap (λ (l : List (List Task)). get_elem? l j) (sym (tasks_are run)) ∙ map_there tasks_of (all run) j c at
 
   -- a task of a client is an operation of it, and a call has its number
   is_operation : (j : ℕ) (c : Client g state p q) → get_elem? (all run) j ≡ some c → (i : ℕ) (x : Task) → get_elem? (tasks_of c) i ≡ some x → IsOperation tasks_all outcomes j x.number x.op

@@ -1,5 +1,5 @@
 -- The place words that a run with calls leaves tell an order of each link.
-use Rattle.std.proofs.Common.{◌≡◌, ℕ, zero, suc, ◌+◌, ◌*◌, ◌/◌, ◌%◌, ◌<◌, ◌≤◌, ◌⊎◌, inl, inr, ⊎_elim, Bool, true, false, eqb, List, [], ◌∷◌, ◌++◌, length, map, flat_map, slice_get, slice_index, unwrap_or, option_map, Option, Some, None, refl, sym, ap, ◌∙◌, subst, arith}
+use Rattle.std.proofs.Common.{◌≡◌, ℕ, zero, suc, ◌+◌, ◌*◌, ◌/◌, ◌%◌, ◌<◌, ◌≤◌, ◌⊎◌, inl, inr, ⊎_elim, Bool, true, false, eqb, List, [], ◌∷◌, ◌++◌, length, map, flat_map, slice_index, unwrap_or, option_map, Option, Some, None, refl, sym, ap, ◌∙◌, subst, arith}
 use Rattle.std.specs.List.{AllByRecursion}
 use Rattle.std.proofs.lemmas.List.{append-nil}
 use Rattle.std.proofs.lemmas.Option.{slice_get_past}
@@ -49,10 +49,10 @@ use Rattle.call_run.specs.Readers.{LinkReader}
 use Rattle.call_run.specs.Threads.{Thread, AreThreads, RanWith, AllMayRun, MayRunAll, ids_of, opens_of, opened_names, openings}
 use Rattle.sock_deeds.proofs.Entries.{before, from_pick, from_on, on_there}
 use Rattle.sock_deeds.proofs.Flats.{flat_there}
-use Rattle.sock_deeds.proofs.Places.{map_back}
+use Rattle.sock_deeds.proofs.Places.{map_back, place_low, place_there, map_there, to_slice}
 use Rattle.call_places.specs.Counted.{HaveNotesOf, makes}
 use Rattle.call_places.specs.Deeds.{acted_entries, entries_of, own_entries}
-use Rattle.call_places.proofs.Weights.{term, at_low, there, mapped}
+use Rattle.call_places.proofs.Weights.{term}
 use Rattle.call_places.proofs.Lists.{each_ended_lists}
 use Rattle.call_places.proofs.Own.{IsMade, own_list}
 use Rattle.call_places.proofs.Labels.{at_place}
@@ -60,13 +60,6 @@ use Rattle.call_places.proofs.Numbers.{numbered, numbered_once}
 use Rattle.call_places.proofs.Ids.{IdLaws, laws_of}
 use Rattle.call_places.proofs.Clients.{Client, total_map, view_of, tasks_of, deeds_of, own_of, made_once as once_made, once, inside}
 use Rattle.call_places.proofs.Log as log
-
--- ## Lists by places
-
-got : {A : Type 0} (xs : List A) (i : ℕ) (x : A) → get_elem? xs i ≡ some x → slice_get xs i ≡ Some x
-got [] i x e = absurd (some-ne-none x (sym e))
-got (y ∷ ys) zero x e = ap Some (some-injective y x e)
-got (y ∷ ys) (suc i) x e = got ys i x e
 
 -- ## Behind the readers
 
@@ -147,7 +140,7 @@ module _ {O : Type 0} {g : Ghosts O} {state : O → OutState} {readers : List (L
   -- what a client noted is among the notes
   pub noted_among : (notes : List (Noted Asked)) → HaveNotesOf ids notes → (j : ℕ) (c : Client g state p (ids_of p slots)) → get_elem? all j ≡ some c → (i : ℕ) (f : Note Asked → ℕ) → total f (notes_of i (view_of c).notes) ≤ total f (notes_of i notes)
   noted_among notes have j c at i f =
-      let a = term (λ (v : View Asked). total f (notes_of i v.notes)) ids j (view_of c) (ap (λ (l : List (View Asked)). get_elem? l j) (sym views_are) ∙ mapped view_of all j c at) in
+      let a = term (λ (v : View Asked). total f (notes_of i v.notes)) ids j (view_of c) (ap (λ (l : List (View Asked)). get_elem? l j) (sym views_are) ∙ map_there view_of all j c at) in
       let b = have.all i f in omega (arith, a, b)
 
   pub tasks_are : map tasks_of all ≡ setup ∷ clients
@@ -155,7 +148,7 @@ module _ {O : Type 0} {g : Ghosts O} {state : O → OutState} {readers : List (L
 
   -- each may make its operations, and no two of those have one number
   pub may_make : MayRunAll p (ids_of p slots) setup clients → (j : ℕ) (c : Client g state p (ids_of p slots)) → get_elem? all j ≡ some c → (n : ℕ) × MayMakeAll p (ids_of p slots) (tasks_of c) n
-  may_make may j c at = may_at p (ids_of p slots) (setup ∷ clients) (may.setup_may, may.clients_may) j (tasks_of c) (ap (λ l. get_elem? l j) (sym tasks_are) ∙ mapped tasks_of all j c at)
+  may_make may j c at = may_at p (ids_of p slots) (setup ∷ clients) (may.setup_may, may.clients_may) j (tasks_of c) (ap (λ l. get_elem? l j) (sym tasks_are) ∙ map_there tasks_of all j c at)
 
   pub one_number : AreTasks p (setup ∷ clients) → (o : ℕ) → total (λ (c : Client g state p (ids_of p slots)). total (numbered o) (tasks_of c)) all ≤ 1
   one_number tasks o = let a = total_map (λ (ts : List Task). total (numbered o) ts) tasks_of all in let b = ap (total (λ (ts : List Task). total (numbered o) ts)) tasks_are in let d = numbered_once p (setup ∷ clients) tasks o in omega (arith, a, b, d)
@@ -213,7 +206,7 @@ module _ {O : Type 0} {g : Ghosts O} {state : O → OutState} {readers : List (L
     -- ## The words
 
     word_here : (n : ℕ) → n < 8 * p.operations → word_at places n ≡ slice_index run.closed.words (place_index p n)
-    word_here n low = let r = run.closed.placed n low in ap (λ (o : Option PlaceWord). unwrap_or (option_map (λ (word : PlaceWord). word.0) o) no_place) (got places n r.0 r.1) ∙ r.2
+    word_here n low = let r = run.closed.placed n low in ap (λ (o : Option PlaceWord). unwrap_or (option_map (λ (word : PlaceWord). word.0) o) no_place) (to_slice places n r.0 r.1) ∙ r.2
 
     word_beyond : (n : ℕ) → 8 * p.operations ≤ n → word_at places n ≡ no_place
     word_beyond n high = ap (λ (o : Option PlaceWord). unwrap_or (option_map (λ (word : PlaceWord). word.0) o) no_place) (slice_get_past places n (let e = run.closed.sized.1 in omega arith))
@@ -237,7 +230,7 @@ module _ {O : Type 0} {g : Ghosts O} {state : O → OutState} {readers : List (L
           let back = run.closed.outs_back k m.inside in
           let fifo = back.took_is.fifo log_differs in
           let here = low_on k i m.entry m.at in
-          let position = at_low (on k accepted) i m.entry m.at in
+          let position = place_low (on k accepted) i m.entry m.at in
           let most = few_on k in
           let word = word_here m.entry.heading.place here in
           subst (λ (x : ℕ). (b : Bool) × IsPlaceWord (word_at places x) b k i) m.place
@@ -278,7 +271,7 @@ module _ {O : Type 0} {g : Ghosts O} {state : O → OutState} {readers : List (L
             );
         no_gap = λ a k i lower h less. (
             let x = message_at a k i h in
-            let e = there (on k accepted) lower (let z = at_low (on k accepted) i x.entry x.at in omega (arith, z, less)) in
+            let e = place_there (on k accepted) lower (let z = place_low (on k accepted) i x.entry x.at in omega (arith, z, less)) in
             below k lower e.0 x.inside e.1
             );
       }
@@ -301,7 +294,7 @@ module _ {O : Type 0} {g : Ghosts O} {state : O → OutState} {readers : List (L
           let e = send_entry state p (ids_of p slots) t.number n bytes t.op is m.by untold m.before m.after m.acted in
           let own = flat_there entries_of (deeds_of c) m.place _ 0 e.0 m.there e.1 in
           let seat = behind_own readers (map own_of all) j in
-          let list = map_back (λ a. pick a run.closed.ordered.by accepted) run.closed.ordered.names seat.0 (own_of c) (ap (λ l. get_elem? l seat.0) (sym run.closed.ordered.lists_are ∙ lists_are) ∙ (seat.1 ∙ mapped own_of all j c at)) in
+          let list = map_back (λ a. pick a run.closed.ordered.by accepted) run.closed.ordered.names seat.0 (own_of c) (ap (λ l. get_elem? l seat.0) (sym run.closed.ordered.lists_are ∙ lists_are) ∙ (seat.1 ∙ map_there own_of all j c at)) in
           let q = from_pick list.0 run.closed.ordered.by accepted own.0 e.0 (ap (λ l. get_elem? l own.0) list.2 ∙ own.1) in
           let i = on_there e.0.link accepted q.0 e.0 q.2 refl in
           (tells (8 * t.number) e.0.link i.0 (record { inside = e.3; entry = e.0; at = i.1; place = omega (arith, e.2) })).1.has_position

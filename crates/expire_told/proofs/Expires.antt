@@ -47,7 +47,7 @@ use Rattle.call_told.specs.call_client.specs.Running.{begins, MayMakeAll}
 use Rattle.call_told.specs.call_run.specs.Readers.{LinkReader}
 use Rattle.call_told.specs.call_run.specs.Threads.{Thread, RanWith, AllMayRun, MayRunAll, ids_of}
 use Rattle.call_told.specs.call_places.specs.Counted.{HaveNotesOf}
-use Rattle.call_told.specs.call_places.proofs.Weights.{term, two_terms, mapped}
+use Rattle.call_told.specs.call_places.proofs.Weights.{term, two_terms}
 use Rattle.call_told.specs.call_places.proofs.Numbers.{numbered_once}
 use Rattle.call_told.specs.call_places.proofs.Clients.{Client, total_map, view_of, tasks_of}
 use Rattle.call_told.specs.call_places.proofs.Places.{all as all_clients, all_are, views_are, tasks_are}
@@ -64,7 +64,7 @@ use Rattle.expire_told.proofs.Doing.{GoesOn, on_then, Split, ran_split, Done, do
 use Rattle.expire_told.proofs.Begun.{BegunIn, ran_stored}
 use Rattle.expire_told.proofs.Making.{before_in, word_is, owned, placed, same_stored}
 use Rattle.expire_told.proofs.Expiring.{EndsAs, timed_out_word, timed_out_ends}
-use Rattle.call_told.specs.sock_deeds.proofs.Places.{map_back, to_elem}
+use Rattle.call_told.specs.sock_deeds.proofs.Places.{map_back, to_elem, map_there}
 
 -- ## Calls have their own numbers
 
@@ -123,7 +123,7 @@ module _ {O : Type 0} {g : Ghosts O} {state : O → OutState} {readers : List (L
   client_at c ts e = map_back tasks_of crew c ts (ap (λ (l : List (List Task)). get_elem? l c) (tasks_are run) ∙ to_elem every c ts e)
 
   pub tasks_at : (c : ℕ) (x : Client g state p q) → get_elem? crew c ≡ some x → get_elem? every c ≡ some (tasks_of x)
-  tasks_at c x at = ap (λ (l : List (List Task)). get_elem? l c) (sym (tasks_are run)) ∙ mapped tasks_of crew c x at
+  tasks_at c x at = ap (λ (l : List (List Task)). get_elem? l c) (sym (tasks_are run)) ∙ map_there tasks_of crew c x at
 
   pub fits : (c : ℕ) (x : Client g state p q) → get_elem? crew c ≡ some x → AllByRecursion Fits (tasks_of x)
   fits c x at = all_at (AllByRecursion Fits) every c (tasks_of x) (all_fits p q setup _ may.setup_may.may, each_fits p q clients may.clients_may) (tasks_at c x at)
@@ -151,7 +151,7 @@ module _ {O : Type 0} {g : Ghosts O} {state : O → OutState} {readers : List (L
   pub own_told : (c : ℕ) (t : Task) (m : IsMade c t) (o : Outcome) → m.done.made.by ≡ Some o → Became every outcomes t.number o
   own_told c t m o is =
       let f : Thread g → List Told = λ x. x.ended.outcomes.items in let d = m.done in let one : Told = record { number = t.number; outcome = o } in
-      let list : get_elem? told c ≡ some m.client.thread.ended.outcomes.items = ap (λ (l : List (List Told)). get_elem? l c) (sym (all_are run f ∙ run.ran.told_is)) ∙ mapped (λ (x : Client g state p q). f x.thread) crew c m.client m.at in
+      let list : get_elem? told c ≡ some m.client.thread.ended.outcomes.items = ap (λ (l : List (List Told)). get_elem? l c) (sym (all_are run f ∙ run.ran.told_is)) ∙ map_there (λ (x : Client g state p q). f x.thread) crew c m.client m.at in
       let behind : d.after.told ≡ d.before.told ++ one ∷ [] = d.made.told ∙ ap (λ (b : Option Outcome). d.before.told ++ telling t.number b) is in
       said_own c (length d.before.told + 0) m.client.thread.ended.outcomes.items one list
       (ap (λ (l : List Told). get_elem? l (length d.before.told + 0)) (d.told.1 ∙ ap (λ (l : List Told). l ++ d.told.0) behind)
@@ -256,7 +256,7 @@ module _ {O : Type 0} {g : Ghosts O} {state : O → OutState} {readers : List (L
       let found : 0 < total (is_word (call_index q of) e.id) (view_of x).kept = (let a = e.found in let b = l.grows.kept (is_word (call_index q of) e.id) in omega (arith, a, b)) in
       let call = its_call c of x at s t e l.grows.notes (found_maker of e.id c x at found) in
       let f : Thread g → List Told = λ y. y.ended.calls.told.items in
-      let list : get_elem? ended c ≡ some x.thread.ended.calls.told.items = ap (λ (y : List (List Told)). get_elem? y c) (sym (all_are run f ∙ run.ran.ended_is)) ∙ mapped (λ (y : Client g state p q). f y.thread) crew c x at in
+      let list : get_elem? ended c ≡ some x.thread.ended.calls.told.items = ap (λ (y : List (List Told)). get_elem? y c) (sym (all_are run f ∙ run.ran.ended_is)) ∙ map_there (λ (y : Client g state p q). f y.thread) crew c x at in
       let there = said_ended c (length s.books.told + 0) x.thread.ended.calls.told.items one list
       (ap (λ (y : List Told). get_elem? y (length s.books.told + 0)) (l.books.told.1 ∙ ap (λ (y : List Told). y ++ l.books.told.0) e.told)
       ∙ append_first (s.books.told ++ one ∷ []) l.books.told.0 (length s.books.told + 0) one (append_later s.books.told (one ∷ []) 0 one refl)) in
@@ -288,7 +288,7 @@ module _ {O : Type 0} {g : Ghosts O} {state : O → OutState} {readers : List (L
   pub earlier_told : (c : ℕ) (t : Task) (m : IsMade c t) (j : ℕ) (task : Task) (s : Split state p q m.client.thread.tasks j task (begins m.client.thread.began) m.done.before) (o : Outcome) → s.made.by ≡ Some o → Became every outcomes task.number o
   earlier_told c t m j task s o is_by =
       let f : Thread g → List Told = λ x. x.ended.outcomes.items in let d = m.done in let one : Told = record { number = task.number; outcome = o } in
-      let list : get_elem? told c ≡ some m.client.thread.ended.outcomes.items = ap (λ (l : List (List Told)). get_elem? l c) (sym (all_are run f ∙ run.ran.told_is)) ∙ mapped (λ (x : Client g state p q). f x.thread) crew c m.client m.at in
+      let list : get_elem? told c ≡ some m.client.thread.ended.outcomes.items = ap (λ (l : List (List Told)). get_elem? l c) (sym (all_are run f ∙ run.ran.told_is)) ∙ map_there (λ (x : Client g state p q). f x.thread) crew c m.client m.at in
       let at : ℕ = length s.before.told + 0 in let now : List Told = telling t.number d.made.by in
       let first : get_elem? s.after.told at ≡ some one = ap (λ (l : List Told). get_elem? l at) (s.made.told ∙ ap (λ (b : Option Outcome). s.before.told ++ telling task.number b) is_by) ∙ append_later s.before.told (one ∷ []) 0 one refl in
       let second : get_elem? d.before.told at ≡ some one = ap (λ (l : List Told). get_elem? l at) s.told.1 ∙ append_first s.after.told s.told.0 at one first in

@@ -45,7 +45,6 @@ use Rattle.attempts_told.specs.call_whys.specs.expire_told.specs.call_run.specs.
 use Rattle.attempts_told.specs.call_whys.specs.expire_told.specs.call_run.specs.Threads.{Thread, RanWith, MayRunAll, ids_of, opens_of, opened_names, openings}
 use Rattle.attempts_told.specs.call_whys.specs.expire_told.specs.call_places.specs.Counted.{makes, HaveNotesOf}
 use Rattle.attempts_told.specs.call_whys.specs.expire_told.specs.call_places.specs.Deeds.{Deed, operates, retries}
-use Rattle.attempts_told.specs.call_whys.specs.expire_told.specs.call_places.proofs.Weights.{mapped}
 use Rattle.attempts_told.specs.call_whys.specs.expire_told.specs.call_places.proofs.Still.{again_still}
 use Rattle.attempts_told.specs.call_whys.specs.expire_told.specs.call_places.proofs.Counts.{locks_for, KnowsLock, Grows, lock_stays, lock_known}
 use Rattle.attempts_told.specs.call_whys.specs.expire_told.specs.call_places.proofs.Ids.{IsIdOf, some_made, version_low, locker_there, one_id}
@@ -60,7 +59,7 @@ use Rattle.attempts_told.specs.call_whys.specs.expire_told.specs.outcome_causes.
 use Rattle.attempts_told.specs.call_whys.specs.expire_told.specs.outcome_causes.proofs.Tasks.{sorted_of}
 use Rattle.attempts_told.specs.call_whys.specs.expire_told.specs.sock_deeds.specs.Runs.{IsOperation}
 use Rattle.attempts_told.specs.call_whys.specs.expire_told.specs.sock_deeds.proofs.Names.{SeenBy}
-use Rattle.attempts_told.specs.call_whys.specs.expire_told.specs.sock_deeds.proofs.Places.{place_low, map_back}
+use Rattle.attempts_told.specs.call_whys.specs.expire_told.specs.sock_deeds.proofs.Places.{place_low, map_back, map_there}
 use Rattle.attempts_told.specs.call_whys.specs.expire_told.specs.Said.{AreSaid}
 use Rattle.attempts_told.specs.call_whys.specs.expire_told.specs.call_told.proofs.Coming.{made_begun as begun_made}
 use Rattle.failed_told.specs.Missed.{missed_in, attempt_of, socks_behind}
@@ -188,7 +187,7 @@ module _ {O : Type 0} {g : Ghosts O} {state : O → OutState} {readers : List (L
               by zero here some_ = absurd (omega (arith, some_))
               by (suc b) here some_ =
                   let threads : List (Thread g) = run.ran.main ∷ run.ran.others in
-                  let list : get_elem? (map (λ (y : Thread g). y) threads) (suc b) ≡ some x.thread = ap (λ (l : List (Thread g)). get_elem? l (suc b)) (sym (all_are run (λ (y : Thread g). y))) ∙ mapped (λ (y : Client g state p q). y.thread) crew (suc b) x here in
+                  let list : get_elem? (map (λ (y : Thread g). y) threads) (suc b) ≡ some x.thread = ap (λ (l : List (Thread g)). get_elem? l (suc b)) (sym (all_are run (λ (y : Thread g). y))) ∙ map_there (λ (y : Client g state p q). y.thread) crew (suc b) x here in
                   let w = map_back (λ (y : Thread g). y) threads (suc b) x.thread list in
                   ap (λ (y : Thread g). y.names) (sym w.2) ∙ names_are g state p q (opened_names run.ran.main.ended.outcomes.items (openings setup)) (opens_of setup) run.ran.others run.ran.others_are b w.0 w.1
 

@@ -43,7 +43,6 @@ use Rattle.attempts_told.specs.call_whys.specs.expire_told.specs.call_run.specs.
 use Rattle.attempts_told.specs.call_whys.specs.expire_told.specs.call_run.specs.Threads.{RanWith, MayRunAll, ids_of}
 use Rattle.attempts_told.specs.call_whys.specs.expire_told.specs.call_places.specs.Counted.{HaveNotesOf}
 use Rattle.attempts_told.specs.call_whys.specs.expire_told.specs.call_places.specs.Deeds.{Deed}
-use Rattle.attempts_told.specs.call_whys.specs.expire_told.specs.call_places.proofs.Weights.{mapped}
 use Rattle.attempts_told.specs.call_whys.specs.expire_told.specs.call_places.proofs.Clients.{Client, view_of, tasks_of, deeds_of}
 use Rattle.attempts_told.specs.call_whys.specs.expire_told.specs.call_places.proofs.Places.{all as all_clients, tasks_are, noted_among}
 use Rattle.attempts_told.specs.call_whys.specs.expire_told.specs.call_told.specs.Least.{is_made_for, is_locked_for}
@@ -57,7 +56,7 @@ use Rattle.failed_told.proofs.Clients.{Says}
 use Rattle.failed_told.proofs.Codes.{IsMissCode, IsReadCode, deed_code}
 use Rattle.failed_told.proofs.Posters.{Poster, posted_by}
 use Rattle.failed_told.proofs.Views.{queued_in}
-use Rattle.attempts_told.specs.call_whys.specs.expire_told.specs.sock_deeds.proofs.Places.{to_slice}
+use Rattle.attempts_told.specs.call_whys.specs.expire_told.specs.sock_deeds.proofs.Places.{to_slice, map_there}
 
 -- ## The last attempt
 
@@ -98,7 +97,7 @@ module _ {O : Type 0} {g : Ghosts O} {state : O → OutState} {readers : List (L
 
   task_is : (d : ℕ) (y : Client g state p q) → get_elem? crew d ≡ some y → (i : ℕ) (t : Task) → get_elem? (tasks_of y) i ≡ some t → IsTask every outcomes d t
   task_is d y at i t there =
-      let its : get_elem? every d ≡ some (tasks_of y) = ap (λ (l : List (List Task)). get_elem? l d) (sym (tasks_are run)) ∙ mapped tasks_of crew d y at in
+      let its : get_elem? every d ≡ some (tasks_of y) = ap (λ (l : List (List Task)). get_elem? l d) (sym (tasks_are run)) ∙ map_there tasks_of crew d y at in
       (tasks_of y, to_slice every d (tasks_of y) its, contains_from (tasks_of y) t (i, to_slice (tasks_of y) i t there))
 
   -- of an end that client c told, and had a cause for

@@ -46,7 +46,7 @@ use Rattle.calls_done.specs.call_whys.specs.call_places.specs.Counted.{makes_for
 use Rattle.calls_done.specs.call_whys.specs.call_places.proofs.Clients.{Client, tasks_of}
 use Rattle.calls_done.specs.call_whys.specs.call_places.proofs.Ids.{IsIdOf, some_made, one_id}
 use Rattle.calls_done.specs.call_whys.specs.call_places.proofs.Places.{all as all_clients, tasks_are as of_clients, made_once}
-use Rattle.calls_done.specs.call_whys.specs.call_places.proofs.Weights.{term, two_terms, mapped, noted_at}
+use Rattle.calls_done.specs.call_whys.specs.call_places.proofs.Weights.{term, two_terms, noted_at}
 use Rattle.calls_done.specs.call_whys.specs.call_deeds.proofs.Told.{task_at}
 use Rattle.calls_done.specs.call_whys.proofs.Versions.{IsIdFor, AreIds, versions}
 use Rattle.script_calls.specs.Told.{outcomes_of}
@@ -58,7 +58,7 @@ use Rattle.script_calls.proofs.Said.{IsSaid, end_said}
 use Rattle.script_calls.proofs.Sayings.{told_each, none_told}
 use Rattle.script_calls.proofs.Tellers as tellers_of
 use Rattle.script_calls.proofs.Tellers.{IsEndTold, end_made}
-use Rattle.callless_fits.specs.sock_deeds.proofs.Places.{to_slice}
+use Rattle.callless_fits.specs.sock_deeds.proofs.Places.{to_slice, map_there}
 
 -- an id that was made for an operation's call
 made_for : (f o : ℕ) (n : Note Asked) → is_made_for f o n ≤ makes_for o n
@@ -273,7 +273,7 @@ module _ {O : Type 0} {g : Ghosts O} {state : O → OutState} {readers : List (L
     is_told : (o id : ℕ) → IsIdOf slots v.notes o id → (by : Outcome) × Became asked_for became_all o by
     is_told o id h =
         let b = tellers_of.begun_of ran script tasks are v.notes have o (some_made o id h) in
-        let own : get_elem? asked_for b.place ≡ some (tasks_of b.client) = ap (λ (l : List (List Task)). get_elem? l b.place) (sym (of_clients ran)) ∙ mapped tasks_of (all_clients ran) b.place b.client b.at in
+        let own : get_elem? asked_for b.place ≡ some (tasks_of b.client) = ap (λ (l : List (List Task)). get_elem? l b.place) (sym (of_clients ran)) ∙ map_there tasks_of (all_clients ran) b.place b.client b.at in
         subst (λ (n : ℕ). (by : Outcome) × Became asked_for became_all n by) b.has.number_is
         (called b.place b.has.place (tasks_of b.client) b.has.result.task b.asked own (task_at b.client.thread b.client.is b.has.place b.has.result b.has.at) b.op)
 

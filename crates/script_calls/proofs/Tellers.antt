@@ -48,7 +48,7 @@ use Rattle.calls_done.specs.call_whys.specs.call_told.proofs.Tallies.{ending_is}
 use Rattle.calls_done.specs.call_whys.specs.call_places.specs.Counted.{makes, HaveNotesOf}
 use Rattle.calls_done.specs.call_whys.specs.call_places.proofs.Clients.{Client, tasks_of, view_of as ids_seen}
 use Rattle.calls_done.specs.call_whys.specs.call_places.proofs.Places.{all as all_clients, all_are, tasks_are, views_are}
-use Rattle.calls_done.specs.call_whys.specs.call_places.proofs.Weights.{term, mapped, noted_at}
+use Rattle.calls_done.specs.call_whys.specs.call_places.proofs.Weights.{term, noted_at}
 use Rattle.calls_done.specs.call_whys.specs.call_deeds.specs.Scripts.{Reports}
 use Rattle.calls_done.specs.call_whys.specs.call_deeds.proofs.Ran.{Result}
 use Rattle.calls_done.specs.call_whys.specs.call_deeds.proofs.Told.{all_results, task_at, said_of, one_place}
@@ -253,7 +253,7 @@ module _ {O : Type 0} {g : Ghosts O} {state : O → OutState} {readers : List (L
         let e = all_at (IsEndIn slots u) (f w.0) j x (thread_ends_in g state p q w.0.first w.0.thread its w.0.is) (ap (λ (l : List Told). get_elem? l j) w.2 ∙ there) in
         let lock = is_locked_for e.is.first x.number in
         let here = (have_all v.notes have).all e.is.slot lock in
-        let one = term (λ (y : View Asked). total lock (notes_of e.is.slot y.notes)) (map ids_seen callers) d u (mapped ids_seen callers d w.0 w.1) in
+        let one = term (λ (y : View Asked). total lock (notes_of e.is.slot y.notes)) (map ids_seen callers) d u (map_there ids_seen callers d w.0 w.1) in
         let l = total_some lock (notes_of e.is.slot v.notes) (let s = e.is.locked in omega arith) in
         let call = lock_of e.is.first x.number l.1 l.3 in
         let id = e.is.slot * 4294967296 + e.is.first in
