@@ -232,21 +232,9 @@ by_lines script lines turns a b e f played = subst (λ ts. HasPlayed (λ d. Sche
 
 -- a line that isn't one of the schedule
 no_turn : (line : Line) → ((seat : Seat) (ticks : ℕ) → line ≡ lines.Tick seat ticks → ⊥) → ((seat : Seat) (kind : Kind) → line ≡ lines.To seat kind → ⊥) → turn_of (item line) ≡ None
-no_turn (lines.Slots n) h k = refl
-no_turn (lines.Requests n) h k = refl
-no_turn (lines.First v) h k = refl
-no_turn (lines.Open o) h k = refl
-no_turn lines.Client h k = refl
-no_turn (lines.Send s) h k = refl
-no_turn (lines.Call c) h k = refl
-no_turn (lines.Expire t) h k = refl
-no_turn (lines.Join t) h k = refl
-no_turn (lines.Fail name code) h k = refl
-no_turn (lines.Hold name) h k = refl
-no_turn (lines.Drop name) h k = refl
-no_turn lines.Sched h k = refl
 no_turn (lines.Tick seat ticks) h k = absurd (h seat ticks refl)
 no_turn (lines.To seat kind) h k = absurd (k seat kind refl)
+no_turn _ h k = refl
 
 pub unscheduled_line : (m : MachineState) (line : Line) → ((seat : Seat) (ticks : ℕ) → line ≡ lines.Tick seat ticks → ⊥) → ((seat : Seat) (kind : Kind) → line ≡ lines.To seat kind → ⊥) → HasPlayed (HasTurns m.plan (turn_of (item line))) m m
 unscheduled_line m line h k = other_line m (turn_of (item line)) (no_turn line h k)

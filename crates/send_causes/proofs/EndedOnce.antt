@@ -15,7 +15,7 @@ use Rattle.seat_programs.specs.Clients.{ending_of}
 use Rattle.seat_programs.specs.Cores.{Core, SeatState, resolved, next_step}
 use Rattle.seat_programs.specs.declared.task.Sizes.{Sizes}
 use Rattle.seat_programs.specs.declared.task.Task.{Task}
-use Rattle.seat_programs.specs.Programs.{Program, Do, Say, Sent, Rest, TakeMessage, TakeHome, PutHome, PutBytes, AskReady, Write, Aside, Round, Keep, Retries}
+use Rattle.seat_programs.specs.Programs.{Program, Say, Sent, Rest, Keep, Retries}
 use Rattle.seat_programs.specs.Ticks.{Moment, AreAnswered, quiet, ticked, run}
 use Rattle.seat_programs.specs.Tasks.{opens, calls, plan_of, id_plan_of}
 use Rattle.seat_programs.specs.Scripts.{sizes_of, programs, readers_from, all_programs, all_tasks, beginning, opened, set_up, played, IsRunWithCalls}
@@ -62,16 +62,7 @@ idle_stays is_call (Say o outcome next) g = idle_stays is_call next g
 idle_stays is_call (Sent o next) g = idle_stays is_call next g
 idle_stays is_call (Keep r next) g = absurd (let e = g.0 in cc)
 idle_stays is_call (Retries n after) g = idle_stays is_call after g
-idle_stays is_call (Do call next) g = g
-idle_stays is_call Rest g = g
-idle_stays is_call (TakeMessage r next) g = g
-idle_stays is_call (TakeHome k next) g = g
-idle_stays is_call (PutHome k n after) g = g
-idle_stays is_call (PutBytes k asked bytes next) g = g
-idle_stays is_call (AskReady k next) g = g
-idle_stays is_call (Write w after) g = g
-idle_stays is_call (Aside step next) g = g
-idle_stays is_call (Round head next) g = g
+idle_stays is_call _ g = g
 
 module _ (p : Plan) (q : IdPlan) (narrow : q.slots ≤ 65536) (is_call : Asked → Type 0) (ids : ℕ → ℕ) where
   begins_once : (xs : List Program) → ((i : ℕ) (x : Program) → get_elem? xs i ≡ some x → Labels is_call Idle x) → OnceLaw is_call ids q [] (beginning p q xs) (map (λ (x : Program). Idle) xs)

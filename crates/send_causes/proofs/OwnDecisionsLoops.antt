@@ -5,7 +5,7 @@ use Rattle.brpc_model.specs.Stream as streams
 use Rattle.corr_core.specs.Word.{Parts, parts, posted_word, unlocked_word, code_of, attempt_of, error_of}
 use Rattle.corr_core.specs.Law.{LAST}
 use Rattle.sock_message.specs.Asked.{Asked}
-use Rattle.seat_programs.specs.Asides.{FreeId, UnlockId, Taking, Bytes, Nothing, NoMore, AtEnd, Closed, Broken, PutCall, id_slot, id_first, call_id}
+use Rattle.seat_programs.specs.Asides.{FreeId, UnlockId, Taking, Bytes, Nothing, Closed, PutCall, id_slot, id_first, call_id}
 use Rattle.seat_programs.specs.Heads.{Head, Exit, Sought, First, Version, Reading, Posts, Unlocks, Decides, Locks, Joins, Opens, Reads, Discards, Retry, Posting, WasGone, WasStale, WasCrowded, WasQueued, HasLocked, Unlocking, IsOpen, HasNext, Deciding, HasEnded, GoesOn, Locking, NotThere, Has, Ended}
 use Rattle.seat_programs.specs.Posts.{WHOLE, packed, advance_of, is_first, is_sought, is_stale, is_full, judged, posted, post_with, post, popped, end_id, ends_call, decide, decided, unlocked, locking}
 use Rattle.seat_programs.specs.Programs.{Program, Say, Aside, Round}
@@ -128,10 +128,7 @@ decided_goes id next goes GoesOn = goes
 
 pub posted_goes : (id e : ℕ) (next : Program) → Aims Calm next → (exit : Posting) → LeavesStand (Posts id e 0) exit → Aims (posted_stand id e exit) (posted id e next exit)
 posted_goes id e next goes (HasLocked w) l = decide_goes (Posted id e) (Posted id e) id w e (decided id next) (inl refl) l (inr refl) (decided_goes id next goes)
-posted_goes id e next goes WasGone l = goes
-posted_goes id e next goes WasStale l = goes
-posted_goes id e next goes (WasCrowded a b) l = goes
-posted_goes id e next goes WasQueued l = goes
+posted_goes id e next goes _ l = goes
 
 pub post_goes : (s : Stand) (id c n : ℕ) (next : Program) → Eases s (Past id n) → Aims Calm next → Aims s (post id c n next)
 post_goes s id c n next eases goes = post_with_goes s (Past id n) id (error_of c n) (posted id (error_of c n) next) eases (inr (c, n, refl, refl)) (posted_goes id (error_of c n) next goes)
@@ -239,18 +236,13 @@ took_goes r k goes (Bytes bytes) = let s = streams.stream (r.rest ++ bytes) in
     by_ending r' bytes (streams.Rest n) = let x : Reading = record r' { rest = last_of n bytes } in way Calm (nat_lt r'.total LIMIT) (Round (Reads x) k) (k (how_ended 1014 false false x)) (λ _. (tt, λ exit _. goes exit)) (λ _. goes (how_ended 1014 false false x))
     by_ending r' bytes (streams.Fault at_ fault) = goes (how_ended 2002 false true r')
 took_goes r k goes Nothing = (tt, λ exit _. goes exit)
-took_goes r k goes NoMore = goes (how_ended 1014 false false r)
-took_goes r k goes AtEnd = goes (how_ended 1014 false false r)
 took_goes r k goes Closed = goes (how_ended 1014 true false r)
-took_goes r k goes Broken = goes (how_ended 1014 false false r)
+took_goes r k goes _ = goes (how_ended 1014 false false r)
 
 discarded_goes : (l total : ℕ) (k : ℕ → Program) → ((exit : ℕ) → Aims Calm (k exit)) → (t : Taking) → Aims Calm (discarded l total k t)
 discarded_goes l total k goes (Bytes bytes) = way Calm (nat_lt (total + length bytes) LIMIT) (Round (Discards l (total + length bytes)) k) (k (total + length bytes)) (λ _. (tt, λ exit _. goes exit)) (λ _. goes (total + length bytes))
 discarded_goes l total k goes Nothing = (tt, λ exit _. goes exit)
-discarded_goes l total k goes NoMore = goes total
-discarded_goes l total k goes AtEnd = goes total
-discarded_goes l total k goes Closed = goes total
-discarded_goes l total k goes Broken = goes total
+discarded_goes l total k goes _ = goes total
 
 -- one round of each loop
 pub aims_round : (s : Stand) (head : Head) (k : Exit head → Program) → Aims s (Round head k) → Aims s (round head k)

@@ -22,7 +22,7 @@ use Rattle.seat_programs.specs.Asides.{call_id, id_slot, id_first}
 use Rattle.seat_programs.specs.Clients.{client_from}
 use Rattle.seat_programs.specs.Cores.{Core, SeatState, resolved, next_step}
 use Rattle.seat_programs.specs.Posts.{WHOLE}
-use Rattle.seat_programs.specs.Programs.{Program, Do, Say, Sent, Rest, TakeMessage, TakeHome, PutHome, PutBytes, AskReady, Write, Aside, Round, Keep, Retries}
+use Rattle.seat_programs.specs.Programs.{Program, Say, Sent, Rest, Keep, Retries}
 use Rattle.seat_programs.specs.Readers.{reader}
 use Rattle.seat_programs.specs.Runs.{IsAtRest}
 use Rattle.seat_programs.specs.Scripts.{opening_homes, programs, readers_from, all_programs, beginning}
@@ -193,16 +193,7 @@ calm_stays (Say o outcome next) g = calm_stays next g
 calm_stays (Sent o next) g = calm_stays next g
 calm_stays (Keep r next) g = absurd (let e = g.0 in cc)
 calm_stays (Retries n after) g = calm_stays after g
-calm_stays (Do call next) g = g
-calm_stays Rest g = g
-calm_stays (TakeMessage r next) g = g
-calm_stays (TakeHome k next) g = g
-calm_stays (PutHome k n after) g = g
-calm_stays (PutBytes k asked bytes next) g = g
-calm_stays (AskReady k next) g = g
-calm_stays (Write w after) g = g
-calm_stays (Aside step next) g = g
-calm_stays (Round head next) g = g
+calm_stays _ g = g
 
 module _ (p : Plan) (q : IdPlan) where
   no_messages : (F : Heading → Type 0) → HomesFit F (opening_homes p)

@@ -24,7 +24,7 @@ use Rattle.outcome_causes.proofs.Messages.{in_of_at}
 use Rattle.send_causes.proofs.Ticks.{none_asked}
 use Rattle.seat_programs.specs.declared.task.Sizes.{Sizes}
 use Rattle.seat_programs.specs.declared.task.Task.{Task}
-use Rattle.seat_programs.specs.Programs.{Program, Do, Say, Sent, Rest, TakeMessage, TakeHome, PutHome, PutBytes, AskReady, Write, Aside, Round, Keep, Retries}
+use Rattle.seat_programs.specs.Programs.{Program, Say, Sent, Rest, Keep, Retries}
 use Rattle.seat_programs.specs.Clients.{client_from, ending_of}
 use Rattle.seat_programs.specs.Readers.{reader}
 use Rattle.seat_programs.specs.Cores.{Core, SeatState, resolved, next_step}
@@ -78,16 +78,7 @@ module _ (p : Plan) (q : IdPlan) (narrow : q.slots ≤ 65536) (is_call : Asked �
   idle_stays (Sent o next) g = idle_stays next g
   idle_stays (Keep r next) g = absurd (let e = g.0 in cc)
   idle_stays (Retries n after) g = idle_stays after g
-  idle_stays (Do call next) g = g
-  idle_stays Rest g = g
-  idle_stays (TakeMessage r next) g = g
-  idle_stays (TakeHome k next) g = g
-  idle_stays (PutHome k n after) g = g
-  idle_stays (PutBytes k asked bytes next) g = g
-  idle_stays (AskReady k next) g = g
-  idle_stays (Write w after) g = g
-  idle_stays (Aside step next) g = g
-  idle_stays (Round head next) g = g
+  idle_stays _ g = g
 
   pub total_none : {A : Type 0} (g : A → ℕ) (l : List A) → ((i : ℕ) (a : A) → get_elem? l i ≡ some a → g a ≡ 0) → total g l ≡ 0
   total_none g [] all = refl
