@@ -42,12 +42,13 @@ use Rattle.call_causes.proofs.Claiming.{HaveSlots}
 use Rattle.call_causes.proofs.Leading.{run_leads}
 use Rattle.call_causes.proofs.Numbered.{AreNumbered}
 use Rattle.call_causes.proofs.Run.{Story, one_tick, in_either}
-use Rattle.send_causes.specs.Counts.{of_retry, word_of_id}
+use Rattle.send_causes.specs.Counts.{word_of_id}
 use Rattle.send_causes.proofs.OwnDecisionsHomes.{HandFits, HomesFit}
 use Rattle.send_causes.proofs.OwnDecisionsPrograms.{client_goes, reader_goes}
 use Rattle.send_causes.proofs.OwnDecisionsStands.{Stand, Calm, Aims}
 use Rattle.send_causes.proofs.OwnDecisionsTicks.{of_stand, IsPast, StandFits, HeadFits, AimLaw, QueuedAt, AreQueued, law_more, aim_ticks, decided_own}
 use Rattle.call_causes.proofs.Attempts.{in_front}
+use Rattle.send_causes.proofs.Runs.{none_waits}
 
 -- ## Lists
 
@@ -183,10 +184,6 @@ pub all_aim : (sizes : Sizes) (cs : List (List Task)) (calls os : List ℕ) (i :
 all_aim sizes cs calls os i x e = ⊎_elim (λ a. (let t = mapped (client_from sizes []) cs i x a in subst (Aims Calm) t.2 (client_goes sizes [] t.0)))
     (λ b. others_aim (32 - length (programs sizes cs)) calls os 0 b.0 x b.1) (appended (programs sizes cs) (replicate (32 - length (programs sizes cs)) Rest ++ readers_from calls 0 os) i x e)
 
-pub none_wait : (id n m : ℕ) → total (total (of_retry id n)) (replicate m []) ≡ 0
-none_wait id n zero = refl
-none_wait id n (suc m) = let r = none_wait id n m in omega (arith, r)
-
 none_try : (id n : ℕ) (xs : List Program) → total (of_stand id n) (map (λ (x : Program). Calm) xs) ≡ 0
 none_try id n [] = refl
 none_try id n (x ∷ xs) = let r = none_try id n xs in omega (arith, r)
@@ -206,8 +203,8 @@ module _ (p : Plan) (q : IdPlan) where
 
   pub begins_aims : (xs : List Program) → ((i : ℕ) (x : Program) → get_elem? xs i ≡ some x → Aims Calm x) → AimLaw q (λ x. In x []) (λ j x. ⊥) (beginning p q xs) (map (λ (x : Program). Calm) xs)
   begins_aims xs goes = record {
-    once = λ id n. (let a = none_try id n xs in let b = none_wait id n q.seats in omega (arith, a, b));
-    made = λ id n some_. absurd (let a = none_try id n xs in let b = none_wait id n q.seats in omega (arith, a, b, some_));
+    once = λ id n. (let a = none_try id n xs in let b = none_waits id n q.seats in omega (arith, a, b));
+    made = λ id n some_. absurd (let a = none_try id n xs in let b = none_waits id n q.seats in omega (arith, a, b, some_));
     each = length-map xs (λ (x : Program). Calm) ∙ sym (length-map xs (λ (x : Program). record { program = next_step (resolved [] x); hand = [] }));
     programs = λ j seat s es et. let x = mapped (λ (x : Program). record { program = next_step (resolved [] x); hand = [] }) xs j seat es in
         subst (λ (z : SeatState). Aims s z.program) x.2 (subst (λ y. Aims y (next_step (resolved [] x.0))) (mapped (λ (x : Program). Calm) xs j s et).2 (calm_stays x.0 (goes j x.0 x.1)));

@@ -15,7 +15,7 @@ use Rattle.seat_programs.specs.Rounds.{round}
 use Rattle.label_runs.specs.Labels.{Trial, Idle, Tries, Kept, LeavesLabel, LeavesLock, LeavesUnlock, unlocks_trial, unlocked_trial, locked_trial, IsSoughtWord, FindsLabel}
 use Rattle.label_runs.proofs.Loops.{id_back, not_true, not_equal, and_left, locked_parts}
 use Rattle.send_causes.specs.Refused.{Deed, NoCharge, Doing, idle, Moves, Remembers, IsPostOf, Charges, LeavesCode}
-use Rattle.send_causes.proofs.OwnDecisionsLoops.{word_after}
+use Rattle.send_causes.proofs.Words.{unlocked_is}
 
 -- a seat that tries, or none, and has nothing to post
 abbrev pub bare : Trial → List Deed → Doing
@@ -147,7 +147,7 @@ module _ (requests : ℕ) (is_call : Asked → Type 0) (reads : Bool) where
     first_as x y e (IsOpen w) l = tt
 
     pops : (low : (parts from).attempt + advance_of advance ≤ 6) → Goes (bare (unlocks_trial i from advance t) ds) (popped i (parts from).oldest after k)
-    pops low = let first : (parts after).first ≡ (parts from).first = ap (λ (w : Parts). w.first) (word_after from advance low) in let s : Doing = bare (unlocks_trial i from advance t) ds in
+    pops low = let first : (parts after).first ≡ (parts from).first = ap (λ (w : Parts). w.first) (unlocked_is from advance low) in let s : Doing = bare (unlocks_trial i from advance t) ds in
         way (bare (unlocks_trial i from advance t) ds) (eqb (parts from).oldest 0) (k (IsOpen after)) (cond (is_stale (parts from).oldest (parts after)) (Round (Unlocks i after false) k) (k (HasNext after (parts from).oldest)))
         (λ _. goes (IsOpen after) (low, tt))
         (λ _. way (bare (unlocks_trial i from advance t) ds) (is_stale (parts from).oldest (parts after)) (Round (Unlocks i after false) k) (k (HasNext after (parts from).oldest))

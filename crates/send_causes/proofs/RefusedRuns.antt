@@ -153,7 +153,7 @@ module _ (p : Plan) (q : IdPlan) (narrow : q.slots ≤ 65536) (is_call : Asked �
       trials_idle i t e = let x = mapped trial_in (map (λ (x : Program). idle) xs) i t e in sym x.2 ∙ ap trial_in (all_idle xs i x.0 x.1)
 
       none_at : (id n : ℕ) → times_of id n (beginning p q xs) vs (map trial_in (map (λ (x : Program). idle) xs)) ≡ 0
-      none_at id n = let a = total_none p q narrow is_call ids (of_trial id n) (map trial_in (map (λ (x : Program). idle) xs)) (λ i t e. ap (of_trial id n) (trials_idle i t e)) in let b = none_waits p q narrow is_call ids id n q.seats in
+      none_at id n = let a = total_none p q narrow is_call ids (of_trial id n) (map trial_in (map (λ (x : Program). idle) xs)) (λ i t e. ap (of_trial id n) (trials_idle i t e)) in let b = none_waits id n q.seats in
           let d = total_none p q narrow is_call ids (of_view id n) vs (λ i v e. bare_count p q narrow is_call ids id n v (bare i v e)) in omega (arith, a, b, d)
 
 -- ## Seats

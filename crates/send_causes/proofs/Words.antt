@@ -60,7 +60,7 @@ posted_forward from e small = by (eqb (parts from).state 1)
         let is : parts (packed w) ≡ w = parts_packed w (omega arith) (omega arith) (omega arith) (omega arith) (small_first (eqb (parts from).oldest 0) e (parts from).oldest small (omega arith)) (small_first (eqb (parts from).oldest 0) 0 e (omega arith) small) in
         inr (ap (λ (x : Parts). x.first) is, λ some_. ((let z : (parts (packed w)).state ≡ 2 = ap (λ (x : Parts). x.state) is in omega (arith, z)), (let z : (parts (packed w)).attempt ≡ (parts from).attempt = ap (λ (x : Parts). x.attempt) is in omega (arith, z))))
 
-unlocked_is : (from : ℕ) (advance : Bool) → (parts from).attempt + advance_of advance ≤ 6 → parts (packed (unlocked_word (parts from) (advance_of advance))) ≡ unlocked_word (parts from) (advance_of advance)
+pub unlocked_is : (from : ℕ) (advance : Bool) → (parts from).attempt + advance_of advance ≤ 6 → parts (packed (unlocked_word (parts from) (advance_of advance))) ≡ unlocked_word (parts from) (advance_of advance)
 unlocked_is from advance few = parts_packed (unlocked_word (parts from) (advance_of advance)) (state_fits (eqb (parts from).oldest 0)) (omega arith) (omega arith) (omega (arith, few)) (omega arith) (omega arith)
 
 unlocked_forward : (from : ℕ) (advance : Bool) → (parts from).attempt + advance_of advance ≤ 6 → Forward (parts from) (parts (packed (unlocked_word (parts from) (advance_of advance))))
