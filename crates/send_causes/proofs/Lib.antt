@@ -10,6 +10,7 @@ pub mod Takeless
 pub mod ReaderParts
 pub mod Closers
 pub mod Readings
+pub mod SeatTicks
 pub mod ReaderRuns
 pub mod Early
 pub mod Places
