@@ -9,7 +9,7 @@ use Rattle.corr_core.specs.declared.marks.Plan.{Plan as IdPlan}
 use Rattle.id_rule.specs.Lawful.{id_index, all_words}
 use Rattle.sock_message.specs.Asked.{Asked}
 use Rattle.seat_programs.specs.declared.task.Task.{Task}
-use Rattle.seat_programs.specs.Asides.{Step, ClaimId, PutCall, MakeId, StoreCall, LoadCall, StoreAt, LoadAt, LoadIdWord, LockId, PostId, UnlockId, EndId, FreeId, TakeCall, TakeBytes, Found, call_id, id_slot, id_first}
+use Rattle.seat_programs.specs.Asides.{Step, ClaimId, PutCall, MakeId, StoreAt, LockId, PostId, UnlockId, EndId, FreeId, TakeCall, Found, call_id, id_slot, id_first}
 use Rattle.seat_programs.specs.Beside.{call_at}
 use Rattle.seat_programs.specs.Posts.{packed, advance_of}
 use Rattle.id_runs.proofs.Keeps.{parts_packed}
@@ -308,17 +308,4 @@ module _ (p : Plan) (q : IdPlan) (clients : List (List Task)) (gives : ℕ → L
               where
                 one_make : (s : Step) (i k : ℕ) → IsMake s i → IsMake s k → i ≡ k
                 one_make (MakeId j range) i k a b = sym a ∙ b
-                one_make (ClaimId j) i k a b = absurd a
-                one_make (PutCall j asked) i k a b = absurd a
-                one_make (StoreCall o id) i k a b = absurd a
-                one_make (LoadCall o) i k a b = absurd a
-                one_make (StoreAt o x) i k a b = absurd a
-                one_make (LoadAt o) i k a b = absurd a
-                one_make (LoadIdWord j) i k a b = absurd a
-                one_make (LockId j from) i k a b = absurd a
-                one_make (PostId j from e) i k a b = absurd a
-                one_make (UnlockId j from advance) i k a b = absurd a
-                one_make (EndId j) i k a b = absurd a
-                one_make (FreeId j) i k a b = absurd a
-                one_make (TakeCall j) i k a b = absurd a
-                one_make (TakeBytes l room) i k a b = absurd a
+                one_make _ i k a b = absurd a

@@ -14,7 +14,7 @@ use Rattle.seat_programs.specs.Asides.{Step, ClaimId, PutCall, MakeId, StoreCall
 use Rattle.seat_programs.specs.Asides as asides
 use Rattle.seat_programs.specs.Posts.{packed, advance_of}
 use Rattle.call_causes.specs.Scenes.{Birth, Saying, Claim, Scene, In, IsClaimed, IsTaskOf, HasRoom}
-use Rattle.call_causes.specs.Says.{with_attempt, unlocked_by, shape_of, Slot, NoSlot, Claims, Locked, Holds, Leaves, Mark, with_slot, put_in, taken_out, IsVacant, MayAside}
+use Rattle.call_causes.specs.Says.{with_attempt, unlocked_by, shape_of, Slot, NoSlot, Claims, Locked, Leaves, Mark, with_slot, put_in, taken_out, IsVacant, MayAside}
 use Rattle.call_causes.specs.Stories.{At, tag_at, SlotFits, BirthsLaw, TasksLaw, ClaimsLaw, tasks_behind, ahead, unclaimed, IsBehind, KnowsStep, put_of, born_by, claimed_by, stored_by, mark_after}
 use Rattle.call_causes.proofs.Effects.{Touches, beside, tag_stays, tag_is}
 use Rattle.call_causes.proofs.Births.{tests}
@@ -199,10 +199,7 @@ module _ (p : Plan) (q : IdPlan) (clients : List (List Task)) (gives : ℕ → L
     where
       by_slot : (s : Slot) (u : Task) → In u (unclaimed p q clients gives s [] may.2) → In u (unclaimed p q clients gives s (may.0 ∷ []) (may.1 ∷ may.2))
       by_slot (Claims k c) u x = in_tasks_behind p q clients gives may.2 u x
-      by_slot NoSlot u x = x
-      by_slot (Locked k f range) u x = x
-      by_slot (Holds k f range asked) u x = x
-      by_slot (Leaves k) u x = x
+      by_slot _ u x = x
 
       stored : (u : Task) → In u (unclaimed p q clients gives m.slot [] may.2) → In u (unclaimed p q clients gives m.slot m.makes m.todo)
       stored u x = subst (λ ys. In u (unclaimed p q clients gives m.slot m.makes ys)) (sym may.4) (subst (λ bs. In u (unclaimed p q clients gives m.slot bs (may.1 ∷ may.2))) (sym may.3) (by_slot m.slot u x))
@@ -225,10 +222,7 @@ module _ (p : Plan) (q : IdPlan) (clients : List (List Task)) (gives : ℕ → L
 
       attempt_less : (n : ℕ) (s : Slot) (u : Task) → In u (unclaimed p q clients gives (with_attempt n s) m.makes m.todo) → In u (unclaimed p q clients gives s m.makes m.todo)
       attempt_less n NoSlot u x = x
-      attempt_less n (Claims k c) u x = x
-      attempt_less n (Locked k f shape) u x = x
-      attempt_less n (Holds k f shape a) u x = x
-      attempt_less n (Leaves k) u x = x
+      attempt_less n _ u x = x
 
       by_oldest : (c : Bool) (u : Task) → In u (unclaimed p q clients gives (cond c (with_slot NoSlot m) (with_slot (with_attempt (parts (unlocked_by from advance)).attempt m.slot) m)).slot (cond c (with_slot NoSlot m) (with_slot (with_attempt (parts (unlocked_by from advance)).attempt m.slot) m)).makes (cond c (with_slot NoSlot m) (with_slot (with_attempt (parts (unlocked_by from advance)).attempt m.slot) m)).todo) → In u (unclaimed p q clients gives m.slot m.makes m.todo)
       by_oldest true u x = opened u x

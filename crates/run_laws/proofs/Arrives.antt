@@ -47,7 +47,7 @@ use Rattle.outcome_causes.proofs.Added.{failer_note, linked_note, row_adds}
 use Rattle.run_laws.specs.World.{Event, Stop, stopped_after}
 use Rattle.run_laws.specs.Seen.{event_at}
 use Rattle.run_laws.specs.Late.{next_at, PutsInto, LooksLive, Looks, FailsSocket}
-use Rattle.run_laws.proofs.Modes.{Mode, Unknown, Live, Fed, Dead, Asks, Broken, mode_behind, put_mode, ready_mode, Guarded, come_guarded}
+use Rattle.run_laws.proofs.Modes.{Mode, Unknown, Live, Dead, mode_behind, put_mode, ready_mode, Guarded, come_guarded}
 use Rattle.run_laws.proofs.Lives.{live_unfailed, even_is, link_is, failed_stays}
 use Rattle.run_laws.proofs.Cases.{IsStill, tick_does}
 use Rattle.run_laws.proofs.Kept.{IsGiven, Kept, mode, mode_guarded}
@@ -124,11 +124,7 @@ live_look m (LoadCode i h) found j e = absurd (by_mode m e)
   where
     by_mode : (n : Mode) → mode_behind n (LoadCode i h) found ≡ Live j → ⊥
     by_mode Unknown y = cc
-    by_mode (Live s) y = cc
-    by_mode Fed y = cc
-    by_mode Dead y = cc
-    by_mode (Asks s) y = cc
-    by_mode (Broken s) y = cc
+    by_mode _ y = cc
 live_look m _ found j e = absurd (unknown_live j e)
 
 put_live : (i : ℕ) (answer : Put) (j : ℕ) → put_mode i answer ≡ Live j → ⊥
