@@ -5,17 +5,20 @@ use Rattle.sock_io.specs.Link.{end_of}
 use Rattle.script_links.proofs.Numbering.{numbered_of, unused_of, silent_of, all_so, all_mapped}
 use Rattle.script_run.proofs.run.run_over.Goals as goal
 
-pub new-requires-clause-unused : goal.new-requires-clause-unused
-new-requires-clause-unused g c = unused_of (λ e. end_of (g.L.O.Out.state e.out) (g.L.I.In.state e.inn)) 0 c.args.ends.items c.requires.untouched
+pub of-requires-clause-unused : goal.of-requires-clause-unused
+of-requires-clause-unused g c = unused_of (λ e. end_of (g.L.O.Out.state e.out) (g.L.I.In.state e.inn)) 0 c.args.ends.items c.requires.untouched
 
 pub give_back-requires-clause-numbered : goal.give_back-requires-clause-numbered
-give_back-requires-clause-numbered g c κs within = rw c.in-Err.ensures.back (numbered_of 0 _ c.requires.untouched)
+give_back-requires-clause-numbered g c κs within = numbered_of 0 _ c.requires.untouched
+
+pub give_back-in-Err-requires-clause-numbered : goal.give_back-in-Err-requires-clause-numbered
+give_back-in-Err-requires-clause-numbered g c κs within = rw c.in-Err.ensures.back (numbered_of 0 _ c.requires.untouched)
 
 pub run_on-requires-clause-always_ready : goal.run_on-requires-clause-always_ready
 run_on-requires-clause-always_ready g c κs within is = c.in-Ok.ensures.outs (c.requires.always_ready is)
 
-pub new-requires-clause-silent : goal.new-requires-clause-silent
-new-requires-clause-silent g c = silent_of (λ e. end_of (g.L.O.Out.state e.out) (g.L.I.In.state e.inn)) 0 c.args.ends.items c.requires.untouched
+pub of-requires-clause-silent : goal.of-requires-clause-silent
+of-requires-clause-silent g c = silent_of (λ e. end_of (g.L.O.Out.state e.out) (g.L.I.In.state e.inn)) 0 c.args.ends.items c.requires.untouched
 
 pub run_on-requires-clause-tell : goal.run_on-requires-clause-tell
 run_on-requires-clause-tell g c κs within tell = c.in-Ok.ensures.tell (all_so (λ e. (g.L.I.In.state e.inn).closing ≢ None) (λ e. (tell e.inn).0) c.args.ends.items)

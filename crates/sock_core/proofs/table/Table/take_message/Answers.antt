@@ -4,6 +4,7 @@ use Rattle.message_parts.specs.Parcels.{parcel_of, outgoing_of}
 use Rattle.seat_states.specs.Points.{next_program}
 use Rattle.seat_states.proofs.StepFacts.{takes_message}
 use Rattle.client_seats.specs.Seats.{seat_data, around}
+use Rattle.sock_core.specs.Letters.{letters_in}
 use Rattle.sock_core.specs.Machines.{table_sizes}
 use Rattle.sock_core.proofs.Stepping.{written, makes_along, goes, message_is}
 use Rattle.sock_core.proofs.TableGoes.{follows_as}
@@ -27,7 +28,7 @@ returns g c seat_number =
           letter = taken.0;
           at = rw c.deref_mut.ensures.value at taken.1;
           words = refl;
-          letters = written c.self.inside.letters.len c.take_message-author.new.letters _ (omega (arith, c.self.inside.letters.ok)) ∙ c.take_message-author.ensures.letters ∙ ap (λ ls. slice_set ls c.args.request None) c.deref_mut.ensures.value;
+          letters = ap letters_in (written c.self.inside.letters.len c.take_message-author.new.letters _ (omega (arith, c.self.inside.letters.ok))) ∙ c.take_message-author.ensures.letters ∙ ap (λ ls. slice_set (letters_in ls) c.args.request None) c.deref_mut.ensures.value;
           links = refl;
           ids = refl;
           ends = refl;
