@@ -58,7 +58,7 @@ use Rattle.call_whys.specs.call_told.specs.call_run.specs.call_client.specs.Runn
 use Rattle.call_whys.specs.call_told.specs.call_run.specs.call_client.proofs.Telling.{quiet_total, did_total, none_of_one}
 use Rattle.call_whys.specs.call_told.specs.call_run.specs.Threads.{Thread, IsThread}
 use Rattle.call_whys.specs.call_told.proofs.Noting.{became_did}
-use Rattle.call_whys.specs.call_told.specs.call_places.proofs.Still.{advances, attempt_silent}
+use Rattle.call_whys.specs.call_told.specs.call_places.proofs.Still.{advances, attempt_silent, advance_there}
 use Rattle.call_whys.specs.call_told.specs.call_places.proofs.Own.{came, end_is}
 
 -- ## Words of locks
@@ -149,9 +149,6 @@ attempt_here i f n at g m h = dite (ℕ_discrete at i)
     (λ x. dite (ℕ_discrete m n) (λ y. (e, x, y)) (λ ne. absurd (let z = pair-else f n g m ne in omega arith)))
     (λ ne. absurd (let z = pair-else_first f n g m ne in omega arith)))
     (λ ne. absurd (let a : total (is_attempt {C = Asked} f n) (notes_of i (one at (Attempt g m))) ≡ 0 = ap (λ (b : Bool). total (is_attempt {C = Asked} f n) (cond b (Attempt g m ∷ []) [])) (ne_eqb at i ne) in omega arith))
-
-pub advance_there : (i : ℕ) (p q : Parts) → q.attempt ≡ p.attempt + 1 → advance_note {C = Asked} i p q ≡ one i (Attempt p.first q.attempt)
-advance_there i p q up = ap (λ (b : Bool). cond b [] (one i (Attempt p.first q.attempt))) (ne_eqb p.attempt q.attempt (λ e. omega (arith, e, up)))
 
 pub advance_none : (i : ℕ) (p q : Parts) → q.attempt ≡ p.attempt + 0 → advance_note {C = Asked} i p q ≡ []
 advance_none i p q up = ap (λ (b : Bool). cond b [] (one i (Attempt p.first q.attempt))) (eq-eqb p.attempt q.attempt (omega (arith, up)))

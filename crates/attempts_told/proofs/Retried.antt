@@ -1,5 +1,5 @@
 -- Each advance of a call that a client noted has its retry waiting, or taken out; and what became of one that was taken out.
-use Rattle.std.proofs.Common.{◌≡◌, ℕ, zero, suc, ◌+◌, ◌*◌, ◌<◌, ◌≤◌, ◌⊎◌, inl, inr, Bool, true, false, cond, eqb, eq-eqb, ne_eqb, List, [], ◌∷◌, ◌++◌, Some, None, refl, sym, ap, ◌∙◌, subst, arith}
+use Rattle.std.proofs.Common.{◌≡◌, ℕ, zero, suc, ◌+◌, ◌*◌, ◌<◌, ◌≤◌, ◌⊎◌, inl, inr, Bool, false, cond, eqb, eq-eqb, ne_eqb, List, [], ◌∷◌, ◌++◌, Some, None, refl, sym, ap, ◌∙◌, subst, arith}
 use Rattle.std.specs.Prelude.{Option as Maybe}
 use Rattle.std.specs.List.{AllByRecursion}
 use Rattle.std.proofs.lemmas.Nat.{div-add-mod'}
@@ -40,7 +40,7 @@ use Rattle.corr_id.specs.Calls.{Did, one, advance_note, slot_of, version_of}
 use Rattle.corr_id.specs.Unlocks.{UnlockOk}
 use Rattle.corr_id.proofs.Seats.{total_append}
 use Rattle.call_whys.specs.call_told.specs.call_run.specs.call_errors.specs.declared.retries.Retry.{Retry}
-use Rattle.call_whys.specs.call_told.specs.call_run.specs.call_errors.specs.Books.{Books, CallStand, stand_of, starving, keeping, Tells, told, lost}
+use Rattle.call_whys.specs.call_told.specs.call_run.specs.call_errors.specs.Books.{Books, CallStand, stand_of, starving, keeping}
 use Rattle.call_whys.specs.call_told.specs.call_run.specs.call_errors.specs.Ending.{EndedWith, failed}
 use Rattle.call_whys.specs.call_told.specs.call_run.specs.call_errors.specs.Handling.{Advanced, IsNext, Decided}
 use Rattle.call_whys.specs.call_told.specs.call_run.specs.call_errors.specs.Handling as handling
@@ -59,11 +59,11 @@ use Rattle.call_whys.specs.call_told.specs.call_run.specs.call_client.proofs.Tel
 use Rattle.call_whys.specs.call_told.specs.call_run.specs.Threads.{Thread, IsThread}
 use Rattle.call_whys.specs.call_told.proofs.Lists.{all_both, all_then}
 use Rattle.call_whys.specs.call_told.specs.call_places.specs.Deeds.{Deed, operates, retries, retries_of, ran_deeds, deeds}
-use Rattle.call_whys.specs.call_told.specs.call_places.proofs.Still.{is_retry, waiting, advances, attempt_silent, decided_still, retried_still}
+use Rattle.call_whys.specs.call_told.specs.call_places.proofs.Still.{is_retry, waiting, advances, attempt_silent, decided_still, retried_still, more_waits, more_noted, tells_retries}
 use Rattle.call_whys.specs.call_told.specs.call_places.proofs.Counts.{by_retry, Grows, acted_might}
 use Rattle.call_whys.specs.call_told.specs.call_places.proofs.Ids.{version_low}
 use Rattle.call_whys.specs.call_told.specs.call_places.proofs.Own.{came, end_is}
-use Rattle.attempts_told.proofs.Bounds.{Unmoved, unmoved_then, unmoved_noted, unmoved_quiet, unmoved_got, unmoved_ended, unmoved_post, advance_there, advance_none}
+use Rattle.attempts_told.proofs.Bounds.{Unmoved, unmoved_then, unmoved_noted, unmoved_quiet, unmoved_got, unmoved_ended, unmoved_post, advance_none}
 
 -- ## Counts
 
@@ -81,12 +81,8 @@ by_view s t e m i f n = let x = ap (total (is_retry (i * 4294967296 + f) n)) e i
 awaited_same : (s t : CallStand) → t ≡ s → Awaited s t
 awaited_same s t e = by_view s t (ap (λ (y : CallStand). y.books.retries) e) (unmoved_noted s.view t.view (ap (λ (y : CallStand). y.view.notes) e))
 
-tells_retries : (k : IdLock Asked) (code : ℕ) (b c : Books) → Tells (failed k code) b c → c.retries ≡ b.retries
-tells_retries k code b c (told e) = ap (λ (y : Books). y.retries) e
-tells_retries k code b c (lost e) = ap (λ (y : Books). y.retries) e
-
 ended_awaited : (k : IdLock Asked) (code : ℕ) (s t : CallStand) → EndedWith k code s t → Awaited s t
-ended_awaited k code s t h = by_view s t (tells_retries k code s.books t.books h.tells) (unmoved_ended k.slot (parts k.word.0).first s.view t.view h.ended)
+ended_awaited k code s t h = by_view s t (tells_retries (failed k code) s.books t.books h.tells) (unmoved_ended k.slot (parts k.word.0).first s.view t.view h.ended)
 
 -- one retry more waits, and the advance to its attempt is the one that was noted
 module _ (k : IdLock Asked) (s t : CallStand) (r : Retry) (next : IsNext k r) (kept : t.books ≡ keeping r s.books) (q : Parts) (ts : List (Token Asked)) (up : q.attempt ≡ (parts k.word.0).attempt + 1)
@@ -96,20 +92,6 @@ module _ (k : IdLock Asked) (s t : CallStand) (r : Retry) (next : IsNext k r) (k
 
   abbrev Counted : ℕ → ℕ → ℕ → ℕ
   Counted i f n = cond (eqb k.slot i) (is_attempt {C = Asked} f n (Attempt first q.attempt)) 0
-
-  more_waits : (id n : ℕ) → waiting id n t.books ≡ waiting id n s.books + is_retry id n r
-  more_waits id n = let a = ap (λ (b : Books). waiting id n b) kept in let b = total_append (is_retry id n) s.books.retries (r ∷ []) in omega arith
-
-  more_noted : (i f n : ℕ) → advances i f n t.view ≡ Counted i f n + advances i f n s.view
-  more_noted i f n =
-      let a = did_total (is_attempt f n) (attempt_silent f n) k.slot s.view t.view ts (advance_note k.slot (parts k.word.0) q) d i in
-      let b = ap (λ (l : List (Noted Asked)). total (is_attempt f n) (notes_of i l)) (advance_there k.slot (parts k.word.0) q up) in
-      let c : total (is_attempt f n) (notes_of i (one k.slot (Attempt first q.attempt))) ≡ Counted i f n = by (eqb k.slot i) in
-      omega arith
-    where
-      by : (b : Bool) → total (is_attempt {C = Asked} f n) (cond b (Attempt first q.attempt ∷ []) []) ≡ cond b (is_attempt {C = Asked} f n (Attempt first q.attempt)) 0
-      by true = omega arith
-      by false = refl
 
   -- the advance is counted where the retry is
   same_counts : (i f n : ℕ) → Counted i f n ≤ is_retry (i * 4294967296 + f) n r
@@ -127,13 +109,13 @@ module _ (k : IdLock Asked) (s t : CallStand) (r : Retry) (next : IsNext k r) (k
       (λ ne. let z = ap (λ (b : Bool). cond b (is_attempt {C = Asked} f n (Attempt first q.attempt)) 0) (ne_eqb k.slot i ne) in omega (arith, z))
 
   keeps_awaited : Awaited s t
-  keeps_awaited i f n = let a = more_waits (i * 4294967296 + f) n in let b = more_noted i f n in let c = same_counts i f n in omega (arith, a, b, c)
+  keeps_awaited i f n = let a = more_waits k s t r next kept q ts up d (i * 4294967296 + f) n in let b = more_noted k s t r next kept q ts up d i f n in let c = same_counts i f n in omega (arith, a, b, c)
 
   -- it is there
   keeps_noted : 0 < advances k.slot first ((parts k.word.0).attempt + 1) t.view
   keeps_noted =
       let n : ℕ = (parts k.word.0).attempt + 1 in
-      let b = more_noted k.slot first n in let c = pair-at first n first q.attempt refl up in
+      let b = more_noted k s t r next kept q ts up d k.slot first n in let c = pair-at first n first q.attempt refl up in
       let z = ap (λ (b : Bool). cond b (is_attempt {C = Asked} first n (Attempt first q.attempt)) 0) (eq-eqb k.slot k.slot refl) in omega (arith, b, c, z)
 
 advanced_awaited : (k : IdLock Asked) (answer : Unlocked Asked) (s t : CallStand) → Advanced k answer s t → Awaited s t
@@ -148,7 +130,7 @@ advanced_noted k (Next l code attempt) s t a = let u = a.unlocked in keeps_noted
 
 decided_awaited : {s : CallStand} {k : IdLock Asked} {code : ℕ} {attempt : Maybe ℕ} {t : CallStand} → Decided s k code attempt t → Awaited s t
 decided_awaited (handling.ends s k code attempt t a b e) = ended_awaited k code s t e
-decided_awaited (handling.starves s k code attempt t a e) = by_view s t (tells_retries k _ (starving s.books) t.books e.tells) (unmoved_ended k.slot (parts k.word.0).first s.view t.view e.ended)
+decided_awaited (handling.starves s k code attempt t a e) = by_view s t (tells_retries (failed k _) (starving s.books) t.books e.tells) (unmoved_ended k.slot (parts k.word.0).first s.view t.view e.ended)
 decided_awaited (handling.waits s k code attempt t a b e) = advanced_awaited k Open s t e
 decided_awaited (handling.goes_on s k code attempt t u l next of a b e rest) = awaited_then s u t (advanced_awaited k (Next l next of) s u e) (decided_awaited rest)
 

@@ -31,12 +31,12 @@ use Rattle.call_whys.specs.call_told.specs.call_run.specs.Threads.{RanWith, ids_
 use Rattle.call_whys.specs.call_told.proofs.Lists.{all_at}
 use Rattle.call_whys.specs.call_told.specs.call_places.specs.Counted.{HaveNotesOf}
 use Rattle.call_whys.specs.call_told.specs.call_places.specs.Deeds.{Deed, operates, retries}
-use Rattle.call_whys.specs.call_told.specs.call_places.proofs.Weights.{term, mapped, each_less}
+use Rattle.call_whys.specs.call_told.specs.call_places.proofs.Weights.{each_less}
 use Rattle.call_whys.specs.call_told.specs.call_places.proofs.Still.{is_retry, advances, decided_still}
 use Rattle.call_whys.specs.call_told.specs.call_places.proofs.Counts.{by_retry, Grows}
-use Rattle.call_whys.specs.call_told.specs.call_places.proofs.Ids.{IdLaws}
+use Rattle.call_whys.specs.call_told.specs.call_places.proofs.Ids.{IdLaws, id_parts}
 use Rattle.call_whys.specs.call_told.specs.call_places.proofs.Clients.{Client, view_of, deeds_of}
-use Rattle.call_whys.specs.call_told.specs.call_places.proofs.Places.{all, views_are}
+use Rattle.call_whys.specs.call_told.specs.call_places.proofs.Places.{all, noted_among, views_are}
 use Rattle.call_whys.specs.call_told.specs.sock_deeds.proofs.Places.{map_back}
 use Rattle.attempts_told.proofs.Retried.{Moves, decided_moves, Founded, taken_out, all_founded}
 
@@ -45,10 +45,6 @@ retry_is : (id n : ℕ) (r : Retry) → 0 < is_retry id n r → (r.id ≡ id) ×
 retry_is id n r some_ = dite (ℕ_discrete r.id id)
     (λ e. dite (ℕ_discrete r.attempt n) (λ m. (e, m)) (λ ne. absurd (let z = pair-else id n r.id r.attempt ne in omega (arith, z, some_))))
     (λ ne. absurd (let z = pair-else_first id n r.id r.attempt ne in omega (arith, z, some_)))
-
--- an id by its slot and its first version
-id_parts : (id i f : ℕ) → id ≡ i * 4294967296 + f → f < 4294967296 → (slot_of id ≡ i) × (version_of id ≡ f)
-id_parts id i f e low = (omega (arith, e, low), omega (arith, e, low))
 
 -- an advance to an attempt is one
 attempt_advance : (f n : ℕ) (x : Note Asked) → is_attempt f n x ≤ is_advance f x
@@ -93,11 +89,6 @@ module _ {O : Type 0} {g : Ghosts O} {state : O → OutState} {readers : List (L
     pub id_is : retry.id ≡ id
     pub attempt_is : retry.attempt ≡ n
 
-  within : (j : ℕ) (c : Client g state p q) → get_elem? (all run) j ≡ some c → (i : ℕ) (f : Note Asked → ℕ) → total f (notes_of i (view_of c).notes) ≤ total f (notes_of i notes)
-  within j c at i f =
-      let a = term (λ (v : View Asked). total f (notes_of i v.notes)) ids j (view_of c) (ap (λ (l : List (View Asked)). get_elem? l j) (sym (views_are run)) ∙ mapped view_of (all run) j c at) in
-      let b = have.all i f in omega (arith, a, b)
-
   -- the range with this first version in slot i, which was made, and advanced to n and no further
   module _ (i f n r k : ℕ) (asked : Asked) (inside : i < slots) (low : f < 4294967296) (made : get_elem? (notes_of i notes) k ≡ some (Made f r asked)) (furthest : (m : ℕ) → 0 < total (is_attempt f m) (notes_of i notes) → m ≤ n)
       -- no client ended it, or found a later one
@@ -115,7 +106,7 @@ module _ {O : Type 0} {g : Ghosts O} {state : O → OutState} {readers : List (L
           let first_is : (parts l.word.0).first ≡ h = ap (λ (x : Parts). x.first) got.got.word_is in
           let range_is : (parts l.word.0).range ≡ w = ap (λ (x : Parts). x.range) got.got.word_is in
           let found : 0 < total (is_saw got.word) (notes_of i notes) = subst (λ (y : ℕ). 0 < total (is_saw got.word) (notes_of y notes)) slot
-          (let a = got.got.found in let b = grows l.slot (is_saw got.word) in let d = within j c at l.slot (is_saw got.word) in omega (arith, a, b, d)) in
+          (let a = got.got.found in let b = grows l.slot (is_saw got.word) in let d = noted_among run notes have j c at l.slot (is_saw got.word) in omega (arith, a, b, d)) in
           let one = laws.range_is i got.word inside found (let a = got.got.was_open in omega (arith, a)) in
           let from = got.from_first in let to = got.to_last in
           dite (dec_lt h f)
@@ -163,7 +154,7 @@ module _ {O : Type 0} {g : Ghosts O} {state : O → OutState} {readers : List (L
           by (inr advanced) =
               let m : ℕ = (parts o.next.word.0).attempt + 1 in
               let here : 0 < total (is_attempt f m) (notes_of i t.calls.view.notes) = subst (λ (y : ℕ). 0 < total (is_attempt y m) (notes_of i t.calls.view.notes)) next_first (subst (λ (y : ℕ). 0 < total (is_attempt (parts o.next.word.0).first m) (notes_of y t.calls.view.notes)) next_slot advanced) in
-              let a = grows i (is_attempt f m) in let b = within j c at i (is_attempt f m) in
+              let a = grows i (is_attempt f m) in let b = noted_among run notes have j c at i (is_attempt f m) in
               let d = furthest m (omega (arith, here, a, b)) in let e = next_attempt in omega (arith, d, e)
 
       by_deed : (h : ℕ) (d : Deed g state p q) → get_elem? (deeds_of c) h ≡ some d → 0 < by_retry (is_retry id n) d → Founded (view_of c) d → WentFor id n

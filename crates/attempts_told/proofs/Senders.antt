@@ -36,23 +36,23 @@ use Rattle.call_whys.specs.call_told.specs.call_run.specs.call_attempts.specs.Le
 use Rattle.call_whys.specs.call_told.specs.call_run.specs.call_attempts.specs.Attempting.{AttemptedBy, went_out, came_back, nowhere, over_link}
 use Rattle.call_whys.specs.call_told.specs.call_run.specs.call_attempts.specs.Retrying.{without_oldest, WentTo, stray, unopened, to_socket, had_ended, overtaken, went_again, Retried, none_yet, one_more}
 use Rattle.call_whys.specs.call_told.specs.call_run.specs.call_client.specs.Acting.{Stand, stand, both_of, Acted}
-use Rattle.call_whys.specs.call_told.specs.call_run.specs.call_client.specs.Running.{Course, Ran, begins, MayMakeAll}
+use Rattle.call_whys.specs.call_told.specs.call_run.specs.call_client.specs.Running.{Course, Ran, begins}
 use Rattle.call_whys.specs.call_told.specs.call_run.specs.call_client.proofs.Telling.{did_total}
 use Rattle.call_whys.specs.call_told.specs.call_run.specs.rpc_reader.specs.rpc_client.specs.declared.acting.Told.{Told}
 use Rattle.call_whys.specs.call_told.specs.call_run.specs.Readers.{LinkReader}
-use Rattle.call_whys.specs.call_told.specs.call_run.specs.Threads.{Thread, IsThread, RanWith, AllMayRun, MayRunAll, ids_of, opens_of}
+use Rattle.call_whys.specs.call_told.specs.call_run.specs.Threads.{Thread, IsThread, RanWith, MayRunAll, ids_of}
 use Rattle.call_whys.specs.call_told.specs.Least.{is_made_for}
 use Rattle.call_whys.specs.call_told.proofs.Ends.{made_silent, counted_here}
 use Rattle.call_whys.specs.call_told.proofs.Lists.{all_both, all_then, all_at}
 use Rattle.call_whys.specs.call_told.specs.call_places.specs.Counted.{HaveNotesOf}
 use Rattle.call_whys.specs.call_told.specs.call_places.specs.Deeds.{Deed, operates, retries, retries_of, ran_deeds, deeds, attempt_entries, went_entries, acted_entries, entries_of}
-use Rattle.call_whys.specs.call_told.specs.call_places.proofs.Weights.{term, mapped}
+use Rattle.call_whys.specs.call_told.specs.call_places.proofs.Weights.{term}
 use Rattle.call_whys.specs.call_told.specs.call_places.proofs.Still.{is_retry, advances}
 use Rattle.call_whys.specs.call_told.specs.call_places.proofs.Own.{came, end_is}
 use Rattle.call_whys.specs.call_told.specs.call_places.proofs.Counts.{by_retry, Knows, tried_few, all_known}
 use Rattle.call_whys.specs.call_told.specs.call_places.proofs.Ids.{IdLaws, IsIdOf, version_low, lock_id}
 use Rattle.call_whys.specs.call_told.specs.call_places.proofs.Clients.{Client, view_of, tasks_of, deeds_of, own_of}
-use Rattle.call_whys.specs.call_told.specs.call_places.proofs.Places.{all, views_are, tasks_are, lists_are}
+use Rattle.call_whys.specs.call_told.specs.call_places.proofs.Places.{own_behind, all, noted_among, may_make, tasks_are, lists_are}
 use Rattle.call_whys.specs.call_told.specs.call_places.proofs.Log.{authored}
 use Rattle.call_whys.specs.call_told.specs.call_deeds.specs.Retried.{Again, asked_by, asked_in, asked_before, all_asked}
 use Rattle.call_whys.specs.call_told.specs.call_deeds.proofs.Links.{IsOwnCall, call_at}
@@ -60,7 +60,7 @@ use Rattle.call_whys.specs.call_told.specs.call_deeds.proofs.Ran.{AreLater}
 use Rattle.call_whys.specs.call_told.specs.sock_deeds.specs.Left.{accepted_of}
 use Rattle.call_whys.specs.call_told.specs.sock_deeds.specs.Runs.{IsOperation}
 use Rattle.call_whys.specs.call_told.specs.sock_deeds.proofs.Flats.{flat_from, flat_there, flat-append}
-use Rattle.call_whys.specs.call_told.specs.sock_deeds.proofs.Places.{to_slice, map_back}
+use Rattle.call_whys.specs.call_told.specs.sock_deeds.proofs.Places.{to_slice, map_back, map_there}
 use Rattle.call_whys.specs.call_told.specs.report_fits.proofs.Lists.{contains_from}
 use Rattle.attempts_told.proofs.Bounds.{attempted_by, retried, acted}
 
@@ -231,17 +231,6 @@ id_made slots notes o id inside some_ = let m = made_for_there (version_of id) o
 carried : {A : Type 0} (l m : List A) (i : ℕ) (x : A) → l ≡ m → get_elem? m i ≡ some x → (k : ℕ) × (get_elem? l k ≡ some x)
 carried l m i x e at = (i, ap (λ y. get_elem? y i) e ∙ at)
 
--- what stands in a list behind empty ones stands in one of the others
-pub behind_empty : {X A : Type 0} (rs : List X) (ls : List (List A)) (k : ℕ) (l : List A) (m : ℕ) (e : A) → get_elem? (map (λ (x : X). []) rs ++ ls) k ≡ some l → get_elem? l m ≡ some e → (j : ℕ) × (get_elem? ls j ≡ some l)
-behind_empty [] ls k l m e at there = (k, at)
-behind_empty {X} {A} (r ∷ rs) ls zero l m e at there = none_there m e (ap (λ (x : List A). get_elem? x m) (some-injective [] l at) ∙ there)
-behind_empty (r ∷ rs) ls (suc k) l m e at there = behind_empty rs ls k l m e at there
-
-may_at : (p : Plan) (q : id_plan.Plan) (tss : List (List Task)) → AllMayRun p q tss → (j : ℕ) (ts : List Task) → get_elem? tss j ≡ some ts → (n : ℕ) × MayMakeAll p q ts n
-may_at p q [] a j ts e = none_there j ts e
-may_at p q (us ∷ tss) a zero ts e = subst (λ (x : List Task). (n : ℕ) × MayMakeAll p q x n) (some-injective us ts e) (opens_of us, a.0.may)
-may_at p q (us ∷ tss) a (suc j) ts e = may_at p q tss a.1 j ts e
-
 module _ {O : Type 0} {g : Ghosts O} {state : O → OutState} {readers : List (LinkReader g)} {p : Plan} {slots : ℕ} {setup : List Task} {clients : List (List Task)} {opens : List ℕ} {told ended : List (List Told)} {places : List PlaceWord} {vrefs : List Vref} {outs : List O} {ids : List (View Asked)}
     (run : RanWith g state readers p slots setup clients opens told ended places vrefs outs ids) (outcomes : List (Option Outcome)) (may : MayRunAll p (ids_of p slots) setup clients) (notes : List (Noted Asked)) (laws : IdLaws slots notes) (have : HaveNotesOf ids notes)
     -- each retry is one of a later attempt of a call
@@ -252,21 +241,15 @@ module _ {O : Type 0} {g : Ghosts O} {state : O → OutState} {readers : List (L
   abbrev tasks_all : List (List Task)
   tasks_all = setup ∷ clients
 
-  -- what a client noted is among the notes
-  pub among : (j : ℕ) (c : Client g state p q) → get_elem? (all run) j ≡ some c → (i : ℕ) (f : Note Asked → ℕ) → total f (notes_of i (view_of c).notes) ≤ total f (notes_of i notes)
-  among j c at i f =
-      let a = term (λ (v : View Asked). total f (notes_of i v.notes)) ids j (view_of c) (ap (λ (l : List (View Asked)). get_elem? l j) (sym (views_are run)) ∙ mapped view_of (all run) j c at) in
-      let b = have.all i f in omega arith
-
   tasks_at : (j : ℕ) (c : Client g state p q) → get_elem? (all run) j ≡ some c → get_elem? tasks_all j ≡ some (tasks_of c)
-  tasks_at j c at = ap (λ (l : List (List Task)). get_elem? l j) (sym (tasks_are run)) ∙ mapped tasks_of (all run) j c at
+  tasks_at j c at = ap (λ (l : List (List Task)). get_elem? l j) (sym (tasks_are run)) ∙ map_there tasks_of (all run) j c at
 
   -- a task of a client is an operation of it, and a call has its number
   is_operation : (j : ℕ) (c : Client g state p q) → get_elem? (all run) j ≡ some c → (i : ℕ) (x : Task) → get_elem? (tasks_of c) i ≡ some x → IsOperation tasks_all outcomes j x.number x.op
   is_operation j c at i x there = (tasks_of c, to_slice tasks_all j (tasks_of c) (tasks_at j c at), contains_from (tasks_of c) x (i, to_slice (tasks_of c) i x there))
 
   own_call : (j : ℕ) (c : Client g state p q) → get_elem? (all run) j ≡ some c → (i : ℕ) (x : Task) → get_elem? (tasks_of c) i ≡ some x → IsOwnCall x.number x.op
-  own_call j c at i x there = let m = may_at p q tasks_all (may.setup_may, may.clients_may) j (tasks_of c) (tasks_at j c at) in call_at p q (tasks_of c) m.0 i x m.1 there
+  own_call j c at i x there = let m = may_make run may j c at in call_at p q (tasks_of c) m.0 i x m.1 there
 
   -- ## Whose a message is
 
@@ -328,7 +311,7 @@ module _ {O : Type 0} {g : Ghosts O} {state : O → OutState} {readers : List (L
   deed_sent : (j : ℕ) (c : Client g state p q) → get_elem? (all run) j ≡ some c → (k : ℕ) (d : Deed g state p q) → get_elem? (deeds_of c) k ≡ some d → (i : ℕ) (e : Entry) → get_elem? (entries_of d) i ≡ some e → SentBy (accepted_of e)
   deed_sent j c at k (operates x by s t a) there i e in_it =
       let n = all_at (IsNoted g state p q (tasks_of c) (view_of c)) (deeds_of c) k (operates x by s t a) (all_noted c.thread c.is) there in
-      acted_sent j x.number x.op by s t a (is_operation j c at n.0.0 x n.0.1) (own_call j c at n.0.0 x n.0.1) (view_of c) n.1 (among j c at) i e in_it
+      acted_sent j x.number x.op by s t a (is_operation j c at n.0.0 x n.0.1) (own_call j c at n.0.0 x n.0.1) (view_of c) n.1 (noted_among run notes have j c at) i e in_it
   deed_sent j c at k (retries r s t (had_ended h)) there i e in_it = none_there i e in_it
   deed_sent j c at k (retries r s t (overtaken l u a b)) there i e in_it = none_there i e in_it
   deed_sent j c at k (retries r s t (went_again l u lock w)) there i e in_it =
@@ -340,17 +323,17 @@ module _ {O : Type 0} {g : Ghosts O} {state : O → OutState} {readers : List (L
       let one_ = pair-at (slot * 4294967296 + version) r.attempt r.id r.attempt (sym whole) refl in
       let few = tried_few c.thread c.is slot version r.attempt (version_low r.id) in
       let noted : 0 < advances slot version r.attempt (view_of c) = omega arith in
-      let its = lock_id laws r.id r.attempt l s.calls.view (view_of c) u.calls.view lock.got knows (among j c at) noted in
+      let its = lock_id laws r.id r.attempt l s.calls.view (view_of c) u.calls.view lock.got knows (noted_among run notes have j c at) noted in
       let f = went_frame state p q l.content r.id r.attempt r.low _ _ t w.went i e in_it in
       let again = asked_there c.thread c.is k d 0 record { asked = l.content; attempt = r.attempt } there refl in
       let x = later j c at again.0 record { asked = l.content; attempt = r.attempt } again.1 in
-      of_call (own_attempt x.client l.content r.id r.attempt e r.low x.is its f (inr (let y = among j c at slot (is_attempt version r.attempt) in omega arith)))
+      of_call (own_attempt x.client l.content r.id r.attempt e r.low x.is its f (inr (let y = noted_among run notes have j c at slot (is_attempt version r.attempt) in omega arith)))
 
   -- each message that a link accepted
   pub sent_by : (k : ℕ) (e : Entry) → get_elem? run.closed.ordered.log k ≡ some e → SentBy (accepted_of e)
   sent_by k e at =
       let w = authored p run.closed.view.found run.closed.view.lists run.closed.ordered k e at in
-      let j = behind_empty readers (map own_of (all run)) w.seat _ _ e (ap (λ (l : List (List Entry)). get_elem? l w.seat) (sym (lists_are run)) ∙ w.list) w.place in
+      let j = own_behind readers (map own_of (all run)) w.seat _ _ e (ap (λ (l : List (List Entry)). get_elem? l w.seat) (sym (lists_are run)) ∙ w.list) w.place in
       let c = map_back own_of (all run) j.0 _ j.1 in
       let own = carried _ _ _ e c.2 w.place in
       let d = flat_from entries_of (deeds_of c.0) own.0 e own.1 in

@@ -1,5 +1,5 @@
 -- How many attempts each call of a run made, and whose the messages are that links accepted.
-use Rattle.std.proofs.Common.{◌≡◌, ℕ, zero, suc, ◌+◌, ◌*◌, ◌<◌, ◌≤◌, ◌⊎◌, inl, inr, List, [], ◌∷◌, slice_get, Some, refl, sym, ap, ◌∙◌, subst, arith}
+use Rattle.std.proofs.Common.{◌≡◌, ℕ, zero, suc, ◌+◌, ◌<◌, ◌≤◌, ◌⊎◌, inl, inr, List, [], ◌∷◌, slice_get, Some, refl, sym, ap, ◌∙◌, subst, arith}
 use Rattle.std.specs.Prelude.{Option}
 use Rattle.std.specs.List.{AllByRecursion}
 use mathlib.Core.Logic.{dite}
@@ -40,9 +40,9 @@ use Rattle.call_whys.specs.call_told.specs.Least.{is_made_for}
 use Rattle.call_whys.specs.call_told.specs.call_places.specs.Counted.{HaveNotesOf}
 use Rattle.call_whys.specs.call_told.specs.call_places.proofs.Weights.{term, two_terms}
 use Rattle.call_whys.specs.call_told.specs.call_places.proofs.Still.{advances}
-use Rattle.call_whys.specs.call_told.specs.call_places.proofs.Ids.{IdLaws, IsIdOf, laws_of}
+use Rattle.call_whys.specs.call_told.specs.call_places.proofs.Ids.{IdLaws, IsIdOf, laws_of, id_parts}
 use Rattle.call_whys.specs.call_told.specs.call_places.proofs.Clients.{Client, view_of}
-use Rattle.call_whys.specs.call_told.specs.call_places.proofs.Places.{all, views_are}
+use Rattle.call_whys.specs.call_told.specs.call_places.proofs.Places.{all, noted_among, views_are}
 use Rattle.call_whys.specs.call_told.specs.call_deeds.specs.Retried.{all_asked}
 use Rattle.call_whys.specs.call_told.specs.call_deeds.proofs.Ran.{AreLater}
 use Rattle.call_whys.specs.call_told.specs.sock_deeds.specs.Left.{accepted_of}
@@ -51,7 +51,7 @@ use Rattle.call_whys.specs.call_told.specs.sock_deeds.proofs.Places.{map_back}
 use Rattle.attempts_told.specs.Attempts.{last_attempt, AreAttemptsTold}
 use Rattle.attempts_told.proofs.Bounds.{IsBounded, all_bounded}
 use Rattle.attempts_told.proofs.Last.{none_further, one_reached, few_advances}
-use Rattle.attempts_told.proofs.Senders.{made_for_there, among, IsOwnAttempt, SentBy, of_send, of_call, sent_by}
+use Rattle.attempts_told.proofs.Senders.{made_for_there, IsOwnAttempt, SentBy, of_send, of_call, sent_by}
 
 -- ## Parts
 
@@ -79,10 +79,6 @@ same_made f r s a b e = (ap range_of e, ap (λ (n : Note Asked). content_of n a)
 each_place : {A : Type 0} (P Q : A → Type 0) (xs : List A) → AllByRecursion P xs → ((k : ℕ) (x : A) → slice_get xs k ≡ Some x → P x → Q x) → AllByRecursion Q xs
 each_place P Q [] h f = tt
 each_place P Q (x ∷ xs) h f = (f zero x refl h.0, each_place P Q xs h.1 (λ k y at. f (suc k) y at))
-
--- an id by its slot and its first version
-id_parts : (id slot first : ℕ) → id ≡ slot * 4294967296 + first → first < 4294967296 → (slot_of id ≡ slot) × (version_of id ≡ first)
-id_parts id slot first e low = (omega arith, omega arith)
 
 -- ## The run
 
@@ -129,7 +125,7 @@ module _ {O : Type 0} {g : Ghosts O} {state : O → OutState} {readers : List (L
   range_left o i f n made_ some_ c asked is =
       let b = bounded i f n some_ in
       let x = b.3 in
-      let seen : 0 < total (is_saw x.word) (notes_of i notes) = (let y = x.found in let z = among run outcomes may notes laws have later b.0 b.1 b.2 i (is_saw x.word) in omega arith) in
+      let seen : 0 < total (is_saw x.word) (notes_of i notes) = (let y = x.found in let z = noted_among run notes have b.0 b.1 b.2 i (is_saw x.word) in omega arith) in
       let r = laws.range_is i x.word x.inside seen x.taken in
       let at : get_elem? (notes_of i notes) r.1 ≡ some (Made f (parts x.word).range r.0) = r.2 ∙ ap (λ (y : ℕ). some (Made y (parts x.word).range r.0)) x.first_is in
       let m = made_for_there f o (notes_of i notes) made_ in

@@ -2,23 +2,29 @@
 use Rattle.std.proofs.Common.{◌≡◌, ◌≢◌, ℕ, ◌⊎◌, inl, inr, true, List, length, Vec, Result, Ok, Err, IfOk, OnOk, IsErrOf, refl, subst, arith}
 use Rattle.std.specs.declared.alloc.Global.{Global}
 use Rattle.brpc_model.specs.Items.{Item}
+use Rattle.brpc_model.specs.Link.{LinkEnd}
 use Rattle.sock_io.specs.declared.link.Mode.{Mode}
 use Rattle.sock_io.specs.declared.link.OpenFault.{OpenFault}
 use Rattle.sock_io.specs.declared.link.OpenFault.TheVariants as opening
 use Rattle.script_links.specs.Given.{AreNumbered, AreUntouched, IsBeginning, specs_of}
-use Rattle.script_beside.specs.Served.{IsServedText}
+use Rattle.script_beside.specs.Served.{IsShort, IsServedText, IsCompleteText}
 use Rattle.brpc_eng.specs.Answers as answer
 
 -- what a run leaves where a link couldn't be opened
 abbrev LeftUnopened : Result (Vec ℕ Global) OpenFault → answer.Links → Type 0
 LeftUnopened ran links = (IsErrOf ran opening.Failed → answer.HaveRisen links.faults) × (IsErrOf ran opening.Failed → AreUntouched 0 links.ends)
 
--- a script was run, over links that were made in this mode
-pub threads_ran : (script : List Item) (ran : Result (Vec ℕ Global) OpenFault) (out : answer.Output) (links : answer.Links) (status : ℕ) (mode made : Mode) → mode ≡ made → IfOk ran (λ text. IsServedText (links.tells_in mode ≡ true) script text.items links.ends) →
+-- its text is complete, where nothing went wrong
+completed : (offering : Type 0) (script : List Item) (text : List ℕ) (ends : List LinkEnd) → IsShort script → IsServedText offering script text ends → IsCompleteText offering script text ends
+completed offering script text ends short served = record { served = served; complete = λ offers tell. served.complete offers tell short }
+
+-- a short script was run, over links that were made in this mode
+pub threads_ran : (script : List Item) → IsShort script → (ran : Result (Vec ℕ Global) OpenFault) (out : answer.Output) (links : answer.Links) (status : ℕ) (mode made : Mode) → mode ≡ made → IfOk ran (λ text. IsServedText (links.tells_in mode ≡ true) script text.items links.ends) →
     LeftUnopened ran links → answer.RunTold ran out status → answer.RanOnThreads made script out links status
-threads_ran script (Ok text) out links status mode made same is left told = answer.ThreadsReported text.items (subst (λ (m : Mode). IsServedText (links.tells_in m ≡ true) script text.items links.ends) same is) told
-threads_ran script (Err opening.Failed) out links status mode made same is left told = answer.ThreadsNotOpened told.0 (left.0 refl) (left.1 refl) told.1
-threads_ran script (Err opening.NoMemory) out links status mode made same is left told = answer.ThreadsRanOut told.0 told.1
+threads_ran script short (Ok text) out links status mode made same is left told =
+    answer.ThreadsReported text.items (subst (λ (m : Mode). IsCompleteText (links.tells_in m ≡ true) script text.items links.ends) same (completed (links.tells_in mode ≡ true) script text.items links.ends short is)) told
+threads_ran script short (Err opening.Failed) out links status mode made same is left told = answer.ThreadsNotOpened told.0 (left.0 refl) (left.1 refl) told.1
+threads_ran script short (Err opening.NoMemory) out links status mode made same is left told = answer.ThreadsRanOut told.0 told.1
 
 -- a report was written or begun only where the run has one
 was_run : {A : Type 0} (ran : Result (Vec ℕ Global) OpenFault) (out : answer.Output) (status : ℕ) → answer.RunTold ran out status → OnOk ran A → (status ≡ 0) ⊎ (status ≡ 5) → A

@@ -36,7 +36,7 @@ use Rattle.serve_port.specs.Serving.{ServedConnection, IsServed, any_failing, an
 use Rattle.script_links.specs.Given.{AreNumbered, AreUntouched, IsBeginning, specs_of}
 use Rattle.script_run.specs.Causes.{CameLate, late_in}
 use Rattle.script_run.specs.Played.{IsRunText}
-use Rattle.script_beside.specs.Served.{IsServedText}
+use Rattle.script_beside.specs.Served.{IsCompleteText}
 use Rattle.brpc_eng.specs.Streams.{script_limit, IsAtEnd}
 
 -- ## What a call finds outside, and what it leaves there
@@ -181,7 +181,7 @@ pub data RanOnThreads (mode : Mode) (script : List Item) (out : Output) (links :
   -- the place words of the run tell an order of each link, each operation has an outcome or a message with a place, and the text reports that; each answer is from
   -- a response that a link gave; each operation on sockets, each `expire` and each `join` has its cause, by what became of all others; without calls the report fits; and
   -- over links that told in the end what their other ends offered, those with the server gave the replies to what they took, and where nothing went wrong all is done
-  ThreadsReported : (text : List ℕ) → IsServedText (links.tells_in mode ≡ true) script text links.ends → TextWritten out text status → RanOnThreads mode script out links status
+  ThreadsReported : (text : List ℕ) → IsCompleteText (links.tells_in mode ≡ true) script text links.ends → TextWritten out text status → RanOnThreads mode script out links status
   ThreadsRanOut : status ≡ 7 → WroteNothing out → RanOnThreads mode script out links status
   -- the links that were opened before are given back, and nothing was done with them
   ThreadsNotOpened : status ≡ 8 → HaveRisen links.faults → AreUntouched 0 links.ends → WroteNothing out → RanOnThreads mode script out links status

@@ -1,8 +1,8 @@
-ghost use Rattle.std.specs.Prelude.{◌≡◌, ◌≢◌, ℕ, true, [], Ok, List};
+ghost use Rattle.std.specs.Prelude.{◌≡◌, ◌≢◌, true, []};
 ghost use Rattle.std.specs.List.{list_all};
-ghost use Rattle.brpc_model.specs.Script.{script_of};
 ghost use Rattle.script_links.specs.Given.{has_piece};
 ghost use Rattle.script_links.specs.Offered.{TellOffers};
+ghost use Rattle.script_beside.specs.Served.{IsShort};
 ghost use Rattle.script_run.specs.Played.{TellClosed};
 ghost use Rattle.brpc_eng.specs.Status.{number_of};
 ghost use Rattle.brpc_eng.specs.Answers.{OpenedBy, RanOnThreads, ReplayedInput, RunTold, CountsStand, run_mode};
@@ -80,7 +80,7 @@ fn threads_and_report<R: Threads + Wait + Sync, K: Sink, L: Linker, G: Gate + Sy
 ) -> Status
     requires asked { L.asked links.old ≡ [] }
     requires back { L.back links.old ≡ [] }
-    requires script { (bytes : List ℕ) × (script_of bytes ≡ Ok script.now) }
+    requires short { IsShort script.now }
     requires pieces { list_all has_piece script.now ≡ true }
     ensures ran { RanOnThreads (run_mode port) script.now
         (record { before = K.contents out.old; now = K.contents out.new; faults = record { before = K.faults out.old; now = K.faults out.new } })

@@ -13,11 +13,10 @@ use Rattle.sock_model.specs.declared.chain.Entry.{Entry}
 use Rattle.seat_programs.specs.declared.task.Task.{Task}
 use Rattle.corr_core.specs.Law.{total, is_attempt}
 use Rattle.corr_core.specs.declared.marks.Note.{Note}
-use Rattle.corr_core.specs.declared.marks.Note.TheVariants.{Made}
 use Rattle.corr_core.specs.declared.marks.Noted.{Noted}
 use Rattle.corr_core.specs.declared.marks.Plan as id_plan
 use Rattle.corr_core.specs.declared.marks.View.{View}
-use Rattle.corr_core.proofs.Notes.{only-at, only-else, only_le, pair-at, total_some}
+use Rattle.corr_core.proofs.Notes.{only-else, only_le, pair-at, total_some}
 use Rattle.id_rule.specs.Lawful.{notes_of}
 use Rattle.sock_message.specs.Asked.{Asked}
 use Rattle.corr_id.specs.Calls.{slot_of, version_of}
@@ -27,12 +26,12 @@ use Rattle.call_run.specs.call_client.specs.Running.{MayMakeAll}
 use Rattle.call_run.specs.Threads.{Thread, IsThread}
 use Rattle.call_places.specs.Counted.{makes, HaveNotesOf}
 use Rattle.call_places.specs.Deeds.{Deed, operates, retries, deeds, own_entries}
-use Rattle.call_places.proofs.Weights.{term, each_less, noted_at}
+use Rattle.call_places.proofs.Weights.{term, each_less}
 use Rattle.call_places.proofs.Still.{is_retry}
 use Rattle.call_places.proofs.Counts.{call_in, by_retry, Knows, tried_few, made_few, all_known, task_total}
 use Rattle.call_places.proofs.Labels.{at_place, again_at, own_place, none_again}
 use Rattle.call_places.proofs.Numbers.{numbered, own_calls, own_labels, low_number, no_labels}
-use Rattle.call_places.proofs.Ids.{IdLaws, IsIdOf, version_low, lock_id, one_id}
+use Rattle.call_places.proofs.Ids.{IdLaws, IsIdOf, version_low, lock_id, one_id, some_made}
 
 -- a client's whole run
 pub record Client {O : Type 0} (g : Ghosts O) (state : O → OutState) (p : Plan) (q : id_plan.Plan) : Type 0 where
@@ -62,6 +61,24 @@ module _ {O : Type 0} {g : Ghosts O} {state : O → OutState} {p : Plan} {q : id
   abbrev pub own_of : Client g state p q → List Entry
   own_of c = own_entries c.thread c.is
 
+  module _ (all : List (Client g state p q)) (notes : List (Noted Asked)) (have : HaveNotesOf (map view_of all) notes)
+      (may : (j : ℕ) (c : Client g state p q) → get_elem? all j ≡ some c → (n : ℕ) × MayMakeAll p q (tasks_of c) n)
+      (numbers : (o : ℕ) → total (λ (c : Client g state p q). total (numbered o) (tasks_of c)) all ≤ 1) where
+    -- no more were made of an operation's call than it has numbers
+    one_made : (o : ℕ) (j : ℕ) (c : Client g state p q) → get_elem? all j ≡ some c → total (makes o) (view_of c).notes ≤ total (numbered o) (tasks_of c)
+    one_made o j c at =
+        let m = may j c at in
+        let a = made_few c.thread c.is o in let b = task_total c.thread c.is (λ (t : Task). call_in o t.op) in let d = own_calls p q o (tasks_of c) m.0 m.1 in omega arith
+
+    few_made : (o : ℕ) → total (makes o) notes ≤ total (λ (c : Client g state p q). total (makes o) (view_of c).notes) all
+    few_made o = let a = have.made o in let b = total_map (λ (v : View Asked). total (makes o) v.notes) view_of all in omega arith
+
+    -- one id at most was made for an operation
+    pub made_once : (o : ℕ) → total (makes o) notes ≤ 1
+    made_once o =
+        let a = few_made o in let n = numbers o in
+        let b = each_less (λ (c : Client g state p q). total (makes o) (view_of c).notes) (λ (c : Client g state p q). total (numbered o) (tasks_of c)) all (one_made o) in omega arith
+
   module _ (all : List (Client g state p q)) (notes : List (Noted Asked)) (laws : IdLaws q.slots notes) (have : HaveNotesOf (map view_of all) notes)
       (may : (j : ℕ) (c : Client g state p q) → get_elem? all j ≡ some c → (n : ℕ) × MayMakeAll p q (tasks_of c) n)
       (numbers : (o : ℕ) → total (λ (c : Client g state p q). total (numbered o) (tasks_of c)) all ≤ 1) where
@@ -74,27 +91,12 @@ module _ {O : Type 0} {g : Ghosts O} {state : O → OutState} {p : Plan} {q : id
 
     -- ## Ids
 
-    -- no more were made of an operation's call than it has numbers
-    one_made : (o : ℕ) (j : ℕ) (c : Client g state p q) → get_elem? all j ≡ some c → total (makes o) (view_of c).notes ≤ total (numbered o) (tasks_of c)
-    one_made o j c at =
-        let m = may j c at in
-        let a = made_few c.thread c.is o in let b = task_total c.thread c.is (λ (t : Task). call_in o t.op) in let d = own_calls p q o (tasks_of c) m.0 m.1 in omega arith
-
-    few_made : (o : ℕ) → total (makes o) notes ≤ total (λ (c : Client g state p q). total (makes o) (view_of c).notes) all
-    few_made o = let a = have.made o in let b = total_map (λ (v : View Asked). total (makes o) v.notes) view_of all in omega arith
-
-    made_once : (o : ℕ) → total (makes o) notes ≤ 1
-    made_once o =
-        let a = few_made o in let n = numbers o in
-        let b = each_less (λ (c : Client g state p q). total (makes o) (view_of c).notes) (λ (c : Client g state p q). total (numbered o) (tasks_of c)) all (one_made o) in omega arith
-
     -- the operation of an id is one of the plan
     low_id : (o id : ℕ) → IsIdOf q.slots notes o id → o < p.operations
     low_id o id h =
-        let n = noted_at h.slot notes h.place (Made h.first h.range h.asked) h.made in
-        let a = term (makes o) notes n.0 _ n.1 in let b = only-at o h.asked.operation h.operation in let c = few_made o in
+        let a = some_made o id h in let c = few_made all notes have may numbers o in
         let some_ = total_some (λ (c : Client g state p q). total (makes o) (view_of c).notes) all (omega arith) in
-        let m = may some_.0 some_.1 some_.2 in let d = one_made o some_.0 some_.1 some_.2 in let e = some_.3 in
+        let m = may some_.0 some_.1 some_.2 in let d = one_made all notes have may numbers o some_.0 some_.1 some_.2 in let e = some_.3 in
         low_number p q o (tasks_of some_.1) m.0 m.1 (omega arith)
 
     -- ## Retries
@@ -143,7 +145,7 @@ module _ {O : Type 0} {g : Ghosts O} {state : O → OutState} {p : Plan} {q : id
         (λ z. omega arith)
         (λ n.
         let h = again l j c at i d there (omega arith) in
-        let same : h.retry.id ≡ first.id.slot * 4294967296 + first.id.first = one_id q.slots notes (l / 8) h.retry.id first.retry.id (made_once (l / 8)) h.id first.id ∙ first.id.id_is in
+        let same : h.retry.id ≡ first.id.slot * 4294967296 + first.id.first = one_id q.slots notes (l / 8) h.retry.id first.retry.id (made_once all notes have may numbers (l / 8)) h.id first.id ∙ first.id.id_is in
         let one = pair-at (first.id.slot * 4294967296 + first.id.first) (l % 8) h.retry.id h.retry.attempt same h.attempt in
         let own = h.own (is_retry (first.id.slot * 4294967296 + first.id.first) (l % 8)) in
         let few = again_le l d in omega arith)

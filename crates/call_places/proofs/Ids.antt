@@ -22,7 +22,7 @@ use Rattle.corr_id.specs.Calls.{is_saw, slot_of, version_of}
 use Rattle.corr_id.specs.Closing.{Closing}
 use Rattle.call_run.specs.call_errors.specs.Locking.{GotBy}
 use Rattle.call_places.specs.Counted.{makes}
-use Rattle.call_places.proofs.Weights.{two_terms, noted_at}
+use Rattle.call_places.proofs.Weights.{term, two_terms, noted_at}
 use Rattle.call_places.proofs.Still.{advances}
 use Rattle.call_places.proofs.Counts.{locks_for, KnowsLock}
 
@@ -88,8 +88,18 @@ pub record IsIdOf (slots : ℕ) (notes : List (Noted Asked)) (o id : ℕ) : Type
   pub made : get_elem? (notes_of slot notes) place ≡ some (Made first range asked)
   pub operation : asked.operation ≡ o
 
+-- so an id was made for that operation
+pub some_made : {slots : ℕ} {notes : List (Noted Asked)} (o id : ℕ) → IsIdOf slots notes o id → 0 < total (makes o) notes
+some_made {slots} {notes} o id h =
+    let n = noted_at h.slot notes h.place (Made h.first h.range h.asked) h.made in
+    let a = term (makes o) notes n.0 _ n.1 in let b = only-at o h.asked.operation h.operation in omega (arith, a, b)
+
 pub version_low : (id : ℕ) → version_of id < 4294967296
 version_low id = let some_ : 0 < 4294967296 = omega arith in mod-lt id some_
+
+-- an id by its slot and its first version
+pub id_parts : (id slot first : ℕ) → id ≡ slot * 4294967296 + first → first < 4294967296 → (slot_of id ≡ slot) × (version_of id ≡ first)
+id_parts id slot first e low = (omega (arith, e, low), omega (arith, e, low))
 
 module _ {slots : ℕ} {notes : List (Noted Asked)} (laws : IdLaws slots notes) where
   -- of the range with which it was locked by this id, which was advanced

@@ -12,8 +12,9 @@ use Rattle.call_run.specs.sock_rule.specs.Closing.{Ordered, PlacesDiffer}
 use Rattle.corr_core.specs.Law.{total, only}
 use Rattle.corr_core.proofs.Notes.{only-at, only-else, only_le}
 use Rattle.sock_deeds.proofs.Entries.{before, pick_at, before_rises}
-use Rattle.call_places.proofs.Weights.{term, two_terms, all_zero, mapped, few_places}
+use Rattle.call_places.proofs.Weights.{term, two_terms, all_zero, few_places}
 use Rattle.call_places.proofs.Labels.{at_place}
+use Rattle.sock_deeds.proofs.Places.{map_there}
 
 module _ (p : Plan) (found : List ℕ) (lists : List (List Entry)) (o : Ordered p found lists) where
   -- the entry stands in the list of its author
@@ -35,7 +36,7 @@ module _ (p : Plan) (found : List ℕ) (lists : List (List Entry)) (o : Ordered 
         by_author = au.1;
         seat = n.0;
         name = n.1;
-        list = ap (λ l. get_elem? l n.0) o.lists_are ∙ mapped (λ a. pick a o.by o.log) o.names n.0 au.0 n.1;
+        list = ap (λ l. get_elem? l n.0) o.lists_are ∙ map_there (λ a. pick a o.by o.log) o.names n.0 au.0 n.1;
         place = pick_at au.0 o.by o.log q e au.1 there;
       }
 

@@ -25,8 +25,8 @@ use Rattle.call_run.specs.call_client.specs.Running.{Course, Ran, begins, LeftAl
 use Rattle.call_run.specs.Threads.{Thread, IsThread}
 use Rattle.sock_deeds.proofs.Flats.{append_first, append_later, flat-append}
 use Rattle.call_places.specs.Deeds.{Deed, operates, retries, retries_of, ran_deeds, deeds, entries_of, own_entries}
-use Rattle.call_places.proofs.Weights.{at_low}
 use Rattle.call_places.proofs.Lists.{Grown, grown_none, waited_lists, gave_lists, retry_grows, acted_grows}
+use Rattle.sock_deeds.proofs.Places.{place_low}
 
 grown_then : (es fs : List Entry) (u v w : View) → Grown es u v → Grown fs v w → Grown (es ++ fs) u w
 grown_then es fs u v w a b l ls is = b (l ++ es) ls (a l ls is) ∙ ap (λ x. x ∷ ls) (append_assoc l es fs)
@@ -142,7 +142,7 @@ module _ {O : Type 0} {g : Ghosts O} {state : O → OutState} {p : Plan} {q : id
   -- each of its tasks is one of its deeds
   pub deed_of : (k : ℕ) (t : Task) → get_elem? x.tasks k ≡ some t → IsMade g state p q (deeds x th) x.ended.outcomes.items t
   deed_of k t at =
-      let low = at_low x.tasks k t at in let n = th.ran.ends.0 in
+      let low = place_low x.tasks k t at in let n = th.ran.ends.0 in
       let last : List (Deed g state p q) = retries_of state p q (both_of (stand th.ran.came)) (both_of th.ran.last) th.ran.ends.1.all.retried in
       let all : List (Deed g state p q) = ran_deeds state p q x.tasks th.ran.made (begins x.began) came th.ran.ran.ran ++ last in
       let told : th.ran.came.outcomes.items ++ [] ≡ x.ended.outcomes.items = append-nil th.ran.came.outcomes.items ∙ sym (ap (λ v. v.items) th.ran.told) in

@@ -1,5 +1,5 @@
 -- The place words that a run with calls leaves tell an order of each link.
-use Rattle.std.proofs.Common.{◌≡◌, ℕ, zero, suc, ◌+◌, ◌*◌, ◌/◌, ◌%◌, ◌<◌, ◌≤◌, ◌⊎◌, inl, inr, ⊎_elim, Bool, true, false, eqb, List, [], ◌∷◌, ◌++◌, length, map, flat_map, slice_get, slice_index, unwrap_or, option_map, Option, Some, None, refl, sym, ap, ◌∙◌, subst, arith}
+use Rattle.std.proofs.Common.{◌≡◌, ℕ, zero, suc, ◌+◌, ◌*◌, ◌/◌, ◌%◌, ◌<◌, ◌≤◌, ◌⊎◌, inl, inr, ⊎_elim, Bool, true, false, eqb, List, [], ◌∷◌, ◌++◌, length, map, flat_map, slice_index, unwrap_or, option_map, Option, Some, None, refl, sym, ap, ◌∙◌, subst, arith}
 use Rattle.std.specs.List.{AllByRecursion}
 use Rattle.std.proofs.lemmas.List.{append-nil}
 use Rattle.std.proofs.lemmas.Option.{slice_get_past}
@@ -34,10 +34,12 @@ use Rattle.seat_programs.specs.declared.task.Task.{Task}
 use Rattle.seat_programs.specs.Told.{AreTasks}
 use Rattle.corr_core.specs.Law.{total}
 use Rattle.corr_core.specs.declared.marks.Kept.{Kept}
+use Rattle.corr_core.specs.declared.marks.Note.{Note}
 use Rattle.corr_core.specs.declared.marks.Noted.{Noted}
 use Rattle.corr_core.specs.declared.marks.Plan as id_plan
 use Rattle.corr_core.specs.declared.marks.View.{View}
 use Rattle.corr_core.proofs.Notes.{only-at}
+use Rattle.id_rule.specs.Lawful.{notes_of}
 use Rattle.sock_message.specs.Asked.{Asked}
 use Rattle.corr_id.specs.Closing.{Closing}
 use Rattle.sock_deeds.specs.rpc_client.specs.declared.acting.Told.{Told}
@@ -47,28 +49,17 @@ use Rattle.call_run.specs.Readers.{LinkReader}
 use Rattle.call_run.specs.Threads.{Thread, AreThreads, RanWith, AllMayRun, MayRunAll, ids_of, opens_of, opened_names, openings}
 use Rattle.sock_deeds.proofs.Entries.{before, from_pick, from_on, on_there}
 use Rattle.sock_deeds.proofs.Flats.{flat_there}
-use Rattle.call_places.specs.Counted.{HaveNotesOf}
+use Rattle.sock_deeds.proofs.Places.{map_back, place_low, place_there, map_there, to_slice}
+use Rattle.call_places.specs.Counted.{HaveNotesOf, makes}
 use Rattle.call_places.specs.Deeds.{acted_entries, entries_of, own_entries}
-use Rattle.call_places.proofs.Weights.{term, at_low, there, mapped}
+use Rattle.call_places.proofs.Weights.{term}
 use Rattle.call_places.proofs.Lists.{each_ended_lists}
 use Rattle.call_places.proofs.Own.{IsMade, own_list}
 use Rattle.call_places.proofs.Labels.{at_place}
 use Rattle.call_places.proofs.Numbers.{numbered, numbered_once}
 use Rattle.call_places.proofs.Ids.{IdLaws, laws_of}
-use Rattle.call_places.proofs.Clients.{Client, total_map, view_of, tasks_of, deeds_of, own_of, once, inside}
+use Rattle.call_places.proofs.Clients.{Client, total_map, view_of, tasks_of, deeds_of, own_of, made_once as once_made, once, inside}
 use Rattle.call_places.proofs.Log as log
-
--- ## Lists by places
-
-map_from : {A B : Type 0} (f : A → B) (xs : List A) (c : ℕ) (b : B) → get_elem? (map f xs) c ≡ some b → (x : A) × (get_elem? xs c ≡ some x) × (f x ≡ b)
-map_from f [] c b e = absurd (some-ne-none b (sym e))
-map_from f (y ∷ ys) zero b e = (y, refl, some-injective (f y) b e)
-map_from f (y ∷ ys) (suc c) b e = map_from f ys c b e
-
-got : {A : Type 0} (xs : List A) (i : ℕ) (x : A) → get_elem? xs i ≡ some x → slice_get xs i ≡ Some x
-got [] i x e = absurd (some-ne-none x (sym e))
-got (y ∷ ys) zero x e = ap Some (some-injective y x e)
-got (y ∷ ys) (suc i) x e = got ys i x e
 
 -- ## Behind the readers
 
@@ -87,7 +78,7 @@ module _ {X : Type 0} where
   none_listed f (r ∷ rs) ls e = let a = none_listed f rs ls e in omega arith
 
   -- a list that has an entry isn't one of theirs
-  own_behind : (rs : List X) (ls : List (List Entry)) (k : ℕ) (l : List Entry) (m : ℕ) (e : Entry) → get_elem? (map (λ (x : X). []) rs ++ ls) k ≡ some l → get_elem? l m ≡ some e → (j : ℕ) × (get_elem? ls j ≡ some l)
+  pub own_behind : (rs : List X) (ls : List (List Entry)) (k : ℕ) (l : List Entry) (m : ℕ) (e : Entry) → get_elem? (map (λ (x : X). []) rs ++ ls) k ≡ some l → get_elem? l m ≡ some e → (j : ℕ) × (get_elem? ls j ≡ some l)
   own_behind [] ls k l m e at there = (k, at)
   own_behind (r ∷ rs) ls zero l m e at there = absurd (some-ne-none e (sym there ∙ ap (λ (x : List Entry). get_elem? x m) (sym (some-injective [] l at))))
   own_behind (r ∷ rs) ls (suc k) l m e at there = own_behind rs ls k l m e at there
@@ -146,8 +137,28 @@ module _ {O : Type 0} {g : Ghosts O} {state : O → OutState} {readers : List (L
   pub views_are : map view_of all ≡ ids
   views_are = all_are (λ (x : Thread g). x.ended.calls.seat.me.0) ∙ run.ran.ids_are
 
+  -- what a client noted is among the notes
+  pub noted_among : (notes : List (Noted Asked)) → HaveNotesOf ids notes → (j : ℕ) (c : Client g state p (ids_of p slots)) → get_elem? all j ≡ some c → (i : ℕ) (f : Note Asked → ℕ) → total f (notes_of i (view_of c).notes) ≤ total f (notes_of i notes)
+  noted_among notes have j c at i f =
+      let a = term (λ (v : View Asked). total f (notes_of i v.notes)) ids j (view_of c) (ap (λ (l : List (View Asked)). get_elem? l j) (sym views_are) ∙ map_there view_of all j c at) in
+      let b = have.all i f in omega (arith, a, b)
+
   pub tasks_are : map tasks_of all ≡ setup ∷ clients
   tasks_are = all_are (λ (x : Thread g). x.tasks) ∙ (ap (λ (t : List Task). t ∷ map (λ (x : Thread g). x.tasks) run.ran.others) run.ran.setup_asked ∙ ap (λ l. setup ∷ l) run.ran.asked)
+
+  -- each may make its operations, and no two of those have one number
+  pub may_make : MayRunAll p (ids_of p slots) setup clients → (j : ℕ) (c : Client g state p (ids_of p slots)) → get_elem? all j ≡ some c → (n : ℕ) × MayMakeAll p (ids_of p slots) (tasks_of c) n
+  may_make may j c at = may_at p (ids_of p slots) (setup ∷ clients) (may.setup_may, may.clients_may) j (tasks_of c) (ap (λ l. get_elem? l j) (sym tasks_are) ∙ map_there tasks_of all j c at)
+
+  pub one_number : AreTasks p (setup ∷ clients) → (o : ℕ) → total (λ (c : Client g state p (ids_of p slots)). total (numbered o) (tasks_of c)) all ≤ 1
+  one_number tasks o = let a = total_map (λ (ts : List Task). total (numbered o) ts) tasks_of all in let b = ap (total (λ (ts : List Task). total (numbered o) ts)) tasks_are in let d = numbered_once p (setup ∷ clients) tasks o in omega (arith, a, b, d)
+
+  have_all : (notes : List (Noted Asked)) → HaveNotesOf ids notes → HaveNotesOf (map view_of all) notes
+  have_all notes have = subst (λ (vs : List (View Asked)). HaveNotesOf vs notes) (sym views_are) have
+
+  -- one id at most was made for an operation
+  pub made_once : AreTasks p (setup ∷ clients) → MayRunAll p (ids_of p slots) setup clients → (notes : List (Noted Asked)) → HaveNotesOf ids notes → (o : ℕ) → total (makes o) notes ≤ 1
+  made_once tasks may notes have o = once_made all notes (have_all notes have) (may_make may) (one_number tasks) o
 
   -- one list for each client, its own, behind one for each reader, which is empty: the seat that is left took in those of all clients, and ended the sockets without a list more
   pub lists_are : run.closed.view.lists ≡ map (λ (x : LinkReader g). []) readers ++ map own_of all
@@ -161,15 +172,6 @@ module _ {O : Type 0} {g : Ghosts O} {state : O → OutState} {readers : List (L
       ∙ (ap (λ l. l ++ rest) mains ∙ ap (λ l. own_entries run.ran.main run.ran.main_is ∷ l) (others_lists state p (ids_of p slots) (opened_names run.ran.main.ended.outcomes.items (openings setup)) (opens_of setup) run.ran.others run.ran.others_are))))))
 
   module _ (tasks : AreTasks p (setup ∷ clients)) (may : MayRunAll p (ids_of p slots) setup clients) (notes : List (Noted Asked)) (laws : IdLaws slots notes) (have : HaveNotesOf ids notes) where
-    may_make : (j : ℕ) (c : Client g state p (ids_of p slots)) → get_elem? all j ≡ some c → (n : ℕ) × MayMakeAll p (ids_of p slots) (tasks_of c) n
-    may_make j c at = may_at p (ids_of p slots) (setup ∷ clients) (may.setup_may, may.clients_may) j (tasks_of c) (ap (λ l. get_elem? l j) (sym tasks_are) ∙ mapped tasks_of all j c at)
-
-    numbers : (o : ℕ) → total (λ (c : Client g state p (ids_of p slots)). total (numbered o) (tasks_of c)) all ≤ 1
-    numbers o = let a = total_map (λ (ts : List Task). total (numbered o) ts) tasks_of all in let b = ap (total (λ (ts : List Task). total (numbered o) ts)) tasks_are in let d = numbered_once p (setup ∷ clients) tasks o in omega arith
-
-    have_all : HaveNotesOf (map view_of all) notes
-    have_all = subst (λ (vs : List (View Asked)). HaveNotesOf vs notes) (sym views_are) have
-
     -- ## The log
 
     abbrev pub accepted : List Entry
@@ -178,7 +180,7 @@ module _ {O : Type 0} {g : Ghosts O} {state : O → OutState} {readers : List (L
     once_listed : (l : ℕ) → total (λ (es : List Entry). total (at_place l) es) run.closed.view.lists ≤ 1
     once_listed l =
         let a = ap (total (λ (es : List Entry). total (at_place l) es)) lists_are in let n = none_listed (λ (es : List Entry). total (at_place l) es) readers (map own_of all) refl in let b = total_map (λ (es : List Entry). total (at_place l) es) own_of all in
-        let d = once all notes laws have_all may_make numbers l in omega arith
+        let d = once all notes laws (have_all notes have) (may_make may) (one_number tasks) l in omega arith
 
     -- no two messages have one place index
     pub log_differs : PlacesDiffer accepted
@@ -190,10 +192,10 @@ module _ {O : Type 0} {g : Ghosts O} {state : O → OutState} {readers : List (L
         let w = log.authored p run.closed.view.found run.closed.view.lists run.closed.ordered k e at in
         let m : ℕ = before w.author run.closed.ordered.by k in
         let own = own_behind readers (map own_of all) w.seat _ m e (ap (λ l. get_elem? l w.seat) (sym lists_are) ∙ w.list) w.place in
-        let c = map_from own_of all own.0 _ own.1 in
+        let c = map_back own_of all own.0 _ own.1 in
         let here = term (at_place e.heading.place) (own_of c.0) m e (ap (λ l. get_elem? l m) c.2 ∙ w.place) in
         let one = only-at e.heading.place e.heading.place refl in
-        inside all notes laws have_all may_make numbers e.heading.place own.0 c.0 c.1 (omega arith)
+        inside all notes laws (have_all notes have) (may_make may) (one_number tasks) e.heading.place own.0 c.0 c.1 (omega arith)
 
     low_on : (k i : ℕ) (e : Entry) → get_elem? (on k accepted) i ≡ some e → e.heading.place < 8 * p.operations
     low_on k i e at = let w = from_on k accepted i e at in low_place w.0 e w.1
@@ -204,7 +206,7 @@ module _ {O : Type 0} {g : Ghosts O} {state : O → OutState} {readers : List (L
     -- ## The words
 
     word_here : (n : ℕ) → n < 8 * p.operations → word_at places n ≡ slice_index run.closed.words (place_index p n)
-    word_here n low = let r = run.closed.placed n low in ap (λ (o : Option PlaceWord). unwrap_or (option_map (λ (word : PlaceWord). word.0) o) no_place) (got places n r.0 r.1) ∙ r.2
+    word_here n low = let r = run.closed.placed n low in ap (λ (o : Option PlaceWord). unwrap_or (option_map (λ (word : PlaceWord). word.0) o) no_place) (to_slice places n r.0 r.1) ∙ r.2
 
     word_beyond : (n : ℕ) → 8 * p.operations ≤ n → word_at places n ≡ no_place
     word_beyond n high = ap (λ (o : Option PlaceWord). unwrap_or (option_map (λ (word : PlaceWord). word.0) o) no_place) (slice_get_past places n (let e = run.closed.sized.1 in omega arith))
@@ -228,7 +230,7 @@ module _ {O : Type 0} {g : Ghosts O} {state : O → OutState} {readers : List (L
           let back = run.closed.outs_back k m.inside in
           let fifo = back.took_is.fifo log_differs in
           let here = low_on k i m.entry m.at in
-          let position = at_low (on k accepted) i m.entry m.at in
+          let position = place_low (on k accepted) i m.entry m.at in
           let most = few_on k in
           let word = word_here m.entry.heading.place here in
           subst (λ (x : ℕ). (b : Bool) × IsPlaceWord (word_at places x) b k i) m.place
@@ -269,7 +271,7 @@ module _ {O : Type 0} {g : Ghosts O} {state : O → OutState} {readers : List (L
             );
         no_gap = λ a k i lower h less. (
             let x = message_at a k i h in
-            let e = there (on k accepted) lower (let z = at_low (on k accepted) i x.entry x.at in omega (arith, z, less)) in
+            let e = place_there (on k accepted) lower (let z = place_low (on k accepted) i x.entry x.at in omega (arith, z, less)) in
             below k lower e.0 x.inside e.1
             );
       }
@@ -292,7 +294,7 @@ module _ {O : Type 0} {g : Ghosts O} {state : O → OutState} {readers : List (L
           let e = send_entry state p (ids_of p slots) t.number n bytes t.op is m.by untold m.before m.after m.acted in
           let own = flat_there entries_of (deeds_of c) m.place _ 0 e.0 m.there e.1 in
           let seat = behind_own readers (map own_of all) j in
-          let list = map_from (λ a. pick a run.closed.ordered.by accepted) run.closed.ordered.names seat.0 (own_of c) (ap (λ l. get_elem? l seat.0) (sym run.closed.ordered.lists_are ∙ lists_are) ∙ (seat.1 ∙ mapped own_of all j c at)) in
+          let list = map_back (λ a. pick a run.closed.ordered.by accepted) run.closed.ordered.names seat.0 (own_of c) (ap (λ l. get_elem? l seat.0) (sym run.closed.ordered.lists_are ∙ lists_are) ∙ (seat.1 ∙ map_there own_of all j c at)) in
           let q = from_pick list.0 run.closed.ordered.by accepted own.0 e.0 (ap (λ l. get_elem? l own.0) list.2 ∙ own.1) in
           let i = on_there e.0.link accepted q.0 e.0 q.2 refl in
           (tells (8 * t.number) e.0.link i.0 (record { inside = e.3; entry = e.0; at = i.1; place = omega (arith, e.2) })).1.has_position

@@ -143,7 +143,7 @@ none_advances i p q o = by (eqb p.attempt q.attempt)
 
 -- ## What becomes of errors
 
-tells_retries : (x : Rattle.sock_deeds.specs.rpc_client.specs.declared.acting.Told.Told) (b c : Books) → Tells x b c → c.retries ≡ b.retries
+pub tells_retries : (x : Rattle.sock_deeds.specs.rpc_client.specs.declared.acting.Told.Told) (b c : Books) → Tells x b c → c.retries ≡ b.retries
 tells_retries x b c (told e) = ap (λ (y : Books). y.retries) e
 tells_retries x b c (lost e) = ap (λ (y : Books). y.retries) e
 
@@ -158,16 +158,16 @@ id_differs : (i f j g : ℕ) → f < 4294967296 → g < 4294967296 → j * 42949
 id_differs i f j g fl gl e = (omega arith, omega arith)
 
 -- an advance that was made is noted
-advance_there : (i : ℕ) (p q : Parts) → q.attempt ≡ p.attempt + 1 → advance_note {C = Asked} i p q ≡ one i (Attempt p.first q.attempt)
+pub advance_there : (i : ℕ) (p q : Parts) → q.attempt ≡ p.attempt + 1 → advance_note {C = Asked} i p q ≡ one i (Attempt p.first q.attempt)
 advance_there i p q up = ap (λ (b : Bool). cond b [] (one i (Attempt p.first q.attempt))) (ne_eqb p.attempt q.attempt (λ e. omega (arith, e, up)))
 
 -- one retry more waits, and the advance to its attempt was noted
 module _ (k : IdLock Asked) (s t : CallStand) (r : Retry) (next : IsNext k r) (kept : t.books ≡ keeping r s.books) (q : Parts) (ts : List (Token Asked)) (up : q.attempt ≡ (parts k.word.0).attempt + 1)
     (d : Did k.slot s.view t.view ts (advance_note k.slot (parts k.word.0) q)) where
-  more_waits : (id n : ℕ) → waiting id n t.books ≡ waiting id n s.books + is_retry id n r
+  pub more_waits : (id n : ℕ) → waiting id n t.books ≡ waiting id n s.books + is_retry id n r
   more_waits id n = let a = ap (λ (b : Books). waiting id n b) kept in let b = total_append (is_retry id n) s.books.retries (r ∷ []) in omega arith
 
-  more_noted : (i f n : ℕ) → advances i f n t.view ≡ cond (eqb k.slot i) (is_attempt {C = Asked} f n (Attempt (parts k.word.0).first q.attempt)) 0 + advances i f n s.view
+  pub more_noted : (i f n : ℕ) → advances i f n t.view ≡ cond (eqb k.slot i) (is_attempt {C = Asked} f n (Attempt (parts k.word.0).first q.attempt)) 0 + advances i f n s.view
   more_noted i f n =
       let a = did_total (is_attempt f n) (attempt_silent f n) k.slot s.view t.view ts (advance_note k.slot (parts k.word.0) q) d i in
       let b = ap (λ (l : List (Noted Asked)). total (is_attempt f n) (notes_of i l)) (advance_there k.slot (parts k.word.0) q up) in

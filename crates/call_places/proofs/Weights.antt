@@ -1,5 +1,5 @@
 -- Sums over all notes of a seat, whatever their slot; and sums over parts of lists.
-use Rattle.std.proofs.Common.{◌≡◌, ◌≢◌, ℕ, zero, suc, ◌+◌, ◌<◌, ◌≤◌, Bool, true, false, cond, eqb, ne_eqb, List, [], ◌∷◌, length, map, refl, sym, ap, ◌∙◌, arith}
+use Rattle.std.proofs.Common.{◌≡◌, ◌≢◌, ℕ, zero, suc, ◌+◌, ◌<◌, ◌≤◌, Bool, true, false, cond, eqb, ne_eqb, List, [], ◌∷◌, length, refl, sym, ap, ◌∙◌, arith}
 use Rattle.std.specs.List.{flat_map}
 use mathlib.Core.Logic.{dite}
 use mathlib.Core.Option.{some, some-injective, some-ne-none}
@@ -84,22 +84,6 @@ module _ {A : Type 0} where
   pub total_sum : (f g : A → ℕ) (xs : List A) → total (λ x. f x + g x) xs ≡ total f xs + total g xs
   total_sum f g [] = refl
   total_sum f g (x ∷ xs) = let a = total_sum f g xs in omega arith
-
-  -- members by their places
-  pub at_low : (xs : List A) (i : ℕ) (x : A) → get_elem? xs i ≡ some x → i < length xs
-  at_low [] i x e = absurd (some-ne-none x (sym e))
-  at_low (y ∷ ys) zero x e = omega arith
-  at_low (y ∷ ys) (suc i) x e = let a = at_low ys i x e in omega arith
-
-  pub there : (xs : List A) (i : ℕ) → i < length xs → (x : A) × (get_elem? xs i ≡ some x)
-  there [] i low = absurd (omega arith)
-  there (x ∷ xs) zero low = (x, refl)
-  there (x ∷ xs) (suc i) low = there xs i (omega arith)
-
-  pub mapped : {B : Type 0} (f : A → B) (xs : List A) (i : ℕ) (x : A) → get_elem? xs i ≡ some x → get_elem? (map f xs) i ≡ some (f x)
-  mapped f [] i x e = absurd (some-ne-none x (sym e))
-  mapped f (y ∷ ys) zero x e = ap (λ z. some (f z)) (some-injective y x e)
-  mapped f (y ∷ ys) (suc i) x e = mapped f ys i x e
 
 -- ## As many as there are places
 

@@ -1,10 +1,10 @@
 -- What is told in a run whose links are read beside the clients: by the readers, and behind all by main, which ends the calls that are left.
-use Rattle.std.proofs.Common.{◌≡◌, ℕ, zero, suc, ◌≤◌, false, List, [], ◌∷◌, ◌++◌, flat_map, length, map, Some, refl, sym, ap, ◌∙◌, subst, arith}
+use Rattle.std.proofs.Common.{◌≡◌, ℕ, ◌≤◌, false, List, [], ◌∷◌, ◌++◌, flat_map, length, map, Some, refl, sym, ap, ◌∙◌, subst, arith}
 use Rattle.std.specs.Prelude.{Option, option_map, slice_get, IfSome}
 use Rattle.std.specs.List.{AllByRecursion}
 use Rattle.std.proofs.lemmas.List.{length-map}
 use Rattle.std.proofs.lemmas.Option.{slice_get-map}
-use mathlib.Core.Option.{some, some-ne-none}
+use mathlib.Core.Option.{some}
 use lib.ListN.{get_elem?}
 use Rattle.atomic_table.specs.declared.shared.Seat.{Seat}
 use Rattle.brpc_model.specs.Link.{LinkEnd}
@@ -33,6 +33,7 @@ use Rattle.call_deeds.specs.call_places.specs.Counted.{makes, HaveNotesOf}
 use Rattle.call_deeds.specs.call_places.proofs.Clients.{total_map}
 use Rattle.call_deeds.specs.call_places.proofs.Reader.{MadeNone, rest_none}
 use Rattle.call_deeds.specs.call_places.proofs.Weights.{flat_total}
+use Rattle.call_deeds.specs.sock_deeds.proofs.Flats.{append_first}
 use Rattle.call_told.specs.Answers.{AreGiven, at_end, ToldFrom, TellsFrom, HaveAnswers, IsGiver, AreAnsweredBy}
 use Rattle.call_told.specs.Once.{ToldOnce}
 use Rattle.call_told.specs.Least.{HasBegun, IsEndTold}
@@ -70,11 +71,6 @@ flat_notes : {X : Type 0} (i : ℕ) (f : Note Asked → ℕ) (h : X → List (No
 flat_notes i f h [] = refl
 flat_notes i f h (x ∷ xs) =
     let a = ap (total f) (notes_append i (h x) (flat_map h xs)) in let b = total_append f (notes_of i (h x)) (notes_of i (flat_map h xs)) in let c = flat_notes i f h xs in omega arith
-
-first_there : {A : Type 0} (xs ys : List A) (k : ℕ) (x : A) → get_elem? xs k ≡ some x → get_elem? (xs ++ ys) k ≡ some x
-first_there [] ys k x e = absurd (some-ne-none x (sym e))
-first_there (y ∷ xs) ys zero x e = e
-first_there (y ∷ xs) ys (suc k) x e = first_there xs ys k x e
 
 module _ {O : Type 0} {g : Ghosts O} (p : Plan) (q : ids.Plan) (calls opens : List ℕ) (readers : List (LinkReader g)) (are : AreReaders p q calls 0 opens readers) where
   abbrev pub told_beside : List (List Told)
@@ -234,7 +230,7 @@ module _ {O : Type 0} {g : Ghosts O} (p : Plan) (q : ids.Plan) (calls opens : Li
           least_beside k v operation id j at begun few listed =
               let a = total_append (λ (w : View Asked). total (own_at (call_index q operation)) w.kept) (map view_of clients) views_beside in
               let b = readers_own p q calls readers read_all (call_index q operation) in
-              (told_least q calls EEOF (ended ++ told_beside) all_views main last words ended_beside k v operation id (first_there (map view_of clients) views_beside k v at) begun (omega arith) j listed).1
+              (told_least q calls EEOF (ended ++ told_beside) all_views main last words ended_beside k v operation id (append_first (map view_of clients) views_beside k v at) begun (omega arith) j listed).1
 
   -- ## What the links that are given back tell of the answers
 

@@ -1,9 +1,9 @@
 -- What has come of each operation that a client made: its outcome is told, its call has begun, or it is a message that was accepted.
-use Rattle.std.proofs.Common.{◌≡◌, ℕ, zero, suc, ◌<◌, false, List, [], ◌∷◌, ◌++◌, append-nil, Some, None, refl, sym, ap, ◌∙◌, subst, arith}
+use Rattle.std.proofs.Common.{◌≡◌, ℕ, zero, suc, ◌<◌, false, List, [], ◌++◌, append-nil, Some, None, refl, sym, ap, ◌∙◌, subst, arith}
 use Rattle.std.specs.Prelude.{Option as Maybe}
 use Rattle.std.specs.List.{AllByRecursion}
 use mathlib.Core.Logic.{dite}
-use mathlib.Core.Option.{some, some-injective, some-ne-none}
+use mathlib.Core.Option.{some, some-injective}
 use native.Mathlib.Decide.{ℕ_discrete}
 use lib.ListN.{get_elem?}
 use Rattle.sock_io.specs.declared.link.Out.{Ghosts}
@@ -30,10 +30,11 @@ use Rattle.call_deeds.specs.call_client.specs.declared.caller.Caller.{Caller}
 use Rattle.call_deeds.specs.call_client.specs.Acting.{Stand, stand, both_of, Acted}
 use Rattle.call_deeds.specs.call_client.specs.Running.{Course, Made, Ran, begins, RunBy}
 use Rattle.call_deeds.specs.call_client.proofs.Telling.{did_total}
+use Rattle.call_deeds.specs.sock_deeds.proofs.Flats.{append_first}
 use Rattle.call_told.specs.Least.{is_made_for, HasBegun}
 use Rattle.call_told.proofs.Ends.{made_silent, counted_here}
 use Rattle.call_told.proofs.Growing.{Grows}
-use Rattle.call_told.proofs.Lists.{all_at}
+use Rattle.call_told.proofs.Lists.{all_at, last_there}
 use Rattle.call_told.proofs.Moves.{attempted_by, Fits, made_moves, end_moves}
 
 -- of an operation, by what the client told of its own and what its seat of the ids knows
@@ -42,19 +43,9 @@ pub data HasCome (q : id_plan.Plan) (x : Task) (told : List Told) (v : View Aske
   began : (asked : Asked) (id : ℕ) → x.op ≡ ops.Call asked → HasBegun q asked.operation id v → HasCome q x told v
   sends : (n : ℕ) (bytes : List ℕ) → x.op ≡ ops.Send n bytes → HasCome q x told v
 
--- what stands in a list stands there with more behind it
-there_still : {A : Type 0} (xs ys : List A) (i : ℕ) (a : A) → get_elem? xs i ≡ some a → get_elem? (xs ++ ys) i ≡ some a
-there_still [] ys i a e = absurd (some-ne-none a (sym e))
-there_still (x ∷ xs) ys zero a e = e
-there_still (x ∷ xs) ys (suc i) a e = there_still xs ys i a e
-
-last_there : {A : Type 0} (xs : List A) (a : A) → (i : ℕ) × (get_elem? (xs ++ a ∷ []) i ≡ some a)
-last_there [] a = (0, refl)
-last_there (x ∷ xs) a = let r = last_there xs a in (suc r.0, r.1)
-
 module _ (q : id_plan.Plan) where
   -- a call that began has begun
-  begun_later : (x n operation id : ℕ) (v w : View Asked) → Grows x n v w → HasBegun q operation id v → HasBegun q operation id w
+  pub begun_later : (x n operation id : ℕ) (v w : View Asked) → Grows x n v w → HasBegun q operation id v → HasBegun q operation id w
   begun_later x n operation id v w g h = record {
     inside = h.inside;
     made = (let a = g.notes (slot_of id) (is_made_for (version_of id) operation) in let b = h.made in omega arith);
@@ -62,7 +53,7 @@ module _ (q : id_plan.Plan) where
   }
 
   come_later : (y n : ℕ) (x : Task) (told more : List Told) (v w : View Asked) → Grows y n v w → HasCome q x told v → HasCome q x (told ++ more) w
-  come_later y n x told more v w g (tells i t e is) = tells i t (there_still told more i t e) is
+  come_later y n x told more v w g (tells i t e is) = tells i t (append_first told more i t e) is
   come_later y n x told more v w g (began asked id is h) = began asked id is (begun_later y n asked.operation id v w g h)
   come_later y n x told more v w g (sends m bytes is) = sends m bytes is
 
@@ -73,7 +64,7 @@ module _ (q : id_plan.Plan) where
 
   module _ {O : Type 0} (state : O → OutState) (p : Plan) where
     -- the id of a call is made and noted
-    made_begun : (asked : Asked) (id : ℕ) (s t : Both) → CalledBy state p q asked (called.Begun id) s t → HasBegun q asked.operation id t.calls.view
+    pub made_begun : (asked : Asked) (id : ℕ) (s t : Both) → CalledBy state p q asked (called.Begun id) s t → HasBegun q asked.operation id t.calls.view
     made_begun asked id s t h =
         let m = h.made_for in let u = h.at.calls.view in let o = asked.operation in let slot = slot_of id in let f = version_of id in
         let notes = did_total (is_made_for f o) (made_silent f o) slot s.calls.view m.view _ (one slot (made_note f asked.range asked)) m.made.did slot in

@@ -14,6 +14,7 @@ pub mod Tallies
 pub mod Resting
 pub mod Ends
 pub mod Runs
+pub mod Onward
 pub mod Moves
 pub mod Coming
 pub mod Once

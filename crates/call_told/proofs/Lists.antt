@@ -1,5 +1,5 @@
 -- Elements of lists by their places.
-use Rattle.std.proofs.Common.{◌≡◌, ℕ, zero, suc, List, [], ◌∷◌, ◌++◌, map, flat_map, get_or, take, drop, Some, None, sym, ap, subst}
+use Rattle.std.proofs.Common.{◌≡◌, ℕ, zero, suc, List, [], ◌∷◌, ◌++◌, map, flat_map, get_or, take, drop, Some, None, refl, sym, ap, subst}
 use Rattle.std.specs.Prelude.{Option, slice_get}
 use Rattle.std.specs.List.{AllByRecursion, remove}
 use mathlib.Core.Option as core
@@ -16,6 +16,11 @@ module _ {A : Type 0} where
   pub at_back : (xs ys : List A) (x : A) → (i : ℕ) × (slice_get ys i ≡ Some x) → (i : ℕ) × (slice_get (xs ++ ys) i ≡ Some x)
   at_back [] ys x h = h
   at_back (y ∷ xs) ys x h = let r = at_back xs ys x h in (suc r.0, r.1)
+
+  -- the last
+  pub last_there : (xs : List A) (x : A) → (i : ℕ) × (get_elem? (xs ++ x ∷ []) i ≡ core.some x)
+  last_there [] x = (0, refl)
+  last_there (y ∷ xs) x = let r = last_there xs x in (suc r.0, r.1)
 
   pub some_same : (x y : A) → Some x ≡ Some y → x ≡ y
   some_same x y e = ap (λ (o : Option A). or_else o) e

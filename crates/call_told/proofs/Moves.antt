@@ -1,5 +1,5 @@
--- What a client notes, keeps in mind and tells of calls by its run: what it knows it knows still, it stores an id for an operation once for each call that is this operation, and what it tells are ends of calls that it had locked.
-use Rattle.std.proofs.Common.{◌≡◌, ℕ, zero, suc, ◌+◌, ◌<◌, ◌≤◌, inl, inr, true, false, List, [], ◌∷◌, Some, None, take, drop, refl, sym, ap, ◌∙◌, subst, arith}
+-- What a client notes, keeps in mind and tells of calls by its run: what it knows it knows still, what it told stays told, and memory that is there was always there; it stores an id for an operation once for each call that is this operation, and what it tells are ends of calls that it had locked.
+use Rattle.std.proofs.Common.{◌≡◌, ℕ, zero, suc, ◌+◌, ◌<◌, ◌≤◌, ◌⊎◌, inl, inr, true, false, List, [], ◌∷◌, Some, None, take, drop, refl, sym, ap, ◌∙◌, subst, arith}
 use Rattle.std.specs.Prelude.{Option as Maybe}
 use Rattle.std.specs.List.{AllByRecursion}
 use Rattle.std.proofs.lemmas.List.{drop_all}
@@ -57,6 +57,7 @@ use Rattle.call_told.specs.Least.{is_locked_for}
 use Rattle.call_told.proofs.Ends.{HasLocked, got_locked, IsEndIn, AreEndsIn, ends_in_later}
 use Rattle.call_told.proofs.Growing.{Grows, grows_same, grows_then, quiet_grows, did_grows, ended_grows, post_grows, kept_grows}
 use Rattle.call_told.proofs.Lists.{all_both, all_at}
+use Rattle.call_told.proofs.Onward.{Onward, onward_as, onward_then, onward_starving, onward_tells}
 use Rattle.call_told.proofs.Runs.{none_left}
 
 -- the lock of the error that is handed out instead of a lock
@@ -86,38 +87,43 @@ abbrev pub is_task : ℕ → Task → ℕ
 is_task operation x = only operation x.number
 
 module _ (q : id_plan.Plan) (operation : ℕ) where
-  -- so many ids more are stored for this operation at most
+  -- so many ids more are stored for this operation at most, and what was known and told stays
   pub record Moves (n : ℕ) (s t : CallStand) : Type 0 where
     pub grows : Grows (call_index q operation) n s.view t.view
+    pub books : Onward s.books t.books
     pub ends : AreEndsIn q.slots s.view s.books.told → AreEndsIn q.slots t.view t.books.told
 
   abbrev place : ℕ
   place = call_index q operation
 
-  moves_then : (m n k : ℕ) (s u t : CallStand) → m + n ≤ k → Moves m s u → Moves n u t → Moves k s t
-  moves_then m n k s u t le a b = record { grows = grows_then place m n k s.view u.view t.view le a.grows b.grows; ends = λ h. b.ends (a.ends h) }
+  pub moves_then : (m n k : ℕ) (s u t : CallStand) → m + n ≤ k → Moves m s u → Moves n u t → Moves k s t
+  moves_then m n k s u t le a b = record { grows = grows_then place m n k s.view u.view t.view le a.grows b.grows; books = onward_then s.books u.books t.books a.books b.books; ends = λ h. b.ends (a.ends h) }
 
   -- both store nothing for it
   in_turn : (s u t : CallStand) → Moves 0 s u → Moves 0 u t → Moves 0 s t
   in_turn s u t a b = moves_then 0 0 0 s u t (omega arith) a b
 
-  moves_seen : (n : ℕ) (s t : CallStand) → Grows place n s.view t.view → t.books.told ≡ s.books.told → Moves n s t
-  moves_seen n s t g e = record { grows = g; ends = λ h. subst (AreEndsIn q.slots t.view) (sym e) (ends_in_later q.slots s.view t.view g.notes s.books.told h) }
+  -- nothing is told, whatever retries are kept
+  moves_kept : (n : ℕ) (s t : CallStand) → Grows place n s.view t.view → t.books.told ≡ s.books.told → t.books.starved ≡ s.books.starved → Moves n s t
+  moves_kept n s t g e f = record { grows = g; books = onward_as s.books t.books e f; ends = λ h. subst (AreEndsIn q.slots t.view) (sym e) (ends_in_later q.slots s.view t.view g.notes s.books.told h) }
 
-  moves_same : (n : ℕ) (s t : CallStand) → t ≡ s → Moves n s t
-  moves_same n s t e = moves_seen n s t (grows_same place n s.view t.view (ap (λ (y : CallStand). y.view) e)) (ap (λ (y : CallStand). y.books.told) e)
+  moves_seen : (n : ℕ) (s t : CallStand) → Grows place n s.view t.view → t.books ≡ s.books → Moves n s t
+  moves_seen n s t g e = moves_kept n s t g (ap (λ (y : Books). y.told) e) (ap (λ (y : Books). y.starved) e)
+
+  pub moves_same : (n : ℕ) (s t : CallStand) → t ≡ s → Moves n s t
+  moves_same n s t e = moves_seen n s t (grows_same place n s.view t.view (ap (λ (y : CallStand). y.view) e)) (ap (λ (y : CallStand). y.books) e)
 
   -- ## Errors of calls
 
   -- the call of a lock, whose slot is one of the table's
-  abbrev HasIt : IdLock Asked → View Asked → Type 0
+  abbrev pub HasIt : IdLock Asked → View Asked → Type 0
   HasIt k v = (k.slot < q.slots) × HasLocked k.slot (parts k.word.0).first k.content.operation v
 
   next_it : (k l : IdLock Asked) (v w : View Asked) → ((j : ℕ) (g : Note Asked → ℕ) → total g (notes_of j v.notes) ≤ total g (notes_of j w.notes)) → l.slot ≡ k.slot → (parts l.word.0).first ≡ (parts k.word.0).first → l.content ≡ k.content → HasIt k v → HasIt l w
   next_it k l v w grows slot first content h = (subst (λ (n : ℕ). n < q.slots) (sym slot) h.0, next_locked k l v w grows slot first content h.1)
 
   lock_ends : (k : IdLock Asked) (code : ℕ) (s t : CallStand) → HasIt k s.view → EndedWith k code s t → Moves 0 s t
-  lock_ends k code s t has e = record { grows = grown; ends = λ h. by h e.tells }
+  lock_ends k code s t has e = record { grows = grown; books = onward_tells (failed k code) s.books t.books e.tells; ends = λ h. by h e.tells }
     where
       grown : Grows place 0 s.view t.view
       grown = ended_grows place k.slot s.view t.view [] (one k.slot (Ended (parts k.word.0).first (parts k.word.0).attempt)) e.ended
@@ -139,15 +145,16 @@ module _ (q : id_plan.Plan) (operation : ℕ) where
       by h (lost is) = subst (AreEndsIn q.slots t.view) (sym (ap (λ (b : Books). b.told) is)) (ends_in_later q.slots s.view t.view grown.notes s.books.told h)
 
   starved_ends : (k : IdLock Asked) (s t : CallStand) → HasIt k s.view → EndedWith k EINTERNAL (record { view = s.view; books = starving s.books }) t → Moves 0 s t
-  starved_ends k s t has e = let m = lock_ends k EINTERNAL (record { view = s.view; books = starving s.books }) t has e in record { grows = m.grows; ends = m.ends }
+  starved_ends k s t has e = let m = lock_ends k EINTERNAL (record { view = s.view; books = starving s.books }) t has e in
+      record { grows = m.grows; books = onward_then s.books (starving s.books) t.books (onward_starving s.books) m.books; ends = m.ends }
 
-  decided : {s : CallStand} {k : IdLock Asked} {code : ℕ} {attempt : Maybe ℕ} {t : CallStand} → Decided s k code attempt t → HasIt k s.view → Moves 0 s t
+  pub decided : {s : CallStand} {k : IdLock Asked} {code : ℕ} {attempt : Maybe ℕ} {t : CallStand} → Decided s k code attempt t → HasIt k s.view → Moves 0 s t
   decided (handling.ends s k code attempt t a b e) has = lock_ends k code s t has e
   decided (handling.starves s k code attempt t a e) has = starved_ends k s t has e
-  decided (handling.waits s k code attempt t a b e) has = moves_seen 0 s t (did_grows place k.slot s.view t.view _ _ e.unlocked.4) (ap (λ (y : Books). y.told) e.kept)
+  decided (handling.waits s k code attempt t a b e) has = moves_kept 0 s t (did_grows place k.slot s.view t.view _ _ e.unlocked.4) (ap (λ (y : Books). y.told) e.kept) (ap (λ (y : Books). y.starved) e.kept)
   decided (handling.goes_on s k code attempt t u l next of a b e rest) has =
       let g = did_grows place k.slot s.view u.view _ _ e.unlocked.3 in let r = e.unlocked.4.1 in
-      in_turn s u t (moves_seen 0 s u g (ap (λ (y : Books). y.told) e.kept))
+      in_turn s u t (moves_kept 0 s u g (ap (λ (y : Books). y.told) e.kept) (ap (λ (y : Books). y.starved) e.kept))
       (decided rest (next_it k l s.view u.view g.notes e.unlocked.0 (ap (λ (w : Parts). w.first) r.left.1 ∙ r.same_id) e.unlocked.1 has))
 
   handled : (id code : ℕ) (attempt : Maybe ℕ) (answer : Posted Asked) (u s t : CallStand) → PostOk q.slots u.view s.view id code attempt answer → Handled code attempt answer s t → Moves 0 s t
@@ -157,7 +164,7 @@ module _ (q : id_plan.Plan) (operation : ℕ) where
   handled id code attempt (Stale current) u s t post e = moves_same 0 s t e
   handled id code attempt (Crowded first second) u s t post e = moves_same 0 s t e
 
-  posted : (s : CallStand) (id code : ℕ) (attempt : Maybe ℕ) (t : CallStand) → PostedBy q.slots s id code attempt t → Moves 0 s t
+  pub posted : (s : CallStand) (id code : ℕ) (attempt : Maybe ℕ) (t : CallStand) → PostedBy q.slots s id code attempt t → Moves 0 s t
   posted s id code attempt t p =
       let v = p.1.view in let u : CallStand = record { view = v; books = s.books } in
       in_turn s u t (moves_seen 0 s u (post_grows place q.slots s.view v id code attempt p.0 p.1.post) refl) (handled id code attempt p.0 s u t p.1.post p.1.handled)
@@ -169,7 +176,7 @@ module _ (q : id_plan.Plan) (operation : ℕ) where
   timed_out : (number : ℕ) (by : Outcome) (s t : CallStand) → TimedOut q number by s t → Moves 0 s t
   timed_out number by s t h = let u = found_id q number h.id s in in_turn s u t (seen_id number h.id s) (posted u h.id ERPCTIMEDOUT None t (h.answer, h.posted))
 
-  expired_by : (number : ℕ) (by : Outcome) (s t : CallStand) → ExpiredBy q number by s t → Moves 0 s t
+  pub expired_by : (number : ℕ) (by : Outcome) (s t : CallStand) → ExpiredBy q number by s t → Moves 0 s t
   expired_by number outcome.NotBegun s t h = moves_same 0 s t h.same
   expired_by number outcome.Expired s t h = timed_out number outcome.Expired s t h
   expired_by number outcome.Queued s t h = timed_out number outcome.Queued s t h
@@ -180,7 +187,7 @@ module _ (q : id_plan.Plan) (operation : ℕ) where
   joined_by : (number : ℕ) (by : Outcome) (s t : CallStand) → JoinedBy q number by s t → Moves 0 s t
   joined_by number outcome.NotBegun s t h = moves_same 0 s t h.same
   joined_by number outcome.Joined s t h = let u = found_id q number h.id s in
-      in_turn s u t (seen_id number h.id s) (moves_seen 0 u t (grows_then place 0 0 0 u.view h.view t.view (omega arith) (quiet_grows place u.view h.view h.quiet) (grows_same place 0 h.view t.view (ap (λ (y : CallStand). y.view) h.after))) (ap (λ (y : CallStand). y.books.told) h.after))
+      in_turn s u t (seen_id number h.id s) (moves_seen 0 u t (grows_then place 0 0 0 u.view h.view t.view (omega arith) (quiet_grows place u.view h.view h.quiet) (grows_same place 0 h.view t.view (ap (λ (y : CallStand). y.view) h.after))) (ap (λ (y : CallStand). y.books) h.after))
   joined_by number _ s t h = elim h [ ]
 
   -- ## Messages
@@ -220,15 +227,15 @@ module _ (q : id_plan.Plan) (operation : ℕ) where
     pub attempted_by : (socket : SocketId) (msg : Letter) (s t : Both) → AttemptedBy state p q socket msg s t → Moves 0 s.calls t.calls
     attempted_by socket msg s t (nowhere g) = posted s.calls msg.owner EFAILEDSOCKET (Some msg.label.attempt) t.calls g.posted
     attempted_by socket msg s t (over_link u l d) = in_turn s.calls u.calls t.calls
-        (moves_seen 0 s.calls u.calls (kept_grows place 0 s.calls.view u.calls.view (at_index q msg.label.operation) true _ l.stored (at_no_call q operation msg.label.operation)) (ap (λ (y : Books). y.told) l.books)) (delivered_by socket msg u t d)
+        (moves_seen 0 s.calls u.calls (kept_grows place 0 s.calls.view u.calls.view (at_index q msg.label.operation) true _ l.stored (at_no_call q operation msg.label.operation)) l.books) (delivered_by socket msg u t d)
 
     made_for : (asked : Asked) (id : ℕ) (socket : SocketId) (s t : Both) → MadeFor state p q asked id socket s t → Moves (only operation asked.operation) s.calls t.calls
     made_for asked id socket s t m =
         let n = only operation asked.operation in let u : CallStand = record { view = m.view; books = s.calls.books } in
         moves_then 0 n n s.calls u t.calls (omega arith) (moves_seen 0 s.calls u (did_grows place (slot_of id) s.calls.view m.view _ _ m.made.did) refl)
-        (moves_seen n u t.calls (kept_grows place n m.view t.calls.view (call_index q asked.operation) true id m.noted (call_of_one q operation asked.operation)) (ap (λ (y : Books). y.told) m.books))
+        (moves_seen n u t.calls (kept_grows place n m.view t.calls.view (call_index q asked.operation) true id m.noted (call_of_one q operation asked.operation)) m.books)
 
-    begun_by : (asked : Asked) (id : ℕ) (s t : Both) → CalledBy state p q asked (called.Begun id) s t → Moves (only operation asked.operation) s.calls t.calls
+    pub begun_by : (asked : Asked) (id : ℕ) (s t : Both) → CalledBy state p q asked (called.Begun id) s t → Moves (only operation asked.operation) s.calls t.calls
     begun_by asked id s t h = let n = only operation asked.operation in moves_then n 0 n s.calls h.at.calls t.calls (omega arith) (made_for asked id h.socket s h.at h.made_for) (attempted_by h.socket _ h.at t h.attempted)
 
     went_to : (name : ℕ) (msg : Letter) (s t : Both) → WentTo state p q name msg s t → Moves 0 s.calls t.calls
@@ -237,10 +244,10 @@ module _ (q : id_plan.Plan) (operation : ℕ) where
     went_to name msg s t (to_socket socket u f e a) = in_turn s.calls u.calls t.calls (moves_same 0 s.calls u.calls e) (attempted_by socket msg u t a)
 
     locked : (r : Retry) (k : IdLock Asked) (s t : Both) → Locked state p q r k s t → Moves 0 s.calls t.calls
-    locked r k s t l = moves_seen 0 s.calls t.calls (did_grows place k.slot s.calls.view t.calls.view _ _ l.got.got.did) (ap (λ (y : Books). y.told) l.books)
+    locked r k s t l = moves_seen 0 s.calls t.calls (did_grows place k.slot s.calls.view t.calls.view _ _ l.got.got.did) l.books
 
     retried_by : (r : Retry) (s t : Both) → RetriedBy state p q r s t → Moves 0 s.calls t.calls
-    retried_by r s t (had_ended h) = moves_seen 0 s.calls t.calls (quiet_grows place s.calls.view t.calls.view h.gone.quiet) (ap (λ (y : Books). y.told) h.books)
+    retried_by r s t (had_ended h) = moves_seen 0 s.calls t.calls (quiet_grows place s.calls.view t.calls.view h.gone.quiet) h.books
     retried_by r s t (overtaken k u l o) =
         let x : CallStand = record { view = o.view; books = u.calls.books } in
         let g = did_grows place k.slot u.calls.view o.view _ _ o.unlocked.3 in let n = o.unlocked.4.1 in
@@ -254,7 +261,7 @@ module _ (q : id_plan.Plan) (operation : ℕ) where
     retried s _ none_yet = moves_same 0 s.calls s.calls refl
     retried s _ (one_more u t r rest more e f by) =
         let x = without_oldest rest u in
-        in_turn s.calls u.calls t.calls (retried s u more) (in_turn u.calls x.calls t.calls (moves_seen 0 u.calls x.calls (grows_same place 0 u.calls.view x.calls.view refl) refl) (retried_by r x t by))
+        in_turn s.calls u.calls t.calls (retried s u more) (in_turn u.calls x.calls t.calls (moves_kept 0 u.calls x.calls (grows_same place 0 u.calls.view x.calls.view refl) refl refl) (retried_by r x t by))
 
     -- ## A client's run
 
@@ -272,7 +279,7 @@ module _ (q : id_plan.Plan) (operation : ℕ) where
     took_few (x ∷ xs) (suc n) = let a = took_few xs n in omega arith
 
     module _ {g : Ghosts O} where
-      retried_here : (s t : Stand g) → RetriedHere state p q s t → Moves 0 s.calls t.calls
+      pub retried_here : (s t : Stand g) → RetriedHere state p q s t → Moves 0 s.calls t.calls
       retried_here s t r = retried (both_of s) (both_of t) r.all.retried
 
       acted : (number : ℕ) (op : Op) → ((asked : Asked) → op ≡ ops.Call asked → asked.operation ≡ number) → (by : Maybe Outcome) (s t : Stand g) → Acted state p q number op by s t → Moves (only operation number) s.calls t.calls
@@ -286,6 +293,26 @@ module _ (q : id_plan.Plan) (operation : ℕ) where
       acted number (ops.Drop n) fits (Some by) s t h = moves_same (only operation number) s.calls t.calls h.2
       acted number (ops.Fail n code) fits (Some by) s t h = moves_same (only operation number) s.calls t.calls h.2
       acted number _ fits _ s t h = elim h [ ]
+
+      -- a call began
+      pub record BeginsCall (op : Op) (s t : Stand g) : Type 0 where
+        pub asked : Asked
+        pub is_call : op ≡ ops.Call asked
+        pub id : ℕ
+        pub called : CalledBy state p q asked (called.Begun id) (both_of s) (both_of t)
+
+      -- or no id was stored
+      pub acted_or : (number : ℕ) (op : Op) (by : Maybe Outcome) (s t : Stand g) → Acted state p q number op by s t → Moves 0 s.calls t.calls ⊎ BeginsCall op s t
+      acted_or number (ops.Open n k) (Some by) s t h = inl (moves_same 0 s.calls t.calls h.2)
+      acted_or number (ops.Send n bytes) by s t h = inl (sent_calling n (letter_of number bytes) by s.me.0 s.calls t.me.0 t.calls h.0)
+      acted_or number (ops.Call asked) (Some outcome.Unopened) s t h = inl (moves_same 0 s.calls t.calls h.0.1)
+      acted_or number (ops.Call asked) None s t h = inr record { asked = asked; is_call = refl; id = h.0; called = h.1 }
+      acted_or number (ops.Expire of) (Some by) s t h = inl (expired_by of by s.calls t.calls h.0)
+      acted_or number (ops.Join of) (Some by) s t h = inl (joined_by of by s.calls t.calls h.0)
+      acted_or number (ops.Hold n) (Some by) s t h = inl (moves_same 0 s.calls t.calls h.2)
+      acted_or number (ops.Drop n) (Some by) s t h = inl (moves_same 0 s.calls t.calls h.2)
+      acted_or number (ops.Fail n code) (Some by) s t h = inl (moves_same 0 s.calls t.calls h.2)
+      acted_or number _ _ s t h = elim h [ ]
 
       pub made_moves : (x : Task) (s t : Course g) → Fits x → Made state p q x s t → Moves (only operation x.number) s.has.calls t.has.calls
       made_moves x s t fits m = moves_then 0 (only operation x.number) (only operation x.number) s.has.calls m.ready.calls t.has.calls (omega arith) (retried_here s.has m.ready m.retried) (acted x.number x.op fits m.by m.ready t.has m.acted)

@@ -1,5 +1,5 @@
 -- What becomes of a response that a seat met: it ended a call of its version, is kept, or a word past its range was found. So it is from then on; and the code of a reading ends no call of its version any more.
-use Rattle.std.proofs.Common.{◌≡◌, ℕ, zero, suc, ◌+◌, ◌<◌, ◌≤◌, ◌⊎◌, inl, inr, ⊎_elim, Bool, true, false, cond, eq-eqb, ne_eqb, le-leb, lt-ltb, lt_of_not-le, length, List, [], ◌∷◌, ◌++◌, Some, None, refl, sym, ap, ◌∙◌, subst, arith}
+use Rattle.std.proofs.Common.{◌≡◌, ℕ, zero, suc, ◌+◌, ◌<◌, ◌≤◌, ◌⊎◌, inl, inr, ⊎_elim, Bool, true, false, cond, eq-eqb, ne_eqb, le-leb, lt-ltb, lt_of_not-le, length, List, [], ◌∷◌, Some, None, refl, sym, ap, ◌∙◌, subst, arith}
 use Rattle.std.specs.Prelude.{Option, position, not, nat_le, ◌==◌, if◌then◌else◌}
 use Rattle.std.specs.List.{remove, position_or_len}
 use Rattle.std.proofs.lemmas.List.Quantifiers.{position-Some}
@@ -34,21 +34,13 @@ use Rattle.call_deeds.specs.rpc_reader.specs.Books.{Books, EndedAs, ToldBy, id_o
 use Rattle.call_deeds.specs.rpc_reader.specs.Met.{slot_in, version_in, is_asked, is_for, AnsweredBy, LackedBy, KeptIf, MetIf, FrameMet, FramesMet}
 use Rattle.call_deeds.specs.rpc_reader.specs.Posting.{LostBy, LockLost, PostedTo, MetKept, PostedIf, PostedAt, PostedAll, call_at, attempt_at}
 use Rattle.call_deeds.specs.rpc_reader.specs.Resting.{HadEnded, EndedLast, OneEnded, RestEnded}
+use Rattle.call_deeds.specs.sock_deeds.proofs.Flats.{append_first}
 use Rattle.call_told.proofs.Given.{for_is}
-use Rattle.call_told.proofs.Lists.{elem_or}
+use Rattle.call_told.proofs.Lists.{last_there, elem_or}
 
 -- ## Elements of lists
 
 module _ {A : Type 0} where
-  at_front_of : (xs ys : List A) (n : ℕ) (x : A) → get_elem? xs n ≡ some x → get_elem? (xs ++ ys) n ≡ some x
-  at_front_of [] ys n x e = absurd (some-ne-none x (sym e))
-  at_front_of (y ∷ xs) ys zero x e = e
-  at_front_of (y ∷ xs) ys (suc n) x e = at_front_of xs ys n x e
-
-  at_end : (xs : List A) (x : A) → (n : ℕ) × (get_elem? (xs ++ x ∷ []) n ≡ some x)
-  at_end [] x = (0, refl)
-  at_end (y ∷ xs) x = let r = at_end xs x in (suc r.0, r.1)
-
   -- what stands in a list is the one that is removed, or stands there still
   but_one : (xs : List A) (i n : ℕ) (x y : A) → get_elem? xs i ≡ some y → get_elem? xs n ≡ some x → (x ≡ y) ⊎ ((m : ℕ) × (get_elem? (remove xs i) m ≡ some x))
   but_one [] i n x y e e' = absurd (some-ne-none y (sym e))
@@ -186,7 +178,7 @@ module _ (slots : ℕ) where
   lacked_goes true f b b' grows (inl k) = record {
     grows = grows;
     starved = λ h. k.1 ∙ h;
-    early = λ x n asked at. by_keeping n (subst (λ (l : List Frame). get_elem? l n ≡ some x) (sym k.0) (at_front_of b.early (f ∷ []) n x at));
+    early = λ x n asked at. by_keeping n (subst (λ (l : List Frame). get_elem? l n ≡ some x) (sym k.0) (append_first b.early (f ∷ []) n x at));
   }
   lacked_goes true f b b' grows (inr k) = goes_so b b' grows (λ h. k.1) k.0
   lacked_goes false f b b' grows k = goes_so b b' grows (λ h. k.1 ∙ h) k.0
@@ -202,7 +194,7 @@ module _ (slots : ℕ) where
       ⊎_elim (λ z. absurd (n z)) (λ h. ⊎_elim (λ le. le) (λ past. omega (arith, a, past)) h) lacks)
 
   lacked_met : (c : Bool) (f : Frame) (b b' : Books) (l : LackedBy f b b') → is_early (version_in f) (parts l.word) ≡ c → KeptIf c f b.early b.starved b'.early b'.starved → IsMet f b'
-  lacked_met true f b b' l e (inl k) = let r = at_end b.early f in by_keeping r.0 (subst (λ (xs : List Frame). get_elem? xs r.0 ≡ some f) (sym k.0) r.1)
+  lacked_met true f b b' l e (inl k) = let r = last_there b.early f in by_keeping r.0 (subst (λ (xs : List Frame). get_elem? xs r.0 ≡ some f) (sym k.0) r.1)
   lacked_met true f b b' l e (inr k) = by_want k.1
   lacked_met false f b b' l e k = by_passing l.word l.found (late_past (parts l.word) (version_in f) e l.lacks)
 

@@ -1,5 +1,5 @@
 -- Where nothing went wrong in a run, every send of its script is placed, or its name had no socket yet: by what is told of its sockets, and of how many attempts its calls made.
-use Rattle.std.proofs.Common.{◌≡◌, ◌≢◌, ℕ, ◌+◌, ◌*◌, ◌<◌, ◌≤◌, ◌⊎◌, inl, inr, Bool, true, false, if◌then◌else◌, nat_lt, nat_le, List, length, flat_map, slice_get, Option, Some, None, Ok, Contains, refl, ap, sym, ◌∙◌, subst, arith}
+use Rattle.std.proofs.Common.{◌≡◌, ℕ, ◌+◌, ◌*◌, ◌<◌, ◌≤◌, ◌⊎◌, inl, inr, true, false, if◌then◌else◌, nat_lt, nat_le, List, length, slice_get, Option, Some, None, Ok, Contains, refl, ap, sym, ◌∙◌, subst, arith}
 use Rattle.std.proofs.lemmas.Bool.Decides.{nat_tests}
 use Rattle.std.proofs.lemmas.Option.{slice_get_within}
 use Rattle.std.specs.List.{AllByRecursion}
@@ -9,7 +9,6 @@ use Rattle.sock_words.specs.declared.place_word.PlaceWord.{PlaceWord}
 use Rattle.brpc_model.specs.Items.{Item, Send, Call, Hold, Fail, CallLine, attempts_of, sought_name}
 use Rattle.brpc_model.specs.Operations.{Operation, operations, link_names, attempts}
 use Rattle.brpc_model.specs.Link.{LinkEnd}
-use Rattle.brpc_model.specs.Order.{EachBefore}
 use Rattle.brpc_model.specs.Places.{names}
 use Rattle.brpc_model.specs.PlaceWords.{IsReportOf, word_at, outcome_by_word}
 use Rattle.brpc_model.specs.Report.{Report}
@@ -22,21 +21,17 @@ use Rattle.seat_programs.specs.declared.task.Op.{Op}
 use Rattle.seat_programs.specs.declared.task.Op.TheVariants as ops
 use Rattle.seat_programs.specs.declared.task.Task.{Task}
 use Rattle.seat_programs.specs.Cores.{Core}
-use Rattle.seat_programs.specs.Runs.{from_to}
 use Rattle.seat_programs.specs.Scripts.{all_tasks, place_words}
 use Rattle.seat_programs.specs.Tasks.{Numbered, name_number, numbered, asked_of, op_of, plan_of}
 use Rattle.seat_programs.specs.Told.{IsTask, Became, Made, OpensNone, IsNoLater, IsFail}
 use Rattle.seat_programs.specs.ToldCalls.{Accepted, Order, Fixed, StandsAt, StandsOn, FoundNone, FailingBy, Seeks, IsSent, OfSend, OfCall, Why, all_accepted, label}
 use Rattle.report_fits.specs.Ends.{AreEndsOf}
-use Rattle.report_fits.proofs.Lists.{Has, has_from, contains_from, within, some_is, all_from, all_at, before_from}
-use Rattle.report_fits.proofs.Flat.{flat_has, flat_before, flat_length, from_to_at, from_to_length}
-use Rattle.report_fits.proofs.Counting.{tally, but, but_other, one_less, tally_all}
-use Rattle.report_fits.proofs.LabelCounts.{is_attempt, attempt_there, attempts_few, Differ, few as few_labels}
+use Rattle.report_fits.proofs.Lists.{Has, has_from, contains_from, within, some_is, all_at}
+use Rattle.report_fits.proofs.Labels as labels
 use Rattle.report_fits.proofs.Lines.{outcome_is}
 use Rattle.report_fits.proofs.Known.{first_number}
 use Rattle.report_fits.proofs.Numbering.{are_from}
 use Rattle.report_fits.proofs.Orders as orders
-use Rattle.report_fits.proofs.Reading.{InRange}
 use Rattle.report_fits.proofs.Reported.{is_said, SaidOrPlaced, said_or_placed, outcome_told, told_outcome}
 use Rattle.report_fits.proofs.Sizes.{is_counted, keeps_limits}
 use Rattle.report_fits.proofs.TaskLemmas.{numbers_at, asks_at, asked_at, task_is, operation_task, open_asks, send_asks, call_asks, fail_asks, named_at}
@@ -74,16 +69,6 @@ opened_is p clients outcomes fixed gave orders last c o (ops.Call asked) slot ve
 opened_is p clients outcomes fixed gave orders last c o (ops.Expire t) slot version l on w = absurd on
 opened_is p clients outcomes fixed gave orders last c o (ops.Join t) slot version l on w = absurd on
 opened_is p clients outcomes fixed gave orders last c o other slot version l on w = absurd w
-
-range_small : (item : Item) → InRange item → attempts_of item ≤ 8
-range_small (Send name bytes) h = omega arith
-range_small (Call call) h = let r = h.retry in omega (arith, r)
-range_small other h = omega arith
-
-from_to_below : (n i k : ℕ) → slice_get (from_to 0 n) i ≡ Some k → (k ≡ i) × (k < n)
-from_to_below n i k e =
-    let low : i < n = omega (arith, slice_get_within (from_to 0 n) i k e, from_to_length 0 n) in
-    let same : k ≡ 0 + i = some_is k (0 + i) (sym e ∙ from_to_at 0 n i low) in (omega (arith, same), omega (arith, same, low))
 
 module _ (r : ToldRun) where
   -- the run that is reported
@@ -213,83 +198,18 @@ module _ (r : ToldRun) where
 
   -- ## Their number
 
-  small : AllByRecursion (λ (op : Operation). attempts_of op.item ≤ 8) Ops
-  small = all_from (λ (op : Operation). attempts_of op.item ≤ 8) Ops (λ q h. range_small q.item (all_at InRange r.script q.item (is_counted r.bytes r.script r.reads).in_range (are_from 0 1 r.script h.0 q h.1).there))
-
-  abbrev pub most : ℕ
-  most = 8 * length Ops
-
-  pub labels_there : (k i : ℕ) (a : Accepted) → k < links → Stands k i a → (a.attempt < 8) × (a.operation < length Ops) × (label a < most) × (is_attempt Ops (label a) ≡ true)
-  labels_there k i a low at =
-      let w = sent_at k i a low at in
-      let inside_ : a.operation < length Ops = slice_get_within Ops a.operation w.operation w.there in
-      let few_ = all_at (λ (op : Operation). attempts_of op.item ≤ 8) Ops w.operation small (a.operation, w.there) in
-      let eight : a.attempt < 8 = omega (arith, w.counts, few_) in
-      (eight, inside_, omega (arith, eight, inside_), attempt_there Ops a.operation a.attempt w.operation w.there w.counts eight)
-
-  differ_at : (k l i j : ℕ) (a b : Accepted) → k < links → l < links → ((k ≡ l) × (i ≡ j) → ⊥) → Stands k i a → Stands l j b → Differ a b
-  differ_at k l i j a b low_k low_l other at bt same = other (r.tells.are_orders.apart k l i j a b low_k low_l at bt same)
-
-  own_differ : (k : ℕ) → k < links → EachBefore Differ (r.orders k).accepted
-  own_differ k low = before_from Differ (r.orders k).accepted (λ i j a b less at bt. differ_at k k i j a b low low (λ same. omega (arith, less, same.1)) at bt)
+  counted : (k i : ℕ) (a : Accepted) → k < links → Stands k i a → (q : Operation) × IsOp a.operation q × (a.attempt < attempts_of q.item)
+  counted k i a low at = let w = sent_at k i a low at in (w.operation, w.there, w.counts)
 
   pub inside : (k i : ℕ) (a : Accepted) → k < links → Stands k i a → (i < 4294967295) × (a.operation < length Ops) × (a.attempt < 8)
-  inside k i a low at =
-      let always : ℕ → Bool = λ j. true in
-      let bound : length (r.orders k).accepted ≤ tally always most = few_labels always most (r.orders k).accepted (own_differ k low) (λ b h. ((labels_there k h.0 b low h.1).2, refl)) in
-      let i_low : i < length (r.orders k).accepted = slice_get_within (r.orders k).accepted i a at in
-      let w = labels_there k i a low at in
-      (omega (arith, bound, i_low, tally_all most, (keeps_limits r.bytes r.script r.reads).operations), w.1, w.0)
-
-  abbrev accepted_of : ℕ → List Accepted
-  accepted_of k = (r.orders k).accepted
-
-  abbrev all_of : List Accepted
-  all_of = flat_map accepted_of (from_to 0 links)
-
-  all_differ : EachBefore Differ all_of
-  all_differ = flat_before Differ accepted_of (from_to 0 links)
-      (λ i k e. own_differ k (from_to_below links i k e).1)
-      (λ i j p q k l a b less e f at bt. (
-      let v = from_to_below links i k e in
-      let w = from_to_below links j l f in
-      differ_at k l p q a b v.1 w.1 (λ same. omega (arith, less, v.0, w.0, same.0)) at bt
-      ))
-
-  all_counted : all_accepted links r.orders ≡ length all_of
-  all_counted = sym (flat_length accepted_of (from_to 0 links))
+  inside = labels.inside_script r.script (is_counted r.bytes r.script r.reads).in_range r.orders r.tells.are_orders.apart counted (keeps_limits r.bytes r.script r.reads).operations
 
   abbrev pub IsOut : ℕ → ℕ → Type 0
   IsOut o n = (k : ℕ) → StandsOn (plan_of r.script) Tasks r.outcomes fixed r.gave r.orders o n k → ⊥
 
-  other_label : (o n k i : ℕ) (a : Accepted) → IsOut o n → n < 8 → k < links → Stands k i a → label a ≢ 8 * o + n
-  other_label o n k i a out low k_low at same =
-      let w = labels_there k i a k_low at in
-      let operation : a.operation ≡ o = omega (arith, same, low, w.0) in
-      let attempt : a.attempt ≡ n = omega (arith, same, low, w.0) in
-      out k (i, (k_low, a, at, operation, attempt))
-
   -- an attempt that no link accepted is one more than those that were accepted
   pub fewer : (o n : ℕ) (q : Operation) → IsOp o q → n < attempts_of q.item → IsOut o n → all_accepted links r.orders < attempts r.script
-  fewer o n q there counts out =
-      let few_ = all_at (λ (op : Operation). attempts_of op.item ≤ 8) Ops q small (o, there) in
-      let eight : n < 8 = omega (arith, counts, few_) in
-      let test = is_attempt Ops in
-      let place = 8 * o + n in
-      let low : place < most = omega (arith, slice_get_within Ops o q there, eight) in
-      let bound : length all_of ≤ tally (but test place) most = few_labels (but test place) most all_of all_differ (λ a h. (
-      let w = flat_has accepted_of (from_to 0 links) a h in
-      let k_low = (from_to_below links w.0 w.2 w.3).1 in
-      let l = labels_there w.2 w.1 a k_low w.4 in
-      (l.2, but_other test place (label a) (other_label o n w.2 w.1 a out eight k_low w.4) ∙ l.3)
-      )) in
-      omega (
-        arith,
-        bound,
-        all_counted,
-        one_less test place most low (attempt_there Ops o n q there counts eight),
-        attempts_few r.script small,
-      )
+  fewer o n q there counts out = labels.fewer r.script (is_counted r.bytes r.script r.reads).in_range r.orders r.tells.are_orders.apart counted o n q there counts (λ k i a low at operation attempt. out k (i, (low, a, at, operation, attempt)))
 
   -- a send of which something is said was accepted by no link
   pub send_out : (i : ℕ) (q : Operation) (name bytes : List ℕ) (o : Outcome) → IsOp i q → q.item ≡ Send name bytes → slice_get r.outcomes i ≡ Some (Some o) → IsOut i 0

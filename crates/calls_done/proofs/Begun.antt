@@ -25,7 +25,7 @@ use Rattle.callless_fits.specs.sock_deeds.proofs.Names.{was_full}
 use Rattle.callless_fits.specs.sock_deeds.proofs.Orders.{orders, accepted_stands}
 use Rattle.callless_fits.specs.sock_deeds.proofs.Tasks.{fits, task_does}
 use Rattle.callless_fits.specs.sock_deeds.proofs.Whole.{fixed, log_accepted}
-use Rattle.calls_done.specs.Begun.{FirstAttempt, stands, became_unopened, found_failing, found_full}
+use Rattle.calls_done.specs.Begun.{FirstAttempt, Stands, BecameUnopened, FoundFailing, FoundFull}
 
 module _ {O : Type 0} {g : Ghosts O} {state : O → OutState} {p : Plan} {clients : List (List Task)} {outcomes : List (Option Outcome)} {places : List PlaceWord} {vrefs : List Vref} {outs : List O} (run : DeedRun g state p clients outcomes places vrefs outs) (differ : PlacesDiffer (log run)) (gave : ℕ → List ℕ) where
   abbrev First : ℕ → ℕ → Type 0
@@ -37,17 +37,17 @@ module _ {O : Type 0} {g : Ghosts O} {state : O → OutState} {p : Plan} {client
   failing_by k i h (by_reader e) = inr (inr (inl e))
 
   by_dead : (a : Act run) (n o : ℕ) (P : ℕ → Type 0) → FoundDead run a n P → First o n
-  by_dead a n o P d = found_failing d.link d.slot d.version d.made (failing_by d.link d.slot d.version d.why)
+  by_dead a n o P d = FoundFailing d.link d.slot d.version d.made (failing_by d.link d.slot d.version d.why)
 
   -- by what became of its message
   by_message : (a : Act run) (n o : ℕ) (msg : Letter) (by : Option Outcome) → n < p.names → did_of run a ≡ sends n o 0 msg by → (by ≡ Some outcome.Unopened → Became clients outcomes o outcome.Unopened) → MessageBy state p n msg by (before run a) (after run a) → First o n
-  by_message a n o msg None named is un b = let at = accepted_stands run differ (fixed run differ gave) gave a n o 0 msg is in stands at.0 at.1
-  by_message a n o msg (Some outcome.Unopened) named is un b = became_unopened (un refl)
+  by_message a n o msg None named is un b = let at = accepted_stands run differ (fixed run differ gave) gave a n o 0 msg is in Stands at.0 at.1
+  by_message a n o msg (Some outcome.Unopened) named is un b = BecameUnopened (un refl)
   by_message a n o msg (Some (outcome.Gone found)) named is un b = by_dead a n o (λ version. vref_version found.0 ≡ version → ⊥) (elim b [ inl r ↦ gone_cause run a none_ n named found r | inr s ↦ refused_cause run a none_ n named found msg s ])
     where
       none_ : FailsNone run a
       none_ name number code e = let same : sends n o 0 msg (Some (outcome.Gone found)) ≡ fails name number code outcome.Failed = sym is ∙ e in cc
-  by_message a n o msg (Some outcome.Full) named is un b = found_full (let full = was_full run a n msg b in let all = log_accepted run differ gave in omega (arith, full, all))
+  by_message a n o msg (Some outcome.Full) named is un b = FoundFull (let full = was_full run a n msg b in let all = log_accepted run differ gave in omega (arith, full, all))
   by_message a n o msg (Some other) named is un b = elim b [ ]
 
   pub first_attempt : (c o : ℕ) (asked : Asked) → IsOperation clients outcomes c o (ops.Call asked) → First o (name_of asked 0)

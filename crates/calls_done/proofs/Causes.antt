@@ -1,6 +1,6 @@
 -- Where nothing went wrong, a served call that no `expire` names has the reply to its own request, or its name had no socket yet, or whoever read the links ended it.
-use Rattle.std.proofs.Common.{◌≡◌, ◌≢◌, ℕ, zero, suc, ◌+◌, ◌<◌, ◌⊎◌, inl, inr, Bool, true, false, List, [], length, slice_get, option_and_then, Some, None, refl, sym, ap, ◌∙◌, subst, arith}
-use Rattle.std.specs.Prelude.{ℤ, pos, negsuc, Contains}
+use Rattle.std.proofs.Common.{◌≡◌, ℕ, ◌+◌, ◌<◌, ◌⊎◌, inl, inr, Bool, true, false, List, [], length, slice_get, option_and_then, Some, None, refl, sym, ap, ◌∙◌, subst, arith}
+use Rattle.std.specs.Prelude.{ℤ, pos, Contains}
 use Rattle.sock_words.specs.declared.outcome.Outcome.{Outcome}
 use Rattle.sock_words.specs.declared.outcome.Outcome.TheVariants.{Unopened, Answered, Peer, CallFailed}
 use Rattle.brpc_model.specs.Attempts.{IsResponse}
@@ -35,6 +35,7 @@ use Rattle.calls_done.specs.Owed.{GivesWell}
 use Rattle.callless_fits.proofs.Sends.{run_of, Names, Words, links, task_at, said_or_placed_at, find_none, life_low}
 use Rattle.calls_done.proofs.Links.{LinkAt, link_at, unserved, unsent, faultless}
 use Rattle.calls_done.proofs.Calm.{Sent_, sent_at, no_fail, unfull, no_loss, last_first}
+use Rattle.served_told.specs.served_calls.proofs.Calls.{none_given, gives_answer, gives_peer}
 
 -- ## Replies
 
@@ -46,18 +47,6 @@ answer_plain id (Refuses code text) = refl
 pub reply_plain : (call : CallLine) (id : ℕ) (frame : Frame) → reply (request_frame call id) ≡ Some frame → frame.meta.compress_type ≡ pos 0
 reply_plain call id frame is = let a : Answer = served (pos 0) (record { service = call.service; method = call.method; log_id = None }) call.payload call.attachment in
     subst (λ (f : Frame). f.meta.compress_type ≡ pos 0) (some_is (answered_by id a) frame is) (answer_plain id a)
-
--- no bytes are no frame
-none_given : (bytes : List ℕ) (n : ℕ) (frame : Frame) → bytes ≡ [] → slice_get (stream bytes).frames n ≡ Some frame → ⊥
-none_given bytes n frame none_ there = let w : None ≡ Some frame = sym (ap (λ l. slice_get (stream l).frames n) none_) ∙ there in cc
-
-gives_answer : (id : ℕ) (code : ℤ) (frame : Frame) (payload attachment : List ℕ) → code ≡ pos 0 → frame.payload ≡ payload → frame.attachment ≡ attachment → Gives id code frame (Answered id payload attachment)
-gives_answer id code frame payload attachment zero_ p a = subst (λ c. Gives id c frame (Answered id payload attachment)) (sym zero_) ((λ i. Answered id (sym p i) attachment) ∙ (λ i. Answered id frame.payload (sym a i)))
-
-gives_peer : (id : ℕ) (code : ℤ) (frame : Frame) → code ≢ pos 0 → Gives id code frame (Peer id code)
-gives_peer id (pos zero) frame other = absurd (other refl)
-gives_peer id (pos (suc n)) frame other = refl
-gives_peer id (negsuc n) frame other = refl
 
 module _ (s : Known) (untroubled : IsUntroubled s.run.script s.run.ends) (none_early : (k : ℕ) → k < links s.run → Contains s.run.early k → ⊥) (well : GivesWell (run_of s.run)) where
   module _ (i : ℕ) (op : Operation) (call : CallLine) (there : IsOperation (run_of s.run) i op) (item : op.item ≡ Call call) where

@@ -17,14 +17,14 @@ use Rattle.seat_programs.specs.Told.{Became}
 use Rattle.seat_programs.specs.ToldCalls as told
 use Rattle.seat_programs.specs.ToldCalls.{Accepted, StandsAt, StandsOn, MayBeOn, label}
 use Rattle.sock_message.specs.Asked.{Asked, name_of}
-use Rattle.callless_fits.proofs.Sends.{run_of, links, labels_there, unfailed, life_low}
+use Rattle.callless_fits.proofs.Sends.{run_of, links, inside, unfailed, life_low}
 use Rattle.callless_fits.specs.sock_deeds.specs.Told.{fixed_by}
 use Rattle.failed_told.specs.Ends.{AtFault, AtEnd, AtFaultDrop, AtEndDrop, LeftOver}
 use Rattle.calls_done.proofs.Calm.{WasFull_, no_drop, unfull}
 use Rattle.calls_done.proofs.Causes.{asked, task, Ended_}
 use Rattle.calls_done.proofs.Known.{Known}
 use Rattle.calls_done.proofs.Links.{link_at, faultless}
-use Rattle.calls_done.specs.Begun.{FirstAttempt, stands, became_unopened, found_failing, found_full}
+use Rattle.calls_done.specs.Begun.{FirstAttempt, Stands, BecameUnopened, FoundFailing, FoundFull}
 use Rattle.calls_done.specs.Owed.{GivesWell}
 
 module _ (s : Known) (untroubled : IsUntroubled s.run.script s.run.ends) (none_early : (k : ℕ) → k < links s.run → Contains s.run.early k → ⊥) (well : GivesWell (run_of s.run)) (i : ℕ) (op : Operation) (call : CallLine) (there : IsOperation (run_of s.run) i op) (item : op.item ≡ Call call) where
@@ -47,13 +47,13 @@ module _ (s : Known) (untroubled : IsUntroubled s.run.script s.run.ends) (none_e
 
   by_word : WasFull_ s untroubled none_early → (word (8 * i) ≡ 0) ⊎ ((k p : ℕ) × (a : Accepted) × (k < links s.run) × StandsAt s.run.orders k p a × (8 * i ≡ label a)) → (k : ℕ) × On_ k
   by_word full (inl none_) = absurd (unfull s untroubled none_early i op call there item (unplaced none_) full)
-  by_word full (inr (k, p, a, low, at, same)) = let few = (labels_there s.run k p a low at).0 in (k, (p, (low, a, at, omega (arith, same, few), omega (arith, same, few))))
+  by_word full (inr (k, p, a, low, at, same)) = let few = (inside s.run k p a low at).2 in (k, (p, (low, a, at, omega (arith, same, few), omega (arith, same, few))))
 
   by_first : (id code : ℕ) → Became (all_tasks s.run.script) s.run.outcomes i (CallFailed id code) → FirstAttempt (plan_of s.run.script) (all_tasks s.run.script) s.run.outcomes (fixed_by s.run.broken s.run.early s.run.fails) s.run.gave s.run.orders i (name_of its 0) → (k : ℕ) × On_ k
-  by_first id code b (stands k on) = (k, on)
-  by_first id code b (became_unopened unopened) = absurd (let e : Some (Some Unopened) ≡ Some (Some (CallFailed id code)) = sym unopened ∙ b in cc)
-  by_first id code b (found_failing k slot version life failing) = absurd (unfailed s.run untroubled none_early (λ f. Unit {0}) k (life_low s.run untroubled none_early (name_of its 0) k slot version life) failing)
-  by_first id code b (found_full full) = by_word full (s.run.tells.are_orders.alone (8 * i) (let low = slice_get_within (operations s.run.script) i op there in omega (arith, low)))
+  by_first id code b (Stands k on) = (k, on)
+  by_first id code b (BecameUnopened unopened) = absurd (let e : Some (Some Unopened) ≡ Some (Some (CallFailed id code)) = sym unopened ∙ b in cc)
+  by_first id code b (FoundFailing k slot version life failing) = absurd (unfailed s.run untroubled none_early (λ f. Unit {0}) k (life_low s.run untroubled none_early (name_of its 0) k slot version life) failing)
+  by_first id code b (FoundFull full) = by_word full (s.run.tells.are_orders.alone (8 * i) (let low = slice_get_within (operations s.run.script) i op there in omega (arith, low)))
 
   -- stands in an order
   pub call_stands : (id code : ℕ) → Became (all_tasks s.run.script) s.run.outcomes i (CallFailed id code) → (k : ℕ) × On_ k

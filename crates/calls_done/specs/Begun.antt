@@ -7,9 +7,10 @@ use Rattle.seat_programs.specs.declared.task.Task.{Task}
 use Rattle.seat_programs.specs.Told.{Became, Made}
 use Rattle.seat_programs.specs.ToldCalls.{Fixed, Order, StandsOn, IsFailing, WasFull}
 
--- The first attempt of the call that is operation o, under its first name: a link accepted it; or the call became unopened; or an `open` of the name made a life whose link was failing; or each request may have been found taken
+-- The first attempt of the call that is operation o, under its first name: a link accepted it; or the call became
+-- unopened; or an `open` of the name made a life whose link was failing; or each request may have been found taken
 pub data FirstAttempt (p : Plan) (clients : List (List Task)) (outcomes : List (Option Outcome)) (fixed : Fixed) (gave : ℕ → List ℕ) (orders : ℕ → Order) (o name : ℕ) : Type 0 where
-  stands : (k : ℕ) → StandsOn p clients outcomes fixed gave orders o 0 k → FirstAttempt p clients outcomes fixed gave orders o name
-  became_unopened : Became clients outcomes o Unopened → FirstAttempt p clients outcomes fixed gave orders o name
-  found_failing : (k slot version : ℕ) → Made clients outcomes name k slot version → IsFailing p clients outcomes fixed gave orders k → FirstAttempt p clients outcomes fixed gave orders o name
-  found_full : WasFull p clients outcomes fixed gave orders → FirstAttempt p clients outcomes fixed gave orders o name
+  Stands : (k : ℕ) → StandsOn p clients outcomes fixed gave orders o 0 k → FirstAttempt p clients outcomes fixed gave orders o name
+  BecameUnopened : Became clients outcomes o Unopened → FirstAttempt p clients outcomes fixed gave orders o name
+  FoundFailing : (k slot version : ℕ) → Made clients outcomes name k slot version → IsFailing p clients outcomes fixed gave orders k → FirstAttempt p clients outcomes fixed gave orders o name
+  FoundFull : WasFull p clients outcomes fixed gave orders → FirstAttempt p clients outcomes fixed gave orders o name

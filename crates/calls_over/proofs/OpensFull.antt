@@ -18,7 +18,7 @@ use Rattle.sock_model.specs.Tokens.{Tokens}
 use Rattle.chain_steps.proofs.Frames.{no_token}
 use Rattle.chain_steps.proofs.Totals.{log_full}
 use Rattle.sock_steps.proofs.Maps.{gather_nil}
-use Rattle.brpc_model.specs.Items.{Item, Send, Call, attempts_of}
+use Rattle.brpc_model.specs.Items.{Item, attempts_of}
 use Rattle.brpc_model.specs.Operations.{Operation, Turn, operations, attempts, requests}
 use Rattle.brpc_model.specs.Order.{EachBefore}
 use Rattle.brpc_model.specs.Script.{script_of}
@@ -29,6 +29,7 @@ use Rattle.report_fits.proofs.Lists.{all_from, all_at, before_from}
 use Rattle.report_fits.proofs.Numbering.{are_from}
 use Rattle.report_fits.proofs.Places.{known_of}
 use Rattle.report_fits.proofs.Reading.{InRange}
+use Rattle.report_fits.proofs.Labels.{range_small}
 use Rattle.seat_programs.specs.Cores.{Core}
 use Rattle.seat_programs.specs.Scripts.{all_tasks, played, IsRunWithCalls}
 use Rattle.seat_programs.specs.Tasks.{plan_of}
@@ -41,11 +42,6 @@ use Rattle.served_fits.specs.send_causes.proofs.ClosedLostTicks.{AreTaken}
 use Rattle.served_fits.specs.send_causes.proofs.Sends.{orders_of_run}
 use Rattle.calls_over.proofs.OpensEntered.{early_log, late_log, rested_sound, idle_there, StandsLater, stands_later}
 use Rattle.served_fits.specs.send_causes.proofs.LateRests.{NoOld}
-
-range_small : (item : Item) → InRange item → attempts_of item ≤ 8
-range_small (Send name bytes) h = omega arith
-range_small (Call call) h = let r = h.retry in omega (arith, r)
-range_small other h = omega arith
 
 count_up_length : (n : ℕ) → length (count_up n) ≡ n
 count_up_length zero = refl

@@ -10,7 +10,7 @@ use Rattle.sock_model.specs.declared.chain.Stage.{Stage}
 use Rattle.sock_model.specs.declared.chain.Right.{Right}
 use Rattle.sock_model.specs.declared.chain.Claim.{Claim}
 use Rattle.sock_model.specs.declared.chain.Loose.{Loose}
-use Rattle.sock_model.specs.declared.chain.Stage.TheVariants.{Writes, Placed, Passes, Empties, Walks, Turns}
+use Rattle.sock_model.specs.declared.chain.Stage.TheVariants.{Turns}
 use Rattle.sock_model.specs.Tokens.{Tokens}
 use Rattle.sock_model.specs.Memory.{Memory}
 use Rattle.sock_model.specs.Writing.{Counts, Points, OnWalk, InStage, Held, Standing, absent, idle, busy}
@@ -43,16 +43,12 @@ module _ (m m' : Memory) (t t' : Tokens) where
   AgreeStill c freed = (i : ℕ) (e : Entry) → freed ≤ i → get_elem? c i ≡ some e → t.loose e.request ≡ [] → (m'.next e.request ≡ m.next e.request) × (t'.loose e.request ≡ t.loose e.request)
 
   pub stage_frame : (c : List Entry) (n : Counts) (freed places : ℕ) (s : Stage) → AgreeStill c freed → InStage m t c n freed places s → InStage m' t' c n freed places s
-  stage_frame c n freed places (Writes now) a h = h
-  stage_frame c n freed places (Placed now) a h = h
-  stage_frame c n freed places (Passes now next) a h = h
-  stage_frame c n freed places Empties a h = h
-  stage_frame c n freed places (Walks top at after) a h = h
   stage_frame c n freed places (Turns top at after before) a h = (
     h.0,
     λ j e q g. let w : OnWalk c n freed places top at after = h.0 in let b = w.some_left in let f = w.all_freed in
         let k = h.1 j e q g in let p = a j e (omega arith) g k.1.1 in (k.0, (p.0 ∙ k.1.0, p.1 ∙ k.1.1)),
   )
+  stage_frame c n freed places _ a h = h
 
   pub points_frame : (c : List Entry) (n : Counts) (i : ℕ) (e : Entry) (x x' : ℕ) (l l' : List Loose) → x' ≡ x → l' ≡ l → Points c n i e x l → Points c n i e x' l'
   points_frame c n i e x x' l l' p q h = subst (λ y. Points c n i e y l') (sym p) (subst (λ z. Points c n i e x z) (sym q) h)

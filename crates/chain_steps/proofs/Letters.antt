@@ -29,12 +29,9 @@ writes_same : (a b : ℕ) → Writes a ≡ Writes b → a ≡ b
 writes_same a b e = cc
 
 some_places : (m : Memory) (t : Tokens) (c : List Entry) (n : Counts) (freed places : ℕ) (s : Stage) → InStage m t c n freed places s → freed ≤ places
-some_places m t c n freed places (Writes now) h = (let k = h.1 in omega arith)
-some_places m t c n freed places (Placed now) h = (let k = h.1 in omega arith)
-some_places m t c n freed places (Passes now next) h = (let k = h.1 in omega arith)
-some_places m t c n freed places Empties h = (let k = h.1 in omega arith)
 some_places m t c n freed places (Walks top at after) h = (let k = h.all_freed in omega arith)
 some_places m t c n freed places (Turns top at after before) h = (let k = h.0.all_freed in omega arith)
+some_places m t c n freed places _ h = (let k = h.1 in omega arith)
 
 most_places : (m : Memory) (t : Tokens) (c : List Entry) (n : Counts) (freed places : ℕ) (s : Stage) → freed ≤ n.noted → InStage m t c n freed places s → places ≤ n.noted
 most_places m t c n freed places (Writes now) f h = (let k = h.1 in omega arith)

@@ -11,34 +11,20 @@ use Rattle.sock_words.specs.declared.plain.Plan.{Plan}
 use Rattle.seat_programs.specs.declared.task.Op.TheVariants as ops
 use Rattle.seat_programs.specs.declared.task.Task.{Task}
 use Rattle.corr_core.specs.Law.{total}
-use Rattle.corr_core.specs.declared.marks.Note.TheVariants.{Made as made_note}
 use Rattle.corr_core.specs.declared.marks.Plan as id_plan
 use Rattle.corr_core.specs.declared.marks.View.{View}
-use Rattle.corr_core.proofs.Notes.{only-else, pair-same}
-use Rattle.id_rule.specs.Lawful.{call_index, notes_of, is_stored}
+use Rattle.corr_core.proofs.Notes.{only-else}
+use Rattle.id_rule.specs.Lawful.{call_index}
 use Rattle.sock_message.specs.Asked.{Asked}
-use Rattle.corr_id.specs.Calls.{slot_of, version_of, one}
-use Rattle.call_told.specs.call_attempts.specs.Both.{Both}
-use Rattle.call_told.specs.call_attempts.specs.declared.calling.Called.TheVariants as called
-use Rattle.call_told.specs.call_attempts.specs.Calling.{CalledBy}
 use Rattle.call_told.specs.call_client.specs.Acting.{both_of}
 use Rattle.call_told.specs.call_client.specs.Running.{Course, Made, Ran}
-use Rattle.call_told.specs.call_client.proofs.Telling.{did_total}
-use Rattle.call_told.specs.Least.{is_made_for, HasBegun}
-use Rattle.call_told.proofs.Ends.{made_silent, counted_here}
+use Rattle.call_told.specs.Least.{HasBegun}
 use Rattle.call_told.proofs.Growing.{Grows, own_at}
 use Rattle.call_told.proofs.Lists.{all_at}
-use Rattle.call_told.proofs.Moves.{Fits}
-use Rattle.expire_told.proofs.Going.{Goes, attempted_by, retried_here, begun_by, BeginsCall, acted_or, made_goes}
+use Rattle.call_told.proofs.Moves.{Fits, Moves, retried_here, begun_by, BeginsCall, acted_or, made_moves}
+use Rattle.call_told.proofs.Coming.{begun_later, made_begun}
 
 module _ (q : id_plan.Plan) where
-  pub begun_later : (x n operation id : ℕ) (v w : View Asked) → Grows x n v w → HasBegun q operation id v → HasBegun q operation id w
-  begun_later x n operation id v w g h = record {
-    inside = h.inside;
-    made = (let a = g.notes (slot_of id) (is_made_for (version_of id) operation) in let b = h.made in omega arith);
-    stored = (let a = g.kept (is_stored (call_index q operation) id) in let b = h.stored in omega arith);
-  }
-
   -- one of the first operations is this call, and it has begun
   pub record BegunIn (o : ℕ) (xs : List Task) (v : View Asked) : Type 0 where
     pub place : ℕ
@@ -54,17 +40,6 @@ module _ (q : id_plan.Plan) where
   stays o xs n v w grows b = record { place = b.place; task = b.task; there = b.there; asked = b.asked; is_call = b.is_call; operation = b.operation; id = b.id; begun = begun_later (call_index q o) n o b.id v w grows b.begun }
 
   module _ {O : Type 0} (state : O → OutState) (p : Plan) where
-    -- the id of a call is made and noted
-    pub made_begun : (asked : Asked) (id : ℕ) (s t : Both) → CalledBy state p q asked (called.Begun id) s t → HasBegun q asked.operation id t.calls.view
-    made_begun asked id s t h =
-        let m = h.made_for in let u = h.at.calls.view in let o = asked.operation in let slot = slot_of id in let f = version_of id in
-        let notes = did_total (is_made_for f o) (made_silent f o) slot s.calls.view m.view _ (one slot (made_note f asked.range asked)) m.made.did slot in
-        let here = counted_here (is_made_for f o) slot (made_note f asked.range asked) in let one_ = pair-same f o in
-        let noted = ap (λ (y : View Asked). total (is_made_for f o) (notes_of slot y.notes)) m.noted in
-        let kept = ap (λ (y : View Asked). total (is_stored (call_index q o) id) y.kept) m.noted in let here' = pair-same (call_index q o) id in
-        let begun : HasBegun q o id u = record { inside = m.made.inside; made = omega arith; stored = omega arith } in
-        begun_later (call_index q 0) 0 o id u t.calls.view (attempted_by q 0 state p h.socket _ h.at t h.attempted).grows begun
-
     module _ {g : Ghosts O} (o : ℕ) where
       -- no id was stored for it yet, and then one is
       made_stored : (xs : List Task) (n : ℕ) (x : Task) (s t : Course g) → get_elem? xs n ≡ some x → Made state p q x s t → total (own_at (call_index q o)) s.has.calls.view.kept ≡ 0 → 0 < total (own_at (call_index q o)) t.has.calls.view.kept → BegunIn o xs t.has.calls.view
@@ -77,7 +52,7 @@ module _ (q : id_plan.Plan) where
               (λ e. record { place = n; task = x; there = at; asked = b.asked; is_call = b.is_call; operation = e; id = b.id; begun = subst (λ (y : ℕ). HasBegun q y b.id t.has.calls.view) e (made_begun b.asked b.id (both_of m.ready) (both_of t.has) b.called) })
               (λ ne. absurd (let a = (begun_by q o state p b.asked b.id (both_of m.ready) (both_of t.has) b.called).grows.own in let c = only-else o b.asked.operation ne in omega (arith, some_, zero_, a, c)))
 
-          by : Goes q o 0 m.ready.calls t.has.calls ⊎ BeginsCall q o state p x.op m.ready t.has → total (own_at (call_index q o)) m.ready.calls.view.kept ≡ 0 → BegunIn o xs t.has.calls.view
+          by : Moves q o 0 m.ready.calls t.has.calls ⊎ BeginsCall q o state p x.op m.ready t.has → total (own_at (call_index q o)) m.ready.calls.view.kept ≡ 0 → BegunIn o xs t.has.calls.view
           by (inl goes) zero_ = absurd (let a = goes.grows.own in omega (arith, some_, zero_, a))
           by (inr b) zero_ = begins b zero_
 
@@ -85,4 +60,4 @@ module _ (q : id_plan.Plan) where
       ran_stored xs fits zero s t h none_ some_ = absurd (let e = ap (λ (c : Course g). total (own_at (call_index q o)) c.has.calls.view.kept) h in omega (arith, none_, some_, e))
       ran_stored xs fits (suc n) s t h none_ some_ = dite (ℕ_discrete (total (own_at (call_index q o)) h.0.has.calls.view.kept) 0)
           (λ z. made_stored xs n h.1 h.0 t h.3 h.4 z some_)
-          (λ ne. stays o xs _ h.0.has.calls.view t.has.calls.view (made_goes q o state p h.1 h.0 t (all_at Fits xs n h.1 fits h.3) h.4).grows (ran_stored xs fits n s h.0 h.2 none_ (omega (arith, ne))))
+          (λ ne. stays o xs _ h.0.has.calls.view t.has.calls.view (made_moves q o state p h.1 h.0 t (all_at Fits xs n h.1 fits h.3) h.4).grows (ran_stored xs fits n s h.0 h.2 none_ (omega (arith, ne))))

@@ -19,17 +19,16 @@ use Rattle.call_told.specs.call_client.specs.declared.caller.Caller.{Caller}
 use Rattle.call_told.specs.call_client.specs.Acting.{Stand, stand}
 use Rattle.call_told.specs.call_client.specs.Running.{Course, Made, Ran, begins, RunBy}
 use Rattle.call_told.proofs.Lists.{all_at}
-use Rattle.call_told.proofs.Moves.{Fits}
+use Rattle.call_told.proofs.Moves.{Fits, Moves, moves_then, moves_same, made_moves, end_moves}
 use Rattle.call_told.proofs.Runs.{none_left}
-use Rattle.expire_told.proofs.Going.{Goes, goes_then, goes_same, made_goes, end_goes}
 
 module _ (q : id_plan.Plan) where
   -- whatever is asked of the words of calls, it went on from here to there
   abbrev pub GoesOn : CallStand → CallStand → Type 0
-  GoesOn s t = (o : ℕ) → (k : ℕ) × Goes q o k s t
+  GoesOn s t = (o : ℕ) → (k : ℕ) × Moves q o k s t
 
   pub on_then : (s u t : CallStand) → GoesOn s u → GoesOn u t → GoesOn s t
-  on_then s u t a b o = let x = a o in let y = b o in (x.0 + y.0, goes_then q o x.0 y.0 (x.0 + y.0) s u t (omega arith) x.1 y.1)
+  on_then s u t a b o = let x = a o in let y = b o in (x.0 + y.0, moves_then q o x.0 y.0 (x.0 + y.0) s u t (omega arith) x.1 y.1)
 
 module _ {O : Type 0} {g : Ghosts O} (state : O → OutState) (p : Plan) (q : id_plan.Plan) where
   -- operation i of a run
@@ -49,7 +48,7 @@ module _ {O : Type 0} {g : Ghosts O} (state : O → OutState) (p : Plan) (q : id
         after = t;
         ran = subst (λ (k : ℕ). Ran state p q xs k s h.0) (sym e) h.2;
         made = subst (λ (y : Task). Made state p q y h.0 t) same h.4;
-        later = λ o. (0, goes_same q o 0 t.has.calls t.has.calls refl);
+        later = λ o. (0, moves_same q o 0 t.has.calls t.has.calls refl);
         told = ([], sym (append-nil t.told));
       })
       (λ ne. let r = ran_split xs fits n s h.0 h.2 i x (omega (arith, low, ne)) at in record {
@@ -57,7 +56,7 @@ module _ {O : Type 0} {g : Ghosts O} (state : O → OutState) (p : Plan) (q : id
         after = r.after;
         ran = r.ran;
         made = r.made;
-        later = on_then q r.after.has.calls h.0.has.calls t.has.calls r.later (λ o. (_, made_goes q o state p h.1 h.0 t (all_at Fits xs n h.1 fits h.3) h.4));
+        later = on_then q r.after.has.calls h.0.has.calls t.has.calls r.later (λ o. (_, made_moves q o state p h.1 h.0 t (all_at Fits xs n h.1 fits h.3) h.4));
         told = (r.told.0 ++ telling h.1.number h.4.by, h.4.told ∙ (ap (λ (l : List Told). l ++ telling h.1.number h.4.by) r.told.1 ∙ append_assoc r.after.told r.told.0 (telling h.1.number h.4.by)));
       })
 
@@ -78,7 +77,7 @@ module _ {O : Type 0} {g : Ghosts O} (state : O → OutState) (p : Plan) (q : id
         after = w.after;
         ran = w.ran;
         made = w.made;
-        later = on_then q w.after.has.calls (stand_of r.came.calls) (stand_of d.calls) w.later (λ o. (0, end_goes q o state p xs c d r));
+        later = on_then q w.after.has.calls (stand_of r.came.calls) (stand_of d.calls) w.later (λ o. (0, end_moves q o state p xs c d r));
         told = (w.told.0, ap (λ o. o.items) r.told ∙ w.told.1);
       }
 

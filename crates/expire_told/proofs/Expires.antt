@@ -47,7 +47,7 @@ use Rattle.call_told.specs.call_client.specs.Running.{begins, MayMakeAll}
 use Rattle.call_told.specs.call_run.specs.Readers.{LinkReader}
 use Rattle.call_told.specs.call_run.specs.Threads.{Thread, RanWith, AllMayRun, MayRunAll, ids_of}
 use Rattle.call_told.specs.call_places.specs.Counted.{HaveNotesOf}
-use Rattle.call_told.specs.call_places.proofs.Weights.{term, two_terms, mapped}
+use Rattle.call_told.specs.call_places.proofs.Weights.{term, two_terms}
 use Rattle.call_told.specs.call_places.proofs.Numbers.{numbered_once}
 use Rattle.call_told.specs.call_places.proofs.Clients.{Client, total_map, view_of, tasks_of}
 use Rattle.call_told.specs.call_places.proofs.Places.{all as all_clients, all_are, views_are, tasks_are}
@@ -56,14 +56,15 @@ use Rattle.call_told.proofs.Balance.{noted_ends}
 use Rattle.call_told.proofs.Growing.{own_at}
 use Rattle.call_told.proofs.Least.{end_number}
 use Rattle.call_told.proofs.Lists.{all_at}
-use Rattle.call_told.proofs.Moves.{Fits, is_task}
+use Rattle.call_told.proofs.Moves.{Fits, is_task, expired_by, retried_here, made_moves, end_moves, run_moves}
 use Rattle.call_told.proofs.Resting.{is_word}
+use Rattle.call_told.proofs.Coming.{begun_later, made_begun}
 use Rattle.expire_told.specs.Said.{AreSaid, AreOfCalls, HaveKeptOf}
-use Rattle.expire_told.proofs.Going.{expired_by, retried_here, made_goes, end_goes, run_goes}
 use Rattle.expire_told.proofs.Doing.{GoesOn, on_then, Split, ran_split, Done, done_of, run_fed}
-use Rattle.expire_told.proofs.Begun.{begun_later, BegunIn, made_begun, ran_stored}
-use Rattle.expire_told.proofs.Making.{mapped_from, elem_at, before_in, word_is, owned, placed, same_stored}
+use Rattle.expire_told.proofs.Begun.{BegunIn, ran_stored}
+use Rattle.expire_told.proofs.Making.{before_in, word_is, owned, placed, same_stored}
 use Rattle.expire_told.proofs.Expiring.{EndsAs, timed_out_word, timed_out_ends}
+use Rattle.call_told.specs.sock_deeds.proofs.Places.{map_back, to_elem, map_there}
 
 -- ## Calls have their own numbers
 
@@ -119,10 +120,10 @@ module _ {O : Type 0} {g : Ghosts O} {state : O → OutState} {readers : List (L
   -- ## Clients and their tasks
 
   client_at : (c : ℕ) (ts : List Task) → slice_get every c ≡ Some ts → (x : Client g state p q) × (get_elem? crew c ≡ some x) × (tasks_of x ≡ ts)
-  client_at c ts e = mapped_from tasks_of crew c ts (ap (λ (l : List (List Task)). get_elem? l c) (tasks_are run) ∙ elem_at every c ts e)
+  client_at c ts e = map_back tasks_of crew c ts (ap (λ (l : List (List Task)). get_elem? l c) (tasks_are run) ∙ to_elem every c ts e)
 
   pub tasks_at : (c : ℕ) (x : Client g state p q) → get_elem? crew c ≡ some x → get_elem? every c ≡ some (tasks_of x)
-  tasks_at c x at = ap (λ (l : List (List Task)). get_elem? l c) (sym (tasks_are run)) ∙ mapped tasks_of crew c x at
+  tasks_at c x at = ap (λ (l : List (List Task)). get_elem? l c) (sym (tasks_are run)) ∙ map_there tasks_of crew c x at
 
   pub fits : (c : ℕ) (x : Client g state p q) → get_elem? crew c ≡ some x → AllByRecursion Fits (tasks_of x)
   fits c x at = all_at (AllByRecursion Fits) every c (tasks_of x) (all_fits p q setup _ may.setup_may.may, each_fits p q clients may.clients_may) (tasks_at c x at)
@@ -138,7 +139,7 @@ module _ {O : Type 0} {g : Ghosts O} {state : O → OutState} {readers : List (L
   pub made_of : (c : ℕ) (t : Task) → IsTask every outcomes c t → IsMade c t
   made_of c t is =
       let x = client_at c is.0 is.1 in let h = has_from is.0 t is.2 in
-      let there : get_elem? (tasks_of x.0) h.0 ≡ some t = ap (λ (l : List Task). get_elem? l h.0) x.2 ∙ elem_at is.0 h.0 t h.1 in record {
+      let there : get_elem? (tasks_of x.0) h.0 ≡ some t = ap (λ (l : List Task). get_elem? l h.0) x.2 ∙ to_elem is.0 h.0 t h.1 in record {
         client = x.0;
         at = x.1;
         place = h.0;
@@ -150,7 +151,7 @@ module _ {O : Type 0} {g : Ghosts O} {state : O → OutState} {readers : List (L
   pub own_told : (c : ℕ) (t : Task) (m : IsMade c t) (o : Outcome) → m.done.made.by ≡ Some o → Became every outcomes t.number o
   own_told c t m o is =
       let f : Thread g → List Told = λ x. x.ended.outcomes.items in let d = m.done in let one : Told = record { number = t.number; outcome = o } in
-      let list : get_elem? told c ≡ some m.client.thread.ended.outcomes.items = ap (λ (l : List (List Told)). get_elem? l c) (sym (all_are run f ∙ run.ran.told_is)) ∙ mapped (λ (x : Client g state p q). f x.thread) crew c m.client m.at in
+      let list : get_elem? told c ≡ some m.client.thread.ended.outcomes.items = ap (λ (l : List (List Told)). get_elem? l c) (sym (all_are run f ∙ run.ran.told_is)) ∙ map_there (λ (x : Client g state p q). f x.thread) crew c m.client m.at in
       let behind : d.after.told ≡ d.before.told ++ one ∷ [] = d.made.told ∙ ap (λ (b : Option Outcome). d.before.told ++ telling t.number b) is in
       said_own c (length d.before.told + 0) m.client.thread.ended.outcomes.items one list
       (ap (λ (l : List Told). get_elem? l (length d.before.told + 0)) (d.told.1 ∙ ap (λ (l : List Told). l ++ d.told.0) behind)
@@ -178,7 +179,7 @@ module _ {O : Type 0} {g : Ghosts O} {state : O → OutState} {readers : List (L
   -- a client stores as many ids for an operation as it has tasks of that number
   own_stored : (c : ℕ) (x : Client g state p q) → get_elem? crew c ≡ some x → (o : ℕ) → total (own_at (call_index q o)) (view_of x).kept ≤ total (is_task o) (tasks_of x)
   own_stored c x at o =
-      let a = (run_goes q o state p x.thread.tasks x.thread.began x.thread.ended (fits c x at) x.is.ran).grows.own in
+      let a = (run_moves q o state p x.thread.tasks x.thread.began x.thread.ended (fits c x at) x.is.ran).grows.own in
       let b = ap (λ (m : Me (Option Asked) (View Asked)). total (own_at (call_index q o)) m.0.kept) x.is.ids in omega arith
 
   -- which is one at most
@@ -209,7 +210,7 @@ module _ {O : Type 0} {g : Ghosts O} {state : O → OutState} {readers : List (L
   maker : (o id c : ℕ) (x : Client g state p q) → get_elem? crew c ≡ some x → 0 < total (is_stored (call_index q o) id) (view_of x).kept → IsMaker o id
   maker o id c x at stored =
       let r = x.is.ran in let w = call_index q o in
-      let e = end_goes q o state p x.thread.tasks x.thread.began x.thread.ended r in
+      let e = end_moves q o state p x.thread.tasks x.thread.began x.thread.ended r in
       let a = owned w id (view_of x).kept in let b = e.grows.own in
       let none_ = ap (λ (m : Me (Option Asked) (View Asked)). total (own_at w) m.0.kept) x.is.ids in
       let h = ran_stored q state p o x.thread.tasks (fits c x at) r.made (begins x.thread.began) (record { has = stand r.came; told = r.came.outcomes.items; names = r.ran.names }) r.ran.ran none_ (omega arith) in
@@ -255,7 +256,7 @@ module _ {O : Type 0} {g : Ghosts O} {state : O → OutState} {readers : List (L
       let found : 0 < total (is_word (call_index q of) e.id) (view_of x).kept = (let a = e.found in let b = l.grows.kept (is_word (call_index q of) e.id) in omega (arith, a, b)) in
       let call = its_call c of x at s t e l.grows.notes (found_maker of e.id c x at found) in
       let f : Thread g → List Told = λ y. y.ended.calls.told.items in
-      let list : get_elem? ended c ≡ some x.thread.ended.calls.told.items = ap (λ (y : List (List Told)). get_elem? y c) (sym (all_are run f ∙ run.ran.ended_is)) ∙ mapped (λ (y : Client g state p q). f y.thread) crew c x at in
+      let list : get_elem? ended c ≡ some x.thread.ended.calls.told.items = ap (λ (y : List (List Told)). get_elem? y c) (sym (all_are run f ∙ run.ran.ended_is)) ∙ map_there (λ (y : Client g state p q). f y.thread) crew c x at in
       let there = said_ended c (length s.books.told + 0) x.thread.ended.calls.told.items one list
       (ap (λ (y : List Told). get_elem? y (length s.books.told + 0)) (l.books.told.1 ∙ ap (λ (y : List Told). y ++ l.books.told.0) e.told)
       ∙ append_first (s.books.told ++ one ∷ []) l.books.told.0 (length s.books.told + 0) one (append_later s.books.told (one ∷ []) 0 one refl)) in
@@ -287,7 +288,7 @@ module _ {O : Type 0} {g : Ghosts O} {state : O → OutState} {readers : List (L
   pub earlier_told : (c : ℕ) (t : Task) (m : IsMade c t) (j : ℕ) (task : Task) (s : Split state p q m.client.thread.tasks j task (begins m.client.thread.began) m.done.before) (o : Outcome) → s.made.by ≡ Some o → Became every outcomes task.number o
   earlier_told c t m j task s o is_by =
       let f : Thread g → List Told = λ x. x.ended.outcomes.items in let d = m.done in let one : Told = record { number = task.number; outcome = o } in
-      let list : get_elem? told c ≡ some m.client.thread.ended.outcomes.items = ap (λ (l : List (List Told)). get_elem? l c) (sym (all_are run f ∙ run.ran.told_is)) ∙ mapped (λ (x : Client g state p q). f x.thread) crew c m.client m.at in
+      let list : get_elem? told c ≡ some m.client.thread.ended.outcomes.items = ap (λ (l : List (List Told)). get_elem? l c) (sym (all_are run f ∙ run.ran.told_is)) ∙ map_there (λ (x : Client g state p q). f x.thread) crew c m.client m.at in
       let at : ℕ = length s.before.told + 0 in let now : List Told = telling t.number d.made.by in
       let first : get_elem? s.after.told at ≡ some one = ap (λ (l : List Told). get_elem? l at) (s.made.told ∙ ap (λ (b : Option Outcome). s.before.told ++ telling task.number b) is_by) ∙ append_later s.before.told (one ∷ []) 0 one refl in
       let second : get_elem? d.before.told at ≡ some one = ap (λ (l : List Told). get_elem? l at) s.told.1 ∙ append_first s.after.told s.told.0 at one first in
@@ -387,7 +388,7 @@ module _ {O : Type 0} {g : Ghosts O} {state : O → OutState} {readers : List (L
 
           kept_last : 0 < total (is_word (call_index q of) h.id) (view_of n.client).kept
           kept_last =
-              let a = kept_then in let b = (made_goes q of state p u n.done.before n.done.after (all_at Fits (tasks_of n.client) n.place u (fits c n.client n.at) n.there) n.done.made).grows.kept (is_word (call_index q of) h.id) in
+              let a = kept_then in let b = (made_moves q of state p u n.done.before n.done.after (all_at Fits (tasks_of n.client) n.place u (fits c n.client n.at) n.there) n.done.made).grows.kept (is_word (call_index q of) h.id) in
               let d = (n.done.later of).1.grows.kept (is_word (call_index q of) h.id) in omega (arith, a, b, d)
 
           or_begun : (n.done.made.by ≡ Some outcome.Unopened) ⊎ ((id : ℕ) × HasBegun q asked.operation id n.done.after.has.calls.view × ((x : ℕ) → x % 2 ≡ 0 → total (is_word x id) n.done.made.ready.calls.view.kept ≡ 0)) → ⊥

@@ -28,7 +28,7 @@ use Rattle.call_told.specs.Least.{is_locked_for}
 use Rattle.call_told.proofs.Balance.{noted_ends, noted_more}
 use Rattle.call_told.proofs.Ends.{HasLocked, got_locked, counted_here}
 use Rattle.call_told.proofs.Resting.{is_word}
-use Rattle.expire_told.proofs.Going.{posted, decided}
+use Rattle.call_told.proofs.Moves.{posted, decided}
 
 -- where memory is there behind it, the end is told
 ended_told : (k : IdLock Asked) (code : ℕ) (s t : CallStand) → t.books.starved ≡ false → EndedWith k code s t → t.books.told ≡ s.books.told ++ failed k code ∷ []
@@ -82,7 +82,7 @@ module _ (q : id_plan.Plan) where
   pub timed_out_word : (operation : ℕ) (by : Outcome) (s t : CallStand) (h : TimedOut q operation by s t) → 0 < total (is_word (call_index q operation) h.id) t.view.kept
   timed_out_word operation by s t h =
       let w : Kept → ℕ = is_word (call_index q operation) h.id in let u = found_id q operation h.id s in
-      let a = (posted q operation q.slots u h.id ERPCTIMEDOUT None t (h.answer, h.posted)).grows.kept w in let b = pair-same (call_index q operation) h.id in omega arith
+      let a = (posted q operation u h.id ERPCTIMEDOUT None t (h.answer, h.posted)).grows.kept w in let b = pair-same (call_index q operation) h.id in omega arith
 
   pub timed_out_ends : (operation : ℕ) (s t : CallStand) → TimedOut q operation outcome.Expired s t → t.books.starved ≡ false → EndsAs operation s t
   timed_out_ends operation s t h fed = by h.answer h.by_answer h.posted
@@ -93,7 +93,8 @@ module _ (q : id_plan.Plan) where
       by : (answer : Posted Asked) → outcome.Expired ≡ outcome_by answer → PostedAs q.slots answer (found_id q operation h.id s) h.id ERPCTIMEDOUT None t → EndsAs operation s t
       by (HasLock k) e p =
           let u : CallStand = record { view = p.view; books = s.books } in let g = p.post.4 in let end = decided_ends p.handled refl fed in
-          let grows = (decided q 0 p.handled).grows.notes k.slot (is_locked_for (parts k.word.0).first k.content.operation) in let has = got_locked k.slot (found_id q operation h.id s).view p.view g.0 (parts k.word.0) k.content g.1 in record {
+          let has = got_locked k.slot (found_id q operation h.id s).view p.view g.0 (parts k.word.0) k.content g.1 in
+          let grows = (decided q 0 p.handled (p.post.1, has)).grows.notes k.slot (is_locked_for (parts k.word.0).first k.content.operation) in record {
             id = h.id;
             lock = k;
             slot_is = p.post.0;

@@ -43,13 +43,12 @@ use Rattle.call_told.specs.call_places.specs.Counted.{HaveNotesOf}
 use Rattle.call_told.specs.call_places.proofs.Clients.{Client, view_of, tasks_of}
 use Rattle.call_told.specs.Least.{HasBegun}
 use Rattle.call_told.proofs.Lists.{all_at}
-use Rattle.call_told.proofs.Moves.{Fits}
+use Rattle.call_told.proofs.Moves.{Fits, retried_here, made_moves}
 use Rattle.call_told.proofs.Resting.{is_word}
+use Rattle.call_told.proofs.Coming.{begun_later}
 use Rattle.expire_told.specs.Joined.{AreJoinsOfCalls}
 use Rattle.expire_told.specs.Said.{AreSaid, HaveKeptOf}
-use Rattle.expire_told.proofs.Going.{retried_here, made_goes}
 use Rattle.expire_told.proofs.Doing.{Split, ran_split}
-use Rattle.expire_told.proofs.Begun.{begun_later}
 use Rattle.expire_told.proofs.Making.{before_in, placed}
 use Rattle.expire_told.proofs.Expires.{call_acted, InOrder, fits, tasks_at, IsMade, made_of, own_told, one_stored, IsMaker, found_maker, stands_before, earlier_told}
 use Rattle.expire_told.proofs.Whole.{maker_begun}
@@ -145,7 +144,7 @@ module _ {O : Type 0} {g : Ghosts O} {state : O → OutState} {readers : List (L
 
           kept_last : 0 < total (is_word (call_index q of) known.0) (view_of n.client).kept
           kept_last =
-              let a = known.1 in let b = (s.later of).1.grows.kept (is_word (call_index q of) known.0) in let d = (made_goes q of state p u n.done.before n.done.after fit n.done.made).grows.kept (is_word (call_index q of) known.0) in
+              let a = known.1 in let b = (s.later of).1.grows.kept (is_word (call_index q of) known.0) in let d = (made_moves q of state p u n.done.before n.done.after fit n.done.made).grows.kept (is_word (call_index q of) known.0) in
               let e = (n.done.later of).1.grows.kept (is_word (call_index q of) known.0) in omega (arith, a, b, d, e)
 
           or_begun : (n.done.made.by ≡ Some outcome.Unopened) ⊎ ((id : ℕ) × HasBegun q asked.operation id n.done.after.has.calls.view × ((x : ℕ) → x % 2 ≡ 0 → total (is_word x id) n.done.made.ready.calls.view.kept ≡ 0)) → ⊥

@@ -1,4 +1,3 @@
-pub mod Going
 pub mod Doing
 pub mod Begun
 pub mod Expiring

@@ -1,13 +1,10 @@
 -- Words of operations that seats keep in mind: one seat at most stored one, and whatever was found was stored.
-use Rattle.std.proofs.Common.{◌≡◌, ◌≢◌, ℕ, zero, suc, ◌+◌, ◌-◌, ◌≤◌, ◌<◌, Bool, true, false, cond, List, [], ◌∷◌, ◌++◌, map, flat_map, Some, refl, sym, ap, ◌∙◌, subst, arith}
-use Rattle.std.specs.Prelude.{slice_get}
+use Rattle.std.proofs.Common.{◌≡◌, ◌≢◌, ℕ, zero, suc, ◌+◌, ◌-◌, ◌≤◌, ◌<◌, Bool, true, false, cond, List, [], ◌∷◌, ◌++◌, flat_map, refl, sym, ap, ◌∙◌, subst, arith}
 use mathlib.Core.Logic.{dite}
 use mathlib.Core.Option.{some, some-injective, some-ne-none}
 use native.Mathlib.Decide.{ℕ_discrete}
 use lib.ListN.{get_elem?}
-use Rattle.std.specs.List.{AllByRecursion}
 use Rattle.brpc_model.specs.Order.{EachBefore}
-use Rattle.call_told.specs.report_fits.proofs.Lists.{some_is}
 use Rattle.corr_core.specs.Law.{total, only, pair}
 use Rattle.corr_core.specs.declared.marks.Kept.{Kept}
 use Rattle.corr_core.specs.declared.marks.View.{View}
@@ -17,36 +14,17 @@ use Rattle.id_rule.specs.Lawful.{is_stored}
 use Rattle.corr_id.specs.Ruled.{is_place}
 use Rattle.sock_message.specs.Asked.{Asked}
 use Rattle.call_told.proofs.Growing.{Grows, own_at}
+use Rattle.call_told.proofs.Lists.{all_at}
 use Rattle.call_told.proofs.Resting.{is_word}
 use Rattle.expire_told.specs.Said.{HaveKeptOf}
 
 -- ## Lists by places
 
-pub mapped_from : {A B : Type 0} (f : A → B) (xs : List A) (c : ℕ) (y : B) → get_elem? (map f xs) c ≡ some y → (x : A) × (get_elem? xs c ≡ some x) × (f x ≡ y)
-mapped_from f [] c y e = absurd (some-ne-none y (sym e))
-mapped_from f (x ∷ xs) zero y e = (x, refl, some-injective (f x) y e)
-mapped_from f (x ∷ xs) (suc c) y e = mapped_from f xs c y e
-
-pub elem_at : {A : Type 0} (xs : List A) (i : ℕ) (x : A) → slice_get xs i ≡ Some x → get_elem? xs i ≡ some x
-elem_at [] i x e = absurd (cc)
-elem_at (y ∷ ys) zero x e = ap some (some_is y x e)
-elem_at (y ∷ ys) (suc i) x e = elem_at ys i x e
-
-pub slice_at : {A : Type 0} (xs : List A) (i : ℕ) (x : A) → get_elem? xs i ≡ some x → slice_get xs i ≡ Some x
-slice_at [] i x e = absurd (some-ne-none x (sym e))
-slice_at (y ∷ ys) zero x e = ap Some (some-injective y x e)
-slice_at (y ∷ ys) (suc i) x e = slice_at ys i x e
-
 -- of two in a list the first stands before the second
-first_before : {A : Type 0} (P : A → Type 0) (xs : List A) → AllByRecursion P xs → (j : ℕ) (b : A) → get_elem? xs j ≡ some b → P b
-first_before P [] h j b e = absurd (some-ne-none b (sym e))
-first_before P (x ∷ xs) h zero b e = subst P (some-injective x b e) h.0
-first_before P (x ∷ xs) h (suc j) b e = first_before P xs h.1 j b e
-
 pub before_in : {A : Type 0} (P : A → A → Type 0) (xs : List A) → EachBefore P xs → (i j : ℕ) (a b : A) → i < j → get_elem? xs i ≡ some a → get_elem? xs j ≡ some b → P a b
 before_in P [] h i j a b less e f = absurd (some-ne-none a (sym e))
 before_in P (x ∷ xs) h zero zero a b less e f = absurd (omega arith)
-before_in P (x ∷ xs) h zero (suc j) a b less e f = subst (λ y. P y b) (some-injective x a e) (first_before (P x) xs h.0 j b f)
+before_in P (x ∷ xs) h zero (suc j) a b less e f = subst (λ y. P y b) (some-injective x a e) (all_at (P x) xs j b h.0 f)
 before_in P (x ∷ xs) h (suc i) zero a b less e f = absurd (omega arith)
 before_in P (x ∷ xs) h (suc i) (suc j) a b less e f = before_in P xs h.1 i j a b (omega arith) e f
 

@@ -28,7 +28,6 @@ use Rattle.call_told.specs.call_errors.specs.Asking.{ExpiredBy, TimedOut}
 use Rattle.call_told.specs.call_run.specs.Readers.{LinkReader}
 use Rattle.call_told.specs.call_run.specs.Threads.{RanWith, MayRunAll, ids_of}
 use Rattle.call_told.specs.call_places.specs.Counted.{HaveNotesOf}
-use Rattle.call_told.specs.call_places.proofs.Weights.{mapped}
 use Rattle.call_told.specs.call_places.proofs.Clients.{tasks_of, view_of}
 use Rattle.call_told.specs.call_places.proofs.Places.{all as all_clients, views_are}
 use Rattle.call_told.specs.Least.{HasBegun}
@@ -37,8 +36,8 @@ use Rattle.call_told.proofs.Moves.{Fits}
 use Rattle.call_told.proofs.Resting.{is_word}
 use Rattle.expire_told.specs.Said.{AreSaid, AreOfCalls, HaveKeptOf, WhyExpired}
 use Rattle.expire_told.proofs.Expiring.{timed_out_word}
-use Rattle.expire_told.proofs.Making.{slice_at}
 use Rattle.expire_told.proofs.Expires.{fits, tasks_at, IsMade, made_of, expire_made, IsMaker, found_maker, expired_why, not_begun_why, begun_before, expired_once}
+use Rattle.call_told.specs.sock_deeds.proofs.Places.{to_slice, map_there}
 
 module _ {O : Type 0} {g : Ghosts O} {state : O → OutState} {readers : List (LinkReader g)} {p : Plan} {slots : ℕ} {setup : List Task} {clients : List (List Task)} {opens : List ℕ} {told ended : List (List Told)} {places : List PlaceWord} {vrefs : List Vref} {outs : List O} {ids : List (View Asked)}
     (run : RanWith g state readers p slots setup clients opens told ended places vrefs outs ids) (tasks : AreTasks p (setup ∷ clients)) (may : MayRunAll p (ids_of p slots) setup clients)
@@ -68,10 +67,10 @@ module _ {O : Type 0} {g : Ghosts O} {state : O → OutState} {readers : List (L
         client = m.place;
         task = b.task;
         asked = b.asked;
-        is = (tasks_of x, slice_at every m.place (tasks_of x) (tasks_at run tasks may notes kept words closing noted keeps outcomes said_own said_ended m.place x m.at), contains_from (tasks_of x) b.task (b.place, slice_at (tasks_of x) b.place b.task b.there));
+        is = (tasks_of x, to_slice every m.place (tasks_of x) (tasks_at run tasks may notes kept words closing noted keeps outcomes said_own said_ended m.place x m.at), contains_from (tasks_of x) b.task (b.place, to_slice (tasks_of x) b.place b.task b.there));
         is_call = b.is_call;
         number = sym own ∙ b.operation;
-        began = begun_not of id m.place (view_of x) (ap (λ (l : List (View Asked)). get_elem? l m.place) (sym (views_are run)) ∙ mapped view_of (all_clients run) m.place x m.at) m.begun;
+        began = begun_not of id m.place (view_of x) (ap (λ (l : List (View Asked)). get_elem? l m.place) (sym (views_are run)) ∙ map_there view_of (all_clients run) m.place x m.at) m.begun;
       }
 
   module _ (fixed : Fixed) (gave : ℕ → List ℕ) (orders : ℕ → Order) where

@@ -1,5 +1,5 @@
 -- Why an `expire` has its outcome; what the outcomes of a run are said by, and what a closed table of ids keeps of its seats.
-use Rattle.std.specs.Prelude.{◌≡◌, ℕ, ◌<◌, ◌≤◌, List, slice_get, Option, Some}
+use Rattle.std.specs.Prelude.{◌≡◌, ℕ, ◌≤◌, List, slice_get, Option, Some}
 use mathlib.Core.Option.{some}
 use lib.ListN.{get_elem?}
 use Rattle.sock_words.specs.Codes.{ERPCTIMEDOUT}

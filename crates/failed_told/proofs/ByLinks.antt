@@ -44,7 +44,7 @@ use Rattle.attempts_told.specs.call_whys.specs.expire_told.specs.call_run.specs.
 use Rattle.attempts_told.specs.call_whys.specs.expire_told.specs.call_places.specs.Counted.{HaveNotesOf}
 use Rattle.attempts_told.specs.call_whys.specs.expire_told.specs.call_places.specs.Deeds.{Deed}
 use Rattle.attempts_told.specs.call_whys.specs.expire_told.specs.call_places.proofs.Clients.{Client, view_of, tasks_of, deeds_of}
-use Rattle.attempts_told.specs.call_whys.specs.expire_told.specs.call_places.proofs.Places.{all as all_clients}
+use Rattle.attempts_told.specs.call_whys.specs.expire_told.specs.call_places.proofs.Places.{all as all_clients, noted_among, made_once}
 use Rattle.attempts_told.specs.call_whys.specs.expire_told.specs.call_told.specs.Least.{is_locked_for}
 use Rattle.attempts_told.specs.call_whys.specs.expire_told.specs.call_told.proofs.Least.{lock_of}
 use Rattle.attempts_told.specs.call_whys.specs.expire_told.specs.call_told.proofs.Resting.{is_word}
@@ -66,7 +66,6 @@ use Rattle.failed_told.proofs.Lasts.{ended_last}
 use Rattle.failed_told.proofs.Losses.{IsAskedIn}
 use Rattle.failed_told.proofs.Named.{named}
 use Rattle.failed_told.proofs.Posts.{IsPost}
-use Rattle.failed_told.proofs.Single.{within, made_once}
 use Rattle.failed_told.proofs.Posters.{IsLow, one_error, timely_low, by_clients}
 use Rattle.failed_told.proofs.Reading.{code_at}
 use Rattle.failed_told.proofs.Tells.{HadLock, EndsBy, on_response, on_code, ToldEnd, IsPostFor}
@@ -150,7 +149,7 @@ module _ {O : Type 0} {g : Ghosts O} {state : O → OutState} {readers : List (L
       let whose : n.asked ≡ asked = same_asked n.asked asked (ap (λ (t : Task). t.op) s.1) in
       let id : IsIdOf slots notes o (slot * 4294967296 + first) = record { slot = slot; first = first; inside = inside; low = low; id_is = refl; range = r; asked = call; place = j; made = made; operation = number } in
       let current : n.attempt ≡ at = subst (λ (a : Option ℕ). IsTimely a at) n.attempt_is timely in
-      let most = ended_last q notes kept words closing o (slot * 4294967296 + first) at id (made_once run tasks may notes kept words closing noted o) over in
+      let most = ended_last q notes kept words closing o (slot * 4294967296 + first) at id (made_once run tasks may notes noted o) over in
       let below = subst (λ (m : ℕ). n.attempt ≤ last_attempt notes m) its n.low in
       let last : n.attempt ≡ last_attempt notes o = omega (arith, current, most, below) in
       record {
@@ -280,7 +279,7 @@ module _ {O : Type 0} {g : Ghosts O} {state : O → OutState} {readers : List (L
 
       -- at the attempt of the lock
       pub over_here : 0 < total (is_ended_at (parts e.lock.word.0).first (parts e.lock.word.0).attempt) (notes_of e.lock.slot notes)
-      over_here = let a = within run tasks may notes kept words closing noted c x at e.lock.slot (is_ended_at (parts e.lock.word.0).first (parts e.lock.word.0).attempt) in let b = e.over in omega (arith, a, b)
+      over_here = let a = noted_among run notes noted c x at e.lock.slot (is_ended_at (parts e.lock.word.0).first (parts e.lock.word.0).attempt) in let b = e.over in omega (arith, a, b)
 
       of_queue : (client : ℕ) (asked : Asked) → IsOperation every outcomes client e.lock.content.operation (ops.Call asked) → QueuedSo e.lock.slot (parts e.lock.word.0).first (error_in e.code e.attempt) → WasEnded e.lock.slot (parts e.lock.word.0).first → EndedOn e.lock.content.operation asked (id_in e.lock) e.code
       of_queue client asked task r was =
@@ -299,7 +298,7 @@ module _ {O : Type 0} {g : Ghosts O} {state : O → OutState} {readers : List (L
           by : Origin state p q (tasks_of x) (Says run outcomes said_own) (deeds_of x) (view_of x) e.lock e.code e.attempt → EndedOn e.lock.content.operation asked (id_in e.lock) e.code ⊎ DroppedSo
           by (posted_so reason) = inr (of_reason read c x at reason)
           by (handed_out word found locked first oldest some_) =
-              let here = within run tasks may notes kept words closing noted c x at e.lock.slot (is_saw word) in
+              let here = noted_among run notes noted c x at e.lock.slot (is_saw word) in
               let w = closing.oldest_is e.lock.slot word e.cause.inside (omega (arith, here, found)) (omega (arith, locked)) some_ in
               let same : queued_in e.lock.slot (parts word).first (parts word).oldest notes ≡ queued_in e.lock.slot (parts e.lock.word.0).first (error_in e.code e.attempt) notes = λ i. queued_in e.lock.slot (first i) (oldest i) notes in
               elim (others e.lock.slot (parts e.lock.word.0).first (error_in e.code e.attempt) (omega (arith, w, same))) [

@@ -19,7 +19,6 @@ use Rattle.attempts_told.specs.call_whys.specs.expire_told.specs.rpc_client.spec
 use Rattle.attempts_told.specs.call_whys.specs.expire_told.specs.call_errors.specs.Books.{Books}
 use Rattle.attempts_told.specs.call_whys.specs.expire_told.specs.call_run.specs.Readers.{LinkReader}
 use Rattle.attempts_told.specs.call_whys.specs.expire_told.specs.call_run.specs.Threads.{Thread, RanWith, ids_of}
-use Rattle.attempts_told.specs.call_whys.specs.expire_told.specs.call_places.proofs.Weights.{mapped}
 use Rattle.attempts_told.specs.call_whys.specs.expire_told.specs.call_places.proofs.Clients.{Client, view_of, tasks_of, deeds_of}
 use Rattle.attempts_told.specs.call_whys.specs.expire_told.specs.call_places.proofs.Places.{all as all_clients, all_are}
 use Rattle.attempts_told.specs.call_whys.specs.expire_told.specs.Said.{AreSaid}
@@ -27,13 +26,14 @@ use Rattle.attempts_told.specs.call_whys.specs.expire_told.proofs.Doing.{run_fed
 use Rattle.failed_told.specs.Reasons.{IsCaused, QueuedFor, AdvancedFor}
 use Rattle.failed_told.proofs.Views.{queued_in, advanced_in}
 use Rattle.failed_told.proofs.Origins.{AreDeeds, run_caused, run_queued, run_advanced}
+use Rattle.attempts_told.specs.call_whys.specs.expire_told.specs.sock_deeds.proofs.Places.{map_there}
 
 module _ {O : Type 0} {g : Ghosts O} {state : O → OutState} {readers : List (LinkReader g)} {p : Plan} {slots : ℕ} {setup : List Task} {clients : List (List Task)} {opens : List ℕ} {told ended : List (List Told)} {places : List PlaceWord} {vrefs : List Vref} {outs : List O} {ids : List (View Asked)}
     (run : RanWith g state readers p slots setup clients opens told ended places vrefs outs ids) (outcomes : List (Option Outcome)) (said : AreSaid outcomes told) where
   -- client c told these ends
   ended_is : (c : ℕ) (x : Client g state p (ids_of p slots)) → get_elem? (all_clients run) c ≡ some x → get_elem? ended c ≡ some x.thread.ended.calls.told.items
   ended_is c x at = let f : Thread g → List Told = λ y. y.ended.calls.told.items in
-      ap (λ (l : List (List Told)). get_elem? l c) (sym (all_are run f ∙ run.ran.ended_is)) ∙ mapped (λ (y : Client g state p (ids_of p slots)). f y.thread) (all_clients run) c x at
+      ap (λ (l : List (List Told)). get_elem? l c) (sym (all_are run f ∙ run.ran.ended_is)) ∙ map_there (λ (y : Client g state p (ids_of p slots)). f y.thread) (all_clients run) c x at
 
   -- what is reported of a client's tasks
   abbrev pub Says : ℕ → Outcome → Type 0
@@ -42,7 +42,7 @@ module _ {O : Type 0} {g : Ghosts O} {state : O → OutState} {readers : List (L
   pub says_own : (c : ℕ) (x : Client g state p (ids_of p slots)) → get_elem? (all_clients run) c ≡ some x → (j : ℕ) (y : Told) → get_elem? x.thread.ended.outcomes.items j ≡ some y → Says y.number y.outcome
   says_own c x at j y there =
       let f : Thread g → List Told = λ y. y.ended.outcomes.items in
-      let list : get_elem? told c ≡ some x.thread.ended.outcomes.items = ap (λ (l : List (List Told)). get_elem? l c) (sym (all_are run f ∙ run.ran.told_is)) ∙ mapped (λ (y : Client g state p (ids_of p slots)). f y.thread) (all_clients run) c x at in
+      let list : get_elem? told c ≡ some x.thread.ended.outcomes.items = ap (λ (l : List (List Told)). get_elem? l c) (sym (all_are run f ∙ run.ran.told_is)) ∙ map_there (λ (y : Client g state p (ids_of p slots)). f y.thread) (all_clients run) c x at in
       said c j x.thread.ended.outcomes.items y list there
 
   -- its deeds are those of its run

@@ -21,12 +21,11 @@ use Rattle.attempts_told.specs.call_whys.specs.expire_told.specs.rpc_client.spec
 use Rattle.attempts_told.specs.call_whys.specs.expire_told.specs.call_client.specs.Running.{MayMakeAll}
 use Rattle.attempts_told.specs.call_whys.specs.expire_told.specs.call_run.specs.Readers.{LinkReader}
 use Rattle.attempts_told.specs.call_whys.specs.expire_told.specs.call_run.specs.Threads.{RanWith, ids_of}
-use Rattle.attempts_told.specs.call_whys.specs.expire_told.specs.call_places.proofs.Weights.{mapped}
 use Rattle.attempts_told.specs.call_whys.specs.expire_told.specs.call_places.proofs.Clients.{Client, tasks_of}
 use Rattle.attempts_told.specs.call_whys.specs.expire_told.specs.call_places.proofs.Places.{all as all_clients, tasks_are}
 use Rattle.attempts_told.specs.call_whys.specs.expire_told.specs.call_deeds.proofs.Links.{IsOwnCall, call_at}
 use Rattle.attempts_told.specs.call_whys.specs.expire_told.specs.report_fits.proofs.Lists.{has_from, contains_from}
-use Rattle.attempts_told.specs.call_whys.specs.expire_told.specs.sock_deeds.proofs.Places.{to_slice, to_elem}
+use Rattle.attempts_told.specs.call_whys.specs.expire_told.specs.sock_deeds.proofs.Places.{to_slice, to_elem, map_there}
 
 module _ {O : Type 0} {g : Ghosts O} {state : O → OutState} {readers : List (LinkReader g)} {p : Plan} {slots : ℕ} {setup : List Task} {clients : List (List Task)} {opens : List ℕ} {told ended : List (List Told)} {places : List PlaceWord} {vrefs : List Vref} {outs : List O} {ids : List (View Asked)}
     (run : RanWith g state readers p slots setup clients opens told ended places vrefs outs ids) (outcomes : List (Option Outcome)) where
@@ -40,7 +39,7 @@ module _ {O : Type 0} {g : Ghosts O} {state : O → OutState} {readers : List (L
   every = setup ∷ clients
 
   pub tasks_there : (c : ℕ) (x : Client g state p q) → get_elem? crew c ≡ some x → get_elem? every c ≡ some (tasks_of x)
-  tasks_there c x at = ap (λ (l : List (List Task)). get_elem? l c) (sym (tasks_are run)) ∙ mapped tasks_of crew c x at
+  tasks_there c x at = ap (λ (l : List (List Task)). get_elem? l c) (sym (tasks_are run)) ∙ map_there tasks_of crew c x at
 
   pub its_tasks : (c : ℕ) (x : Client g state p q) → get_elem? crew c ≡ some x → slice_get every c ≡ Some (tasks_of x)
   its_tasks c x at = to_slice every c (tasks_of x) (tasks_there c x at)

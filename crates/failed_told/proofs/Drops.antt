@@ -51,7 +51,7 @@ use Rattle.attempts_told.specs.call_whys.specs.expire_told.specs.sock_deeds.spec
 use Rattle.attempts_told.specs.call_whys.specs.expire_told.specs.sock_deeds.specs.Runs.{IsOperation, IsMessage, of_send, of_call, Seated, seat_of, early_of, DeedRun}
 use Rattle.attempts_told.specs.call_whys.specs.expire_told.specs.sock_deeds.proofs.Accepting.{log, act_of_entry, sent_for, sent_place}
 use Rattle.attempts_told.specs.call_whys.specs.expire_told.specs.sock_deeds.proofs.Acts.{Act, after, has_marks, has_drops}
-use Rattle.attempts_told.specs.call_whys.specs.expire_told.specs.sock_deeds.proofs.DropCodes.{FailsWith, IsBehindPlaced, dropped_stands}
+use Rattle.attempts_told.specs.call_whys.specs.expire_told.specs.sock_deeds.proofs.DropCodes.{FailsWith, StoredByReader, stored_code, IsBehindPlaced, dropped_stands}
 use Rattle.attempts_told.specs.call_whys.specs.expire_told.specs.sock_deeds.proofs.Failing.{early}
 use Rattle.attempts_told.specs.call_whys.specs.expire_told.specs.sock_deeds.proofs.Fails.{link_is}
 use Rattle.attempts_told.specs.call_whys.specs.expire_told.specs.sock_deeds.proofs.Lives.{MadeHere, linked_made}
@@ -72,7 +72,6 @@ use Rattle.failed_told.proofs.Codes.{IsReadCode}
 use Rattle.failed_told.proofs.Fallen.{chain_last, its_seat, reached, failing_by, one_operation}
 use Rattle.failed_told.proofs.Keeping.{still_as, still_then}
 use Rattle.failed_told.proofs.Owners.{IsOwned, owned_by}
-use Rattle.failed_told.proofs.ReaderCodes.{StoredByReader, stored_code}
 use Rattle.failed_told.proofs.Single.{sender, made_low}
 
 name_at : ℕ → Op → ℕ

@@ -44,7 +44,6 @@ use Rattle.attempts_told.specs.call_whys.specs.expire_told.specs.call_told.proof
 use Rattle.attempts_told.specs.call_whys.specs.expire_told.specs.call_deeds.specs.Retried.{all_asked}
 use Rattle.attempts_told.specs.call_whys.specs.expire_told.specs.call_deeds.proofs.Ran.{AreLater}
 use Rattle.attempts_told.specs.call_whys.specs.expire_told.specs.Said.{AreSaid, HaveKeptOf}
-use Rattle.attempts_told.specs.call_whys.specs.expire_told.proofs.Making.{mapped_from}
 use Rattle.attempts_told.specs.call_whys.specs.expire_told.specs.sock_deeds.specs.Runs.{IsOperation, seat_of, DeedRun}
 use Rattle.attempts_told.specs.call_whys.specs.expire_told.specs.sock_deeds.proofs.Accepting.{log}
 use Rattle.attempts_told.specs.call_whys.specs.expire_told.specs.sock_deeds.proofs.Orders.{orders, entry_on}
@@ -64,6 +63,7 @@ use Rattle.failed_told.proofs.Unopened.{unopened_why}
 use Rattle.failed_told.proofs.Verdicts.{last_one, made_so, MissedLast, DroppedLast, timed, lost, fell as dropped_last, behind, verdict, by_expiry, IsAskedSo}
 use Rattle.failed_told.proofs.Views.{queued_in}
 use Rattle.failed_told.proofs.Whole.{IsFallen, missed_why}
+use Rattle.attempts_told.specs.call_whys.specs.expire_told.specs.sock_deeds.proofs.Places.{map_back}
 
 -- ## A `fail`'s code leaves retries
 
@@ -259,6 +259,6 @@ module _ {O : Type 0} {g : Ghosts O} {state : O → OutState} {readers : List (L
       → (id code : ℕ) × (one.outcome ≡ CallFailed id code) × (FailedBy p (setup ∷ clients) outcomes (fixed drun differ gave) gave (orders drun differ) client one.number asked id code (last_attempt notes one.number) ⊎ IsReadCode code)
   ends_with dropped c i ts one at there =
       let f : Thread g → List Told = λ x. x.ended.calls.told.items in
-      let w = mapped_from (λ (x : Client g state p (ids_of p slots)). f x.thread) (all_clients run) c ts (ap (λ (l : List (List Told)). get_elem? l c) (all_are run f ∙ run.ran.ended_is) ∙ at) in
+      let w = map_back (λ (x : Client g state p (ids_of p slots)). f x.thread) (all_clients run) c ts (ap (λ (l : List (List Told)). get_elem? l c) (all_are run f ∙ run.ran.ended_is) ∙ at) in
       told_why run tasks may notes kept words closing noted keeps outcomes said_own said_ended others drun seats logged differ gave (log_accepted drun differ (λ k. [])) (asked_here run tasks may notes kept words closing noted outcomes later) (few_here run tasks may notes kept words closing noted outcomes later made own) dropped made c w.0 w.1 i one
       (ap (λ (l : List Told). get_elem? l i) w.2 ∙ there)

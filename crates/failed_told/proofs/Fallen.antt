@@ -43,12 +43,11 @@ use Rattle.attempts_told.specs.call_whys.specs.expire_told.specs.call_run.specs.
 use Rattle.attempts_told.specs.call_whys.specs.expire_told.specs.call_run.specs.Threads.{Thread, RanWith, MayRunAll, ids_of}
 use Rattle.attempts_told.specs.call_whys.specs.expire_told.specs.call_places.specs.Counted.{HaveNotesOf}
 use Rattle.attempts_told.specs.call_whys.specs.expire_told.specs.call_places.specs.Deeds.{Deed}
-use Rattle.attempts_told.specs.call_whys.specs.expire_told.specs.call_places.proofs.Weights.{two_terms, mapped}
+use Rattle.attempts_told.specs.call_whys.specs.expire_told.specs.call_places.proofs.Weights.{two_terms}
 use Rattle.attempts_told.specs.call_whys.specs.expire_told.specs.call_places.proofs.Ids.{IsIdOf}
 use Rattle.attempts_told.specs.call_whys.specs.expire_told.specs.call_places.proofs.Clients.{Client, view_of, deeds_of}
 use Rattle.attempts_told.specs.call_whys.specs.expire_told.specs.call_places.proofs.Places.{all as all_clients, all_are}
 use Rattle.attempts_told.specs.call_whys.specs.expire_told.specs.call_told.proofs.Lists.{all_at}
-use Rattle.attempts_told.specs.call_whys.specs.expire_told.proofs.Making.{mapped_from}
 use Rattle.attempts_told.specs.call_whys.specs.expire_told.specs.sock_deeds.specs.Deeds as socks
 use Rattle.attempts_told.specs.call_whys.specs.expire_told.specs.sock_deeds.specs.Runs.{IsOperation, Seated, seat_of, DeedRun}
 use Rattle.attempts_told.specs.call_whys.specs.expire_told.specs.sock_deeds.proofs.Accepting.{log}
@@ -62,6 +61,7 @@ use Rattle.failed_told.specs.Missed.{missed_in, id_of, IsBacked, attempt_of, soc
 use Rattle.failed_told.proofs.Losses.{SawDead, SawFull, dead_later, full_later, WhyMissed, was_dead, was_full, was_unopened, was_stray}
 use Rattle.failed_told.proofs.Reaching.{Reaches, deeds_reach}
 use Rattle.failed_told.proofs.Single.{IsNothing, not_accepted}
+use Rattle.attempts_told.specs.call_whys.specs.expire_told.specs.sock_deeds.proofs.Places.{map_back, map_there}
 
 -- ## Of notes and operations
 
@@ -162,8 +162,8 @@ module _ {O : Type 0} {g : Ghosts O} {state : O → OutState} {readers : List (L
   pub its_seat : (c : ℕ) (x : Client g state p q) → get_elem? crew c ≡ some x → (y : Seated g state p) × (get_elem? drun.seats c ≡ some y) × (y.ended.view ≡ x.thread.ended.seat.me.0)
   its_seat c x at =
       let f : Thread g → Seat (SockHome O g) sock_view.View = λ z. z.ended.seat in
-      let list : get_elem? (map seat_of drun.seats) c ≡ some x.thread.ended.seat = ap (λ l. get_elem? l c) (seats ∙ sym (all_are run f)) ∙ mapped (λ (z : Client g state p q). f z.thread) crew c x at in
-      let w = mapped_from seat_of drun.seats c x.thread.ended.seat list in
+      let list : get_elem? (map seat_of drun.seats) c ≡ some x.thread.ended.seat = ap (λ l. get_elem? l c) (seats ∙ sym (all_are run f)) ∙ map_there (λ (z : Client g state p q). f z.thread) crew c x at in
+      let w = map_back seat_of drun.seats c x.thread.ended.seat list in
       (w.0, w.1, sym w.0.left ∙ ap (λ s. s.me.0) w.2)
 
   -- what a deed's seat saw by it, it has in the end

@@ -44,7 +44,7 @@ use Rattle.attempts_told.specs.call_whys.specs.expire_told.specs.call_places.pro
 use Rattle.attempts_told.specs.call_whys.specs.expire_told.specs.call_places.proofs.Own.{deed_of}
 use Rattle.attempts_told.specs.call_whys.specs.expire_told.specs.call_places.proofs.Ids.{IsIdOf}
 use Rattle.attempts_told.specs.call_whys.specs.expire_told.specs.call_places.proofs.Clients.{Client, total_map, view_of, tasks_of, deeds_of}
-use Rattle.attempts_told.specs.call_whys.specs.expire_told.specs.call_places.proofs.Places.{all as all_clients, views_are}
+use Rattle.attempts_told.specs.call_whys.specs.expire_told.specs.call_places.proofs.Places.{all as all_clients, views_are, noted_among, may_make}
 use Rattle.attempts_told.specs.call_whys.specs.expire_told.specs.call_told.specs.Least.{is_made_for}
 use Rattle.attempts_told.specs.call_whys.specs.expire_told.specs.call_told.proofs.Lists.{all_at}
 use Rattle.attempts_told.specs.call_whys.specs.expire_told.specs.call_deeds.specs.Retried.{all_asked}
@@ -52,7 +52,6 @@ use Rattle.attempts_told.specs.call_whys.specs.expire_told.specs.call_deeds.proo
 use Rattle.attempts_told.specs.call_whys.specs.expire_told.specs.call_deeds.proofs.Told.{task_at}
 use Rattle.attempts_told.specs.call_whys.specs.expire_told.specs.report_fits.proofs.Lists.{has_from, has_none}
 use Rattle.attempts_told.specs.call_whys.specs.expire_told.specs.Said.{AreSaid}
-use Rattle.attempts_told.specs.call_whys.specs.expire_told.proofs.Making.{mapped_from}
 use Rattle.attempts_told.specs.call_whys.specs.expire_told.specs.sock_deeds.specs.Runs.{IsOperation, seat_of, DeedRun}
 use Rattle.attempts_told.specs.call_whys.specs.expire_told.specs.sock_deeds.proofs.Accepting.{log}
 use Rattle.attempts_told.specs.call_whys.specs.expire_told.specs.sock_deeds.proofs.Orders.{orders}
@@ -63,7 +62,7 @@ use Rattle.attempts_told.proofs.Last.{IsReached, one_reached, none_further}
 use Rattle.attempts_told.proofs.RetriedLast.{WentFor, last_went}
 use Rattle.attempts_told.proofs.Senders.{IsNoted, all_noted, made_for_there}
 use Rattle.attempts_told.proofs.Told.{same_asked}
-use Rattle.failed_told.specs.Ends.{LeftAt, on_link, none_opened}
+use Rattle.failed_told.specs.Ends.{LeftAt, OnLink, NoneOpened}
 use Rattle.failed_told.specs.Missed.{attempt_missed, went_missed, acted_missed, missed_in, id_of, IsBacked, attempt_of, socks_behind}
 use Rattle.failed_told.specs.Reasons.{AdvancedFor}
 use Rattle.failed_told.proofs.AtWords.{attempt_link, went_link, acted_link, link_in}
@@ -73,9 +72,10 @@ use Rattle.failed_told.proofs.Fallen.{one_operation, unordered, WhyNothing, had_
 use Rattle.failed_told.proofs.Losses.{WhyMissed, IsAskedIn, deed_why}
 use Rattle.failed_told.proofs.Makers.{made_begun}
 use Rattle.failed_told.proofs.Premises.{asked_so as asked_here}
-use Rattle.failed_told.proofs.Single.{laws, within, may_make, IsAttemptOf, at_first, again_id, again_attempt, first_id}
+use Rattle.failed_told.proofs.Single.{laws, IsAttemptOf, at_first, again_id, again_attempt, first_id}
 use Rattle.failed_told.proofs.Standing.{may_be_on, lost_on}
 use Rattle.failed_told.proofs.Unopened.{unopened_why}
+use Rattle.attempts_told.specs.call_whys.specs.expire_told.specs.sock_deeds.proofs.Places.{map_back}
 
 -- ## Of deeds
 
@@ -183,9 +183,9 @@ module _ {O : Type 0} {g : Ghosts O} {state : O → OutState} {readers : List (L
   Unordered o n = IsUnordered p every outcomes fixed_here gave orders_here o n
 
   by_lost : (client o n : ℕ) (asked : Asked) → WhyLost p every outcomes fixed_here gave orders_here client o n (name_of asked n) → Unordered o n → LeftHere client o asked n
-  by_lost client o n asked (WasFailing k slot version made failing) free = on_link k (slot, version, made, λ l stands. absurd (free l stands)) (inl failing)
+  by_lost client o n asked (WasFailing k slot version made failing) free = OnLink k (slot, version, made, λ l stands. absurd (free l stands)) (inl failing)
   by_lost client o n asked (RunEnding late) free = absurd (has_none o (has_from [] o late))
-  by_lost client o n asked (WasUnopened some_ c m low high before none_) free = none_opened some_ free c m low high before none_
+  by_lost client o n asked (WasUnopened some_ c m low high before none_) free = NoneOpened some_ free c m low high before none_
 
   -- ## An attempt that was made
 
@@ -216,7 +216,7 @@ module _ {O : Type 0} {g : Ghosts O} {state : O → OutState} {readers : List (L
       where
         by : (k : Option ℕ) → link_in d ≡ k → LeftHere client asked.operation asked (attempt_of d)
         by None is = by_nothing is
-        by (Some link) is = on_link link
+        by (Some link) is = OnLink link
             (may_be_on run tasks may notes kept words closing noted outcomes drun seats logged differ gave (log_accepted drun differ (λ k. [])) c x at i d there client asked.operation (id_of d) asked task its attempt few inside asked asks refl link is)
             (lost_on run tasks may notes kept words closing noted outcomes drun seats logged differ gave (log_accepted drun differ (λ k. [])) c x at i d there client asked.operation (id_of d) asked task its attempt few inside asked asks refl link is refl (deed_low d link is))
 
@@ -256,10 +256,10 @@ module _ {O : Type 0} {g : Ghosts O} {state : O → OutState} {readers : List (L
       by_first c x at k here None s t a i there tells =
           let d : Deed g state p q = operates its_task None s t a in
           let n = all_at (IsNoted g state p q (tasks_of x) (view_of x)) (deeds_of x) i d (all_noted x.thread x.is) there in
-          let m = may_make run tasks may notes kept words closing noted c x at in
+          let m = may_make run may c x at in
           let mine : asked.operation ≡ o = own_call p q (tasks_of x) m.0 m.1 k its_task here asked refl in
           let made_ : 0 < total (is_made_for (version_of a.0) asked.operation) (notes_of (slot_of a.0) (view_of x).notes) = n.1.1 in
-          let its = first_id run tasks may notes kept words closing noted asked.operation a.0 n.1.0 (let b = within run tasks may notes kept words closing noted c x at (slot_of a.0) (is_made_for (version_of a.0) asked.operation) in omega (arith, b, made_)) in
+          let its = first_id run tasks may notes kept words closing noted asked.operation a.0 n.1.0 (let b = noted_among run notes noted c x at (slot_of a.0) (is_made_for (version_of a.0) asked.operation) in omega (arith, b, made_)) in
           let task = subst (λ (y : ℕ). IsOperation every outcomes client y (ops.Call asked)) (sym mine) is in
           let label = only-at (8 * asked.operation + 0) (8 * asked.operation + 0) refl in
           subst (λ (y : ℕ). LeftHere client y asked 0) mine (deed_left c x at i d there asked refl refl made_ client task its (at_first refl (omega (arith, label))) n.1.0 (omega arith))
@@ -267,10 +267,10 @@ module _ {O : Type 0} {g : Ghosts O} {state : O → OutState} {readers : List (L
       first_left : 0 < total (makes o) notes → LeftHere client o asked 0
       first_left made =
           let v = total_some (λ (v : View Asked). total (makes o) v.notes) ids (let a = noted.made o in omega (arith, a, made)) in
-          let y = mapped_from view_of crew v.0 v.1 (ap (λ (vs : List (View Asked)). get_elem? vs v.0) (views_are run) ∙ v.2) in
+          let y = map_back view_of crew v.0 v.1 (ap (λ (vs : List (View Asked)). get_elem? vs v.0) (views_are run) ∙ v.2) in
           let b = made_begun y.0.thread y.0.is o (subst (λ (z : View Asked). 0 < total (makes o) z.notes) (sym y.2) v.3) in
           let task = task_at y.0.thread y.0.is b.0 b.1 b.2 in
-          let m = may_make run tasks may notes kept words closing noted v.0 y.0 y.1 in
+          let m = may_make run may v.0 y.0 y.1 in
           let mine : b.3.asked.operation ≡ b.1.task.number = own_call p q (tasks_of y.0) m.0 m.1 b.0 b.1.task task b.3.asked b.3.op in
           let one = same_task drun v.0 client b.1.task its_task (is_task run outcomes v.0 y.0 y.1 b.0 b.1.task task) is (sym mine ∙ b.3.operation) in
           let here : get_elem? (tasks_of y.0) b.0 ≡ some its_task = task ∙ ap some one.1 in

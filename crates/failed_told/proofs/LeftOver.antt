@@ -19,14 +19,14 @@ use Rattle.corr_core.specs.Word.{Parts, parts}
 use Rattle.corr_core.specs.Law.{total, is_ended}
 use Rattle.corr_core.specs.declared.marks.Kept.{Kept}
 use Rattle.corr_core.specs.declared.marks.Note.{Note}
-use Rattle.corr_core.specs.declared.marks.Note.TheVariants.{Made, Ended}
+use Rattle.corr_core.specs.declared.marks.Note.TheVariants.{Ended}
 use Rattle.corr_core.specs.declared.marks.Noted.{Noted}
 use Rattle.corr_core.specs.declared.marks.Plan.{Plan}
 use Rattle.corr_core.specs.declared.marks.View.{View}
 use Rattle.corr_core.proofs.Notes.{only-at, only-else}
 use Rattle.id_rule.specs.Lawful.{notes_of}
 use Rattle.sock_message.specs.Asked.{Asked}
-use Rattle.corr_id.specs.Calls.{FoundUpTo, is_saw, one, slot_of}
+use Rattle.corr_id.specs.Calls.{FoundUpTo, is_saw, slot_of}
 use Rattle.corr_id.specs.Closing.{Closing}
 use Rattle.attempts_told.specs.call_whys.specs.expire_told.specs.call_run.specs.prpc_frame.specs.Meaning.{frame_of}
 use Rattle.call_table.specs.Responses.{ending_of}
@@ -37,18 +37,16 @@ use Rattle.attempts_told.specs.call_whys.specs.expire_told.specs.call_deeds.spec
 use Rattle.attempts_told.specs.call_whys.specs.expire_told.specs.call_deeds.specs.rpc_reader.specs.Resting.{HadEnded, EndedLast, OneEnded, RestEnded}
 use Rattle.attempts_told.specs.call_whys.specs.expire_told.specs.call_run.specs.Readers.{LinkReader}
 use Rattle.attempts_told.specs.call_whys.specs.expire_told.specs.call_run.specs.Threads.{RanWith, MayRunAll, ids_of}
-use Rattle.attempts_told.specs.call_whys.specs.expire_told.specs.call_places.specs.Counted.{makes, HaveNotesOf}
-use Rattle.attempts_told.specs.call_whys.specs.expire_told.specs.call_places.proofs.Weights.{term, noted_at}
+use Rattle.attempts_told.specs.call_whys.specs.expire_told.specs.call_places.specs.Counted.{HaveNotesOf}
 use Rattle.attempts_told.specs.call_whys.specs.expire_told.specs.call_places.proofs.Ids.{IsIdOf, one_id}
 use Rattle.attempts_told.specs.call_whys.specs.expire_told.specs.call_places.proofs.Clients.{Client, view_of}
-use Rattle.attempts_told.specs.call_whys.specs.expire_told.specs.call_places.proofs.Places.{all as all_clients}
+use Rattle.attempts_told.specs.call_whys.specs.expire_told.specs.call_places.proofs.Places.{all as all_clients, made_once}
 use Rattle.attempts_told.specs.call_whys.specs.expire_told.specs.call_told.specs.Least.{is_made_for}
 use Rattle.attempts_told.specs.call_whys.specs.expire_told.specs.call_told.specs.Once.{ends_of}
 use Rattle.attempts_told.specs.call_whys.specs.expire_told.specs.call_told.proofs.Lists.{all_both, all_then}
 use Rattle.attempts_told.specs.call_whys.specs.expire_told.specs.call_told.proofs.Responses.{one_goes, rest_goes}
 use Rattle.attempts_told.specs.call_whys.specs.expire_told.specs.call_told.proofs.Tallies.{ending_is, version_low}
 use Rattle.attempts_told.proofs.Senders.{made_for_there}
-use Rattle.failed_told.proofs.Single.{made_once}
 
 -- all notes of the one list are in the other
 abbrev pub MoreNotes : List (Noted Asked) → List (Noted Asked) → Type 0
@@ -144,13 +142,7 @@ module _ {O : Type 0} {g : Ghosts O} {state : O → OutState} {readers : List (L
     (notes : List (Noted Asked)) (kept : List Kept) (words : List ℕ) (closing : Closing (ids_of p slots) notes kept words) (noted : HaveNotesOf ids notes)
     -- the notes with which whoever ends what is left begins have those of each client
     (ns : List (Noted Asked)) (have : (c : ℕ) (x : Client g state p (ids_of p slots)) → get_elem? (all_clients run) c ≡ some x → MoreNotes (view_of x).notes ns) where
-  -- an id was made for the operation
-  pub some_made : (o id : ℕ) → IsIdOf slots notes o id → 0 < total (makes o) notes
-  some_made o id h =
-      let n = noted_at h.slot notes h.place (Made h.first h.range h.asked) h.made in
-      let a = term (makes o) notes n.0 _ n.1 in let b = only-at o h.asked.operation h.operation in omega (arith, a, b)
-
-  -- so no client ended the range of the operation's call, or found a later one in its slot
+  -- no client ended the range of the operation's call, or found a later one in its slot
   pub over_last : (o id code : ℕ) (x : Told) (h : IsLast slots ns notes x) → x.outcome ≡ CallFailed id code → IsIdOf slots notes o id → (slot first : ℕ) → slot < slots → first < 4294967296 → 0 < total (is_made_for first o) (notes_of slot notes)
       → (c : ℕ) (y : Client g state p (ids_of p slots)) → get_elem? (all_clients run) c ≡ some y → (total (is_ended first) (notes_of slot (view_of y).notes) ≡ 0) × FoundUpTo slot first (view_of y)
   over_last o id code x h is its slot first inside low made c y at =
@@ -162,7 +154,7 @@ module _ {O : Type 0} {g : Ghosts O} {state : O → OutState} {readers : List (L
       also = let m = made_for_there first o (notes_of slot notes) made in record { slot = slot; first = first; inside = inside; low = low; id_is = refl; range = m.0; asked = m.1; place = m.2; made = m.3; operation = m.4 }
 
       same : h.slot * 4294967296 + h.first ≡ slot * 4294967296 + first
-      same = sym (ended_id (h.slot * 4294967296 + h.first) id code (sym (ap (ends_of (h.slot * 4294967296 + h.first)) is) ∙ h.is_end)) ∙ one_id slots notes o id (slot * 4294967296 + first) (made_once run tasks may notes kept words closing noted o) its also
+      same = sym (ended_id (h.slot * 4294967296 + h.first) id code (sym (ap (ends_of (h.slot * 4294967296 + h.first)) is) ∙ h.is_end)) ∙ one_id slots notes o id (slot * 4294967296 + first) (made_once run tasks may notes noted o) its also
 
       slot_is : h.slot ≡ slot
       slot_is = let a = same in let b = h.low in omega (arith, a, b, low)

@@ -16,7 +16,6 @@ pub mod Single
 pub mod Reaching
 pub mod Fallen
 pub mod Owners
-pub mod ReaderCodes
 pub mod Drops
 pub mod PostedCodes
 pub mod Asked

@@ -31,12 +31,11 @@ use Rattle.attempts_told.specs.call_whys.specs.expire_told.specs.call_run.specs.
 use Rattle.attempts_told.specs.call_whys.specs.expire_told.specs.call_places.specs.Counted.{HaveNotesOf}
 use Rattle.attempts_told.specs.call_whys.specs.expire_told.specs.call_places.proofs.Clients.{Client, view_of, tasks_of, deeds_of}
 use Rattle.attempts_told.specs.call_whys.specs.expire_told.specs.call_places.proofs.Ids.{IsIdOf}
-use Rattle.attempts_told.specs.call_whys.specs.expire_told.specs.call_places.proofs.Places.{all as all_clients, all_are}
+use Rattle.attempts_told.specs.call_whys.specs.expire_told.specs.call_places.proofs.Places.{all as all_clients, all_are, made_once}
 use Rattle.attempts_told.specs.call_whys.specs.expire_told.specs.call_told.proofs.Lists.{all_at}
 use Rattle.attempts_told.specs.call_whys.specs.expire_told.specs.call_deeds.specs.Retried.{all_asked}
 use Rattle.attempts_told.specs.call_whys.specs.expire_told.specs.call_deeds.proofs.Ran.{AreLater}
 use Rattle.attempts_told.specs.call_whys.specs.expire_told.specs.Said.{AreSaid, HaveKeptOf}
-use Rattle.attempts_told.specs.call_whys.specs.expire_told.proofs.Making.{mapped_from}
 use Rattle.attempts_told.specs.call_whys.specs.expire_told.specs.sock_deeds.specs.Runs.{IsOperation, seat_of, DeedRun}
 use Rattle.attempts_told.specs.call_whys.specs.expire_told.specs.sock_deeds.proofs.Accepting.{log}
 use Rattle.attempts_told.specs.call_whys.specs.expire_told.specs.sock_deeds.proofs.Tasks.{same_task}
@@ -50,9 +49,9 @@ use Rattle.failed_told.proofs.Codes.{IsReadCode}
 use Rattle.failed_told.proofs.Drops.{DroppedOn, read_dropped}
 use Rattle.failed_told.proofs.Lasts.{ended_last}
 use Rattle.failed_told.proofs.Premises.{asked_so as asked_here}
-use Rattle.failed_told.proofs.Single.{made_once}
 use Rattle.failed_told.proofs.Verdicts.{made_so}
 use Rattle.failed_told.proofs.Views.{queued_in}
+use Rattle.attempts_told.specs.call_whys.specs.expire_told.specs.sock_deeds.proofs.Places.{map_back}
 
 module _ {O : Type 0} {g : Ghosts O} {state : O → OutState} {readers : List (LinkReader g)} {p : Plan} {slots : ℕ} {setup : List Task} {clients : List (List Task)} {opens : List ℕ} {told ended : List (List Told)} {places : List PlaceWord} {vrefs : List Vref} {outs : List O} {ids : List (View Asked)}
     (run : RanWith g state readers p slots setup clients opens told ended places vrefs outs ids) (tasks : AreTasks p (setup ∷ clients)) (may : MayRunAll p (ids_of p slots) setup clients)
@@ -122,7 +121,7 @@ module _ {O : Type 0} {g : Ghosts O} {state : O → OutState} {readers : List (L
               operation = refl;
             } in
             let over = over_here run tasks may notes kept words closing noted keeps outcomes drun seats logged differ gave (log_accepted drun differ (λ k. [])) few_slots few_links (asked_here run tasks may notes kept words closing noted outcomes later) Reads Alone said_own said_ended others read_code c x at one e in
-            let most = ended_last (ids_of p slots) notes kept words closing m.0.operation (id_in e.lock) (parts e.lock.word.0).attempt id (made_once run tasks may notes kept words closing noted m.0.operation) over in
+            let most = ended_last (ids_of p slots) notes kept words closing m.0.operation (id_in e.lock) (parts e.lock.word.0).attempt id (made_once run tasks may notes noted m.0.operation) over in
             let current : d.attempt ≡ (parts e.lock.word.0).attempt = subst (λ (a : Option ℕ). IsTimely a (parts e.lock.word.0).attempt) d.current e.cause.timely in
             let below = dropped.low in let last : d.attempt ≡ last_attempt notes m.0.operation = omega (arith, current, most, below) in
             let dropped_last : DroppedHere m.0.operation m.0 e.code = subst (DroppedAt m.0.operation m.0 e.code) last dropped in
@@ -132,7 +131,7 @@ module _ {O : Type 0} {g : Ghosts O} {state : O → OutState} {readers : List (L
     pub told_on : (c i : ℕ) (ts : List Told) (one : Told) → get_elem? ended c ≡ some ts → get_elem? ts i ≡ some one → (id code : ℕ) → one.outcome ≡ CallFailed id code → ((slot first : ℕ) → id ≡ slot * 4294967296 + first → first < 4294967296 → WasEndedHere slot first) → IsReadCode code → (client : ℕ) (asked : Asked) → IsOperation every outcomes client one.number (ops.Call asked) → EndedHere one.number asked id code ⊎ DroppedHere one.number asked code
     told_on c i ts one at there id code is was read client asked task =
         let f : Thread g → List Told = λ x. x.ended.calls.told.items in
-        let w = mapped_from (λ (x : Client g state p (ids_of p slots)). f x.thread) (all_clients run) c ts (ap (λ (l : List (List Told)). get_elem? l c) (all_are run f ∙ run.ran.ended_is) ∙ at) in
+        let w = map_back (λ (x : Client g state p (ids_of p slots)). f x.thread) (all_clients run) c ts (ap (λ (l : List (List Told)). get_elem? l c) (all_are run f ∙ run.ran.ended_is) ∙ at) in
         let Caused : Told → Type 0 = IsCaused state p (ids_of p slots) (tasks_of w.0) (Says run outcomes said_own) (deeds_of w.0) (view_of w.0) in
         let e : Caused one = all_at Caused w.0.thread.ended.calls.told.items i one (ended_caused run outcomes said_own c w.0 w.1).1 (ap (λ (l : List Told). get_elem? l i) w.2 ∙ there) in
         let number : one.number ≡ e.lock.content.operation = ap (λ (t : Told). t.number) e.is in

@@ -1,7 +1,7 @@
 -- The first version of a call's id leaves room for its range among the versions of a slot.
 use Rattle.std.proofs.Common.{◌≡◌, ℕ, ◌<◌, ◌≤◌, List, ◌∷◌, None, sym, ap, ◌∙◌, subst, arith}
 use Rattle.std.specs.Prelude.{Option}
-use mathlib.Core.Option.{some, some-injective}
+use mathlib.Core.Option.{some-injective}
 use Rattle.sock_io.specs.declared.link.Out.{Ghosts}
 use Rattle.sock_io.specs.Link.{OutState}
 use Rattle.sock_words.specs.declared.outcome.Outcome.{Outcome}
@@ -31,15 +31,14 @@ use Rattle.attempts_told.specs.call_whys.specs.expire_told.specs.call_run.specs.
 use Rattle.attempts_told.specs.call_whys.specs.expire_told.specs.call_places.specs.Counted.{makes, HaveNotesOf}
 use Rattle.attempts_told.specs.call_whys.specs.expire_told.specs.call_places.proofs.Clients.{Client, total_map, view_of}
 use Rattle.attempts_told.specs.call_whys.specs.expire_told.specs.call_places.proofs.Ids.{IsIdOf}
-use Rattle.attempts_told.specs.call_whys.specs.expire_told.specs.call_places.proofs.Places.{all as all_clients, views_are}
+use Rattle.attempts_told.specs.call_whys.specs.expire_told.specs.call_places.proofs.Places.{all as all_clients, views_are, noted_among, made_once}
 use Rattle.attempts_told.specs.call_whys.specs.expire_told.specs.call_places.proofs.Weights.{term, noted_at}
 use Rattle.attempts_told.specs.call_whys.specs.expire_told.specs.call_told.specs.Least.{is_made_for}
 use Rattle.attempts_told.specs.call_whys.specs.expire_told.specs.call_deeds.proofs.Ran.{Result}
-use Rattle.attempts_told.specs.call_whys.specs.expire_told.proofs.Begun.{made_begun as begun_behind}
+use Rattle.attempts_told.specs.call_whys.specs.expire_told.specs.call_told.proofs.Coming.{made_begun as begun_behind}
 use Rattle.failed_told.proofs.Before.{operation_made, noted_last}
 use Rattle.failed_told.proofs.Lasts.{one_made}
 use Rattle.failed_told.proofs.Makers.{made_begun}
-use Rattle.failed_told.proofs.Single.{within, made_once}
 
 -- an id with room was made for the operation
 pub record MadeLow (slots o : ℕ) (v : View Asked) : Type 0 where
@@ -83,6 +82,6 @@ module _ {O : Type 0} {g : Ghosts O} {state : O → OutState} {readers : List (L
       let f : View Asked → ℕ = λ v. total (makes o) v.notes in
       let s = total_some (λ (y : Client g state p q). f (view_of y)) crew (let a = noted.made o in let b = total_map f view_of crew in let c = ap (total f) (views_are run) in omega (arith, one, here, a, b, c)) in
       let m = client_low s.1.thread s.1.is o s.3 in
-      let all = within run tasks may notes kept words closing noted s.0 s.1 s.2 (slot_of m.id) (is_made_for (version_of m.id) o) in
-      let same = one_made slots notes o id its (made_once run tasks may notes kept words closing noted o) (slot_of m.id) (version_of m.id) (let made = m.made in omega (arith, all, made)) in
+      let all = noted_among run notes noted s.0 s.1 s.2 (slot_of m.id) (is_made_for (version_of m.id) o) in
+      let same = one_made slots notes o id its (made_once run tasks may notes noted o) (slot_of m.id) (version_of m.id) (let made = m.made in omega (arith, all, made)) in
       let low = m.low in let first = same.1 in omega (arith, low, first)

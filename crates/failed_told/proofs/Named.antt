@@ -39,7 +39,7 @@ use Rattle.attempts_told.specs.call_whys.specs.expire_told.specs.call_places.spe
 use Rattle.attempts_told.specs.call_whys.specs.expire_told.specs.call_places.proofs.Ids.{IsIdOf}
 use Rattle.attempts_told.specs.call_whys.specs.expire_told.specs.call_places.proofs.Labels.{label_in}
 use Rattle.attempts_told.specs.call_whys.specs.expire_told.specs.call_places.proofs.Clients.{Client, total_map, view_of, deeds_of}
-use Rattle.attempts_told.specs.call_whys.specs.expire_told.specs.call_places.proofs.Places.{all as all_clients, views_are}
+use Rattle.attempts_told.specs.call_whys.specs.expire_told.specs.call_places.proofs.Places.{all as all_clients, views_are, noted_among}
 use Rattle.attempts_told.specs.call_whys.specs.expire_told.specs.call_told.specs.Least.{is_made_for}
 use Rattle.attempts_told.specs.call_whys.specs.expire_told.specs.call_told.proofs.Resting.{is_word}
 use Rattle.attempts_told.specs.call_whys.specs.expire_told.specs.Said.{HaveKeptOf}
@@ -54,7 +54,7 @@ use Rattle.failed_told.specs.Missed.{acted_id, id_of, attempt_of}
 use Rattle.failed_told.proofs.AtWords.{link_in, IsMadeIn, IsStoredBy, stored_in, stored_by}
 use Rattle.failed_told.proofs.Losses.{IsAskedIn}
 use Rattle.failed_told.proofs.Posters.{attempt_low}
-use Rattle.failed_told.proofs.Single.{IsAttemptOf, at_first, within, first_id, again_id, again_attempt, made_low}
+use Rattle.failed_told.proofs.Single.{IsAttemptOf, at_first, first_id, again_id, again_attempt, made_low}
 use Rattle.failed_told.proofs.Standing.{may_be_on, lost_on}
 
 -- ## Words
@@ -121,7 +121,7 @@ module _ {O : Type 0} {g : Ghosts O} {state : O → OutState} {readers : List (L
       by : (d : Deed g state p q) → get_elem? (deeds_of x) i ≡ some d → (asked : Asked) → IsAskedIn d asked → (link : ℕ) → link_in d ≡ Some link → slot_of (id_of d) < slots → IsMadeIn (view_of x) asked.operation d → IsOwn asked.operation d
       by (operates y how before after a) here asked is link has inside made =
           let id : ℕ = acted_id state p q y.number y.op how before after a in record {
-            id = first_id run tasks may notes kept words closing noted asked.operation id inside (let b = within run tasks may notes kept words closing noted c x at (slot_of id) (is_made_for (version_of id) asked.operation) in omega (arith, b, made));
+            id = first_id run tasks may notes kept words closing noted asked.operation id inside (let b = noted_among run notes noted c x at (slot_of id) (is_made_for (version_of id) asked.operation) in omega (arith, b, made));
             attempt = at_first refl (first_label asked.operation y.number y.op asked is refl);
           }
       by (retries r before after (had_ended h)) here asked is link has inside made = absurd (none-some link has)

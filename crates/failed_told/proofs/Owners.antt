@@ -40,15 +40,15 @@ use Rattle.attempts_told.specs.call_whys.specs.expire_told.specs.call_places.spe
 use Rattle.attempts_told.specs.call_whys.specs.expire_told.specs.call_places.specs.Deeds.{Deed, operates, retries, delivered_entries, attempt_entries, went_entries, acted_entries, entries_of}
 use Rattle.attempts_told.specs.call_whys.specs.expire_told.specs.call_places.proofs.Clients.{Client, view_of, tasks_of, deeds_of, own_of}
 use Rattle.attempts_told.specs.call_whys.specs.expire_told.specs.call_places.proofs.Ids.{IsIdOf}
-use Rattle.attempts_told.specs.call_whys.specs.expire_told.specs.call_places.proofs.Places.{all as all_clients, lists_are}
+use Rattle.attempts_told.specs.call_whys.specs.expire_told.specs.call_places.proofs.Places.{all as all_clients, lists_are, noted_among, own_behind}
 use Rattle.attempts_told.specs.call_whys.specs.expire_told.specs.call_places.proofs.Log as log
 use Rattle.attempts_told.specs.call_whys.specs.expire_told.specs.call_told.specs.Least.{is_made_for}
 use Rattle.attempts_told.specs.call_whys.specs.expire_told.specs.call_told.proofs.Lists.{all_at}
-use Rattle.attempts_told.specs.call_whys.specs.expire_told.proofs.Making.{mapped_from}
 use Rattle.attempts_told.specs.call_whys.specs.expire_told.specs.sock_deeds.proofs.Entries.{before}
 use Rattle.attempts_told.specs.call_whys.specs.expire_told.specs.sock_deeds.proofs.Flats.{flat_from}
-use Rattle.attempts_told.proofs.Senders.{behind_empty, HasMade, IsNoted, all_noted}
-use Rattle.failed_told.proofs.Single.{none_there, one_there, within, again_id, first_id}
+use Rattle.attempts_told.proofs.Senders.{HasMade, IsNoted, all_noted}
+use Rattle.failed_told.proofs.Single.{none_there, one_there, again_id, first_id}
+use Rattle.attempts_told.specs.call_whys.specs.expire_told.specs.sock_deeds.proofs.Places.{map_back}
 
 -- ## The heading of a frame
 
@@ -112,7 +112,7 @@ module _ {O : Type 0} {g : Ghosts O} {state : O → OutState} {readers : List (L
   deed_owned : (c : ℕ) (x : Client g state p q) → get_elem? crew c ≡ some x → (i : ℕ) (d : Deed g state p q) → get_elem? (deeds_of x) i ≡ some d → (m : ℕ) (e : Entry) → get_elem? (entries_of d) m ≡ some e → Owned e
   deed_owned c x at i (operates y by s t a) there m e h =
       let n = all_at (IsNoted g state p q (tasks_of x) (view_of x)) (deeds_of x) i (operates y by s t a) (all_noted x.thread x.is) there in
-      acted_owned (view_of x) (within run tasks may notes kept words closing noted c x at) y.number y.op by s t a n.1 m e h
+      acted_owned (view_of x) (noted_among run notes noted c x at) y.number y.op by s t a n.1 m e h
   deed_owned c x at i (retries r s t (had_ended z)) there m e h = absurd (none_there m e h)
   deed_owned c x at i (retries r s t (overtaken k u l w)) there m e h = absurd (none_there m e h)
   deed_owned c x at i (retries r s t (went_again k u l w)) there m e h =
@@ -122,8 +122,8 @@ module _ {O : Type 0} {g : Ghosts O} {state : O → OutState} {readers : List (L
   pub owned_by : (k : ℕ) (e : Entry) → get_elem? run.closed.ordered.log k ≡ some e → Owned e
   owned_by k e logged =
       let a = log.authored p run.closed.view.found run.closed.view.lists run.closed.ordered k e logged in
-      let j = behind_empty readers (map own_of crew) a.seat _ _ e (ap (λ (l : List (List Entry)). get_elem? l a.seat) (sym (lists_are run)) ∙ a.list) a.place in
-      let y = mapped_from own_of crew j.0 _ j.1 in
+      let j = own_behind readers (map own_of crew) a.seat _ _ e (ap (λ (l : List (List Entry)). get_elem? l a.seat) (sym (lists_are run)) ∙ a.list) a.place in
+      let y = map_back own_of crew j.0 _ j.1 in
       let m : ℕ = before a.author run.closed.ordered.by k in
       let own = flat_from entries_of (deeds_of y.0) m e (subst (λ (l : List Entry). get_elem? l m ≡ some e) (sym y.2) a.place) in
       deed_owned j.0 y.0 y.1 own.0 own.1 own.2 own.3 e own.4

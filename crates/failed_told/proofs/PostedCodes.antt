@@ -45,8 +45,8 @@ use Rattle.attempts_told.specs.call_whys.specs.expire_told.proofs.Expiring.{time
 use Rattle.failed_told.proofs.Codes.{IsReadCode}
 use Rattle.failed_told.proofs.Drops.{drop_code}
 use Rattle.failed_told.proofs.Queued.{read_posted, WasDropCode, queued_code}
-use Rattle.failed_told.proofs.Single.{within}
 use Rattle.failed_told.proofs.Views.{queued_in}
+use Rattle.attempts_told.specs.call_whys.specs.expire_told.specs.call_places.proofs.Places.{noted_among}
 
 -- the codes of a crowded id
 first_in : Outcome → ℕ
@@ -112,7 +112,7 @@ module _ {O : Type 0} {g : Ghosts O} {state : O → OutState} {readers : List (L
     seen : (word : ℕ) (v : View Asked) (bs : Books) → m.done.after.has.calls ≡ record { view = v; books = bs } → 0 < total (is_saw word) (notes_of (slot_of h.id) v.notes) → 0 < total (is_saw word) (notes_of (slot_of h.id) notes)
     seen word v bs e found =
         let x = ap (λ (s : CallStand). total (is_saw word) (notes_of (slot_of h.id) s.view.notes)) e in let y = (m.done.later of).1.grows.notes (slot_of h.id) (is_saw word) in
-        let z = within run tasks may notes kept words closing noted c m.client m.at (slot_of h.id) (is_saw word) in omega (arith, x, y, z, found)
+        let z = noted_among run notes noted c m.client m.at (slot_of h.id) (is_saw word) in omega (arith, x, y, z, found)
 
     by_answer : (answer : Posted Asked) → outcome.Crowded a b ≡ outcome_by answer → PostedAs slots answer (found_id q of h.id m.done.made.ready.calls) h.id ERPCTIMEDOUT None m.done.after.has.calls → PostedHere a × PostedHere b
     by_answer (HasLock k) e x = absurd (cc)

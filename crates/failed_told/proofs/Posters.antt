@@ -14,12 +14,10 @@ use Rattle.seat_programs.specs.declared.task.Task.{Task}
 use Rattle.corr_core.specs.Law.{total}
 use Rattle.corr_core.specs.Word.{parts, code_of}
 use Rattle.corr_core.specs.declared.marks.Kept.{Kept}
-use Rattle.corr_core.specs.declared.marks.Note.{Note}
 use Rattle.corr_core.specs.declared.marks.Noted.{Noted}
 use Rattle.corr_core.specs.declared.marks.Plan as id_plan
 use Rattle.corr_core.specs.declared.marks.View.{View}
 use Rattle.corr_core.proofs.Notes.{total_some}
-use Rattle.id_rule.specs.Lawful.{notes_of}
 use Rattle.sock_message.specs.Asked.{Asked}
 use Rattle.corr_id.specs.Calls.{is_saw, slot_of, version_of, error_in}
 use Rattle.corr_id.specs.Closing.{Closing}
@@ -31,9 +29,8 @@ use Rattle.attempts_told.specs.call_whys.specs.expire_told.specs.call_run.specs.
 use Rattle.attempts_told.specs.call_whys.specs.expire_told.specs.call_run.specs.Threads.{RanWith, ids_of}
 use Rattle.attempts_told.specs.call_whys.specs.expire_told.specs.call_places.specs.Counted.{HaveNotesOf}
 use Rattle.attempts_told.specs.call_whys.specs.expire_told.specs.call_places.specs.Deeds.{Deed, operates, retries}
-use Rattle.attempts_told.specs.call_whys.specs.expire_told.specs.call_places.proofs.Weights.{term}
 use Rattle.attempts_told.specs.call_whys.specs.expire_told.specs.call_places.proofs.Clients.{Client, total_map, view_of, tasks_of, deeds_of}
-use Rattle.attempts_told.specs.call_whys.specs.expire_told.specs.call_places.proofs.Places.{all as all_clients, views_are}
+use Rattle.attempts_told.specs.call_whys.specs.expire_told.specs.call_places.proofs.Places.{all as all_clients, views_are, noted_among}
 use Rattle.attempts_told.specs.call_whys.specs.expire_told.specs.Said.{AreSaid}
 use Rattle.failed_told.specs.Missed.{attempt_of}
 use Rattle.failed_told.specs.Reasons.{Reason, timed_out, missed, dropped, posted_so, handed_out, Cause}
@@ -89,11 +86,6 @@ module _ {O : Type 0} {g : Ghosts O} {state : O → OutState} {readers : List (L
   abbrev crew : List (Client g state p q)
   crew = all_clients run
 
-  pub within : (c : ℕ) (x : Client g state p q) → get_elem? crew c ≡ some x → (slot : ℕ) (f : Note Asked → ℕ) → total f (notes_of slot (view_of x).notes) ≤ total f (notes_of slot notes)
-  within c x at slot f =
-      let h : View Asked → ℕ = λ v. total f (notes_of slot v.notes) in
-      let a = term (λ (y : Client g state p q). h (view_of y)) crew c x at in let b = total_map h view_of crew in let d = ap (total h) (views_are run) in let e = noted.all slot f in omega (arith, a, b, d, e)
-
   -- a client had a reason to post this error
   pub record Poster (id code : ℕ) (attempt : Option ℕ) : Type 0 where
     pub place : ℕ
@@ -130,7 +122,7 @@ module _ {O : Type 0} {g : Ghosts O} {state : O → OutState} {readers : List (L
   posted_by c x at k code attempt cause = elim cause.origin [
     | posted_so reason ↦ inl (record { place = c; client = x; at = at; reason = reason })
     | handed_out word found locked first oldest some_ ↦ queued_by k code attempt (timely_low attempt (parts k.word.0).attempt (let a = k.fits.room in let b = k.fits.range_high in omega (arith, a, b)) cause.timely) (
-        let here = within c x at k.slot (is_saw word) in
+        let here = noted_among run notes noted c x at k.slot (is_saw word) in
         let w = closing.oldest_is k.slot word cause.inside (omega (arith, here, found)) (omega (arith, locked)) some_ in
         let same : queued_in k.slot (parts word).first (parts word).oldest notes ≡ queued_in k.slot (parts k.word.0).first (error_in code attempt) notes = λ i. queued_in k.slot (first i) (oldest i) notes in omega (arith, w, same)
         )

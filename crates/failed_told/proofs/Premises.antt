@@ -29,7 +29,7 @@ use Rattle.attempts_told.specs.call_whys.specs.expire_told.specs.call_places.spe
 use Rattle.attempts_told.specs.call_whys.specs.expire_told.specs.call_places.specs.Deeds.{Deed}
 use Rattle.attempts_told.specs.call_whys.specs.expire_told.specs.call_places.proofs.Still.{advances}
 use Rattle.attempts_told.specs.call_whys.specs.expire_told.specs.call_places.proofs.Clients.{Client, tasks_of, deeds_of}
-use Rattle.attempts_told.specs.call_whys.specs.expire_told.specs.call_places.proofs.Places.{all as all_clients}
+use Rattle.attempts_told.specs.call_whys.specs.expire_told.specs.call_places.proofs.Places.{all as all_clients, may_make}
 use Rattle.attempts_told.specs.call_whys.specs.expire_told.specs.call_deeds.specs.Retried.{all_asked}
 use Rattle.attempts_told.specs.call_whys.specs.expire_told.specs.call_deeds.proofs.Ran.{AreLater}
 use Rattle.attempts_told.specs.call_whys.specs.expire_told.specs.call_deeds.proofs.Runs.{same_task}
@@ -40,7 +40,6 @@ use Rattle.attempts_told.proofs.Told.{few as few_attempts}
 use Rattle.failed_told.proofs.Asked.{own_task, asked_task}
 use Rattle.failed_told.proofs.Crew.{is_task, own_call}
 use Rattle.failed_told.proofs.Losses.{IsAskedIn}
-use Rattle.failed_told.proofs.Single.{may_make}
 
 module _ {O : Type 0} {g : Ghosts O} {state : O → OutState} {readers : List (LinkReader g)} {p : Plan} {slots : ℕ} {setup : List Task} {clients : List (List Task)} {opens : List ℕ} {told ended : List (List Told)} {places : List PlaceWord} {vrefs : List Vref} {outs : List O} {ids : List (View Asked)}
     (run : RanWith g state readers p slots setup clients opens told ended places vrefs outs ids) (tasks : AreTasks p (setup ∷ clients)) (may : MayRunAll p (ids_of p slots) setup clients)
@@ -59,7 +58,7 @@ module _ {O : Type 0} {g : Ghosts O} {state : O → OutState} {readers : List (L
   -- whatever was asked by a call of which an attempt was made is a task
   pub asked_so : (c : ℕ) (x : Client g state p q) → get_elem? crew c ≡ some x → (i : ℕ) (d : Deed g state p q) → get_elem? (deeds_of x) i ≡ some d → (asked : Asked) → IsAskedIn d asked → (client : ℕ) × IsOperation every outcomes client asked.operation (ops.Call asked)
   asked_so c x at i d there asked is =
-      let m = may_make run tasks may notes kept words closing noted c x at in
+      let m = may_make run may c x at in
       asked_task every outcomes x.thread x.is (λ j y here. own_task every outcomes c y (is_task run outcomes c x at j y here) (own_call p q (tasks_of x) m.0 m.1 j y here)) (later c x at) i d there asked is
 
   -- each id was made for a call of theirs, with as many versions as that asks for; and none but they advanced attempts

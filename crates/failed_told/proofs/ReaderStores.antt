@@ -41,13 +41,12 @@ use Rattle.attempts_told.specs.call_whys.specs.expire_told.specs.call_deeds.spec
 use Rattle.attempts_told.specs.call_whys.specs.expire_told.specs.call_deeds.specs.rpc_reader.specs.Reading as reading
 use Rattle.attempts_told.specs.call_whys.specs.expire_told.specs.call_deeds.specs.rpc_reader.specs.Running.{fails, FailedIf, ReadIf}
 use Rattle.attempts_told.specs.call_whys.specs.expire_told.specs.call_run.specs.Readers.{LinkReader, nothing_read, IsReader}
-use Rattle.attempts_told.specs.call_whys.specs.expire_told.specs.call_places.proofs.Weights.{mapped}
-use Rattle.attempts_told.specs.call_whys.specs.expire_told.proofs.Making.{mapped_from}
 use Rattle.attempts_told.specs.call_whys.specs.expire_told.specs.sock_deeds.specs.Runs.{IsOperation, seat_of, sits_of, DeedRun}
 use Rattle.attempts_told.specs.call_whys.specs.expire_told.specs.sock_deeds.proofs.Growing.{HasFound}
 use Rattle.attempts_told.specs.call_whys.specs.expire_told.specs.sock_deeds.proofs.Tasks.{same_task}
+use Rattle.attempts_told.specs.call_whys.specs.expire_told.specs.sock_deeds.proofs.DropCodes.{StoredByReader, first_found}
 use Rattle.failed_told.proofs.Ends.{EndedIf, ReadEnded}
-use Rattle.failed_told.proofs.ReaderCodes.{StoredByReader, first_found}
+use Rattle.attempts_told.specs.call_whys.specs.expire_told.specs.sock_deeds.proofs.Places.{map_back, map_there}
 
 -- ## Notes that are no codes
 
@@ -172,8 +171,8 @@ module _ {O : Type 0} {g : Ghosts O} {state : O → OutState} {p : sizes.Plan} {
   pub setter : (k code : ℕ) → StoredByReader drun k code → IsSetter k code
   setter k code f =
       let seat : Seat (SockHome O g) View = f.reader.sits.seat in
-      let list : get_elem? (map seat_of (map sits_of drun.readers)) f.place ≡ some seat = mapped seat_of (map sits_of drun.readers) f.place f.reader.sits (mapped sits_of drun.readers f.place f.reader f.there) in
-      let m = mapped_from (λ (x : LinkReader g). x.seat) readers f.place seat (ap (λ (l : List (Seat (SockHome O g) View)). get_elem? l f.place) (sym sit) ∙ list) in
+      let list : get_elem? (map seat_of (map sits_of drun.readers)) f.place ≡ some seat = map_there seat_of (map sits_of drun.readers) f.place f.reader.sits (map_there sits_of drun.readers f.place f.reader f.there) in
+      let m = map_back (λ (x : LinkReader g). x.seat) readers f.place seat (ap (λ (l : List (Seat (SockHome O g) View)). get_elem? l f.place) (sym sit) ∙ list) in
       let view : seat.me.0 ≡ m.0.seat.me.0 = ap (λ (s : Seat (SockHome O g) View). s.me.0) (sym m.2) in
       let found : HasFound record { place = open_index p f.reader.number; word = f.sock.0 + 1 } m.0.seat.me.0 = subst (HasFound record { place = open_index p f.reader.number; word = f.sock.0 + 1 }) view (first_found drun f) in
       let stored : 0 < marks_of (is_stored f.version code) f.slot m.0.seat.me.0 = subst (λ (v : View). 0 < marks_of (is_stored f.version code) f.slot v) view f.stored in

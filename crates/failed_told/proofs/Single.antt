@@ -40,31 +40,29 @@ use Rattle.attempts_told.specs.call_whys.specs.expire_told.specs.call_attempts.s
 use Rattle.attempts_told.specs.call_whys.specs.expire_told.specs.call_attempts.specs.Attempting.{DeliveredBy, went_out, came_back, AttemptedBy, nowhere, over_link}
 use Rattle.attempts_told.specs.call_whys.specs.expire_told.specs.call_attempts.specs.Retrying.{Locked, WentAgain, WentTo, stray, unopened, to_socket, had_ended, overtaken, went_again}
 use Rattle.attempts_told.specs.call_whys.specs.expire_told.specs.call_client.specs.Acting.{Stand, both_of, Acted}
-use Rattle.attempts_told.specs.call_whys.specs.expire_told.specs.call_client.specs.Running.{MayMakeAll}
 use Rattle.attempts_told.specs.call_whys.specs.expire_told.specs.call_run.specs.Readers.{LinkReader}
-use Rattle.attempts_told.specs.call_whys.specs.expire_told.specs.call_run.specs.Threads.{RanWith, AllMayRun, MayRunAll, ids_of, opens_of}
-use Rattle.attempts_told.specs.call_whys.specs.expire_told.specs.call_places.specs.Counted.{makes, HaveNotesOf}
+use Rattle.attempts_told.specs.call_whys.specs.expire_told.specs.call_run.specs.Threads.{RanWith, MayRunAll, ids_of}
+use Rattle.attempts_told.specs.call_whys.specs.expire_told.specs.call_places.specs.Counted.{HaveNotesOf}
 use Rattle.attempts_told.specs.call_whys.specs.expire_told.specs.call_places.specs.Deeds.{Deed, operates, retries, delivered_entries, attempt_entries, went_entries, acted_entries, entries_of}
-use Rattle.attempts_told.specs.call_whys.specs.expire_told.specs.call_places.proofs.Weights.{term, two_terms, each_less, mapped}
+use Rattle.attempts_told.specs.call_whys.specs.expire_told.specs.call_places.proofs.Weights.{term, two_terms, each_less}
 use Rattle.attempts_told.specs.call_whys.specs.expire_told.specs.call_places.proofs.Still.{is_retry, is_first}
-use Rattle.attempts_told.specs.call_whys.specs.expire_told.specs.call_places.proofs.Counts.{call_in, by_task, by_retry, Knows, tried_few, none_first, made_few, all_known, task_total}
+use Rattle.attempts_told.specs.call_whys.specs.expire_told.specs.call_places.proofs.Counts.{by_task, by_retry, Knows, tried_few, none_first, all_known, task_total}
 use Rattle.attempts_told.specs.call_whys.specs.expire_told.specs.call_places.proofs.Labels.{label_in, labels}
-use Rattle.attempts_told.specs.call_whys.specs.expire_told.specs.call_places.proofs.Numbers.{numbered, numbered_once, own_calls, own_labels, no_labels}
+use Rattle.attempts_told.specs.call_whys.specs.expire_told.specs.call_places.proofs.Numbers.{numbered, own_labels, no_labels}
 use Rattle.attempts_told.specs.call_whys.specs.expire_told.specs.call_places.proofs.Ids.{IdLaws, laws_of, IsIdOf, version_low, lock_id, one_id}
 use Rattle.attempts_told.specs.call_whys.specs.expire_told.specs.call_places.proofs.Clients.{Client, total_map, view_of, tasks_of, deeds_of, own_of}
-use Rattle.attempts_told.specs.call_whys.specs.expire_told.specs.call_places.proofs.Places.{all as all_clients, views_are, tasks_are, lists_are}
+use Rattle.attempts_told.specs.call_whys.specs.expire_told.specs.call_places.proofs.Places.{all as all_clients, views_are, lists_are, noted_among, own_behind, may_make, one_number, made_once}
 use Rattle.attempts_told.specs.call_whys.specs.expire_told.specs.call_places.proofs.Log as log
 use Rattle.attempts_told.specs.call_whys.specs.expire_told.specs.call_told.specs.Least.{is_made_for}
 use Rattle.attempts_told.specs.call_whys.specs.expire_told.specs.call_told.proofs.Lists.{all_at}
-use Rattle.attempts_told.specs.call_whys.specs.expire_told.proofs.Making.{mapped_from}
 use Rattle.attempts_told.specs.Attempts.{last_attempt}
 use Rattle.attempts_told.proofs.Last.{none_further}
-use Rattle.attempts_told.proofs.Senders.{behind_empty}
 use Rattle.attempts_told.specs.call_whys.specs.expire_told.specs.sock_deeds.proofs.Entries.{before}
 use Rattle.attempts_told.specs.call_whys.specs.expire_told.specs.sock_deeds.proofs.Flats.{flat_from}
 use Rattle.failed_told.specs.Missed.{delivery_missed, attempt_missed, went_missed, acted_missed, acted_id, IsMadeBy, missed_in, id_of, IsBacked, attempt_of}
 use Rattle.failed_told.proofs.Losses.{IsAskedIn}
 use Rattle.failed_told.proofs.Posters.{attempt_low}
+use Rattle.attempts_told.specs.call_whys.specs.expire_told.specs.sock_deeds.proofs.Places.{map_back}
 
 -- ## Frames of a deed
 
@@ -174,12 +172,6 @@ made_note f o (Queued g e) h = absurd (omega (arith, h))
 made_note f o (Attempt g m) h = absurd (omega (arith, h))
 made_note f o (Saw w) h = absurd (omega (arith, h))
 
--- the list of a client's operations
-may_at : (p : Plan) (q : id_plan.Plan) (tss : List (List Task)) → AllMayRun p q tss → (j : ℕ) (ts : List Task) → get_elem? tss j ≡ some ts → (n : ℕ) × MayMakeAll p q ts n
-may_at p q [] a j ts e = absurd (some-ne-none ts (sym e))
-may_at p q (us ∷ tss) a zero ts e = subst (λ (x : List Task). (n : ℕ) × MayMakeAll p q x n) (some-injective us ts e) (opens_of us, a.0.may)
-may_at p q (us ∷ tss) a (suc j) ts e = may_at p q tss a.1 j ts e
-
 -- ## The run
 
 module _ {O : Type 0} {g : Ghosts O} {state : O → OutState} {readers : List (LinkReader g)} {p : Plan} {slots : ℕ} {setup : List Task} {clients : List (List Task)} {opens : List ℕ} {told ended : List (List Told)} {places : List PlaceWord} {vrefs : List Vref} {outs : List O} {ids : List (View Asked)}
@@ -194,26 +186,6 @@ module _ {O : Type 0} {g : Ghosts O} {state : O → OutState} {readers : List (L
   pub laws : IdLaws slots notes
   laws = laws_of q notes kept words closing
 
-  pub within : (c : ℕ) (x : Client g state p q) → get_elem? crew c ≡ some x → (slot : ℕ) (f : Note Asked → ℕ) → total f (notes_of slot (view_of x).notes) ≤ total f (notes_of slot notes)
-  within c x at slot f =
-      let h : View Asked → ℕ = λ v. total f (notes_of slot v.notes) in
-      let a = term (λ (y : Client g state p q). h (view_of y)) crew c x at in let b = total_map h view_of crew in let d = ap (total h) (views_are run) in let e = noted.all slot f in omega (arith, a, b, d, e)
-
-  pub may_make : (c : ℕ) (x : Client g state p q) → get_elem? crew c ≡ some x → (n : ℕ) × MayMakeAll p q (tasks_of x) n
-  may_make c x at = may_at p q (setup ∷ clients) (may.setup_may, may.clients_may) c (tasks_of x) (ap (λ (l : List (List Task)). get_elem? l c) (sym (tasks_are run)) ∙ mapped tasks_of crew c x at)
-
-  numbers : (o : ℕ) → total (λ (x : Client g state p q). total (numbered o) (tasks_of x)) crew ≤ 1
-  numbers o = let f : List Task → ℕ = λ ts. total (numbered o) ts in let a = total_map f tasks_of crew in let b = ap (total f) (tasks_are run) in let d = numbered_once p (setup ∷ clients) tasks o in omega (arith, a, b, d)
-
-  -- one id at most was made for an operation
-  pub made_once : (o : ℕ) → total (makes o) notes ≤ 1
-  made_once o =
-      let f : View Asked → ℕ = λ v. total (makes o) v.notes in
-      let a = noted.made o in let b = total_map f view_of crew in let c = ap (total f) (views_are run) in
-      let d = each_less (λ (x : Client g state p q). f (view_of x)) (λ (x : Client g state p q). total (numbered o) (tasks_of x)) crew (λ j x at.
-      let m = may_make j x at in let a = made_few x.thread x.is o in let b = task_total x.thread x.is (λ (t : Task). call_in o t.op) in let d = own_calls p q o (tasks_of x) m.0 m.1 in omega (arith, a, b, d)) in
-      let e = numbers o in omega (arith, a, b, c, d, e)
-
   -- ## Attempts by their deeds
 
   -- the deed is attempt n of the call that is operation o, with this id
@@ -225,8 +197,8 @@ module _ {O : Type 0} {g : Ghosts O} {state : O → OutState} {readers : List (L
   one_first o =
       let l : ℕ = 8 * o + 0 in let same : l / 8 ≡ o = omega arith in
       let a = each_less (λ (x : Client g state p q). total (by_task (labels l)) (deeds_of x)) (λ (x : Client g state p q). total (numbered (l / 8)) (tasks_of x)) crew (λ j x at.
-      let m = may_make j x at in let b = task_total x.thread x.is (labels l) in let d = own_labels p q l (tasks_of x) m.0 m.1 in omega (arith, b, d)) in
-      let b = numbers (l / 8) in omega (arith, a, b)
+      let m = may_make run may j x at in let b = task_total x.thread x.is (labels l) in let d = own_labels p q l (tasks_of x) m.0 m.1 in omega (arith, b, d)) in
+      let b = one_number run tasks (l / 8) in omega (arith, a, b)
 
   one_again : (id n : ℕ) → slot_of id < slots → total (λ (x : Client g state p q). total (by_retry (is_retry id n)) (deeds_of x)) crew ≤ 1
   one_again id n inside =
@@ -275,7 +247,7 @@ module _ {O : Type 0} {g : Ghosts O} {state : O → OutState} {readers : List (L
         let counted = term (by_retry (is_retry (slot * 4294967296 + version) r.attempt)) (deeds_of x) i went there in
         let one = pair-at (slot * 4294967296 + version) r.attempt r.id r.attempt (sym whole) refl in
         let few = tried_few x.thread x.is slot version r.attempt (version_low r.id) in
-        lock_id laws r.id r.attempt k s.calls.view (view_of x) u.calls.view l.got knows (within c x at) (omega (arith, counted, one, few))
+        lock_id laws r.id r.attempt k s.calls.view (view_of x) u.calls.view l.got knows (noted_among run notes noted c x at) (omega (arith, counted, one, few))
 
     pub again_later : get_elem? (deeds_of x) i ≡ some went → 0 < r.attempt
     again_later there = dite (ℕ_discrete r.attempt 0)
@@ -301,7 +273,7 @@ module _ {O : Type 0} {g : Ghosts O} {state : O → OutState} {readers : List (L
       let operation : k.content.operation ≡ o = omega (arith, same, small, low) in
       let number : r.attempt ≡ n = omega (arith, same, small, low) in
       let its = subst (λ (z : ℕ). IsIdOf slots notes z r.id) operation (again_id c x at i r s t k u l w there) in
-      again_attempt c x at i r s t k u l w o id n (one_id slots notes o r.id id (made_once o) its is) number there
+      again_attempt c x at i r s t k u l w o id n (one_id slots notes o r.id id (made_once run tasks may notes noted o) its is) number there
 
   -- ## Attempts that came to nothing
 
@@ -323,7 +295,7 @@ module _ {O : Type 0} {g : Ghosts O} {state : O → OutState} {readers : List (L
       let f = acted_first state p q code (view_of x) y.number y.op by s t a is backed in let id : ℕ = acted_id state p q y.number y.op by s t a in
       record {
         operation = f.operation;
-        id = first_id f.operation id inside (let b = within c x at (slot_of id) (is_made_for (version_of id) f.operation) in let m = f.made in omega (arith, b, m));
+        id = first_id f.operation id inside (let b = noted_among run notes noted c x at (slot_of id) (is_made_for (version_of id) f.operation) in let m = f.made in omega (arith, b, m));
         attempt = at_first refl f.label;
         no_frame = f.no_frame;
         asks = f.asks;
@@ -353,8 +325,8 @@ module _ {O : Type 0} {g : Ghosts O} {state : O → OutState} {readers : List (L
   pub sender : (o id n : ℕ) → n < 8 → IsIdOf slots notes o id → (k : ℕ) (e : Entry) → get_elem? run.closed.ordered.log k ≡ some e → e.heading.place ≡ 8 * o + n → IsSender o id n e
   sender o id n low is k e logged place =
       let a = log.authored p run.closed.view.found run.closed.view.lists run.closed.ordered k e logged in
-      let j = behind_empty readers (map own_of crew) a.seat _ _ e (ap (λ (l : List (List Entry)). get_elem? l a.seat) (sym (lists_are run)) ∙ a.list) a.place in
-      let y = mapped_from own_of crew j.0 _ j.1 in
+      let j = own_behind readers (map own_of crew) a.seat _ _ e (ap (λ (l : List (List Entry)). get_elem? l a.seat) (sym (lists_are run)) ∙ a.list) a.place in
+      let y = map_back own_of crew j.0 _ j.1 in
       let m : ℕ = before a.author run.closed.ordered.by k in
       let own = flat_from entries_of (deeds_of y.0) m e (subst (λ (l : List Entry). get_elem? l m ≡ some e) (sym y.2) a.place) in
       record { place = j.0; client = y.0; in_crew = y.1; index = own.0; deed = own.1; there = own.2; at = own.3; sent = own.4; attempt = frame_attempt o id n low is j.0 y.0 y.1 own.0 own.1 own.2 own.3 e own.4 place }
@@ -381,6 +353,6 @@ module _ {O : Type 0} {g : Ghosts O} {state : O → OutState} {readers : List (L
       let f : ℕ = is.first in
       let made = term (by_retry (is_retry id n)) (deeds_of x) i d there in
       let few : total (by_retry (is_retry id n)) (deeds_of x) ≤ total (is_attempt f n) (notes_of is.slot (view_of x).notes) = subst (λ (z : ℕ). total (by_retry (is_retry z n)) (deeds_of x) ≤ total (is_attempt f n) (notes_of is.slot (view_of x).notes)) (sym is.id_is) (tried_few x.thread x.is is.slot f n is.low) in
-      let all = within c x at is.slot (is_attempt f n) in
+      let all = noted_among run notes noted c x at is.slot (is_attempt f n) in
       let one = term (is_made_for f o) (notes_of is.slot notes) is.place (Made f is.range is.asked) is.made in let here = pair-at f o f is.asked.operation refl is.operation in
       none_further o notes is.slot f n notes (omega (arith, one, here)) (omega (arith, made, few, all, w))

@@ -48,11 +48,9 @@ use Rattle.attempts_told.specs.call_whys.specs.expire_told.specs.call_run.specs.
 use Rattle.attempts_told.specs.call_whys.specs.expire_told.specs.call_places.specs.Counted.{HaveNotesOf}
 use Rattle.attempts_told.specs.call_whys.specs.expire_told.specs.call_places.specs.Deeds.{Deed, operates, retries, delivered_entries, attempt_entries, went_entries, acted_entries, entries_of}
 use Rattle.attempts_told.specs.call_whys.specs.expire_told.specs.call_places.proofs.Ids.{IsIdOf}
-use Rattle.attempts_told.specs.call_whys.specs.expire_told.specs.call_places.proofs.Weights.{mapped}
 use Rattle.attempts_told.specs.call_whys.specs.expire_told.specs.call_places.proofs.Clients.{Client, deeds_of, own_of}
 use Rattle.attempts_told.specs.call_whys.specs.expire_told.specs.call_places.proofs.Places.{all as all_clients, lists_are}
 use Rattle.attempts_told.specs.call_whys.specs.expire_told.specs.call_deeds.proofs.Messages.{seen_through}
-use Rattle.attempts_told.specs.call_whys.specs.expire_told.proofs.Making.{mapped_from}
 use Rattle.attempts_told.specs.call_whys.specs.expire_told.specs.sock_deeds.specs.Left.{accepted_of}
 use Rattle.attempts_told.specs.call_whys.specs.expire_told.specs.sock_deeds.specs.Runs.{IsOperation, Seated, seat_of, DeedRun}
 use Rattle.attempts_told.specs.call_whys.specs.expire_told.specs.sock_deeds.proofs.Accepting.{log}
@@ -73,6 +71,7 @@ use Rattle.failed_told.proofs.Drops.{same_name, marked_act}
 use Rattle.failed_told.proofs.Fallen.{its_seat, reached, full_by, failing_by}
 use Rattle.failed_told.proofs.Losses.{SawFull, full_later, saw_there, IsAskedIn}
 use Rattle.failed_told.proofs.Single.{IsAttemptOf, sender, alone, none_there, one_there, deed_place}
+use Rattle.attempts_told.specs.call_whys.specs.expire_told.specs.sock_deeds.proofs.Places.{map_back, map_there}
 
 -- ## What a seat noted of an attempt with a link
 
@@ -255,9 +254,9 @@ module _ {O : Type 0} {g : Ghosts O} {state : O → OutState} {readers : List (L
     logged_there m e h =
         let own = flat_there entries_of (deeds_of x) i d m e there h in
         let empty : List (List Entry) = map (λ (z : LinkReader g). []) readers in
-        let list : get_elem? run.closed.view.lists (length empty + c) ≡ some (own_of x) = ap (λ (l : List (List Entry)). get_elem? l (length empty + c)) (lists_are run) ∙ append_later empty (map own_of crew) c (own_of x) (mapped own_of crew c x at) in
+        let list : get_elem? run.closed.view.lists (length empty + c) ≡ some (own_of x) = ap (λ (l : List (List Entry)). get_elem? l (length empty + c)) (lists_are run) ∙ append_later empty (map own_of crew) c (own_of x) (map_there own_of crew c x at) in
         let o = run.closed.ordered in
-        let picked = mapped_from (λ (a : ℕ). pick a o.by o.log) o.names (length empty + c) (own_of x) (ap (λ (l : List (List Entry)). get_elem? l (length empty + c)) (sym o.lists_are) ∙ list) in
+        let picked = map_back (λ (a : ℕ). pick a o.by o.log) o.names (length empty + c) (own_of x) (ap (λ (l : List (List Entry)). get_elem? l (length empty + c)) (sym o.lists_are) ∙ list) in
         let w = from_pick picked.0 o.by o.log own.0 e (ap (λ (l : List Entry). get_elem? l own.0) picked.2 ∙ own.1) in
         (w.0, ap (λ (l : List Entry). get_elem? l w.0) logged ∙ w.2)
 

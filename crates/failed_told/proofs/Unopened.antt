@@ -26,11 +26,10 @@ use Rattle.corr_core.specs.Word.{parts}
 use Rattle.corr_core.specs.Law.{total}
 use Rattle.corr_core.specs.declared.marks.Kept.{Kept}
 use Rattle.corr_core.specs.declared.marks.Note.{Note}
-use Rattle.corr_core.specs.declared.marks.Note.TheVariants.{Made}
 use Rattle.corr_core.specs.declared.marks.Noted.{Noted}
 use Rattle.corr_core.specs.declared.marks.Plan as id_plan
 use Rattle.corr_core.specs.declared.marks.View.{View}
-use Rattle.corr_core.proofs.Notes.{only-at, total_some}
+use Rattle.corr_core.proofs.Notes.{total_some}
 use Rattle.id_rule.specs.Lawful.{notes_of}
 use Rattle.sock_message.specs.Asked.{Asked, name_of}
 use Rattle.corr_id.specs.declared.calls.IdLock.{IdLock}
@@ -46,12 +45,11 @@ use Rattle.attempts_told.specs.call_whys.specs.expire_told.specs.call_run.specs.
 use Rattle.attempts_told.specs.call_whys.specs.expire_told.specs.call_run.specs.Threads.{Thread, RanWith, MayRunAll, ids_of, opens_of, opened_names, openings}
 use Rattle.attempts_told.specs.call_whys.specs.expire_told.specs.call_places.specs.Counted.{makes, HaveNotesOf}
 use Rattle.attempts_told.specs.call_whys.specs.expire_told.specs.call_places.specs.Deeds.{Deed, operates, retries}
-use Rattle.attempts_told.specs.call_whys.specs.expire_told.specs.call_places.proofs.Weights.{term, mapped, noted_at}
 use Rattle.attempts_told.specs.call_whys.specs.expire_told.specs.call_places.proofs.Still.{again_still}
 use Rattle.attempts_told.specs.call_whys.specs.expire_told.specs.call_places.proofs.Counts.{locks_for, KnowsLock, Grows, lock_stays, lock_known}
-use Rattle.attempts_told.specs.call_whys.specs.expire_told.specs.call_places.proofs.Ids.{IsIdOf, version_low, locker_there, one_id}
+use Rattle.attempts_told.specs.call_whys.specs.expire_told.specs.call_places.proofs.Ids.{IsIdOf, some_made, version_low, locker_there, one_id}
 use Rattle.attempts_told.specs.call_whys.specs.expire_told.specs.call_places.proofs.Clients.{Client, view_of, tasks_of, deeds_of}
-use Rattle.attempts_told.specs.call_whys.specs.expire_told.specs.call_places.proofs.Places.{all as all_clients, all_are, views_are}
+use Rattle.attempts_told.specs.call_whys.specs.expire_told.specs.call_places.proofs.Places.{all as all_clients, all_are, views_are, noted_among, may_make, made_once}
 use Rattle.attempts_told.specs.call_whys.specs.expire_told.specs.call_told.specs.Least.{is_made_for}
 use Rattle.attempts_told.specs.call_whys.specs.expire_told.specs.call_told.proofs.Lists.{all_at}
 use Rattle.attempts_told.specs.call_whys.specs.expire_told.specs.call_deeds.proofs.Ran.{Result}
@@ -61,14 +59,13 @@ use Rattle.attempts_told.specs.call_whys.specs.expire_told.specs.outcome_causes.
 use Rattle.attempts_told.specs.call_whys.specs.expire_told.specs.outcome_causes.proofs.Tasks.{sorted_of}
 use Rattle.attempts_told.specs.call_whys.specs.expire_told.specs.sock_deeds.specs.Runs.{IsOperation}
 use Rattle.attempts_told.specs.call_whys.specs.expire_told.specs.sock_deeds.proofs.Names.{SeenBy}
-use Rattle.attempts_told.specs.call_whys.specs.expire_told.specs.sock_deeds.proofs.Places.{place_low}
+use Rattle.attempts_told.specs.call_whys.specs.expire_told.specs.sock_deeds.proofs.Places.{place_low, map_back, map_there}
 use Rattle.attempts_told.specs.call_whys.specs.expire_told.specs.Said.{AreSaid}
-use Rattle.attempts_told.specs.call_whys.specs.expire_told.proofs.Begun.{made_begun as begun_made}
-use Rattle.attempts_told.specs.call_whys.specs.expire_told.proofs.Making.{mapped_from}
+use Rattle.attempts_told.specs.call_whys.specs.expire_told.specs.call_told.proofs.Coming.{made_begun as begun_made}
 use Rattle.failed_told.specs.Missed.{missed_in, attempt_of, socks_behind}
 use Rattle.failed_told.proofs.Losses.{IsAskedIn}
 use Rattle.failed_told.proofs.Reaching.{retry_grew}
-use Rattle.failed_told.proofs.Single.{within, may_make, made_once, first_id, again_later}
+use Rattle.failed_told.proofs.Single.{first_id, again_later}
 use Rattle.failed_told.proofs.Clients.{says_own}
 use Rattle.failed_told.proofs.Makers.{IsBegun, made_begun}
 use Rattle.failed_told.proofs.Crew.{tasks_there, its_tasks, place_of, is_task, own_call}
@@ -190,19 +187,14 @@ module _ {O : Type 0} {g : Ghosts O} {state : O → OutState} {readers : List (L
               by zero here some_ = absurd (omega (arith, some_))
               by (suc b) here some_ =
                   let threads : List (Thread g) = run.ran.main ∷ run.ran.others in
-                  let list : get_elem? (map (λ (y : Thread g). y) threads) (suc b) ≡ some x.thread = ap (λ (l : List (Thread g)). get_elem? l (suc b)) (sym (all_are run (λ (y : Thread g). y))) ∙ mapped (λ (y : Client g state p q). y.thread) crew (suc b) x here in
-                  let w = mapped_from (λ (y : Thread g). y) threads (suc b) x.thread list in
+                  let list : get_elem? (map (λ (y : Thread g). y) threads) (suc b) ≡ some x.thread = ap (λ (l : List (Thread g)). get_elem? l (suc b)) (sym (all_are run (λ (y : Thread g). y))) ∙ map_there (λ (y : Client g state p q). y.thread) crew (suc b) x here in
+                  let w = map_back (λ (y : Thread g). y) threads (suc b) x.thread list in
                   ap (λ (y : Thread g). y.names) (sym w.2) ∙ names_are g state p q (opened_names run.ran.main.ended.outcomes.items (openings setup)) (opens_of setup) run.ran.others run.ran.others_are b w.0 w.1
 
       found_none : FoundNone p every outcomes fixed gave orders c cut.number n
       found_none = record { setup = setup_none; own = λ t is low. (opened_none t is low, sought_none t is low) }
 
   -- ## The call of a retry began before it
-
-  some_made : (o id : ℕ) → IsIdOf slots notes o id → 0 < total (makes o) notes
-  some_made o id h =
-      let n = noted_at h.slot notes h.place (Made h.first h.range h.asked) h.made in
-      let a = term (makes o) notes n.0 _ n.1 in let b = only-at o h.asked.operation h.operation in omega (arith, a, b)
 
   module _ (c : ℕ) (x : Client g state p q) (at : get_elem? crew c ≡ some x) (i : ℕ) (r : Retry) (s t : Both) (k : IdLock Asked) (u : Both) (l : Locked state p q r k s u) (w : WentAgain state p q r k u t) (there : get_elem? (deeds_of x) i ≡ some (retries r s t (went_again k u l w))) where
     abbrev went : Deed g state p q
@@ -225,7 +217,7 @@ module _ {O : Type 0} {g : Ghosts O} {state : O → OutState} {readers : List (L
     to_last j f = let a = here.between.1.1 j f in let b = noted_last x.thread x.is j f in omega (arith, a, b)
 
     among : (j : ℕ) (f : Note Asked → ℕ) → total f (notes_of j (view_of x).notes) ≤ total f (notes_of j notes)
-    among = within run tasks may notes kept words closing noted c x at
+    among = noted_among run notes noted c x at
 
     lock_is : IsIdOf slots notes k.content.operation (k.slot * 4294967296 + first)
     lock_is =
@@ -242,7 +234,7 @@ module _ {O : Type 0} {g : Ghosts O} {state : O → OutState} {readers : List (L
         let h = begun_made q state p asked id (both_of before) (both_of after) b in
         let made_ : 0 < total (is_made_for f o) (notes_of (slot_of id) notes) = (let a = h.made in let d = to (slot_of id) (is_made_for f o) in let e = among (slot_of id) (is_made_for f o) in omega (arith, a, d, e)) in
         let its = subst (λ (z : ℕ). IsIdOf slots notes z id) same (first_id run tasks may notes kept words closing noted o id h.inside made_) in
-        let one : id ≡ k.slot * 4294967296 + first = one_id slots notes k.content.operation id (k.slot * 4294967296 + first) (made_once run tasks may notes kept words closing noted k.content.operation) its lock_is in
+        let one : id ≡ k.slot * 4294967296 + first = one_id slots notes k.content.operation id (k.slot * 4294967296 + first) (made_once run tasks may notes noted k.content.operation) its lock_is in
         let slot : k.slot ≡ slot_of id = (let a = first_low in omega (arith, one, a)) in
         let version : version_of id ≡ first = (let a = first_low in omega (arith, one, a)) in
         let seen = lock_stays k t.calls.view before.calls.view from known in
@@ -266,10 +258,10 @@ module _ {O : Type 0} {g : Ghosts O} {state : O → OutState} {readers : List (L
     began_before asked same client is e =
         let o : ℕ = k.content.operation in
         let v = total_some (λ (v : View Asked). total (makes o) v.notes) ids (let a = noted.made o in let b = some_made o (k.slot * 4294967296 + first) lock_is in omega (arith, a, b)) in
-        let y = mapped_from view_of crew v.0 v.1 (ap (λ (vs : List (View Asked)). get_elem? vs v.0) (views_are run) ∙ v.2) in
+        let y = map_back view_of crew v.0 v.1 (ap (λ (vs : List (View Asked)). get_elem? vs v.0) (views_are run) ∙ v.2) in
         let b = made_begun y.0.thread y.0.is o (subst (λ (z : View Asked). 0 < total (makes o) z.notes) (sym y.2) v.3) in
         let task = task_at y.0.thread y.0.is b.0 b.1 b.2 in
-        let makes_all = may_make run tasks may notes kept words closing noted v.0 y.0 y.1 in
+        let makes_all = may_make run may v.0 y.0 y.1 in
         let own : b.3.asked.operation ≡ b.1.task.number = own_call p q (tasks_of y.0) makes_all.0 makes_all.1 b.0 b.1.task task b.3.asked b.3.op in
         let number : b.1.task.number ≡ asked.operation = sym own ∙ (b.3.operation ∙ sym same) in
         let its = same_task g state p q every outcomes tasks v.0 client b.1.task record { number = asked.operation; op = ops.Call asked } (is_task run outcomes v.0 y.0 y.1 b.0 b.1.task task) is number in

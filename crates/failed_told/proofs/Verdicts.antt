@@ -43,21 +43,20 @@ use Rattle.attempts_told.specs.call_whys.specs.expire_told.specs.call_run.specs.
 use Rattle.attempts_told.specs.call_whys.specs.expire_told.specs.call_run.specs.Threads.{RanWith, MayRunAll, ids_of}
 use Rattle.attempts_told.specs.call_whys.specs.expire_told.specs.call_places.specs.Counted.{HaveNotesOf}
 use Rattle.attempts_told.specs.call_whys.specs.expire_told.specs.call_places.specs.Deeds.{Deed}
-use Rattle.attempts_told.specs.call_whys.specs.expire_told.specs.call_places.proofs.Weights.{mapped}
 use Rattle.attempts_told.specs.call_whys.specs.expire_told.specs.call_places.proofs.Clients.{Client, view_of, tasks_of, deeds_of}
-use Rattle.attempts_told.specs.call_whys.specs.expire_told.specs.call_places.proofs.Places.{all as all_clients, tasks_are}
+use Rattle.attempts_told.specs.call_whys.specs.expire_told.specs.call_places.proofs.Places.{all as all_clients, tasks_are, noted_among}
 use Rattle.attempts_told.specs.call_whys.specs.expire_told.specs.call_told.specs.Least.{is_made_for, is_locked_for}
 use Rattle.attempts_told.specs.call_whys.specs.expire_told.specs.call_told.proofs.Ends.{IsEndOf}
 use Rattle.attempts_told.specs.call_whys.specs.expire_told.specs.call_told.proofs.Least.{lock_of, end_number}
 use Rattle.attempts_told.specs.call_whys.specs.expire_told.specs.Said.{AreSaid, HaveKeptOf}
 use Rattle.attempts_told.specs.call_whys.specs.expire_told.proofs.Expires.{found_maker}
-use Rattle.attempts_told.specs.call_whys.specs.expire_told.proofs.Making.{slice_at}
 use Rattle.failed_told.specs.Missed.{missed_in, id_of, IsBacked, attempt_of}
 use Rattle.failed_told.specs.Reasons.{KeepsWord, WasDropped, Reason, timed_out, missed, dropped, IsCaused}
 use Rattle.failed_told.proofs.Clients.{Says}
 use Rattle.failed_told.proofs.Codes.{IsMissCode, IsReadCode, deed_code}
-use Rattle.failed_told.proofs.Posters.{Poster, within, posted_by}
+use Rattle.failed_told.proofs.Posters.{Poster, posted_by}
 use Rattle.failed_told.proofs.Views.{queued_in}
+use Rattle.attempts_told.specs.call_whys.specs.expire_told.specs.sock_deeds.proofs.Places.{to_slice, map_there}
 
 -- ## The last attempt
 
@@ -94,12 +93,12 @@ module _ {O : Type 0} {g : Ghosts O} {state : O → OutState} {readers : List (L
   PosterHere id code attempt = Poster run outcomes said_own notes kept words closing noted others id code attempt
 
   inside_notes : (c : ℕ) (x : Client g state p q) → get_elem? crew c ≡ some x → (slot : ℕ) (f : Note Asked → ℕ) → total f (notes_of slot (view_of x).notes) ≤ total f (notes_of slot notes)
-  inside_notes = within run outcomes said_own notes kept words closing noted others
+  inside_notes = noted_among run notes noted
 
   task_is : (d : ℕ) (y : Client g state p q) → get_elem? crew d ≡ some y → (i : ℕ) (t : Task) → get_elem? (tasks_of y) i ≡ some t → IsTask every outcomes d t
   task_is d y at i t there =
-      let its : get_elem? every d ≡ some (tasks_of y) = ap (λ (l : List (List Task)). get_elem? l d) (sym (tasks_are run)) ∙ mapped tasks_of crew d y at in
-      (tasks_of y, slice_at every d (tasks_of y) its, contains_from (tasks_of y) t (i, slice_at (tasks_of y) i t there))
+      let its : get_elem? every d ≡ some (tasks_of y) = ap (λ (l : List (List Task)). get_elem? l d) (sym (tasks_are run)) ∙ map_there tasks_of crew d y at in
+      (tasks_of y, to_slice every d (tasks_of y) its, contains_from (tasks_of y) t (i, to_slice (tasks_of y) i t there))
 
   -- of an end that client c told, and had a cause for
   module _ (c : ℕ) (x : Client g state p q) (at : get_elem? crew c ≡ some x) (one : Told) (e : IsCaused state p q (tasks_of x) (Says run outcomes said_own) (deeds_of x) (view_of x) one) where

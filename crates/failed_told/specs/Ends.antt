@@ -18,9 +18,9 @@ module _ (p : Plan) (clients : List (List Task)) (outcomes : List (Option Outcom
   -- where attempt n of the call that is operation o of this client went
   pub data LeftAt (client o : ℕ) (asked : Asked) (n : ℕ) : Type 0 where
     -- it may be on link k, which was failing, or accepted it; or no link did, and each request may have been found taken
-    on_link : (k : ℕ) → MayBeOn p clients outcomes fixed gave orders o n (name_of asked n) k → LostOn o n k → LeftAt client o asked n
+    OnLink : (k : ℕ) → MayBeOn p clients outcomes fixed gave orders o n (name_of asked n) k → LostOn o n k → LeftAt client o asked n
     -- a retry that no link accepted, since its name had no socket: the setup opened none, nor had the client that made it opened or found one before its operation m, which is behind the call if that is its own
-    none_opened : 0 < n → IsUnordered p clients outcomes fixed gave orders o n → (c m : ℕ) → 1 ≤ c → c < length clients → (c ≡ client → o < m) → FoundNone p clients outcomes fixed gave orders c m (name_of asked n) → LeftAt client o asked n
+    NoneOpened : 0 < n → IsUnordered p clients outcomes fixed gave orders o n → (c m : ℕ) → 1 ≤ c → c < length clients → (c ≡ client → o < m) → FoundNone p clients outcomes fixed gave orders c m (name_of asked n) → LeftAt client o asked n
 
 module _ (p : Plan) (clients : List (List Task)) (outcomes : List (Option Outcome)) (fixed : Fixed) (gave : ℕ → List ℕ) (orders : ℕ → Order) (ends : List LinkEnd) where
   -- the reading of link k ended, as the link shows that was given back: its other end had closed it, as far as it tells that; or its reading ended early

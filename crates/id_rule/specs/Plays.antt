@@ -1,5 +1,5 @@
 -- What each step tells: of the step, the seat before, the number found and the seat after.
-use Rattle.std.specs.Prelude.{◌≡◌, ◌≢◌, ℕ, ◌+◌, ◌≤◌, true, false, cond, ◌==◌, nat_le, List, [], ◌∷◌, Some, None}
+use Rattle.std.specs.Prelude.{◌≡◌, ℕ, ◌+◌, ◌≤◌, true, false, cond, ◌==◌, nat_le, List, [], ◌∷◌, Some, None}
 use Rattle.std.specs.Prelude.{Option as Maybe}
 use Rattle.atomic_table.specs.Table.{Me, Step}
 use Rattle.corr_core.specs.Word.{Parts, parts}
@@ -8,7 +8,7 @@ use Rattle.corr_core.specs.declared.marks.Hand.{Hand}
 use Rattle.corr_core.specs.declared.marks.Hand.TheVariants.{Empty, Out, Full}
 use Rattle.corr_core.specs.declared.marks.Token.{Token}
 use Rattle.corr_core.specs.declared.marks.Token.TheVariants.{Claimed, Locked, Leaving}
-use Rattle.corr_core.specs.declared.marks.Note.TheVariants.{Tried, Made, Ended, Locker, Queued, Attempt, Saw}
+use Rattle.corr_core.specs.declared.marks.Note.TheVariants.{Tried, Made, Ended, Locker, Attempt}
 use Rattle.corr_core.specs.declared.marks.View.{View}
 use Rattle.id_rule.specs.Lawful.{tag_index, id_index, tokens_in, with_token, no_token, with_note, with_kept}
 
@@ -85,10 +85,6 @@ module _ {C : Type 0} where
   abbrev pub read_told : Step (Maybe C) → Me (Maybe C) (View C) → ℕ → Me (Maybe C) (View C) → Type 0
   read_told st m found n = (i seen : ℕ) (h : Hand C) → st.word ≡ id_index i → has_token i (Claimed seen h) m → Becomes m n (with_token i (Claimed (parts found).first h) m.0) × (1 ≤ (parts found).first) × ((parts found).first ≤ LAST)
 
-  -- I7
-  abbrev pub see_told : Step (Maybe C) → Me (Maybe C) (View C) → ℕ → Me (Maybe C) (View C) → Type 0
-  see_told st m found n = (i : ℕ) → st.word ≡ id_index i → Becomes m n (with_note i (Saw found) m.0)
-
   -- the first part of K1 and K2: the turn of the slot is taken
   abbrev pub take_told : Step (Maybe C) → Me (Maybe C) (View C) → ℕ → Me (Maybe C) (View C) → Type 0
   take_told st m found n = (i : ℕ) (t : Token C) → st.word ≡ tag_index i → has_token i t m → n ≡ (with_token i (with_hand t Out) m.0, (i, value_of (hand_of t)) ∷ m.1)
@@ -103,25 +99,12 @@ module _ {C : Type 0} where
   abbrev pub locked_view : ℕ → ℕ → ℕ → ℕ → C → View C → View C
   locked_view i f rg at c v = with_note i (Locker f c) (with_token i (Locked f rg at c 0 0 (Full c)) v)
 
-  -- I3, and I4 on an open id
-  abbrev pub lock_told : Step (Maybe C) → Me (Maybe C) (View C) → ℕ → Me (Maybe C) (View C) → Type 0
-  lock_told st m found n = (i : ℕ) → st.word ≡ id_index i → (found ≡ st.first → (c : C) × Becomes m n (locked_view i (parts found).first (parts found).range (parts found).attempt c m.0) × LockFits (parts found) × (((parts found).oldest ≡ 0) × ((parts found).second ≡ 0))) × (found ≢ st.first → Becomes m n (with_note i (Saw found) m.0))
-
-  -- I4 on a locked id
-  abbrev pub queue_told : Step (Maybe C) → Me (Maybe C) (View C) → ℕ → Me (Maybe C) (View C) → Type 0
-  queue_told st m found n = (i : ℕ) → st.word ≡ id_index i → (found ≡ st.first → Becomes m n (with_note i (Queued (parts found).first (put_error (parts st.first) (parts st.second))) m.0)) × (found ≢ st.first → Becomes m n (with_note i (Saw found) m.0))
-
   -- with nothing queued the id opens; the note comes with an advance
   abbrev pub popped_view : ℕ → ℕ → ℕ → ℕ → C → ℕ → ℕ → View C → View C
   popped_view i f rg at c oldest second v = cond (oldest == 0) (no_token i v) (with_token i (Locked f rg at c second 0 (Full c)) v)
 
   abbrev pub advanced_view : ℕ → ℕ → ℕ → ℕ → View C → View C
   advanced_view i f from to v = cond (from == to) v (with_note i (Attempt f to) v)
-
-  abbrev pub unlock_told : Step (Maybe C) → Me (Maybe C) (View C) → ℕ → Me (Maybe C) (View C) → Type 0
-  unlock_told st m found n = (i f rg at o s : ℕ) (c : C) → st.word ≡ id_index i → has_token i (Locked f rg at c o s (Full c)) m
-      → (found ≡ st.first → Becomes m n (advanced_view i f (parts st.first).attempt (parts st.second).attempt (popped_view i f rg (parts st.second).attempt c (parts found).oldest (parts found).second m.0)))
-      × (found ≢ st.first → Becomes m n (with_token i (Locked f rg at c (parts found).oldest (parts found).second (Full c)) m.0) × Longer f rg at o s (parts found))
 
   -- a slot whose next first version is too high is retired
   abbrev pub ended_view : ℕ → ℕ → ℕ → ℕ → View C → View C

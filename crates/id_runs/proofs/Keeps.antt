@@ -21,8 +21,8 @@ use Rattle.corr_core.specs.declared.marks.Note.{Note}
 use Rattle.corr_core.specs.declared.marks.Note.TheVariants.{Made, Queued, Attempt, Saw}
 use Rattle.corr_core.proofs.Notes.{at_length}
 use Rattle.corr_core.proofs.Slots.{queued_word, open_word, popped_word, reclaims, makes, claim_home}
-use Rattle.id_rule.specs.Lawful.{tag_index, id_index, call_index, at_index, all_words, tokens_in, notes_in, local, Lawful, with_token, no_token, with_note}
-use Rattle.id_rule.specs.Plays.{hand_of, with_hand, value_of, claimed_view, locked_view, popped_view, advanced_view, ended_view, found_view, IsHome, LockFits, Longer}
+use Rattle.id_rule.specs.Lawful.{tag_index, id_index, all_words, tokens_in, local, Lawful, with_token, no_token, with_note}
+use Rattle.id_rule.specs.Plays.{hand_of, with_hand, value_of, claimed_view, popped_view, advanced_view, found_view, IsHome, LockFits, Longer}
 use Rattle.id_rule.proofs.Frames.{token_here, drop_here, note_here, aside_token, aside_drop, aside_note, aside_both, own_tokens}
 use Rattle.id_rule.proofs.Allowed as allowed
 use Rattle.id_rule.proofs.Kept as kept

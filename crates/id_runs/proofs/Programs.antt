@@ -1,7 +1,5 @@
 -- The programs of clients and of readers, as far as ids go: each step on them is one that the view allows.
-use Rattle.std.proofs.Common.{◌≡◌, ◌≢◌, ℕ, zero, suc, ◌+◌, ◌-◌, ◌*◌, ◌/◌, ◌%◌, ◌<◌, ◌≤◌, ◌==◌, ◌&&◌, inl, Bool, true, false, cond, eqb, eqb-true, leb, nat_lt, nat_le, List, [], ◌∷◌, ◌++◌, Some, None, length, refl, sym, ap, ap₂, ◌∙◌, subst, arith}
-use Rattle.std.specs.Prelude.{Option}
-use Rattle.std.specs.List.{AllByRecursion}
+use Rattle.std.proofs.Common.{◌≡◌, ℕ, zero, suc, ◌+◌, ◌-◌, ◌/◌, ◌%◌, ◌<◌, ◌≤◌, ◌==◌, ◌&&◌, inl, Bool, true, false, cond, eqb, leb, nat_lt, nat_le, List, [], length, refl, sym, ap, ap₂, ◌∙◌, subst, arith}
 use Rattle.sock_words.specs.Words.{socket_id_version, socket_id_slot, vref_version, vref_nref, at_word, at_word_slot, at_word_first}
 use Rattle.sock_words.specs.declared.plain.Plan.{Plan}
 use Rattle.sock_words.specs.declared.outcome.Outcome.TheVariants as outcomes
@@ -19,10 +17,10 @@ use Rattle.corr_core.specs.declared.marks.Token.{Token}
 use Rattle.corr_core.specs.declared.marks.Token.TheVariants.{Claimed, Locked}
 use Rattle.corr_core.specs.declared.marks.Note.TheVariants.{Tried, Made}
 use Rattle.id_rule.specs.Lawful.{call_index, at_index as at_place, with_token, no_token, with_note, with_kept}
-use Rattle.id_rule.specs.Plays.{with_hand, found_view}
+use Rattle.id_rule.specs.Plays.{with_hand}
 use Rattle.seat_programs.specs.Parts.{part}
 use Rattle.seat_programs.specs.sock_message.specs.Asked.{Asked, frame_of}
-use Rattle.seat_programs.specs.Calls.{SubRef, AddRef, SetOdd, StoreCode, Recycle, LoadLink, TakeLink, FinishLink, PutLink, FreeSlot, LoadName, FreeRequest, ReadNext, DropPlace, LoadCode, ClaimRequest}
+use Rattle.seat_programs.specs.Calls.{SubRef, StoreCode, LoadLink, TakeLink, FinishLink, PutLink, FreeSlot, FreeRequest, ReadNext}
 use Rattle.seat_programs.specs.Asides.{PutCall, MakeId, StoreCall, StoreAt, call_id, id_slot, id_first}
 use Rattle.seat_programs.specs.Heads.{Retry, Unlocks, Joins, Unlocking, IsOpen, HasNext, Deciding, HasEnded, GoesOn, Locking, NotThere, Has}
 use Rattle.seat_programs.specs.Programs.{Program, Do, Say, TakeMessage, TakeHome, PutBytes, Write, Aside, Round, LAST_VERSION, LAST_GENERATION, recycle, release, address, set_failed}
@@ -33,7 +31,7 @@ use Rattle.seat_programs.specs.Attempts.{claims_from, heading_for, attempt, begi
 use Rattle.seat_programs.specs.Told.{AskedFits}
 use Rattle.id_runs.specs.Held.{AtFits, IdView, one, by_token, made_by}
 use Rattle.id_runs.specs.Goes.{FitsOwner, IsFree, IsError, LeavesUnlock, LeavesLock, FitsRetryId, IdGoesOn}
-use Rattle.id_runs.proofs.Loops.{tokens_one, without_one, has_one, other_one, none_left, first_one, not_equal, way, both_ways, decide_goes, posted_goes, post_with_goes, post_goes}
+use Rattle.id_runs.proofs.Loops.{has_one, other_one, none_left, first_one, not_equal, way, both_ways, decide_goes, posted_goes, post_with_goes, post_goes}
 
 module _ (p : Plan) (q : IdPlan) (narrow : q.slots ≤ 65536) where
   abbrev Goes : IdView → Program → Type 0

@@ -35,7 +35,7 @@ use Rattle.seat_programs.specs.Beside.{found_in, calls_after}
 use Rattle.seat_programs.specs.Ticks.{Answer, Unasked, OfPut, OfReady, OfTake, Moment, fed, with_places, onto_first, taken, with_message, with_link, with_put, with_ready, with_found, step_with, tick_with, ticked}
 use Rattle.seat_programs.specs.Told.{AskedFits}
 use Rattle.id_runs.specs.Held.{CallFits, AtFits, StoredFit, IdView, id_state, by_token, made_by, unlocked_by, ended_by, locked_by, id_row, MayId}
-use Rattle.id_runs.specs.Goes.{IsFree, FitsRetryId, FindsId, IdGoesOn, HandFits, HomesFit, CodesFit, SoundIds, FitsFirst, IsFittingIds}
+use Rattle.id_runs.specs.Goes.{FitsRetryId, IdGoesOn, HandFits, HomesFit, CodesFit, SoundIds, FitsFirst, IsFittingIds}
 use Rattle.id_runs.specs.Goes as goes
 use Rattle.id_runs.proofs.Steps.{keeps_ids, finds_ids}
 use Rattle.id_runs.proofs.Loops.{ids_round}

@@ -11,7 +11,7 @@ use Rattle.corr_core.specs.Word.{Parts, parts, locked_word, posted_word, unlocke
 use Rattle.corr_core.specs.Law.{LAST}
 use Rattle.id_runs.proofs.Keeps.{parts_packed}
 use Rattle.seat_programs.specs.sock_message.specs.Asked.{Asked}
-use Rattle.seat_programs.specs.Asides.{Step, Found, MakeId, StoreCall, StoreAt, UnlockId, PutCall, LoadIdWord, PostId, LockId, EndId, FreeId, TakeCall, TakeBytes, Taking, Bytes, Nothing, NoMore, AtEnd, Closed, Broken, call_id, id_slot, id_first}
+use Rattle.seat_programs.specs.Asides.{Step, Found, MakeId, StoreCall, StoreAt, UnlockId, PutCall, LoadIdWord, PostId, LockId, EndId, FreeId, TakeCall, TakeBytes, Taking, Bytes, Nothing, Closed, call_id, id_slot, id_first}
 use Rattle.seat_programs.specs.Calls.{Call, ClaimRequest, PutMessage, LoadOpen}
 use Rattle.seat_programs.specs.Heads.{Head, Exit, Sought, First, Version, Reading, Posts, Unlocks, Decides, Locks, Joins, Opens, Reads, Discards, Posting, WasGone, WasStale, WasCrowded, WasQueued, HasLocked, Unlocking, IsOpen, HasNext, Deciding, HasEnded, GoesOn, Locking, NotThere, Has, Ended}
 use Rattle.seat_programs.specs.Posts.{packed, advance_of, is_first, is_sought, is_stale, is_full, judged, posted, post_with, post, popped, end_id, ends_call, decide, decided, unlocked, locking}
@@ -151,10 +151,7 @@ module _ {K : Type 0} {lost : K} {unlocked_behind : ℕ → ℕ → Bool → K �
 
   pub posted_goes : (id e : ℕ) (next : Program) → G lost next → (exit : Posting) → LeavesLabel (Posts id e 0) exit → G lost (posted id e next exit)
   posted_goes id e next goes (HasLocked w) l = decide_goes lost id w e (decided id next) l (decided_goes id next goes)
-  posted_goes id e next goes WasGone l = goes
-  posted_goes id e next goes WasStale l = goes
-  posted_goes id e next goes (WasCrowded a b) l = goes
-  posted_goes id e next goes WasQueued l = goes
+  posted_goes id e next goes _ l = goes
 
   pub post_goes : (t : K) (id c n : ℕ) (next : Program) → G lost next → G t (post id c n next)
   post_goes t id c n next goes = post_with_goes t id _ (posted id _ next) (posted_goes id _ next goes)
@@ -254,18 +251,13 @@ module _ {K : Type 0} {lost : K} {unlocked_behind : ℕ → ℕ → Bool → K �
       by_ending r' bytes (streams.Rest n) = let x : Reading = record r' { rest = last_of n bytes } in way lost (nat_lt r'.total LIMIT) (Round (Reads x) k) (k (how_ended 1014 false false x)) (λ _. g.round lost (Reads x) k tt (λ exit _. goes exit)) (λ _. goes (how_ended 1014 false false x))
       by_ending r' bytes (streams.Fault at_ fault) = goes (how_ended 2002 false true r')
   took_goes r k goes Nothing = g.round lost (Reads r) k tt (λ exit _. goes exit)
-  took_goes r k goes NoMore = goes (how_ended 1014 false false r)
-  took_goes r k goes AtEnd = goes (how_ended 1014 false false r)
   took_goes r k goes Closed = goes (how_ended 1014 true false r)
-  took_goes r k goes Broken = goes (how_ended 1014 false false r)
+  took_goes r k goes _ = goes (how_ended 1014 false false r)
 
   discarded_goes : (l total : ℕ) (k : ℕ → Program) → ((exit : ℕ) → G lost (k exit)) → (t : Taking) → G lost (discarded l total k t)
   discarded_goes l total k goes (Bytes bytes) = way lost (nat_lt (total + length bytes) LIMIT) (Round (Discards l (total + length bytes)) k) (k (total + length bytes)) (λ _. g.round lost (Discards l (total + length bytes)) k tt (λ exit _. goes exit)) (λ _. goes (total + length bytes))
   discarded_goes l total k goes Nothing = g.round lost (Discards l total) k tt (λ exit _. goes exit)
-  discarded_goes l total k goes NoMore = goes total
-  discarded_goes l total k goes AtEnd = goes total
-  discarded_goes l total k goes Closed = goes total
-  discarded_goes l total k goes Broken = goes total
+  discarded_goes l total k goes _ = goes total
 
   -- one round of each loop
   pub round_goes : (t : K) (head : Head) (k : Exit head → Program) → AtLabel is_call head → ((exit : Exit head) → LeavesLabel head exit → G (behind lost unlocked_behind locked_behind head exit t) (k exit)) → G t (round head k)

@@ -21,7 +21,7 @@ use Rattle.seat_programs.specs.Asides.{LoadCall, LoadAt, call_id, id_first}
 use Rattle.seat_programs.specs.Attempts.{call, expire_outcome, expire, join}
 use Rattle.seat_programs.specs.Calls.{SubRef, AddRef, StoreCode, LoadLink, TakeLink, FinishLink, PutLink, FreeSlot, LoadName, FreeRequest, ReadNext, FindLink, LookWord, ReverseNext, Connect, Recycle, SetOdd, StorePlace, DropPlace, LoadCode, EmptyHead, PutMessage, Unconnect, SwapHead, StoreOpen, ClaimSlot, StoreLink, ClearCode, ResetHead, CreateLife, StoreName, LoadOpen}
 use Rattle.seat_programs.specs.Clients.{HeldLife, held_under, without_name, give_back, drop_of, operation, client_from, ending_of}
-use Rattle.seat_programs.specs.Heads.{Posts, Joins, Opens, Reads, Discards, Posting, WasGone, WasStale, WasCrowded, WasQueued, HasLocked, Locking, Ended}
+use Rattle.seat_programs.specs.Heads.{Posts, Joins, Opens, Reads, Discards, Posting, HasLocked, Locking, Ended}
 use Rattle.seat_programs.specs.Parts.{part}
 use Rattle.seat_programs.specs.Posts.{post_with, posted, post, decided}
 use Rattle.seat_programs.specs.Programs.{Program, Do, Say, Sent, Rest, TakeMessage, TakeHome, PutBytes, Write, Round, NO_SOCKET, LAST_VERSION, LAST_GENERATION, recycle, release, address, reach, set_failed, make_socket, open_from, fail_outcome, fail}
@@ -203,10 +203,7 @@ module _ {K : Type 0} {lost : K} {unlocked_behind : ℕ → ℕ → Bool → K �
 
   last_goes : (id e : ℕ) (kept : List Frame) (next : Program) → G lost next → (exit : Posting) → LeavesLabel (Posts id e 0) exit → G lost (posted_last id e kept next exit)
   last_goes id e kept next goes (HasLocked w) l = ends_goes id e w (kept_for id (parts w).range kept) next l goes
-  last_goes id e kept next goes WasGone l = goes
-  last_goes id e kept next goes WasStale l = goes
-  last_goes id e kept next goes (WasCrowded a b) l = goes
-  last_goes id e kept next goes WasQueued l = goes
+  last_goes id e kept next goes _ l = goes
 
   each_goes : (os : List ℕ) (k code : ℕ) (kept : List Frame) (next : Program) → G lost next → G lost (post_each os k code kept next)
   each_goes [] k code kept next goes = goes

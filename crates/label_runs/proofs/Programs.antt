@@ -19,7 +19,7 @@ use Rattle.seat_programs.specs.Readers.{reader}
 use Rattle.seat_programs.specs.Rounds.{round}
 use Rattle.seat_programs.specs.Sends.{block, accept}
 use Rattle.seat_programs.specs.Writings.{Writing}
-use Rattle.label_runs.specs.Labels.{Trial, Idle, Tries, Sends, IsOfTrial, MayPut, Kept, put_behind, AsideMove, FindsLabel, AtLabel, Labels, LeavesLabel, LeavesLock, LeavesUnlock, unlocks_trial, unlocked_trial, locked_trial, trial_behind}
+use Rattle.label_runs.specs.Labels.{Trial, Idle, Tries, Sends, IsOfTrial, MayPut, Kept, put_behind, AsideMove, AtLabel, Labels, LeavesLabel, LeavesLock, LeavesUnlock, unlocks_trial, unlocked_trial, locked_trial}
 use Rattle.label_runs.proofs.Loops.{id_back, is_plain, is_plain_aside, Tracks, behind, way, post_goes, decide_goes, decided_goes, round_goes}
 use Rattle.label_runs.proofs.Operations as kept
 use Rattle.label_runs.proofs.Operations.{OpCalls, release_goes, address_goes, accept_goes}
@@ -54,13 +54,7 @@ module _ (is_call : Asked → Type 0) where
 
   rounds : (t : Trial) (head : Head) (next : Exit head → Program) → AtLabel is_call head → ((exit : Exit head) → LeavesLabel head exit → Labels is_call (behind Idle unlocks_trial locked_trial head exit t) (next exit)) → Labels is_call t (Round head next)
   rounds t (Posts id e w) next at goes = (at, goes)
-  rounds t (Unlocks i w advance) next at goes = (at, goes)
-  rounds t (Decides id asked w e) next at goes = (at, goes)
-  rounds t (Locks i sought w) next at goes = (at, goes)
-  rounds t (Joins id) next at goes = (at, goes)
-  rounds t (Opens o) next at goes = (at, goes)
-  rounds t (Reads r) next at goes = (at, goes)
-  rounds t (Discards l total) next at goes = (at, goes)
+  rounds t _ next at goes = (at, goes)
 
   locks : (exit : Locking) (t : Trial) → Kept t (locked_trial exit t)
   locks (NotThere w) t = inr refl

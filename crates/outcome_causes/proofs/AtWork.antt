@@ -12,10 +12,10 @@ use Rattle.seat_programs.specs.declared.task.Op.TheVariants as ops
 use Rattle.seat_programs.specs.declared.task.Task.{Task}
 use Rattle.seat_programs.specs.Calls.{Call, LookWord, ReadNext}
 use Rattle.seat_programs.specs.Writings.{Puts, Waits, Empties, Walks}
-use Rattle.seat_programs.specs.Programs.{Program, Do, Say, Sent, Rest, TakeMessage, TakeHome, PutHome, PutBytes, AskReady, Write, Aside, Round, Keep, Retries}
+use Rattle.seat_programs.specs.Programs.{Program, Do, Write, Aside, Round}
 use Rattle.sock_runs.specs.corr_core.specs.Word.{parts, code_of}
 use Rattle.seat_programs.specs.Asides.{PutCall, id_slot}
-use Rattle.seat_programs.specs.Heads.{Head, Exit, HasEnded, Posts, Unlocks, Decides, Locks, Joins, Opens, Reads, Discards}
+use Rattle.seat_programs.specs.Heads.{Head, Exit, HasEnded, Unlocks, Decides, Locks, Opens}
 use Rattle.seat_programs.specs.Posts.{ends_call, end_id, unlocked}
 use Rattle.seat_programs.specs.Rounds.{round}
 use Rattle.std.specs.Prelude.{Bool, true, false, if◌then◌else◌, ◌+◌}
@@ -46,8 +46,6 @@ IsAside (Aside s next) = Unit {0}
 IsAside other = ⊥
 
 aside_begins : (head : Head) (next : Exit head → Program) → IsLoopOf Own head → IsAside (round head next)
-aside_begins (Posts id e w) next is = tt
-aside_begins (Unlocks i w advance) next is = tt
 aside_begins (Decides id asked w e) next is = by_end (ends_call (parts w) e)
   where
     by_end : (b : Bool) → IsAside (if b then end_id (id_slot id) (next (HasEnded asked.operation (code_of e)))
@@ -56,10 +54,8 @@ aside_begins (Decides id asked w e) next is = by_end (ends_call (parts w) e)
     by_end false = tt
 aside_begins (Locks i sought None) next is = tt
 aside_begins (Locks i sought (Some w)) next is = tt
-aside_begins (Joins id) next is = tt
 aside_begins (Opens o) next is = absurd is
-aside_begins (Reads r) next is = tt
-aside_begins (Discards k total) next is = tt
+aside_begins _ next is = tt
 
 call_is : (program : Program) (call : Call) (next : ℕ → Program) → IsOwnLoop program → first_step program ≡ Do call next → call_in program ≡ Some call
 call_is (Do c n) call next is e = let q : c ≡ call = cc in ap (λ x. Some x) q
@@ -67,18 +63,8 @@ call_is (Write (Puts h now heading left taken asked) after) call next is e = let
 call_is (Write (Waits h now heading left taken) after) call next is e = absurd (cc)
 call_is (Write (Empties h) after) call next is e = absurd (cc)
 call_is (Write (Walks h top at after) then_) call next is e = let q : ReadNext (slot_of at) ≡ call = cc in ap (λ x. Some x) q
-call_is (Say o outcome more) call next is e = absurd (cc)
-call_is (Sent o more) call next is e = absurd (cc)
-call_is Rest call next is e = absurd (cc)
-call_is (TakeMessage q n) call next is e = absurd (cc)
-call_is (TakeHome k n) call next is e = absurd (cc)
-call_is (PutHome k n after) call next is e = absurd (cc)
-call_is (PutBytes k a b n) call next is e = absurd (cc)
-call_is (AskReady k n) call next is e = absurd (cc)
-call_is (Aside s n) call next is e = absurd (cc)
-call_is (Keep r n) call next is e = absurd (cc)
-call_is (Retries n after) call next is e = absurd (cc)
 call_is (Round head n) call next is e = absurd (subst IsAside e (aside_begins head n is))
+call_is _ call next is e = absurd (cc)
 
 pub next_is : (slots requests : ℕ) (calls : ℕ → Type 0) (broken : List ℕ) (done : List Done) (trace : List Entry) (todo : List Task) (c : Core) (i : ℕ) (seat : SeatState) (call : Call) (next : ℕ → Program) → Explains slots requests calls broken done trace todo seat.program
     → get_elem? c.seats i ≡ core.some seat → first_step seat.program ≡ Do call next → next_call c i ≡ Some call
@@ -97,13 +83,7 @@ done_said slots requests es i (x ∷ xs) kept d (inl same) e = subst (λ (y : Do
 
 send_is : (op : Op) → IsSend op → (n : ℕ) × (bytes : List ℕ) × (op ≡ ops.Send n bytes)
 send_is (ops.Send n bytes) s = (n, bytes, refl)
-send_is (ops.Open n k) s = absurd s
-send_is (ops.Hold n) s = absurd s
-send_is (ops.Drop n) s = absurd s
-send_is (ops.Fail n code) s = absurd s
-send_is (ops.Call asked) s = absurd s
-send_is (ops.Expire t) s = absurd s
-send_is (ops.Join t) s = absurd s
+send_is _ s = absurd s
 
 module _ (p : Plan) (clients : List (List Task)) (are : AreTasks p clients) (calls : ℕ → Type 0) (over : Bool) (c : Core) (es : List Event) (broken : List ℕ) (i : ℕ) (tasks : List Task) (asks : slice_get clients i ≡ Some tasks)
     (way : Way) (trace : List Entry) (done : List Done) (t : Task) (ts : List Task) (program : Program) (v : View) (s : SeatAt p calls over es broken c.outcomes i tasks way trace done (t ∷ ts) program v) where

@@ -13,10 +13,10 @@ use Rattle.sock_model.specs.Reads.{message, link_home}
 use Rattle.seat_programs.specs.Calls.{Call, LoadOpen}
 use Rattle.seat_programs.specs.Rounds.{round}
 use Rattle.std.specs.Prelude.{true, false, if◌then◌else◌, ◌+◌, None, Some}
-use Rattle.seat_programs.specs.Programs.{Program, Do, Say, Sent, Rest, TakeMessage, TakeHome, PutHome, PutBytes, AskReady, Write, Aside, Round, Keep, Retries}
+use Rattle.seat_programs.specs.Programs.{Program, Do, TakeMessage, TakeHome, PutHome, PutBytes, AskReady, Write, Aside, Round}
 use Rattle.sock_runs.specs.corr_core.specs.Word.{parts, code_of}
 use Rattle.seat_programs.specs.Asides.{Step, Found, PutCall, id_slot}
-use Rattle.seat_programs.specs.Heads.{Head, Exit, HasEnded, Posts, Unlocks, Decides, Locks, Joins, Opens, Reads, Discards}
+use Rattle.seat_programs.specs.Heads.{Head, Exit, HasEnded, Unlocks, Decides, Locks, Opens}
 use Rattle.seat_programs.specs.Posts.{ends_call, end_id, unlocked}
 use Rattle.seat_programs.specs.Beside.{found_in, calls_after}
 use Rattle.seat_programs.specs.Cores.{Core, SeatState, word_of, found_at, lies_at, first_of, others_of, link_place, with_seat, stepped}
@@ -35,8 +35,6 @@ IsOfLoop (Do call next) = (o : ℕ) × (call ≡ LoadOpen o)
 IsOfLoop other = ⊥
 
 pub loop_begins : (head : Head) (next : Exit head → Program) → IsOfLoop (round head next)
-loop_begins (Posts id e w) next = tt
-loop_begins (Unlocks i w advance) next = tt
 loop_begins (Decides id asked w e) next = by_end (ends_call (parts w) e)
   where
     by_end : (b : Bool) → IsOfLoop (if b then end_id (id_slot id) (next (HasEnded asked.operation (code_of e)))
@@ -45,28 +43,14 @@ loop_begins (Decides id asked w e) next = by_end (ends_call (parts w) e)
     by_end false = tt
 loop_begins (Locks i sought None) next = tt
 loop_begins (Locks i sought (Some w)) next = tt
-loop_begins (Joins id) next = tt
 loop_begins (Opens o) next = (o, refl)
-loop_begins (Reads r) next = tt
-loop_begins (Discards k total) next = tt
+loop_begins _ next = tt
 
 module _ (p : Plan) (c : Core) (vs : List View) (m : Moment) (sound : Sound p c vs) (answered : IsAnswered c m) (P : Core → List View → Type 0) (before : P c vs) where
   from_first : (seat : SeatState) (v : View) (program : Program) → P (step_with p m.seat seat c m.answer (first_step program)) (views_with p m.seat c vs v m.answer (first_step program))
       → P (tick_with p m.seat seat c m.answer program) (views_of p m.seat c vs v m.answer program)
   from_first seat v (Write w after) x = x
-  from_first seat v (Do call next) x = x
-  from_first seat v (Say o outcome next) x = x
-  from_first seat v (Sent o next) x = x
-  from_first seat v Rest x = x
-  from_first seat v (TakeMessage q next) x = x
-  from_first seat v (TakeHome k next) x = x
-  from_first seat v (PutHome k n after) x = x
-  from_first seat v (PutBytes k asked bytes next) x = x
-  from_first seat v (AskReady k next) x = x
-  from_first seat v (Aside step next) x = x
-  from_first seat v (Round head next) x = x
-  from_first seat v (Keep r next) x = x
-  from_first seat v (Retries requests after) x = x
+  from_first seat v _ x = x
 
   by_view : (seat : SeatState) → ((v : View) → get_elem? vs m.seat ≡ some v → P (tick_with p m.seat seat c m.answer seat.program) (views_of p m.seat c vs v m.answer seat.program))
       → (get_elem? vs m.seat ≡ none → ⊥) → (q : Option View) → get_elem? vs m.seat ≡ q
@@ -123,18 +107,12 @@ module _ (p : Plan) (c : Core) (vs : List View) (m : Moment) (sound : Sound p c 
         (put seat v k asked bytes next a.0 at_seat at_view e g a.1 a.2)
     by_first seat v at_seat at_view (AskReady k next) e g a =
         subst (λ (x : Answer). P (step_with p m.seat seat c x (AskReady k next)) (views_with p m.seat c vs v x (AskReady k next))) (sym a.1) (ready seat v k next a.0 at_seat at_view e g a.1)
-    by_first seat v at_seat at_view (Say o outcome next) e g a = before
-    by_first seat v at_seat at_view (Sent o next) e g a = before
-    by_first seat v at_seat at_view Rest e g a = before
-    by_first seat v at_seat at_view (Keep r next) e g a = before
-    by_first seat v at_seat at_view (Retries requests after) e g a = before
     by_first seat v at_seat at_view (Aside s next) e g a = by_found (found_in s c.calls (taken m.answer)) refl
       where
         by_found : (x : Option (Found s)) → found_in s c.calls (taken m.answer) ≡ x → P (with_found p m.seat seat c s x next) vs
         by_found none is = before
         by_found (some found) is = aside seat v s next found at_seat at_view e g is
-    by_first seat v at_seat at_view (Write w after) e g a = before
-    by_first seat v at_seat at_view (Round head next) e g a = before
+    by_first seat v at_seat at_view _ e g a = before
 
     pub tick_cases : P (ticked p c m) (views_after p c vs m)
     tick_cases = by_seat (λ seat at_seat none_. beside c.seats vs m.seat seat sound.each at_seat none_)

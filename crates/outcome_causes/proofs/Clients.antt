@@ -223,9 +223,7 @@ module _ (slots requests : ℕ) (calls : ℕ → Type 0) (done : List Done) (num
     operation_goes ids (ops.Drop name) plain well follows = drop_goes name (subst (λ z. cond z (b name) true ≡ true) (eq-eqb name name refl) (well name)) follows
     operation_goes ids (ops.Fail name code) plain well follows = fail_goes slots requests calls broken done number ts name code (slots_next held)
         (λ outcome. follows (Some outcome) broken held (λ n. held_skip n (record { task = task_of (ops.Fail name code); outcome = Some outcome }) done held (b n) (λ q. absurd (cc)) (wells n)))
-    operation_goes ids (ops.Call asked) plain well follows = absurd (true≢false (sym plain))
-    operation_goes ids (ops.Expire t) plain well follows = absurd (true≢false (sym plain))
-    operation_goes ids (ops.Join t) plain well follows = absurd (true≢false (sym plain))
+    operation_goes ids _ plain well follows = absurd (true≢false (sym plain))
 
 -- ## All operations
 

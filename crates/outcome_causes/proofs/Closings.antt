@@ -7,7 +7,7 @@ use Rattle.sock_words.specs.Words.{socket_id_version, socket_id_slot, vref_versi
 use Rattle.seat_programs.specs.declared.task.Task.{Task}
 use Rattle.seat_programs.specs.Calls.{SubRef, StoreCode, LoadLink, TakeLink, FinishLink, PutLink, FreeSlot}
 use Rattle.seat_programs.specs.Asides.{call_id, id_first}
-use Rattle.seat_programs.specs.Heads.{Ended, Reads, Discards, Posting, WasGone, WasStale, WasCrowded, WasQueued, HasLocked}
+use Rattle.seat_programs.specs.Heads.{Ended, Reads, Discards, Posting, HasLocked}
 use Rattle.seat_programs.specs.Programs.{Program, Do, Rest, Round, NO_SOCKET, LAST_VERSION, recycle, release, address, set_failed}
 use Rattle.seat_programs.specs.Posts.{post_with, decided}
 use Rattle.seat_programs.specs.Readers.{LIMIT, kept_for, ends_with, posted_last, post_each, thrown_away, read, reader}
@@ -50,10 +50,7 @@ module _ (slots requests : ℕ) (calls : ℕ → Type 0) (broken : List ℕ) (do
       by_kept : (fs : List Frame) → Goes (ends_with id e word fs next)
       by_kept [] = decide_goes slots requests calls Closing broken done trace todo id word e (decided id next) (decided_goes slots requests calls Closing broken done trace todo id next k)
       by_kept (f ∷ fs) = answer_goes slots requests calls Closing broken done trace todo f (id_first id) next k
-  last_goes id e kept next k WasGone = k
-  last_goes id e kept next k WasStale = k
-  last_goes id e kept next k (WasCrowded a b) = k
-  last_goes id e kept next k WasQueued = k
+  last_goes id e kept next k _ = k
 
   each_goes : (os : List ℕ) (k c : ℕ) (kept : List Frame) (next : Program) → Goes next → Goes (post_each os k c kept next)
   each_goes [] k c kept next g = g

@@ -8,8 +8,7 @@ use Rattle.brpc_model.specs.Stream as streams
 use Rattle.sock_words.specs.declared.outcome.Outcome.{Outcome}
 use Rattle.sock_model.specs.declared.chain.Heading.{Heading}
 use Rattle.seat_programs.specs.declared.task.Task.{Task}
-use Rattle.seat_programs.specs.Asides.{FreeId, PutCall, Taking, Bytes, Nothing, NoMore, AtEnd, Closed, id_slot, id_first, call_id}
-use Rattle.seat_programs.specs.Asides as taking
+use Rattle.seat_programs.specs.Asides.{FreeId, PutCall, Taking, Bytes, Nothing, Closed, id_slot, id_first, call_id}
 use Rattle.seat_programs.specs.Heads.{Head, Exit, Retry, Sought, Version, Reading, Ended, Posts, Unlocks, Decides, Locks, Joins, Opens, Reads, Discards, Posting, WasGone, WasStale, WasCrowded, WasQueued, HasLocked, Unlocking, IsOpen, HasNext, Deciding, HasEnded, Locking, NotThere}
 use Rattle.seat_programs.specs.Heads.{GoesOn as OpenAgain, Has as HasLock}
 use Rattle.seat_programs.specs.Programs.{Program, Say, Aside, Round}
@@ -61,10 +60,7 @@ module _ (slots requests : ℕ) (calls : ℕ → Type 0) (w : Way) (broken : Lis
 
   pub posted_goes : (id e : ℕ) (next : Program) → Goes next → Exits (posted id e next)
   posted_goes id e next g (HasLocked word) = decide_goes id word e (decided id next) (decided_goes id next g)
-  posted_goes id e next g WasGone = g
-  posted_goes id e next g WasStale = g
-  posted_goes id e next g (WasCrowded a b) = g
-  posted_goes id e next g WasQueued = g
+  posted_goes id e next g _ = g
 
   pub post_with_goes : (id e : ℕ) (k : Posting → Program) → Exits k → Goes (post_with id e k)
   post_with_goes id e k goes = (tt, λ found _. judged_goes id e found k goes)
@@ -117,18 +113,13 @@ module _ (slots requests : ℕ) (calls : ℕ → Type 0) (w : Way) (broken : Lis
       responses_goes r.ids s.frames r.kept (λ kept. read_on (record { ids = r.ids; link = r.link; id = r.id; rest = r.rest; total = r.total + length bytes; kept = kept }) (r.rest ++ bytes) s.ending k)
       (λ kept. read_goes (record { ids = r.ids; link = r.link; id = r.id; rest = r.rest; total = r.total + length bytes; kept = kept }) (r.rest ++ bytes) s.ending k goes)
   took_goes r k goes Nothing = ((tt, tt), λ exit _. goes exit)
-  took_goes r k goes NoMore = goes (ended_by 1014 false false r)
-  took_goes r k goes AtEnd = goes (ended_by 1014 false false r)
   took_goes r k goes Closed = goes (ended_by 1014 true false r)
-  took_goes r k goes taking.Broken = goes (ended_by 1014 false false r)
+  took_goes r k goes _ = goes (ended_by 1014 false false r)
 
   discarded_goes : (l total : ℕ) (k : ℕ → Program) → Exits k → (t : Taking) → Goes (discarded l total k t)
   discarded_goes l total k goes (Bytes bytes) = split (nat_lt (total + length bytes) LIMIT) (Round (Discards l (total + length bytes)) k) (k (total + length bytes)) Goes ((tt, tt), λ exit _. goes exit) (goes (total + length bytes))
   discarded_goes l total k goes Nothing = ((tt, tt), λ exit _. goes exit)
-  discarded_goes l total k goes NoMore = goes total
-  discarded_goes l total k goes AtEnd = goes total
-  discarded_goes l total k goes Closed = goes total
-  discarded_goes l total k goes taking.Broken = goes total
+  discarded_goes l total k goes _ = goes total
 
   opens_goes : (o : ℕ) (k : ℕ → Program) → IsClosing w → Exits k → Goes (round (Opens o) k)
   opens_goes o k is goes = opens_by slots requests calls w broken done trace todo o k is goes

@@ -11,7 +11,7 @@ use Rattle.seat_programs.specs.sock_message.specs.Asked.{Asked, name_of}
 use Rattle.seat_programs.specs.declared.task.Op.{Op}
 use Rattle.seat_programs.specs.declared.task.Op.TheVariants as ops
 use Rattle.seat_programs.specs.declared.task.Task.{Task}
-use Rattle.seat_programs.specs.Told.{AreTasks, IsTask, Became, Made, OpensNone, IsNoLater, AfterHold, HasLife, EachOpened, IsFail}
+use Rattle.seat_programs.specs.Told.{AreTasks, IsTask, Became, Made, OpensNone, IsNoLater, AfterHold, HasLife, IsFail}
 use Rattle.seat_programs.specs.Told as plain
 use Rattle.seat_programs.specs.ToldCalls.{Order, Fixed, StandsOn, Seeks, FoundNone, FoundFailed, MayFail, Why}
 use Rattle.outcome_causes.specs.Causes.{Asks}
@@ -96,9 +96,6 @@ module _ (clients : List (List Task)) (readers : ℕ) where
   module _ (outcomes : List (Option Outcome)) where
     pub task_up : (c : ℕ) (t : Task) → IsTask cs outcomes c t → IsTask clients outcomes c t
     task_up c t is = let a = up c t (is.0, is.1, contains_in is.0 t is.2) in (a.0.0, a.0.1, in_contains a.0.0 t a.0.2)
-
-    pub task_plain : (c : ℕ) (t : Task) → IsTask cs outcomes c t → is_plain t.op ≡ true
-    task_plain c t is = (up c t (is.0, is.1, contains_in is.0 t is.2)).1
 
     pub task_down : (c : ℕ) (t : Task) → IsTask clients outcomes c t → is_plain t.op ≡ true → IsTask cs outcomes c t
     task_down c t is plain_ = let a = down c t (is.0, is.1, contains_in is.0 t is.2) plain_ in (a.0, a.1, in_contains a.0 t a.2)
@@ -245,9 +242,7 @@ module _ (clients : List (List Task)) (readers : ℕ) where
         lifts (ops.Hold n) o plain_ = lift_hold n o
         lifts (ops.Drop n) o plain_ = lift_drop n o
         lifts (ops.Fail n code) o plain_ = lift_fail n code o
-        lifts (ops.Call asked) o plain_ = absurd (true≢false (sym plain_))
-        lifts (ops.Expire u) o plain_ = absurd (true≢false (sym plain_))
-        lifts (ops.Join u) o plain_ = absurd (true≢false (sym plain_))
+        lifts _ o plain_ = absurd (true≢false (sym plain_))
 
       -- each outcome of a task that isn't on calls has its cause
       pub why_lifted : (c : ℕ) (t : Task) (o : Outcome) → IsTask clients outcomes c t → is_plain t.op ≡ true → Became clients outcomes t.number o → Why p clients outcomes fixed gave orders last c t.number t.op o

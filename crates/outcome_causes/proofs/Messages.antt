@@ -28,17 +28,6 @@ module _ {A : Type 0} where
   in_of_at (y ∷ ys) zero x e = inl (sym (some-injective y x e))
   in_of_at (y ∷ ys) (suc n) x e = inr (in_of_at ys n x e)
 
-  pub at_of_in : (xs : List A) (x : A) → In x xs → (n : ℕ) × (get_elem? xs n ≡ some x)
-  at_of_in [] x m = absurd m
-  at_of_in (y ∷ ys) x (inl e) = (0, ap some (sym e))
-  at_of_in (y ∷ ys) x (inr m) = let t = at_of_in ys x m in (suc t.0, t.1)
-
-  pub before_at : (R : A → A → Type 0) (xs : List A) (m n : ℕ) (a b : A) → EachBefore R xs → get_elem? xs m ≡ some a → get_elem? xs n ≡ some b → m < n → R a b
-  before_at R [] m n a b h g k l = absurd (some-ne-none a (sym g))
-  before_at R (x ∷ xs) m zero a b h g k l = absurd (omega arith)
-  before_at R (x ∷ xs) zero (suc n) a b h g k l = subst (λ z. R z b) (some-injective x a g) (all_in (R x) xs b h.0 (in_of_at xs n b k))
-  before_at R (x ∷ xs) (suc m) (suc n) a b h g k l = before_at R xs m n a b h.1 g k (omega arith)
-
   -- what a filter keeps
   module _ (f : A → Bool) where
     cond_in : (b : Bool) (x y : A) (ys : List A) → b ≡ true → (x ≡ y) ⊎ In x ys → In x (cond b (y ∷ ys) ys)

@@ -6,7 +6,7 @@ use Rattle.sock_words.specs.Words.{socket_id_slot}
 use Rattle.sock_words.specs.declared.plain.Plan.{Plan}
 use Rattle.sock_model.specs.declared.view.View.{View}
 use Rattle.sock_model.specs.Layout.{tag_index, ref_index, link_index, head_index, code_index, name_index, open_index, request_index, next_index, place_index, all_words}
-use Rattle.seat_programs.specs.Calls.{Call, ClaimSlot, CreateLife, AddRef, SubRef, SetOdd, Recycle, FreeSlot, StoreLink, LoadLink, ResetHead, ClearCode, StoreCode, StoreName, LoadName, StoreOpen, LoadOpen, TakeLink, FinishLink, PutLink, LookWord, FindLink, LoadCode, ClaimRequest, PutMessage, Unconnect, SwapHead, Connect, EmptyHead, ReadNext, ReverseNext, FreeRequest, StorePlace, DropPlace}
+use Rattle.seat_programs.specs.Calls.{Call, ClaimSlot, CreateLife, AddRef, SubRef, SetOdd, Recycle, FreeSlot, StoreLink, LoadLink, ResetHead, ClearCode, StoreCode, StoreName, LoadName, StoreOpen, LoadOpen, LookWord, FindLink, LoadCode, ClaimRequest, Unconnect, SwapHead, Connect, EmptyHead, ReadNext, ReverseNext, FreeRequest, StorePlace, DropPlace}
 use Rattle.seat_programs.specs.Cores.{word_of, word_after, found_at, words_after}
 use Rattle.sock_runs.specs.May.{May}
 use Rattle.outcome_causes.specs.Stories.{stored_by}
@@ -41,14 +41,10 @@ module _ (p : Plan) (v : View) (ws : List ℕ) (sized : length ws ≡ all_words 
       (λ far. else_ (name_index p m) _ (λ e. far (omega arith)))
   name_stays (StoreOpen o w) may = else_ (open_index p o) w (λ e. omega arith)
   name_stays (LoadOpen o) may = else_ (open_index p o) _ (λ e. omega arith)
-  name_stays (TakeLink k) may = refl
-  name_stays (FinishLink k) may = refl
-  name_stays (PutLink k) may = refl
   name_stays (LookWord id) may = else_ (ref_index (socket_id_slot id)) _ (λ e. omega (arith, may.0))
   name_stays (FindLink i h) may = else_ (link_index i) _ (λ e. omega (arith, may.0))
   name_stays (LoadCode i h) may = else_ (code_index i) _ (λ e. omega (arith, may.0))
   name_stays (ClaimRequest id q) may = else_ (request_index p q) _ (λ e. omega arith)
-  name_stays (PutMessage q heading bytes) may = refl
   name_stays (Unconnect q) may = else_ (next_index p q) _ (λ e. omega arith)
   name_stays (SwapHead i own) may = else_ (head_index i) _ (λ e. omega (arith, may.0))
   name_stays (Connect q before) may = else_ (next_index p q) _ (λ e. omega arith)
@@ -58,3 +54,4 @@ module _ (p : Plan) (v : View) (ws : List ℕ) (sized : length ws ≡ all_words 
   name_stays (FreeRequest q g) may = else_ (request_index p q) _ (λ e. omega arith)
   name_stays (StorePlace l k m) may = else_ (place_index p l) _ (λ e. omega arith)
   name_stays (DropPlace l k m) may = else_ (place_index p l) _ (λ e. omega arith)
+  name_stays _ may = refl

@@ -217,9 +217,6 @@ module _ (p : Plan) (clients : List (List Task)) (are : AreTasks p clients) (rea
   -- ## The programs
 
   module _ (q : IdPlan) (owns : AllByRecursion (AllByRecursion (λ (t : Task). OwnsCall t.number t.op)) clients) where
-    abbrev Spoken : ℕ → Type 0
-    Spoken = IsSpoken (seats_tasks clients readers)
-
     one_client : (seat d : ℕ) (ts : List Task) → slice_get clients d ≡ Some ts → AllByRecursion (λ (t : Task). OwnsCall t.number t.op) ts → ((n : ℕ) → alternate n false ts ≡ true) → IsExplained p (IsSpoken (seats_tasks clients readers)) seat (plain_tasks ts) (Rattle.seat_programs.specs.Clients.client_from (sizes_of p q) [] ts)
     one_client seat d ts at own alt = record {
       way = Own;

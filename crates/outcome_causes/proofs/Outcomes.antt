@@ -18,7 +18,7 @@ use Rattle.seat_programs.specs.Beside.{found_in, calls_after}
 use Rattle.seat_programs.specs.Calls.{Call}
 use Rattle.seat_programs.specs.Cores.{Core, SeatState, resolved, said, waiting_at, word_of, found_at}
 use Rattle.seat_programs.specs.Drops.{MadeIn}
-use Rattle.seat_programs.specs.Programs.{Program, Do, Say, Sent, Rest, TakeMessage, TakeHome, PutHome, PutBytes, AskReady, Write, Aside, Round, Keep, Retries}
+use Rattle.seat_programs.specs.Programs.{Program, Do, Say, Sent, TakeMessage, TakeHome, PutHome, PutBytes, AskReady, Write, Aside, Round}
 use Rattle.seat_programs.specs.Rounds.{round}
 use Rattle.seat_programs.specs.Sends.{block}
 use Rattle.seat_programs.specs.Ticks.{Answer, OfPut, OfReady, Moment, ticked, run, taken, step_with, tick_with, with_message, with_link, with_put, with_ready, with_found}
@@ -36,23 +36,9 @@ set_keeps os n o x t = dite (ℕ_discrete n o)
 pub said_keeps : (q : Program) (os : List (Option Outcome)) (o : ℕ) → IsSaidOf os o → IsSaidOf (said q os) o
 said_keeps (Say n x next) os o t = said_keeps next (set os n (Some x)) o (set_keeps os n o x t)
 said_keeps (Sent n next) os o t = said_keeps next os o t
-said_keeps (Do call next) os o t = t
-said_keeps Rest os o t = t
-said_keeps (TakeMessage q next) os o t = t
-said_keeps (TakeHome k next) os o t = t
-said_keeps (PutHome k n after) os o t = t
-said_keeps (PutBytes k asked bytes next) os o t = t
-said_keeps (AskReady k next) os o t = t
-said_keeps (Write w after) os o t = t
-said_keeps (Aside step next) os o t = t
-said_keeps (Round head next) os o t = t
-said_keeps (Keep r next) os o t = t
-said_keeps (Retries n after) os o t = t
+said_keeps _ os o t = t
 
 module _ (p : Plan) (i : ℕ) (seat : SeatState) (c : Core) (o : ℕ) (t : IsSaidOf c.outcomes o) where
-  goes_said : (ws : List ℕ) (q : Program) → IsSaidOf (said q c.outcomes) o
-  goes_said ws q = said_keeps q c.outcomes o t
-
   message_said : (q : ℕ) (x : core.Option Letter) (next : Letter → Program) → IsSaidOf (with_message p i seat c q x next).outcomes o
   message_said q core.none next = t
   message_said q (core.some letter) next = said_keeps (resolved (waiting_at c.calls.waiting i) (next letter)) c.outcomes o t
@@ -81,29 +67,12 @@ module _ (p : Plan) (i : ℕ) (seat : SeatState) (c : Core) (o : ℕ) (t : IsSai
   step_said answer (PutBytes k asked bytes next) = put_said bytes answer next
   step_said answer (AskReady k next) = ready_said answer next
   step_said answer (Aside step next) = found_said step (found_in step c.calls (taken answer)) next
-  step_said answer (Say n x next) = t
-  step_said answer (Sent n next) = t
-  step_said answer Rest = t
-  step_said answer (Write w after) = t
-  step_said answer (Round head next) = t
-  step_said answer (Keep r next) = t
-  step_said answer (Retries n after) = t
+  step_said answer _ = t
 
   tick_said : (answer : Answer) (program : Program) → IsSaidOf (tick_with p i seat c answer program).outcomes o
   tick_said answer (Write w after) = step_said answer (block w after)
   tick_said answer (Round head next) = step_said answer (round head next)
-  tick_said answer (Do call next) = step_said answer (Do call next)
-  tick_said answer (TakeMessage q next) = step_said answer (TakeMessage q next)
-  tick_said answer (TakeHome k next) = step_said answer (TakeHome k next)
-  tick_said answer (PutHome k n after) = step_said answer (PutHome k n after)
-  tick_said answer (PutBytes k asked bytes next) = step_said answer (PutBytes k asked bytes next)
-  tick_said answer (AskReady k next) = step_said answer (AskReady k next)
-  tick_said answer (Aside step next) = step_said answer (Aside step next)
-  tick_said answer (Say n x next) = t
-  tick_said answer (Sent n next) = t
-  tick_said answer Rest = t
-  tick_said answer (Keep r next) = t
-  tick_said answer (Retries n after) = t
+  tick_said answer program = step_said answer program
 
 pub ticked_said : (p : Plan) (c : Core) (m : Moment) (o : ℕ) → IsSaidOf c.outcomes o → IsSaidOf (ticked p c m).outcomes o
 ticked_said p c m o t = by_seat (get_elem? c.seats m.seat)

@@ -1,6 +1,6 @@
 -- Ticks one after another keep the story: those of the setup, then those of all seats, and those behind the ending.
 use Rattle.std.proofs.Common.{◌≡◌, ℕ, zero, suc, ◌⊎◌, Bool, true, false, List, [], ◌∷◌, ◌++◌, replicate, inl, inr, ⊎_elim, refl, ap, ◌∙◌, sym, subst, arith}
-use Rattle.std.specs.Prelude.{Some, None, slice_get}
+use Rattle.std.specs.Prelude.{None}
 use Rattle.std.specs.Prelude as std
 use mathlib.Core.Option.{some, none}
 use lib.ListN.{get_elem?}
@@ -10,7 +10,7 @@ use Rattle.sock_words.specs.declared.plain.Plan.{Plan}
 use Rattle.sock_words.specs.declared.outcome.Outcome.{Outcome}
 use Rattle.sock_model.specs.declared.view.View.{View}
 use Rattle.seat_programs.specs.declared.task.Task.{Task}
-use Rattle.seat_programs.specs.Programs.{Program, Do, Say, Sent, Rest, TakeMessage, TakeHome, PutHome, PutBytes, AskReady, Write, Aside, Round, Keep, Retries}
+use Rattle.seat_programs.specs.Programs.{Program, Say, Sent, Rest, Keep, Retries}
 use Rattle.seat_programs.specs.Clients.{ending_of}
 use Rattle.seat_programs.specs.Cores.{Core, SeatState, with_seat}
 use Rattle.seat_programs.specs.Ticks.{Moment, quiet, AreAnswered, ticked, run}
@@ -31,20 +31,12 @@ use Rattle.outcome_causes.proofs.Ticks.{tick_story, get_of, moved}
 
 -- a program that has said its outcomes and has no step left
 pub at_end : (program : Program) → IsReady program → kind_in program ≡ None → program ≡ Rest
-at_end (Do call next) ready e = absurd (cc)
 at_end (Say o outcome more) ready e = absurd ready
 at_end (Sent o more) ready e = absurd ready
 at_end Rest ready e = refl
-at_end (TakeMessage q next) ready e = absurd (cc)
-at_end (TakeHome k next) ready e = absurd (cc)
-at_end (PutHome k n after) ready e = absurd (cc)
-at_end (PutBytes k asked bytes next) ready e = absurd (cc)
-at_end (AskReady k next) ready e = absurd (cc)
-at_end (Write w after) ready e = absurd (cc)
-at_end (Aside s next) ready e = absurd (cc)
-at_end (Round head next) ready e = absurd (cc)
 at_end (Keep r next) ready e = absurd ready
 at_end (Retries n after) ready e = absurd ready
+at_end _ ready e = absurd (cc)
 
 module _ (p : Plan) (clients : List (List Task)) (are : AreTasks p clients) where
   -- a core with views and a story, and the links that were lost

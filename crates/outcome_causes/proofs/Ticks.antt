@@ -31,7 +31,7 @@ use Rattle.sock_runs.specs.sock_steps.proofs.Places.{counts}
 use Rattle.seat_programs.specs.declared.task.Task.{Task}
 use Rattle.seat_programs.specs.Writings.{Puts, Waits, Empties, Walks}
 use Rattle.seat_programs.specs.Calls.{Call, ClaimSlot, CreateLife, SetOdd, StoreName, LoadOpen, FindLink, ClaimRequest, SwapHead}
-use Rattle.seat_programs.specs.Programs.{Program, Do, Say, Sent, Rest, TakeMessage, TakeHome, PutHome, PutBytes, AskReady, Write, Aside, Round, Keep, Retries}
+use Rattle.seat_programs.specs.Programs.{Program, Do, Say, Sent, TakeMessage, TakeHome, PutHome, PutBytes, AskReady, Write, Aside, Round, Keep, Retries}
 use Rattle.seat_programs.specs.sock_message.specs.Asked.{Asked}
 use Rattle.seat_programs.specs.Asides.{Step, Found, PutCall, TakeCall, TakeBytes, Taking, Bytes}
 use Rattle.seat_programs.specs.Heads.{Retry}
@@ -153,16 +153,7 @@ come_ready ws (Sent o more) = come_ready ws more
 come_ready ws (Keep r more) = come_ready (ws ++ r ∷ []) more
 come_ready [] (Retries n after) = come_ready [] after
 come_ready (r ∷ ws) (Retries n after) = tt
-come_ready ws (Do call next) = tt
-come_ready ws Rest = tt
-come_ready ws (TakeMessage q next) = tt
-come_ready ws (TakeHome k next) = tt
-come_ready ws (PutHome k n after) = tt
-come_ready ws (PutBytes k asked bytes next) = tt
-come_ready ws (AskReady k next) = tt
-come_ready ws (Write w after) = tt
-come_ready ws (Aside x next) = tt
-come_ready ws (Round head next) = tt
+come_ready ws _ = tt
 
 -- what a program explains, its first step does
 first_explains : (slots requests : ℕ) (calls : ℕ → Type 0) (w : Way) (broken : List ℕ) (done : List Done) (trace : List Entry) (todo : List Task) (program : Program) → ExplainsBy slots requests calls w broken done trace todo program → ExplainsBy slots requests calls w broken done trace todo (first_step program)
@@ -171,35 +162,14 @@ first_explains slots requests calls Own broken done trace (t ∷ ts) (Write v af
 first_explains slots requests calls Beside broken done trace todo (Write v after) x = round_beside slots requests calls done todo broken trace v after x
 first_explains slots requests calls Closing broken done trace todo (Write v after) x = absurd x
 first_explains slots requests calls w broken done trace todo (Round head next) x = loop_goes slots requests calls w broken done trace todo head next x
-first_explains slots requests calls w broken done trace todo (Do call next) x = x
-first_explains slots requests calls w broken done trace todo (Say o outcome more) x = x
-first_explains slots requests calls w broken done trace todo (Sent o more) x = x
-first_explains slots requests calls w broken done trace todo Rest x = x
-first_explains slots requests calls w broken done trace todo (TakeMessage q next) x = x
-first_explains slots requests calls w broken done trace todo (TakeHome k next) x = x
-first_explains slots requests calls w broken done trace todo (PutHome k n after) x = x
-first_explains slots requests calls w broken done trace todo (PutBytes k asked bytes next) x = x
-first_explains slots requests calls w broken done trace todo (AskReady k next) x = x
-first_explains slots requests calls w broken done trace todo (Aside a next) x = x
-first_explains slots requests calls w broken done trace todo (Keep r next) x = x
-first_explains slots requests calls w broken done trace todo (Retries n after) x = x
+first_explains slots requests calls w broken done trace todo _ x = x
 
 -- whoever closes sockets sets one failed in a step of its own
 odd_here : (slots requests : ℕ) (calls : ℕ → Type 0) (broken : List ℕ) (done : List Done) (trace : List Entry) (todo : List Task) (program : Program) (j : ℕ) (next : ℕ → Program) → ExplainsBy slots requests calls Closing broken done trace todo program → first_step program ≡ Do (SetOdd j) next → call_in program ≡ Some (SetOdd j)
 odd_here slots requests calls broken done trace todo (Do c n) j next x e = let q : c ≡ SetOdd j = cc in ap (λ (y : Call). Some y) q
 odd_here slots requests calls broken done trace todo (Write v after) j next x e = absurd x
 odd_here slots requests calls broken done trace todo (Round head n) j next x e = let o = subst IsOfLoop e (loop_begins head n) in let q : SetOdd j ≡ LoadOpen o.0 = o.1 in absurd (cc)
-odd_here slots requests calls broken done trace todo (Say o outcome more) j next x e = absurd (cc)
-odd_here slots requests calls broken done trace todo (Sent o more) j next x e = absurd (cc)
-odd_here slots requests calls broken done trace todo Rest j next x e = absurd (cc)
-odd_here slots requests calls broken done trace todo (TakeMessage q n) j next x e = absurd (cc)
-odd_here slots requests calls broken done trace todo (TakeHome l n) j next x e = absurd (cc)
-odd_here slots requests calls broken done trace todo (PutHome l n after) j next x e = absurd (cc)
-odd_here slots requests calls broken done trace todo (PutBytes l a b n) j next x e = absurd (cc)
-odd_here slots requests calls broken done trace todo (AskReady l n) j next x e = absurd (cc)
-odd_here slots requests calls broken done trace todo (Aside a n) j next x e = absurd (cc)
-odd_here slots requests calls broken done trace todo (Keep r n) j next x e = absurd (cc)
-odd_here slots requests calls broken done trace todo (Retries n after) j next x e = absurd (cc)
+odd_here slots requests calls broken done trace todo _ j next x e = absurd (cc)
 
 -- the link that a put or a question asks
 asks_put : (program : Program) (k : ℕ) (asked : Bool) (bytes : List ℕ) (next : Put → Program) → first_step program ≡ PutBytes k asked bytes next → asked_link program ≡ k ∷ []
@@ -208,18 +178,8 @@ asks_put (Write (Puts h now heading left taken a) after) k asked bytes next e = 
 asks_put (Write (Waits h now heading left taken) after) k asked bytes next e = absurd (cc)
 asks_put (Write (Empties h) after) k asked bytes next e = absurd (cc)
 asks_put (Write (Walks h top at behind) after) k asked bytes next e = absurd (cc)
-asks_put (Do c n) k asked bytes next e = absurd (cc)
-asks_put (Say o outcome more) k asked bytes next e = absurd (cc)
-asks_put (Sent o more) k asked bytes next e = absurd (cc)
-asks_put Rest k asked bytes next e = absurd (cc)
-asks_put (TakeMessage q n) k asked bytes next e = absurd (cc)
-asks_put (TakeHome l n) k asked bytes next e = absurd (cc)
-asks_put (PutHome l n after) k asked bytes next e = absurd (cc)
-asks_put (AskReady l n) k asked bytes next e = absurd (cc)
-asks_put (Aside s n) k asked bytes next e = absurd (cc)
-asks_put (Keep r n) k asked bytes next e = absurd (cc)
-asks_put (Retries n after) k asked bytes next e = absurd (cc)
 asks_put (Round head n) k asked bytes next e = absurd (subst IsOfLoop e (loop_begins head n))
+asks_put _ k asked bytes next e = absurd (cc)
 
 asks_ready : (program : Program) (k : ℕ) (next : Ready → Program) → first_step program ≡ AskReady k next → asked_link program ≡ k ∷ []
 asks_ready (AskReady l n) k next e = cc
@@ -227,18 +187,8 @@ asks_ready (Write (Waits h now heading left taken) after) k next e = cc
 asks_ready (Write (Puts h now heading left taken a) after) k next e = absurd (cc)
 asks_ready (Write (Empties h) after) k next e = absurd (cc)
 asks_ready (Write (Walks h top at behind) after) k next e = absurd (cc)
-asks_ready (Do c n) k next e = absurd (cc)
-asks_ready (Say o outcome more) k next e = absurd (cc)
-asks_ready (Sent o more) k next e = absurd (cc)
-asks_ready Rest k next e = absurd (cc)
-asks_ready (TakeMessage q n) k next e = absurd (cc)
-asks_ready (TakeHome l n) k next e = absurd (cc)
-asks_ready (PutHome l n after) k next e = absurd (cc)
-asks_ready (PutBytes l a b n) k next e = absurd (cc)
-asks_ready (Aside s n) k next e = absurd (cc)
-asks_ready (Keep r n) k next e = absurd (cc)
-asks_ready (Retries n after) k next e = absurd (cc)
 asks_ready (Round head n) k next e = absurd (subst IsOfLoop e (loop_begins head n))
+asks_ready _ k next e = absurd (cc)
 
 -- ## Calls at home
 
@@ -287,9 +237,6 @@ abbrev pub MayMove : Bool → List Event → ℕ → Type 0
 MayMove over es i = (over ≡ true) ⊎ ((i ≡ 0) × ((e : Event) → In e es → e.client ≡ 0))
 
 module _ (p : Plan) (clients : List (List Task)) (are : AreTasks p clients) (over : Bool) (c : Core) (vs : List View) (es : List Event) (broken : List ℕ) (sound : Sound p c vs) (story : Story p clients over c vs es broken) (i : ℕ) where
-  abbrev Spoken : ℕ → Type 0
-  Spoken = IsSpoken clients
-
   module _ (seat : SeatState) (v : View) (tasks : List Task) (at : get_elem? c.seats i ≡ some seat) (here : get_elem? vs i ≡ some v) (asks : slice_get clients i ≡ Some tasks) where
     -- a part of the story of seat i
     abbrev At : List Event → List ℕ → Way → List Entry → List Done → List Task → Program → View → Type 0

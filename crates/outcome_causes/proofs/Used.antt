@@ -6,7 +6,7 @@ use Rattle.sock_words.specs.Words.{socket_id_slot}
 use Rattle.sock_words.specs.declared.plain.Plan.{Plan}
 use Rattle.sock_model.specs.declared.view.View.{View}
 use Rattle.sock_model.specs.Layout.{tag_index, ref_index, link_index, head_index, code_index, name_index, open_index, request_index, next_index, place_index, all_words}
-use Rattle.seat_programs.specs.Calls.{Call, ClaimSlot, CreateLife, AddRef, SubRef, SetOdd, Recycle, FreeSlot, StoreLink, LoadLink, ResetHead, ClearCode, StoreCode, StoreName, LoadName, StoreOpen, LoadOpen, TakeLink, FinishLink, PutLink, LookWord, FindLink, LoadCode, ClaimRequest, PutMessage, Unconnect, SwapHead, Connect, EmptyHead, ReadNext, ReverseNext, FreeRequest, StorePlace, DropPlace}
+use Rattle.seat_programs.specs.Calls.{Call, ClaimSlot, CreateLife, AddRef, SubRef, SetOdd, Recycle, FreeSlot, StoreLink, LoadLink, ResetHead, ClearCode, StoreCode, StoreName, LoadName, StoreOpen, LoadOpen, LookWord, FindLink, LoadCode, ClaimRequest, Unconnect, SwapHead, Connect, EmptyHead, ReadNext, ReverseNext, FreeRequest, StorePlace, DropPlace}
 use Rattle.seat_programs.specs.Cores.{word_of, word_after, found_at, words_after}
 use Rattle.sock_runs.specs.May.{May}
 use Rattle.outcome_causes.proofs.Tests.{split}
@@ -38,9 +38,6 @@ module _ (p : Plan) (v : View) (ws : List ℕ) (sized : length ws ≡ all_words 
   word_stays (LoadName m) may = else_ (name_index p m) _ (λ e. omega (arith, may))
   word_stays (StoreOpen o w) may = else_ (open_index p o) w (λ e. omega (arith, may.0))
   word_stays (LoadOpen o) may = else_ (open_index p o) _ (λ e. omega (arith, may))
-  word_stays (TakeLink k) may = used
-  word_stays (FinishLink k) may = used
-  word_stays (PutLink k) may = used
   word_stays (LookWord id) may = else_ (ref_index (socket_id_slot id)) _ (λ e. omega (arith, may.0))
   word_stays (FindLink i h) may = else_ (link_index i) _ (λ e. omega (arith, may.0))
   word_stays (LoadCode i h) may = else_ (code_index i) _ (λ e. omega (arith, may.0))
@@ -48,7 +45,6 @@ module _ (p : Plan) (v : View) (ws : List ℕ) (sized : length ws ≡ all_words 
       (λ same. subst (λ z. 0 < get_or (set ws (request_index p z) (word_after (ClaimRequest id z) (get_or ws (request_index p z) 0))) (request_index p q) 0) (sym same)
       (here (word_after (ClaimRequest id q) (get_or ws (request_index p q) 0)) (split (eqb (get_or ws (request_index p q) 0 % 2) 0) (get_or ws (request_index p q) 0 + 1) (get_or ws (request_index p q) 0) (λ n. 0 < n) (omega arith) used)))
       (λ far. else_ (request_index p r) _ (λ e. far (omega arith)))
-  word_stays (PutMessage r heading bytes) may = used
   word_stays (Unconnect r) may = else_ (next_index p r) _ (λ e. omega arith)
   word_stays (SwapHead i own) may = else_ (head_index i) _ (λ e. omega (arith, may.0))
   word_stays (Connect r before) may = else_ (next_index p r) _ (λ e. omega arith)
@@ -60,3 +56,4 @@ module _ (p : Plan) (v : View) (ws : List ℕ) (sized : length ws ≡ all_words 
       (λ far. else_ (request_index p r) _ (λ e. far (omega arith)))
   word_stays (StorePlace l k m) may = else_ (place_index p l) _ (λ e. omega arith)
   word_stays (DropPlace l k m) may = else_ (place_index p l) _ (λ e. omega arith)
+  word_stays _ may = used

@@ -35,9 +35,7 @@ name_of (ops.Send n bytes) = n
 name_of (ops.Hold n) = n
 name_of (ops.Drop n) = n
 name_of (ops.Fail n code) = n
-name_of (ops.Call asked) = 0
-name_of (ops.Expire t) = 0
-name_of (ops.Join t) = 0
+name_of _ = 0
 
 one_some : (o : Option Outcome) (x y : Outcome) → o ≡ Some x → o ≡ Some y → x ≡ y
 one_some o x y e f = cc
@@ -359,9 +357,7 @@ module _ (p : Plan) (clients : List (List Task)) (outcomes : List (Option Outcom
     why_each (ops.Hold n) o = why_hold n o
     why_each (ops.Drop n) o = why_drop n o
     why_each (ops.Fail n code) o = why_fail n code o
-    why_each (ops.Call asked) o = λ op e b. absurd b
-    why_each (ops.Expire t) o = λ op e b. absurd b
-    why_each (ops.Join t) o = λ op e b. absurd b
+    why_each _ o = λ op e b. absurd b
 
     -- the outcome of a task has its cause
     pub why_told : (o : Outcome) → Became clients outcomes t.number o → Why clients outcomes p g.fails few late orders c t.number t.op o

@@ -1,13 +1,15 @@
 -- Frames that are cut off the front of a stream, one behind another.
-use Rattle.std.proofs.Common.{◌≡◌, ℕ, zero, suc, ◌+◌, ◌-◌, ◌<◌, List, [], ◌∷◌, ◌++◌, length, drop, Some, Ok, refl, ap, sym, ◌∙◌, subst, arith, append_assoc, append-nil}
+use Rattle.std.proofs.Common.{◌≡◌, ℕ, zero, suc, ◌+◌, ◌-◌, ◌<◌, List, [], ◌∷◌, ◌++◌, length, drop, Some, Ok, refl, ap, sym, ◌∙◌, subst, arith, append_assoc, append-nil, length-drop}
 use Rattle.std.specs.Prelude.{Option}
 use Rattle.rpc_meta.specs.brpc_model.specs.Frame.{Frame, FrameFault, Judged, NoneYet, Faulty, Begins, judged}
 use Rattle.rpc_meta.specs.brpc_model.specs.Stream.{Stream, Ending, Rest, Fault, with_frame, goes_on, stream_up_to, stream_from, stream}
 use Rattle.rpc_meta.specs.brpc_model.proofs.Streams.{stream_goes_on}
 use Rattle.prpc_frame.specs.Cuts.{behind, Cut}
 use Rattle.prpc_frame.specs.Leads.{Leads}
+use Rattle.prpc_frame.specs.Front.{front_of, IsInFront, LeadsOn}
 use Rattle.prpc_frame.specs.Meaning.{frame_of}
 use Rattle.prpc_frame.specs.declared.frame.Frame as code_
+use Rattle.prpc_frame.specs.declared.front.FrontFrame.{FrontFrame}
 
 -- no frame
 pub cut_none : (bytes : List ℕ) → Cut bytes [] bytes
@@ -45,6 +47,14 @@ pub cut_next : (old held new : List ℕ) (fs : List Frame) (f : code_.Frame) (th
 cut_next old held new fs f there cut is leads =
     let P : Option code_.Frame → Type 0 = λ t. (at : ℕ) (more : List ℕ) → Leads at more held (Ok t) new in
     cut_more old held new fs (frame_of f ∷ []) cut (cut_one held new (frame_of f) (subst P is leads))
+
+-- the frame in front, which was let go
+pub cut_front : (old new : List ℕ) (f : FrontFrame) → IsInFront old f → LeadsOn old f → new ≡ drop f.size old → Cut old (front_of f ∷ []) new
+cut_front old new f x leads is = record {
+  size = f.size;
+  sized = omega (arith, ap length is, length-drop f.size old, x.there);
+  leads = λ at more. leads at more ∙ ap (λ l. with_frame (front_of f) (stream_from (at + f.size) (l ++ more))) (sym is);
+}
 
 -- ## The whole stream
 

@@ -85,7 +85,7 @@ faulty at bytes more f e =
     stream_goes_on at (bytes ++ more)
     ∙ ap (λ (j : Judged). goes_on at (bytes ++ more) j (λ body. stream_from (at + (12 + body)) (drop (12 + body) (bytes ++ more)))) (same ∙ e)
 
-begins : (at : ℕ) (old more new : List ℕ) (f : model.Frame) → Cuts (judged old) old f new →
+pub begins : (at : ℕ) (old more new : List ℕ) (f : model.Frame) → Cuts (judged old) old f new →
     stream_from at (old ++ more) ≡ with_frame f (stream_from (at + (length old - length new)) (new ++ more))
 begins at old more new f c =
     let same = stays old more (λ n. let no : NoneYet ≡ Begins f c.body = sym n ∙ c.means in cc) in

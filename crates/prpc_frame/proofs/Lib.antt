@@ -6,3 +6,4 @@ pub mod Headers
 pub mod Encoded
 pub mod Sizes
 pub mod Cuts
+pub mod Fronts

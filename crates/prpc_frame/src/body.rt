@@ -19,7 +19,7 @@ pub fn read_frame(alloc: Global, held: &IoBuf, sizes: Sizes) -> Result<Frame, Ne
     let body_bytes = sizes.body as usize;
     let meta = read_meta(alloc, held, meta_bytes)?;
     let room = sizes.body - sizes.meta;
-    let attached = attachment_bytes(&meta, room)?;
+    let attached = attachment_bytes(meta.attachment_size, room)?;
     let mut rest = held.share_part(12 + meta_bytes, 12 + body_bytes)?;
     if attached == 0 {
         return Ok(Frame {
@@ -85,12 +85,11 @@ fn meta_of(alloc: Global, bytes: &[u8]) -> Result<RpcMeta, NextFault>
     }
 }
 
-// How many bytes the attachment has, where it fits in the room behind the meta.
+/// How many bytes the attachment has, where it fits in the room behind the meta.
 #[inline(always)]
-fn attachment_bytes(meta: &RpcMeta, room: u32) -> Result<u32, FrameFault>
-    ensures { AttachmentSays meta.now.attachment_size room result }
+pub fn attachment_bytes(size: i32, room: u32) -> Result<u32, FrameFault>
+    ensures { AttachmentSays size room result }
 {
-    let size = meta.attachment_size;
     if size < 0 || size.unsigned_abs() > room {
         return Err(FrameFault::AttachOver { size, room });
     }

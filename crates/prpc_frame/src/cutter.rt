@@ -1,14 +1,16 @@
-ghost use Rattle.std.specs.Prelude.{◌≡◌, ℕ, List, ◌++◌, true, false, IsOk, OnOk, OnErr, MatchOption, Err};
+ghost use Rattle.std.specs.Prelude.{◌≡◌, ◌≤◌, ℕ, List, ◌++◌, drop, true, false, IsOk, OnOk, OnErr, IfSome, MatchOption, Err};
 ghost use Rattle.rpc_meta.specs.brpc_model.specs.Frame.{NoneYet, judged};
 ghost use Rattle.rpc_meta.specs.brpc_model.specs.Stream.{stream_from};
 ghost use Rattle.prpc_frame.specs.declared.fault.NextFault.TheVariants.{Frame as frame_fault};
 ghost use Rattle.prpc_frame.specs.Answers.{Answers, Fed, tells_fault};
+ghost use Rattle.prpc_frame.specs.Front.{LiesInFront, LeadsOn};
 ghost use Rattle.prpc_frame.specs.Held.{unfed, held_count, with_piece};
 ghost use Rattle.prpc_frame.specs.Leads.{Leads};
 
 use crate::body::read_frame;
 use crate::fault::{FrameFault, NextFault};
 use crate::frame::Frame;
+use crate::front::{FrontFrame, first_bytes, read_front};
 use crate::header::read_header;
 use ghosts::Ghosts;
 use io_buf::{BlockPool, IoBuf, NoMemory};
@@ -27,6 +29,7 @@ pub struct Cutter {
 }
 
 impl Model for Cutter {
+    ghost use Rattle.prpc_frame.specs.Front.{LiesInFront, LeadsOn};
     ghost use Rattle.prpc_frame.specs.Held.{Held, held_code};
 
     ghost Value = { Held };
@@ -101,6 +104,27 @@ impl Cutter {
             self.fault = Some(fault);
         }
         next
+    }
+
+    /// The frame at the front, where all of it lies in one piece: it is neither copied nor shared, and stays until
+    /// `skip` lets it go. `None` says nothing of the bytes.
+    #[inline(always)]
+    pub fn front(&self) -> Option<FrontFrame<'_>>
+        ensures exact { IfSome result (λ frame. LiesInFront self.now frame) }
+        // In whatever pieces the stream goes on, it is this frame and the stream behind it.
+        ensures stream { IfSome result (λ frame. LeadsOn self.now.bytes frame) }
+    {
+        read_front(first_bytes(&self.held))
+    }
+
+    /// Lets the first bytes go, so many.
+    #[inline(always)]
+    pub fn skip(&mut self, size: usize)
+        requires { size ≤ held_count self.old }
+        ensures bytes { self.new.bytes ≡ drop size self.old.bytes }
+        ensures told { self.new.told ≡ self.old.told }
+    {
+        self.held.pop_front(size);
     }
 }
 

@@ -8,7 +8,8 @@ use io_buf::IoBuf;
 /// The most bytes that a body may have.
 pub const BODY_LIMIT: u32 = 67_108_864;
 
-const HEADER_BYTES: usize = 12;
+/// Bytes of the header.
+pub const HEADER_BYTES: usize = 12;
 
 /// `PRPC`.
 pub const MAGIC: [u8; 4] = [0x50, 0x52, 0x50, 0x43];
@@ -61,9 +62,9 @@ fn copy_header(held: &IoBuf) -> Result<Option<Sizes>, FrameFault>
     judge_header(front, held.len())
 }
 
-// Judges the first twelve bytes, or all where there are fewer, of `len` bytes.
+/// Judges the first twelve bytes, or all where there are fewer, of `len` bytes.
 #[inline(always)]
-fn judge_header(front: &[u8], len: usize) -> Result<Option<Sizes>, FrameFault>
+pub fn judge_header(front: &[u8], len: usize) -> Result<Option<Sizes>, FrameFault>
     requires { length front.now ≡ min len 12 }
     ensures { (more : List ℕ) → length front.now + length more ≡ len → HeaderSays (front.now ++ more) result }
 {

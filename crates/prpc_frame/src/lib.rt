@@ -10,11 +10,15 @@ mod cutter;
 mod encoding;
 mod fault;
 mod frame;
+mod front;
 mod header;
+mod view;
 
 pub use cutter::Cutter;
 pub use encoding::{begins_with_one_frame, encode};
 pub use fault::{FrameFault, NextFault};
 pub use frame::Frame;
+pub use front::FrontFrame;
 pub use io_buf::{BlockPool, IoBuf, NoMemory};
 pub use rpc_meta::{MetaFault, RpcMeta};
+pub use view::{MetaView, RequestView, ResponseView};

@@ -171,27 +171,23 @@ module _ (script : List Item) (core : Core) (broken : List ℕ) (callless : is_c
   why : (c o : ℕ) (op : Op) (outcome : Outcome) → Before c o op outcome → Why c o op outcome
   why c o (ops.Open n k) (Opened slot version l) w = w
   why c o (ops.Open n k) SlotsFull w = w
-  why c o (ops.Open n k) other w = absurd w
   why c o (ops.Send n bytes) Unopened w = found_none c o n w
   why c o (ops.Send n bytes) (Gone found) w = found_failed c o n (λ version. vref_version found.0 ≢ version) w
   why c o (ops.Send n bytes) Full w = let many = w.1 in (w.0, omega (arith, many, as_many))
-  why c o (ops.Send n bytes) other w = absurd w
   why c o (ops.Hold n) Unopened w = found_none c o n w
   why c o (ops.Hold n) (Gone found) w = found_failed c o n (λ version. vref_version found.0 ≢ version) w
   why c o (ops.Hold n) Held w = w
-  why c o (ops.Hold n) other w = absurd w
   why c o (ops.Fail n code) Unopened w = found_none c o n w
   why c o (ops.Fail n code) (Gone found) w = found_failed c o n (λ version. vref_version found.0 ≢ version) w
   why c o (ops.Fail n code) (Already found) w = found_failed c o n (λ version. vref_version found.0 % 2 ≡ 1) w
   why c o (ops.Fail n code) Failed w = w
-  why c o (ops.Fail n code) other w = absurd w
   why c o (ops.Drop n) NotHeld w = w
   why c o (ops.Drop n) Freed w = w
   why c o (ops.Drop n) Kept w = w
-  why c o (ops.Drop n) other w = absurd w
   why c o (ops.Call asked) outcome w = absurd w
   why c o (ops.Expire t) outcome w = absurd w
   why c o (ops.Join t) outcome w = absurd w
+  why c o _ other w = absurd w
 
   -- ## What is told
 

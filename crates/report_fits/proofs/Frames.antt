@@ -15,14 +15,14 @@ varint_short (suc most) n = by_size (nat_lt n 128) (varint_short most (n / 128))
     by_size true few = omega arith
     by_size false few = omega (arith, few)
 
-number_short : (number n : ℕ) → length (number_field number n) ≤ 20
+pub number_short : (number n : ℕ) → length (number_field number n) ≤ 20
 number_short number n = omega (arith, length-append (varint_bytes (number * 8)) (varint_bytes n), varint_short 10 (number * 8), varint_short 10 n)
 
-bytes_short : (number : ℕ) (bytes : List ℕ) → length (bytes_field number bytes) ≤ 20 + length bytes
+pub bytes_short : (number : ℕ) (bytes : List ℕ) → length (bytes_field number bytes) ≤ 20 + length bytes
 bytes_short number bytes = let a : List ℕ = varint_bytes (number * 8 + 2) in let b : List ℕ = varint_bytes (length bytes) in
     omega (arith, length-append (varint_bytes (number * 8 + 2) ++ varint_bytes (length bytes)) bytes, length-append (varint_bytes (number * 8 + 2)) (varint_bytes (length bytes)), varint_short 10 (number * 8 + 2), varint_short 10 (length bytes))
 
-size_short : (n : ℕ) → length (where_not_0 5 (pos n)) ≤ 20
+pub size_short : (n : ℕ) → length (where_not_0 5 (pos n)) ≤ 20
 size_short zero = omega arith
 size_short (suc n) = number_short 5 (suc n)
 

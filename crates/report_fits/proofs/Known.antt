@@ -1,30 +1,25 @@
 -- A script that was read and what is told of its run: its calls, the names of their attempts, and the messages that links accepted.
-use Rattle.std.proofs.Common.{◌≡◌, ◌≢◌, ℕ, zero, suc, ◌+◌, ◌*◌, ◌%◌, ◌<◌, ◌≤◌, ◌==◌, ◌⊎◌, inl, inr, Bool, true, false, cond, eqb, if◌then◌else◌, nat_le, List, [], ◌∷◌, length, map, flat_map, slice_get, option_and_then, Option, Some, None, refl, ap, sym, ◌∙◌, subst, arith}
+use Rattle.std.proofs.Common.{◌≡◌, ℕ, zero, suc, ◌+◌, ◌%◌, ◌<◌, ◌≤◌, ◌==◌, ◌⊎◌, inl, inr, true, false, cond, eqb, if◌then◌else◌, nat_le, List, [], ◌∷◌, length, map, slice_get, option_and_then, Option, Some, None, refl, ap, sym, ◌∙◌, subst, arith}
 use Rattle.std.specs.Prelude.{slice_index}
 use Rattle.std.proofs.lemmas.List.{length-map}
 use Rattle.std.proofs.lemmas.Bool.Decides.{nat_tests}
-use Rattle.std.proofs.lemmas.Option.{slice_get_within}
 use Rattle.std.specs.List.{AllByRecursion}
 use Rattle.sock_words.specs.declared.outcome.Outcome.{Outcome}
 use Rattle.brpc_model.specs.Items.{Item, Send, Call, CallLine, attempts_of, call_name, name_at}
 use Rattle.brpc_model.specs.Operations.{Operation, operations, link_names, attempts, name_of as label_name}
 use Rattle.brpc_model.specs.Frame.{frame_bytes}
 use Rattle.brpc_model.specs.Messages.{request_frame, shown_id}
-use Rattle.brpc_model.specs.Order.{EachBefore}
 use Rattle.brpc_model.specs.Places.{names}
 use Rattle.seat_programs.specs.sock_message.specs.Asked.{Asked, name_of, frame_of}
 use Rattle.seat_programs.specs.declared.task.Op.TheVariants as ops
 use Rattle.seat_programs.specs.declared.task.Task.{Task}
 use Rattle.seat_programs.specs.Cores.{Core}
-use Rattle.seat_programs.specs.Runs.{from_to}
 use Rattle.seat_programs.specs.Tasks.{name_number, numbered, asked_of, op_of, plan_of}
 use Rattle.seat_programs.specs.Scripts.{all_tasks}
 use Rattle.seat_programs.specs.Told.{IsTask, Made}
-use Rattle.seat_programs.specs.ToldCalls.{Accepted, Order, StandsAt, Fixed, ToldCalls, IsSent, OfSend, OfCall, StandsOn, all_accepted, label}
+use Rattle.seat_programs.specs.ToldCalls.{Accepted, Order, StandsAt, Fixed, ToldCalls, IsSent, OfSend, OfCall, StandsOn, all_accepted}
 use Rattle.report_fits.specs.Limits.{KeepsLimits}
-use Rattle.report_fits.proofs.Lists.{Has, within, some_is, all_from, all_at, before_from}
-use Rattle.report_fits.proofs.Flat.{flat_has, flat_before, flat_length, from_to_at, from_to_length}
-use Rattle.report_fits.proofs.Counting.{tally, but, but_other, one_less, tally_all}
+use Rattle.report_fits.proofs.Lists.{Has, within, some_is, all_at}
 use Rattle.report_fits.proofs.Names.{mentioned_has}
 use Rattle.report_fits.proofs.Numbering.{are_from}
 use Rattle.report_fits.proofs.TaskLemmas.{numbers_at, asks_at, task_is, operation_task, send_asks, call_asks, mentions_send}
@@ -32,7 +27,7 @@ use Rattle.report_fits.proofs.CallLines.{CallInRange}
 use Rattle.report_fits.proofs.Called.{inside_names}
 use Rattle.report_fits.proofs.Reading.{InRange}
 use Rattle.report_fits.proofs.Targets.{AreThere}
-use Rattle.report_fits.proofs.LabelCounts.{is_attempt, attempt_there, attempts_few, Differ, few}
+use Rattle.report_fits.proofs.Labels as labels
 
 -- what is known of a run: its script, which was read, the core in which it ended, and what is told of it
 pub record Known : Type 0 where
@@ -89,16 +84,6 @@ attempt_named script o n q call name there item low named =
     ∙ ap (λ x. name_at x n) item
     ∙ ap (λ b. if b then call_name call n else None) inside
     ∙ named
-
-range_small : (item : Item) → InRange item → attempts_of item ≤ 8
-range_small (Send name bytes) h = omega arith
-range_small (Call call) h = let r = h.retry in omega (arith, r)
-range_small other h = omega arith
-
-from_to_below : (a n i x : ℕ) → slice_get (from_to a n) i ≡ Some x → (x ≡ a + i) × (i < n)
-from_to_below a n i x e =
-    let low : i < n = omega (arith, slice_get_within (from_to a n) i x e, from_to_length a n) in
-    (some_is x (a + i) (sym e ∙ from_to_at a n i low), low)
 
 module _ (s : Known) where
   abbrev pub Ops : List Operation
@@ -234,84 +219,16 @@ module _ (s : Known) where
 
   -- ## Their number
 
-  small : AllByRecursion (λ (op : Operation). attempts_of op.item ≤ 8) Ops
-  small = all_from (λ (op : Operation). attempts_of op.item ≤ 8) Ops (λ q h. range_small q.item (all_at InRange s.script q.item s.range (are_from 0 1 s.script h.0 q h.1).there))
-
-  abbrev most : ℕ
-  most = 8 * length Ops
-
-  labels_there : (k i : ℕ) (a : Accepted) → k < links → Stands k i a → (a.attempt < 8) × (a.operation < length Ops) × (label a < most) × (is_attempt Ops (label a) ≡ true)
-  labels_there k i a low at =
-      let w = sent_at k i a low at in
-      let inside : a.operation < length Ops = slice_get_within Ops a.operation w.operation w.there in
-      let few_ = all_at (λ (op : Operation). attempts_of op.item ≤ 8) Ops w.operation small (a.operation, w.there) in
-      let eight : a.attempt < 8 = omega (arith, w.counts, few_) in
-      (eight, inside, omega (arith, eight, inside), attempt_there Ops a.operation a.attempt w.operation w.there w.counts eight)
-
-  differ_at : (k l i j : ℕ) (a b : Accepted) → k < links → l < links → ((k ≡ l) × (i ≡ j) → ⊥) → Stands k i a → Stands l j b → Differ a b
-  differ_at k l i j a b low_k low_l other at bt same = other (s.tells.are_orders.apart k l i j a b low_k low_l at bt same)
-
-  own_differ : (k : ℕ) → k < links → EachBefore Differ (s.orders k).accepted
-  own_differ k low = before_from Differ (s.orders k).accepted (λ i j a b less at bt. differ_at k k i j a b low low (λ same. omega (arith, less, same.1)) at bt)
+  counted : (k i : ℕ) (a : Accepted) → k < links → Stands k i a → (q : Operation) × IsOp a.operation q × (a.attempt < attempts_of q.item)
+  counted k i a low at = let w = sent_at k i a low at in (w.operation, w.there, w.counts)
 
   pub inside : (k i : ℕ) (a : Accepted) → k < links → Stands k i a → (i < 4294967295) × (a.operation < length Ops) × (a.attempt < 8)
-  inside k i a low at =
-      let always : ℕ → Bool = λ j. true in
-      let bound : length (s.orders k).accepted ≤ tally always most = few always most (s.orders k).accepted (own_differ k low) (λ b h. ((labels_there k h.0 b low h.1).2, refl)) in
-      let i_low : i < length (s.orders k).accepted = slice_get_within (s.orders k).accepted i a at in
-      let w = labels_there k i a low at in
-      (omega (arith, bound, i_low, tally_all most, s.limits.operations), w.1, w.0)
-
-  abbrev accepted_of : ℕ → List Accepted
-  accepted_of k = (s.orders k).accepted
-
-  abbrev all_of : List Accepted
-  all_of = flat_map accepted_of (from_to 0 links)
-
-  link_low : (i k : ℕ) → slice_get (from_to 0 links) i ≡ Some k → (k ≡ i) × (k < links)
-  link_low i k e = let w = from_to_below 0 links i k e in (omega (arith, w.0), omega (arith, w.0, w.1))
-
-  all_differ : EachBefore Differ all_of
-  all_differ = flat_before Differ accepted_of (from_to 0 links)
-      (λ i k e. own_differ k (link_low i k e).1)
-      (λ i j p q k l a b less e f at bt. (
-      let v = link_low i k e in
-      let w = link_low j l f in
-      differ_at k l p q a b v.1 w.1 (λ same. omega (arith, less, v.0, w.0, same.0)) at bt
-      ))
-
-  all_counted : all_accepted links s.orders ≡ length all_of
-  all_counted = sym (flat_length accepted_of (from_to 0 links))
+  inside = labels.inside_script s.script s.range s.orders s.tells.are_orders.apart counted s.limits.operations
 
   -- an attempt that no link accepted
   abbrev pub IsOut : ℕ → ℕ → Type 0
   IsOut o n = (k : ℕ) → StandsOn (plan_of s.script) (all_tasks s.script) s.core.outcomes s.fixed s.gave s.orders o n k → ⊥
 
-  other_label : (o n k i : ℕ) (a : Accepted) → IsOut o n → n < 8 → k < links → Stands k i a → label a ≢ 8 * o + n
-  other_label o n k i a out low k_low at same =
-      let w = labels_there k i a k_low at in
-      let operation : a.operation ≡ o = omega (arith, same, low, w.0) in
-      let attempt : a.attempt ≡ n = omega (arith, same, low, w.0) in
-      out k (i, (k_low, a, at, operation, attempt))
-
   -- is one more than those that were accepted
   pub fewer : (o n : ℕ) (q : Operation) → IsOp o q → n < attempts_of q.item → IsOut o n → all_accepted links s.orders < attempts s.script
-  fewer o n q there counts out =
-      let few_ = all_at (λ (op : Operation). attempts_of op.item ≤ 8) Ops q small (o, there) in
-      let eight : n < 8 = omega (arith, counts, few_) in
-      let test = is_attempt Ops in
-      let place = 8 * o + n in
-      let low : place < most = omega (arith, slice_get_within Ops o q there, eight) in
-      let bound : length all_of ≤ tally (but test place) most = few (but test place) most all_of all_differ (λ a h. (
-      let w = flat_has accepted_of (from_to 0 links) a h in
-      let k_low = (link_low w.0 w.2 w.3).1 in
-      let l = labels_there w.2 w.1 a k_low w.4 in
-      (l.2, but_other test place (label a) (other_label o n w.2 w.1 a out eight k_low w.4) ∙ l.3)
-      )) in
-      omega (
-        arith,
-        bound,
-        all_counted,
-        one_less test place most low (attempt_there Ops o n q there counts eight),
-        attempts_few s.script small,
-      )
+  fewer o n q there counts out = labels.fewer s.script s.range s.orders s.tells.are_orders.apart counted o n q there counts (λ k i a low at operation attempt. out k (i, (low, a, at, operation, attempt)))

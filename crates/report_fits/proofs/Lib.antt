@@ -16,6 +16,7 @@ pub mod Targets
 pub mod Orders
 pub mod Reported
 pub mod LabelCounts
+pub mod Labels
 pub mod Known
 pub mod Lines
 pub mod Lives

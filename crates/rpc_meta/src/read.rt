@@ -83,7 +83,7 @@ fn build_response(
 
 /// An int32: the low 32 bits of its varint, signed.
 #[inline(always)]
-fn low_signed(number: u64) -> i32
+pub fn low_signed(number: u64) -> i32
     ensures { result ≡ int32 number }
 {
     ((number % 0x1_0000_0000) as u32).cast_signed()

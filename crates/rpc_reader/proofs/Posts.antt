@@ -19,7 +19,7 @@ use Rattle.sock_message.specs.Asked.{Asked}
 use Rattle.prpc_frame.specs.declared.frame.Frame.{Frame}
 use Rattle.rpc_reader.specs.Books.{Books}
 use Rattle.rpc_reader.specs.Met.{has_response, is_for, FrameMet}
-use Rattle.rpc_reader.specs.Posting.{call_at, attempt_at, FoundOf, kept_at, PostedLast, SeenTo, PostedOne, PostedAll}
+use Rattle.rpc_reader.specs.Posting.{call_at, attempt_at, FoundOf, kept_at, PostedLast, MetOrPosted, PostedOne, PostedAll}
 use Rattle.rpc_reader.proofs.Frames.{for_responds}
 use mathlib.Core.Option.{some}
 use lib.ListN.{get_elem?}
@@ -56,7 +56,7 @@ found_of slots w id word v e found none_ has = subst (λ (n : ℕ). Found (slot_
     inside h z = ⊎_elim (λ lt. lt) (λ ge. absurd (let e₀ = ap (λ (n : ℕ). (parts n).state) (z ge) in let some_ = h.1 in omega (arith, e₀, some_))) (cases_lt (slot_of id) slots)
 
 -- and one that lacks it tells that the id has ended
-pub gone_last : (slots code w id word : ℕ) (b : Books) (seen : View Asked) → id ≡ call_at w → Quiet b.view seen → (slot_of id < slots → Found (slot_of id) word seen × (0 < word)) → (slots ≤ slot_of id → word ≡ 0) → LacksId (parts word) (version_of id) → SeenTo slots code w b (record b { view = seen })
+pub gone_last : (slots code w id word : ℕ) (b : Books) (seen : View Asked) → id ≡ call_at w → Quiet b.view seen → (slot_of id < slots → Found (slot_of id) word seen × (0 < word)) → (slots ≤ slot_of id → word ≡ 0) → LacksId (parts word) (version_of id) → MetOrPosted slots code w b (record b { view = seen })
 gone_last slots code w id word b seen e quiet found none_ lacks = inr record {
   answer = posted.Gone word;
   seen = seen;
@@ -70,7 +70,7 @@ pub kept_is : (slot slot' word word' : ℕ) (early early' : List Frame) → slot
 kept_is slot slot' word word' early early' a b c = λ k. position (is_for (a k) (parts (b k))) (c k)
 
 -- the first response that was kept for it
-pub met_kept : (slots code w word place : ℕ) (b b' : Books) (seen : View Asked) (frame : Frame) → Quiet b.view seen → FoundOf w word seen → Some place ≡ kept_at w word b.early → frame ≡ get_or b.early place frame → FrameMet slots frame (record b { view = seen; early = remove b.early place }) b' → SeenTo slots code w b b'
+pub met_kept : (slots code w word place : ℕ) (b b' : Books) (seen : View Asked) (frame : Frame) → Quiet b.view seen → FoundOf w word seen → Some place ≡ kept_at w word b.early → frame ≡ get_or b.early place frame → FrameMet slots frame (record b { view = seen; early = remove b.early place }) b' → MetOrPosted slots code w b b'
 met_kept slots code w word place b b' seen frame quiet found first is met = inl record {
   seen = seen;
   quiet = quiet;
@@ -101,7 +101,7 @@ post_after slots id code attempt u v w (posted.Gone found) q (quiet, was) = (qui
 post_after slots id code attempt u v w (posted.Stale current) q (quiet, stale, was) = (quiet_after u v w q quiet, stale, was)
 post_after slots id code attempt u v w (posted.Crowded first second) q (quiet, was) = (quiet_after u v w q quiet, was)
 
-pub last_after : (slots code w : ℕ) (b b' : Books) (seen : View Asked) → Quiet b.view seen → PostedLast slots code w (record b { view = seen }) b' → SeenTo slots code w b b'
+pub last_after : (slots code w : ℕ) (b b' : Books) (seen : View Asked) → Quiet b.view seen → PostedLast slots code w (record b { view = seen }) b' → MetOrPosted slots code w b b'
 last_after slots code w b b' seen quiet l = inr record {
   answer = l.answer;
   seen = l.seen;

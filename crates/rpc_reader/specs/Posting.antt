@@ -74,12 +74,13 @@ pub record MetKept (slots w : ℕ) (b b' : Books) : Type 0 where
   pub there : get_elem? b.early place ≡ some frame
   pub met : FrameMet slots frame (record b { view = seen; early = remove b.early place }) b'
 
-abbrev pub SeenTo : ℕ → ℕ → ℕ → Books → Books → Type 0
-SeenTo slots code w b b' = MetKept slots w b b' ⊎ PostedLast slots code w b b'
+-- so the call that an at word names was seen to: by a response that was kept of it, or by the code
+abbrev pub MetOrPosted : ℕ → ℕ → ℕ → Books → Books → Type 0
+MetOrPosted slots code w b b' = MetKept slots w b b' ⊎ PostedLast slots code w b b'
 
 -- where the at word names this link
 abbrev pub PostedIf : Bool → ℕ → ℕ → ℕ → Books → Books → Type 0
-PostedIf true slots code w b b' = SeenTo slots code w b b'
+PostedIf true slots code w b b' = MetOrPosted slots code w b b'
 PostedIf false slots code w b b' = b' ≡ b
 
 -- what the at word of the call of this operation led to

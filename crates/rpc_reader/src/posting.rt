@@ -9,7 +9,7 @@ ghost use Rattle.corr_id.specs.Seats.{Sits};
 ghost use Rattle.rpc_reader.specs.Seats.{IsOpen, Rests};
 ghost use Rattle.rpc_reader.specs.Books.{books};
 ghost use Rattle.rpc_reader.specs.Met.{is_for as answers};
-ghost use Rattle.rpc_reader.specs.Posting.{LockLost, attempt_at, call_at, FoundOf, kept_at, PostedLast, SeenTo, PostedOne, PostedAll};
+ghost use Rattle.rpc_reader.specs.Posting.{LockLost, attempt_at, call_at, FoundOf, kept_at, PostedLast, MetOrPosted, PostedOne, PostedAll};
 
 use crate::books::{AnswerSeat, has_response};
 use crate::ending::{end_answered, end_failed};
@@ -120,7 +120,7 @@ fn post_last<R: Wait>(rt: &R, ids: &IdTable<Call>, calls: &mut AnswerSeat, code:
     requires seat { IsOpen ids.now.table.shared.table_id calls.old.seat }
     requires code { (0 < code) × (code < 4096) }
     ensures rest { Rests calls.old.seat calls.new.seat }
-    ensures seen { SeenTo ids.now.plan.slots code word.0 (books calls.old) (books calls.new) }
+    ensures seen { MetOrPosted ids.now.plan.slots code word.0 (books calls.old) (books calls.new) }
 {
     let found = IdWord::from_word(ids.word(&mut calls.seat, id_at(word)));
     if lacks_id(found, word.first()) {

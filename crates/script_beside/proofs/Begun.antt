@@ -15,17 +15,17 @@ use Rattle.seat_programs.specs.Tasks.{plan_of}
 use Rattle.seat_programs.specs.ToldCalls.{Order, Fixed}
 use Rattle.script_calls.specs.call_whys.specs.sock_deeds.specs.Runs.{IsOperation}
 use Rattle.script_calls.specs.call_whys.specs.sock_deeds.proofs.Orders.{orders}
-use Rattle.script_calls.specs.calls_done.specs.Begun.{FirstAttempt, stands, became_unopened, found_failing, found_full}
+use Rattle.script_calls.specs.calls_done.specs.Begun.{FirstAttempt, Stands, BecameUnopened, FoundFailing, FoundFull}
 use Rattle.script_calls.specs.calls_done.proofs.Begun.{first_attempt}
 use Rattle.script_beside.specs.Told.{seated_plan, IsBesideRun}
 use Rattle.script_beside.proofs.Sockets as sockets
 
 -- nothing of it speaks of seats
 first_still : (p : Plan) (n : ℕ) (clients : List (List Task)) (outcomes : List (Option Outcome)) (fixed : Fixed) (gave : ℕ → List ℕ) (orders : ℕ → Order) (o name : ℕ) → FirstAttempt (record p { seats = n }) clients outcomes fixed gave orders o name → FirstAttempt p clients outcomes fixed gave orders o name
-first_still p n clients outcomes fixed gave orders o name (stands k on) = stands k on
-first_still p n clients outcomes fixed gave orders o name (became_unopened unopened) = became_unopened unopened
-first_still p n clients outcomes fixed gave orders o name (found_failing k slot version made failing) = found_failing k slot version made failing
-first_still p n clients outcomes fixed gave orders o name (found_full full) = found_full full
+first_still p n clients outcomes fixed gave orders o name (Stands k on) = Stands k on
+first_still p n clients outcomes fixed gave orders o name (BecameUnopened unopened) = BecameUnopened unopened
+first_still p n clients outcomes fixed gave orders o name (FoundFailing k slot version made failing) = FoundFailing k slot version made failing
+first_still p n clients outcomes fixed gave orders o name (FoundFull full) = FoundFull full
 
 -- of each call of a script
 abbrev pub AreBegun : List Item → List (Option Outcome) → Fixed → (ℕ → List ℕ) → (ℕ → Order) → Type 0

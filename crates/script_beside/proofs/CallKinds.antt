@@ -30,7 +30,6 @@ use Rattle.script_calls.specs.call_whys.specs.call_places.proofs.Places.{all as 
 use Rattle.script_calls.specs.call_whys.specs.call_told.specs.Answers.{ends_call}
 use Rattle.script_calls.specs.call_whys.specs.call_told.specs.Once.{ends_of}
 use Rattle.script_calls.specs.Told.{outcomes_of}
-use Rattle.script_calls.proofs.Placed.{mapped_from}
 use Rattle.script_calls.proofs.Sayings.{told_each, none_told}
 use Rattle.script_calls.proofs.Tellers.{HasResult, IsEndTold}
 use Rattle.script_calls.proofs.Tellers as tellers
@@ -38,6 +37,7 @@ use Rattle.script_calls.specs.calls_done.proofs.Known.{IsOfCall}
 use Rattle.script_beside.specs.Told.{seated_plan, seated_ids, IsBesideRun}
 use Rattle.script_beside.proofs.Reports.{text_of, text_outcomes}
 use Rattle.script_beside.proofs.Sockets as sockets
+use Rattle.script_calls.specs.call_whys.specs.sock_deeds.proofs.Places.{map_back}
 
 ends_some : (by : Outcome) (id : ℕ) → 0 < ends_of id by → ends_call by ≡ true
 ends_some (Answered i payload attachment) id h = refl
@@ -89,7 +89,7 @@ module _ (P : Type 0) {O I : Type 0} (g : Ghosts O) (out : O → OutState) (inn 
     own_told : (d j : ℕ) (ts : List Told) (u : Told) → get_elem? r.told d ≡ some ts → get_elem? ts j ≡ some u → u.number ≡ t.number → u.outcome ≡ Unopened
     own_told d j ts u at there number =
         let f : Client g out p q → List Told = λ x. x.thread.ended.outcomes.items in
-        let w = mapped_from f callers d ts (ap (λ (l : List (List Told)). get_elem? l d) (all_are r.left.ran (λ (x : Thread g). x.ended.outcomes.items) ∙ r.left.ran.ran.told_is) ∙ at) in
+        let w = map_back f callers d ts (ap (λ (l : List (List Told)). get_elem? l d) (all_are r.left.ran (λ (x : Thread g). x.ended.outcomes.items) ∙ r.left.ran.ran.told_is) ∙ at) in
         let s = said_of w.0.thread w.0.is j u (ap (λ (l : List Told). get_elem? l j) w.2 ∙ there) in
         let has : HasResult r.left.ran script r.left.tasks (sockets.are P g out inn bytes script reads text links r) w.0 u.number (Some u.outcome) = record { place = s.0; result = s.1; at = s.2; number_is = sym s.3; by_is = s.4 } in
         let its = tellers.of_client r.left.ran script r.left.tasks (sockets.are P g out inn bytes script reads text links r) d w.0 w.1 u.number (Some u.outcome) has in

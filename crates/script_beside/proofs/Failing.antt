@@ -1,10 +1,10 @@
 -- Why each call of a script failed whose links were read beside its clients, and why each attempt of one behind the first was made.
-use Rattle.std.proofs.Common.{◌≡◌, ℕ, zero, suc, false, ◌+◌, ◌*◌, ◌<◌, ◌≤◌, ◌⊎◌, inl, inr, List, [], ◌∷◌, ◌++◌, length, map, replicate, slice_get, Contains, true, Option, Some, None, Ok, refl, sym, ap, ◌∙◌, subst, arith}
+use Rattle.std.proofs.Common.{◌≡◌, ℕ, suc, false, ◌+◌, ◌*◌, ◌<◌, ◌≤◌, ◌⊎◌, inl, inr, List, [], ◌∷◌, ◌++◌, length, map, replicate, slice_get, Contains, true, Option, Some, None, Ok, refl, sym, ap, ◌∙◌, subst, arith}
 use Rattle.std.specs.Prelude.{IfSome}
 use Rattle.std.specs.List.{AllByRecursion, flat_map}
 use Rattle.std.proofs.lemmas.List.{map-append, length-map}
 use Rattle.std.proofs.lemmas.Option.{none-some, slice_get_within}
-use mathlib.Core.Option.{some, some-injective, some-ne-none}
+use mathlib.Core.Option.{some}
 use lib.ListN.{get_elem?}
 use Rattle.sock_io.specs.declared.link.Out.{Ghosts}
 use Rattle.sock_io.specs.declared.link.Ends.{Ends}
@@ -44,7 +44,7 @@ use Rattle.call_run.specs.Threads.{Thread}
 use Rattle.script_calls.specs.report_fits.proofs.Sizes.{keeps_limits}
 use Rattle.script_calls.specs.report_fits.specs.Ends.{EndsEarly}
 use Rattle.script_calls.specs.call_whys.specs.call_deeds.proofs.Runs.{seats_are, read_beside, early_with}
-use Rattle.script_calls.specs.call_whys.specs.call_places.proofs.Ids.{IsIdOf}
+use Rattle.script_calls.specs.call_whys.specs.call_places.proofs.Ids.{IsIdOf, some_made}
 use Rattle.script_calls.specs.call_whys.specs.call_places.proofs.Weights.{term, flat_total}
 use Rattle.script_calls.specs.call_whys.specs.call_places.proofs.Clients.{Client, view_of as ids_of}
 use Rattle.script_calls.specs.call_whys.specs.call_places.proofs.Places.{all as all_clients, views_are}
@@ -53,12 +53,13 @@ use Rattle.script_calls.specs.call_whys.specs.call_told.proofs.Beside.{gave_is, 
 use Rattle.script_calls.specs.call_whys.specs.call_told.proofs.Lists.{all_at}
 use Rattle.script_calls.specs.call_whys.specs.call_told.proofs.Readers.{AllRead, each_read, reader_gave}
 use Rattle.script_calls.specs.call_whys.specs.call_told.proofs.Resting.{is_word}
-use Rattle.script_calls.specs.call_whys.specs.expire_told.proofs.Making.{mapped_from, slice_at, elem_at}
 use Rattle.script_calls.specs.call_whys.specs.expire_told.specs.Said.{WhyExpired}
 use Rattle.script_calls.specs.call_whys.specs.sock_deeds.specs.Runs.{IsOperation, seat_of, sits_of, DeedRun}
 use Rattle.script_calls.specs.call_whys.specs.sock_deeds.proofs.Orders.{orders}
-use Rattle.script_calls.specs.call_whys.specs.sock_deeds.proofs.Places.{place_there}
+use Rattle.script_calls.specs.call_whys.specs.sock_deeds.proofs.Places.{place_there, map_there, map_back, to_slice, to_elem}
 use Rattle.script_calls.specs.call_whys.specs.sock_deeds.proofs.Whole.{log_accepted}
+use Rattle.script_calls.specs.call_whys.specs.sock_deeds.proofs.Flats.{flat_there}
+use Rattle.script_calls.specs.call_whys.specs.sock_deeds.proofs.DropCodes.{StoredByReader}
 use Rattle.script_calls.specs.attempts_told.specs.Attempts.{last_attempt}
 use Rattle.script_calls.specs.failed_told.specs.Ends.{ReadingEnded, GaveNoResponse, EndedByReading, AtFault, AtEnd, AtFaultDrop, AtEndDrop, LeftOver, LeftAt}
 use Rattle.script_calls.specs.failed_told.proofs.Again.{again_with}
@@ -69,11 +70,10 @@ use Rattle.script_calls.specs.failed_told.proofs.DropsTold.{drops_with, expires_
 use Rattle.script_calls.specs.failed_told.proofs.Ended.{TellsDrops, ends_with}
 use Rattle.script_calls.specs.failed_told.proofs.Ends.{ReadEnded, reader_read, reader_posts, ToldBy, reader_tells}
 use Rattle.script_calls.specs.failed_told.proofs.Left.{left_at}
-use Rattle.script_calls.specs.failed_told.proofs.LeftOver.{MoreNotes, IsLast, rest_last, some_made, over_last}
+use Rattle.script_calls.specs.failed_told.proofs.LeftOver.{MoreNotes, IsLast, rest_last, over_last}
 use Rattle.script_calls.specs.failed_told.proofs.LinkEnds.{EndedHere, DroppedHere, QueuedHere, told_on}
 use Rattle.script_calls.specs.failed_told.proofs.Posts.{IsPost, rest_stays}
 use Rattle.script_calls.specs.failed_told.proofs.Premises.{asked_so}
-use Rattle.script_calls.specs.failed_told.proofs.ReaderCodes.{StoredByReader}
 use Rattle.script_calls.specs.failed_told.proofs.ReaderStores.{setter}
 use Rattle.script_calls.specs.failed_told.proofs.Reading.{notes_flat, rest_queues, readers_queue, queued_beside, others_beside}
 use Rattle.script_calls.specs.failed_told.proofs.Silent.{silent}
@@ -90,7 +90,6 @@ use Rattle.script_calls.specs.Told.{outcomes_of}
 use Rattle.script_calls.proofs.Clients as clients
 use Rattle.script_calls.proofs.Failing.{fails_within, same_failure, not_own}
 use Rattle.script_calls.proofs.Numbers.{few_calls}
-use Rattle.script_calls.proofs.Placed.{mapped_at}
 use Rattle.script_calls.proofs.Sayings.{told_each, none_told}
 use Rattle.script_calls.proofs.Shown.{view_of, flat_mapped}
 use Rattle.script_calls.proofs.Sockets.{map_twice}
@@ -104,20 +103,9 @@ use Rattle.script_beside.proofs.Sockets as sockets
 use Rattle.script_beside.proofs.Telling as telling
 use Rattle.script_beside.proofs.WideCalls.{failure_still, left_still, again_still, expire_still}
 
--- what stands in a list stands in a longer one, and in the lists put one behind the other
-in_front : {A : Type 0} (xs ys : List A) (n : ℕ) (x : A) → get_elem? xs n ≡ some x → get_elem? (xs ++ ys) n ≡ some x
-in_front [] ys n x e = absurd (some-ne-none x (sym e))
-in_front (y ∷ xs) ys zero x e = e
-in_front (y ∷ xs) ys (suc n) x e = in_front xs ys n x e
-
-behind_it : {A : Type 0} (xs ys : List A) (x : A) → (n : ℕ) × (get_elem? ys n ≡ some x) → (n : ℕ) × (get_elem? (xs ++ ys) n ≡ some x)
-behind_it [] ys x h = h
-behind_it (y ∷ xs) ys x h = let w = behind_it xs ys x h in (suc w.0, w.1)
-
+-- a frame that is kept early by one of these is among those of all
 early_at : {O : Type 0} {g : Ghosts O} (xs : List (LinkReader g)) (j n : ℕ) (x : LinkReader g) (f : Answer) → get_elem? xs j ≡ some x → get_elem? x.books.early n ≡ some f → (m : ℕ) × (get_elem? (flat_map (λ (fs : List Answer). fs) (map (λ (y : LinkReader g). y.books.early) xs)) m ≡ some f)
-early_at [] j n x f e at = absurd (some-ne-none x (sym e))
-early_at {g = g} (y ∷ xs) zero n x f e at = (n, in_front y.books.early (flat_map (λ (fs : List Answer). fs) (map (λ (z : LinkReader g). z.books.early) xs)) n f (subst (λ (z : LinkReader g). get_elem? z.books.early n ≡ some f) (sym (some-injective y x e)) at))
-early_at {g = g} (y ∷ xs) (suc j) n x f e at = behind_it y.books.early (flat_map (λ (fs : List Answer). fs) (map (λ (z : LinkReader g). z.books.early) xs)) f (early_at xs j n x f e at)
+early_at {g = g} xs j n x f e at = flat_there (λ (fs : List Answer). fs) (map (λ (y : LinkReader g). y.books.early) xs) j x.books.early n f (map_there (λ (y : LinkReader g). y.books.early) xs j x e) at
 
 all_places : {A : Type 0} (Q : A → Type 0) (xs : List A) → ((j : ℕ) (x : A) → get_elem? xs j ≡ some x → Q x) → AllByRecursion Q xs
 all_places Q [] h = tt
@@ -196,13 +184,13 @@ module _ (P : Type 0) {O I : Type 0} (g : Ghosts O) (out : O → OutState) (inn 
   reader_notes : (j : ℕ) (x : LinkReader g) → get_elem? readers j ≡ some x → (slot : ℕ) (f : Note Asked → ℕ) → total f (notes_in slot x.ids.me.0.notes) ≤ total f (notes_in slot notes)
   reader_notes j x at slot f =
       let h : View Asked → ℕ = λ v. total f (notes_in slot v.notes) in let views : List (View Asked) = map (λ (y : LinkReader g). y.ids.me.0) readers in
-      let a = term h views j x.ids.me.0 (mapped_at (λ (y : LinkReader g). y.ids.me.0) readers j x at) in
+      let a = term h views j x.ids.me.0 (map_there (λ (y : LinkReader g). y.ids.me.0) readers j x at) in
       let b = total_append h own_ids views in let c = notes_flat slot f (own_ids ++ views) in let d = ap (λ (l : List (Noted Asked)). total f (notes_in slot l)) notes_are in let e = rest_quiet.later.notes slot f in omega (arith, a, b, c, d, e)
 
   reader_keeps : (j : ℕ) (x : LinkReader g) → get_elem? readers j ≡ some x → (f : Kept → ℕ) → total f x.ids.me.0.kept ≤ total f last.kept
   reader_keeps j x at f =
       let h : View Asked → ℕ = λ v. total f v.kept in let seats_ : List IdSeat = map (λ (y : LinkReader g). y.ids) readers in
-      let a = term h (map view_of seats_) j x.ids.me.0 (mapped_at view_of seats_ j x.ids (mapped_at (λ (y : LinkReader g). y.ids) readers j x at)) in
+      let a = term h (map view_of seats_) j x.ids.me.0 (map_there view_of seats_ j x.ids (map_there (λ (y : LinkReader g). y.ids) readers j x at)) in
       let b = total_append h own_ids (map view_of seats_) in let c = flat_total f (λ (v : View Asked). v.kept) (own_ids ++ map view_of seats_) in
       let d = ap (total f) (telling.taken P g out inn bytes script reads text links r) in let e = rest_quiet.later.kept f in omega (arith, a, b, c, d, e)
 
@@ -214,7 +202,7 @@ module _ (P : Type 0) {O I : Type 0} (g : Ghosts O) (out : O → OutState) (inn 
   has_taken : AllByRecursion (HasTaken p q (calls script) main) readers
   has_taken = all_places (HasTaken p q (calls script) main) readers (λ j x at. (
     (λ slot f. let w : View Asked → ℕ = λ v. total f (notes_in slot v.notes) in let views : List (View Asked) = map (λ (y : LinkReader g). y.ids.me.0) readers in
-        let a = term w views j x.ids.me.0 (mapped_at (λ (y : LinkReader g). y.ids.me.0) readers j x at) in
+        let a = term w views j x.ids.me.0 (map_there (λ (y : LinkReader g). y.ids.me.0) readers j x at) in
         let b = total_append w own_ids views in let c = notes_flat slot f (own_ids ++ views) in let d = ap (λ (l : List (Noted Asked)). total f (notes_in slot l)) notes_are in
         let k = ap (λ (v : View Asked). total f (notes_in slot v.notes)) (at_place j x at).is.view_is in omega (arith, a, b, c, d, k)),
     (λ f n e. let w = early_at readers j n x f at e in (w.0, ap (λ (l : List (List Answer)). get_elem? (flat_map (λ (fs : List Answer). fs) l) w.0) (sym r.left.kept_is) ∙ w.1)),
@@ -246,8 +234,8 @@ module _ (P : Type 0) {O I : Type 0} (g : Ghosts O) (out : O → OutState) (inn 
   given_back : (j : ℕ) (x : LinkReader g) → get_elem? readers j ≡ some x → GivenBack j x
   given_back j x at =
       let f : Ends O I P → InState = λ e. inn e.inn in let h : Ends O I P → LinkEnd = λ e. end_of (out e.out) (inn e.inn) in
-      let m = mapped_from f r.ends j x.behind (ap (λ (l : List InState). get_elem? l j) (sym r.halves_read) ∙ mapped_at (λ (y : LinkReader g). y.behind) readers j x at) in
-      record { end = m.0; there = slice_at r.ends j m.0 m.1; half = m.2; link = ap (λ (l : List LinkEnd). slice_get l j) r.given_back ∙ slice_at (map h r.ends) j (h m.0) (mapped_at h r.ends j m.0 m.1) }
+      let m = map_back f r.ends j x.behind (ap (λ (l : List InState). get_elem? l j) (sym r.halves_read) ∙ map_there (λ (y : LinkReader g). y.behind) readers j x at) in
+      record { end = m.0; there = to_slice r.ends j m.0 m.1; half = m.2; link = ap (λ (l : List LinkEnd). slice_get l j) r.given_back ∙ to_slice (map h r.ends) j (h m.0) (map_there h r.ends j m.0 m.1) }
 
   bounds : (client number name code : ℕ) → IsOperation all outcomes client number (ops.Fail name code) → (1500 ≤ code) × (code ≤ 1999)
   bounds client number name code is = fails_within bytes script reads outcomes client record { number = number; op = ops.Fail name code } name code (subst (λ (l : List (List Task)). IsOperation l outcomes client number (ops.Fail name code)) r.left.tasks is) refl
@@ -368,7 +356,7 @@ module _ (P : Type 0) {O I : Type 0} (g : Ghosts O) (out : O → OutState) (inn 
     notes_besides : (j : ℕ) (x : LinkReader g) → get_elem? readers j ≡ some x → (h : HasPlaceHere j x) (slot : ℕ) (f : Note Asked → ℕ) → total f (notes_in slot x.books.view.notes) + total (λ (v : View Asked). total f (notes_in slot v.notes)) own_ids ≤ total f (notes_in slot notes)
     notes_besides j x at h slot f =
         let w : View Asked → ℕ = λ v. total f (notes_in slot v.notes) in let views : List (View Asked) = map (λ (y : LinkReader g). y.ids.me.0) readers in
-        let a = term w views j x.ids.me.0 (mapped_at (λ (y : LinkReader g). y.ids.me.0) readers j x at) in
+        let a = term w views j x.ids.me.0 (map_there (λ (y : LinkReader g). y.ids.me.0) readers j x at) in
         let b = total_append w own_ids views in let c = notes_flat slot f (own_ids ++ views) in let d = ap (λ (l : List (Noted Asked)). total f (notes_in slot l)) notes_are in let e = rest_quiet.later.notes slot f in
         let k = ap (λ (v : View Asked). total f (notes_in slot v.notes)) h.is.view_is in omega (arith, a, b, c, d, e, k)
 
@@ -378,7 +366,7 @@ module _ (P : Type 0) {O I : Type 0} (g : Ghosts O) (out : O → OutState) (inn 
       where
         by : (j : ℕ) (v : View Asked) → get_elem? (map (λ (x : LinkReader g). x.ids.me.0) readers) j ≡ some v → 0 < queued_in i first e_ v.notes → QueuedLink i first e_
         by j v at some_ =
-            let m = mapped_from (λ (x : LinkReader g). x.ids.me.0) readers j v at in let h = at_place j m.0 m.1 in
+            let m = map_back (λ (x : LinkReader g). x.ids.me.0) readers j v at in let h = at_place j m.0 m.1 in
             let w = reader_posts p q (calls script) m.0 h.is i first e_ (subst (λ (y : View Asked). 0 < queued_in i first e_ y.notes) (sym m.2) some_) in let post = w.2 in
             record {
               word = post.word;
@@ -407,7 +395,7 @@ module _ (P : Type 0) {O I : Type 0} (g : Ghosts O) (out : O → OutState) (inn 
         (sockets.main_later P g out inn bytes script reads text links r) (sockets.others_later P g out inn bytes script reads text links r) (calls script) r.left.readers_are (sockets.asked P g out inn bytes script reads text links r) in
         let s = early_shown out p q (calls script) 0 (opens script) readers r.left.readers_are k (subst (λ (l : List ℕ). Contains l k) is early_) in
         let place : s.place ≡ k = (let a = s.link_is in omega (arith, a)) in
-        let b = given_back s.place s.reader (elem_at readers s.place s.reader s.at) in
+        let b = given_back s.place s.reader (to_elem readers s.place s.reader s.at) in
         let e : LinkEnd = end_of (out b.end.out) (inn b.end.inn) in
         let shown : EndsEarly (sockets.gave P g out inn bytes script reads text links r k) e = sockets.shown P g out inn bytes script reads text links r k b.end (ap (slice_get r.ends) (sym place) ∙ b.there) early_ in
         (e, ap (slice_get links) (sym place) ∙ b.link, inr (subst (λ (f : ℕ → List ℕ). EndsEarly (f k) e) (sym is_gave) shown))
@@ -467,13 +455,13 @@ module _ (P : Type 0) {O I : Type 0} (g : Ghosts O) (out : O → OutState) (inn 
     given_one j x at h f s = record {
       link = j;
       place = s.place;
-      whole = (slice_get_within readers j x (slice_at readers j x at), ap (λ (l : List ℕ). slice_get (stream l).frames s.place) (sym (its_bytes j x h)) ∙ s.whole.1);
+      whole = (slice_get_within readers j x (to_slice readers j x at), ap (λ (l : List ℕ). slice_get (stream l).frames s.place) (sym (its_bytes j x h)) ∙ s.whole.1);
       responds = s.responds;
     }
 
     of_reader : (c i : ℕ) (ts : List Told) (x : Told) → get_elem? r.read c ≡ some ts → get_elem? ts i ≡ some x → (client : ℕ) (asked : Asked) → IsOperation all outcomes client x.number (ops.Call asked) → (id code : ℕ) → x.outcome ≡ CallFailed id code → FailedHere client x.number asked id code
     of_reader c i ts x at there client asked call id code outcome =
-        let m = mapped_from (λ (y : LinkReader g). y.books.told) readers c ts (ap (λ (l : List (List Told)). get_elem? l c) r.left.read_is ∙ at) in
+        let m = map_back (λ (y : LinkReader g). y.books.told) readers c ts (ap (λ (l : List (List Told)). get_elem? l c) r.left.read_is ∙ at) in
         let h = at_place c m.0 m.1 in
         let Ended : Told → Type 0 = ToldBy p q (calls script) m.0 h.is (length readers) gave in
         let w : Ended x = all_at Ended m.0.books.told i x (reader_tells p q (calls script) m.0 h.is (length readers) gave (given_one c m.0 m.1 h)) (ap (λ (l : List Told). get_elem? l i) m.2 ∙ there) in
@@ -531,7 +519,7 @@ module _ (P : Type 0) {O I : Type 0} (g : Ghosts O) (out : O → OutState) (inn 
     main_notes : (c : ℕ) (x : Client g out p q) → get_elem? (all_clients r.left.ran) c ≡ some x → MoreNotes (ids_of x).notes main.view.notes
     main_notes c x at slot f =
         let h : View Asked → ℕ = λ v. total f (notes_in slot v.notes) in let views : List (View Asked) = map (λ (y : LinkReader g). y.ids.me.0) readers in
-        let a = term h own_ids c (ids_of x) (ap (λ (l : List (View Asked)). get_elem? l c) (sym (views_are r.left.ran)) ∙ mapped_at ids_of (all_clients r.left.ran) c x at) in
+        let a = term h own_ids c (ids_of x) (ap (λ (l : List (View Asked)). get_elem? l c) (sym (views_are r.left.ran)) ∙ map_there ids_of (all_clients r.left.ran) c x at) in
         let b = total_append h own_ids views in let d = notes_flat slot f (own_ids ++ views) in let e = ap (λ (l : List (Noted Asked)). total f (notes_in slot l)) notes_are in omega (arith, a, b, d, e)
 
     -- what it told are ends of ranges that hadn't ended before; and in their slots no later range had been found
@@ -546,7 +534,7 @@ module _ (P : Type 0) {O I : Type 0} (g : Ghosts O) (out : O → OutState) (inn 
         (sockets.reports P g out inn bytes script reads text links r).said (attempts.later P g out inn bytes script reads text links r) (attempts.own P g out inn bytes script reads text links r) drun seats refl (sockets.differ P g out inn bytes script reads text links r) gave client x.number asked call id code became
         (over_last r.left.ran (sockets.are P g out inn bytes script reads text links r) (sockets.may P g out inn bytes script reads text links r) notes last.kept r.rest.words r.rest.closing (sockets.have P g out inn bytes script reads text links r) main.view.notes main_notes x.number id code x
         (all_at (IsLast q.slots main.view.notes notes) r.last i x rest_lasts there) outcome its)
-        (some_made r.left.ran (sockets.are P g out inn bytes script reads text links r) (sockets.may P g out inn bytes script reads text links r) notes last.kept r.rest.words r.rest.closing (sockets.have P g out inn bytes script reads text links r) main.view.notes main_notes x.number id its))
+        (some_made x.number id its))
 
     of_rest : (i : ℕ) (x : Told) → get_elem? r.last i ≡ some x → (client : ℕ) (asked : Asked) → IsOperation all outcomes client x.number (ops.Call asked) → (id code : ℕ) → x.outcome ≡ CallFailed id code → Became all outcomes x.number (CallFailed id code) → FailedHere client x.number asked id code
     of_rest i x there client asked call id code outcome became =

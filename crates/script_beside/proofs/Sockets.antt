@@ -60,8 +60,6 @@ use Rattle.script_calls.proofs.Laters as laters
 use Rattle.script_calls.proofs.Linked.{script_linked}
 use Rattle.script_calls.proofs.MayCall.{IsOwnTask, all_own, script_seats, seated_are, seated_may}
 use Rattle.script_calls.proofs.Numbers.{few_operations}
-use Rattle.script_calls.proofs.Placed.{mapped_at}
-use Rattle.script_calls.proofs.Sayings.{from_slice}
 use Rattle.script_calls.proofs.Shown.{view_of}
 use Rattle.script_calls.proofs.Sockets.{core_of, words_map, map_twice, if_told, nothing_there}
 use Rattle.script_calls.proofs.Tellers.{split, only_one, IsEndTold, from_told}
@@ -72,6 +70,7 @@ use Rattle.script_beside.proofs.Early.{ShowsEarly, early_shown}
 use Rattle.script_beside.proofs.Left.{early_of, notes_of}
 use Rattle.script_beside.proofs.Linked.{opens_link}
 use Rattle.script_beside.proofs.Widened.{still_told}
+use Rattle.script_calls.specs.call_whys.specs.sock_deeds.proofs.Places.{map_there, to_elem}
 
 module _ (P : Type 0) {O I : Type 0} (g : Ghosts O) (out : O → OutState) (inn : I → InState) (bytes : List ℕ) (script : List Item) (reads : script_of bytes ≡ Ok script) (text : List ℕ) (links : List LinkEnd) (r : IsBesideRun P g out inn script text links) where
   abbrev p : Plan
@@ -217,8 +216,8 @@ module _ (P : Type 0) {O I : Type 0} (g : Ghosts O) (out : O → OutState) (inn 
       let s = early_shown out p q (calls script) 0 (opens script) readers readers_are k (subst (λ (l : List ℕ). Contains l k) is there) in
       let place : s.place ≡ k = (let a = s.link_is in omega arith) in
       let half : s.reader.behind ≡ inn e.inn = some-injective s.reader.behind (inn e.inn) (
-      sym (mapped_at (λ (x : LinkReader g). x.behind) readers s.place s.reader (from_slice readers s.place s.reader s.at))
-      ∙ (ap (λ (l : List InState). get_elem? l s.place) r.halves_read ∙ (ap (get_elem? (map (λ (x : Ends O I P). inn x.inn) r.ends)) place ∙ mapped_at (λ (x : Ends O I P). inn x.inn) r.ends k e (from_slice r.ends k e at)))) in
+      sym (map_there (λ (x : LinkReader g). x.behind) readers s.place s.reader (to_elem readers s.place s.reader s.at))
+      ∙ (ap (λ (l : List InState). get_elem? l s.place) r.halves_read ∙ (ap (get_elem? (map (λ (x : Ends O I P). inn x.inn) r.ends)) place ∙ map_there (λ (x : Ends O I P). inn x.inn) r.ends k e (to_elem r.ends k e at)))) in
       let bytes_ : readers_gave p q (calls script) readers (each_read p q (calls script) 0 (opens script) readers readers_are) s.place ≡ gave k =
       ap (λ (f : ℕ → List ℕ). f s.place) (sym (gave_is p q (calls script) (opens script) readers readers_are)) ∙ ap gave place in
       subst (λ (i : InState). ShowsEarly (gave k) i) half (subst (λ (l : List ℕ). ShowsEarly l s.reader.behind) bytes_ s.shows)
@@ -228,7 +227,7 @@ module _ (P : Type 0) {O I : Type 0} (g : Ghosts O) (out : O → OutState) (inn 
     one_end k e at giver =
         let inside : k < p.links = (let n = slice_get_within r.ends k e at in let l = as_many in omega arith) in
         let l = (link_ends run differ).1 k inside in
-        let same : out l.out ≡ out e.out = some-injective (out l.out) (out e.out) (sym (mapped_at out r.left.outs k l.out l.there) ∙ (ap (λ (x : List OutState). get_elem? x k) (sym outs_are) ∙ mapped_at out_at r.ends k e (from_slice r.ends k e at))) in
+        let same : out l.out ≡ out e.out = some-injective (out l.out) (out e.out) (sym (map_there out r.left.outs k l.out l.there) ∙ (ap (λ (x : List OutState). get_elem? x k) (sym outs_are) ∙ map_there out_at r.ends k e (to_elem r.ends k e at))) in
         record {
           numbered = ap (λ (s : OutState). s.link) (sym same) ∙ l.own;
           took = if_told (out e.out).took (took run differ k) _ (subst (λ (o : Option (List ℕ)). ForSome o (λ bytes. bytes ≡ took run differ k)) (ap (λ (s : OutState). s.took) same) l.tells) (sym (took_home p (took run differ) k inside));

@@ -30,11 +30,11 @@ use Rattle.script_calls.specs.call_whys.specs.call_told.proofs.Tallies.{rest_acc
 use Rattle.script_calls.specs.call_whys.specs.expire_told.specs.Said.{AreSaid, AreOfCalls, HaveKeptOf}
 use Rattle.script_calls.specs.call_whys.specs.expire_told.proofs.Making.{have_kept, have_without}
 use Rattle.script_calls.specs.call_whys.specs.sock_deeds.proofs.Places.{map_append}
+use Rattle.script_calls.specs.call_whys.specs.sock_deeds.proofs.Flats.{append_first}
 use Rattle.script_calls.specs.Seats.{IdSeat}
 use Rattle.script_calls.proofs.Clients.{balanced}
 use Rattle.script_calls.proofs.Expiring.{script_calls}
 use Rattle.script_calls.proofs.Ids as numbers
-use Rattle.script_calls.proofs.Said.{in_front}
 use Rattle.script_calls.proofs.Shown.{view_of, flat_mapped}
 use Rattle.script_calls.proofs.Sockets.{map_twice}
 use Rattle.script_calls.proofs.Tellers as tellers
@@ -99,7 +99,7 @@ module _ (P : Type 0) {O I : Type 0} (g : Ghosts O) (out : O → OutState) (inn 
   said_ended c i ts t at there =
       let e = tellers.ended_told r.left.ran script r.left.tasks (sockets.are P g out inn bytes script reads text links r) last r.rest.words r.rest.closing (sockets.have P g out inn bytes script reads text links r) c i ts t at there in
       numbers.end_became r.left.ran script r.left.tasks (sockets.are P g out inn bytes script reads text links r) (sockets.may P g out inn bytes script reads text links r) last.notes (sockets.have P g out inn bytes script reads text links r) (r.ended ++ r.read) r.last
-      (sockets.end_told P g out inn bytes script reads text links r) told_once c i ts t (in_front (r.ended ++ r.read) (r.last ∷ []) c ts (in_front r.ended r.read c ts at)) there e.0 e.1
+      (sockets.end_told P g out inn bytes script reads text links r) told_once c i ts t (append_first (r.ended ++ r.read) (r.last ∷ []) c ts (append_first r.ended r.read c ts at)) there e.0 e.1
 
   pub begun_not : (o id k : ℕ) (v : View Asked) → get_elem? (map view_of r.ids) k ≡ some v → HasBegun q o id v → Became all outcomes o outcome.Unopened → ⊥
   begun_not = numbers.begun_not r.left.ran script r.left.tasks (sockets.are P g out inn bytes script reads text links r) (sockets.may P g out inn bytes script reads text links r) last.notes (sockets.have P g out inn bytes script reads text links r) (r.ended ++ r.read) r.last

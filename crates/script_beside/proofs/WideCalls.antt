@@ -6,7 +6,7 @@ use Rattle.sock_words.specs.declared.plain.Plan.{Plan}
 use Rattle.sock_message.specs.Asked.{Asked}
 use Rattle.seat_programs.specs.declared.task.Task.{Task}
 use Rattle.seat_programs.specs.ToldCalls.{Order, Fixed, WhyLost, WasFailing, RunEnding, WasUnopened, WhyAgain, AfterDrop, AfterLoss, AfterFull, EndedWith, FailedBy, ByExpiry, ByCompression, ByFrameFault, ByEnd, BySocket, ByRequests, ByFail, WhyExpire}
-use Rattle.script_calls.specs.failed_told.specs.Ends.{LeftAt, on_link, none_opened}
+use Rattle.script_calls.specs.failed_told.specs.Ends.{LeftAt, OnLink, NoneOpened}
 use Rattle.script_beside.proofs.Widened.{none_still}
 
 module _ (p : Plan) (n : ℕ) (clients : List (List Task)) (outcomes : List (Option Outcome)) (fixed : Fixed) (gave : ℕ → List ℕ) (orders : ℕ → Order) where
@@ -21,8 +21,8 @@ module _ (p : Plan) (n : ℕ) (clients : List (List Task)) (outcomes : List (Opt
 
   -- where an attempt went
   pub left_still : (c o : ℕ) (asked : Asked) (m : ℕ) → LeftAt wide clients outcomes fixed gave orders c o asked m → LeftAt p clients outcomes fixed gave orders c o asked m
-  left_still c o asked m (on_link k on lost) = on_link k on lost
-  left_still c o asked m (none_opened behind free client before first low own none_) = none_opened behind free client before first low own (none_still p n clients outcomes fixed gave orders client before _ none_)
+  left_still c o asked m (OnLink k on lost) = OnLink k on lost
+  left_still c o asked m (NoneOpened behind free client before first low own none_) = NoneOpened behind free client before first low own (none_still p n clients outcomes fixed gave orders client before _ none_)
 
   -- why an attempt was followed by another
   pub again_still : (c o m name : ℕ) → WhyAgain wide clients outcomes fixed gave orders c o m name → WhyAgain p clients outcomes fixed gave orders c o m name

@@ -23,3 +23,8 @@ pub record IsServedText (offering : Type 0) (script : List Item) (text : List �
   pub is : IsBesideText script text ends
   pub serves : offering → TellBytes script ends → ServesAll (run_of is)
   pub complete : offering → TellBytes script ends → IsShort script → Completeness (run_of is)
+
+-- as of a script that is short
+pub record IsCompleteText (offering : Type 0) (script : List Item) (text : List ℕ) (ends : List LinkEnd) : Type 0 where
+  pub served : IsServedText offering script text ends
+  pub complete : offering → TellBytes script ends → Completeness (run_of served.is)

@@ -23,12 +23,12 @@ use Rattle.sock_message.specs.Asked.{Asked}
 use Rattle.rpc_client.specs.declared.acting.Told.{Told}
 use Rattle.report_fits.proofs.Lists.{some_is}
 use Rattle.report_fits.proofs.TaskLemmas.{of_tasks, numbers_at, has_task, call_asks}
-use Rattle.script_calls.proofs.Sayings.{to_slice}
 use Rattle.call_run.specs.call_client.proofs.Changes.{AsksFor}
 use Rattle.call_run.specs.Threads.{opens_of, openings, opened_names, Thread, IsThread, AreThreads, AllRan}
 use Rattle.calls_done.specs.call_whys.specs.call_told.proofs.Lists.{all_both}
 use Rattle.calls_done.specs.call_whys.specs.call_told.proofs.Making.{FitsMade, AllMade, SeatMade, run_made, all_made}
 use Rattle.calls_done.specs.call_whys.specs.call_told.proofs.Answering.{IsAskedIn}
+use Rattle.callless_fits.specs.sock_deeds.proofs.Places.{to_slice}
 
 -- ## The calls of a script
 

@@ -24,7 +24,6 @@ use Rattle.id_rule.specs.Lawful.{call_index}
 use Rattle.sock_message.specs.Asked.{Asked}
 use Rattle.report_fits.proofs.Lists.{all_map, all_at as all_there}
 use Rattle.rpc_client.specs.declared.acting.Told.{Told}
-use Rattle.script_calls.proofs.Sayings.{to_slice}
 use Rattle.calls_done.specs.call_whys.specs.call_errors.specs.Books.{Books}
 use Rattle.call_run.specs.Threads.{opens_of, openings, opened_names, Thread, IsThread, AreThreads, AllRan}
 use Rattle.calls_done.specs.call_whys.specs.call_told.proofs.Coming.{HasCome, run_come}
@@ -32,6 +31,7 @@ use Rattle.calls_done.specs.call_whys.specs.call_told.proofs.Ends.{IsEndOf, AreE
 use Rattle.calls_done.specs.call_whys.specs.call_told.proofs.Growing.{own_at}
 use Rattle.calls_done.specs.call_whys.specs.call_told.proofs.Least.{TellEnds}
 use Rattle.calls_done.specs.call_whys.specs.call_told.proofs.Moves.{Fits, is_task, run_moves}
+use Rattle.callless_fits.specs.sock_deeds.proofs.Places.{to_slice}
 
 -- ## Operations by their numbers
 

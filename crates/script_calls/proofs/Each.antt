@@ -33,7 +33,7 @@ use Rattle.report_fits.proofs.Lists.{has_from, contains_from, has_filter_map, wi
 use Rattle.report_fits.proofs.Numbering.{link_at, numbered_at}
 use Rattle.report_fits.proofs.TaskLemmas.{asks_at, numbers_at, task_is, asked_at, operation_task, call_asks}
 use Rattle.rpc_client.specs.declared.acting.Told.{Told}
-use Rattle.script_calls.proofs.Sayings.{to_slice, from_slice, long_each, none_long}
+use Rattle.script_calls.proofs.Sayings.{long_each, none_long}
 use Rattle.call_run.specs.Threads.{AllRan}
 use Rattle.calls_done.specs.call_whys.specs.call_told.specs.Least.{HasBegun, IsEndTold}
 use Rattle.calls_done.specs.call_whys.specs.call_told.proofs.Coming.{HasCome, tells, began, sends}
@@ -43,6 +43,7 @@ use Rattle.script_calls.specs.Told.{outcomes_of}
 use Rattle.script_calls.proofs.Began.{each_one, few, IsOneOf, one_of, one_come}
 use Rattle.script_calls.proofs.MayCall.{IsOwn, IsOwnTask, all_own}
 use Rattle.script_calls.proofs.Said.{IsSaid, own_said, end_said, said_some}
+use Rattle.callless_fits.specs.sock_deeds.proofs.Places.{to_slice, to_elem}
 
 -- ## The operations of a script
 
@@ -151,7 +152,7 @@ module _ {O : Type 0} (g : Ghosts O) (out : O → OutState) (script : List Item)
         has =
             let w = within (operations script) o less in let a = asked_at script o w.0 w.1 in
             let task = operation_task script [] o w.0 a.0 w.1 a.1 in let t : Task = record { number = o; op = a.0 } in let k = has_from task.0 t task.2 in
-            has_it o less w.0 w.1 a.0 a.1 w.0.client k.0 task.0 (ap (λ (l : List (List Task)). get_elem? l w.0.client) r.tasks ∙ from_slice (all_tasks script) w.0.client task.0 task.1) (from_slice task.0 k.0 t k.1)
+            has_it o less w.0 w.1 a.0 a.1 w.0.client k.0 task.0 (ap (λ (l : List (List Task)). get_elem? l w.0.client) r.tasks ∙ to_elem (all_tasks script) w.0.client task.0 task.1) (to_elem task.0 k.0 t k.1)
 
         by : IsSaid outcomes o ⊎ HasPosition (word_at places (8 * o)) → HasPosition (word_at places (8 * o))
         by (inl said) = absurd (said_some outcomes o said none_)

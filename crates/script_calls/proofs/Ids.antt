@@ -1,10 +1,10 @@
 -- The ids of the calls of a run of a script: one at most was made for each operation, and what became of a call shows its own, where all that is told besides what the clients told of their own are ends of calls.
-use Rattle.std.proofs.Common.{◌≡◌, ◌≢◌, ℕ, zero, suc, ◌+◌, ◌*◌, ◌<◌, ◌≤◌, ◌⊎◌, inl, inr, false, true, List, [], ◌∷◌, ◌++◌, replicate, slice_get, Option, Some, None, refl, sym, ap, ◌∙◌, subst, arith}
+use Rattle.std.proofs.Common.{◌≡◌, ◌≢◌, ℕ, ◌+◌, ◌*◌, ◌<◌, ◌≤◌, ◌⊎◌, inl, inr, false, true, List, [], ◌∷◌, ◌++◌, replicate, slice_get, Option, Some, None, refl, sym, ap, ◌∙◌, subst, arith}
 use Rattle.std.specs.Prelude.{slice_index}
 use Rattle.std.specs.List.{AllByRecursion}
 use mathlib.Core.Logic.{dite}
 use native.Mathlib.Decide.{ℕ_discrete, dec_lt}
-use mathlib.Core.Option.{some, some-injective, some-ne-none}
+use mathlib.Core.Option.{some, some-injective}
 use lib.ListN.{get_elem?}
 use Rattle.sock_io.specs.declared.link.Out.{Ghosts}
 use Rattle.sock_io.specs.Link.{OutState}
@@ -35,21 +35,18 @@ use Rattle.seat_programs.specs.Tasks.{plan_of}
 use Rattle.seat_programs.specs.Told.{AreTasks, TaskFits, OpFits, IsTask, Became}
 use Rattle.report_fits.proofs.Lists.{has_from, contains_from, all_at as all_there}
 use Rattle.rpc_client.specs.declared.acting.Told.{Told}
-use Rattle.call_run.specs.call_client.specs.Running.{MayMakeAll}
 use Rattle.call_run.specs.Readers.{LinkReader}
-use Rattle.call_run.specs.Threads.{ids_of, opens_of, AllMayRun, MayRunAll, RanWith}
+use Rattle.call_run.specs.Threads.{ids_of, MayRunAll, RanWith}
 use Rattle.calls_done.specs.call_whys.specs.call_told.specs.Answers.{ends_call, IsOwn}
 use Rattle.calls_done.specs.call_whys.specs.call_told.specs.Least.{is_made_for, HasBegun as HasBegunHere}
 use Rattle.calls_done.specs.call_whys.specs.call_told.specs.Once.{ends_of, told_ends, ToldOnce}
 use Rattle.calls_done.specs.call_whys.specs.call_told.proofs.Lists.{all_at}
 use Rattle.calls_done.specs.call_whys.specs.call_told.proofs.Making.{AllMade, made_fits}
 use Rattle.calls_done.specs.call_whys.specs.call_places.specs.Counted.{makes_for, makes, HaveNotesOf}
-use Rattle.calls_done.specs.call_whys.specs.call_places.proofs.Clients.{Client, total_map, tasks_of, view_of as ids_seen}
-use Rattle.calls_done.specs.call_whys.specs.call_places.proofs.Counts.{call_in, made_few, task_total}
-use Rattle.calls_done.specs.call_whys.specs.call_places.proofs.Ids.{IsIdOf, one_id}
-use Rattle.calls_done.specs.call_whys.specs.call_places.proofs.Numbers.{numbered, numbered_once, own_calls}
-use Rattle.calls_done.specs.call_whys.specs.call_places.proofs.Places.{all as all_clients, tasks_are as of_clients}
-use Rattle.calls_done.specs.call_whys.specs.call_places.proofs.Weights.{term, two_terms, each_less, mapped, noted_at}
+use Rattle.calls_done.specs.call_whys.specs.call_places.proofs.Clients.{Client, tasks_of}
+use Rattle.calls_done.specs.call_whys.specs.call_places.proofs.Ids.{IsIdOf, some_made, one_id}
+use Rattle.calls_done.specs.call_whys.specs.call_places.proofs.Places.{all as all_clients, tasks_are as of_clients, made_once}
+use Rattle.calls_done.specs.call_whys.specs.call_places.proofs.Weights.{term, two_terms, noted_at}
 use Rattle.calls_done.specs.call_whys.specs.call_deeds.proofs.Told.{task_at}
 use Rattle.calls_done.specs.call_whys.proofs.Versions.{IsIdFor, AreIds, versions}
 use Rattle.script_calls.specs.Told.{outcomes_of}
@@ -58,9 +55,10 @@ use Rattle.script_calls.proofs.Began.{only_is}
 use Rattle.script_calls.proofs.Clients as clients_of
 use Rattle.script_calls.proofs.MayCall.{IsOwnTask}
 use Rattle.script_calls.proofs.Said.{IsSaid, end_said}
-use Rattle.script_calls.proofs.Sayings.{to_slice, told_each, none_told}
+use Rattle.script_calls.proofs.Sayings.{told_each, none_told}
 use Rattle.script_calls.proofs.Tellers as tellers_of
 use Rattle.script_calls.proofs.Tellers.{IsEndTold, end_made}
+use Rattle.callless_fits.specs.sock_deeds.proofs.Places.{to_slice, map_there}
 
 -- an id that was made for an operation's call
 made_for : (f o : ℕ) (n : Note Asked) → is_made_for f o n ≤ makes_for o n
@@ -78,11 +76,6 @@ first_of : Note Asked → ℕ
 first_of (Made f r c) = f
 first_of other = 0
 
-may_at : (p : Plan) (q : id_plan.Plan) (tss : List (List Task)) → AllMayRun p q tss → (j : ℕ) (ts : List Task) → get_elem? tss j ≡ some ts → (n : ℕ) × MayMakeAll p q ts n
-may_at p q [] a j ts e = absurd (some-ne-none ts (sym e))
-may_at p q (us ∷ tss) a zero ts e = subst (λ (x : List Task). (n : ℕ) × MayMakeAll p q x n) (some-injective us ts e) (opens_of us, a.0.may)
-may_at p q (us ∷ tss) a (suc j) ts e = may_at p q tss a.1 j ts e
-
 -- ## Each id
 
 module _ {O : Type 0} {g : Ghosts O} {state : O → OutState} {readers : List (LinkReader g)} {p : Plan} {slots : ℕ} {setup : List Task} {clients : List (List Task)} {opens : List ℕ} {told ended : List (List Told)} {places : List PlaceWord} {vrefs : List Vref} {outs : List O} {ids : List (View Asked)}
@@ -98,20 +91,7 @@ module _ {O : Type 0} {g : Ghosts O} {state : O → OutState} {readers : List (L
   abbrev callers : List (Client g state p q)
   callers = all_clients ran
 
-  one_made : (o c : ℕ) (x : Client g state p q) → get_elem? callers c ≡ some x → total (makes o) (ids_seen x).notes ≤ total (numbered o) (tasks_of x)
-  one_made o c x at =
-      let m = may_at p q all (may.setup_may, may.clients_may) c (tasks_of x) (ap (λ (l : List (List Task)). get_elem? l c) (sym (of_clients ran)) ∙ mapped tasks_of callers c x at) in
-      let a = made_few x.thread x.is o in let b = task_total x.thread x.is (λ (t : Task). call_in o t.op) in let d = own_calls p q o (tasks_of x) m.0 m.1 in omega arith
-
-  -- one at most was made for an operation
-  pub made_once : (o : ℕ) → total (makes o) notes ≤ 1
-  made_once o =
-      let a = (tellers_of.have_all ran script tasks are notes have).made o in let b = total_map (λ (v : View Asked). total (makes o) v.notes) ids_seen callers in
-      let d = each_less (λ (x : Client g state p q). total (makes o) (ids_seen x).notes) (λ (x : Client g state p q). total (numbered o) (tasks_of x)) callers (one_made o) in
-      let e = total_map (λ (ts : List Task). total (numbered o) ts) tasks_of callers in let f = ap (total (λ (ts : List Task). total (numbered o) ts)) (of_clients ran) in
-      let h = numbered_once p all are o in omega arith
-
-  -- so two ends that are told of one operation have one id
+  -- two ends that are told of one operation have one id
   same_id : (x u : Told) (a : IsEndTold slots notes x) (b : IsEndTold slots notes u) → u.number ≡ x.number → (b.slot ≡ a.slot) × (b.first ≡ a.first)
   unfolding first_of
   same_id x u a b same =
@@ -119,7 +99,7 @@ module _ {O : Type 0} {g : Ghosts O} {state : O → OutState} {readers : List (L
       let n = noted_at b.slot notes b.place (Made b.first b.range b.asked) b.made in
       dite (ℕ_discrete n.0 m.0)
       (λ e. let one = some-injective _ _ (sym n.1 ∙ (ap (get_elem? notes) e ∙ m.1)) in (ap (λ (y : Noted Asked). y.slot) one, ap (λ (y : Noted Asked). first_of y.note) one))
-      (λ ne. absurd (let c = two_terms (makes x.number) notes n.0 m.0 _ _ n.1 m.1 ne in let d = only-at x.number a.asked.operation a.operation in let e = only-at x.number b.asked.operation (b.operation ∙ same) in let f = made_once x.number in omega arith))
+      (λ ne. absurd (let c = two_terms (makes x.number) notes n.0 m.0 _ _ n.1 m.1 ne in let d = only-at x.number a.asked.operation a.operation in let e = only-at x.number b.asked.operation (b.operation ∙ same) in let f = made_once ran are may notes have x.number in omega arith))
 
   -- over all that tell of ends of calls, none of which is told twice
   module _ (tellers : List (List Told)) (last : List Told) (end_told : (d j : ℕ) (ts : List Told) (x : Told) → get_elem? (tellers ++ last ∷ []) d ≡ some ts → get_elem? ts j ≡ some x → IsEndTold slots notes x) where
@@ -289,16 +269,11 @@ module _ {O : Type 0} {g : Ghosts O} {state : O → OutState} {readers : List (L
   -- ## Where each call is told
 
   module _ (called : (c k : ℕ) (ts : List Task) (t : Task) (asked : Asked) → get_elem? (setup ∷ clients) c ≡ some ts → get_elem? ts k ≡ some t → t.op ≡ ops.Call asked → IsSaid (outcomes_of (plan_of script).operations told tellers last) t.number) where
-    some_made : (o id : ℕ) → IsIdOf slots v.notes o id → 0 < total (makes o) v.notes
-    some_made o id h =
-        let n = noted_at h.slot v.notes h.place (Made h.first h.range h.asked) h.made in
-        let a = term (makes o) v.notes n.0 _ n.1 in let b = only-at o h.asked.operation h.operation in omega arith
-
     -- a call for which an id was made
     is_told : (o id : ℕ) → IsIdOf slots v.notes o id → (by : Outcome) × Became asked_for became_all o by
     is_told o id h =
         let b = tellers_of.begun_of ran script tasks are v.notes have o (some_made o id h) in
-        let own : get_elem? asked_for b.place ≡ some (tasks_of b.client) = ap (λ (l : List (List Task)). get_elem? l b.place) (sym (of_clients ran)) ∙ mapped tasks_of (all_clients ran) b.place b.client b.at in
+        let own : get_elem? asked_for b.place ≡ some (tasks_of b.client) = ap (λ (l : List (List Task)). get_elem? l b.place) (sym (of_clients ran)) ∙ map_there tasks_of (all_clients ran) b.place b.client b.at in
         subst (λ (n : ℕ). (by : Outcome) × Became asked_for became_all n by) b.has.number_is
         (called b.place b.has.place (tasks_of b.client) b.has.result.task b.asked own (task_at b.client.thread b.client.is b.has.place b.has.result b.has.at) b.op)
 
@@ -326,5 +301,5 @@ module _ {O : Type 0} {g : Ghosts O} {state : O → OutState} {readers : List (L
               made = e.made;
               operation = e.operation ∙ number;
             } in
-            let same : id ≡ e.slot * 4294967296 + e.first = one_id slots v.notes o id (e.slot * 4294967296 + e.first) (made_once ran script tasks are may v.notes have o) h its in
+            let same : id ≡ e.slot * 4294967296 + e.first = one_id slots v.notes o id (e.slot * 4294967296 + e.first) (made_once ran are may v.notes have o) h its in
             let a = ap (λ (y : ℕ). ends_of y by) same in let b = ap (ends_of (e.slot * 4294967296 + e.first)) outcome_is in let c = e.is_end in omega arith

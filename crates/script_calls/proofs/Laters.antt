@@ -28,8 +28,7 @@ use Rattle.calls_done.specs.call_whys.specs.call_told.proofs.Making.{AllMade, ma
 use Rattle.calls_done.specs.call_whys.specs.call_places.specs.Counted.{HaveNotesOf}
 use Rattle.calls_done.specs.call_whys.specs.call_places.proofs.Clients.{Client}
 use Rattle.calls_done.specs.call_whys.specs.call_places.proofs.Places.{all as all_clients, all_are}
-use Rattle.calls_done.specs.call_whys.specs.call_places.proofs.Weights.{term, mapped}
-use Rattle.calls_done.specs.call_whys.specs.expire_told.proofs.Making.{mapped_from}
+use Rattle.calls_done.specs.call_whys.specs.call_places.proofs.Weights.{term}
 use Rattle.calls_done.specs.call_whys.specs.call_deeds.specs.Retried.{Again, all_asked}
 use Rattle.calls_done.specs.call_whys.specs.call_deeds.specs.Scripts.{AllLater}
 use Rattle.calls_done.specs.call_whys.specs.call_deeds.proofs.Ran.{AreLater}
@@ -37,7 +36,7 @@ use Rattle.callless_fits.specs.sock_deeds.specs.Runs.{IsOperation}
 use Rattle.script_calls.proofs.Asked.{AskFor, all_by_place}
 use Rattle.script_calls.proofs.MayCall.{IsOwnTask}
 use Rattle.script_calls.proofs.Retrying.{IsKnown, locks_with, lock_is, asked_known, asked_later}
-use Rattle.script_calls.proofs.Sayings.{to_slice}
+use Rattle.callless_fits.specs.sock_deeds.proofs.Places.{map_back, to_slice, map_there}
 
 -- one of the clients asked for this call
 abbrev pub IsCallOf : List (List Task) → List (Option Outcome) → ℕ → Asked → Type 0
@@ -73,7 +72,7 @@ module _ {O : Type 0} {g : Ghosts O} {state : O → OutState} {readers : List (L
   among : (c : ℕ) (x : Thread g) → get_elem? threads c ≡ some x → IsAmong x
   among c x at i f =
       let h = (subst (λ (vs : List (View Asked)). HaveNotesOf vs v.notes) (sym ran.ran.ids_are) have).all i f in
-      let t = term (λ (u : View Asked). total f (notes_of i u.notes)) (map ids_seen threads) c (ids_seen x) (mapped ids_seen threads c x at) in omega arith
+      let t = term (λ (u : View Asked). total f (notes_of i u.notes)) (map ids_seen threads) c (ids_seen x) (map_there ids_seen threads c x at) in omega arith
 
   is_call : (x : Thread g) → IsAmong x → (a : Again) → IsKnown slots (ids_seen x) a → (c : ℕ) × IsOperation all outcomes c a.asked.operation (ops.Call a.asked)
   is_call x within a k =
@@ -97,5 +96,5 @@ module _ {O : Type 0} {g : Ghosts O} {state : O → OutState} {readers : List (L
   -- so is each of theirs, by the place of the client among all
   pub crew_later : (j : ℕ) (c : Client g state p q) → get_elem? (all_clients ran) j ≡ some c → AreLater all outcomes (all_asked c.thread c.is)
   crew_later j c at =
-      let w = mapped_from (λ (x : Thread g). x) threads j c.thread (ap (λ (l : List (Thread g)). get_elem? l j) (sym (all_are ran (λ (x : Thread g). x))) ∙ mapped (λ (x : Client g state p q). x.thread) (all_clients ran) j c at) in
+      let w = map_back (λ (x : Thread g). x) threads j c.thread (ap (λ (l : List (Thread g)). get_elem? l j) (sym (all_are ran (λ (x : Thread g). x))) ∙ map_there (λ (x : Client g state p q). x.thread) (all_clients ran) j c at) in
       client_later c.first c.thread c.is (subst IsAmong w.2 (among j w.0 w.1))

@@ -2,6 +2,7 @@
 use Rattle.std.proofs.Common.{◌≡◌, ℕ, zero, suc, ◌+◌, ◌<◌, ◌≤◌, false, List, [], ◌∷◌, ◌++◌, length, map, take, get_or, Option, Some, None, IfSome, refl, sym, ap, ◌∙◌, subst, arith}
 use Rattle.std.proofs.lemmas.List.{map-append, length-map, take_more, take_all, length-take-le}
 use Rattle.std.proofs.lemmas.Option.{none-some, same_Some, slice_get_within}
+use Rattle.callless_fits.specs.sock_deeds.proofs.Places.{to_slice}
 use Rattle.std.specs.List.{AllByRecursion}
 use Rattle.std.specs.Option.{ForSome}
 use mathlib.Core.Option.{some, some-injective, some-ne-none}
@@ -20,7 +21,6 @@ use Rattle.call_run.specs.Crew.{AreBack}
 use Rattle.script_links.specs.Given.{AreUntouched, AreNumbered}
 use Rattle.call_run.specs.link_crew.specs.declared.beside.Rest.{Rest}
 use Rattle.script_calls.specs.Halves.{rest_of, joined, AreTaken}
-use Rattle.script_calls.proofs.Sayings.{to_slice}
 
 for_if : {T : Type 0} (P : T → Type 0) (o : Option T) → IfSome o P → ForSome o P
 for_if P None h x e = absurd (none-some x e)

@@ -1,7 +1,7 @@
 -- The place words of a run with calls tell an order of each link, and a `send` of which nothing is told has a place.
-use Rattle.std.proofs.Common.{◌≡◌, ℕ, zero, suc, ◌*◌, ◌≤◌, ◌⊎◌, inl, inr, List, [], ◌∷◌, flat_map, map, Some, None, refl, sym, ap, ◌∙◌, arith}
+use Rattle.std.proofs.Common.{◌≡◌, ℕ, ◌*◌, ◌≤◌, ◌⊎◌, inl, inr, List, [], ◌∷◌, flat_map, Some, None, refl, sym, ap, ◌∙◌, arith}
 use Rattle.std.specs.Prelude.{Option}
-use mathlib.Core.Option.{some, some-injective, some-ne-none}
+use mathlib.Core.Option.{some}
 use lib.ListN.{get_elem?}
 use Rattle.sock_io.specs.declared.link.Out.{Ghosts}
 use Rattle.sock_io.specs.Link.{OutState}
@@ -29,6 +29,7 @@ use Rattle.calls_done.specs.call_whys.specs.call_places.proofs.Clients.{Client, 
 use Rattle.calls_done.specs.call_whys.specs.call_places.proofs.Ids.{IdLaws}
 use Rattle.calls_done.specs.call_whys.specs.call_places.proofs.Own.{IsMade, deed_of}
 use Rattle.calls_done.specs.call_whys.specs.call_places.proofs.Places.{all, all_are, tasks_are, send_placed}
+use Rattle.callless_fits.specs.sock_deeds.proofs.Places.{map_back, map_there}
 
 -- ## What the closed table has of the clients' seats
 
@@ -37,18 +38,6 @@ each_notes i f [] = refl
 each_notes i f (v ∷ vs) =
     let rest : List (Noted Asked) = flat_map (λ (w : View Asked). w.notes) vs in
     let a = ap (total f) (notes_append i v.notes rest) in let b = total_append f (notes_of i v.notes) (notes_of i rest) in let c = each_notes i f vs in omega arith
-
--- ## By places
-
-pub mapped_from : {A B : Type 0} (f : A → B) (xs : List A) (c : ℕ) (y : B) → get_elem? (map f xs) c ≡ some y → (x : A) × (get_elem? xs c ≡ some x) × (f x ≡ y)
-mapped_from f [] c y e = absurd (some-ne-none y (sym e))
-mapped_from f (x ∷ xs) zero y e = (x, refl, some-injective (f x) y e)
-mapped_from f (x ∷ xs) (suc c) y e = mapped_from f xs c y e
-
-pub mapped_at : {A B : Type 0} (f : A → B) (xs : List A) (c : ℕ) (x : A) → get_elem? xs c ≡ some x → get_elem? (map f xs) c ≡ some (f x)
-mapped_at f [] c x e = absurd (some-ne-none x (sym e))
-mapped_at {A} {B} f (y ∷ ys) zero x e = ap (λ (z : A). some (f z)) (some-injective y x e)
-mapped_at f (y ∷ ys) (suc c) x e = mapped_at f ys c x e
 
 -- ## A run of a script over tables of any sizes
 
@@ -61,13 +50,13 @@ module _ {O : Type 0} {g : Ghosts O} {state : O → OutState} {readers : List (L
   send_told c k ts t n message of_client in_it is = by made.by refl
     where
       found : (cl : Client g state p (ids_of p slots)) × (get_elem? (all ran) c ≡ some cl) × (tasks_of cl ≡ ts)
-      found = mapped_from tasks_of (all ran) c ts (ap (λ (l : List (List Task)). get_elem? l c) (tasks_are ran) ∙ of_client)
+      found = map_back tasks_of (all ran) c ts (ap (λ (l : List (List Task)). get_elem? l c) (tasks_are ran) ∙ of_client)
 
       made : IsMade g state p (ids_of p slots) (deeds_of found.0) found.0.thread.ended.outcomes.items t
       made = deed_of found.0.thread found.0.is k t (ap (λ (l : List Task). get_elem? l k) found.2 ∙ in_it)
 
       told_at : get_elem? told c ≡ some found.0.thread.ended.outcomes.items
-      told_at = ap (λ (l : List (List Told)). get_elem? l c) (sym (all_are ran (λ (x : Thread g). x.ended.outcomes.items) ∙ ran.ran.told_is)) ∙ mapped_at (λ (x : Client g state p (ids_of p slots)). x.thread.ended.outcomes.items) (all ran) c found.0 found.1
+      told_at = ap (λ (l : List (List Told)). get_elem? l c) (sym (all_are ran (λ (x : Thread g). x.ended.outcomes.items) ∙ ran.ran.told_is)) ∙ map_there (λ (x : Client g state p (ids_of p slots)). x.thread.ended.outcomes.items) (all ran) c found.0 found.1
 
       by : (o : Option Outcome) → made.by ≡ o → ((own : List Told) × (i : ℕ) × (x : Told) × (get_elem? told c ≡ some own) × (get_elem? own i ≡ some x) × (x.number ≡ t.number)) ⊎ HasPosition (word_at places (8 * t.number))
       by None e = inr (send_placed ran tasks fits notes are_laws has few_links few_numbers c found.0 found.1 t n message is made e)

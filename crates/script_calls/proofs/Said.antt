@@ -1,9 +1,10 @@
 -- What was told of an operation stands at its number, whatever is told besides.
-use Rattle.std.proofs.Common.{◌≡◌, ℕ, zero, suc, ◌<◌, List, [], ◌∷◌, ◌++◌, append_assoc, length, length-set, replicate, slice_get, slice_set, Option, Some, None, refl, sym, ap, ◌∙◌, subst, arith}
+use Rattle.std.proofs.Common.{◌≡◌, ℕ, zero, suc, ◌+◌, ◌<◌, List, [], ◌∷◌, ◌++◌, append_assoc, length, length-set, replicate, slice_get, slice_set, Option, Some, None, refl, sym, ap, ◌∙◌, subst, arith}
 use mathlib.Core.Option.{some, some-injective, some-ne-none}
 use lib.ListN.{get_elem?}
 use Rattle.sock_words.specs.declared.outcome.Outcome.{Outcome}
 use Rattle.rpc_client.specs.declared.acting.Told.{Told}
+use Rattle.callless_fits.specs.sock_deeds.proofs.Flats.{append_first, append_later}
 use Rattle.script_calls.specs.Saying.{said_by, said_by_each}
 use Rattle.script_calls.proofs.Sayings.{none_long}
 use Rattle.script_calls.specs.Told.{outcomes_of}
@@ -60,28 +61,27 @@ each_said said (us ∷ tss) (suc c) i ts t by at less = each_said (said_by said 
 
 -- ## By the clients' own, by the calls that they ended, and by what was read
 
-pub in_front : {A : Type 0} (xs ys : List A) (i : ℕ) (a : A) → get_elem? xs i ≡ some a → get_elem? (xs ++ ys) i ≡ some a
-in_front [] ys i a e = absurd (some-ne-none a (sym e))
-in_front (x ∷ xs) ys zero a e = e
-in_front (x ∷ xs) ys (suc i) a e = in_front xs ys i a e
-
-behind : {A : Type 0} (xs ys : List A) (i : ℕ) (a : A) → get_elem? ys i ≡ some a → (k : ℕ) × (get_elem? (xs ++ ys) k ≡ some a)
-behind [] ys i a e = (i, e)
-behind (x ∷ xs) ys i a e = let r = behind xs ys i a e in (suc r.0, r.1)
-
 module _ (n : ℕ) (told ended : List (List Told)) (read : List Told) (o : ℕ) (less : o < n) where
   said_in : IsToldIn o ((told ++ ended) ++ read ∷ []) → IsSaid (outcomes_of n told ended read) o
   said_in h = subst (IsSaid (outcomes_of n told ended read)) h.number (each_said (replicate n None) ((told ++ ended) ++ read ∷ []) h.teller h.place h.told h.one h.by h.at (let a = none_long n in let b = h.number in omega arith))
 
   -- a client told it of its own operation
   pub own_said : IsToldIn o told → IsSaid (outcomes_of n told ended read) o
-  own_said h = said_in record { teller = h.teller; place = h.place; told = h.told; one = h.one; by = in_front (told ++ ended) (read ∷ []) h.teller h.told (in_front told ended h.teller h.told h.by); at = h.at; number = h.number }
+  own_said h = said_in record { teller = h.teller; place = h.place; told = h.told; one = h.one; by = append_first (told ++ ended) (read ∷ []) h.teller h.told (append_first told ended h.teller h.told h.by); at = h.at; number = h.number }
 
   -- or it is the end of a call
   pub end_said : IsToldIn o (ended ++ read ∷ []) → IsSaid (outcomes_of n told ended read) o
   end_said h =
-      let k = behind told (ended ++ read ∷ []) h.teller h.told h.by in
-      said_in record { teller = k.0; place = h.place; told = h.told; one = h.one; by = ap (λ (l : List (List Told)). get_elem? l k.0) (append_assoc told ended (read ∷ [])) ∙ k.1; at = h.at; number = h.number }
+      let k : ℕ = length told + h.teller in
+      said_in record {
+        teller = k;
+        place = h.place;
+        told = h.told;
+        one = h.one;
+        by = ap (λ (l : List (List Told)). get_elem? l k) (append_assoc told ended (read ∷ [])) ∙ append_later told (ended ++ read ∷ []) h.teller h.told h.by;
+        at = h.at;
+        number = h.number;
+      }
 
 -- of an operation of which something is said, not nothing is said
 pub said_some : (said : List (Option Outcome)) (o : ℕ) → IsSaid said o → slice_get said o ≡ Some None → ⊥

@@ -2,7 +2,7 @@
 use Rattle.std.proofs.Common.{◌≡◌, ◌≢◌, ℕ, zero, suc, ◌<◌, ◌⊎◌, inl, inr, List, [], ◌∷◌, length, length-set, replicate, slice_get, slice_set, Option, Some, None, refl, sym, ap, ◌∙◌, arith}
 use Rattle.std.proofs.lemmas.Option.{none-some, same_Some}
 use mathlib.Core.Logic.{dite}
-use mathlib.Core.Option.{some, some-injective, some-ne-none}
+use mathlib.Core.Option.{some}
 use native.Mathlib.Decide.{ℕ_discrete}
 use lib.ListN.{get_elem?}
 use Rattle.sock_words.specs.declared.outcome.Outcome.{Outcome}
@@ -10,16 +10,6 @@ use Rattle.rpc_client.specs.declared.acting.Told.{Told}
 use Rattle.script_calls.specs.Saying.{said_by, said_by_each}
 
 -- ## One place of a list
-
-pub to_slice : {A : Type 0} (xs : List A) (k : ℕ) (x : A) → get_elem? xs k ≡ some x → slice_get xs k ≡ Some x
-to_slice [] k x e = absurd (some-ne-none x (sym e))
-to_slice (y ∷ ys) zero x e = ap Some (some-injective y x e)
-to_slice (y ∷ ys) (suc k) x e = to_slice ys k x e
-
-pub from_slice : {A : Type 0} (xs : List A) (k : ℕ) (x : A) → slice_get xs k ≡ Some x → get_elem? xs k ≡ some x
-from_slice [] k x e = absurd (none-some x e)
-from_slice (y ∷ ys) zero x e = ap some (same_Some y x e)
-from_slice (y ∷ ys) (suc k) x e = from_slice ys k x e
 
 set_off : {A : Type 0} (l : List A) (n m : ℕ) (x : A) → n ≢ m → slice_get (slice_set l n x) m ≡ slice_get l m
 set_off [] n m x ne = refl

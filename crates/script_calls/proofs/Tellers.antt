@@ -48,20 +48,21 @@ use Rattle.calls_done.specs.call_whys.specs.call_told.proofs.Tallies.{ending_is}
 use Rattle.calls_done.specs.call_whys.specs.call_places.specs.Counted.{makes, HaveNotesOf}
 use Rattle.calls_done.specs.call_whys.specs.call_places.proofs.Clients.{Client, tasks_of, view_of as ids_seen}
 use Rattle.calls_done.specs.call_whys.specs.call_places.proofs.Places.{all as all_clients, all_are, tasks_are, views_are}
-use Rattle.calls_done.specs.call_whys.specs.call_places.proofs.Weights.{term, mapped, noted_at}
+use Rattle.calls_done.specs.call_whys.specs.call_places.proofs.Weights.{term, noted_at}
 use Rattle.calls_done.specs.call_whys.specs.call_deeds.specs.Scripts.{Reports}
 use Rattle.calls_done.specs.call_whys.specs.call_deeds.proofs.Ran.{Result}
 use Rattle.calls_done.specs.call_whys.specs.call_deeds.proofs.Told.{all_results, task_at, said_of, one_place}
 use Rattle.callless_fits.specs.sock_deeds.specs.Runs.{IsOperation}
 use Rattle.calls_done.specs.failed_told.proofs.Makers.{made_begun}
 use Rattle.script_calls.specs.Told.{outcomes_of}
-use Rattle.script_calls.proofs.Sayings.{to_slice, long_each, told_each, none_long, none_told}
+use Rattle.script_calls.proofs.Sayings.{long_each, told_each, none_long, none_told}
 use Rattle.script_calls.proofs.Began.{thread_ends_in}
 use Rattle.script_calls.proofs.Clients.{balanced}
 use Rattle.script_calls.proofs.Each.{task_fits}
 use Rattle.script_calls.proofs.MayCall.{IsOwn, IsOwnTask, all_own}
-use Rattle.script_calls.proofs.Placed.{each_notes, mapped_from, mapped_at}
+use Rattle.script_calls.proofs.Placed.{each_notes}
 use Rattle.script_calls.proofs.Said.{own_said}
+use Rattle.callless_fits.specs.sock_deeds.proofs.Places.{map_back, map_there, to_slice}
 
 -- what stands in a list of two parts stands in one of them
 pub split : {A : Type 0} (xs ys : List A) (i : ℕ) (x : A) → get_elem? (xs ++ ys) i ≡ some x → (get_elem? xs i ≡ some x) ⊎ ((j : ℕ) × (get_elem? ys j ≡ some x))
@@ -129,7 +130,7 @@ module _ {O : Type 0} {g : Ghosts O} {state : O → OutState} {readers : List (L
   -- ## Tasks
 
   pub tasks_there : (c : ℕ) (x : Client g state p q) → get_elem? callers c ≡ some x → slice_get all c ≡ Some (tasks_of x)
-  tasks_there c x at = ap (λ (l : List (List Task)). slice_get l c) (sym (tasks_are ran)) ∙ to_slice (map tasks_of callers) c (tasks_of x) (mapped_at tasks_of callers c x at)
+  tasks_there c x at = ap (λ (l : List (List Task)). slice_get l c) (sym (tasks_are ran)) ∙ to_slice (map tasks_of callers) c (tasks_of x) (map_there tasks_of callers c x at)
 
   is_task : (c : ℕ) (x : Client g state p q) → get_elem? callers c ≡ some x → (k : ℕ) (t : Task) → get_elem? (tasks_of x) k ≡ some t → IsTask all [] c t
   is_task c x at k t there = (tasks_of x, tasks_there c x at, contains_from (tasks_of x) t (k, to_slice (tasks_of x) k t there))
@@ -190,7 +191,7 @@ module _ {O : Type 0} {g : Ghosts O} {state : O → OutState} {readers : List (L
   own_told : (c i : ℕ) (ts : List Told) (t : Told) → get_elem? told c ≡ some ts → get_elem? ts i ≡ some t → IsOwnTold c t
   own_told c i ts t at there =
       let f : Client g state p q → List Told = λ x. x.thread.ended.outcomes.items in
-      let w = mapped_from f callers c ts (ap (λ (l : List (List Told)). get_elem? l c) (all_are ran (λ (x : Thread g). x.ended.outcomes.items) ∙ ran.ran.told_is) ∙ at) in
+      let w = map_back f callers c ts (ap (λ (l : List (List Told)). get_elem? l c) (all_are ran (λ (x : Thread g). x.ended.outcomes.items) ∙ ran.ran.told_is) ∙ at) in
       let s = said_of w.0.thread w.0.is i t (ap (λ (l : List Told). get_elem? l i) w.2 ∙ there) in
       record { client = w.0; at = w.1; has = record { place = s.0; result = s.1; at = s.2; number_is = sym s.3; by_is = s.4 } }
 
@@ -213,7 +214,7 @@ module _ {O : Type 0} {g : Ghosts O} {state : O → OutState} {readers : List (L
     pub begun_of : (o : ℕ) → 0 < total (makes o) notes → HasBegun o
     begun_of o some_ =
         let w = total_some (λ (v : View Asked). total (makes o) v.notes) (map ids_seen callers) (let a = have_all.made o in omega arith) in
-        let m = mapped_from ids_seen callers w.0 w.1 w.2 in
+        let m = map_back ids_seen callers w.0 w.1 w.2 in
         let b = made_begun m.0.thread m.0.is o (subst (λ (v : View Asked). 0 < total (makes o) v.notes) (sym m.2) w.3) in
         let there = task_at m.0.thread m.0.is b.0 b.1 b.2 in
         let own = all_there IsOwnTask (tasks_of m.0) b.1.task (all_there (AllByRecursion IsOwnTask) all (tasks_of m.0) owns (w.0, tasks_there w.0 m.0 m.1)) (b.0, to_slice (tasks_of m.0) b.0 b.1.task there) in
@@ -246,13 +247,13 @@ module _ {O : Type 0} {g : Ghosts O} {state : O → OutState} {readers : List (L
     pub ended_told : (d j : ℕ) (ts : List Told) (x : Told) → get_elem? ended d ≡ some ts → get_elem? ts j ≡ some x → (e : IsEndTold slots v.notes x) × (e.first < 4294967296)
     ended_told d j ts x at there =
         let f : Client g state p q → List Told = λ y. y.thread.ended.calls.told.items in
-        let w = mapped_from f callers d ts (ap (λ (l : List (List Told)). get_elem? l d) (all_are ran (λ (y : Thread g). y.ended.calls.told.items) ∙ ran.ran.ended_is) ∙ at) in
+        let w = map_back f callers d ts (ap (λ (l : List (List Told)). get_elem? l d) (all_are ran (λ (y : Thread g). y.ended.calls.told.items) ∙ ran.ran.ended_is) ∙ at) in
         let u = ids_seen w.0 in
         let its = all_there (AllByRecursion Fits) all (tasks_of w.0) fits (d, tasks_there d w.0 w.1) in
         let e = all_at (IsEndIn slots u) (f w.0) j x (thread_ends_in g state p q w.0.first w.0.thread its w.0.is) (ap (λ (l : List Told). get_elem? l j) w.2 ∙ there) in
         let lock = is_locked_for e.is.first x.number in
         let here = (have_all v.notes have).all e.is.slot lock in
-        let one = term (λ (y : View Asked). total lock (notes_of e.is.slot y.notes)) (map ids_seen callers) d u (mapped ids_seen callers d w.0 w.1) in
+        let one = term (λ (y : View Asked). total lock (notes_of e.is.slot y.notes)) (map ids_seen callers) d u (map_there ids_seen callers d w.0 w.1) in
         let l = total_some lock (notes_of e.is.slot v.notes) (let s = e.is.locked in omega arith) in
         let call = lock_of e.is.first x.number l.1 l.3 in
         let id = e.is.slot * 4294967296 + e.is.first in

@@ -233,14 +233,9 @@ by_marks script ms turns a b e f played = subst (λ ts. HasPlayed (λ d. Schedul
 
 -- a line that isn't one of the schedule
 no_turn : (mark : Mark) → ((seat : Seat) (ticks : ℕ) → mark ≡ marks.Tick seat ticks → ⊥) → ((seat : Seat) (kind : Kind) → mark ≡ marks.To seat kind → ⊥) → turn_of (meant mark) ≡ None
-no_turn (marks.Open name) h k = refl
-no_turn marks.Client h k = refl
-no_turn (marks.Send n) h k = refl
-no_turn marks.Call h k = refl
-no_turn marks.Other h k = refl
-no_turn marks.Apart h k = refl
 no_turn (marks.Tick seat ticks) h k = absurd (h seat ticks refl)
 no_turn (marks.To seat kind) h k = absurd (k seat kind refl)
+no_turn _ h k = refl
 
 pub unscheduled_mark : (m : MachineState) (mark : Mark) → ((seat : Seat) (ticks : ℕ) → mark ≡ marks.Tick seat ticks → ⊥) → ((seat : Seat) (kind : Kind) → mark ≡ marks.To seat kind → ⊥) → HasPlayed (HasTurns m.plan (turn_of (meant mark))) m m
 unscheduled_mark m mark h k = other_line m (turn_of (meant mark)) (no_turn mark h k)

@@ -51,11 +51,7 @@ kind_of : (op : Op) → IsOnCalls op ⊎ (is_plain op ≡ true)
 kind_of (ops.Call asked) = inl tt
 kind_of (ops.Expire t) = inl tt
 kind_of (ops.Join t) = inl tt
-kind_of (ops.Open n k) = inr refl
-kind_of (ops.Send n bytes) = inr refl
-kind_of (ops.Hold n) = inr refl
-kind_of (ops.Drop n) = inr refl
-kind_of (ops.Fail n code) = inr refl
+kind_of _ = inr refl
 
 -- a number is one task's
 one_of : (script : List Item) → AreMade script → (core : Core) (c d : ℕ) (t u : Task) → IsTask (all_tasks script) core.outcomes c t → IsTask (all_tasks script) core.outcomes d u → t.number ≡ u.number → t ≡ u

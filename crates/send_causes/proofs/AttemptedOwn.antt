@@ -25,13 +25,13 @@ use Rattle.id_rule.proofs.Frames.{token_here}
 use Rattle.id_runs.specs.Held.{IdView, MayId, HasOne, id_state, id_row, one, by_token}
 use Rattle.id_runs.specs.Goes.{FitsRetryId, IdGoesOn, SoundIds, IsFittingIds}
 use Rattle.id_runs.proofs.Steps.{finds_ids, no_call}
-use Rattle.seat_programs.specs.Asides.{Step, Found, ClaimId, PutCall, MakeId, StoreCall, LoadCall, StoreAt, LoadAt, LoadIdWord, LockId, PostId, UnlockId, EndId, FreeId, TakeCall, TakeBytes, Taking, Bytes, call_id}
+use Rattle.seat_programs.specs.Asides.{Step, Found, ClaimId, PutCall, MakeId, StoreCall, StoreAt, LockId, PostId, UnlockId, EndId, FreeId, TakeCall, TakeBytes, Taking, Bytes, call_id}
 use Rattle.seat_programs.specs.Heads.{Exit, Unlocks}
 use Rattle.sock_message.specs.Asked.{Asked}
 use Rattle.seat_programs.specs.Beside.{found_in, calls_after}
 use Rattle.seat_programs.specs.Calls.{Call, LoadName, FindLink, ClaimRequest}
 use Rattle.seat_programs.specs.Heads.{Retry}
-use Rattle.seat_programs.specs.Programs.{Program, Do, Say, Sent, Rest, TakeMessage, TakeHome, PutHome, PutBytes, AskReady, Write, Aside, Round, Keep, Retries}
+use Rattle.seat_programs.specs.Programs.{Program, Do, TakeMessage, TakeHome, PutHome, PutBytes, AskReady, Aside, Round}
 use Rattle.seat_programs.specs.Cores.{Calls, Core, SeatState, word_of, found_at, words_after, word_after, homes_after, hand_after, lies_at, first_of, others_of, link_place, resolved, waiting_at, next_step, with_seat}
 use Rattle.seat_programs.specs.Ticks.{Moment, IsAnswered, fed, with_places, onto_first, taken, ticked}
 use Rattle.sock_runs.specs.Sound.{Sound, first_step}
@@ -151,42 +151,24 @@ module _ (p : Plan) (q : IdPlan) (narrow : q.slots ≤ 65536) (is_call : Asked �
       -- the word of a call stays
       words_kept : (step : Step) (next : Found step → Program) (found : Found step) → first_step seat.program ≡ Aside step next → MayId p q u step → (o id : ℕ) → o < q.operations → id ≢ 0 → IsStored q c o id → get_or (calls_after step found c.calls).words (call_index q o) 0 ≡ id
       words_kept (ClaimId k) next found is may o id low some_ s = other_kept (tag_index k) 1 o id (λ e. omega (arith, e, may)) s
-      words_kept (PutCall k asked) next found is may o id low some_ s = s
       words_kept (MakeId k range) next found is may o id low some_ s = let in_ = may.0 in other_kept (id_index k) _ o id (λ e. omega (arith, e, in_)) s
       words_kept (StoreCall x y) next found is may o id low some_ s = dite (ℕ_discrete x o)
           (λ same. let one = facts.one_store o id y i seat (λ z. next z) low some_ s at_seat (is ∙ ap (λ n. Aside (StoreCall n y) next) same) in
           subst (λ n. get_or (set c.calls.words (call_index c.calls.plan n) y) (call_index q o) 0 ≡ id) (sym same) (stored_here o y low ∙ one))
           (λ far. subst (λ (r : IdPlan). get_or (set c.calls.words (call_index r x) y) (call_index q o) 0 ≡ id) (sym real_ids.plan) (other_kept (call_index q x) y o id (λ e. far (omega (arith, e))) s))
-      words_kept (LoadCall x) next found is may o id low some_ s = s
       words_kept (StoreAt x w) next found is may o id low some_ s = subst (λ (r : IdPlan). get_or (set c.calls.words (at_index r x) w) (call_index q o) 0 ≡ id) (sym real_ids.plan) (other_kept (at_index q x) w o id (λ e. omega (arith, e)) s)
-      words_kept (LoadAt x) next found is may o id low some_ s = s
-      words_kept (LoadIdWord k) next found is may o id low some_ s = s
       words_kept (LockId k from) next found is may o id low some_ s = let in_ = may.0 in other_kept (id_index k) _ o id (λ e. omega (arith, e, in_)) s
       words_kept (PostId k from e) next found is may o id low some_ s = let in_ = may.0 in other_kept (id_index k) _ o id (λ e. omega (arith, e, in_)) s
       words_kept (UnlockId k from advance) next found is may o id low some_ s = let in_ = may.0 in other_kept (id_index k) _ o id (λ e. omega (arith, e, in_)) s
       words_kept (EndId k) next found is may o id low some_ s = let in_ = may.0 in other_kept (id_index k) _ o id (λ e. omega (arith, e, in_)) s
       words_kept (FreeId k) next found is may o id low some_ s = let in_ = may.0 in other_kept (tag_index k) 0 o id (λ e. omega (arith, e, in_)) s
-      words_kept (TakeCall k) next found is may o id low some_ s = s
       words_kept (TakeBytes k room) next (Bytes bytes) is may o id low some_ s = s
-      words_kept (TakeBytes k room) next found is may o id low some_ s = s
+      words_kept _ next found is may o id low some_ s = s
 
       -- a seat that was to store it has stored it
       store_mine : (step : Step) (next : Found step → Program) (found : Found step) (o id : ℕ) (after : Found (StoreCall o id) → Program) → o < q.operations → Aside step next ≡ Aside (StoreCall o id) after → get_or (calls_after step found c.calls).words (call_index q o) 0 ≡ id
       store_mine (StoreCall x y) next found o id after low e = let a : x ≡ o = cc in let b : y ≡ id = cc in subst (λ n. get_or (set c.calls.words (call_index c.calls.plan n) y) (call_index q o) 0 ≡ id) (sym a) (stored_here o y low ∙ b)
-      store_mine (ClaimId k) next found o id after low e = absurd cc
-      store_mine (PutCall k asked) next found o id after low e = absurd cc
-      store_mine (MakeId k range) next found o id after low e = absurd cc
-      store_mine (LoadCall x) next found o id after low e = absurd cc
-      store_mine (StoreAt x w) next found o id after low e = absurd cc
-      store_mine (LoadAt x) next found o id after low e = absurd cc
-      store_mine (LoadIdWord k) next found o id after low e = absurd cc
-      store_mine (LockId k from) next found o id after low e = absurd cc
-      store_mine (PostId k from x) next found o id after low e = absurd cc
-      store_mine (UnlockId k from advance) next found o id after low e = absurd cc
-      store_mine (EndId k) next found o id after low e = absurd cc
-      store_mine (FreeId k) next found o id after low e = absurd cc
-      store_mine (TakeCall k) next found o id after low e = absurd cc
-      store_mine (TakeBytes k room) next found o id after low e = absurd cc
+      store_mine _ next found o id after low e = absurd cc
 
       stays_aside : (step : Step) (next : Found step → Program) (found : Found step) → first_step seat.program ≡ Aside step next → MayId p q u step → (o id : ℕ) → IsOwn q c o id → IsOwn q (Then step found (next found)) o id
       stays_aside step next found is may = own_on (calls_after step found c.calls) (next found) seat.hand c.words c.homes (calls_waiting step found c.calls) (words_kept step next found is may) (λ o id after low e. store_mine step next found o id after low (sym is ∙ ap first_step e))
@@ -196,20 +178,7 @@ module _ (p : Plan) (q : IdPlan) (narrow : q.slots ≤ 65536) (is_call : Asked �
       -- what stores the word of its call
       storing_of : (id : ℕ) (program : Program) → StoresNext id program → (o x : ℕ) × (after : Found (StoreCall o x) → Program) × (program ≡ Aside (StoreCall o x) after) × (x ≡ id)
       storing_of id (Aside (StoreCall o x) after) h = (o, x, after, refl, h)
-      storing_of id (Do call next) h = absurd h
-      storing_of id (Say o outcome next) h = absurd h
-      storing_of id (Sent o next) h = absurd h
-      storing_of id Rest h = absurd h
-      storing_of id (TakeMessage r next) h = absurd h
-      storing_of id (TakeHome k next) h = absurd h
-      storing_of id (PutHome k n after) h = absurd h
-      storing_of id (PutBytes k asked bytes next) h = absurd h
-      storing_of id (AskReady k next) h = absurd h
-      storing_of id (Write w after) h = absurd h
-      storing_of id (Round head next) h = absurd h
-      storing_of id (Keep r next) h = absurd h
-      storing_of id (Retries n after) h = absurd h
-      storing_of id (Aside step next) h = absurd h
+      storing_of id _ h = absurd h
 
       made_own : (k range : ℕ) (next : ℕ → Program) (found : ℕ) → IdGoesOn p q (id_row q (MakeId k range) found no_call u) (next found) → StoresNext (call_id k (parts found).first) (next found) → (o : ℕ) × IsOwn q (Then (MakeId k range) found (next found)) o (call_id k (parts found).first)
       made_own k range next found ahead storing = let s = storing_of (call_id k (parts found).first) (next found) storing in
@@ -233,20 +202,7 @@ module _ (p : Plan) (q : IdPlan) (narrow : q.slots ≤ 65536) (is_call : Asked �
           → (o : ℕ) × IsOwn q (Then step found (next found)) o (call_id k (word_of_id (calls_after step found c.calls).words k).first)
       made_range (MakeId m range) next found x ahead g k made = let r = made_own m range next found ahead g.1 in
           (r.0, subst (IsOwn q (Then (MakeId m range) found (next found)) r.0) (ap (λ n. call_id n (parts found).first) made.0 ∙ ap (call_id k) (sym made.1)) r.1)
-      made_range (ClaimId m) next found x ahead g k made = absurd made
-      made_range (PutCall m asked) next found x ahead g k made = absurd made
-      made_range (StoreCall y z) next found x ahead g k made = absurd made
-      made_range (LoadCall y) next found x ahead g k made = absurd made
-      made_range (StoreAt y w) next found x ahead g k made = absurd made
-      made_range (LoadAt y) next found x ahead g k made = absurd made
-      made_range (LoadIdWord m) next found x ahead g k made = absurd made
-      made_range (LockId m from) next found x ahead g k made = absurd made
-      made_range (PostId m from e) next found x ahead g k made = absurd made
-      made_range (UnlockId m from advance) next found x ahead g k made = absurd made
-      made_range (EndId m) next found x ahead g k made = absurd made
-      made_range (FreeId m) next found x ahead g k made = absurd made
-      made_range (TakeCall m) next found x ahead g k made = absurd made
-      made_range (TakeBytes l room) next found x ahead g k made = absurd made
+      made_range _ next found x ahead g k made = absurd made
 
       -- each range that lives behind the step is that of a call
       ranges_after : (step : Step) (next : Found step → Program) (found : Found step) (answer : Option Taking) → first_step seat.program ≡ Aside step next → found_in step c.calls answer ≡ some found → MayId p q u step → (x : Trail) → IdGoesOn p q (id_row q step found no_call u) (next found)

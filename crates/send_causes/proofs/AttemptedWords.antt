@@ -28,10 +28,10 @@ use Rattle.seat_programs.specs.Asides.{Step, Found, ClaimId, PutCall, MakeId, St
 use Rattle.seat_programs.specs.Beside.{found_in, calls_after, call_at}
 use Rattle.seat_programs.specs.Cores.{Core, SeatState}
 use Rattle.seat_programs.specs.Posts.{packed, advance_of}
-use Rattle.seat_programs.specs.Programs.{Program, Do, Say, Sent, Rest, TakeMessage, TakeHome, PutHome, PutBytes, AskReady, Write, Aside, Round, Keep, Retries}
+use Rattle.seat_programs.specs.Programs.{Program, TakeMessage, TakeHome, PutBytes, AskReady, Write, Aside, Round}
 use Rattle.seat_programs.specs.Rounds.{round}
 use Rattle.seat_programs.specs.Sends.{block}
-use Rattle.seat_programs.specs.Ticks.{Answer, Unasked, OfPut, OfReady, OfTake, Moment, taken, with_message, with_link, with_put, with_ready, with_found, step_with, tick_with, ticked}
+use Rattle.seat_programs.specs.Ticks.{Answer, OfPut, OfReady, Moment, taken, with_message, with_link, with_put, with_ready, with_found, step_with, tick_with, ticked}
 use Rattle.call_causes.specs.owed_calls.proofs.EndsStill.{view_of}
 use Rattle.call_causes.specs.Lists.{advances_by, called_at, advanced_with, advanced_at}
 use Rattle.send_causes.specs.Counts.{word_of_id}
@@ -169,15 +169,11 @@ module _ (p : Plan) (q : IdPlan) (narrow : q.slots ≤ 65536) (c : Core) (j : �
 
   by_put : (bytes : List ℕ) (answer : Answer) (next : Put → Program) → Effect p q c u (with_put p j seat c bytes answer next) []
   by_put bytes (OfPut answer) next = none_aside refl refl refl
-  by_put bytes Unasked next = none_aside refl refl refl
-  by_put bytes (OfReady r) next = none_aside refl refl refl
-  by_put bytes (OfTake t) next = none_aside refl refl refl
+  by_put bytes _ next = none_aside refl refl refl
 
   by_ready : (answer : Answer) (next : Ready → Program) → Effect p q c u (with_ready p j seat c answer next) []
   by_ready (OfReady answer) next = none_aside refl refl refl
-  by_ready Unasked next = none_aside refl refl refl
-  by_ready (OfPut a) next = none_aside refl refl refl
-  by_ready (OfTake t) next = none_aside refl refl refl
+  by_ready _ next = none_aside refl refl refl
 
   by_found : (step : Step) (t : Option Taking) (next : Found step → Program) → MayId p q u step → (x : Option (Found step)) → found_in step c.calls t ≡ x
       → Effect p q c u (with_found p j seat c step x next) (elim x as (λ o. List ℕ) [ none ↦ [] | some found ↦ advances_by step found c.calls ])
@@ -190,31 +186,12 @@ module _ (p : Plan) (q : IdPlan) (narrow : q.slots ≤ 65536) (c : Core) (j : �
   first_effect answer (TakeHome k next) go = by_link k (link_home (λ (h : Home). h) p c.homes k) next
   first_effect answer (PutBytes k asked bytes next) go = by_put bytes answer next
   first_effect answer (AskReady k next) go = by_ready answer next
-  first_effect answer (Do call next) go = none_aside refl refl refl
-  first_effect answer (PutHome k n after) go = none_aside refl refl refl
-  first_effect answer (Say o outcome next) go = none_aside refl refl refl
-  first_effect answer (Sent o next) go = none_aside refl refl refl
-  first_effect answer Rest go = none_aside refl refl refl
-  first_effect answer (Write w after) go = none_aside refl refl refl
-  first_effect answer (Round head next) go = none_aside refl refl refl
-  first_effect answer (Keep r next) go = none_aside refl refl refl
-  first_effect answer (Retries n after) go = none_aside refl refl refl
+  first_effect answer _ go = none_aside refl refl refl
 
   tick_effect : (answer : Answer) (program : Program) → IdGoesOn p q u program → Effect p q c u (tick_with p j seat c answer program) (advanced_with c.calls (taken answer) (goes.first_of program))
   tick_effect answer (Write w after) go = first_effect answer (block w after) (block_goes p q narrow u w after go)
   tick_effect answer (Round head next) go = first_effect answer (round head next) (ids_round p q u head next go)
-  tick_effect answer (Aside step next) go = first_effect answer (Aside step next) go
-  tick_effect answer (TakeMessage r next) go = first_effect answer (TakeMessage r next) go
-  tick_effect answer (TakeHome k next) go = first_effect answer (TakeHome k next) go
-  tick_effect answer (PutBytes k asked bytes next) go = first_effect answer (PutBytes k asked bytes next) go
-  tick_effect answer (AskReady k next) go = first_effect answer (AskReady k next) go
-  tick_effect answer (Do call next) go = first_effect answer (Do call next) go
-  tick_effect answer (PutHome k n after) go = first_effect answer (PutHome k n after) go
-  tick_effect answer (Say o outcome next) go = first_effect answer (Say o outcome next) go
-  tick_effect answer (Sent o next) go = first_effect answer (Sent o next) go
-  tick_effect answer Rest go = first_effect answer Rest go
-  tick_effect answer (Keep r next) go = first_effect answer (Keep r next) go
-  tick_effect answer (Retries n after) go = first_effect answer (Retries n after) go
+  tick_effect answer other go = first_effect answer other go
 
 -- the call at home there is advanced in the tick
 abbrev pub AdvancesAt : Core → Moment → ℕ → Type 0

@@ -168,10 +168,7 @@ module _ (requests : ℕ) where
 
   goes_posted : (id e : ℕ) (next : Program) → G next → (exit : Posting) → G (posted id e next exit)
   goes_posted id e next after (HasLocked word) = goes_decide id word e (decided id next) (goes_decided id next after)
-  goes_posted id e next after WasGone = after
-  goes_posted id e next after WasStale = after
-  goes_posted id e next after (WasCrowded a b) = after
-  goes_posted id e next after WasQueued = after
+  goes_posted id e next after _ = after
 
   goes_post : (id c attempt : ℕ) (next : Program) → G next → G (post id c attempt next)
   goes_post id c attempt next after = goes_post_with id (error_of c attempt) (posted id (error_of c attempt) next) (goes_posted id (error_of c attempt) next after)
@@ -449,18 +446,7 @@ module _ (requests : ℕ) where
   first_free : (p : Plan) (v : View) (program : Program) → GoesOn p v program → G program → G (first_step program)
   first_free p v (Write w after) g x = goes_block w after x
   first_free p v (Round head next) g x = goes_round p v head next g x
-  first_free p v (Do call next) g x = x
-  first_free p v (Say o outcome next) g x = x
-  first_free p v (Sent o next) g x = x
-  first_free p v Rest g x = x
-  first_free p v (TakeMessage q next) g x = x
-  first_free p v (TakeHome k next) g x = x
-  first_free p v (PutHome k n after) g x = x
-  first_free p v (PutBytes k asked bytes next) g x = x
-  first_free p v (AskReady k next) g x = x
-  first_free p v (Aside step next) g x = x
-  first_free p v (Keep r next) g x = x
-  first_free p v (Retries many after) g x = x
+  first_free p v _ g x = x
 
   -- whoever is at an attempt makes a step next
   at_step : (m : Mode) (program : Program) → Goes m program → (m ≡ Free) ⊎ ((first_step program ≡ program) × ((ws : List Retry) → next_step (resolved ws program) ≡ program))
@@ -482,16 +468,7 @@ module _ (requests : ℕ) where
   next_free ws (Keep r next) all x = next_free (ws ++ r ∷ []) next (few_more ws r all x.0) x.1
   next_free [] (Retries many after) all x = next_free [] after tt x.1
   next_free (r ∷ ws) (Retries many after) all x = subst (λ n. G (retry n r.id r.attempt (Retries many after))) (sym x.0) (goes_retry r.id r.attempt (Retries many after) all.0 x)
-  next_free ws (Do call next) all x = x
-  next_free ws Rest all x = x
-  next_free ws (TakeMessage q next) all x = x
-  next_free ws (TakeHome k next) all x = x
-  next_free ws (PutHome k n after) all x = x
-  next_free ws (PutBytes k asked bytes next) all x = x
-  next_free ws (AskReady k next) all x = x
-  next_free ws (Write w after) all x = x
-  next_free ws (Aside step next) all x = x
-  next_free ws (Round head next) all x = x
+  next_free ws _ all x = x
 
   pub goes_next : (m : Mode) (ws : List Retry) (program : Program) → AllByRecursion FitsRetry ws → Goes m program → Goes m (next_step (resolved ws program))
   goes_next m ws program all x = ⊎_elim (λ e. subst (λ n. Goes n (next_step (resolved ws program))) (sym e) (next_free ws program all (subst (λ n. Goes n program) e x))) (λ a. subst (Goes m) (sym (a.1 ws)) x) (at_step m program x)

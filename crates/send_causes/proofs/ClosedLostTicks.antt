@@ -161,13 +161,11 @@ module _ (p : Plan) (Old : ℕ → ℕ → Type 0) where
 
       knows_stays : (v : View) (m : Mode) → Knows c vs v m → Knows d ws v m
       knows_stays v Free x = tt
-      knows_stays v (Held t) x = x
       knows_stays v (Linked t k) x = on_stays t k x
       knows_stays v (Stored t k) x = on_stays t k x
       knows_stays v (Claims t k q) x = (on_stays t k x.0, taken_stays q x.1)
       knows_stays v (Claimed t k) x = tt
-      knows_stays v (Filled t k) x = x
-      knows_stays v (Marked t k) x = x
+      knows_stays v _ x = x
 
       pub ended_stays : (o n k : ℕ) → Ended c vs o n k → Ended d ws o n k
       ended_stays o n k (inl e) = inl (keeps.entered o n e)

@@ -236,34 +236,17 @@ module _ (k id : ℕ) (Odd : List Taking → Type 0) (Lasts : Type 0) where
     pub calm_first : (held : Bool) (h : List Taking) (program : Program) → Calm held h program → Calm held h (first_step program)
     calm_first held h (Write w after) x = absurd x
     calm_first held h (Round head next) x = calm_round held h head next x
-    calm_first held h (Do call next) x = x
-    calm_first held h (Say o outcome next) x = x
-    calm_first held h (Sent o next) x = x
-    calm_first held h Rest x = x
-    calm_first held h (TakeMessage q next) x = x
-    calm_first held h (TakeHome l next) x = x
-    calm_first held h (PutHome l n after) x = x
-    calm_first held h (PutBytes l asked bytes next) x = x
-    calm_first held h (AskReady l next) x = x
-    calm_first held h (Aside step next) x = x
-    calm_first held h (Keep r next) x = x
-    calm_first held h (Retries requests after) x = x
+    calm_first held h _ x = x
 
   pub calm_next : (held : Bool) (h : List Taking) (ws : List Retry) (program : Program) → Calm held h program → Calm held h (next_step (resolved ws program))
   calm_next held h ws (Say o outcome next) x = calm_next held h ws next x
   calm_next held h ws (Sent o next) x = calm_next held h ws next x
   calm_next held h ws (Keep r next) x = calm_next held h (ws ++ r ∷ []) next x
-  calm_next held h ws (Retries requests after) x = absurd x
   calm_next held h ws (Do call next) x = x
   calm_next held h ws Rest x = x
-  calm_next held h ws (TakeMessage q next) x = absurd x
-  calm_next held h ws (TakeHome l next) x = absurd x
-  calm_next held h ws (PutHome l n after) x = absurd x
-  calm_next held h ws (PutBytes l asked bytes next) x = absurd x
-  calm_next held h ws (AskReady l next) x = absurd x
-  calm_next held h ws (Write w after) x = absurd x
   calm_next held h ws (Aside step next) x = x
   calm_next held h ws (Round head next) x = x
+  calm_next held h ws _ x = absurd x
 
   -- where a reading begins
   pub begins_calm : Ends → (calls : List ℕ) → Calm false [] (Round (Reads (record { ids = length calls; link = k; id = id; rest = []; total = 0; kept = [] })) (read calls))

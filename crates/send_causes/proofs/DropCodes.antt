@@ -20,7 +20,7 @@ use Rattle.seat_programs.specs.declared.task.Task.{Task}
 use Rattle.seat_programs.specs.declared.task.Sizes.{Sizes}
 use Rattle.seat_programs.specs.Calls.{SubRef, SetOdd, StoreCode}
 use Rattle.seat_programs.specs.Writings.{Holder, Writing, Puts, Waits, Empties, Walks}
-use Rattle.seat_programs.specs.Asides.{Found, Taking, Bytes, Nothing, NoMore, AtEnd, Closed, Broken, call_id, id_slot, id_first}
+use Rattle.seat_programs.specs.Asides.{Found, Taking, Bytes, Nothing, Closed, call_id, id_slot, id_first}
 use Rattle.seat_programs.specs.Heads.{Head, Exit, Retry, Sought, Reading, Ended, Posts, Unlocks, Decides, Locks, Joins, Opens, Reads, Discards, Posting, WasGone, WasStale, WasCrowded, WasQueued, HasLocked, Unlocking, IsOpen, HasNext, Deciding, HasEnded, GoesOn, Locking, NotThere, Has}
 use Rattle.seat_programs.specs.Programs.{Program, Do, Say, Sent, Rest, TakeMessage, TakeHome, PutHome, PutBytes, AskReady, Write, Aside, Round, Keep, Retries, LAST_VERSION, LAST_GENERATION, NO_SOCKET, recycle, release, address, reach, set_failed, fail, fail_outcome, hold, drop_held, open_from, make_socket}
 use Rattle.seat_programs.specs.Posts.{WHOLE, packed, advance_of, is_first, is_sought, is_stale, is_full, judged, posts_round, post_with, posted, post, popped, unlocks_round, ends_call, end_id, decide, decided, unlocked, decides_round, locking, locks_round, joins_round}
@@ -158,10 +158,7 @@ module _ (mine : ℕ → ℕ → Type 0) (Other : ℕ → Type 0) (gone : Other 
 
   codes_posted : (id e : ℕ) (next : Program) → G next → (exit : Posting) → G (posted id e next exit)
   codes_posted id e next after (HasLocked word) = codes_decide id word e (decided id next) (codes_decided id next after)
-  codes_posted id e next after WasGone = after
-  codes_posted id e next after WasStale = after
-  codes_posted id e next after (WasCrowded a b) = after
-  codes_posted id e next after WasQueued = after
+  codes_posted id e next after _ = after
 
   codes_post : (id c attempt : ℕ) (next : Program) → G next → G (post id c attempt next)
   codes_post id c attempt next after = codes_post_with id (error_of c attempt) (posted id (error_of c attempt) next) (codes_posted id (error_of c attempt) next after)
@@ -200,18 +197,13 @@ module _ (mine : ℕ → ℕ → Type 0) (Other : ℕ → Type 0) (gone : Other 
       codes_responses r.ids s.frames r.kept (λ kept. read_on (record { ids = r.ids; link = r.link; id = r.id; rest = r.rest; total = r.total + length bytes; kept = kept }) (r.rest ++ bytes) s.ending k)
       (λ kept. codes_read_on (record { ids = r.ids; link = r.link; id = r.id; rest = r.rest; total = r.total + length bytes; kept = kept }) (r.rest ++ bytes) s.ending k after)
   codes_took r k after Nothing = after
-  codes_took r k after NoMore = after (ended_by 1014 false false r) (inr (inl refl))
-  codes_took r k after AtEnd = after (ended_by 1014 false false r) (inr (inl refl))
   codes_took r k after Closed = after (ended_by 1014 true false r) (inr (inl refl))
-  codes_took r k after Broken = after (ended_by 1014 false false r) (inr (inl refl))
+  codes_took r k after _ = after (ended_by 1014 false false r) (inr (inl refl))
 
   codes_discarded : (l total : ℕ) (k : ℕ → Program) → ((x : ℕ) → G (k x)) → (t : Taking) → G (discarded l total k t)
   codes_discarded l total k after (Bytes bytes) = either_way (nat_lt (total + length bytes) LIMIT) _ _ G (after) (after (total + length bytes))
   codes_discarded l total k after Nothing = after
-  codes_discarded l total k after NoMore = after total
-  codes_discarded l total k after AtEnd = after total
-  codes_discarded l total k after Closed = after total
-  codes_discarded l total k after Broken = after total
+  codes_discarded l total k after _ = after total
 
   codes_freed : (now : ℕ) (next : Program) → G next → G (freed now next)
   codes_freed now next after = either_way (generation_of now == LAST_GENERATION) _ _ G after ((λ _. after))
@@ -271,10 +263,7 @@ module _ (mine : ℕ → ℕ → Type 0) (Other : ℕ → Type 0) (gone : Other 
 
   codes_posted_last : (id e : ℕ) (kept : List Frame) (next : Program) → G next → (exit : Posting) → G (posted_last id e kept next exit)
   codes_posted_last id e kept next after (HasLocked word) = codes_ends_with id e word (kept_for id (parts word).range kept) next after
-  codes_posted_last id e kept next after WasGone = after
-  codes_posted_last id e kept next after WasStale = after
-  codes_posted_last id e kept next after (WasCrowded a b) = after
-  codes_posted_last id e kept next after WasQueued = after
+  codes_posted_last id e kept next after _ = after
 
   codes_post_each : (os : List ℕ) (k c : ℕ) (kept : List Frame) (next : Program) → G next → G (post_each os k c kept next)
   codes_post_each [] k c kept next after = after
@@ -412,18 +401,7 @@ module _ (mine : ℕ → ℕ → Type 0) (Other : ℕ → Type 0) (gone : Other 
   pub codes_first : (f : Failing) (program : Program) → Stores mine Other f program → (g : Failing) × ((g ≡ f) ⊎ (g ≡ NoFail)) × Stores mine Other g (first_step program)
   codes_first f (Write w after) x = (NoFail, inr refl, codes_block w after x)
   codes_first f (Round head next) x = (NoFail, inr refl, codes_round f head next x)
-  codes_first f (Do call next) x = (f, inl refl, x)
-  codes_first f (Say o outcome next) x = (f, inl refl, x)
-  codes_first f (Sent o next) x = (f, inl refl, x)
-  codes_first f Rest x = (f, inl refl, x)
-  codes_first f (TakeMessage q next) x = (f, inl refl, x)
-  codes_first f (TakeHome k next) x = (f, inl refl, x)
-  codes_first f (PutHome k n after) x = (f, inl refl, x)
-  codes_first f (PutBytes k asked bytes next) x = (f, inl refl, x)
-  codes_first f (AskReady k next) x = (f, inl refl, x)
-  codes_first f (Aside step next) x = (f, inl refl, x)
-  codes_first f (Keep r next) x = (f, inl refl, x)
-  codes_first f (Retries requests after) x = (f, inl refl, x)
+  codes_first f _ x = (f, inl refl, x)
 
   -- and behind what is said, where a retry may come first
   pub codes_next : (f : Failing) (ws : List Retry) (program : Program) → Stores mine Other f program → (g : Failing) × (((g ≡ f) × (next_step (resolved ws program) ≡ program)) ⊎ (g ≡ NoFail)) × Stores mine Other g (next_step (resolved ws program))
@@ -432,13 +410,4 @@ module _ (mine : ℕ → ℕ → Type 0) (Other : ℕ → Type 0) (gone : Other 
   codes_next f ws (Keep r next) x = let y = codes_next NoFail (ws ++ r ∷ []) next x in (NoFail, inr refl, subst (λ g. Stores mine Other g (next_step (resolved (ws ++ r ∷ []) next))) (⊎_elim (λ e. e.0) (λ e. e) y.1) y.2)
   codes_next f [] (Retries requests after) x = let r = codes_next NoFail [] after x in (NoFail, inr refl, subst (λ g. Stores mine Other g (next_step (resolved [] after))) (⊎_elim (λ e. e.0) (λ e. e) r.1) r.2)
   codes_next f (r ∷ ws) (Retries requests after) x = (NoFail, inr refl, codes_retry requests r.id r.attempt (Retries requests after) x)
-  codes_next f ws (Do call next) x = (f, inl (refl, refl), x)
-  codes_next f ws Rest x = (f, inl (refl, refl), x)
-  codes_next f ws (TakeMessage q next) x = (f, inl (refl, refl), x)
-  codes_next f ws (TakeHome k next) x = (f, inl (refl, refl), x)
-  codes_next f ws (PutHome k n after) x = (f, inl (refl, refl), x)
-  codes_next f ws (PutBytes k asked bytes next) x = (f, inl (refl, refl), x)
-  codes_next f ws (AskReady k next) x = (f, inl (refl, refl), x)
-  codes_next f ws (Write w after) x = (f, inl (refl, refl), x)
-  codes_next f ws (Aside step next) x = (f, inl (refl, refl), x)
-  codes_next f ws (Round head next) x = (f, inl (refl, refl), x)
+  codes_next f ws _ x = (f, inl (refl, refl), x)

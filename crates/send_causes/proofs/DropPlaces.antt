@@ -27,7 +27,7 @@ use Rattle.slot_steps.proofs.Sums.{term_le}
 use Rattle.corr_core.specs.declared.marks.Plan.{Plan as IdPlan}
 use Rattle.sock_message.specs.Asked.{Asked}
 use Rattle.seat_programs.specs.declared.task.Task.{Task}
-use Rattle.seat_programs.specs.Calls.{Call, ClaimSlot, CreateLife, AddRef, SubRef, SetOdd, Recycle, FreeSlot, StoreLink, LoadLink, ResetHead, ClearCode, StoreCode, StoreName, LoadName, StoreOpen, LoadOpen, TakeLink, FinishLink, PutLink, LookWord, FindLink, LoadCode, ClaimRequest, PutMessage, Unconnect, SwapHead, Connect, EmptyHead, ReadNext, ReverseNext, FreeRequest, StorePlace, DropPlace}
+use Rattle.seat_programs.specs.Calls.{Call, ClaimSlot, CreateLife, AddRef, SubRef, SetOdd, Recycle, FreeSlot, StoreLink, LoadLink, ResetHead, ClearCode, StoreCode, StoreName, LoadName, StoreOpen, LoadOpen, LookWord, FindLink, LoadCode, ClaimRequest, Unconnect, SwapHead, Connect, EmptyHead, ReadNext, ReverseNext, FreeRequest, StorePlace, DropPlace}
 use Rattle.seat_programs.specs.Cores.{Core, SeatState, word_of, word_after, found_at, words_after}
 use Rattle.seat_programs.specs.Sends.{heading_of}
 use Rattle.seat_programs.specs.Ticks.{Moment, IsAnswered, ticked}
@@ -228,14 +228,10 @@ module _ (p : Plan) (q : IdPlan) (is_call : Asked → Type 0) (ids : ℕ → ℕ
       step_keeps (LoadName n) may = ap (λ xs. get_or xs (place_index p l) 0) (set-get_or c.words (name_index p n) 0)
       step_keeps (StoreOpen n w) may = let slot = may.0 in get_or-set_other c.words (open_index p n) (place_index p l) w 0 (λ e. omega arith)
       step_keeps (LoadOpen n) may = ap (λ xs. get_or xs (place_index p l) 0) (set-get_or c.words (open_index p n) 0)
-      step_keeps (TakeLink k) may = refl
-      step_keeps (FinishLink k) may = refl
-      step_keeps (PutLink k) may = refl
       step_keeps (LookWord id) may = ap (λ xs. get_or xs (place_index p l) 0) (set-get_or c.words (ref_index (socket_id_slot id)) 0)
       step_keeps (FindLink i h) may = ap (λ xs. get_or xs (place_index p l) 0) (set-get_or c.words (link_index i) 0)
       step_keeps (LoadCode i h) may = ap (λ xs. get_or xs (place_index p l) 0) (set-get_or c.words (code_index i) 0)
       step_keeps (ClaimRequest id q) may = let slot = may.0 in get_or-set_other c.words (request_index p q) (place_index p l) (word_after (ClaimRequest id q) (get_or c.words (request_index p q) 0)) 0 (λ e. omega arith)
-      step_keeps (PutMessage q heading bytes) may = refl
       step_keeps (Unconnect q) may = let slot = may.0 in get_or-set_other c.words (next_index p q) (place_index p l) (word_after (Unconnect q) 0) 0 (λ e. omega arith)
       step_keeps (SwapHead i own) may = let slot = may.0 in get_or-set_other c.words (head_index i) (place_index p l) own 0 (λ e. omega arith)
       step_keeps (Connect q before) may = let slot = may.0 in get_or-set_other c.words (next_index p q) (place_index p l) before 0 (λ e. omega arith)
@@ -245,6 +241,7 @@ module _ (p : Plan) (q : IdPlan) (is_call : Asked → Type 0) (ids : ℕ → ℕ
       step_keeps (FreeRequest q g) may = let slot = free_inside p (state c vs) sound.lawful i v at q g may in get_or-set_other c.words (request_index p q) (place_index p l) (word_after (FreeRequest q g) 0) 0 (λ e. omega (arith, e, slot))
       step_keeps (StorePlace m k n) may = let x = may.0 in other_place m (word_after (StorePlace m k n) 0) x.mine.right x.now may.1 x.stage x.taken may.2
       step_keeps (DropPlace m k n) may = let x = may.0 in other_place m (word_after (DropPlace m k n) 0) x.mine.right x.now may.1 x.stage x.taken may.2
+      step_keeps _ may = refl
 
     -- so does a tick
     pub place_stays : l < 8 * p.operations → get_or c.words (place_index p l) 0 ≢ 0 → (m : Moment) → IsAnswered c m → IsFitting p c m → get_or (ticked p c m).words (place_index p l) 0 ≡ get_or c.words (place_index p l) 0

@@ -8,7 +8,7 @@ use Rattle.seat_programs.specs.declared.task.Op.TheVariants as ops
 use Rattle.seat_programs.specs.declared.task.Task.{Task}
 use Rattle.seat_programs.specs.Calls.{Call, SetOdd, LoadOpen}
 use Rattle.seat_programs.specs.Writings.{Puts, Waits, Empties, Walks}
-use Rattle.seat_programs.specs.Programs.{Program, Do, Say, Sent, Rest, TakeMessage, TakeHome, PutHome, PutBytes, AskReady, Write, Aside, Round, Keep, Retries}
+use Rattle.seat_programs.specs.Programs.{Program, Do, Say, Write, Round}
 use Rattle.sock_runs.specs.Sound.{first_step}
 use Rattle.outcome_causes.specs.Explains.{Way, Own, Beside, Closing, Done, Because, Explained, ExplainsBy, step}
 use Rattle.outcome_causes.specs.Stories.{Entry, In}
@@ -65,18 +65,7 @@ module _ (slots requests : ℕ) (calls : ℕ → Type 0) (o : ℕ) (no_call : ca
   says Own broken done trace (t ∷ ts) (Say n outcome more) x s = ⊎_elim (λ a. here done trace t ts n outcome a.0 s.0 s.1 a.1) (λ a. absurd (no_call (subst calls s.0 a.0))) x
   says Beside broken done trace todo (Say n outcome more) x s = absurd (no_call (subst calls s.0 x.0))
   says Closing broken done trace todo (Say n outcome more) x s = absurd (no_call (subst calls s.0 x.0))
-  says w broken done trace todo (Sent n more) x s = absurd s
-  says w broken done trace todo Rest x s = absurd s
-  says w broken done trace todo (TakeMessage q next) x s = absurd s
-  says w broken done trace todo (TakeHome k next) x s = absurd s
-  says w broken done trace todo (PutHome k n after) x s = absurd s
-  says w broken done trace todo (PutBytes k asked bytes next) x s = absurd s
-  says w broken done trace todo (AskReady k next) x s = absurd s
-  says w broken done trace todo (Write v after) x s = absurd s
-  says w broken done trace todo (Aside a next) x s = absurd s
-  says w broken done trace todo (Round head next) x s = absurd s
-  says w broken done trace todo (Keep r next) x s = absurd s
-  says w broken done trace todo (Retries n after) x s = absurd s
+  says w broken done trace todo _ x s = absurd s
 
 -- whoever sets a socket failed in a tick does so in a step of its own
 pub sets_here : (program : Program) (i : ℕ) (next : ℕ → Program) → first_step program ≡ Do (SetOdd i) next → program ≡ Do (SetOdd i) next
@@ -86,14 +75,4 @@ sets_here (Write (Waits h now heading left taken) after) i next e = absurd (cc)
 sets_here (Write (Empties h) after) i next e = absurd (cc)
 sets_here (Write (Walks h top at behind) after) i next e = absurd (cc)
 sets_here (Round head n) i next e = absurd (let o = subst IsOfLoop e (loop_begins head n) in let q : SetOdd i ≡ LoadOpen o.0 = o.1 in cc)
-sets_here (Say o outcome more) i next e = absurd (cc)
-sets_here (Sent o more) i next e = absurd (cc)
-sets_here Rest i next e = absurd (cc)
-sets_here (TakeMessage q n) i next e = absurd (cc)
-sets_here (TakeHome l n) i next e = absurd (cc)
-sets_here (PutHome l n after) i next e = absurd (cc)
-sets_here (PutBytes l a b n) i next e = absurd (cc)
-sets_here (AskReady l n) i next e = absurd (cc)
-sets_here (Aside a n) i next e = absurd (cc)
-sets_here (Keep r n) i next e = absurd (cc)
-sets_here (Retries n after) i next e = absurd (cc)
+sets_here _ i next e = absurd (cc)

@@ -20,7 +20,7 @@ use Rattle.sock_model.specs.Weights.{is_hold, is_coding, is_any_coding}
 use Rattle.slot_steps.proofs.Numbers.{or-odd, only_le}
 use Rattle.slot_steps.proofs.Sums.{total_mono}
 use Rattle.sock_steps.proofs.Places.{own_count}
-use Rattle.seat_programs.specs.Calls.{Call, ClaimSlot, CreateLife, AddRef, SubRef, SetOdd, Recycle, FreeSlot, StoreLink, LoadLink, ResetHead, ClearCode, StoreCode, StoreName, LoadName, StoreOpen, LoadOpen, TakeLink, FinishLink, PutLink, LookWord, FindLink, LoadCode, ClaimRequest, PutMessage, Unconnect, SwapHead, Connect, EmptyHead, ReadNext, ReverseNext, FreeRequest, StorePlace, DropPlace}
+use Rattle.seat_programs.specs.Calls.{Call, ClaimSlot, CreateLife, AddRef, SubRef, SetOdd, Recycle, FreeSlot, StoreLink, LoadLink, ResetHead, ClearCode, StoreCode, StoreName, LoadName, StoreOpen, LoadOpen, LookWord, FindLink, LoadCode, ClaimRequest, Unconnect, SwapHead, Connect, EmptyHead, ReadNext, ReverseNext, FreeRequest, StorePlace, DropPlace}
 use Rattle.seat_programs.specs.Cores.{Core, word_of, word_after, found_at, words_after}
 use Rattle.sock_runs.specs.Rows.{hand_at}
 use Rattle.sock_runs.specs.May.{May, Finds}
@@ -124,14 +124,10 @@ module _ (p : Plan) (c : Core) (vs : List View) (sound : Sound p c vs) (i : ℕ)
     code_stays (LoadName n) may = loaded (LoadName n) (name_index p n)
     code_stays (StoreOpen o w) may = elsewhere (StoreOpen o w) (open_index p o) _ (λ e. omega (arith, e, inside)) (λ e. omega (arith, e, inside))
     code_stays (LoadOpen o) may = loaded (LoadOpen o) (open_index p o)
-    code_stays (TakeLink k) may = λ version some_. inl (version, refl)
-    code_stays (FinishLink k) may = λ version some_. inl (version, refl)
-    code_stays (PutLink k) may = λ version some_. inl (version, refl)
     code_stays (LookWord id) may = loaded (LookWord id) (ref_index (socket_id_slot id))
     code_stays (FindLink n g) may = loaded (FindLink n g) (link_index n)
     code_stays (LoadCode n g) may = loaded (LoadCode n g) (code_index n)
     code_stays (ClaimRequest id q) may = elsewhere (ClaimRequest id q) (request_index p q) _ (λ e. omega (arith, e, inside)) (λ e. omega (arith, e, inside))
-    code_stays (PutMessage q heading bytes) may = λ version some_. inl (version, refl)
     code_stays (Unconnect q) may = elsewhere (Unconnect q) (next_index p q) _ (λ e. omega (arith, e, inside)) (λ e. omega (arith, e, inside))
     code_stays (SwapHead n own) may = elsewhere (SwapHead n own) (head_index n) _ (λ e. omega (arith, e, inside)) (λ e. omega (arith, e, inside))
     code_stays (Connect q before) may = elsewhere (Connect q before) (next_index p q) _ (λ e. omega (arith, e, inside)) (λ e. omega (arith, e, inside))
@@ -141,3 +137,4 @@ module _ (p : Plan) (c : Core) (vs : List View) (sound : Sound p c vs) (i : ℕ)
     code_stays (FreeRequest q g) may = elsewhere (FreeRequest q g) (request_index p q) _ (λ e. omega (arith, e, inside)) (λ e. omega (arith, e, inside))
     code_stays (StorePlace l k n) may = elsewhere (StorePlace l k n) (place_index p l) _ (λ e. omega (arith, e, inside)) (λ e. omega (arith, e, inside))
     code_stays (DropPlace l k n) may = elsewhere (DropPlace l k n) (place_index p l) _ (λ e. omega (arith, e, inside)) (λ e. omega (arith, e, inside))
+    code_stays _ may = λ version some_. inl (version, refl)

@@ -25,7 +25,7 @@ use Rattle.send_causes.proofs.Closers.{Ends as ReadingEnds}
 use Rattle.send_causes.proofs.ReaderRuns.{Keeps, reader_rights, keeps_along}
 use Rattle.std.specs.Prelude.{slice_get, Some}
 use Rattle.seat_programs.specs.Calls.{Call, SwapHead}
-use Rattle.seat_programs.specs.Programs.{Program, Do, Say, Sent, Rest, TakeMessage, TakeHome, PutHome, PutBytes, AskReady, Write, Aside, Round, Keep, Retries, LAST_VERSION, NO_SOCKET, recycle, release}
+use Rattle.seat_programs.specs.Programs.{Program, Do, Rest, TakeMessage, TakeHome, PutHome, PutBytes, AskReady, Aside, LAST_VERSION, NO_SOCKET, recycle, release}
 use Rattle.seat_programs.specs.Heads.{Retry}
 use Rattle.seat_programs.specs.Clients.{ending_of}
 use Rattle.seat_programs.specs.Cores.{Core, SeatState, resolved, next_step}
@@ -71,34 +71,12 @@ swap_ending (o ∷ os) = λ word. let rest = swap_ending os in either_way (word 
 swap_next : (ws : List Retry) (program : Program) → NoSwap program → NoSwap (next_step (resolved ws program))
 swap_next ws (Do call next) x = x
 swap_next ws Rest x = x
-swap_next ws (Say o outcome next) x = absurd x
-swap_next ws (Sent o next) x = absurd x
-swap_next ws (TakeMessage q next) x = absurd x
-swap_next ws (TakeHome k next) x = absurd x
-swap_next ws (PutHome k n after) x = absurd x
-swap_next ws (PutBytes k asked bytes next) x = absurd x
-swap_next ws (AskReady k next) x = absurd x
-swap_next ws (Write w after) x = absurd x
-swap_next ws (Aside s next) x = absurd x
-swap_next ws (Round head next) x = absurd x
-swap_next ws (Keep r next) x = absurd x
-swap_next ws (Retries requests after) x = absurd x
+swap_next ws _ x = absurd x
 
 swap_first : (program : Program) → NoSwap program → NoSwap (first_step program)
 swap_first (Do call next) x = x
 swap_first Rest x = x
-swap_first (Say o outcome next) x = absurd x
-swap_first (Sent o next) x = absurd x
-swap_first (TakeMessage q next) x = absurd x
-swap_first (TakeHome k next) x = absurd x
-swap_first (PutHome k n after) x = absurd x
-swap_first (PutBytes k asked bytes next) x = absurd x
-swap_first (AskReady k next) x = absurd x
-swap_first (Write w after) x = absurd x
-swap_first (Aside s next) x = absurd x
-swap_first (Round head next) x = absurd x
-swap_first (Keep r next) x = absurd x
-swap_first (Retries requests after) x = absurd x
+swap_first _ x = absurd x
 
 swap_call : (call : Call) (next : ℕ → Program) → NoSwap (Do call next) → IsNoSwap call × ((found : ℕ) → NoSwap (next found))
 swap_call (SwapHead i own) next x = absurd x

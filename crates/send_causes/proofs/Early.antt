@@ -148,15 +148,7 @@ odd_next (Sent o next) x = odd_next next x
 odd_next (Retries requests after) x = odd_next after x
 odd_next Rest x = (x, refl)
 odd_next (Do call next) x = (x, refl)
-odd_next (TakeMessage q next) x = absurd x
-odd_next (TakeHome k next) x = absurd x
-odd_next (PutHome k n after) x = absurd x
-odd_next (PutBytes k asked bytes next) x = absurd x
-odd_next (AskReady k next) x = absurd x
-odd_next (Write w after) x = absurd x
-odd_next (Aside s next) x = absurd x
-odd_next (Round head next) x = absurd x
-odd_next (Keep r next) x = absurd x
+odd_next _ x = absurd x
 
 odd_found : (call : Call) (next : ℕ → Program) → NoOdd (Do call next) → (found : ℕ) → NoOdd (next found)
 odd_found (SetOdd i) next x found = absurd x

@@ -44,11 +44,10 @@ use Rattle.call_causes.specs.Lists.{shows_in}
 use Rattle.id_runs.proofs.Opening.{unused}
 use Rattle.send_causes.specs.Counts.{AreLabelled}
 use Rattle.send_causes.specs.EndedCalls.{Load, loaded_at, loads_of_run, Store, stored_at, stores_of_run}
-use Rattle.send_causes.proofs.Runs.{AreLabelledIn, IsCallOf, behind_ids, asked_by}
+use Rattle.send_causes.proofs.Runs.{AreLabelledIn, IsCallOf, behind_ids, asked_by, none_home}
 use Rattle.send_causes.proofs.EndedTrails.{Trail, lost, Follows}
 use Rattle.send_causes.proofs.EndedPrograms.{client_goes, ending_goes, reader_goes}
 use Rattle.send_causes.proofs.EndedNames.{NameLaw, StoredFor, for_up, lost_true, resolves, moves, name_ticks, tick_loads}
-use Rattle.send_causes.proofs.EndedOnce.{none_home}
 
 -- ## How a run begins
 

@@ -25,12 +25,12 @@ use Rattle.id_rule.specs.Lawful as ids
 use Rattle.id_runs.specs.Held.{IdView, MayId}
 use Rattle.id_runs.specs.Goes.{FitsRetryId, FitsSock, IdGoesOn, SoundIds, IsFittingIds}
 use Rattle.id_runs.proofs.Steps.{finds_ids}
-use Rattle.seat_programs.specs.Asides.{Step, Found, ClaimId, PutCall, MakeId, StoreCall, LoadCall, StoreAt, LoadAt, LoadIdWord, LockId, PostId, UnlockId, EndId, FreeId, TakeCall, TakeBytes, Taking, Bytes, Nothing, NoMore, AtEnd, Closed, Broken, id_slot, id_first}
+use Rattle.seat_programs.specs.Asides.{Step, Found, ClaimId, PutCall, MakeId, StoreCall, StoreAt, LoadAt, LockId, PostId, UnlockId, EndId, FreeId, TakeCall, TakeBytes, Taking, Bytes, Nothing, NoMore, AtEnd, Closed, Broken, id_slot, id_first}
 use Rattle.sock_message.specs.Asked.{Asked, name_of}
 use Rattle.seat_programs.specs.Beside.{found_in, calls_after, more_given}
 use Rattle.seat_programs.specs.Calls.{Call, StoreName, LoadName, FindLink, ClaimRequest, PutMessage, Unconnect, SwapHead}
 use Rattle.seat_programs.specs.Heads.{Retry}
-use Rattle.seat_programs.specs.Programs.{Program, Do, Say, Sent, Rest, TakeMessage, TakeHome, PutHome, PutBytes, AskReady, Write, Aside, Round, Keep, Retries}
+use Rattle.seat_programs.specs.Programs.{Program, Do, Say, Sent, TakeMessage, TakeHome, PutHome, PutBytes, AskReady, Write, Aside, Round, Keep, Retries}
 use Rattle.seat_programs.specs.Cores.{Calls, Core, SeatState, word_of, found_at, words_after, word_after, homes_after, hand_after, lies_at, first_of, others_of, link_place, resolved, waiting_at, next_step, with_seat, stepped}
 use Rattle.seat_programs.specs.declared.task.Task.{Task}
 use Rattle.seat_programs.specs.Ticks.{Moment, IsAnswered, fed, with_places, onto_first, taken, ticked}
@@ -61,18 +61,7 @@ use Rattle.report_fits.proofs.Lists.{all_map}
 pub follows_first : (is_call : Asked → Type 0) (t : Trail) (program : Program) → Follows is_call t program → Follows is_call t (first_step program)
 follows_first is_call t (Write w after) g = block_goes is_call t w after g
 follows_first is_call t (Round head next) g = follows_round is_call t head next g
-follows_first is_call t (Do call next) g = g
-follows_first is_call t (Say o outcome next) g = g
-follows_first is_call t (Sent o next) g = g
-follows_first is_call t Rest g = g
-follows_first is_call t (TakeMessage q next) g = g
-follows_first is_call t (TakeHome k next) g = g
-follows_first is_call t (PutHome k n after) g = g
-follows_first is_call t (PutBytes k asked bytes next) g = g
-follows_first is_call t (AskReady k next) g = g
-follows_first is_call t (Aside step next) g = g
-follows_first is_call t (Keep r next) g = g
-follows_first is_call t (Retries requests after) g = g
+follows_first is_call t _ g = g
 
 -- ## What is known of names and links
 
@@ -270,16 +259,7 @@ resolves is_call t ws (Sent o next) few g = resolves is_call t ws next few g
 resolves is_call t ws (Keep k next) few g = let r = resolves is_call lost (ws ++ k ∷ []) next (few_more ws k few g.0) g.1 in (r.0, ⊎_elim (λ e. inr e) (λ e. inr e) r.1, r.2)
 resolves is_call t [] (Retries requests after) few g = let r = resolves is_call lost [] after tt g in (r.0, ⊎_elim (λ e. inr e) (λ e. inr e) r.1, r.2)
 resolves is_call t (k ∷ ws) (Retries requests after) few g = (lost, inr refl, retry_goes is_call requests k.id k.attempt (Retries requests after) few.0 g)
-resolves is_call t ws (Do call next) few g = (t, inl refl, g)
-resolves is_call t ws Rest few g = (t, inl refl, g)
-resolves is_call t ws (TakeMessage q next) few g = (t, inl refl, g)
-resolves is_call t ws (TakeHome k next) few g = (t, inl refl, g)
-resolves is_call t ws (PutHome k n after) few g = (t, inl refl, g)
-resolves is_call t ws (PutBytes k asked bytes next) few g = (t, inl refl, g)
-resolves is_call t ws (AskReady k next) few g = (t, inl refl, g)
-resolves is_call t ws (Write w after) few g = (t, inl refl, g)
-resolves is_call t ws (Aside step next) few g = (t, inl refl, g)
-resolves is_call t ws (Round head next) few g = (t, inl refl, g)
+resolves is_call t ws _ few g = (t, inl refl, g)
 
 module _ (p : Plan) (q : IdPlan) (narrow : q.slots ≤ 65536) (is_call : Asked → Type 0) (seen : List Store) (clients : List (List Task)) (over : Bool) (c : Core) (vs : List View) (es fs : List Event) (broken : List ℕ) (sound : Sound p c vs) (story : Story p clients over c vs es broken)
     (up : (e : Event) → In e es → In e fs) (ts : List Trail) (law : NameLaw is_call seen es c vs ts) (us : List IdView) (real_ids : SoundIds p q c us) where
@@ -423,10 +403,7 @@ module _ (p : Plan) (q : IdPlan) (narrow : q.slots ≤ 65536) (is_call : Asked �
       ats_behind (PutCall k asked) after found x may shown g = at_same (calls_after (PutCall k asked) found c.calls) refl refl
       ats_behind (MakeId k range) after found x may shown g = beside_id k _ may.0
       ats_behind (StoreCall o id) after found x may shown g = at_else (ids.call_index c.calls.plan o) id (λ n _. λ e. omega (arith, e))
-      ats_behind (LoadCall o) after found x may shown g = ats_here
       ats_behind (StoreAt o w) after found x may shown g = at_stored o w shown g.1
-      ats_behind (LoadAt o) after found x may shown g = ats_here
-      ats_behind (LoadIdWord k) after found x may shown g = ats_here
       ats_behind (LockId k from) after found x may shown g = beside_id k _ may.0
       ats_behind (PostId k from e) after found x may shown g = beside_id k _ may.0
       ats_behind (UnlockId k from advance) after found x may shown g = beside_id k _ may.0
@@ -442,6 +419,7 @@ module _ (p : Plan) (q : IdPlan) (narrow : q.slots ≤ 65536) (is_call : Asked �
           given_more AtEnd = ats_here
           given_more Closed = ats_here
           given_more Broken = ats_here
+      ats_behind _ after found x may shown g = ats_here
 
       -- a step aside
       asides : (step : Step) (next : Found step → Program) (found : Found step) (answer : Option Taking) → found_in step c.calls answer ≡ some found → MayId p q u step → IsShown step → Follows is_call t (Aside step next)

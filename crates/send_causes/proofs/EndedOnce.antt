@@ -2,7 +2,7 @@
 use Rattle.std.proofs.Common.{◌≡◌, ℕ, zero, suc, ◌+◌, ◌-◌, ◌≤◌, ⊎_elim, List, [], ◌∷◌, ◌++◌, length, map, replicate, refl, sym, ◌∙◌, subst, arith}
 use Rattle.std.specs.List.{AllByRecursion}
 use Rattle.std.proofs.lemmas.List.{length-map}
-use mathlib.Core.Option.{some, some-injective, some-ne-none}
+use mathlib.Core.Option.{some, some-injective}
 use lib.ListN.{get_elem?}
 use Rattle.sock_words.specs.declared.plain.Plan.{Plan}
 use Rattle.sock_model.specs.declared.view.View.{View}
@@ -11,12 +11,11 @@ use Rattle.brpc_model.specs.Items.{Item}
 use Rattle.brpc_model.specs.Operations.{Turn}
 use Rattle.corr_core.specs.declared.marks.Plan.{Plan as IdPlan}
 use Rattle.sock_message.specs.Asked.{Asked}
-use Rattle.seat_programs.specs.Beside.{call_at}
 use Rattle.seat_programs.specs.Clients.{ending_of}
 use Rattle.seat_programs.specs.Cores.{Core, SeatState, resolved, next_step}
 use Rattle.seat_programs.specs.declared.task.Sizes.{Sizes}
 use Rattle.seat_programs.specs.declared.task.Task.{Task}
-use Rattle.seat_programs.specs.Programs.{Program, Do, Say, Sent, Rest, TakeMessage, TakeHome, PutHome, PutBytes, AskReady, Write, Aside, Round, Keep, Retries}
+use Rattle.seat_programs.specs.Programs.{Program, Say, Sent, Rest, Keep, Retries}
 use Rattle.seat_programs.specs.Ticks.{Moment, AreAnswered, quiet, ticked, run}
 use Rattle.seat_programs.specs.Tasks.{opens, calls, plan_of, id_plan_of}
 use Rattle.seat_programs.specs.Scripts.{sizes_of, programs, readers_from, all_programs, all_tasks, beginning, opened, set_up, played, IsRunWithCalls}
@@ -39,12 +38,10 @@ use Rattle.call_causes.specs.Lists.{shows_in}
 use Rattle.send_causes.specs.Counts.{AreLabelled}
 use Rattle.send_causes.specs.EndedCalls.{Store, stored_at, stores_of_run, AreStoredOnce}
 use Rattle.send_causes.proofs.Early.{start, go, fitting}
-use Rattle.send_causes.proofs.Runs.{AreLabelledIn, IsCallOf, behind_ids, asked_by, clients_go, readers_go}
+use Rattle.send_causes.proofs.Runs.{AreLabelledIn, IsCallOf, behind_ids, asked_by, clients_go, readers_go, none_waits, none_home}
 use Rattle.send_causes.proofs.Sends.{narrow}
-use Rattle.send_causes.proofs.Ticks.{none_asked}
 use Rattle.send_causes.proofs.EndedTryTicks.{of_try, OnceLaw, moves, once_ticks}
 use Rattle.send_causes.proofs.EndedWhole.{seats_played}
-use Rattle.send_causes.proofs.OwnDecisionsRuns.{none_wait}
 
 -- ## How a run begins
 
@@ -56,11 +53,6 @@ others_stow is_call (suc n) calls os k (suc i) x at = others_stow is_call n call
 all_stow : (is_call : Asked → Type 0) (sizes : Sizes) (cs : List (List Task)) → ((i : ℕ) (ts : List Task) → get_elem? cs i ≡ some ts → AllByRecursion (λ (t : Task). OpCalls is_call t.op) ts) → (calls os : List ℕ) (i : ℕ) (x : Program) → get_elem? (all_programs (programs sizes cs) (readers_from calls 0 os)) i ≡ some x → Labels is_call Idle x
 all_stow is_call sizes cs asks calls os i x e = ⊎_elim (λ a. clients_go is_call sizes cs asks i x a) (λ b. others_stow is_call (32 - length (programs sizes cs)) calls os 0 b.0 x b.1) (appended (programs sizes cs) (replicate (32 - length (programs sizes cs)) Rest ++ readers_from calls 0 os) i x e)
 
-pub none_home : (n k : ℕ) (asked : Asked) → call_at (get_elem? (replicate n (some none_asked)) k) ≡ some asked → ⊥
-none_home zero k asked e = some-ne-none asked (sym e)
-none_home (suc n) zero asked e = some-ne-none asked (sym e)
-none_home (suc n) (suc k) asked e = none_home n k asked e
-
 none_try : (id n : ℕ) (xs : List Program) → total (of_try id n) (map (λ (x : Program). Idle) xs) ≡ 0
 none_try id n [] = refl
 none_try id n (x ∷ xs) = let r = none_try id n xs in omega (arith, r)
@@ -70,22 +62,13 @@ idle_stays is_call (Say o outcome next) g = idle_stays is_call next g
 idle_stays is_call (Sent o next) g = idle_stays is_call next g
 idle_stays is_call (Keep r next) g = absurd (let e = g.0 in cc)
 idle_stays is_call (Retries n after) g = idle_stays is_call after g
-idle_stays is_call (Do call next) g = g
-idle_stays is_call Rest g = g
-idle_stays is_call (TakeMessage r next) g = g
-idle_stays is_call (TakeHome k next) g = g
-idle_stays is_call (PutHome k n after) g = g
-idle_stays is_call (PutBytes k asked bytes next) g = g
-idle_stays is_call (AskReady k next) g = g
-idle_stays is_call (Write w after) g = g
-idle_stays is_call (Aside step next) g = g
-idle_stays is_call (Round head next) g = g
+idle_stays is_call _ g = g
 
 module _ (p : Plan) (q : IdPlan) (narrow : q.slots ≤ 65536) (is_call : Asked → Type 0) (ids : ℕ → ℕ) where
   begins_once : (xs : List Program) → ((i : ℕ) (x : Program) → get_elem? xs i ≡ some x → Labels is_call Idle x) → OnceLaw is_call ids q [] (beginning p q xs) (map (λ (x : Program). Idle) xs)
   begins_once xs goes = record {
-    once = λ id n. (let a = none_try id n xs in let b = none_wait id n q.seats in omega (arith, a, b));
-    made = λ id n some_. absurd (let a = none_try id n xs in let b = none_wait id n q.seats in omega (arith, a, b, some_));
+    once = λ id n. (let a = none_try id n xs in let b = none_waits id n q.seats in omega (arith, a, b));
+    made = λ id n some_. absurd (let a = none_try id n xs in let b = none_waits id n q.seats in omega (arith, a, b, some_));
     calls = λ k asked e. absurd (none_home q.slots k asked e);
     each = length-map xs (λ (x : Program). Idle) ∙ sym (length-map xs (λ (x : Program). record { program = next_step (resolved [] x); hand = [] }));
     programs = λ j seat t es et. let x = mapped (λ (x : Program). record { program = next_step (resolved [] x); hand = [] }) xs j seat es in

@@ -49,13 +49,7 @@ module _ (is_call : Asked → Type 0) where
 
   rounds : (t : Trail) (head : Head) (next : Exit head → Program) → AtLabel is_call head → ((exit : Exit head) → LeavesLabel head exit → Follows is_call (behind lost (λ i w advance u. u) (λ exit u. lost) head exit t) (next exit)) → Follows is_call t (Round head next)
   rounds t (Posts id e w) next at goes = (at, goes)
-  rounds t (Unlocks i w advance) next at goes = (at, goes)
-  rounds t (Decides id asked w e) next at goes = (at, goes)
-  rounds t (Locks i sought w) next at goes = (at, goes)
-  rounds t (Joins id) next at goes = (at, goes)
-  rounds t (Opens o) next at goes = (at, goes)
-  rounds t (Reads r) next at goes = (at, goes)
-  rounds t (Discards l total) next at goes = (at, goes)
+  rounds t _ next at goes = (at, goes)
 
   pub tracks : Tracks lost (λ i w advance t. t) (λ exit t. lost) is_call (Follows is_call)
   tracks = record {

@@ -229,34 +229,17 @@ module _ (k : ℕ) (At : ℕ → ℕ → Type 0) where
   pub tell_first : (h : List Taking) (program : Program) → Tells h program → Tells h (first_step program)
   tell_first h (Write w after) x = absurd x
   tell_first h (Round head next) x = tell_round h head next x
-  tell_first h (Do call next) x = x
-  tell_first h (Say o outcome next) x = x
-  tell_first h (Sent o next) x = x
-  tell_first h Rest x = x
-  tell_first h (TakeMessage q next) x = x
-  tell_first h (TakeHome l next) x = x
-  tell_first h (PutHome l n after) x = x
-  tell_first h (PutBytes l asked bytes next) x = x
-  tell_first h (AskReady l next) x = x
-  tell_first h (Aside step next) x = x
-  tell_first h (Keep r next) x = x
-  tell_first h (Retries requests after) x = x
+  tell_first h _ x = x
 
   pub tell_next : (h : List Taking) (ws : List Retry) (program : Program) → Tells h program → Tells h (next_step (resolved ws program))
   tell_next h ws (Say o outcome next) x = tell_next h ws next x
   tell_next h ws (Sent o next) x = tell_next h ws next x
   tell_next h ws (Keep r next) x = tell_next h (ws ++ r ∷ []) next x
-  tell_next h ws (Retries requests after) x = absurd x
   tell_next h ws (Do call next) x = x
   tell_next h ws Rest x = x
-  tell_next h ws (TakeMessage q next) x = absurd x
-  tell_next h ws (TakeHome l next) x = absurd x
-  tell_next h ws (PutHome l n after) x = absurd x
-  tell_next h ws (PutBytes l asked bytes next) x = absurd x
-  tell_next h ws (AskReady l next) x = absurd x
-  tell_next h ws (Write w after) x = absurd x
   tell_next h ws (Aside step next) x = x
   tell_next h ws (Round head next) x = x
+  tell_next h ws _ x = absurd x
 
   -- the reader's program
   pub reader_tells : (calls : List ℕ) (o : ℕ) → Tells [] (reader calls k o)

@@ -22,7 +22,7 @@ use Rattle.seat_programs.specs.Posts.{ends_call}
 use Rattle.seat_programs.specs.Writings.{Puts, Waits, Empties, Walks}
 use Rattle.seat_programs.specs.Programs.{Program, Do, TakeMessage, TakeHome, PutHome, PutBytes, AskReady, Write, Aside, Round, Retries}
 use Rattle.seat_programs.specs.Cores.{Core, SeatState, word_of, found_at, waiting_at}
-use Rattle.seat_programs.specs.Ticks.{Answer, Unasked, OfPut, OfReady, OfTake, Moment, taken, with_message, with_link, with_put, with_ready, with_found, step_with, tick_with, ticked}
+use Rattle.seat_programs.specs.Ticks.{Answer, OfPut, OfReady, OfTake, Moment, taken, with_message, with_link, with_put, with_ready, with_found, step_with, tick_with, ticked}
 use Rattle.sock_runs.specs.Sound.{first_step}
 use Rattle.outcome_causes.specs.Stories.{In}
 use Rattle.call_causes.specs.owed_calls.proofs.OwingRuns.{same_first}
@@ -116,9 +116,7 @@ module _ (p : Plan) (n : ℕ) (At : ℕ → ℕ → Type 0) where
       takes : (l room : ℕ) (next : Taking → Program) → ((t : Taking) → Tells n At (h ++ t ∷ []) (next t)) → (a : Answer)
           → HasTold (h ++ map (at_last c.calls.ending) (as_taken (map (λ (j : ℕ). a) (l ∷ [])))) (with_found p m.seat seat c (TakeBytes l room) (taking_in c.calls.ending (taken a)) next)
       takes l room next x (OfTake t) = λ s at_s. set_own (h ++ at_last c.calls.ending t ∷ []) _ (tell_next n At (h ++ at_last c.calls.ending t ∷ []) _ (next (at_last c.calls.ending t)) (x (at_last c.calls.ending t))) s at_s
-      takes l room next x Unasked = still c before
-      takes l room next x (OfPut a) = still c before
-      takes l room next x (OfReady a) = still c before
+      takes l room next x _ = still c before
 
       loaded : (o : ℕ) (next : ℕ → Program) → first_step seat.program ≡ Aside (LoadAt o) next → At o (slice_index c.calls.words (at_index c.calls.plan o))
       loaded o next is = loads (record { seat = m.seat; operation = o; word = slice_index c.calls.words (at_index c.calls.plan o) }) (subst (In (record { seat = m.seat; operation = o; word = slice_index c.calls.words (at_index c.calls.plan o) })) (sym same) (inl refl)) own

@@ -18,12 +18,12 @@ use Rattle.corr_core.specs.declared.marks.Plan.{Plan as IdPlan}
 use Rattle.id_runs.specs.Held.{IdView, MayId}
 use Rattle.id_runs.specs.Goes.{FindsId, IdGoesOn, SoundIds, IsFittingIds}
 use Rattle.id_runs.proofs.Steps.{finds_ids}
-use Rattle.seat_programs.specs.Asides.{Step, Found, ClaimId, PutCall, MakeId, StoreCall, LoadCall, StoreAt, LoadAt, LoadIdWord, LockId, PostId, UnlockId, EndId, FreeId, TakeCall, TakeBytes, Taking, call_id, id_slot, id_first}
+use Rattle.seat_programs.specs.Asides.{Step, Found, PutCall, MakeId, StoreCall, StoreAt, UnlockId, TakeCall, Taking, call_id, id_slot, id_first}
 use Rattle.sock_message.specs.Asked.{Asked}
 use Rattle.seat_programs.specs.Beside.{found_in, calls_after}
 use Rattle.seat_programs.specs.Calls.{Call, PutMessage}
 use Rattle.seat_programs.specs.Heads.{Retry}
-use Rattle.seat_programs.specs.Programs.{Program, Do, Say, Sent, Rest, TakeMessage, TakeHome, PutHome, PutBytes, AskReady, Write, Aside, Round, Keep, Retries}
+use Rattle.seat_programs.specs.Programs.{Program, Do, Say, Sent, Rest, TakeMessage, TakeHome, PutHome, PutBytes, AskReady, Aside, Keep, Retries}
 use Rattle.seat_programs.specs.Cores.{Calls, Core, SeatState, word_of, found_at, words_after, word_after, homes_after, hand_after, lies_at, first_of, others_of, link_place, resolved, still_waiting, waiting_at, next_step, with_seat}
 use Rattle.seat_programs.specs.Ticks.{Moment, IsAnswered, fed, with_places, onto_first, taken, step_with, tick_with, ticked}
 use Rattle.sock_runs.specs.Sound.{Sound, first_step}
@@ -97,16 +97,7 @@ resolves is_call t ws (Keep k next) few g = let r = resolves is_call Idle (ws ++
 }
 resolves is_call t [] (Retries requests after) few g = let r = resolves is_call Idle [] after tt g in record { trial = r.trial; stows = r.stows; fewer = λ id n. (let a = r.fewer id n in omega (arith, a)) }
 resolves is_call t (k ∷ ws) (Retries requests after) few g = record { trial = Tries k.id k.attempt; stows = retry_goes is_call requests k.id k.attempt (Retries requests after) few.0 g; fewer = λ id n. omega arith }
-resolves is_call t ws (Do call next) few g = stays is_call t ws (Do call next) g refl
-resolves is_call t ws Rest few g = stays is_call t ws Rest g refl
-resolves is_call t ws (TakeMessage q next) few g = stays is_call t ws (TakeMessage q next) g refl
-resolves is_call t ws (TakeHome k next) few g = stays is_call t ws (TakeHome k next) g refl
-resolves is_call t ws (PutHome k n after) few g = stays is_call t ws (PutHome k n after) g refl
-resolves is_call t ws (PutBytes k asked bytes next) few g = stays is_call t ws (PutBytes k asked bytes next) g refl
-resolves is_call t ws (AskReady k next) few g = stays is_call t ws (AskReady k next) g refl
-resolves is_call t ws (Write w after) few g = stays is_call t ws (Write w after) g refl
-resolves is_call t ws (Aside step next) few g = stays is_call t ws (Aside step next) g refl
-resolves is_call t ws (Round head next) few g = stays is_call t ws (Round head next) g refl
+resolves is_call t ws program few g = stays is_call t ws program g refl
 
 kept_count : (id n : ℕ) (t u : Trial) → Kept t u → of_try id n u ≤ of_try id n t
 kept_count id n t u (inl e) = let z : of_try id n u ≡ of_try id n t = ap (of_try id n) e in omega (arith, z)
@@ -322,18 +313,10 @@ module _ (p : Plan) (q : IdPlan) (narrow : q.slots ≤ 65536) (is_call : Asked �
           by true hit y e h = let m = advances_new p q c us real_ids i u at k from found is (eqb-true found from hit) may (finds_label p q c us real_ids i u at (UnlockId k from true) found may (finds u at (UnlockId k from true) next found answer is may tt)) in
               let b = makes u at (UnlockId k from true) next found answer is may tt (call_id k (parts from).first) ((parts from).attempt + 1) (subst (λ z. Labels is_call z (next found)) (e ∙ ap (λ b. cond b (Tries (call_id k (parts from).first) ((parts from).attempt + 1)) t) hit) h) m.0 m.1 in (b.trials, b.behind)
           by false miss y e h = let b = aside u at (UnlockId k from true) next found answer is may tt y h (λ id n. kept_count id n t y (inl (e ∙ ap (λ b. cond b (Tries (call_id k (parts from).first) ((parts from).attempt + 1)) t) miss))) in (b.trials, b.behind)
-      asides (ClaimId k) next found answer is may g own = let x = g found tt in let b = aside u at (ClaimId k) next found answer is may tt x.0 x.2 (λ id n. kept_count id n t x.0 x.1) in (b.trials, b.behind)
       asides (PutCall k asked) next found answer is may g own = let x = g found tt in let b = aside u at (PutCall k asked) next found answer is may x.1.1 x.0 x.2 (λ id n. kept_count id n t x.0 x.1.0) in (b.trials, b.behind)
       asides (StoreCall o id) next found answer is may g own = let x = g found tt in let b = aside u at (StoreCall o id) next found answer is may tt x.0 x.2 (λ id n. kept_count id n t x.0 x.1) in (b.trials, b.behind)
-      asides (LoadCall o) next found answer is may g own = let x = g found tt in let b = aside u at (LoadCall o) next found answer is may tt x.0 x.2 (λ id n. kept_count id n t x.0 x.1) in (b.trials, b.behind)
-      asides (LoadAt o) next found answer is may g own = let x = g found tt in let b = aside u at (LoadAt o) next found answer is may tt x.0 x.2 (λ id n. kept_count id n t x.0 x.1) in (b.trials, b.behind)
-      asides (LoadIdWord k) next found answer is may g own = let x = g found tt in let b = aside u at (LoadIdWord k) next found answer is may tt x.0 x.2 (λ id n. kept_count id n t x.0 x.1) in (b.trials, b.behind)
-      asides (LockId k from) next found answer is may g own = let x = g found tt in let b = aside u at (LockId k from) next found answer is may tt x.0 x.2 (λ id n. kept_count id n t x.0 x.1) in (b.trials, b.behind)
-      asides (PostId k from e) next found answer is may g own = let x = g found tt in let b = aside u at (PostId k from e) next found answer is may tt x.0 x.2 (λ id n. kept_count id n t x.0 x.1) in (b.trials, b.behind)
-      asides (EndId k) next found answer is may g own = let x = g found tt in let b = aside u at (EndId k) next found answer is may tt x.0 x.2 (λ id n. kept_count id n t x.0 x.1) in (b.trials, b.behind)
-      asides (FreeId k) next found answer is may g own = let x = g found tt in let b = aside u at (FreeId k) next found answer is may tt x.0 x.2 (λ id n. kept_count id n t x.0 x.1) in (b.trials, b.behind)
       asides (TakeCall k) next found answer is may g own = let x = g found (law.calls k found is) in let b = aside u at (TakeCall k) next found answer is may tt x.0 x.2 (λ id n. kept_count id n t x.0 x.1) in (b.trials, b.behind)
-      asides (TakeBytes k room) next found answer is may g own = let x = g found tt in let b = aside u at (TakeBytes k room) next found answer is may tt x.0 x.2 (λ id n. kept_count id n t x.0 x.1) in (b.trials, b.behind)
+      asides other next found answer is may g own = let x = g found tt in let b = aside u at other next found answer is may tt x.0 x.2 (λ id n. kept_count id n t x.0 x.1) in (b.trials, b.behind)
 
   -- a tick of any seat
   module _ (vs : List View) (sound : Sound p c vs) (m : Moment) (answered : IsAnswered c m) (fitting : IsFittingIds p c m) (own : StoresOwn ids c m) where

@@ -20,7 +20,7 @@ use Rattle.seat_programs.specs.declared.task.Task.{Task}
 use Rattle.seat_programs.specs.declared.task.Sizes.{Sizes}
 use Rattle.seat_programs.specs.Calls.{PutMessage}
 use Rattle.seat_programs.specs.Writings.{Holder, Writing, Puts, Waits, Empties, Walks}
-use Rattle.seat_programs.specs.Asides.{Found, Taking, Bytes, Nothing, NoMore, AtEnd, Closed, Broken, call_id, id_slot, id_first}
+use Rattle.seat_programs.specs.Asides.{Found, Taking, Bytes, Nothing, Closed, call_id, id_slot, id_first}
 use Rattle.seat_programs.specs.Heads.{Head, Exit, Retry, Sought, Reading, Ended, Posts, Unlocks, Decides, Locks, Joins, Opens, Reads, Discards, Posting, WasGone, WasStale, WasCrowded, WasQueued, HasLocked, Unlocking, IsOpen, HasNext, Deciding, HasEnded, GoesOn, Locking, NotThere, Has}
 use Rattle.seat_programs.specs.Programs.{Program, Do, Say, Sent, Rest, TakeMessage, TakeHome, PutHome, PutBytes, AskReady, Write, Aside, Round, Keep, Retries, LAST_VERSION, LAST_GENERATION, NO_SOCKET, recycle, release, address, reach, set_failed, fail, fail_outcome, hold, drop_held, open_from, make_socket}
 use Rattle.seat_programs.specs.Posts.{WHOLE, packed, advance_of, is_first, is_sought, is_stale, is_full, judged, posts_round, post_with, posted, post, popped, unlocks_round, ends_call, end_id, decide, decided, unlocked, decides_round, locking, locks_round, joins_round}
@@ -137,10 +137,7 @@ module _ (mine : ℕ → Type 0) where
 
     firsts_posted : (id e : ℕ) (next : Program) → G next → (exit : Posting) → G (posted id e next exit)
     firsts_posted id e next after (HasLocked word) = firsts_decide id word e (decided id next) (firsts_decided id next after)
-    firsts_posted id e next after WasGone = after
-    firsts_posted id e next after WasStale = after
-    firsts_posted id e next after (WasCrowded a b) = after
-    firsts_posted id e next after WasQueued = after
+    firsts_posted id e next after _ = after
 
     firsts_post : (id c attempt : ℕ) (next : Program) → G next → G (post id c attempt next)
     firsts_post id c attempt next after = firsts_post_with id (error_of c attempt) (posted id (error_of c attempt) next) (firsts_posted id (error_of c attempt) next after)
@@ -179,18 +176,13 @@ module _ (mine : ℕ → Type 0) where
         firsts_responses r.ids s.frames r.kept (λ kept. read_on (record { ids = r.ids; link = r.link; id = r.id; rest = r.rest; total = r.total + length bytes; kept = kept }) (r.rest ++ bytes) s.ending k)
         (λ kept. firsts_read_on (record { ids = r.ids; link = r.link; id = r.id; rest = r.rest; total = r.total + length bytes; kept = kept }) (r.rest ++ bytes) s.ending k after)
     firsts_took r k after Nothing = after
-    firsts_took r k after NoMore = after (ended_by 1014 false false r)
-    firsts_took r k after AtEnd = after (ended_by 1014 false false r)
     firsts_took r k after Closed = after (ended_by 1014 true false r)
-    firsts_took r k after Broken = after (ended_by 1014 false false r)
+    firsts_took r k after _ = after (ended_by 1014 false false r)
 
     firsts_discarded : (l total : ℕ) (k : ℕ → Program) → ((x : ℕ) → G (k x)) → (t : Taking) → G (discarded l total k t)
     firsts_discarded l total k after (Bytes bytes) = either_way (nat_lt (total + length bytes) LIMIT) _ _ G (after) (after (total + length bytes))
     firsts_discarded l total k after Nothing = after
-    firsts_discarded l total k after NoMore = after total
-    firsts_discarded l total k after AtEnd = after total
-    firsts_discarded l total k after Closed = after total
-    firsts_discarded l total k after Broken = after total
+    firsts_discarded l total k after _ = after total
 
     firsts_freed : (now : ℕ) (next : Program) → G next → G (freed now next)
     firsts_freed now next after = either_way (generation_of now == LAST_GENERATION) _ _ G after ((λ _. after))
@@ -250,10 +242,7 @@ module _ (mine : ℕ → Type 0) where
 
     firsts_posted_last : (id e : ℕ) (kept : List Frame) (next : Program) → G next → (exit : Posting) → G (posted_last id e kept next exit)
     firsts_posted_last id e kept next after (HasLocked word) = firsts_ends_with id e word (kept_for id (parts word).range kept) next after
-    firsts_posted_last id e kept next after WasGone = after
-    firsts_posted_last id e kept next after WasStale = after
-    firsts_posted_last id e kept next after (WasCrowded a b) = after
-    firsts_posted_last id e kept next after WasQueued = after
+    firsts_posted_last id e kept next after _ = after
 
     firsts_post_each : (os : List ℕ) (k c : ℕ) (kept : List Frame) (next : Program) → G next → G (post_each os k c kept next)
     firsts_post_each [] k c kept next after = after
@@ -393,18 +382,7 @@ module _ (mine : ℕ → Type 0) where
   pub firsts_first : (low : ℕ) (program : Program) → Firsts low program → Firsts low (first_step program)
   firsts_first low (Write w after) x = firsts_block low w after x
   firsts_first low (Round head next) x = firsts_round low head next x
-  firsts_first low (Do call next) x = x
-  firsts_first low (Say o outcome next) x = x
-  firsts_first low (Sent o next) x = x
-  firsts_first low Rest x = x
-  firsts_first low (TakeMessage q next) x = x
-  firsts_first low (TakeHome k next) x = x
-  firsts_first low (PutHome k n after) x = x
-  firsts_first low (PutBytes k asked bytes next) x = x
-  firsts_first low (AskReady k next) x = x
-  firsts_first low (Aside step next) x = x
-  firsts_first low (Keep r next) x = x
-  firsts_first low (Retries requests after) x = x
+  firsts_first low _ x = x
 
   abbrev pub AreLater : List Retry → Type 0
   AreLater ws = AllByRecursion (λ (r : Retry). r.attempt ≢ 0) ws
@@ -419,13 +397,4 @@ module _ (mine : ℕ → Type 0) where
   firsts_next low ws (Keep r next) later x = firsts_next low (ws ++ r ∷ []) next (later_more ws r later x.0) x.1
   firsts_next low [] (Retries requests after) later x = firsts_next low [] after later x
   firsts_next low (r ∷ ws) (Retries requests after) later x = (firsts_retry low requests r.id r.attempt later.0 (Retries requests after) x, later.1)
-  firsts_next low ws (Do call next) later x = (x, later)
-  firsts_next low ws Rest later x = (x, later)
-  firsts_next low ws (TakeMessage q next) later x = (x, later)
-  firsts_next low ws (TakeHome k next) later x = (x, later)
-  firsts_next low ws (PutHome k n after) later x = (x, later)
-  firsts_next low ws (PutBytes k asked bytes next) later x = (x, later)
-  firsts_next low ws (AskReady k next) later x = (x, later)
-  firsts_next low ws (Write w after) later x = (x, later)
-  firsts_next low ws (Aside step next) later x = (x, later)
-  firsts_next low ws (Round head next) later x = (x, later)
+  firsts_next low ws _ later x = (x, later)

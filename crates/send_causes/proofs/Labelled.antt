@@ -8,7 +8,7 @@ use Rattle.corr_core.specs.declared.marks.Plan.{Plan as IdPlan}
 use Rattle.brpc_model.specs.Items.{Item}
 use Rattle.brpc_model.specs.Operations.{Turn}
 use Rattle.seat_programs.specs.Asides.{StoreAt, call_id, id_slot, id_first}
-use Rattle.seat_programs.specs.Programs.{Program, Do, Say, Sent, Rest, TakeMessage, TakeHome, PutHome, PutBytes, AskReady, Write, Aside, Round, Keep, Retries}
+use Rattle.seat_programs.specs.Programs.{Program, Do, Write, Aside, Round}
 use Rattle.seat_programs.specs.Clients.{ending_of}
 use Rattle.seat_programs.specs.Cores.{Core}
 use Rattle.seat_programs.specs.Ticks.{Moment, quiet, ticked, run}
@@ -35,18 +35,7 @@ use Rattle.send_causes.proofs.Runs.{AreLabelledIn}
 owns_first : (has : ℕ → ℕ) (mine : ℕ → Bool) (b : Behind) (program : Program) → Owns has mine b program → (d : Behind) × Owns has mine d (first_step program)
 owns_first has mine b (Write w after) g = (Other, (block_goes has mine w after (record { goes = λ more h d. owns_any more mine d after (g more h) })).goes has (grows_same has) Other)
 owns_first has mine b (Round head next) g = (b, owns_round has mine b head next g)
-owns_first has mine b (Do call next) g = (b, g)
-owns_first has mine b (Say o outcome next) g = (b, g)
-owns_first has mine b (Sent o next) g = (b, g)
-owns_first has mine b Rest g = (b, g)
-owns_first has mine b (TakeMessage r next) g = (b, g)
-owns_first has mine b (TakeHome k next) g = (b, g)
-owns_first has mine b (PutHome k n after) g = (b, g)
-owns_first has mine b (PutBytes k asked bytes next) g = (b, g)
-owns_first has mine b (AskReady k next) g = (b, g)
-owns_first has mine b (Aside step next) g = (b, g)
-owns_first has mine b (Keep r next) g = (b, g)
-owns_first has mine b (Retries requests after) g = (b, g)
+owns_first has mine b _ g = (b, g)
 
 -- the id that an at word names
 named_id : (id k n w : ℕ) → w ≡ at_word (id_first id) (id_slot id) k n → k < 65535 → n ≤ 6 → id_slot id < 65536 → call_id (at_word_slot w) (at_word_first w) ≡ id

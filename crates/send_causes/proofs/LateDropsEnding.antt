@@ -32,7 +32,7 @@ use Rattle.call_causes.specs.joint_runs.proofs.Runs.{AreMade, first_views}
 use Rattle.send_causes.specs.Refused.{DidStep, DidAt, DidIn}
 use Rattle.send_causes.proofs.Early.{start, go, fitting}
 use Rattle.send_causes.proofs.LateLives.{WasPast, Lives, lives_tell, lives_ticks}
-use Rattle.send_causes.proofs.LateLooks.{Mode, Idle, Saw, Claims, Writes}
+use Rattle.send_causes.proofs.LateLooks.{Mode, Idle, Writes}
 use Rattle.send_causes.proofs.LateRests.{none_stands, ended_idle, Any}
 use Rattle.send_causes.proofs.LateSeats.{Righted, rights_of, Stands, AllStand, Tells, stand_ticks}
 
@@ -43,9 +43,7 @@ module _ (p : Plan) (base : Core) (L : ℕ → Type 0) where
 
   late_right : (m : Mode) (k : ℕ) → rights_of p L Old m k → L k
   late_right Writes k x = x
-  late_right Idle k x = absurd x
-  late_right (Saw id) k x = absurd x
-  late_right Claims k x = absurd x
+  late_right _ k x = absurd x
 
   -- whoever drops a message writes its link
   drop_right : (m : Mode) (v : View) → Stands p L Old m v → (l k n : ℕ) → May p v (DropPlace l k n) → L k

@@ -15,12 +15,12 @@ use Rattle.sock_steps.proofs.Quiet.{either_way}
 use Rattle.corr_core.specs.Word.{parts}
 use Rattle.seat_programs.specs.Calls.{Call, CreateLife}
 use Rattle.seat_programs.specs.Drops.{call_in}
-use Rattle.seat_programs.specs.Heads.{Head, Exit, Posts, Unlocks, Decides, Locks, Joins, Opens, Reads, Discards}
+use Rattle.seat_programs.specs.Heads.{Head, Exit, Decides, Locks}
 use Rattle.seat_programs.specs.Posts.{ends_call}
 use Rattle.seat_programs.specs.Programs.{Program, Do, Write, Round}
 use Rattle.seat_programs.specs.Rounds.{round}
 use Rattle.seat_programs.specs.Sends.{block}
-use Rattle.seat_programs.specs.Writings.{Writing, Puts, Waits, Empties, Walks}
+use Rattle.seat_programs.specs.Writings.{Writing, Puts}
 use Rattle.seat_programs.specs.Cores.{Core, SeatState, word_of, word_after, found_at, words_after, homes_after}
 use Rattle.seat_programs.specs.Ticks.{Moment, IsAnswered, ticked}
 use Rattle.sock_runs.specs.Rows.{row, hand_at}
@@ -44,20 +44,13 @@ IsBirthless other = Unit {0}
 
 birthless_block : (w : Writing) (after : Program) → IsBirthless (block w after)
 birthless_block (Puts h now heading left taken asked) after = tt
-birthless_block (Waits h now heading left taken) after = tt
-birthless_block (Empties h) after = tt
-birthless_block (Walks h top at after_) after = tt
+birthless_block _ after = tt
 
 birthless_round : (head : Head) (next : Exit head → Program) → IsBirthless (round head next)
-birthless_round (Posts id e w) next = tt
-birthless_round (Unlocks i w advance) next = tt
 birthless_round (Decides id asked w e) next = either_way (ends_call (parts w) e) _ _ IsBirthless tt tt
 birthless_round (Locks i sought (std.Some w)) next = tt
 birthless_round (Locks i sought std.None) next = tt
-birthless_round (Joins id) next = tt
-birthless_round (Opens o) next = tt
-birthless_round (Reads r) next = tt
-birthless_round (Discards k total) next = tt
+birthless_round _ next = tt
 
 -- where a seat's next step makes a life, the tick shows its link
 begins_birth : (i k : ℕ) (next : ℕ → Program) (program : Program) → first_step program ≡ Do (CreateLife i k) next → born_of (call_in program) ≡ k ∷ []

@@ -161,10 +161,7 @@ module _ (m : Mode) where
 
   looks_posted : (id e : ℕ) (next : Program) → G next → (exit : Posting) → G (posted id e next exit)
   looks_posted id e next after (HasLocked word) = looks_decide id word e (decided id next) (looks_decided id next after)
-  looks_posted id e next after WasGone = after
-  looks_posted id e next after WasStale = after
-  looks_posted id e next after (WasCrowded a b) = after
-  looks_posted id e next after WasQueued = after
+  looks_posted id e next after _ = after
 
   looks_post : (id c attempt : ℕ) (next : Program) → G next → G (post id c attempt next)
   looks_post id c attempt next after = looks_post_with id (error_of c attempt) (posted id (error_of c attempt) next) (looks_posted id (error_of c attempt) next after)
@@ -411,18 +408,7 @@ looks_round m (Discards k total) next x = subst (λ n. Looks n (discards_round k
 pub looks_first : (m : Mode) (program : Program) → Looks m program → Looks m (first_step program)
 looks_first m (Write w after) x = subst (λ n. Looks n (block w after)) (sym x.0) (looks_block w after x.1)
 looks_first m (Round head next) x = looks_round m head next x
-looks_first m (Do call next) x = x
-looks_first m (Say o outcome next) x = x
-looks_first m (Sent o next) x = x
-looks_first m Rest x = x
-looks_first m (TakeMessage q next) x = x
-looks_first m (TakeHome k next) x = x
-looks_first m (PutHome k n after) x = x
-looks_first m (PutBytes k asked bytes next) x = x
-looks_first m (AskReady k next) x = x
-looks_first m (Aside step next) x = x
-looks_first m (Keep r next) x = x
-looks_first m (Retries requests after) x = x
+looks_first m _ x = x
 
 -- from the same in hand on, or from nothing where there was nothing
 abbrev pub Eased : Mode → Program → Type 0
@@ -441,13 +427,4 @@ looks_next m ws (Sent o next) x = looks_next m ws next x
 looks_next m ws (Keep r next) x = looks_next m (ws ++ r ∷ []) next x
 looks_next m [] (Retries requests after) x = calmed m x.0 (next_step (resolved [] after)) (looks_next Idle [] after x.1)
 looks_next m (r ∷ ws) (Retries requests after) x = (Idle, inr (x.0, refl), looks_retry requests r.id r.attempt (Retries requests after) (λ n calm. (calm, x.1)))
-looks_next m ws (Do call next) x = (m, inl refl, x)
-looks_next m ws Rest x = (m, inl refl, x)
-looks_next m ws (TakeMessage q next) x = (m, inl refl, x)
-looks_next m ws (TakeHome k next) x = (m, inl refl, x)
-looks_next m ws (PutHome k n after) x = (m, inl refl, x)
-looks_next m ws (PutBytes k asked bytes next) x = (m, inl refl, x)
-looks_next m ws (AskReady k next) x = (m, inl refl, x)
-looks_next m ws (Write w after) x = (m, inl refl, x)
-looks_next m ws (Aside step next) x = (m, inl refl, x)
-looks_next m ws (Round head next) x = (m, inl refl, x)
+looks_next m ws _ x = (m, inl refl, x)

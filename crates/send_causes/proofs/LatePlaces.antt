@@ -11,7 +11,7 @@ use Rattle.sock_model.specs.declared.chain.Right.{Right}
 use Rattle.sock_model.specs.declared.view.View.{View}
 use Rattle.sock_model.specs.Deliveries.{place_value}
 use Rattle.sock_model.specs.Layout.{tag_index, ref_index, link_index, head_index, code_index, name_index, open_index, request_index, next_index, place_index}
-use Rattle.seat_programs.specs.Calls.{Call, ClaimSlot, CreateLife, AddRef, SubRef, SetOdd, Recycle, FreeSlot, StoreLink, LoadLink, ResetHead, ClearCode, StoreCode, StoreName, LoadName, StoreOpen, LoadOpen, TakeLink, FinishLink, PutLink, LookWord, FindLink, LoadCode, ClaimRequest, PutMessage, Unconnect, SwapHead, Connect, EmptyHead, ReadNext, ReverseNext, FreeRequest, StorePlace, DropPlace}
+use Rattle.seat_programs.specs.Calls.{Call, ClaimSlot, CreateLife, AddRef, SubRef, SetOdd, Recycle, FreeSlot, StoreLink, LoadLink, ResetHead, ClearCode, StoreCode, StoreName, LoadName, StoreOpen, LoadOpen, LookWord, FindLink, LoadCode, ClaimRequest, Unconnect, SwapHead, Connect, EmptyHead, ReadNext, ReverseNext, FreeRequest, StorePlace, DropPlace}
 use Rattle.seat_programs.specs.Cores.{Core, word_of, word_after, found_at, words_after}
 use Rattle.seat_programs.specs.Ticks.{Moment, IsAnswered, AreAnswered, ticked, run}
 use Rattle.sock_runs.specs.May.{May}
@@ -27,7 +27,7 @@ use Rattle.call_causes.specs.joint_runs.proofs.Both.{AreBounded}
 use Rattle.outcome_causes.specs.Facts.{born_at, shown_in}
 use Rattle.outcome_causes.specs.Stories.{In}
 use Rattle.outcome_causes.proofs.Plain.{in_left, in_right}
-use Rattle.send_causes.proofs.LateLooks.{Mode, Idle, Saw, Claims, Writes}
+use Rattle.send_causes.proofs.LateLooks.{Mode, Writes}
 use Rattle.send_causes.proofs.LateSeats.{Righted, rights_of, Stands, AllStand, stand_ticks}
 use Rattle.send_causes.proofs.LateLives.{WasPast, Lives, lives_tell, lives_ticks}
 
@@ -44,9 +44,7 @@ module _ (p : Plan) (base : Core) (L : ℕ → Type 0) where
 
   late_right : (m : Mode) (k : ℕ) → rights_of p L (WasPast p base L) m k → L k
   late_right Writes k x = x
-  late_right Idle k x = absurd x
-  late_right (Saw id) k x = absurd x
-  late_right Claims k x = absurd x
+  late_right _ k x = absurd x
 
   -- ## A step
 
@@ -91,14 +89,10 @@ module _ (p : Plan) (base : Core) (L : ℕ → Type 0) where
     place_after (LoadName n) may = inl (ap (λ xs. get_or xs (place_index p l) 0) (set-get_or c.words (name_index p n) 0))
     place_after (StoreOpen n w) may = inl (let slot = may.0 in get_or-set_other c.words (open_index p n) (place_index p l) w 0 (λ e. omega arith))
     place_after (LoadOpen n) may = inl (ap (λ xs. get_or xs (place_index p l) 0) (set-get_or c.words (open_index p n) 0))
-    place_after (TakeLink k) may = inl (refl)
-    place_after (FinishLink k) may = inl (refl)
-    place_after (PutLink k) may = inl (refl)
     place_after (LookWord id) may = inl (ap (λ xs. get_or xs (place_index p l) 0) (set-get_or c.words (ref_index (socket_id_slot id)) 0))
     place_after (FindLink i h) may = inl (ap (λ xs. get_or xs (place_index p l) 0) (set-get_or c.words (link_index i) 0))
     place_after (LoadCode i h) may = inl (ap (λ xs. get_or xs (place_index p l) 0) (set-get_or c.words (code_index i) 0))
     place_after (ClaimRequest id q) may = inl (let slot = may.0 in get_or-set_other c.words (request_index p q) (place_index p l) (word_after (ClaimRequest id q) (get_or c.words (request_index p q) 0)) 0 (λ e. omega arith))
-    place_after (PutMessage q heading bytes) may = inl (refl)
     place_after (Unconnect q) may = inl (let slot = may.0 in get_or-set_other c.words (next_index p q) (place_index p l) (word_after (Unconnect q) 0) 0 (λ e. omega arith))
     place_after (SwapHead i own) may = inl (let slot = may.0 in get_or-set_other c.words (head_index i) (place_index p l) own 0 (λ e. omega arith))
     place_after (Connect q before) may = inl (let slot = may.0 in get_or-set_other c.words (next_index p q) (place_index p l) before 0 (λ e. omega arith))
@@ -110,6 +104,7 @@ module _ (p : Plan) (base : Core) (L : ℕ → Type 0) where
         (subst (λ z. z < MOST_PLACES) (sym may.4) (places_small p (state c vs) sound.lawful i v at x.mine.place x.mine.right x.mine.has few x.now x.stage))
     place_after (DropPlace n k position) may = let x = may.0 in let y = late_one x.mine.right may.1 in place_stored true n k position (subst L (sym may.3) y.0) (subst (λ z. z < p.links) (sym may.3) y.1)
         (subst (λ z. z < MOST_PLACES) (sym may.4) (places_small p (state c vs) sound.lawful i v at x.mine.place x.mine.right x.mine.has few x.now x.stage))
+    place_after _ may = inl (refl)
 
   -- ## Ticks
 

@@ -16,7 +16,7 @@ use Rattle.brpc_model.specs.Operations.{Turn}
 use Rattle.seat_programs.specs.declared.task.Sizes.{Sizes}
 use Rattle.seat_programs.specs.declared.task.Task.{Task}
 use Rattle.seat_programs.specs.Clients.{client_from}
-use Rattle.seat_programs.specs.Heads.{Head, Exit, Posts, Unlocks, Decides, Locks, Joins, Opens, Reads, Discards}
+use Rattle.seat_programs.specs.Heads.{Head, Exit, Posts, Unlocks, Decides}
 use Rattle.seat_programs.specs.Programs.{Program, Rest, Round}
 use Rattle.seat_programs.specs.Cores.{Core, SeatState, resolved, next_step}
 use Rattle.seat_programs.specs.Runs.{IsAtRest}
@@ -117,11 +117,7 @@ waits_idle : (p : Plan) (c : Core) (answer : Answer) (m : Mode) (head : Head) (n
 waits_idle p c answer m (Posts id e w) next is x = absurd (true≢false (sym is))
 waits_idle p c answer m (Unlocks i w advance) next is x = absurd (true≢false (sym is))
 waits_idle p c answer m (Decides id asked w e) next is x = absurd (true≢false (sym is))
-waits_idle p c answer m (Locks i sought w) next is x = x.0
-waits_idle p c answer m (Joins id) next is x = x.0
-waits_idle p c answer m (Opens o) next is x = x.0
-waits_idle p c answer m (Reads r) next is x = x.0
-waits_idle p c answer m (Discards k total) next is x = x.0
+waits_idle p c answer m _ next is x = x.0
 
 of_seat : (p : Plan) (c : Core) (m : Moment) (j : ℕ) (seat : SeatState) → m.seat ≡ j → get_elem? c.seats j ≡ some seat → waits p c m ≡ true → waits_at p c m.answer seat.program ≡ true
 of_seat p c m j seat same at is = sym (ap (λ (o : Option SeatState). elim o as (λ o. Bool) [ none ↦ false | some seat ↦ waits_at p c m.answer seat.program ]) (ap (get_elem? c.seats) same ∙ at)) ∙ is

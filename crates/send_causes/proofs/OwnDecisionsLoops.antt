@@ -1,12 +1,11 @@
 -- One round of each loop keeps to what its seat tries and posts.
-use Rattle.std.proofs.Common.{◌≡◌, ◌≢◌, ℕ, ◌+◌, ◌≤◌, ◌⊎◌, inl, inr, ◌&&◌, not, Bool, true, false, cond, eqb, eqb-true, leb, nat_lt, List, [], ◌∷◌, ◌++◌, Option, Some, None, length, refl, sym, ap, ◌∙◌, subst, arith}
+use Rattle.std.proofs.Common.{◌≡◌, ◌≢◌, ℕ, ◌+◌, ◌≤◌, ◌⊎◌, inl, inr, ◌&&◌, not, Bool, true, false, cond, eqb, eqb-true, leb, nat_lt, List, [], ◌∷◌, ◌++◌, Option, Some, None, length, refl, sym, ap, ◌∙◌, subst}
 use Rattle.brpc_model.specs.Frame.{Frame}
 use Rattle.brpc_model.specs.Stream as streams
 use Rattle.corr_core.specs.Word.{Parts, parts, posted_word, unlocked_word, code_of, attempt_of, error_of}
 use Rattle.corr_core.specs.Law.{LAST}
-use Rattle.id_runs.proofs.Keeps.{parts_packed}
 use Rattle.sock_message.specs.Asked.{Asked}
-use Rattle.seat_programs.specs.Asides.{FreeId, UnlockId, Taking, Bytes, Nothing, NoMore, AtEnd, Closed, Broken, PutCall, id_slot, id_first, call_id}
+use Rattle.seat_programs.specs.Asides.{FreeId, UnlockId, Taking, Bytes, Nothing, Closed, PutCall, id_slot, id_first, call_id}
 use Rattle.seat_programs.specs.Heads.{Head, Exit, Sought, First, Version, Reading, Posts, Unlocks, Decides, Locks, Joins, Opens, Reads, Discards, Retry, Posting, WasGone, WasStale, WasCrowded, WasQueued, HasLocked, Unlocking, IsOpen, HasNext, Deciding, HasEnded, GoesOn, Locking, NotThere, Has, Ended}
 use Rattle.seat_programs.specs.Posts.{WHOLE, packed, advance_of, is_first, is_sought, is_stale, is_full, judged, posted, post_with, post, popped, end_id, ends_call, decide, decided, unlocked, locking}
 use Rattle.seat_programs.specs.Programs.{Program, Say, Aside, Round}
@@ -15,7 +14,7 @@ use Rattle.seat_programs.specs.Rounds.{round}
 use Rattle.label_runs.specs.Labels.{IsSoughtWord}
 use Rattle.label_runs.proofs.Loops.{id_back, not_true, not_equal, and_left, locked_parts}
 use Rattle.send_causes.proofs.OwnDecisionsStands.{Stand, Calm, Trying, Past, Posted, Eases, MayPost, MayDecide, IsTryingAt, FindsAside, unlocked_stand, unlocks_stand, posted_stand, locked_stand, LeavesUnlock, LeavesStand, Aims}
-use Rattle.send_causes.proofs.Words.{state_fits}
+use Rattle.send_causes.proofs.Words.{unlocked_is}
 
 pub way : (s : Stand) (b : Bool) (x y : Program) → (b ≡ true → Aims s x) → (b ≡ false → Aims s y) → Aims s (cond b x y)
 way s true x y f g = f refl
@@ -129,18 +128,12 @@ decided_goes id next goes GoesOn = goes
 
 pub posted_goes : (id e : ℕ) (next : Program) → Aims Calm next → (exit : Posting) → LeavesStand (Posts id e 0) exit → Aims (posted_stand id e exit) (posted id e next exit)
 posted_goes id e next goes (HasLocked w) l = decide_goes (Posted id e) (Posted id e) id w e (decided id next) (inl refl) l (inr refl) (decided_goes id next goes)
-posted_goes id e next goes WasGone l = goes
-posted_goes id e next goes WasStale l = goes
-posted_goes id e next goes (WasCrowded a b) l = goes
-posted_goes id e next goes WasQueued l = goes
+posted_goes id e next goes _ l = goes
 
 pub post_goes : (s : Stand) (id c n : ℕ) (next : Program) → Eases s (Past id n) → Aims Calm next → Aims s (post id c n next)
 post_goes s id c n next eases goes = post_with_goes s (Past id n) id (error_of c n) (posted id (error_of c n) next) eases (inr (c, n, refl, refl)) (posted_goes id (error_of c n) next goes)
 
 -- ## Giving a lock back
-
-pub word_after : (from : ℕ) (advance : Bool) → (parts from).attempt + advance_of advance ≤ 6 → parts (packed (unlocked_word (parts from) (advance_of advance))) ≡ unlocked_word (parts from) (advance_of advance)
-word_after from advance low = parts_packed (unlocked_word (parts from) (advance_of advance)) (state_fits (eqb (parts from).oldest 0)) (omega arith) (omega arith) (omega (arith, low)) (omega arith) (omega arith)
 
 module _ (s : Stand) (i from : ℕ) (advance : Bool) (k : Unlocking → Program) (trying : advance ≡ false → IsTryingAt s i (parts from).first) (goes : (exit : Unlocking) → LeavesStand (Unlocks i from advance) exit → Aims (unlocks_stand i from advance s) (k exit)) where
   abbrev after : ℕ
@@ -176,7 +169,7 @@ module _ (s : Stand) (i from : ℕ) (advance : Bool) (k : Unlocking → Program)
   first_as x y e (IsOpen w) l = tt
 
   pops : (low : (parts from).attempt + advance_of advance ≤ 6) → ((parts from).oldest ≢ 0 → is_stale (parts from).oldest (unlocked_word (parts from) (advance_of advance)) ≡ false → attempt_of (parts from).oldest ≡ WHOLE) → Aims (unlocks_stand i from advance s) (popped i (parts from).oldest after k)
-  pops low whole = let is = word_after from advance low in let first : (parts after).first ≡ (parts from).first = ap (λ (w : Parts). w.first) (word_after from advance low) in
+  pops low whole = let is = unlocked_is from advance low in let first : (parts after).first ≡ (parts from).first = ap (λ (w : Parts). w.first) (unlocked_is from advance low) in
       way (unlocks_stand i from advance s) (eqb (parts from).oldest 0) (k (IsOpen after)) (cond (is_stale (parts from).oldest (parts after)) (Round (Unlocks i after false) k) (k (HasNext after (parts from).oldest)))
       (λ _. goes (IsOpen after) (low, tt))
       (λ some_. way (unlocks_stand i from advance s) (is_stale (parts from).oldest (parts after)) (Round (Unlocks i after false) k) (k (HasNext after (parts from).oldest))
@@ -243,18 +236,13 @@ took_goes r k goes (Bytes bytes) = let s = streams.stream (r.rest ++ bytes) in
     by_ending r' bytes (streams.Rest n) = let x : Reading = record r' { rest = last_of n bytes } in way Calm (nat_lt r'.total LIMIT) (Round (Reads x) k) (k (how_ended 1014 false false x)) (λ _. (tt, λ exit _. goes exit)) (λ _. goes (how_ended 1014 false false x))
     by_ending r' bytes (streams.Fault at_ fault) = goes (how_ended 2002 false true r')
 took_goes r k goes Nothing = (tt, λ exit _. goes exit)
-took_goes r k goes NoMore = goes (how_ended 1014 false false r)
-took_goes r k goes AtEnd = goes (how_ended 1014 false false r)
 took_goes r k goes Closed = goes (how_ended 1014 true false r)
-took_goes r k goes Broken = goes (how_ended 1014 false false r)
+took_goes r k goes _ = goes (how_ended 1014 false false r)
 
 discarded_goes : (l total : ℕ) (k : ℕ → Program) → ((exit : ℕ) → Aims Calm (k exit)) → (t : Taking) → Aims Calm (discarded l total k t)
 discarded_goes l total k goes (Bytes bytes) = way Calm (nat_lt (total + length bytes) LIMIT) (Round (Discards l (total + length bytes)) k) (k (total + length bytes)) (λ _. (tt, λ exit _. goes exit)) (λ _. goes (total + length bytes))
 discarded_goes l total k goes Nothing = (tt, λ exit _. goes exit)
-discarded_goes l total k goes NoMore = goes total
-discarded_goes l total k goes AtEnd = goes total
-discarded_goes l total k goes Closed = goes total
-discarded_goes l total k goes Broken = goes total
+discarded_goes l total k goes _ = goes total
 
 -- one round of each loop
 pub aims_round : (s : Stand) (head : Head) (k : Exit head → Program) → Aims s (Round head k) → Aims s (round head k)

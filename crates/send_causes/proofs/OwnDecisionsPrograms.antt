@@ -18,9 +18,9 @@ use Rattle.seat_programs.specs.declared.task.Sizes.{Sizes}
 use Rattle.seat_programs.specs.declared.task.Task.{Task}
 use Rattle.seat_programs.specs.Asides.{StoreAt, call_id, id_slot, id_first}
 use Rattle.seat_programs.specs.Attempts.{claims_from, heading_for, attempt, begin_call, claim_id, call, tried_again, retry_locked, retry, expire_outcome, expire, join}
-use Rattle.seat_programs.specs.Calls.{Call, SubRef, AddRef, StoreCode, LoadLink, TakeLink, FinishLink, PutLink, FreeSlot, LoadName, FreeRequest, ReadNext, FindLink, LookWord, ReverseNext, Connect}
+use Rattle.seat_programs.specs.Calls.{Call, SubRef, StoreCode, LoadLink, TakeLink, FinishLink, PutLink, FreeSlot, FreeRequest, ReadNext, FindLink, LookWord, ReverseNext, Connect}
 use Rattle.seat_programs.specs.Clients.{HeldLife, held_under, without_name, give_back, drop_of, operation, client_from, ending_of}
-use Rattle.seat_programs.specs.Heads.{First, Posts, Joins, Reads, Discards, Posting, WasGone, WasStale, WasCrowded, WasQueued, HasLocked, Unlocking, IsOpen, HasNext, Locking, NotThere, Has, Ended}
+use Rattle.seat_programs.specs.Heads.{First, Posts, Joins, Reads, Discards, Posting, HasLocked, Unlocking, IsOpen, HasNext, Locking, NotThere, Has, Ended}
 use Rattle.seat_programs.specs.Parts.{part}
 use Rattle.seat_programs.specs.Posts.{WHOLE, post_with, posted, post, decided}
 use Rattle.seat_programs.specs.Programs.{Program, Do, Say, Sent, Rest, TakeMessage, TakeHome, PutBytes, Write, Aside, Round, NO_SOCKET, LAST_VERSION, LAST_GENERATION, recycle, release, address, reach, set_failed, make_socket, open_from, fail_outcome, fail}
@@ -388,10 +388,7 @@ ends_goes id e w (f ∷ fs) next first goes = answer_goes (Posted id e) f (id_fi
 
 last_goes : (id e : ℕ) (kept : List Frame) (next : Program) → Aims Calm next → (exit : Posting) → LeavesStand (Posts id e 0) exit → Aims (posted_stand id e exit) (posted_last id e kept next exit)
 last_goes id e kept next goes (HasLocked w) l = ends_goes id e w (kept_for id (parts w).range kept) next l goes
-last_goes id e kept next goes WasGone l = goes
-last_goes id e kept next goes WasStale l = goes
-last_goes id e kept next goes (WasCrowded a b) l = goes
-last_goes id e kept next goes WasQueued l = goes
+last_goes id e kept next goes _ l = goes
 
 -- behind an at word that was loaded
 abbrev Loaded : ℕ → Program → Type 0

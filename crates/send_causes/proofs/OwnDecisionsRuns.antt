@@ -22,7 +22,7 @@ use Rattle.seat_programs.specs.Asides.{call_id, id_slot, id_first}
 use Rattle.seat_programs.specs.Clients.{client_from}
 use Rattle.seat_programs.specs.Cores.{Core, SeatState, resolved, next_step}
 use Rattle.seat_programs.specs.Posts.{WHOLE}
-use Rattle.seat_programs.specs.Programs.{Program, Do, Say, Sent, Rest, TakeMessage, TakeHome, PutHome, PutBytes, AskReady, Write, Aside, Round, Keep, Retries}
+use Rattle.seat_programs.specs.Programs.{Program, Say, Sent, Rest, Keep, Retries}
 use Rattle.seat_programs.specs.Readers.{reader}
 use Rattle.seat_programs.specs.Runs.{IsAtRest}
 use Rattle.seat_programs.specs.Scripts.{opening_homes, programs, readers_from, all_programs, beginning}
@@ -42,12 +42,13 @@ use Rattle.call_causes.proofs.Claiming.{HaveSlots}
 use Rattle.call_causes.proofs.Leading.{run_leads}
 use Rattle.call_causes.proofs.Numbered.{AreNumbered}
 use Rattle.call_causes.proofs.Run.{Story, one_tick, in_either}
-use Rattle.send_causes.specs.Counts.{of_retry, word_of_id}
+use Rattle.send_causes.specs.Counts.{word_of_id}
 use Rattle.send_causes.proofs.OwnDecisionsHomes.{HandFits, HomesFit}
 use Rattle.send_causes.proofs.OwnDecisionsPrograms.{client_goes, reader_goes}
 use Rattle.send_causes.proofs.OwnDecisionsStands.{Stand, Calm, Aims}
 use Rattle.send_causes.proofs.OwnDecisionsTicks.{of_stand, IsPast, StandFits, HeadFits, AimLaw, QueuedAt, AreQueued, law_more, aim_ticks, decided_own}
 use Rattle.call_causes.proofs.Attempts.{in_front}
+use Rattle.send_causes.proofs.Runs.{none_waits}
 
 -- ## Lists
 
@@ -183,10 +184,6 @@ pub all_aim : (sizes : Sizes) (cs : List (List Task)) (calls os : List ℕ) (i :
 all_aim sizes cs calls os i x e = ⊎_elim (λ a. (let t = mapped (client_from sizes []) cs i x a in subst (Aims Calm) t.2 (client_goes sizes [] t.0)))
     (λ b. others_aim (32 - length (programs sizes cs)) calls os 0 b.0 x b.1) (appended (programs sizes cs) (replicate (32 - length (programs sizes cs)) Rest ++ readers_from calls 0 os) i x e)
 
-pub none_wait : (id n m : ℕ) → total (total (of_retry id n)) (replicate m []) ≡ 0
-none_wait id n zero = refl
-none_wait id n (suc m) = let r = none_wait id n m in omega (arith, r)
-
 none_try : (id n : ℕ) (xs : List Program) → total (of_stand id n) (map (λ (x : Program). Calm) xs) ≡ 0
 none_try id n [] = refl
 none_try id n (x ∷ xs) = let r = none_try id n xs in omega (arith, r)
@@ -196,16 +193,7 @@ calm_stays (Say o outcome next) g = calm_stays next g
 calm_stays (Sent o next) g = calm_stays next g
 calm_stays (Keep r next) g = absurd (let e = g.0 in cc)
 calm_stays (Retries n after) g = calm_stays after g
-calm_stays (Do call next) g = g
-calm_stays Rest g = g
-calm_stays (TakeMessage r next) g = g
-calm_stays (TakeHome k next) g = g
-calm_stays (PutHome k n after) g = g
-calm_stays (PutBytes k asked bytes next) g = g
-calm_stays (AskReady k next) g = g
-calm_stays (Write w after) g = g
-calm_stays (Aside step next) g = g
-calm_stays (Round head next) g = g
+calm_stays _ g = g
 
 module _ (p : Plan) (q : IdPlan) where
   no_messages : (F : Heading → Type 0) → HomesFit F (opening_homes p)
@@ -215,8 +203,8 @@ module _ (p : Plan) (q : IdPlan) where
 
   pub begins_aims : (xs : List Program) → ((i : ℕ) (x : Program) → get_elem? xs i ≡ some x → Aims Calm x) → AimLaw q (λ x. In x []) (λ j x. ⊥) (beginning p q xs) (map (λ (x : Program). Calm) xs)
   begins_aims xs goes = record {
-    once = λ id n. (let a = none_try id n xs in let b = none_wait id n q.seats in omega (arith, a, b));
-    made = λ id n some_. absurd (let a = none_try id n xs in let b = none_wait id n q.seats in omega (arith, a, b, some_));
+    once = λ id n. (let a = none_try id n xs in let b = none_waits id n q.seats in omega (arith, a, b));
+    made = λ id n some_. absurd (let a = none_try id n xs in let b = none_waits id n q.seats in omega (arith, a, b, some_));
     each = length-map xs (λ (x : Program). Calm) ∙ sym (length-map xs (λ (x : Program). record { program = next_step (resolved [] x); hand = [] }));
     programs = λ j seat s es et. let x = mapped (λ (x : Program). record { program = next_step (resolved [] x); hand = [] }) xs j seat es in
         subst (λ (z : SeatState). Aims s z.program) x.2 (subst (λ y. Aims y (next_step (resolved [] x.0))) (mapped (λ (x : Program). Calm) xs j s et).2 (calm_stays x.0 (goes j x.0 x.1)));

@@ -31,9 +31,9 @@ use Rattle.seat_programs.specs.Beside.{found_in, calls_after}
 use Rattle.seat_programs.specs.Calls.{Call, PutMessage}
 use Rattle.seat_programs.specs.Heads.{Retry, Decides}
 use Rattle.seat_programs.specs.Posts.{WHOLE, packed, advance_of, is_stale}
-use Rattle.seat_programs.specs.Programs.{Program, Do, Say, Sent, Rest, TakeMessage, TakeHome, PutHome, PutBytes, AskReady, Write, Aside, Round, Keep, Retries}
+use Rattle.seat_programs.specs.Programs.{Program, Do, Say, Sent, TakeMessage, TakeHome, PutHome, PutBytes, AskReady, Write, Aside, Round, Keep, Retries}
 use Rattle.seat_programs.specs.Cores.{Calls, Core, SeatState, word_of, found_at, words_after, word_after, homes_after, hand_after, lies_at, first_of, others_of, link_place, resolved, still_waiting, waiting_at, next_step, with_seat}
-use Rattle.seat_programs.specs.Ticks.{Answer, Unasked, OfPut, OfReady, OfTake, Moment, fed, with_places, onto_first, taken, with_message, with_link, with_put, with_ready, with_found, step_with, tick_with, ticked}
+use Rattle.seat_programs.specs.Ticks.{Answer, OfPut, OfReady, Moment, fed, with_places, onto_first, taken, with_message, with_link, with_put, with_ready, with_found, step_with, tick_with, ticked}
 use Rattle.sock_runs.specs.Sound.{first_step}
 use Rattle.call_causes.specs.Decided.{posted_by, Decision, decision_in, decided_at}
 use Rattle.call_causes.specs.Posts.{Post, posts_by, posted_with, posted_at}
@@ -167,32 +167,12 @@ resolves s ws (Keep k next) few g = let r = resolves Calm (ws ++ k ∷ []) next 
 }
 resolves s [] (Retries requests after) few g = let r = resolves Calm [] after tt g in record { stand = r.stand; aims = r.aims; fewer = λ id n. (let a = r.fewer id n in omega (arith, a)); is = ⊎_elim (λ e. inr (inl e)) (λ e. inr e) r.is }
 resolves s (k ∷ ws) (Retries requests after) few g = record { stand = Trying k.id k.attempt; aims = retry_goes requests k.id k.attempt (Retries requests after) few.0 g; fewer = λ id n. omega arith; is = inr (inr (k.id, k.attempt, refl, few.0)) }
-resolves s ws (Do call next) few g = stays s ws (Do call next) g refl
-resolves s ws Rest few g = stays s ws Rest g refl
-resolves s ws (TakeMessage q next) few g = stays s ws (TakeMessage q next) g refl
-resolves s ws (TakeHome k next) few g = stays s ws (TakeHome k next) g refl
-resolves s ws (PutHome k n after) few g = stays s ws (PutHome k n after) g refl
-resolves s ws (PutBytes k asked bytes next) few g = stays s ws (PutBytes k asked bytes next) g refl
-resolves s ws (AskReady k next) few g = stays s ws (AskReady k next) g refl
-resolves s ws (Write w after) few g = stays s ws (Write w after) g refl
-resolves s ws (Aside step next) few g = stays s ws (Aside step next) g refl
-resolves s ws (Round head next) few g = stays s ws (Round head next) g refl
+resolves s ws program few g = stays s ws program g refl
 
 pub aims_first : (s : Stand) (program : Program) → Aims s program → Aims s (first_step program)
 aims_first s (Write w after) g = block_goes s w after g
 aims_first s (Round head next) g = aims_round s head next g
-aims_first s (Do call next) g = g
-aims_first s (Say o outcome next) g = g
-aims_first s (Sent o next) g = g
-aims_first s Rest g = g
-aims_first s (TakeMessage q next) g = g
-aims_first s (TakeHome k next) g = g
-aims_first s (PutHome k n after) g = g
-aims_first s (PutBytes k asked bytes next) g = g
-aims_first s (AskReady k next) g = g
-aims_first s (Aside step next) g = g
-aims_first s (Keep r next) g = g
-aims_first s (Retries requests after) g = g
+aims_first s _ g = g
 
 eased_count : (id n : ℕ) (s u : Stand) → Eases s u → of_stand id n u ≤ of_stand id n s
 eased_count id n s u (inl e) = let z : of_stand id n u ≡ of_stand id n s = ap (of_stand id n) e in omega (arith, z)
@@ -400,15 +380,11 @@ module _ (p : Plan) (q : IdPlan) (narrow : q.slots ≤ 65536) (Taken : Post → 
 
     by_put : (bytes : List ℕ) (next : Put → Program) → ((answer : Put) → Aims s (next answer)) → (answer : Answer) → Result [] (with_put p i seat c bytes answer next)
     by_put bytes next go (OfPut answer) = same (next answer) (onto_first (fed bytes answer) seat.hand) c.words c.homes (old_homes s) (fed_fits (HeadFits (Behind s)) bytes answer seat.hand (old_hands s)) (go answer)
-    by_put bytes next go Unasked = before
-    by_put bytes next go (OfReady r) = before
-    by_put bytes next go (OfTake t) = before
+    by_put bytes next go _ = before
 
     by_ready : (next : Ready → Program) → ((answer : Ready) → Aims s (next answer)) → (answer : Answer) → Result [] (with_ready p i seat c answer next)
     by_ready next go (OfReady answer) = same (next answer) seat.hand c.words c.homes (old_homes s) (old_hands s) (go answer)
-    by_ready next go Unasked = before
-    by_ready next go (OfPut a) = before
-    by_ready next go (OfTake t) = before
+    by_ready next go _ = before
 
     -- ## Steps aside
 
@@ -420,21 +396,17 @@ module _ (p : Plan) (q : IdPlan) (narrow : q.slots ≤ 65536) (Taken : Post → 
       -- the at words stay in any other step
       word_kept : (step : Step) (found : Found step) → MayId p q u step → StoresNone step → (o : ℕ) → get_or (calls_after step found c.calls).words (at_index q o) 0 ≡ get_or c.calls.words (at_index q o) 0
       word_kept (ClaimId k) found may none_ o = low_kept (tag_index k) 1 o (omega (arith, may))
-      word_kept (PutCall k b) found may none_ o = refl
       word_kept (MakeId k range) found may none_ o = let inside = may.0 in low_kept (id_index k) (packed (made_word (parts found).first range)) o (omega (arith, inside))
       word_kept (StoreCall x id) found may none_ o = subst (λ (r : IdPlan). get_or (set c.calls.words (call_index r x) id) (at_index q o) 0 ≡ get_or c.calls.words (at_index q o) 0) (sym ids.plan) (get_or-set_other c.calls.words (call_index q x) (at_index q o) id 0 (λ e. omega (arith, e)))
-      word_kept (LoadCall x) found may none_ o = refl
       word_kept (StoreAt x w) found may none_ o = absurd none_
-      word_kept (LoadAt x) found may none_ o = refl
-      word_kept (LoadIdWord k) found may none_ o = refl
       word_kept (LockId k from) found may none_ o = let inside = may.0 in low_kept (id_index k) (cond (eqb found from) (packed (posted_word (parts from) 0)) found) o (omega (arith, inside))
       word_kept (PostId k from e) found may none_ o = let inside = may.0 in low_kept (id_index k) (cond (eqb found from) (packed (posted_word (parts from) e)) found) o (omega (arith, inside))
       word_kept (UnlockId k from advance) found may none_ o = let inside = may.0 in low_kept (id_index k) (cond (eqb found from) (packed (unlocked_word (parts from) (advance_of advance))) found) o (omega (arith, inside))
       word_kept (EndId k) found may none_ o = let inside = may.0 in low_kept (id_index k) (packed (free_word ((parts found).first + (parts found).range))) o (omega (arith, inside))
       word_kept (FreeId k) found may none_ o = let inside = may.0 in low_kept (tag_index k) 0 o (omega (arith, inside))
-      word_kept (TakeCall k) found may none_ o = refl
       word_kept (TakeBytes l room) (Bytes bytes) may none_ o = refl
       word_kept (TakeBytes l room) _ may none_ o = refl
+      word_kept _ found may none_ o = refl
 
       module _ (step : Step) (next : Found step → Program) (found : Found step) (t : Option Taking) (is : found_in step c.calls t ≡ some found) (may : MayId p q u step) where
         finds : FindsId p q u step found
@@ -650,13 +622,7 @@ module _ (p : Plan) (q : IdPlan) (narrow : q.slots ≤ 65536) (Taken : Post → 
       steps known answer (PutBytes k asked bytes next) g go fits = by_put bytes next g answer
       steps known answer (AskReady k next) g go fits = by_ready next g answer
       steps known answer (Aside step next) g go fits = by_found known step next (taken answer) go.0 g (found_in step c.calls (taken answer)) refl
-      steps known answer (Say o outcome next) g go fits = before
-      steps known answer (Sent o next) g go fits = before
-      steps known answer Rest g go fits = before
-      steps known answer (Write w after) g go fits = before
-      steps known answer (Round head next) g go fits = before
-      steps known answer (Keep r next) g go fits = before
-      steps known answer (Retries requests after) g go fits = before
+      steps known answer _ g go fits = before
 
   -- ## A tick of any seat
 

@@ -8,7 +8,7 @@ use Rattle.sock_words.specs.declared.plain.Plan.{Plan}
 use Rattle.sock_model.specs.declared.chain.Right.{Right}
 use Rattle.sock_model.specs.declared.view.View.{View}
 use Rattle.sock_model.specs.Layout.{tag_index, ref_index, link_index, head_index, code_index, name_index, open_index, request_index, next_index, place_index}
-use Rattle.seat_programs.specs.Calls.{Call, ClaimSlot, CreateLife, AddRef, SubRef, SetOdd, Recycle, FreeSlot, StoreLink, LoadLink, ResetHead, ClearCode, StoreCode, StoreName, LoadName, StoreOpen, LoadOpen, TakeLink, FinishLink, PutLink, LookWord, FindLink, LoadCode, ClaimRequest, PutMessage, Unconnect, SwapHead, Connect, EmptyHead, ReadNext, ReverseNext, FreeRequest, StorePlace, DropPlace}
+use Rattle.seat_programs.specs.Calls.{Call, ClaimSlot, CreateLife, AddRef, SubRef, SetOdd, Recycle, FreeSlot, StoreLink, LoadLink, ResetHead, ClearCode, StoreCode, StoreName, LoadName, StoreOpen, LoadOpen, LookWord, FindLink, LoadCode, ClaimRequest, Unconnect, SwapHead, Connect, EmptyHead, ReadNext, ReverseNext, FreeRequest, StorePlace, DropPlace}
 use Rattle.seat_programs.specs.Cores.{Core, word_of, word_after, found_at, words_after}
 use Rattle.seat_programs.specs.Ticks.{Moment, IsAnswered, ticked}
 use Rattle.sock_runs.specs.May.{May}
@@ -39,14 +39,10 @@ places_same p ws v l low none_ (StoreName n w) may = let slot = may.0 in get_or-
 places_same p ws v l low none_ (LoadName n) may = ap (λ xs. get_or xs (place_index p l) 0) (set-get_or ws (name_index p n) 0)
 places_same p ws v l low none_ (StoreOpen n w) may = let slot = may.0 in get_or-set_other ws (open_index p n) (place_index p l) w 0 (λ e. omega arith)
 places_same p ws v l low none_ (LoadOpen n) may = ap (λ xs. get_or xs (place_index p l) 0) (set-get_or ws (open_index p n) 0)
-places_same p ws v l low none_ (TakeLink k) may = refl
-places_same p ws v l low none_ (FinishLink k) may = refl
-places_same p ws v l low none_ (PutLink k) may = refl
 places_same p ws v l low none_ (LookWord id) may = ap (λ xs. get_or xs (place_index p l) 0) (set-get_or ws (ref_index (socket_id_slot id)) 0)
 places_same p ws v l low none_ (FindLink i h) may = ap (λ xs. get_or xs (place_index p l) 0) (set-get_or ws (link_index i) 0)
 places_same p ws v l low none_ (LoadCode i h) may = ap (λ xs. get_or xs (place_index p l) 0) (set-get_or ws (code_index i) 0)
 places_same p ws v l low none_ (ClaimRequest id q) may = let slot = may.0 in get_or-set_other ws (request_index p q) (place_index p l) (word_after (ClaimRequest id q) (get_or ws (request_index p q) 0)) 0 (λ e. omega arith)
-places_same p ws v l low none_ (PutMessage q heading bytes) may = refl
 places_same p ws v l low none_ (Unconnect q) may = let slot = may.0 in get_or-set_other ws (next_index p q) (place_index p l) (word_after (Unconnect q) 0) 0 (λ e. omega arith)
 places_same p ws v l low none_ (SwapHead i own) may = let slot = may.0 in get_or-set_other ws (head_index i) (place_index p l) own 0 (λ e. omega arith)
 places_same p ws v l low none_ (Connect q before) may = let slot = may.0 in get_or-set_other ws (next_index p q) (place_index p l) before 0 (λ e. omega arith)
@@ -56,6 +52,7 @@ places_same p ws v l low none_ (ReverseNext q value) may = absurd (no_right v.ri
 places_same p ws v l low none_ (FreeRequest q g) may = absurd (no_right v.rights _ none_ may.4.1)
 places_same p ws v l low none_ (StorePlace m k n) may = absurd (no_right v.rights _ none_ may.1)
 places_same p ws v l low none_ (DropPlace m k n) may = absurd (no_right v.rights _ none_ may.1)
+places_same p ws v l low none_ _ may = refl
 
 -- its tick
 pub places_ticks : (p : Plan) (l : ℕ) → l < 8 * p.operations → (c : Core) (vs : List View) (m : Moment) → Sound p c vs → IsAnswered c m → IsFitting p c m → ((v : View) → get_elem? vs m.seat ≡ some v → v.rights ≡ [])

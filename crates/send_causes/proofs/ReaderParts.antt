@@ -116,10 +116,7 @@ module _ {G : Program → Type 0} (g : ReadsOn G) where
 
   pub posted_last_on : (id e : ℕ) (kept : List Frame) (next : Program) → G next → (exit : Posting) → G (posted_last id e kept next exit)
   posted_last_on id e kept next after (HasLocked word) = ends_with_on id e word (kept_for id (parts word).range kept) next after
-  posted_last_on id e kept next after WasGone = after
-  posted_last_on id e kept next after WasStale = after
-  posted_last_on id e kept next after (WasCrowded a b) = after
-  posted_last_on id e kept next after WasQueued = after
+  posted_last_on id e kept next after _ = after
 
   -- ## Posts
 

@@ -27,7 +27,7 @@ use Rattle.seat_programs.specs.Programs.{Program, Do, Say, Sent, Rest, TakeMessa
 use Rattle.seat_programs.specs.Readers.{room_of, took, discarded, read, reader}
 use Rattle.seat_programs.specs.Cores.{Core, SeatState, word_of, found_at, resolved, next_step, waiting_at, with_seat}
 use Rattle.seat_programs.specs.Ticks.{Answer, Moment, IsAnswer, IsAnswered, IsTaken, FitsTake, taken, with_found, step_with, tick_with, ticked}
-use Rattle.sock_runs.specs.Rows.{row, is_id, found_id, by_claim, by_right, new_claim, filled_claim, ready_claim, looked_clean}
+use Rattle.sock_runs.specs.Rows.{row, is_id, found_id, by_right, new_claim, filled_claim, ready_claim, looked_clean}
 use Rattle.sock_runs.specs.Sound.{Sound, first_step, IsFitting, views_with, views_of, views_after}
 use Rattle.sock_runs.proofs.Leaves.{claim_way}
 use Rattle.sock_runs.proofs.LinkTicks.{RetriesGo}
@@ -168,20 +168,14 @@ module _ (p : Plan) (calls : List ℕ) (n o : ℕ) (inside : o < p.operations) (
   Steady other = ⊥
 
   calm_steady : (id : ℕ) (held : Bool) (h : List Taking) (program : Program) → Calm n id Odd Lasts held h program → Steady program
-  calm_steady id held h (Do call next) x = tt
-  calm_steady id held h (Say o outcome next) x = tt
-  calm_steady id held h (Sent o next) x = tt
-  calm_steady id held h Rest x = tt
   calm_steady id held h (TakeMessage q next) x = absurd x
   calm_steady id held h (TakeHome k next) x = absurd x
   calm_steady id held h (PutHome k m after) x = absurd x
   calm_steady id held h (PutBytes k asked bytes next) x = absurd x
   calm_steady id held h (AskReady k next) x = absurd x
   calm_steady id held h (Write w after) x = absurd x
-  calm_steady id held h (Aside s next) x = tt
-  calm_steady id held h (Round head next) x = tt
-  calm_steady id held h (Keep r next) x = tt
   calm_steady id held h (Retries requests after) x = absurd x
+  calm_steady id held h _ x = tt
 
   steady : (w : ℕ) (h : List Taking) (program : Program) (v : View) → State w h program v → Steady (first_step program)
   steady w h program v (r, inl x) = subst (λ y. Steady (first_step y)) (sym x.0) tt

@@ -51,18 +51,7 @@ ending_goes (o ∷ os) = λ word. way (word == 0) (ending_of os) (cond (word == 
 pub alone : (ws : List Retry) (x : Program) → OnSockets x → next_step (resolved ws x) ≡ x
 alone ws (Do call next) g = refl
 alone ws Rest g = refl
-alone ws (Say o outcome next) g = absurd g
-alone ws (Sent o next) g = absurd g
-alone ws (TakeMessage r next) g = absurd g
-alone ws (TakeHome k next) g = absurd g
-alone ws (PutHome k n after) g = absurd g
-alone ws (PutBytes k asked bytes next) g = absurd g
-alone ws (AskReady k next) g = absurd g
-alone ws (Write w after) g = absurd g
-alone ws (Aside step next) g = absurd g
-alone ws (Round head next) g = absurd g
-alone ws (Keep r next) g = absurd g
-alone ws (Retries many after) g = absurd g
+alone ws _ g = absurd g
 
 pub set_first : {A : Type 0} (xs : List A) (x y : A) → get_elem? xs 0 ≡ some x → get_elem? (set xs 0 y) 0 ≡ some y
 set_first [] x y at = absurd (some-ne-none x (sym at))

@@ -5,7 +5,7 @@ use Rattle.brpc_model.specs.Stream as streams
 use Rattle.corr_core.specs.Word.{Parts, parts, posted_word, unlocked_word, code_of}
 use Rattle.corr_core.specs.Law.{LAST}
 use Rattle.sock_message.specs.Asked.{Asked}
-use Rattle.seat_programs.specs.Asides.{UnlockId, FreeId, Taking, Bytes, Nothing, NoMore, AtEnd, Closed, Broken, PutCall, id_slot, id_first, call_id}
+use Rattle.seat_programs.specs.Asides.{UnlockId, FreeId, Taking, Bytes, Nothing, Closed, PutCall, id_slot, id_first, call_id}
 use Rattle.seat_programs.specs.Calls.{Call}
 use Rattle.seat_programs.specs.Heads.{Head, Exit, Sought, First, Version, Reading, Posts, Unlocks, Decides, Locks, Joins, Opens, Reads, Discards, Retry, Posting, WasGone, WasStale, WasCrowded, WasQueued, HasLocked, Unlocking, IsOpen, HasNext, Deciding, HasEnded, GoesOn, Locking, NotThere, Has, Ended}
 use Rattle.seat_programs.specs.Posts.{packed, advance_of, is_first, is_sought, is_stale, is_full, judged, posted, post_with, popped, end_id, ends_call, decide, decided, unlocked, locking}
@@ -15,7 +15,7 @@ use Rattle.seat_programs.specs.Rounds.{round}
 use Rattle.label_runs.specs.Labels.{Trial, Idle, Tries, Kept, LeavesLabel, LeavesLock, LeavesUnlock, unlocks_trial, unlocked_trial, locked_trial, IsSoughtWord, FindsLabel}
 use Rattle.label_runs.proofs.Loops.{id_back, not_true, not_equal, and_left, locked_parts}
 use Rattle.send_causes.specs.Refused.{Deed, NoCharge, Doing, idle, Moves, Remembers, IsPostOf, Charges, LeavesCode}
-use Rattle.send_causes.proofs.OwnDecisionsLoops.{word_after}
+use Rattle.send_causes.proofs.Words.{unlocked_is}
 
 -- a seat that tries, or none, and has nothing to post
 abbrev pub bare : Trial → List Deed → Doing
@@ -122,10 +122,7 @@ module _ (requests : ℕ) (is_call : Asked → Type 0) (reads : Bool) where
 
   pub posted_goes : (id e : ℕ) (next : Program) → Goes idle next → (exit : Posting) → LeavesLabel (Posts id e 0) exit → Goes idle (posted id e next exit)
   posted_goes id e next goes (HasLocked w) l = decide_goes idle id w e (decided id next) l (decided_goes id next goes)
-  posted_goes id e next goes WasGone l = goes
-  posted_goes id e next goes WasStale l = goes
-  posted_goes id e next goes (WasCrowded a b) l = goes
-  posted_goes id e next goes WasQueued l = goes
+  posted_goes id e next goes _ l = goes
 
   -- ## Giving a lock back
 
@@ -150,7 +147,7 @@ module _ (requests : ℕ) (is_call : Asked → Type 0) (reads : Bool) where
     first_as x y e (IsOpen w) l = tt
 
     pops : (low : (parts from).attempt + advance_of advance ≤ 6) → Goes (bare (unlocks_trial i from advance t) ds) (popped i (parts from).oldest after k)
-    pops low = let first : (parts after).first ≡ (parts from).first = ap (λ (w : Parts). w.first) (word_after from advance low) in let s : Doing = bare (unlocks_trial i from advance t) ds in
+    pops low = let first : (parts after).first ≡ (parts from).first = ap (λ (w : Parts). w.first) (unlocked_is from advance low) in let s : Doing = bare (unlocks_trial i from advance t) ds in
         way (bare (unlocks_trial i from advance t) ds) (eqb (parts from).oldest 0) (k (IsOpen after)) (cond (is_stale (parts from).oldest (parts after)) (Round (Unlocks i after false) k) (k (HasNext after (parts from).oldest)))
         (λ _. goes (IsOpen after) (low, tt))
         (λ _. way (bare (unlocks_trial i from advance t) ds) (is_stale (parts from).oldest (parts after)) (Round (Unlocks i after false) k) (k (HasNext after (parts from).oldest))
@@ -225,18 +222,13 @@ module _ (requests : ℕ) (is_call : Asked → Type 0) (reads : Bool) where
       by_ending r' bytes (streams.Rest n) = let x : Reading = record r' { rest = last_of n bytes } in way idle (nat_lt r'.total LIMIT) (Round (Reads x) k) (k (how_ended 1014 false false x)) (λ _. ((tt, tt), λ exit _ c. goes exit c)) (λ _. goes (how_ended 1014 false false x) (inl refl))
       by_ending r' bytes (streams.Fault at_ fault) = goes (how_ended 2002 false true r') (inr refl)
   took_goes r k goes Nothing = ((tt, tt), λ exit _ c. goes exit c)
-  took_goes r k goes NoMore = goes (how_ended 1014 false false r) (inl refl)
-  took_goes r k goes AtEnd = goes (how_ended 1014 false false r) (inl refl)
   took_goes r k goes Closed = goes (how_ended 1014 true false r) (inl refl)
-  took_goes r k goes Broken = goes (how_ended 1014 false false r) (inl refl)
+  took_goes r k goes _ = goes (how_ended 1014 false false r) (inl refl)
 
   discarded_goes : (l total : ℕ) (k : ℕ → Program) → ((exit : ℕ) → Goes idle (k exit)) → (t : Taking) → Goes idle (discarded l total k t)
   discarded_goes l total k goes (Bytes bytes) = way idle (nat_lt (total + length bytes) LIMIT) (Round (Discards l (total + length bytes)) k) (k (total + length bytes)) (λ _. ((tt, tt), λ exit _ _. goes exit)) (λ _. goes (total + length bytes))
   discarded_goes l total k goes Nothing = ((tt, tt), λ exit _ _. goes exit)
-  discarded_goes l total k goes NoMore = goes total
-  discarded_goes l total k goes AtEnd = goes total
-  discarded_goes l total k goes Closed = goes total
-  discarded_goes l total k goes Broken = goes total
+  discarded_goes l total k goes _ = goes total
 
   joins_goes : (s : Doing) (id : ℕ) (k : ℕ → Program) → ((exit : ℕ) → Goes idle (k exit)) → Goes s (round (Joins id) k)
   joins_goes s id k goes = (tt, λ found _. let_go s.deeds s (cond (is_first (id_first id) (parts found)) (Round (Joins id) k) (k found)) (way idle (is_first (id_first id) (parts found)) (Round (Joins id) k) (k found) (λ _. ((tt, tt), λ exit _ _. goes exit)) (λ _. goes found)))

@@ -15,7 +15,7 @@ use Rattle.seat_programs.specs.Asides.{PutCall}
 use Rattle.seat_programs.specs.Calls.{AddRef, LookWord, LoadName}
 use Rattle.seat_programs.specs.Heads.{Posts, Unlocks, Decides, Locks, Joins, Opens, Reads, Discards}
 use Rattle.seat_programs.specs.Posts.{ends_call}
-use Rattle.seat_programs.specs.Programs.{Program, Do, Say, Sent, Rest, TakeMessage, TakeHome, PutHome, PutBytes, AskReady, Write, Aside, Round, Keep, Retries}
+use Rattle.seat_programs.specs.Programs.{Program, Write, Aside, Round}
 use Rattle.seat_programs.specs.Writings.{Puts, Waits, Empties, Walks}
 use Rattle.seat_programs.specs.Cores.{Core}
 use Rattle.seat_programs.specs.Tasks.{opens, calls, plan_of, id_plan_of}
@@ -56,7 +56,6 @@ put_first other = []
 
 same_put : (program : Program) → put_first (first_step program) ≡ put_by program
 same_put (Aside (PutCall i asked) next) = refl
-same_put (Aside _ next) = refl
 same_put (Round (Decides id asked w e) next) = by (ends_call (parts w) e)
   where
     by : (b : Bool) → put_first (cond b (Rattle.seat_programs.specs.Posts.end_id (Rattle.seat_programs.specs.Asides.id_slot id) (next (Rattle.seat_programs.specs.Heads.HasEnded asked.operation (Rattle.corr_core.specs.Word.code_of e))))
@@ -75,17 +74,7 @@ same_put (Write (Puts h now heading left taken asked) after) = refl
 same_put (Write (Waits h now heading left taken) after) = refl
 same_put (Write (Empties h) after) = refl
 same_put (Write (Walks h top at last) after) = refl
-same_put (Do call next) = refl
-same_put (Say o outcome next) = refl
-same_put (Sent o next) = refl
-same_put Rest = refl
-same_put (TakeMessage r next) = refl
-same_put (TakeHome k next) = refl
-same_put (PutHome k n after) = refl
-same_put (PutBytes k asked bytes next) = refl
-same_put (AskReady k next) = refl
-same_put (Keep r next) = refl
-same_put (Retries many after) = refl
+same_put _ = refl
 
 put_shown : (p : Plan) (ms : List Moment) (c : Core) (j : ℕ) (asked : Asked) → DidIn p c ms j (DidPut asked) → In asked.operation (shown_in put_at p c ms)
 put_shown p [] c j asked x = absurd x

@@ -35,7 +35,7 @@ use Rattle.outcome_causes.proofs.Added.{failer_note, row_adds}
 use Rattle.outcome_causes.proofs.Cases.{tick_cases}
 use Rattle.outcome_causes.proofs.Ticks.{elem_there}
 use Rattle.outcome_causes.proofs.Used.{word_stays}
-use Rattle.send_causes.specs.Refused.{Deed, DidStep, DidPut, DidRound, DidMiss, DidAt, DidIn}
+use Rattle.send_causes.specs.Refused.{Deed, DidStep, DidAt, DidIn}
 
 module _ (p : Plan) where
   -- the life of version h of slot j was failed
@@ -84,9 +84,7 @@ module _ (p : Plan) where
     did_so m j (DidStep call found) x = let v = elem_there c.seats vs j x.1 sound.each x.3 in
         let g : GoesOn p v.0 (Do call x.2) = subst (GoesOn p v.0) x.4 (goes_first p v.0 (begins_round p v.0) (goes_round p v.0) x.1.program (sound.seats j x.1 v.0 x.3 v.1).goes_on) in
         subst (Says c vs call) (sym x.5) (says_of j v.0 v.1 call g.0)
-    did_so m j (DidPut asked) x = tt
-    did_so m j (DidRound w) x = tt
-    did_so m j (DidMiss name o id n) x = tt
+    did_so m j _ x = tt
 
   -- ## Ticks
 
@@ -104,9 +102,7 @@ module _ (p : Plan) where
         by (AddRef id) s = λ ne. let x = s ne in (x.0, failed (socket_id_slot id) (socket_id_version id) x.1)
         by (LookWord id) s = λ odd. let x = s odd in (x.0, failed (socket_id_slot id) (socket_id_version id) x.1)
         by _ s = tt
-    by_parts c' vs' used failed (DidPut asked) so = tt
-    by_parts c' vs' used failed (DidRound w) so = tt
-    by_parts c' vs' used failed (DidMiss name o id n) so = tt
+    by_parts c' vs' used failed _ so = tt
 
     module _ (v : View) (here : get_elem? vs m.seat ≡ some v) where
       -- a move, which leaves words and marks

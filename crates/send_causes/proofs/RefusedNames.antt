@@ -33,7 +33,7 @@ use Rattle.outcome_causes.proofs.Final.{at_there, at_within, idle, final}
 use Rattle.outcome_causes.proofs.Lives.{World, task_of, tells_of}
 use Rattle.outcome_causes.proofs.Members.{from_trace, to_trace}
 use Rattle.outcome_causes.proofs.Ticks.{elem_there, tick_story}
-use Rattle.send_causes.specs.Refused.{Deed, DidStep, DidPut, DidRound, DidMiss, DidAt, DidIn}
+use Rattle.send_causes.specs.Refused.{Deed, DidStep, DidAt, DidIn}
 
 -- ## What was found under names
 
@@ -44,10 +44,7 @@ IsNamed es other = Unit {0}
 
 pub named_more : (es fs : List Event) → ((e : Event) → In e es → In e fs) → (d : Deed) → IsNamed es d → IsNamed fs d
 named_more es fs part (DidStep (LoadName n) found) x = λ some_. let y = x some_ in (y.0, y.1, y.2, part _ y.3)
-named_more es fs part (DidStep _ found) x = tt
-named_more es fs part (DidPut asked) x = tt
-named_more es fs part (DidRound w) x = tt
-named_more es fs part (DidMiss n o id a) x = tt
+named_more es fs part _ x = tt
 
 module _ (p : Plan) (cs : List (List Task)) (are : AreTasks p cs) where
   -- what is found in a tick was stored before it
@@ -55,10 +52,7 @@ module _ (p : Plan) (cs : List (List Task)) (are : AreTasks p cs) where
   named_now over c vs es lost sound story m j (DidStep (LoadName n) found) x = λ some_. let v = elem_there c.seats vs j x.1 sound.each x.3 in
       let g : GoesOn p v.0 (Do (LoadName n) x.2) = subst (GoesOn p v.0) x.4 (goes_first p v.0 (begins_round p v.0) (goes_round p v.0) x.1.program (sound.seats j x.1 v.0 x.3 v.1).goes_on) in
       let same = x.5 ∙ story.named n g.0 in let s = last_some es n (λ z. some_ (same ∙ z)) in (s.0, s.1, s.2, subst (λ w. In (event s.0 s.1 (StoreName n w) s.2) es) (sym same) s.3)
-  named_now over c vs es lost sound story m j (DidStep _ found) x = tt
-  named_now over c vs es lost sound story m j (DidPut asked) x = tt
-  named_now over c vs es lost sound story m j (DidRound w) x = tt
-  named_now over c vs es lost sound story m j (DidMiss n o id a) x = tt
+  named_now over c vs es lost sound story m j _ x = tt
 
   -- a story of a core, which has what was found under names so far
   pub record Named (over : Bool) (c : Core) (vs : List View) : Type 0 where

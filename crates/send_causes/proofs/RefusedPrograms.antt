@@ -23,7 +23,7 @@ use Rattle.seat_programs.specs.Asides.{StoreAt, call_id, id_slot, id_first}
 use Rattle.seat_programs.specs.Attempts.{claims_from, heading_for, attempt, begin_call, claim_id, call, tried_again, retry_locked, retry, expire_outcome, expire, join}
 use Rattle.seat_programs.specs.Calls.{Call, SubRef, AddRef, StoreCode, SetOdd, LoadLink, TakeLink, FinishLink, PutLink, FreeSlot, LoadName, FreeRequest, ReadNext, FindLink, LookWord, ReverseNext, Connect, ClaimRequest, PutMessage, Recycle, LoadCode, DropPlace}
 use Rattle.seat_programs.specs.Clients.{HeldLife, held_under, without_name, give_back, drop_of, operation, client_from, ending_of}
-use Rattle.seat_programs.specs.Heads.{First, Joins, Reads, Discards, Posting, WasGone, WasStale, WasCrowded, WasQueued, HasLocked, Unlocking, IsOpen, HasNext, Locking, NotThere, Has, Ended}
+use Rattle.seat_programs.specs.Heads.{First, Joins, Reads, Discards, Posting, HasLocked, Unlocking, IsOpen, HasNext, Locking, NotThere, Has, Ended}
 use Rattle.seat_programs.specs.Parts.{part}
 use Rattle.seat_programs.specs.Posts.{post_with, posted, post, decided}
 use Rattle.seat_programs.specs.Programs.{Program, Do, Say, Sent, Rest, TakeMessage, TakeHome, PutBytes, Write, Aside, Round, NO_SOCKET, LAST_VERSION, LAST_GENERATION, recycle, release, address, reach, set_failed, make_socket, open_from, fail_outcome, fail}
@@ -679,10 +679,7 @@ module _ (requests : ℕ) (is_call : Asked → Type 0) (reads : Bool) where
 
   last_goes : (id e : ℕ) (kept : List Frame) (next : Program) → G idle next → (exit : Posting) → LeavesLabel (Rattle.seat_programs.specs.Heads.Posts id e 0) exit → G idle (posted_last id e kept next exit)
   last_goes id e kept next goes (HasLocked w) l = ends_goes id e w (kept_for id (parts w).range kept) next l goes
-  last_goes id e kept next goes WasGone l = goes
-  last_goes id e kept next goes WasStale l = goes
-  last_goes id e kept next goes (WasCrowded a b) l = goes
-  last_goes id e kept next goes WasQueued l = goes
+  last_goes id e kept next goes _ l = goes
 
   module _ (theirs : reads ≡ true) where
     posts_of_reader : (code n : ℕ) → (code ≡ 1014) ⊎ (code ≡ 2002) → (id : ℕ) → IsPostOf requests is_call reads NoCharge id (error_of code n)

@@ -11,7 +11,7 @@ use Rattle.sock_message.specs.Asked.{Asked}
 use Rattle.seat_programs.specs.Heads.{Retry}
 use Rattle.seat_programs.specs.declared.task.Sizes.{Sizes}
 use Rattle.seat_programs.specs.declared.task.Task.{Task}
-use Rattle.seat_programs.specs.Programs.{Program, Do, Say, Sent, Rest, TakeMessage, TakeHome, PutHome, PutBytes, AskReady, Write, Aside, Round, Keep, Retries}
+use Rattle.seat_programs.specs.Programs.{Program, Do, Say, Sent, Rest, Write, Aside, Keep, Retries}
 use Rattle.seat_programs.specs.Clients.{client_from}
 use Rattle.seat_programs.specs.Readers.{reader}
 use Rattle.seat_programs.specs.Cores.{Core, SeatState, resolved, next_step, waiting_at}
@@ -125,16 +125,7 @@ module _ (p : Plan) (q : IdPlan) (narrow : q.slots ≤ 65536) (is_call : Asked �
   idle_stays reads (Sent o next) g = idle_stays reads next g
   idle_stays reads (Keep r next) g = absurd (let e = g.0 in cc)
   idle_stays reads (Retries n after) g = idle_stays reads after g.2
-  idle_stays reads (Do call next) g = g
-  idle_stays reads Rest g = g
-  idle_stays reads (TakeMessage r next) g = g
-  idle_stays reads (TakeHome k next) g = g
-  idle_stays reads (PutHome k n after) g = g
-  idle_stays reads (PutBytes k asked bytes next) g = g
-  idle_stays reads (AskReady k next) g = g
-  idle_stays reads (Write w after) g = g
-  idle_stays reads (Aside step next) g = g
-  idle_stays reads (Round head next) g = g
+  idle_stays reads _ g = g
 
   none_later : (n i : ℕ) → AllByRecursion (λ (r : Retry). 0 < r.attempt) (waiting_at (replicate n []) i)
   none_later zero i = tt
@@ -162,7 +153,7 @@ module _ (p : Plan) (q : IdPlan) (narrow : q.slots ≤ 65536) (is_call : Asked �
       trials_idle i t e = let x = mapped trial_in (map (λ (x : Program). idle) xs) i t e in sym x.2 ∙ ap trial_in (all_idle xs i x.0 x.1)
 
       none_at : (id n : ℕ) → times_of id n (beginning p q xs) vs (map trial_in (map (λ (x : Program). idle) xs)) ≡ 0
-      none_at id n = let a = total_none p q narrow is_call ids (of_trial id n) (map trial_in (map (λ (x : Program). idle) xs)) (λ i t e. ap (of_trial id n) (trials_idle i t e)) in let b = none_waits p q narrow is_call ids id n q.seats in
+      none_at id n = let a = total_none p q narrow is_call ids (of_trial id n) (map trial_in (map (λ (x : Program). idle) xs)) (λ i t e. ap (of_trial id n) (trials_idle i t e)) in let b = none_waits id n q.seats in
           let d = total_none p q narrow is_call ids (of_view id n) vs (λ i v e. bare_count p q narrow is_call ids id n v (bare i v e)) in omega (arith, a, b, d)
 
 -- ## Seats

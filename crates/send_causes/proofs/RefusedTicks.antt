@@ -21,7 +21,7 @@ use Rattle.corr_core.specs.declared.marks.Plan.{Plan as IdPlan}
 use Rattle.id_runs.specs.Held.{IdView, MayId}
 use Rattle.id_runs.specs.Goes.{FitsRetryId, FitsSock, FindsId, IdGoesOn, SoundIds, IsFittingIds}
 use Rattle.id_runs.proofs.Steps.{finds_ids}
-use Rattle.seat_programs.specs.Asides.{Step, Found, ClaimId, PutCall, MakeId, StoreCall, LoadCall, StoreAt, LoadAt, LoadIdWord, LockId, PostId, UnlockId, EndId, FreeId, TakeCall, TakeBytes, Taking, call_id, id_slot, id_first}
+use Rattle.seat_programs.specs.Asides.{Step, Found, PutCall, MakeId, StoreAt, UnlockId, TakeCall, Taking, call_id, id_slot, id_first}
 use Rattle.sock_message.specs.Asked.{Asked}
 use Rattle.seat_programs.specs.Beside.{found_in, calls_after}
 use Rattle.seat_programs.specs.Attempts.{retry}
@@ -317,18 +317,7 @@ module _ (p : Plan) (q : IdPlan) (narrow : q.slots ≤ 65536) (is_call : Asked �
       due = tt;
     }
     first_of_seat (Round head next) is g = as_is (first_step (Round head next)) (charges_round p.requests is_call reads s head next g)
-    first_of_seat (Do call next) is g = as_is (Do call next) g
-    first_of_seat (Say o outcome next) is g = as_is (Say o outcome next) g
-    first_of_seat (Sent o next) is g = as_is (Sent o next) g
-    first_of_seat Rest is g = as_is Rest g
-    first_of_seat (TakeMessage r next) is g = as_is (TakeMessage r next) g
-    first_of_seat (TakeHome k next) is g = as_is (TakeHome k next) g
-    first_of_seat (PutHome k n after) is g = as_is (PutHome k n after) g
-    first_of_seat (PutBytes k asked bytes next) is g = as_is (PutBytes k asked bytes next) g
-    first_of_seat (AskReady k next) is g = as_is (AskReady k next) g
-    first_of_seat (Aside step next) is g = as_is (Aside step next) g
-    first_of_seat (Keep k next) is g = as_is (Keep k next) g
-    first_of_seat (Retries many after) is g = as_is (Retries many after) g
+    first_of_seat program is g = as_is program g
 
     first_here : First (first_step seat.program)
     first_here = first_of_seat seat.program refl (law.programs m.seat seat s at_seat at_doing)
@@ -577,18 +566,9 @@ module _ (p : Plan) (q : IdPlan) (narrow : q.slots ≤ 65536) (is_call : Asked �
               (finds_label p q c us real_ids m.seat u at (UnlockId k from true) found may (finds (UnlockId k from true) next is f found answer found_is may)) in
               makes (UnlockId k from true) next is f found answer found_is may (call_id k (parts from).first) ((parts from).attempt + 1) y (e ∙ ap (λ b. cond b (Tries (call_id k (parts from).first) ((parts from).attempt + 1)) f.doing.trial) hit) held g n.0 n.1
           by false miss y e held g = keeps (UnlockId k from true) next is f found answer found_is may y (inl (e ∙ ap (λ b. cond b (Tries (call_id k (parts from).first) ((parts from).attempt + 1)) f.doing.trial) miss)) held g
-      asides (ClaimId k) next is f found answer found_is may own = let x = f.goes.1 found tt in keeps (ClaimId k) next is f found answer found_is may x.0 x.1.0 x.1.1 x.2
       asides (PutCall k asked) next is f found answer found_is may own = let x = f.goes.1 found tt in keeps (PutCall k asked) next is f found answer found_is may x.0 x.1.0.0 x.1.1 x.2
-      asides (StoreCall o id) next is f found answer found_is may own = let x = f.goes.1 found tt in keeps (StoreCall o id) next is f found answer found_is may x.0 x.1.0 x.1.1 x.2
-      asides (LoadCall o) next is f found answer found_is may own = let x = f.goes.1 found tt in keeps (LoadCall o) next is f found answer found_is may x.0 x.1.0 x.1.1 x.2
-      asides (LoadAt o) next is f found answer found_is may own = let x = f.goes.1 found tt in keeps (LoadAt o) next is f found answer found_is may x.0 x.1.0 x.1.1 x.2
-      asides (LoadIdWord k) next is f found answer found_is may own = let x = f.goes.1 found tt in keeps (LoadIdWord k) next is f found answer found_is may x.0 x.1.0 x.1.1 x.2
-      asides (LockId k from) next is f found answer found_is may own = let x = f.goes.1 found tt in keeps (LockId k from) next is f found answer found_is may x.0 x.1.0 x.1.1 x.2
-      asides (PostId k from e) next is f found answer found_is may own = let x = f.goes.1 found tt in keeps (PostId k from e) next is f found answer found_is may x.0 x.1.0 x.1.1 x.2
-      asides (EndId k) next is f found answer found_is may own = let x = f.goes.1 found tt in keeps (EndId k) next is f found answer found_is may x.0 x.1.0 x.1.1 x.2
-      asides (FreeId k) next is f found answer found_is may own = let x = f.goes.1 found tt in keeps (FreeId k) next is f found answer found_is may x.0 x.1.0 x.1.1 x.2
       asides (TakeCall k) next is f found answer found_is may own = let x = f.goes.1 found (calls k found found_is) in keeps (TakeCall k) next is f found answer found_is may x.0 x.1.0 x.1.1 x.2
-      asides (TakeBytes k room) next is f found answer found_is may own = let x = f.goes.1 found tt in keeps (TakeBytes k room) next is f found answer found_is may x.0 x.1.0 x.1.1 x.2
+      asides other next is f found answer found_is may own = let x = f.goes.1 found tt in keeps other next is f found answer found_is may x.0 x.1.0 x.1.1 x.2
 
   -- a tick of any seat
   module _ (sound : Sound p c vs) (answered : IsAnswered c m) (fitting : IsFittingIds p c m) (own : StoresOwn ids c m) (would : WouldOwn ids c m) where

@@ -23,12 +23,12 @@ use Rattle.seat_programs.specs.Asides.{Step, Found}
 use Rattle.seat_programs.specs.Beside.{found_in}
 use Rattle.seat_programs.specs.Clients.{ending_of}
 use Rattle.seat_programs.specs.Heads.{Posts, Unlocks, Decides, Locks, Joins, Opens, Reads, Discards}
-use Rattle.seat_programs.specs.Programs.{Program, Do, Say, Sent, Rest, TakeMessage, TakeHome, PutHome, PutBytes, AskReady, Write, Aside, Round, Keep, Retries}
+use Rattle.seat_programs.specs.Programs.{Program, Do, Rest, TakeMessage, TakeHome, PutHome, PutBytes, AskReady, Write, Aside, Round}
 use Rattle.seat_programs.specs.Rounds.{round}
 use Rattle.seat_programs.specs.Runs.{IsAtRest}
 use Rattle.seat_programs.specs.Sends.{block}
 use Rattle.seat_programs.specs.Cores.{Core, SeatState, waiting_at}
-use Rattle.seat_programs.specs.Ticks.{Answer, Unasked, OfPut, OfReady, OfTake, Moment, IsAlwaysReady, waits, waits_at, quiet, ticked, run, taken, with_message, with_link, with_put, with_ready, with_found, step_with, tick_with}
+use Rattle.seat_programs.specs.Ticks.{Answer, OfPut, OfReady, Moment, IsAlwaysReady, waits, waits_at, quiet, ticked, run, taken, with_message, with_link, with_put, with_ready, with_found, step_with, tick_with}
 use Rattle.seat_programs.specs.Tasks.{opens, calls, plan_of, id_plan_of}
 use Rattle.seat_programs.specs.Scripts.{sizes_of, programs, readers_from, all_programs, all_tasks, opened, set_up, played, is_ending, IsRunWithCalls}
 use Rattle.sock_runs.specs.Sound.{views_along}
@@ -126,15 +126,11 @@ module _ (p : Plan) (c : Core) (m : Moment) (j : ℕ) (other : j ≢ m.seat) (se
 
   by_put : (bytes : List ℕ) (answer : Answer) (next : Put → Program) → Same (with_put p m.seat seat c bytes answer next)
   by_put bytes (OfPut answer) next = else_ _
-  by_put bytes Unasked next = refl
-  by_put bytes (OfReady answer) next = refl
-  by_put bytes (OfTake answer) next = refl
+  by_put bytes _ next = refl
 
   by_ready : (answer : Answer) (next : _) → Same (with_ready p m.seat seat c answer next)
   by_ready (OfReady answer) next = else_ _
-  by_ready Unasked next = refl
-  by_ready (OfPut answer) next = refl
-  by_ready (OfTake answer) next = refl
+  by_ready _ next = refl
 
   by_found : (step : Step) (x : Option (Found step)) (next : Found step → Program) → Same (with_found p m.seat seat c step x next)
   by_found step none next = refl
@@ -153,18 +149,7 @@ module _ (p : Plan) (c : Core) (m : Moment) (j : ℕ) (other : j ≢ m.seat) (se
   by_tick : (answer : Answer) (program : Program) → Same (tick_with p m.seat seat c answer program)
   by_tick answer (Write w after) = by_step answer (block w after)
   by_tick answer (Round head next) = by_step answer (round head next)
-  by_tick answer (Do call next) = by_step answer (Do call next)
-  by_tick answer (TakeMessage r next) = by_step answer (TakeMessage r next)
-  by_tick answer (TakeHome k next) = by_step answer (TakeHome k next)
-  by_tick answer (PutHome k n after) = by_step answer (PutHome k n after)
-  by_tick answer (PutBytes k asked bytes next) = by_step answer (PutBytes k asked bytes next)
-  by_tick answer (AskReady k next) = by_step answer (AskReady k next)
-  by_tick answer (Aside step next) = by_step answer (Aside step next)
-  by_tick answer (Say o outcome next) = refl
-  by_tick answer (Sent o next) = refl
-  by_tick answer Rest = refl
-  by_tick answer (Keep r next) = refl
-  by_tick answer (Retries n after) = refl
+  by_tick answer program = by_step answer program
 
 tick_other : (p : Plan) (c : Core) (m : Moment) (j : ℕ) → j ≢ m.seat → get_elem? (ticked p c m).seats j ≡ get_elem? c.seats j
 tick_other p c m j other = by (get_elem? c.seats m.seat)

@@ -16,7 +16,7 @@ use Rattle.outcome_causes.specs.Stories.{In}
 use Rattle.outcome_causes.proofs.Delivered.{requests_used}
 use Rattle.call_causes.specs.joint_runs.proofs.Runs.{AreMade, first_views}
 use Rattle.call_causes.specs.owed_calls.specs.Lives.{ClosesInRun}
-use Rattle.send_causes.specs.Refused.{Deed, DidStep, DidPut, DidRound, DidMiss, DidEarly, DidLate, FoundTaken}
+use Rattle.send_causes.specs.Refused.{Deed, DidStep, DidEarly, DidLate, FoundTaken}
 use Rattle.send_causes.proofs.Beside.{fixed_of_run, gave_of_run, orders_here}
 use Rattle.send_causes.proofs.Early.{start, go, fitting}
 use Rattle.send_causes.proofs.Sends.{owed}
@@ -57,19 +57,13 @@ module _ (script : List Item) (made : AreMade script) (turns : List Turn) (core 
   begin_keeps (DidStep (ClaimRequest id r) found) so = so
   begin_keeps (DidStep (AddRef id) found) so = so
   begin_keeps (DidStep (LookWord id) found) so = so
-  begin_keeps (DidStep _ found) so = tt
-  begin_keeps (DidPut asked) so = tt
-  begin_keeps (DidRound w) so = tt
-  begin_keeps (DidMiss name o id n) so = tt
+  begin_keeps _ so = tt
 
   end_keeps : (c : Core) (ws : List View) (d : Deed) → IsSo (plan_of script) c ws d → IsSo (plan_of script) (is_ending c) ws d
   end_keeps c ws (DidStep (ClaimRequest id r) found) so = so
   end_keeps c ws (DidStep (AddRef id) found) so = so
   end_keeps c ws (DidStep (LookWord id) found) so = so
-  end_keeps c ws (DidStep _ found) so = tt
-  end_keeps c ws (DidPut asked) so = tt
-  end_keeps c ws (DidRound w) so = tt
-  end_keeps c ws (DidMiss name o id n) so = tt
+  end_keeps c ws _ so = tt
 
   from_ended : (d : Deed) → IsSo (plan_of script) is.ended closed_views d → IsSo (plan_of script) core (end_views script made turns core is closes) d
   from_ended d so = subst (λ c. IsSo (plan_of script) c (end_views script made turns core is closes) d) (sym is.is_end) (run_keeps (plan_of script) (go script made turns core is) is.final is.ended closed_views

@@ -24,7 +24,7 @@ use Rattle.outcome_causes.proofs.Messages.{in_of_at}
 use Rattle.send_causes.proofs.Ticks.{none_asked}
 use Rattle.seat_programs.specs.declared.task.Sizes.{Sizes}
 use Rattle.seat_programs.specs.declared.task.Task.{Task}
-use Rattle.seat_programs.specs.Programs.{Program, Do, Say, Sent, Rest, TakeMessage, TakeHome, PutHome, PutBytes, AskReady, Write, Aside, Round, Keep, Retries}
+use Rattle.seat_programs.specs.Programs.{Program, Say, Sent, Rest, Keep, Retries}
 use Rattle.seat_programs.specs.Clients.{client_from, ending_of}
 use Rattle.seat_programs.specs.Readers.{reader}
 use Rattle.seat_programs.specs.Cores.{Core, SeatState, resolved, next_step}
@@ -47,6 +47,16 @@ use Rattle.outcome_causes.proofs.Ticks.{elem_there}
 use Rattle.send_causes.specs.Counts.{of_trial, of_retry, of_claim, of_entry, of_view, times_of, ClaimFits, EntryFits, TrialFits, LabelLaw, AreLabelled}
 use Rattle.send_causes.proofs.Ticks.{moves, label_ticks}
 
+-- at the beginning no seat has a retry, and no home a call
+pub none_waits : (id n m : ℕ) → total (total (of_retry id n)) (replicate m []) ≡ 0
+none_waits id n zero = refl
+none_waits id n (suc m) = let r = none_waits id n m in omega (arith, r)
+
+pub none_home : (n k : ℕ) (asked : Asked) → call_at (get_elem? (replicate n (some none_asked)) k) ≡ some asked → ⊥
+none_home zero k asked e = some-ne-none asked (sym e)
+none_home (suc n) zero asked e = some-ne-none asked (sym e)
+none_home (suc n) (suc k) asked e = none_home n k asked e
+
 module _ (p : Plan) (q : IdPlan) (narrow : q.slots ≤ 65536) (is_call : Asked → Type 0) (ids : ℕ → ℕ) where
   abbrev pub Lawful_ : Core → List View → Type 0
   Lawful_ c vs = (ts : List Trial) × LabelLaw is_call ids p q c vs ts
@@ -68,24 +78,11 @@ module _ (p : Plan) (q : IdPlan) (narrow : q.slots ≤ 65536) (is_call : Asked �
   idle_stays (Sent o next) g = idle_stays next g
   idle_stays (Keep r next) g = absurd (let e = g.0 in cc)
   idle_stays (Retries n after) g = idle_stays after g
-  idle_stays (Do call next) g = g
-  idle_stays Rest g = g
-  idle_stays (TakeMessage r next) g = g
-  idle_stays (TakeHome k next) g = g
-  idle_stays (PutHome k n after) g = g
-  idle_stays (PutBytes k asked bytes next) g = g
-  idle_stays (AskReady k next) g = g
-  idle_stays (Write w after) g = g
-  idle_stays (Aside step next) g = g
-  idle_stays (Round head next) g = g
+  idle_stays _ g = g
 
   pub total_none : {A : Type 0} (g : A → ℕ) (l : List A) → ((i : ℕ) (a : A) → get_elem? l i ≡ some a → g a ≡ 0) → total g l ≡ 0
   total_none g [] all = refl
   total_none g (x ∷ l) all = omega (arith, all 0 x refl, total_none g l (λ i a e. all (suc i) a e))
-
-  pub none_waits : (id n m : ℕ) → total (total (of_retry id n)) (replicate m []) ≡ 0
-  none_waits id n zero = refl
-  none_waits id n (suc m) = omega (arith, none_waits id n m)
 
   all_idle : (xs : List Program) (i : ℕ) (t : Trial) → get_elem? (map (λ (x : Program). Idle) xs) i ≡ some t → t ≡ Idle
   all_idle xs i t e = sym (mapped (λ (x : Program). Idle) xs i t e).2
@@ -97,11 +94,6 @@ module _ (p : Plan) (q : IdPlan) (narrow : q.slots ≤ 65536) (is_call : Asked �
   pub bare_count : (id n : ℕ) (v : View) → IsBare v → of_view id n v ≡ 0
   bare_count id n v bare = let a : total (of_claim id n) v.claims ≡ 0 = ap (total (of_claim id n)) bare.0 in
       let b : total (total (of_entry id n)) v.lists ≡ 0 = ap (total (total (of_entry id n))) bare.1 in omega (arith, a, b)
-
-  none_home : (n k : ℕ) (asked : Asked) → call_at (get_elem? (replicate n (some none_asked)) k) ≡ some asked → ⊥
-  none_home zero k asked e = some-ne-none asked (sym e)
-  none_home (suc n) zero asked e = some-ne-none asked (sym e)
-  none_home (suc n) (suc k) asked e = none_home n k asked e
 
   none_at : (xs : List Program) (vs : List View) → ((i : ℕ) (v : View) → get_elem? vs i ≡ some v → IsBare v) → (id n : ℕ) → times_of id n (beginning p q xs) vs (map (λ (x : Program). Idle) xs) ≡ 0
   none_at xs vs bare id n = let a = total_none (of_trial id n) (map (λ (x : Program). Idle) xs) (λ i t e. ap (of_trial id n) (all_idle xs i t e)) in let b = none_waits id n q.seats in

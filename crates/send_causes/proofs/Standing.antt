@@ -10,7 +10,7 @@ use Rattle.sock_model.specs.Layout.{open_index}
 use Rattle.corr_core.specs.Word.{Parts}
 use Rattle.seat_programs.specs.Asides.{id_first, id_slot}
 use Rattle.seat_programs.specs.Cores.{Core, SeatState}
-use Rattle.seat_programs.specs.Heads.{Head, Exit, Reading, Sought, First, Version, Posts, Unlocks, Decides, Locks, Joins, Opens, Reads, Discards}
+use Rattle.seat_programs.specs.Heads.{Head, Exit, Reading, Sought, First, Version, Locks, Joins, Opens, Reads, Discards}
 use Rattle.seat_programs.specs.Posts.{is_sought}
 use Rattle.seat_programs.specs.Programs.{Program, Rest, Round}
 use Rattle.seat_programs.specs.Runs.{IsAtRest}
@@ -84,9 +84,7 @@ module _ (script : List Item) (made : AreMade script) (turns : List Turn) (core 
       (λ open_. true≢false (sym (and_right (is_sought sought (id_word_of rested s)) _ waits_) ∙ ap not (eq-eqb (id_word_of rested s).state 1 open_)))
       (unlocked s g.0.1))
   by_head u seat (Locks s sought (Some word)) next answer e g waits_ = absurd (true≢false (sym waits_))
-  by_head u seat (Posts id x word) next answer e g waits_ = absurd (true≢false (sym waits_))
-  by_head u seat (Unlocks i word advance) next answer e g waits_ = absurd (true≢false (sym waits_))
-  by_head u seat (Decides id asked word x) next answer e g waits_ = absurd (true≢false (sym waits_))
+  by_head u seat _ next answer e g waits_ = absurd (true≢false (sym waits_))
 
   pub stands : (j : ℕ) (seat : SeatState) → get_elem? (played script is.setup (is.scheduled ++ is.later)).seats j ≡ some seat → Stands script (played script is.setup (is.scheduled ++ is.later)) seat.program
   stands j seat at = ⊎_elim (λ rest. resting (rest seat at)) by_wait (waits_aside j (place_inside rested.seats j seat at))

@@ -138,10 +138,7 @@ module _ (J : Type 0) where
 
   takes_posted : (id e : ℕ) (next : Program) → NoTakes next → (exit : Posting) → NoTakes (posted id e next exit)
   takes_posted id e next after (HasLocked word) = takes_decide id word e (decided id next) (takes_decided id next after)
-  takes_posted id e next after WasGone = after
-  takes_posted id e next after WasStale = after
-  takes_posted id e next after (WasCrowded a b) = after
-  takes_posted id e next after WasQueued = after
+  takes_posted id e next after _ = after
 
   takes_post : (id c attempt : ℕ) (next : Program) → NoTakes next → NoTakes (post id c attempt next)
   takes_post id c attempt next after = takes_post_with id (error_of c attempt) (posted id (error_of c attempt) next) (takes_posted id (error_of c attempt) next after)
@@ -319,25 +316,12 @@ module _ (J : Type 0) where
   takes_round (Decides id asked w e) next x = takes_decides id asked w e next x
   takes_round (Locks i sought w) next x = takes_locks i sought w next x
   takes_round (Joins id) next x = takes_joins x.0 id next x.1
-  takes_round (Opens o) next x = absurd x
-  takes_round (Reads r) next x = absurd x
-  takes_round (Discards k total) next x = absurd x
+  takes_round _ next x = absurd x
 
   takes_first : (program : Program) → NoTakes program → NoTakes (first_step program)
   takes_first (Write w after) x = takes_block w after x
   takes_first (Round head next) x = takes_round head next x
-  takes_first (Do call next) x = x
-  takes_first (Say o outcome next) x = x
-  takes_first (Sent o next) x = x
-  takes_first Rest x = x
-  takes_first (TakeMessage q next) x = x
-  takes_first (TakeHome k next) x = x
-  takes_first (PutHome k n after) x = x
-  takes_first (PutBytes k asked bytes next) x = x
-  takes_first (AskReady k next) x = x
-  takes_first (Aside step next) x = x
-  takes_first (Keep r next) x = x
-  takes_first (Retries requests after) x = x
+  takes_first _ x = x
 
   pub takes_next : (ws : List Retry) (program : Program) → NoTakes program → NoTakes (next_step (resolved ws program))
   takes_next ws (Say o outcome next) x = takes_next ws next x
@@ -345,16 +329,7 @@ module _ (J : Type 0) where
   takes_next ws (Keep r next) x = takes_next (ws ++ r ∷ []) next x
   takes_next [] (Retries requests after) x = takes_next [] after x
   takes_next (r ∷ ws) (Retries requests after) x = takes_retry requests r.id r.attempt (Retries requests after) x
-  takes_next ws (Do call next) x = x
-  takes_next ws Rest x = x
-  takes_next ws (TakeMessage q next) x = x
-  takes_next ws (TakeHome k next) x = x
-  takes_next ws (PutHome k n after) x = x
-  takes_next ws (PutBytes k asked bytes next) x = x
-  takes_next ws (AskReady k next) x = x
-  takes_next ws (Write w after) x = x
-  takes_next ws (Aside step next) x = x
-  takes_next ws (Round head next) x = x
+  takes_next ws _ x = x
 
   takes_found : (step : Step) (next : Found step → Program) → NoTakes (Aside step next) → (found : Found step) → NoTakes (next found)
   takes_found (TakeBytes k room) next x = absurd x
@@ -367,14 +342,7 @@ module _ (J : Type 0) where
   takes_comes p (PutBytes k asked bytes next) program comes x = subst NoTakes (sym comes.1) (x comes.0)
   takes_comes p (AskReady k next) program comes x = subst NoTakes (sym comes.1) (x comes.0)
   takes_comes p (Aside step next) program comes x = subst NoTakes (sym comes.1) (takes_found step next x comes.0)
-  takes_comes p (Do call next) program comes x = absurd comes
-  takes_comes p (Say o outcome next) program comes x = absurd comes
-  takes_comes p (Sent o next) program comes x = absurd comes
-  takes_comes p Rest program comes x = absurd comes
-  takes_comes p (Write w after) program comes x = absurd comes
-  takes_comes p (Round head next) program comes x = absurd comes
-  takes_comes p (Keep r next) program comes x = absurd comes
-  takes_comes p (Retries requests after) program comes x = absurd comes
+  takes_comes p _ program comes x = absurd comes
 
   -- seat j takes none
   abbrev pub TakesNone : ℕ → Core → Type 0

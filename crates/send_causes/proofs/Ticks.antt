@@ -23,7 +23,7 @@ use Rattle.id_runs.specs.Goes as goes
 use Rattle.id_runs.proofs.Steps.{finds_ids}
 use Rattle.id_runs.proofs.Loops.{ids_round}
 use Rattle.id_runs.proofs.Programs as id_programs
-use Rattle.seat_programs.specs.Asides.{Step, Found, ClaimId, PutCall, MakeId, StoreCall, LoadCall, StoreAt, LoadAt, LoadIdWord, LockId, PostId, UnlockId, EndId, FreeId, TakeCall, TakeBytes, Taking, Bytes, call_id, id_slot, id_first}
+use Rattle.seat_programs.specs.Asides.{Step, Found, PutCall, MakeId, StoreAt, UnlockId, TakeCall, TakeBytes, Taking, Bytes, call_id, id_slot, id_first}
 use Rattle.sock_message.specs.Asked.{Asked, frame_of}
 use Rattle.seat_programs.specs.Beside.{found_in, calls_after, call_at, more_given}
 use Rattle.seat_programs.specs.Calls.{Call, PutMessage}
@@ -122,34 +122,12 @@ resolves is_call ids t ws (Round head next) few g = stays is_call ids t ws (Roun
 pub labels_first : (is_call : Asked → Type 0) (t : Trial) (program : Program) → Labels is_call t program → Labels is_call t (first_step program)
 labels_first is_call t (Write w after) g = block_goes is_call t w after g
 labels_first is_call t (Round head next) g = labels_round is_call t head next g
-labels_first is_call t (Do call next) g = g
-labels_first is_call t (Say o outcome next) g = g
-labels_first is_call t (Sent o next) g = g
-labels_first is_call t Rest g = g
-labels_first is_call t (TakeMessage q next) g = g
-labels_first is_call t (TakeHome k next) g = g
-labels_first is_call t (PutHome k n after) g = g
-labels_first is_call t (PutBytes k asked bytes next) g = g
-labels_first is_call t (AskReady k next) g = g
-labels_first is_call t (Aside step next) g = g
-labels_first is_call t (Keep r next) g = g
-labels_first is_call t (Retries requests after) g = g
+labels_first is_call t _ g = g
 
 pub ids_first : (p : Plan) (q : IdPlan) → q.slots ≤ 65536 → (u : IdView) (program : Program) → IdGoesOn p q u program → IdGoesOn p q u (first_step program)
 ids_first p q narrow u (Write w after) g = id_programs.block_goes p q narrow u w after g
 ids_first p q narrow u (Round head next) g = ids_round p q u head next g
-ids_first p q narrow u (Do call next) g = g
-ids_first p q narrow u (Say o outcome next) g = g
-ids_first p q narrow u (Sent o next) g = g
-ids_first p q narrow u Rest g = g
-ids_first p q narrow u (TakeMessage r next) g = g
-ids_first p q narrow u (TakeHome k next) g = g
-ids_first p q narrow u (PutHome k n after) g = g
-ids_first p q narrow u (PutBytes k asked bytes next) g = g
-ids_first p q narrow u (AskReady k next) g = g
-ids_first p q narrow u (Aside step next) g = g
-ids_first p q narrow u (Keep r next) g = g
-ids_first p q narrow u (Retries requests after) g = g
+ids_first p q narrow u _ g = g
 
 -- what is found of a step on the sockets
 pub fits_as : (p : Plan) (c : Core) (program : Program) (call : Call) (next : ℕ → Program) → first_step program ≡ Do call next → FitsFirst p c (goes.first_of program) → FitsSock call (found_at c.words (word_of p call))
@@ -214,20 +192,7 @@ calls_behind is_call _ found a puts h = h
 pub calls_waiting : (step : Step) (found : Found step) (a : Calls) → (calls_after step found a).waiting ≡ a.waiting
 calls_waiting (TakeBytes k room) (Bytes bytes) a = refl
 calls_waiting (TakeBytes k room) _ a = refl
-calls_waiting (ClaimId i) found a = refl
-calls_waiting (PutCall i asked) found a = refl
-calls_waiting (MakeId i range) found a = refl
-calls_waiting (StoreCall o id) found a = refl
-calls_waiting (LoadCall o) found a = refl
-calls_waiting (StoreAt o w) found a = refl
-calls_waiting (LoadAt o) found a = refl
-calls_waiting (LoadIdWord i) found a = refl
-calls_waiting (LockId i from) found a = refl
-calls_waiting (PostId i from e) found a = refl
-calls_waiting (UnlockId i from advance) found a = refl
-calls_waiting (EndId i) found a = refl
-calls_waiting (FreeId i) found a = refl
-calls_waiting (TakeCall i) found a = refl
+calls_waiting _ found a = refl
 
 pub kept_count : (id n : ℕ) (t u : Trial) → Kept t u → of_trial id n u ≤ of_trial id n t
 kept_count id n t u (inl e) = let z : of_trial id n u ≡ of_trial id n t = ap (of_trial id n) e in omega (arith, z)
@@ -441,18 +406,9 @@ module _ (p : Plan) (q : IdPlan) (narrow : q.slots ≤ 65536) (is_call : Asked �
           by true hit y e h = let m = advances_new p q c us real_ids i u at k from found is (eqb-true found from hit) may (finds_label p q c us real_ids i u at (UnlockId k from true) found may (finds (UnlockId k from true) next found answer is may tt)) in
               makes (UnlockId k from true) next found answer is may tt (call_id k (parts from).first) ((parts from).attempt + 1) (subst (λ z. Labels is_call z (next found)) (e ∙ ap (λ b. cond b (Tries (call_id k (parts from).first) ((parts from).attempt + 1)) t) hit) h) m.0 m.1
           by false miss y e h = keeps (UnlockId k from true) next found answer is may tt y (inl (e ∙ ap (λ b. cond b (Tries (call_id k (parts from).first) ((parts from).attempt + 1)) t) miss)) h
-      asides (ClaimId k) next found answer is may g own = let x = g found tt in keeps (ClaimId k) next found answer is may tt x.0 x.1 x.2
       asides (PutCall k asked) next found answer is may g own = let x = g found tt in keeps (PutCall k asked) next found answer is may x.1.1 x.0 x.1.0 x.2
-      asides (StoreCall o id) next found answer is may g own = let x = g found tt in keeps (StoreCall o id) next found answer is may tt x.0 x.1 x.2
-      asides (LoadCall o) next found answer is may g own = let x = g found tt in keeps (LoadCall o) next found answer is may tt x.0 x.1 x.2
-      asides (LoadAt o) next found answer is may g own = let x = g found tt in keeps (LoadAt o) next found answer is may tt x.0 x.1 x.2
-      asides (LoadIdWord k) next found answer is may g own = let x = g found tt in keeps (LoadIdWord k) next found answer is may tt x.0 x.1 x.2
-      asides (LockId k from) next found answer is may g own = let x = g found tt in keeps (LockId k from) next found answer is may tt x.0 x.1 x.2
-      asides (PostId k from e) next found answer is may g own = let x = g found tt in keeps (PostId k from e) next found answer is may tt x.0 x.1 x.2
-      asides (EndId k) next found answer is may g own = let x = g found tt in keeps (EndId k) next found answer is may tt x.0 x.1 x.2
-      asides (FreeId k) next found answer is may g own = let x = g found tt in keeps (FreeId k) next found answer is may tt x.0 x.1 x.2
       asides (TakeCall k) next found answer is may g own = let x = g found (law.calls k found is) in keeps (TakeCall k) next found answer is may tt x.0 x.1 x.2
-      asides (TakeBytes k room) next found answer is may g own = let x = g found tt in keeps (TakeBytes k room) next found answer is may tt x.0 x.1 x.2
+      asides other next found answer is may g own = let x = g found tt in keeps other next found answer is may tt x.0 x.1 x.2
 
   -- a tick of any seat
   module _ (sound : Sound p c vs) (m : Moment) (answered : IsAnswered c m) (fitting : IsFittingIds p c m) (own : StoresOwn ids c m) where

@@ -16,7 +16,7 @@ use Rattle.sock_model.specs.Memory.{IDLE, UNCONNECTED}
 use Rattle.sock_model.specs.Weights.{total, only}
 use Rattle.slot_steps.proofs.Sums.{total-append}
 use Rattle.sock_message.specs.Asked.{Asked}
-use Rattle.seat_programs.specs.Calls.{Call, ClaimSlot, CreateLife, AddRef, SubRef, SetOdd, Recycle, FreeSlot, StoreLink, LoadLink, ResetHead, ClearCode, StoreCode, StoreName, LoadName, StoreOpen, LoadOpen, TakeLink, FinishLink, PutLink, LookWord, FindLink, LoadCode, ClaimRequest, PutMessage, Unconnect, SwapHead, Connect, EmptyHead, ReadNext, ReverseNext, FreeRequest, StorePlace, DropPlace}
+use Rattle.seat_programs.specs.Calls.{Call, LoadName, LoadOpen, TakeLink, LookWord, LoadCode, ClaimRequest, PutMessage, Unconnect, SwapHead, EmptyHead, ReadNext, ReverseNext, FreeRequest, StorePlace, DropPlace}
 use Rattle.sock_runs.specs.Rows.{row, is_id, by_claim, exchanged, filled_claim, ready_claim, looked_clean, emptied, read_next, turned_next, freed_next, placed_next, dropped_next}
 use Rattle.sock_runs.specs.May.{May}
 use Rattle.sock_runs.proofs.Cases.{with_rights}
@@ -55,29 +55,11 @@ module _ (v : View) where
 
   module _ (p : Plan) (found : ℕ) (hand : Hand) where
     pub row_same : (call : Call) → is_claiming call ≡ false → Same (row p call found hand v)
-    row_same (ClaimSlot i) n = (refl, refl)
-    row_same (CreateLife i k) n = (refl, refl)
-    row_same (AddRef id) n = (refl, refl)
-    row_same (SubRef i) n = (refl, refl)
-    row_same (SetOdd i) n = (refl, refl)
-    row_same (Recycle i from) n = (refl, refl)
-    row_same (FreeSlot i) n = (refl, refl)
-    row_same (StoreLink i k) n = (refl, refl)
-    row_same (LoadLink i w) n = (refl, refl)
-    row_same (ResetHead i k) n = (refl, refl)
-    row_same (ClearCode i k) n = (refl, refl)
-    row_same (StoreCode i h c) n = (refl, refl)
-    row_same (StoreName m w) n = (refl, refl)
     row_same (LoadName m) n = split (is_id found) _ _ Same (refl, refl) (refl, refl)
-    row_same (StoreOpen o w) n = (refl, refl)
     row_same (LoadOpen o) n = split (is_id found) _ _ Same (refl, refl) (refl, refl)
     row_same (TakeLink k) n = split (nat_lt 0 (total (only hand.link) v.passes)) _ _ Same (refl, refl) (refl, refl)
-    row_same (FinishLink k) n = (refl, refl)
-    row_same (PutLink k) n = (refl, refl)
     row_same (LookWord id) n = right_way Same v.rights (looked_clean (socket_id_slot id) found v) _ (refl, refl) (λ r. split (vref_version found % 2 == 0) _ _ Same (refl, refl) (refl, refl))
-    row_same (FindLink i h) n = (refl, refl)
     row_same (LoadCode i h) n = split (found == 0) _ _ Same (refl, refl) (refl, refl)
-    row_same (Connect q before) n = (refl, refl)
     row_same (EmptyHead i last) n = right_way Same v.rights (emptied last found v) v (refl, refl) (λ r. split (found == last) _ _ Same (refl, refl) (refl, refl))
     row_same (ReadNext q) n = right_way Same v.rights (λ r. read_next found v r r.stage) v (refl, refl) (λ r. reads found r r.stage)
     row_same (ReverseNext q value) n = right_way Same v.rights (λ r. turned_next v r r.stage) v (refl, refl) (λ r. turns r r.stage)
@@ -88,6 +70,7 @@ module _ (v : View) where
     row_same (PutMessage q heading bytes) n = absurd (true≢false n)
     row_same (Unconnect q) n = absurd (true≢false n)
     row_same (SwapHead i own) n = absurd (true≢false n)
+    row_same _ n = (refl, refl)
 
   -- ## How often an attempt stands there
 

@@ -18,7 +18,7 @@ use Rattle.id_runs.specs.Held.{IdView, id_state, HasOne, MayId}
 use Rattle.id_runs.specs.Goes.{SoundIds, FindsId}
 use Rattle.id_runs.proofs.Keeps.{parts_packed}
 use Rattle.sock_message.specs.Asked.{Asked}
-use Rattle.seat_programs.specs.Asides.{Step, Found, ClaimId, PutCall, MakeId, StoreCall, LoadCall, StoreAt, LoadAt, LoadIdWord, LockId, PostId, UnlockId, EndId, FreeId, TakeCall, TakeBytes, Taking, Bytes, call_id, id_slot, id_first}
+use Rattle.seat_programs.specs.Asides.{Step, Found, ClaimId, MakeId, StoreCall, StoreAt, LockId, PostId, UnlockId, EndId, FreeId, TakeBytes, Taking, Bytes, call_id, id_slot, id_first}
 use Rattle.seat_programs.specs.Beside.{found_in, calls_after}
 use Rattle.seat_programs.specs.Cores.{Core}
 use Rattle.seat_programs.specs.Posts.{packed, advance_of}
@@ -60,7 +60,7 @@ posted_forward from e small = by (eqb (parts from).state 1)
         let is : parts (packed w) ≡ w = parts_packed w (omega arith) (omega arith) (omega arith) (omega arith) (small_first (eqb (parts from).oldest 0) e (parts from).oldest small (omega arith)) (small_first (eqb (parts from).oldest 0) 0 e (omega arith) small) in
         inr (ap (λ (x : Parts). x.first) is, λ some_. ((let z : (parts (packed w)).state ≡ 2 = ap (λ (x : Parts). x.state) is in omega (arith, z)), (let z : (parts (packed w)).attempt ≡ (parts from).attempt = ap (λ (x : Parts). x.attempt) is in omega (arith, z))))
 
-unlocked_is : (from : ℕ) (advance : Bool) → (parts from).attempt + advance_of advance ≤ 6 → parts (packed (unlocked_word (parts from) (advance_of advance))) ≡ unlocked_word (parts from) (advance_of advance)
+pub unlocked_is : (from : ℕ) (advance : Bool) → (parts from).attempt + advance_of advance ≤ 6 → parts (packed (unlocked_word (parts from) (advance_of advance))) ≡ unlocked_word (parts from) (advance_of advance)
 unlocked_is from advance few = parts_packed (unlocked_word (parts from) (advance_of advance)) (state_fits (eqb (parts from).oldest 0)) (omega arith) (omega arith) (omega (arith, few)) (omega arith) (omega arith)
 
 unlocked_forward : (from : ℕ) (advance : Bool) → (parts from).attempt + advance_of advance ≤ 6 → Forward (parts from) (parts (packed (unlocked_word (parts from) (advance_of advance))))
@@ -104,20 +104,7 @@ module _ (p : Plan) (q : IdPlan) (c : Core) (us : List IdView) (ids : SoundIds p
         (let high : (parts from).range ≤ 8 = omega arith in omega (arith, room, high, longer.range_is, longer.attempt_is)),
         λ _. let l = f m.0 m.1 m.2 m.3 m.4 m.5 has in (sym l.first_is ∙ longer.first_is, sym l.attempt_is ∙ longer.attempt_is),
       )
-  finds_label (ClaimId k) found may f = tt
-  finds_label (PutCall k asked) found may f = tt
-  finds_label (MakeId k range) found may f = tt
-  finds_label (StoreCall o id) found may f = tt
-  finds_label (LoadCall o) found may f = tt
-  finds_label (StoreAt o w) found may f = tt
-  finds_label (LoadAt o) found may f = tt
-  finds_label (LoadIdWord k) found may f = tt
-  finds_label (LockId k from) found may f = tt
-  finds_label (PostId k from e) found may f = tt
-  finds_label (EndId k) found may f = tt
-  finds_label (FreeId k) found may f = tt
-  finds_label (TakeCall k) found may f = tt
-  finds_label (TakeBytes k room) found may f = tt
+  finds_label _ found may f = tt
 
   -- ## Words
 
@@ -149,15 +136,11 @@ module _ (p : Plan) (q : IdPlan) (c : Core) (us : List IdView) (ids : SoundIds p
   -- each id word goes forward in a step that the seat may make
   pub words_forward : (step : Step) (t : Option Taking) (found : Found step) → found_in step c.calls t ≡ some found → MayId p q u step → FindsId p q u step found → (j : ℕ) → j < q.slots → Forward (word_of_id c.calls.words j) (word_of_id (calls_after step found c.calls).words j)
   words_forward (ClaimId k) t found is may f j low = other_word (tag_index k) 1 j (λ e. omega (arith, e))
-  words_forward (PutCall k asked) t found is may f j low = same_forward (word_of_id c.calls.words j) (word_of_id c.calls.words j) refl
   words_forward (MakeId k range) t found is may f j low = let m = may.1 in
       as_found k found (λ n. Forward (word_of_id c.calls.words j) (word_of_id (set c.calls.words (id_index k) (packed (made_word (parts n).first range))) j)) is
       (one_word k (packed (made_word (parts (Word k)).first range)) may.0 (made_forward (Word k) range may.2 may.3 (free_there k may.0 m.0 m.1 m.2)) j)
   words_forward (StoreCall o id) t found is may f j low = other_word (call_index c.calls.plan o) id j (subst (λ (r : IdPlan). id_index j ≢ call_index r o) (sym ids.plan) (λ e. omega (arith, e, low)))
-  words_forward (LoadCall o) t found is may f j low = same_forward (word_of_id c.calls.words j) (word_of_id c.calls.words j) refl
   words_forward (StoreAt o w) t found is may f j low = other_word (at_index c.calls.plan o) w j (subst (λ (r : IdPlan). id_index j ≢ at_index r o) (sym ids.plan) (λ e. omega (arith, e, low)))
-  words_forward (LoadAt o) t found is may f j low = same_forward (word_of_id c.calls.words j) (word_of_id c.calls.words j) refl
-  words_forward (LoadIdWord k) t found is may f j low = same_forward (word_of_id c.calls.words j) (word_of_id c.calls.words j) refl
   words_forward (LockId k from) t found is may f j low = as_found k found (λ n. Forward (word_of_id c.calls.words j) (word_of_id (set c.calls.words (id_index k) (cond (eqb n from) (packed (posted_word (parts from) 0)) n)) j)) is
       (exchanged_word k from (packed (posted_word (parts from) 0)) may.0 (λ _. posted_forward from 0 (omega arith)) j)
   words_forward (PostId k from e) t found is may f j low = as_found k found (λ n. Forward (word_of_id c.calls.words j) (word_of_id (set c.calls.words (id_index k) (cond (eqb n from) (packed (posted_word (parts from) e)) n)) j)) is
@@ -168,9 +151,9 @@ module _ (p : Plan) (q : IdPlan) (c : Core) (us : List IdView) (ids : SoundIds p
   words_forward (EndId k) t found is may f j low = as_found k found (λ n. Forward (word_of_id c.calls.words j) (word_of_id (set c.calls.words (id_index k) (packed (free_word ((parts n).first + (parts n).range)))) j)) is
       (one_word k (packed (free_word ((parts (Word k)).first + (parts (Word k)).range))) may.0 (ended_forward (Word k)) j)
   words_forward (FreeId k) t found is may f j low = other_word (tag_index k) 0 j (λ e. omega (arith, e))
-  words_forward (TakeCall k) t found is may f j low = same_forward (word_of_id c.calls.words j) (word_of_id c.calls.words j) refl
   words_forward (TakeBytes k room) t (Bytes bytes) is may f j low = same_forward (word_of_id c.calls.words j) (word_of_id c.calls.words j) refl
   words_forward (TakeBytes k room) t _ is may f j low = same_forward (word_of_id c.calls.words j) (word_of_id c.calls.words j) refl
+  words_forward _ t found is may f j low = same_forward (word_of_id c.calls.words j) (word_of_id c.calls.words j) refl
 
   -- ## What is made by a step
 

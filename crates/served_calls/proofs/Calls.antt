@@ -42,13 +42,13 @@ below_or_not zero (suc n) = inl (omega arith)
 below_or_not (suc i) (suc n) = ⊎_elim (λ l. inl (omega (arith, l))) (λ g. inr (omega (arith, g))) (below_or_not i n)
 
 -- no bytes are no frame
-none_given : (bytes : List ℕ) (n : ℕ) (frame : Frame) → bytes ≡ [] → slice_get (stream bytes).frames n ≡ Some frame → ⊥
+pub none_given : (bytes : List ℕ) (n : ℕ) (frame : Frame) → bytes ≡ [] → slice_get (stream bytes).frames n ≡ Some frame → ⊥
 none_given bytes n frame none_ there = let w : None ≡ Some frame = sym (ap (λ l. slice_get (stream l).frames n) none_) ∙ there in cc
 
-gives_answer : (id : ℕ) (code : ℤ) (frame : Frame) (payload attachment : List ℕ) → code ≡ pos 0 → frame.payload ≡ payload → frame.attachment ≡ attachment → Gives id code frame (Answered id payload attachment)
+pub gives_answer : (id : ℕ) (code : ℤ) (frame : Frame) (payload attachment : List ℕ) → code ≡ pos 0 → frame.payload ≡ payload → frame.attachment ≡ attachment → Gives id code frame (Answered id payload attachment)
 gives_answer id code frame payload attachment zero_ p a = subst (λ c. Gives id c frame (Answered id payload attachment)) (sym zero_) ((λ i. Answered id (sym p i) attachment) ∙ (λ i. Answered id frame.payload (sym a i)))
 
-gives_peer : (id : ℕ) (code : ℤ) (frame : Frame) → code ≢ pos 0 → Gives id code frame (Peer id code)
+pub gives_peer : (id : ℕ) (code : ℤ) (frame : Frame) → code ≢ pos 0 → Gives id code frame (Peer id code)
 gives_peer id (pos zero) frame other = absurd (other refl)
 gives_peer id (pos (suc n)) frame other = refl
 gives_peer id (negsuc n) frame other = refl

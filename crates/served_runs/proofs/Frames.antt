@@ -1,5 +1,5 @@
 -- The frames of streams that are made of whole frames, and that requests of calls and their replies are such frames.
-use Rattle.std.proofs.Common.{◌≡◌, ℕ, zero, suc, ◌+◌, ◌-◌, ◌*◌, ◌/◌, ◌%◌, ◌^◌, ◌<◌, ◌≤◌, nat_lt, Bool, true, false, cond, List, [], ◌∷◌, ◌++◌, length, drop, flat_map, sum, Some, None, length-append, inl, inr, refl, sym, ap, ◌∙◌, subst, arith}
+use Rattle.std.proofs.Common.{◌≡◌, ℕ, ◌+◌, ◌-◌, ◌^◌, ◌<◌, ◌≤◌, List, [], ◌∷◌, ◌++◌, length, drop, flat_map, sum, Some, None, length-append, inl, inr, refl, sym, ap, ◌∙◌, subst, arith}
 use Rattle.std.proofs.lemmas.List.{length-reverse}
 use Rattle.std.proofs.lemmas.Int.{fits_signed_from_abs}
 use Rattle.std.proofs.Math.Seq.{drop-append_seam}
@@ -7,7 +7,6 @@ use Rattle.std.specs.List.{AllByRecursion}
 use Rattle.std.specs.Prelude.{pos, codes, bytes_eq}
 use Rattle.std.specs.Int.{w32, w64, to_be_bytes}
 use Rattle.send_causes.specs.sock_steps.proofs.Quiet.{either_way}
-use Rattle.brpc_model.specs.Wire.{varint_up_to, varint_bytes}
 use Rattle.brpc_model.specs.Spelling.{number_field, bytes_field, response_bytes, where_not_0, where_not_empty, meta_bytes}
 use Rattle.brpc_model.specs.Frame.{Frame, IsFrame, magic, framed, frame_bytes}
 use Rattle.brpc_model.specs.Stream.{Stream, Rest, stream_from, goes_on}
@@ -16,6 +15,7 @@ use Rattle.brpc_model.proofs.Streams.{stream_goes_on}
 use Rattle.send_causes.specs.prpc_frame.proofs.Encoded.{frame_judged}
 use Rattle.send_causes.specs.rpc_meta.proofs.RoundTrip.{round_trip}
 use Rattle.sock_message.specs.Asked.{Asked, meta_of, request_of, frame_of}
+use Rattle.send_causes.specs.report_fits.proofs.Frames.{number_short, bytes_short, size_short}
 
 -- ## Streams of whole frames
 
@@ -57,24 +57,6 @@ module _ {A : Type 0} (bytes_of : A → List ℕ) (Q : Frame → Type 0) where
   pieces_end (x ∷ xs) all at = let p = all.0 in ends_then at (bytes_of x) (flat_map bytes_of xs) p.frame p.is ∙ pieces_end xs all.1 (at + (12 + (length (bytes_of x) - 12)))
 
 -- ## The sizes of metas
-
-varint_short : (most n : ℕ) → length (varint_up_to most n) ≤ most
-varint_short zero n = omega arith
-varint_short (suc most) n = by_size (nat_lt n 128) (varint_short most (n / 128))
-  where
-    by_size : (b : Bool) → length (varint_up_to most (n / 128)) ≤ most → length (cond b (n ∷ []) ((n % 128 + 128) ∷ varint_up_to most (n / 128))) ≤ suc most
-    by_size true few = omega arith
-    by_size false few = omega (arith, few)
-
-number_short : (number n : ℕ) → length (number_field number n) ≤ 20
-number_short number n = omega (arith, length-append (varint_bytes (number * 8)) (varint_bytes n), varint_short 10 (number * 8), varint_short 10 n)
-
-bytes_short : (number : ℕ) (bytes : List ℕ) → length (bytes_field number bytes) ≤ 20 + length bytes
-bytes_short number bytes = omega (arith, length-append (varint_bytes (number * 8 + 2) ++ varint_bytes (length bytes)) bytes, length-append (varint_bytes (number * 8 + 2)) (varint_bytes (length bytes)), varint_short 10 (number * 8 + 2), varint_short 10 (length bytes))
-
-size_short : (n : ℕ) → length (where_not_0 5 (pos n)) ≤ 20
-size_short zero = omega arith
-size_short (suc n) = number_short 5 (suc n)
 
 text_short : (text : List ℕ) → length (where_not_empty 2 text) ≤ 20 + length text
 text_short [] = omega arith

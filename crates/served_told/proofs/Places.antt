@@ -1,6 +1,5 @@
 -- Where the messages stand that links accepted: what stands at a place of a link's line in the report is one of them, at that place of the link's order.
-use Rattle.std.proofs.Common.{◌≡◌, ℕ, ◌*◌, ◌<◌, ◌≤◌, true, List, length, slice_get, Option, Some, Ok, refl, sym, ap, ◌∙◌, subst, arith}
-use Rattle.std.proofs.lemmas.Option.{slice_get_within}
+use Rattle.std.proofs.Common.{◌≡◌, ℕ, ◌<◌, ◌≤◌, List, slice_get, Option, Some, Ok, sym, ap, ◌∙◌, subst, arith}
 use Rattle.std.specs.List.{AllByRecursion}
 use Rattle.sock_words.specs.declared.outcome.Outcome.{Outcome}
 use Rattle.brpc_model.specs.Items.{Item}
@@ -8,10 +7,9 @@ use Rattle.brpc_model.specs.Operations.{Label}
 use Rattle.brpc_model.specs.PlaceWords.{IsLineOf}
 use Rattle.brpc_model.specs.Report.{LinkLine}
 use Rattle.brpc_model.specs.Script.{script_of}
-use Rattle.report_fits.proofs.Counting.{tally_all}
 use Rattle.report_fits.proofs.Flat.{at_map}
-use Rattle.report_fits.proofs.LabelCounts.{Differ, few}
-use Rattle.report_fits.proofs.Lists.{all_at, before_from, has_from}
+use Rattle.report_fits.proofs.Labels as labels
+use Rattle.report_fits.proofs.Lists.{all_at, has_from}
 use Rattle.report_fits.proofs.Orders as lines
 use Rattle.report_fits.proofs.Sizes.{keeps_limits}
 use Rattle.report_fits.proofs.Tasks.{tasks_of_script}
@@ -57,18 +55,8 @@ module _ (bytes : List ℕ) (script : List Item) (reads : script_of bytes ≡ Ok
   sent_low : (k i : ℕ) (a : Accepted) → k < (plan_of script).links → StandsAt orders k i a → (a.operation < (plan_of script).operations) × (a.attempt < 8)
   sent_low k i a low at = label_low k a (all_at (Sent_ k) (orders k).accepted a (attempts.sent k low) (i, at))
 
-  -- no two messages of a link have one label, so there are few
-  few_accepted : (k : ℕ) → k < (plan_of script).links → length (orders k).accepted ≤ 8 * (plan_of script).operations
-  few_accepted k low =
-      let differ = before_from Differ (orders k).accepted (λ i j a b less at bt same. let e = (are_orders.apart k k i j a b low low at bt same).1 in let z : ⊥ = omega (arith, less, e) in z) in
-      let bound = few (λ j. true) (8 * (plan_of script).operations) (orders k).accepted differ (λ a h. (let l = sent_low k h.0 a low h.1 in let operation = l.0 in let attempt = l.1 in omega (arith, operation, attempt), refl)) in
-      omega (arith, bound, tally_all (8 * (plan_of script).operations))
-
   pub inside : (k i : ℕ) (a : Accepted) → k < (plan_of script).links → StandsAt orders k i a → (i < 4294967295) × (a.operation < (plan_of script).operations) × (a.attempt < 8)
-  inside k i a low at =
-      let limits = keeps_limits bytes script reads in
-      let l = sent_low k i a low at in
-      (omega (arith, slice_get_within (orders k).accepted i a at, few_accepted k low, limits.operations), l.0, l.1)
+  inside = labels.inside (plan_of script).links orders are_orders.apart (plan_of script).operations (keeps_limits bytes script reads).operations sent_low
 
   pub few_links : (plan_of script).links ≤ 65536
   few_links = let limits = keeps_limits bytes script reads in omega (arith, limits.links)

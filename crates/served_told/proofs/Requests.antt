@@ -124,14 +124,14 @@ module _ (script : List Item) (are : AreTasks (plan_of script) (all_tasks script
         let tried : a.attempt ≤ attempts.last t.number = (let same = ap attempts.last number in omega (arith, same, last)) in
         subst (IsPiece IsRequest) (sym bytes) (made_piece client t asked outcome id a.attempt it op (subst (λ n. Became_ n outcome) (sym number) became) shows tried)
 
-    pieces : AllByRecursion (λ a. IsPiece IsRequest (bytes_of a)) accepted
+    pub pieces : AllByRecursion (λ a. IsPiece IsRequest (bytes_of a)) accepted
     pieces = all_map (Sent_ k) (λ a. IsPiece IsRequest (bytes_of a)) sent_piece accepted (attempts.sent k low)
 
     taken : IsTaken (orders k) took
     taken = are_orders.taken k low
 
     -- what it took is the front of all that it accepted
-    whole : (more : List ℕ) × (took ++ more ≡ flat_map bytes_of accepted)
+    pub whole : (more : List ℕ) × (took ++ more ≡ flat_map bytes_of accepted)
     whole = let n = (orders k).placed in let x = cut_more taken.cut (drop n accepted) taken.is_cut in (
       x.0,
       ap (λ l. l ++ x.0) taken.took_is ∙ (append_assoc (flat_map bytes_of (take n accepted)) taken.cut x.0 ∙ (ap (λ l. flat_map bytes_of (take n accepted) ++ l) x.1

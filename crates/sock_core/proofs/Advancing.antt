@@ -8,7 +8,7 @@ use lib.ListN.{get_elem?}
 use Rattle.sock_words.specs.declared.kind.Kind.{Kind}
 use Rattle.sock_io.specs.declared.link.Ready.TheVariants as asks
 use Rattle.seat_programs.specs.Asides as asides
-use Rattle.seat_programs.specs.Heads.{Head, Exit, Posts, Unlocks, Decides, Locks, Joins, Opens, Reads, Discards}
+use Rattle.seat_programs.specs.Heads.{Head, Exit, Locks}
 use Rattle.seat_programs.specs.Writings as heads
 use Rattle.seat_programs.specs.Programs.{Program, Write, Round}
 use Rattle.seat_programs.specs.Cores.{Core, SeatState}
@@ -22,7 +22,7 @@ use Rattle.call_points.specs.declared.aside.Aside.TheVariants as code
 use Rattle.call_points.specs.Steps as aside_steps
 use Rattle.seat_states.specs.declared.point.Step.{Step}
 use Rattle.seat_states.specs.declared.point.Step.TheVariants as firsts
-use Rattle.seat_states.specs.Steps.{First, OfCall, OfAside, OfMessage, OfLink, OfHome, step_of, step_as, first_in}
+use Rattle.seat_states.specs.Steps.{First, OfCall, OfAside, step_of, step_as, first_in}
 use Rattle.seat_states.specs.Steps as kinds
 use Rattle.client_seats.specs.Seats.{around, seat_program, asked_of}
 use Rattle.reader_points.specs.declared.point.ReadStep.{ReadStep}
@@ -89,15 +89,9 @@ is_paced m room is enough = ∥∥₁_elim (is.paced enough) (paced_prop (machin
 module _ (m : MachineState) (took : Taken) (gave : Given) where
   -- who waits does so by the words, and by whether the run is ending
   head_waits : (head : Head) (next : Exit head → Program) (answer : Answer) → waits_at m.plan (core_with m took gave) answer (Round head next) ≡ is_waiting (table_of m) answer (Round head next)
-  head_waits (Posts id e w) next answer = refl
-  head_waits (Unlocks i w advance) next answer = refl
-  head_waits (Decides id asked w e) next answer = refl
   head_waits (Locks i sought None) next answer = refl
   head_waits (Locks i sought (Some w)) next answer = refl
-  head_waits (Joins id) next answer = refl
-  head_waits (Opens o) next answer = refl
-  head_waits (Reads r) next answer = refl
-  head_waits (Discards k total) next answer = refl
+  head_waits _ next answer = refl
 
   pub waits_alike : (program : Program) (answer : Answer) → waits_at m.plan (core_with m took gave) answer program ≡ is_waiting (table_of m) answer program
   waits_alike (Round head next) answer = head_waits head next answer
@@ -181,13 +175,9 @@ module _ (m fresh : MachineState) (room i : ℕ) (step : Step) (tick : Tick) (is
   made = w.told.makes.is
 
   base_by : (f : First) → MadeFirst (table_of m) (table_of fresh) i w.seat w.seat' step f answer → SameBase (table_of m) (table_of fresh)
-  base_by (OfCall call) x = x.1.goes.base
-  base_by (OfAside aside) x = x.1.goes.base
-  base_by (OfMessage q) x = x.1.goes.base
-  base_by (OfLink k) x = x.1.goes.base
-  base_by (OfHome k c) x = x.1.goes.base
   base_by (kinds.OfPut k asked bytes) x = x.2.goes.base
   base_by (kinds.OfReady k) x = x.2.goes.base
+  base_by _ x = x.1.goes.base
 
   pub base : SameBase (table_of m) (table_of fresh)
   base = base_by first made
@@ -235,13 +225,9 @@ module _ (m fresh : MachineState) (room i : ℕ) (step : Step) (tick : Tick) (is
   )
 
   yet_by : (f : First) → first_in program ≡ Some f → MadeFirst (table_of m) (table_of fresh) i w.seat w.seat' step f answer → answer ≡ OfReady asks.NotYet → (c : Core) → waits_at m.plan c answer program ≡ true
-  yet_by (OfCall call) at x e c = absurd (let f = x.0 in cc)
-  yet_by (OfAside aside) at x e c = absurd (let f = x.0 in cc)
-  yet_by (OfMessage q) at x e c = absurd (let f = x.0 in cc)
-  yet_by (OfLink k) at x e c = absurd (let f = x.0 in cc)
-  yet_by (OfHome k o) at x e c = absurd (let f = x.0 in cc)
   yet_by (kinds.OfPut k asked bytes) at x e c = absurd (let f = x.1 in cc)
   yet_by (kinds.OfReady k) at x e c = ap (λ (o : Answer). waits_at m.plan c o program) e ∙ (ready_waits m.plan c (around (machine_sizes m) w.seat) w.seat.point k at).0
+  yet_by _ at x e c = absurd (let f = x.0 in cc)
 
   keeps : (s : IsSoundMachine m) → Keeps m fresh s moment
   keeps s = step_keeps m fresh i answer base.plan base.id_plan w.opens slots (operations_are m is.sizes) s (stepped s.took s.gave s.agrees s.agrees_gave)
@@ -249,14 +235,10 @@ module _ (m fresh : MachineState) (room i : ℕ) (step : Step) (tick : Tick) (is
       (λ e. ap (λ (o : core.Option SeatState). elim o as (λ x. Bool) [ core.none ↦ false | core.some x ↦ waits_at m.plan (core_with m s.took s.gave) answer x.program ]) (own_at s.took s.gave) ∙ yet_by first next made e (core_with m s.took s.gave))
 
   called_by : (x : Step) → first_in program ≡ Some (step_as (around (machine_sizes m) w.seat) x) → MadeFirst (table_of m) (table_of fresh) i w.seat w.seat' x (step_as (around (machine_sizes m) w.seat) x) answer → AreCalled fresh.ids
-  called_by (firsts.Call call) at x = subst AreCalled (sym x.1.ids) (is.called enough)
   called_by (firsts.Aside aside) at x = called_behind (table_of m) (asked_of w.seat.call) aside x.1.found fresh.ids x.1.ids (client_slots m sized slots (is.called enough) (is.sound enough) i w.seat w.at aside at) (is.called enough)
-  called_by (firsts.PutMessage q author) at x = subst AreCalled (sym x.1.ids) (is.called enough)
-  called_by (firsts.TakeMessage q) at x = subst AreCalled (sym x.1.ids) (is.called enough)
-  called_by (firsts.TakeHome k) at x = subst AreCalled (sym x.1.ids) (is.called enough)
-  called_by (firsts.PutHome k c) at x = subst AreCalled (sym x.1.ids) (is.called enough)
   called_by (firsts.PutBytes k asked author) at x = subst AreCalled (sym x.2.ids) (is.called enough)
   called_by (firsts.AskReady k) at x = subst AreCalled (sym x.2.ids) (is.called enough)
+  called_by _ at x = subst AreCalled (sym x.1.ids) (is.called enough)
 
   many : AsMany m fresh
   many = as_many m fresh i w.seat w.seat' step first answer made

@@ -21,7 +21,7 @@ use Rattle.run_theorems.specs.Heard.{half_of, as_told, heard_at}
 use Rattle.sock_io.specs.Causes.{Rose}
 use Rattle.seat_programs.specs.Calls as calls
 use Rattle.seat_programs.specs.Writings.{Puts, Waits, Empties, Walks}
-use Rattle.seat_programs.specs.Programs.{Program, Do, Say, Sent, Rest, TakeMessage, TakeHome, PutHome, PutBytes, AskReady, Write, Aside, Round, Keep, Retries}
+use Rattle.seat_programs.specs.Programs.{Program, Say, Sent, Rest, PutBytes, AskReady, Write, Aside, Round, Keep, Retries}
 use Rattle.corr_core.specs.Word.{parts, code_of}
 use Rattle.seat_programs.specs.Asides.{id_slot, PutCall}
 use Rattle.seat_programs.specs.Heads.{Posts, Unlocks, Decides, Locks, Joins, Opens, Reads, Discards, HasEnded}
@@ -115,22 +115,15 @@ module _ (old fresh : MachineState) (i : ℕ) (place seat' : SeatData) (step : S
   -- the links stay those that they were
   pub made_links : (first : First) (answer : Answer) → MadeFirst (table_of old) (table_of fresh) i place seat' step first answer → SameLinks old fresh
   made_links (OfCall call) answer w = links_kept old fresh w.1.ends (prompt_call call old.links fresh.links w.1.outs) (tell_same old.links fresh.links w.1.goes.base.inns)
-  made_links (OfAside aside) answer w = links_kept old fresh w.1.ends (prompt_same old.links fresh.links (ap (λ (l : LinksData). l.outs) w.1.links)) (tell_same old.links fresh.links w.1.goes.base.inns)
-  made_links (OfMessage q) answer w = links_kept old fresh w.1.ends (prompt_same old.links fresh.links (ap (λ (l : LinksData). l.outs) w.1.links)) (tell_same old.links fresh.links w.1.goes.base.inns)
-  made_links (OfLink k) answer w = links_kept old fresh w.1.ends (prompt_same old.links fresh.links (ap (λ (l : LinksData). l.outs) w.1.links)) (tell_same old.links fresh.links w.1.goes.base.inns)
-  made_links (OfHome k n) answer w = links_kept old fresh w.1.ends (prompt_same old.links fresh.links (ap (λ (l : LinksData). l.outs) w.1.links)) (tell_same old.links fresh.links w.1.goes.base.inns)
   made_links (kinds.OfPut k asked bytes) answer w = asked_links w.2 (λ out out' step. step.same.always_ready)
   made_links (kinds.OfReady k) answer w = asked_links w.2 (λ out out' step. step.same.always_ready)
+  made_links _ answer w = links_kept old fresh w.1.ends (prompt_same old.links fresh.links (ap (λ (l : LinksData). l.outs) w.1.links)) (tell_same old.links fresh.links w.1.goes.base.inns)
 
   -- a prompt link answers in time
   pub made_prompt : (first : First) (answer : Answer) → MadeFirst (table_of old) (table_of fresh) i place seat' step first answer → AreAlwaysReady old.links → answer ≢ OfReady asks.NotYet
-  made_prompt (OfCall call) answer w always_ready yet = let e = w.0 in cc
-  made_prompt (OfAside aside) answer w always_ready yet = let e = w.0 in cc
-  made_prompt (OfMessage q) answer w always_ready yet = let e = w.0 in cc
-  made_prompt (OfLink k) answer w always_ready yet = let e = w.0 in cc
-  made_prompt (OfHome k n) answer w always_ready yet = let e = w.0 in cc
   made_prompt (kinds.OfPut k asked bytes) answer w always_ready yet = let e = w.1 in cc
   made_prompt (kinds.OfReady k) answer w always_ready yet = let a = w.2.asked in let e = w.1 in a.answered.always_ready (always_ready k a.out a.at) (let f : w.0 ≡ asks.NotYet = cc in f)
+  made_prompt _ answer w always_ready yet = let e = w.0 in cc
 
   -- ## Links that failed
 
@@ -165,13 +158,9 @@ IsAsked (kinds.OfReady k) ks = ks ≡ k ∷ []
 IsAsked other ks = ks ≡ []
 
 asks_none : (o : Option First) (first : First) → o ≡ Some first → AsksNoLink o → IsAsked first []
-asks_none o (OfCall call) e none_ = refl
-asks_none o (OfAside aside) e none_ = refl
-asks_none o (OfMessage q) e none_ = refl
-asks_none o (OfLink k) e none_ = refl
-asks_none o (OfHome k n) e none_ = refl
 asks_none o (kinds.OfPut k asked bytes) e none_ = absurd (subst AsksNoLink e none_)
 asks_none o (kinds.OfReady k) e none_ = absurd (subst AsksNoLink e none_)
+asks_none o _ e none_ = refl
 
 judge_none : (ends : Bool) (x y : Program) → AsksNoLink (first_of x) → AsksNoLink (first_of y) → AsksNoLink (first_of (if ends then x else y))
 judge_none true x y f g = f
@@ -184,11 +173,6 @@ asks_first (Write (Waits h now heading left taken) after) first e = subst (λ (f
 asks_first (Write (Puts h now heading left taken asked) after) first e = asks_none _ first e tt
 asks_first (Write (Walks h top place after) then_) first e = asks_none _ first e tt
 asks_first (Write (Empties h) after) first e = asks_none _ first e tt
-asks_first (Do call next) first e = asks_none _ first e tt
-asks_first (TakeMessage q next) first e = asks_none _ first e tt
-asks_first (TakeHome k next) first e = asks_none _ first e tt
-asks_first (PutHome k n after) first e = asks_none _ first e tt
-asks_first (Aside step next) first e = asks_none _ first e tt
 asks_first (Say o outcome next) first e = cc
 asks_first (Sent o next) first e = cc
 asks_first (Keep r next) first e = cc
@@ -203,6 +187,7 @@ asks_first (Round (Joins id) next) first e = asks_none _ first e tt
 asks_first (Round (Opens o) next) first e = asks_none _ first e tt
 asks_first (Round (Reads r) next) first e = asks_none _ first e tt
 asks_first (Round (Discards k total) next) first e = asks_none _ first e tt
+asks_first _ first e = asks_none _ first e tt
 
 module _ (old fresh : MachineState) (i : ℕ) (c : Core) (seat : SeatState) (there : get_elem? c.seats i ≡ core.some seat) (place seat' : SeatData) (step : Step) where
   none_broken : ShowFaults fresh []
@@ -231,13 +216,9 @@ module _ (old fresh : MachineState) (i : ℕ) (c : Core) (seat : SeatState) (the
   -- a link that answered that it failed shows it
   pub made_broken : (first : First) (answer : Answer) → MadeFirst (table_of old) (table_of fresh) i place seat' step first answer → first_in seat.program ≡ Some first → AsksUnfinished old.links first →
       ShowFaults fresh (broken_at c (record { seat = i; answer = answer }))
-  made_broken (OfCall call) answer w first open_ = unasked answer w.0
-  made_broken (OfAside aside) answer w first open_ = unasked answer w.0
-  made_broken (OfMessage q) answer w first open_ = unasked answer w.0
-  made_broken (OfLink k) answer w first open_ = unasked answer w.0
-  made_broken (OfHome k n) answer w first open_ = unasked answer w.0
   made_broken (kinds.OfPut k asked bytes) answer w first open_ = subst (λ (a : Answer). ShowFaults fresh (broken_at c (record { seat = i; answer = a }))) (sym w.1) (put_broken k asked bytes w.0 _ w.2 first open_)
   made_broken (kinds.OfReady k) answer w first open_ = subst (λ (a : Answer). ShowFaults fresh (broken_at c (record { seat = i; answer = a }))) (sym w.1) (ready_broken k w.0 _ w.2 first open_)
+  made_broken _ answer w first open_ = unasked answer w.0
 
   -- ## What links answered
 

@@ -56,22 +56,18 @@ module _ (t : TableState) (asked : Asked) where
 
   step_called : (step : Aside) (found : Found (step_of asked step)) → FitsSlots t step → CalledIn a → CalledIn (calls_after (step_of asked step) found a)
   step_called (code.ClaimId i) found fits called o inside = let within = fits.0 in other_below t.ids.words (call_index q o) (tag_index i) 1 (λ e. omega (arith, e, within)) (called o inside)
-  step_called (code.PutCall i) found fits called o inside = called o inside
   step_called (code.MakeId i range) found fits called o inside = let within = fits.0 in other_below t.ids.words (call_index q o) (id_index i) _ (λ e. omega (arith, e, within)) (called o inside)
   step_called (code.StoreCall x id) found fits called o inside = dite (ℕ_discrete o x)
       (λ same. subst (λ y. IsBelow (get_or (slice_set t.ids.words (call_index q x) (id_of id)) (call_index q y) 0)) (sym same) (same_below t.ids.words (call_index q x) (id_of id) (own_below id)))
       (λ differ. other_below t.ids.words (call_index q o) (call_index q x) (id_of id) (λ e. differ (omega (arith, e))) (called o inside))
-  step_called (code.LoadCall x) found fits called o inside = called o inside
   step_called (code.StoreAt x w) found fits called o inside = other_below t.ids.words (call_index q o) (at_index q x) w.0 (λ e. omega (arith, e)) (called o inside)
-  step_called (code.LoadAt x) found fits called o inside = called o inside
-  step_called (code.LoadIdWord i) found fits called o inside = called o inside
   step_called (code.LockId i from) found fits called o inside = let within = fits.0 in other_below t.ids.words (call_index q o) (id_index i) _ (λ e. omega (arith, e, within)) (called o inside)
   step_called (code.PostId i from e) found fits called o inside = let within = fits.0 in other_below t.ids.words (call_index q o) (id_index i) _ (λ e. omega (arith, e, within)) (called o inside)
   step_called (code.UnlockId i from advance) found fits called o inside = let within = fits.0 in other_below t.ids.words (call_index q o) (id_index i) _ (λ e. omega (arith, e, within)) (called o inside)
   step_called (code.EndId i) found fits called o inside = let within = fits.0 in other_below t.ids.words (call_index q o) (id_index i) _ (λ e. omega (arith, e, within)) (called o inside)
   step_called (code.FreeId i) found fits called o inside = let within = fits.0 in other_below t.ids.words (call_index q o) (tag_index i) 0 (λ e. omega (arith, e, within)) (called o inside)
-  step_called (code.TakeCall i) found fits called o inside = called o inside
   step_called (code.TakeBytes k room) found fits called o inside = given_called k found a called o inside
+  step_called _ found fits called o inside = called o inside
 
   -- behind a step on the ids
   pub called_behind : (step : Aside) (found : Found (step_of asked step)) (ids' : SlotState) → slots.Makes t.ids (step_of asked step) (core.some found) ids' → FitsSlots t step → AreCalled t.ids → AreCalled ids'

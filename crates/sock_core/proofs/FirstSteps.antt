@@ -10,11 +10,11 @@ use Rattle.sock_model.specs.Messages.{Letter}
 use Rattle.sock_model.specs.Reads.{message, link_home}
 use Rattle.seat_programs.specs.Calls.{Call}
 use Rattle.seat_programs.specs.Asides as asides
-use Rattle.seat_programs.specs.Asides.{Found, Taking}
+use Rattle.seat_programs.specs.Asides.{Found}
 use Rattle.seat_programs.specs.Beside.{found_in, calls_after}
 use Rattle.seat_programs.specs.Heads.{Posts, Unlocks, Decides, Locks, Joins, Opens, Reads, Discards}
 use Rattle.seat_programs.specs.Writings.{Puts, Waits, Empties, Walks}
-use Rattle.seat_programs.specs.Programs.{Program, Do, Say, Sent, Rest, TakeMessage, TakeHome, PutHome, PutBytes, AskReady, Write, Aside, Round, Keep, Retries}
+use Rattle.seat_programs.specs.Programs.{Program, Do, TakeMessage, TakeHome, PutHome, PutBytes, AskReady, Write, Aside, Round}
 use Rattle.seat_programs.specs.Cores.{Core, SeatState, word_of, found_at, words_after, word_after, homes_after, hand_after, lies_at, first_of, others_of, link_place, with_seat}
 use Rattle.seat_programs.specs.Ticks.{Answer, OfPut, OfReady, FitsPut, IsAnswer, IsTaken, taken, fed, with_places, onto_first, with_message, with_link, with_found, step_with, tick_with}
 use Rattle.sock_runs.specs.Sound.{first_step}
@@ -70,13 +70,7 @@ is_step (TakeHome k next) first e = subst (IsStep (TakeHome k next)) (same_some 
 is_step (PutHome k n after) first e = subst (IsStep (PutHome k n after)) (same_some e) (after, refl)
 is_step (PutBytes k asked bytes next) first e = subst (IsStep (PutBytes k asked bytes next)) (same_some e) (next, refl)
 is_step (AskReady k next) first e = subst (IsStep (AskReady k next)) (same_some e) (next, refl)
-is_step (Write w after) first e = cc
-is_step (Round head next) first e = cc
-is_step (Say o outcome next) first e = cc
-is_step (Sent o next) first e = cc
-is_step (Keep r next) first e = cc
-is_step (Retries requests after) first e = cc
-is_step Rest first e = cc
+is_step _ first e = cc
 
 pub step_is : (program : Program) (first : First) → first_in program ≡ Some first → IsStep (first_step program) first
 step_is program first e = is_step (first_step program) first (sym (first_is program) ∙ e)

@@ -98,12 +98,7 @@ call_prop p l i _ = hlevel props
 
 may_prop : (p : Plan) (l : LinksData) (i : ℕ) (first : First) → IsProp (MayMake p l i first)
 may_prop p l i (OfCall call) = call_prop p l i call
-may_prop p l i (OfAside step) = hlevel props
-may_prop p l i (OfMessage q) = hlevel props
-may_prop p l i (OfLink k) = hlevel props
-may_prop p l i (OfHome k n) = hlevel props
-may_prop p l i (kinds.OfPut k asked bytes) = hlevel props
-may_prop p l i (kinds.OfReady k) = hlevel props
+may_prop p l i _ = hlevel props
 
 unfinished_prop : (l : LinksData) (first : First) → IsProp (AsksUnfinished l first)
 unfinished_prop l (kinds.OfPut k asked bytes) = hlevel props
@@ -190,18 +185,7 @@ module _ (m : MachineState) (sized : IsSized (table_of m)) (few_slots : m.ids.pl
         by_step (code.PutCall k) next = ∥∥₁_elim sound (hlevel props) (λ s. (id_may m sized s i program (own_at s) (asides.PutCall k asked) next).0)
         by_step (code.TakeCall k) next = (∥∥₁_elim sound (hlevel props) (λ s. (id_may m sized s i program (own_at s) (asides.TakeCall k) next).0), at_home k next (call_at (get_elem? m.ids.homes k)) refl)
         by_step (code.TakeBytes k room) next = tt
-        by_step (code.ClaimId k) next = fits (code.ClaimId k) tt next
-        by_step (code.MakeId k range) next = fits (code.MakeId k range) tt next
-        by_step (code.StoreCall o id) next = fits (code.StoreCall o id) tt next
-        by_step (code.LoadCall o) next = fits (code.LoadCall o) tt next
-        by_step (code.StoreAt o w) next = fits (code.StoreAt o w) tt next
-        by_step (code.LoadAt o) next = fits (code.LoadAt o) tt next
-        by_step (code.LoadIdWord k) next = fits (code.LoadIdWord k) tt next
-        by_step (code.LockId k from) next = fits (code.LockId k from) tt next
-        by_step (code.PostId k from e) next = fits (code.PostId k from e) tt next
-        by_step (code.UnlockId k from advance) next = fits (code.UnlockId k from advance) tt next
-        by_step (code.EndId k) next = fits (code.EndId k) tt next
-        by_step (code.FreeId k) next = fits (code.FreeId k) tt next
+        by_step other next = fits other tt next
 
     -- a call's word names an id
     call_found : (o word : ℕ) → first_in program ≡ Some (OfAside (asides.LoadCall o)) → get_or m.ids.words (call_index m.ids.plan o) 0 ≡ word → MayFindId word

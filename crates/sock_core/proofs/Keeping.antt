@@ -18,7 +18,7 @@ use Rattle.seat_programs.specs.Clients.{HeldLife}
 use Rattle.seat_programs.specs.Heads.{Retry}
 use Rattle.seat_programs.specs.Calls as calls
 use Rattle.seat_programs.specs.Writings as heads
-use Rattle.seat_programs.specs.Programs.{Program, Do, Say, Sent, Rest, TakeMessage, TakeHome, PutHome, PutBytes, AskReady, Write, Aside, Round, Keep, Retries}
+use Rattle.seat_programs.specs.Programs.{Program, PutBytes, AskReady, Write}
 use Rattle.seat_programs.specs.Cores.{Core, SeatState, word_of, found_at, next_step, resolved}
 use Rattle.seat_programs.specs.Ticks.{Answer, Unasked, OfPut, OfReady, OfTake, Moment, ticked, waits}
 use Rattle.seat_programs.specs.Runs.{IsAtRest}
@@ -37,7 +37,7 @@ use Rattle.id_runs.specs.Goes.{SoundIds}
 use Rattle.run_theorems.specs.joint_runs.proofs.Both.{BothSound, FitsBoth, fits_both, joint_ticks}
 use Rattle.call_points.specs.Steps.{after_word}
 use Rattle.seat_states.specs.Points.{Context, after_put, after_ready}
-use Rattle.seat_states.specs.Steps.{First, OfCall, OfAside, OfMessage, OfLink, OfHome, step_as, first_in}
+use Rattle.seat_states.specs.Steps.{First, OfCall, OfAside, OfMessage, OfLink, OfHome, first_in}
 use Rattle.seat_states.specs.Steps as kinds
 use Rattle.seat_states.proofs.StepFacts as facts
 use Rattle.client_seats.specs.Seats.{SeatData, around, seat_program}
@@ -93,18 +93,7 @@ module _ (m : MachineState) (sized : IsSized (table_of m)) (s : IsSoundMachine m
     writer_by (Write (heads.Empties h) after) goes = tt
     writer_by (Write (heads.Walks h top place after) then_) goes = tt
     writer_by (PutBytes k asked bytes next) goes = holds k (asked_there k (λ answer. PutBytes k asked bytes next) ((goes.0.0, goes.0.1), λ answer. goes))
-    writer_by (Do call next) goes = tt
-    writer_by (Say o outcome next) goes = tt
-    writer_by (Sent o next) goes = tt
-    writer_by (Keep r next) goes = tt
-    writer_by (Retries requests after) goes = tt
-    writer_by Rest goes = tt
-    writer_by (TakeMessage q next) goes = tt
-    writer_by (TakeHome k next) goes = tt
-    writer_by (PutHome k n after) goes = tt
-    writer_by (AskReady k next) goes = tt
-    writer_by (Aside step next) goes = tt
-    writer_by (Round head next) goes = tt
+    writer_by _ goes = tt
 
   is_writer : IsWriter m.links j own.program
   is_writer = let v = view_there before.seats s.views j own s.sound.each own_at (get_elem? s.views j) refl in writer_by v.0 v.1 own.program (s.sound.seats j own v.0 own_at v.1).goes_on

@@ -31,6 +31,7 @@ pub mod Preparing
 pub mod PlainSteps
 pub mod ClientTicks
 pub mod Rounding
+pub mod Linkers
 pub mod Endings
 pub mod Gathering
 pub mod Begun

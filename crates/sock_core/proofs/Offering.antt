@@ -120,13 +120,9 @@ one_offers p k serve end c m other e none_ = (λ seat at. not_offered p k serve 
 module _ (old fresh : MachineState) (i : ℕ) (place seat' : SeatData) (step : Step) where
   module _ (p : Plan) (k : ℕ) (serve : Bool) (end : Option ℕ) (c : Core) where
     pub made_offers : (first : First) (answer : Answer) → MadeFirst (table_of old) (table_of fresh) i place seat' step first answer → AreOffered p k serve end c (record { seat = i; answer = answer } ∷ [])
-    made_offers (OfCall call) answer w = one_offers p k serve end c (record { seat = i; answer = answer }) Unasked w.0 refl
-    made_offers (OfAside aside) answer w = one_offers p k serve end c (record { seat = i; answer = answer }) Unasked w.0 refl
-    made_offers (OfMessage q) answer w = one_offers p k serve end c (record { seat = i; answer = answer }) Unasked w.0 refl
-    made_offers (OfLink x) answer w = one_offers p k serve end c (record { seat = i; answer = answer }) Unasked w.0 refl
-    made_offers (OfHome x n) answer w = one_offers p k serve end c (record { seat = i; answer = answer }) Unasked w.0 refl
     made_offers (kinds.OfPut x asked bytes) answer w = one_offers p k serve end c (record { seat = i; answer = answer }) (OfPut w.0) w.1 refl
     made_offers (kinds.OfReady x) answer w = one_offers p k serve end c (record { seat = i; answer = answer }) (OfReady w.0) w.1 refl
+    made_offers _ answer w = one_offers p k serve end c (record { seat = i; answer = answer }) Unasked w.0 refl
 
   module _ (k : ℕ) (serve : Bool) (end : Option ℕ) (h : IsOffering old.links k serve end) where
     all_same : fresh.links ≡ old.links → IsOffering fresh.links k serve end

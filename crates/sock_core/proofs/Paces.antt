@@ -216,14 +216,9 @@ no_look a _ step next looks is = absurd looks
 
 module _ (a : Context) (on : (hs : List HeldLife) → Calm (a.goes_on hs)) (ends : Calm a.ends) where
   then_calm : (t : Continuation) (b : Bool) → Calm (then_program a t b)
-  then_calm (thens.Gone o found) b = on a.held
-  then_calm (thens.Failed o found) b = on a.held
-  then_calm (thens.Dropped o) b = on a.held
-  then_calm (thens.Full o) b = on a.held
-  then_calm (thens.Sent o) b = on a.held
-  then_calm thens.GaveBack b = on a.held
   then_calm (thens.Unreached t) b = λ w. tt
   then_calm thens.Ended b = ends
+  then_calm _ b = on a.held
 
   reached_calm : (aim : Aim) (id : SocketId) → Calm (reached_program a aim id)
   reached_calm (aims.Hold o name) id = on _
@@ -247,10 +242,7 @@ module _ (a : Context) (on : (hs : List HeldLife) → Calm (a.goes_on hs)) (ends
 
   posted_calm : (id e : ℕ) (next : Program) → Calm next → (how : Posting) → Calm (posted id e next how)
   posted_calm id e next calm (HasLocked word) = λ w. tt
-  posted_calm id e next calm WasGone = calm
-  posted_calm id e next calm WasStale = calm
-  posted_calm id e next calm (WasCrowded x y) = calm
-  posted_calm id e next calm WasQueued = calm
+  posted_calm id e next calm _ = calm
 
   post_calm : (c : OnCall) (after : AfterStep) (how : Posting) → Calm (posted_program a c after how)
   post_calm c (afters.Expire o) how = posted_calm (id_of c.id) c.error.0 _ (on a.held) how
@@ -355,21 +347,9 @@ module _ (a : Context) (on : (hs : List HeldLife) → Calm (a.goes_on hs)) (ends
 
   -- behind a step on a word
   aside_calm : (step : Step) (next : Found step → Program) (found : ℕ) → ((x : Found step) → Calm (next x)) → Calm (with_word step next found)
-  aside_calm (asides.ClaimId i) next found calm = calm found
-  aside_calm (asides.PutCall i asked) next found calm = calm found
-  aside_calm (asides.MakeId i range) next found calm = calm found
-  aside_calm (asides.StoreCall o id) next found calm = calm found
-  aside_calm (asides.LoadCall o) next found calm = calm found
-  aside_calm (asides.StoreAt o x) next found calm = calm found
-  aside_calm (asides.LoadAt o) next found calm = calm found
-  aside_calm (asides.LoadIdWord i) next found calm = calm found
-  aside_calm (asides.LockId i from) next found calm = calm found
-  aside_calm (asides.PostId i from e) next found calm = calm found
-  aside_calm (asides.UnlockId i from advance) next found calm = calm found
-  aside_calm (asides.EndId i) next found calm = calm found
-  aside_calm (asides.FreeId i) next found calm = calm found
   aside_calm (asides.TakeCall i) next found calm = λ w. tt
   aside_calm (asides.TakeBytes k room) next found calm = λ w. tt
+  aside_calm _ next found calm = calm found
 
   word_calm : (p : Point) (program : Program) (found : ℕ) → GoesByWord p → CalmStep p program → Calm (word_behind program found)
   word_calm p (Do call next) found goes calm = calm found

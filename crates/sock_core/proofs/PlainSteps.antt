@@ -13,7 +13,7 @@ use Rattle.seat_programs.specs.Asides.{PutCall, id_slot}
 use Rattle.seat_programs.specs.Heads.{Retry, Posts, Unlocks, Decides, Locks, Joins, Opens, Reads, Discards, HasEnded}
 use Rattle.seat_programs.specs.Posts.{ends_call, end_id, unlocked}
 use Rattle.seat_programs.specs.Writings as heads
-use Rattle.seat_programs.specs.Programs.{Program, Do, Say, Sent, Rest, TakeMessage, TakeHome, PutHome, PutBytes, AskReady, Write, Aside, Round, Keep, Retries, LAST_GENERATION}
+use Rattle.seat_programs.specs.Programs.{Program, Do, Say, Sent, Rest, PutHome, Write, Aside, Round, Keep, Retries, LAST_GENERATION}
 use Rattle.seat_programs.specs.Sends.{freed, tell_drop, one_more, passed_telling}
 use Rattle.seat_programs.specs.Cores.{Core, SeatState, word_of, found_at, next_step, resolved, still_waiting}
 use Rattle.seat_programs.specs.Ticks.{quiet}
@@ -65,13 +65,6 @@ none_in (Sent o next) = refl
 none_in (Keep r next) = refl
 none_in (Retries requests after) = refl
 none_in Rest = refl
-none_in (Do call next) = tt
-none_in (TakeMessage q next) = tt
-none_in (TakeHome k next) = tt
-none_in (PutHome k n after) = tt
-none_in (PutBytes k asked bytes next) = tt
-none_in (AskReady k next) = tt
-none_in (Aside step next) = tt
 none_in (Write (heads.Puts h now heading left taken asked) after) = tt
 none_in (Write (heads.Waits h now heading left taken) after) = tt
 none_in (Write (heads.Empties h) after) = tt
@@ -85,6 +78,7 @@ none_in (Round (Joins id) next) = tt
 none_in (Round (Opens o) next) = tt
 none_in (Round (Reads r) next) = tt
 none_in (Round (Discards k total) next) = tt
+none_in _ = tt
 
 rests_in : (program : Program) → first_in program ≡ None → kind_in program ≡ None
 rests_in program e = subst (λ (o : Option First). NoKind o (kind_in program)) e (none_in program)

@@ -226,10 +226,6 @@ OnWord (Some (OfAside step)) Finds = (found : ℕ) → Finds found
 OnWord other Finds = Unit {0}
 
 closes_finds : (a : reading.Context) (c : Closing) (at : CloseStep) → OnWord (first_in (reading.close_program a c at)) (reading.MayFindClosing at)
-closes_finds a c closes.AddRef = (λ found h. tt)
-closes_finds a c closes.SetOdd = (λ found h. tt)
-closes_finds a c closes.StoreCode = (λ found h. tt)
-closes_finds a c closes.ReleaseFirst = (λ found h. tt)
 closes_finds a c (closes.Release releases.SubRef) = (λ found h. tt)
 closes_finds a c (closes.Release (releases.Recycle from)) = (λ found h. h.2)
 closes_finds a c (closes.Release (releases.LoadLink w)) = (λ found h. h)
@@ -237,6 +233,7 @@ closes_finds a c (closes.Release (releases.TakeLink w k)) = (λ found h. tt)
 closes_finds a c (closes.Release (releases.FinishLink w k)) = (λ found h. tt)
 closes_finds a c (closes.Release (releases.PutLink w k)) = (λ found h. tt)
 closes_finds a c (closes.Release releases.FreeSlot) = (λ found h. tt)
+closes_finds a c _ = (λ found h. tt)
 
 module _ (a : reading.Context) (x : ReadPoint) where
   -- what a reader finds

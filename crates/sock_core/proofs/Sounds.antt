@@ -35,7 +35,7 @@ use Rattle.id_runs.specs.Goes as goes
 use Rattle.run_theorems.specs.joint_runs.proofs.Joint.{is_fitting_ids}
 use Rattle.call_points.specs.Steps.{aside_of, aside_in}
 use Rattle.call_slots.proofs.Fitting.{may_next}
-use Rattle.seat_states.specs.Steps.{First, OfCall, OfAside, OfMessage, OfLink, first_of, first_in}
+use Rattle.seat_states.specs.Steps.{First, OfCall, OfAside, OfMessage, first_of, first_in}
 use Rattle.seat_states.specs.Steps as kinds
 use Rattle.seat_states.proofs.StepFacts.{FitsSizes}
 use Rattle.sock_core.specs.declared.letter.Letter.{Letter}
@@ -135,31 +135,13 @@ module _ (p : Plan) (q : IdPlan) (letters : List (Option Letter)) (sized : lengt
   by_program (PutHome k n after) first e goes allows = subst Says (same_some e) (writer_hand k allows.1, tt)
   by_program (PutBytes k asked bytes next) first e goes allows = subst Says (same_some e) (writer_hand k allows.0.1, (allows.1, writer_done k allows.0.1))
   by_program (AskReady k next) first e goes allows = subst Says (same_some e) (writer_hand k allows.1, writer_done k allows.1)
-  by_program (Say o outcome next) first e goes allows = cc
-  by_program (Sent o next) first e goes allows = cc
-  by_program (Keep r next) first e goes allows = cc
-  by_program (Retries requests after) first e goes allows = cc
-  by_program Rest first e goes allows = cc
-  by_program (Write w after) first e goes allows = cc
-  by_program (Round head next) first e goes allows = cc
+  by_program _ first e goes allows = cc
 
 -- ## What the ids say
 
 aside_is : (program : Program) (step : asides.Step) → first_of program ≡ Some (OfAside step) → aside_of program ≡ Some step
 aside_is (Aside own next) step e = let same : own ≡ step = cc in ap Some same
-aside_is (Do call next) step e = absurd (cc)
-aside_is (TakeMessage r next) step e = absurd (cc)
-aside_is (TakeHome k next) step e = absurd (cc)
-aside_is (PutHome k n after) step e = absurd (cc)
-aside_is (PutBytes k asked bytes next) step e = absurd (cc)
-aside_is (AskReady k next) step e = absurd (cc)
-aside_is (Say o outcome next) step e = absurd (cc)
-aside_is (Sent o next) step e = absurd (cc)
-aside_is (Keep r next) step e = absurd (cc)
-aside_is (Retries requests after) step e = absurd (cc)
-aside_is Rest step e = absurd (cc)
-aside_is (Write w after) step e = absurd (cc)
-aside_is (Round head next) step e = absurd (cc)
+aside_is _ step e = absurd (cc)
 
 -- a step aside isn't the first of a block of whoever writes
 aside_next : (program : Program) (step : asides.Step) → first_in program ≡ Some (OfAside step) → aside_in program ≡ Some step
@@ -169,17 +151,7 @@ aside_next (Write (heads.Empties h) after) step e = absurd (cc)
 aside_next (Write (heads.Walks h top at after) then_) step e = absurd (cc)
 aside_next (Round head next) step e = aside_is (round head next) step e
 aside_next (Aside own next) step e = aside_is (Aside own next) step e
-aside_next (Do call next) step e = absurd (cc)
-aside_next (TakeMessage r next) step e = absurd (cc)
-aside_next (TakeHome k next) step e = absurd (cc)
-aside_next (PutHome k n after) step e = absurd (cc)
-aside_next (PutBytes k asked bytes next) step e = absurd (cc)
-aside_next (AskReady k next) step e = absurd (cc)
-aside_next (Say o outcome next) step e = absurd (cc)
-aside_next (Sent o next) step e = absurd (cc)
-aside_next (Keep r next) step e = absurd (cc)
-aside_next (Retries requests after) step e = absurd (cc)
-aside_next Rest step e = absurd (cc)
+aside_next _ step e = absurd (cc)
 
 -- what a step on a word finds is as the ids rely on
 abbrev FindsFor : Plan → Core → First → Type 0
@@ -188,19 +160,7 @@ FindsFor p c other = Unit {0}
 
 fits_word : (p : Plan) (c : Core) (program : Program) (call : calls.Call) → first_of program ≡ Some (OfCall call) → FitsFirst p c program → FitsSock call (found_at c.words (word_of p call))
 fits_word p c (Do own next) call e fits = subst (FindsFor p c) (same_some e) fits
-fits_word p c (Aside step next) call e fits = absurd (cc)
-fits_word p c (TakeMessage r next) call e fits = absurd (cc)
-fits_word p c (TakeHome k next) call e fits = absurd (cc)
-fits_word p c (PutHome k n after) call e fits = absurd (cc)
-fits_word p c (PutBytes k asked bytes next) call e fits = absurd (cc)
-fits_word p c (AskReady k next) call e fits = absurd (cc)
-fits_word p c (Say o outcome next) call e fits = absurd (cc)
-fits_word p c (Sent o next) call e fits = absurd (cc)
-fits_word p c (Keep r next) call e fits = absurd (cc)
-fits_word p c (Retries requests after) call e fits = absurd (cc)
-fits_word p c Rest call e fits = absurd (cc)
-fits_word p c (Write w after) call e fits = absurd (cc)
-fits_word p c (Round head next) call e fits = absurd (cc)
+fits_word p c _ call e fits = absurd (cc)
 
 -- ## The next step of a seat
 

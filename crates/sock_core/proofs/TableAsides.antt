@@ -5,7 +5,7 @@ use Rattle.corr_core.specs.Word.{parts, code_of}
 use Rattle.sock_message.specs.Asked.{Asked}
 use Rattle.id_points.specs.Ids.{id_of}
 use Rattle.seat_programs.specs.Asides as asides
-use Rattle.seat_programs.specs.Asides.{Step, Found, Taking, Bytes, PutCall, id_slot}
+use Rattle.seat_programs.specs.Asides.{Step, Found, Bytes, PutCall, id_slot}
 use Rattle.seat_programs.specs.Beside.{calls_after}
 use Rattle.seat_programs.specs.Heads.{HasEnded, Unlocks}
 use Rattle.seat_programs.specs.Posts.{ends_call, end_id, unlocked, decided}
@@ -52,39 +52,16 @@ FindsWord (asides.TakeBytes k room) = ⊥
 FindsWord other = Unit {0}
 
 pub finds_word : (asked : Asked) (step : code.Aside) → IsOnWord step → FindsWord (aside_steps.step_of asked step)
-finds_word asked (steps.ClaimId i) h = tt
-finds_word asked (steps.PutCall i) h = tt
-finds_word asked (steps.MakeId i range) h = tt
-finds_word asked (steps.StoreCall o id) h = tt
-finds_word asked (steps.LoadCall o) h = tt
-finds_word asked (steps.StoreAt o w) h = tt
-finds_word asked (steps.LoadAt o) h = tt
-finds_word asked (steps.LoadIdWord i) h = tt
-finds_word asked (steps.LockId i from) h = tt
-finds_word asked (steps.PostId i from e) h = tt
-finds_word asked (steps.UnlockId i from advance) h = tt
-finds_word asked (steps.EndId i) h = tt
-finds_word asked (steps.FreeId i) h = tt
 finds_word asked (steps.TakeCall i) h = h
 finds_word asked (steps.TakeBytes k room) h = h
+finds_word asked _ h = tt
 
 -- and its slot or operation is one of the table's
 pub slots_fit : (t : TableState) (step : code.Aside) → IsOnWord step → FitsSlots t step → slots.StepFits t.ids step
-slots_fit t (steps.ClaimId i) on fits = fits
 slots_fit t (steps.PutCall i) on fits = absurd on
-slots_fit t (steps.MakeId i range) on fits = fits
-slots_fit t (steps.StoreCall o id) on fits = fits
-slots_fit t (steps.LoadCall o) on fits = fits
-slots_fit t (steps.StoreAt o w) on fits = fits
-slots_fit t (steps.LoadAt o) on fits = fits
-slots_fit t (steps.LoadIdWord i) on fits = fits
-slots_fit t (steps.LockId i from) on fits = fits
-slots_fit t (steps.PostId i from e) on fits = fits
-slots_fit t (steps.UnlockId i from advance) on fits = fits
-slots_fit t (steps.EndId i) on fits = fits
-slots_fit t (steps.FreeId i) on fits = fits
 slots_fit t (steps.TakeCall i) on fits = absurd on
 slots_fit t (steps.TakeBytes k room) on fits = absurd on
+slots_fit t _ on fits = fits
 
 -- the word as the programs have it
 record IsWord (step : Step) (word : ℕ) : Type 0 where
@@ -93,21 +70,9 @@ record IsWord (step : Step) (word : ℕ) : Type 0 where
   behind : (next : Found step → Program) → with_word step next word ≡ next found
 
 word_is : (step : Step) (word : ℕ) → FindsWord step → IsWord step word
-word_is (asides.ClaimId i) word h = record { found = word; is = refl; behind = λ next. refl }
-word_is (asides.PutCall i asked) word h = record { found = word; is = refl; behind = λ next. refl }
-word_is (asides.MakeId i range) word h = record { found = word; is = refl; behind = λ next. refl }
-word_is (asides.StoreCall o id) word h = record { found = word; is = refl; behind = λ next. refl }
-word_is (asides.LoadCall o) word h = record { found = word; is = refl; behind = λ next. refl }
-word_is (asides.StoreAt o w) word h = record { found = word; is = refl; behind = λ next. refl }
-word_is (asides.LoadAt o) word h = record { found = word; is = refl; behind = λ next. refl }
-word_is (asides.LoadIdWord i) word h = record { found = word; is = refl; behind = λ next. refl }
-word_is (asides.LockId i from) word h = record { found = word; is = refl; behind = λ next. refl }
-word_is (asides.PostId i from e) word h = record { found = word; is = refl; behind = λ next. refl }
-word_is (asides.UnlockId i from advance) word h = record { found = word; is = refl; behind = λ next. refl }
-word_is (asides.EndId i) word h = record { found = word; is = refl; behind = λ next. refl }
-word_is (asides.FreeId i) word h = record { found = word; is = refl; behind = λ next. refl }
 word_is (asides.TakeCall i) word h = absurd h
 word_is (asides.TakeBytes k room) word h = absurd h
+word_is _ word h = record { found = word; is = refl; behind = λ next. refl }
 
 -- how a program goes on behind a first step that found this word
 pub record GoesOnBy (program : Program) (step : Step) (word : ℕ) : Type 0 where
@@ -265,26 +230,13 @@ takes_none a p k n e = facts_at a p (asides.TakeBytes k n) e
 -- ## The sizes of the table stay
 
 plan_after : (step : Step) (found : Found step) (a : Calls) → (calls_after step found a).plan ≡ a.plan
-plan_after (asides.ClaimId i) found a = refl
-plan_after (asides.PutCall i asked) found a = refl
-plan_after (asides.MakeId i range) found a = refl
-plan_after (asides.StoreCall o id) found a = refl
-plan_after (asides.LoadCall o) found a = refl
-plan_after (asides.StoreAt o w) found a = refl
-plan_after (asides.LoadAt o) found a = refl
-plan_after (asides.LoadIdWord i) found a = refl
-plan_after (asides.LockId i from) found a = refl
-plan_after (asides.PostId i from e) found a = refl
-plan_after (asides.UnlockId i from advance) found a = refl
-plan_after (asides.EndId i) found a = refl
-plan_after (asides.FreeId i) found a = refl
-plan_after (asides.TakeCall i) found a = refl
 plan_after (asides.TakeBytes k room) (Bytes bytes) a = refl
 plan_after (asides.TakeBytes k room) asides.Nothing a = refl
 plan_after (asides.TakeBytes k room) asides.NoMore a = refl
 plan_after (asides.TakeBytes k room) asides.AtEnd a = refl
 plan_after (asides.TakeBytes k room) asides.Closed a = refl
 plan_after (asides.TakeBytes k room) asides.Broken a = refl
+plan_after _ found a = refl
 
 plan_behind : (step : Step) (found : core.Option (Found step)) (a : Calls) → (slots.calls_behind step found a).plan ≡ a.plan
 plan_behind step core.none a = refl

@@ -61,15 +61,10 @@ NoEnd (Keep r next) = ⊥
 NoEnd other = Unit {0}
 
 next_flat : (a : Context) (n : Next) → NoEnd (next_program a n) → IsFlat n
-next_flat a (nexts.Point point) h = tt
-next_flat a (nexts.Said o outcome) h = tt
-next_flat a (nexts.Sent o) h = tt
-next_flat a (nexts.Held o name id) h = tt
-next_flat a nexts.GaveBack h = tt
-next_flat a nexts.Ended h = tt
 next_flat a (nexts.CallEnded o id c after) h = h
 next_flat a (nexts.Kept id n after) h = h
 next_flat a (nexts.KeptWith c n word after) h = h
+next_flat a _ h = tt
 
 either_none : (t : Bool) (x y : Program) → NoEnd x → NoEnd y → NoEnd (if t then x else y)
 either_none true x y f g = f
@@ -140,33 +135,22 @@ module _ (a : Context) where
   b = bare a
 
   then_none : (t : Continuation) (freed : Bool) → NoEnd (then_program b t freed)
-  then_none (thens.Gone o found) freed = tt
   then_none (thens.Failed o found) freed = says_either o (vref_version found.0 % 2 == 0) Failed (Already (record { 0 = found.0 })) Rest tt tt
   then_none (thens.Dropped o) true = tt
   then_none (thens.Dropped o) false = tt
-  then_none (thens.Full o) freed = tt
-  then_none (thens.Sent o) freed = tt
-  then_none thens.GaveBack freed = tt
-  then_none (thens.Unreached t) freed = tt
-  then_none thens.Ended freed = tt
+  then_none _ freed = tt
 
   reached_none : (aim : Aim) (id : SocketId) → NoEnd (reached_program b aim id)
   reached_none (aims.Hold o n) id = tt
-  reached_none (aims.Send o n) id = tt
-  reached_none (aims.Fail o n code) id = tt
-  reached_none (aims.End o) id = tt
+  reached_none _ id = tt
 
   unopened_none : (aim : Aim) → NoEnd (unopened_program b aim)
   unopened_none (aims.Hold o n) = tt
-  unopened_none (aims.Send o n) = tt
-  unopened_none (aims.Fail o n code) = tt
-  unopened_none (aims.End o) = tt
+  unopened_none _ = tt
 
   added_none : (aim : Aim) (id : SocketId) → NoEnd (seek_program b aim (seeks.AddRef id))
   added_none (aims.Hold o n) id = tt
-  added_none (aims.Send o n) id = tt
-  added_none (aims.Fail o n code) id = tt
-  added_none (aims.End o) id = tt
+  added_none _ id = tt
 
   seek_none : (aim : Aim) (found : ℕ) → NoEnd (after_word (seek_program b aim seeks.Load) found)
   seek_none aim found = by_cases (has_life aim found) (NoEnd (after_word (seek_program b aim seeks.Load) found))

@@ -25,46 +25,28 @@ use Rattle.sock_core.specs.Runs.{SameLink, ShowsTaking}
 
 given_as : (room : List ℕ) (answer : Take) → given_in (taking_of room answer) ≡ given_of room answer
 given_as room (takes.Took n) = refl
-given_as room takes.Empty = refl
-given_as room takes.End = refl
-given_as room takes.Closed = refl
-given_as room takes.Failed = refl
+given_as room _ = refl
 
 module _ (inn inn' : InState) (room : List ℕ) where
   count_is : (answer : Take) → TakeStep inn inn' room answer → inn'.gave ≡ inn.gave + length (given_in (taking_of room answer))
   count_is (takes.Took n) step = let all = length-take n room in let most = step.count in let a = step.gave in omega (arith, all, most.1, a)
-  count_is takes.Empty step = step.gave
-  count_is takes.End step = step.gave
-  count_is takes.Closed step = step.gave
-  count_is takes.Failed step = step.gave
+  count_is _ step = step.gave
 
   fits_is : (answer : Take) → TakeStep inn inn' room answer → FitsTake (length room) (taking_of room answer)
   fits_is (takes.Took n) step = let all = length-take n room in let most = step.count in (omega (arith, all, most.0, most.1), omega (arith, all, most.1))
-  fits_is takes.Empty step = tt
-  fits_is takes.End step = tt
-  fits_is takes.Closed step = tt
-  fits_is takes.Failed step = tt
+  fits_is _ step = tt
 
   answer_is : (answer : Take) → TakeStep inn inn' room answer → of_take answer ∷ [] ≡ answer_of (taking_of room answer)
   answer_is (takes.Took n) step = let all = length-take n room in let most = step.count in ap (λ m. TakeTook m ∷ []) (let e : n ≡ length (take n room) = omega (arith, all, most.1) in e)
-  answer_is takes.Empty step = refl
-  answer_is takes.End step = refl
-  answer_is takes.Closed step = refl
-  answer_is takes.Failed step = refl
+  answer_is _ step = refl
 
   gave_end : (answer : Take) → TakeStep inn inn' room answer → inn.gave_end ≡ true → inn'.gave_end ≡ true
-  gave_end (takes.Took n) step e = step.end.1 (λ x. cc) ∙ e
-  gave_end takes.Empty step e = step.end.1 (λ x. cc) ∙ e
   gave_end takes.End step e = step.end.0 refl
-  gave_end takes.Closed step e = step.end.1 (λ x. cc) ∙ e
-  gave_end takes.Failed step e = step.end.1 (λ x. cc) ∙ e
+  gave_end _ step e = step.end.1 (λ x. cc) ∙ e
 
   closed_is : (answer : Take) → TakeStep inn inn' room answer → (inn'.closed ≡ inn.closed) ⊎ (inn'.closed ≡ option_map (λ _. true) inn.closed)
-  closed_is (takes.Took n) step = inl (step.closed.1 (λ x. cc))
-  closed_is takes.Empty step = inl (step.closed.1 (λ x. cc))
-  closed_is takes.End step = inl (step.closed.1 (λ x. cc))
   closed_is takes.Closed step = inr (step.closed.0 refl)
-  closed_is takes.Failed step = inl (step.closed.1 (λ x. cc))
+  closed_is _ step = inl (step.closed.1 (λ x. cc))
 
   some_fault : Rose inn.faults inn'.faults → 0 < inn'.faults
   some_fault rose = omega (arith, rose)
@@ -81,11 +63,8 @@ module _ (inn inn' : InState) (room : List ℕ) where
   shows_is out takes.Failed step = some_fault (step.failed refl)
 
   is_take : (answer : Take) → taking_of room answer ≡ Closed → answer ≡ takes.Closed
-  is_take (takes.Took n) e = cc
-  is_take takes.Empty e = cc
-  is_take takes.End e = cc
   is_take takes.Closed e = refl
-  is_take takes.Failed e = cc
+  is_take _ e = cc
 
 -- ## What was offered
 

@@ -18,11 +18,11 @@ use Rattle.seat_programs.specs.Asides.{Taking, TakeBytes, PutCall, id_slot}
 use Rattle.seat_programs.specs.Heads.{Posts, Unlocks, Decides, Locks, Joins, Opens, Reads, Discards, HasEnded}
 use Rattle.seat_programs.specs.Posts.{ends_call, end_id, unlocked}
 use Rattle.seat_programs.specs.Writings as heads
-use Rattle.seat_programs.specs.Programs.{Program, Do, Say, Sent, Rest, TakeMessage, TakeHome, PutHome, PutBytes, AskReady, Write, Aside, Round, Keep, Retries}
+use Rattle.seat_programs.specs.Programs.{Program, Say, Sent, Rest, Write, Aside, Round, Keep, Retries}
 use Rattle.seat_programs.specs.Cores.{Core, SeatState}
 use Rattle.seat_programs.specs.Ticks.{Answer, Unasked, OfPut, OfReady, OfTake, Moment, taken, IsAnswer, IsAnswered, asked_link, is_refusal, broken_at, broken_in}
 use Rattle.seat_states.specs.declared.point.Step.{Step}
-use Rattle.seat_states.specs.Steps.{First, OfCall, OfAside, OfMessage, OfLink, OfHome, first_of, first_in}
+use Rattle.seat_states.specs.Steps.{First, OfCall, OfAside, first_of, first_in}
 use Rattle.seat_states.specs.Steps as kinds
 use Rattle.reader_seats.specs.Readers.{ReaderData}
 use Rattle.client_seats.specs.Seats.{SeatData}
@@ -86,13 +86,9 @@ not_taken answer other e none_ = ap taken e ∙ none_
 
 module _ (old fresh : MachineState) (i : ℕ) (place seat' : SeatData) (step : Step) (p : Plan) (c : Core) where
   made_none : (first : First) (answer : Answer) → MadeFirst (table_of old) (table_of fresh) i place seat' step first answer → taken answer ≡ core.none
-  made_none (OfCall call) answer w = not_taken answer Unasked w.0 refl
-  made_none (OfAside aside) answer w = not_taken answer Unasked w.0 refl
-  made_none (OfMessage q) answer w = not_taken answer Unasked w.0 refl
-  made_none (OfLink k) answer w = not_taken answer Unasked w.0 refl
-  made_none (OfHome k n) answer w = not_taken answer Unasked w.0 refl
   made_none (kinds.OfPut k asked bytes) answer w = not_taken answer (OfPut w.0) w.1 refl
   made_none (kinds.OfReady k) answer w = not_taken answer (OfReady w.0) w.1 refl
+  made_none _ answer w = not_taken answer Unasked w.0 refl
 
   module _ (first : First) (answer : Answer) (made : MadeFirst (table_of old) (table_of fresh) i place seat' step first answer) (answered : IsAnswered c (record { seat = i; answer = answer })) where
     abbrev moment : Moment
@@ -109,13 +105,9 @@ module _ (old fresh : MachineState) (i : ℕ) (place seat' : SeatData) (step : S
     asked_takes {k} a = takes_set old fresh k a.before a.behind a.end_at a.ends_are (taken_in p c (moment ∷ [])) [] (a.takes ∙ sym (no_takes a.before.takes)) (ap (λ (l : List Answer). take_answers (as_taken l)) (none_said k)) (λ j differ. none_said j)
 
     by_first : (f : First) → MadeFirst (table_of old) (table_of fresh) i place seat' step f answer → TakesTell old fresh (taken_in p c (moment ∷ []))
-    by_first (OfCall call) w = takes_none old fresh w.1.ends (taken_in p c (moment ∷ [])) none_said
-    by_first (OfAside aside) w = takes_none old fresh w.1.ends (taken_in p c (moment ∷ [])) none_said
-    by_first (OfMessage q) w = takes_none old fresh w.1.ends (taken_in p c (moment ∷ [])) none_said
-    by_first (OfLink k) w = takes_none old fresh w.1.ends (taken_in p c (moment ∷ [])) none_said
-    by_first (OfHome k n) w = takes_none old fresh w.1.ends (taken_in p c (moment ∷ [])) none_said
     by_first (kinds.OfPut k asked bytes) w = asked_takes w.2.asked
     by_first (kinds.OfReady k) w = asked_takes w.2.asked
+    by_first _ w = takes_none old fresh w.1.ends (taken_in p c (moment ∷ [])) none_said
 
     pub made_takes : TakesTell old fresh (taken_in p c (moment ∷ []))
     made_takes = by_first first made
@@ -141,19 +133,12 @@ judge_none false x y f g = g
 
 takes_first : (program : Program) (first : First) → first_in program ≡ Some first → IsTakenFrom first (taken_link program)
 takes_first (Aside (TakeBytes k room) next) first e = subst (λ (f : First). IsTakenFrom f (k ∷ [])) (same_some e) refl
-takes_first (Aside step next) first e = takes_no _ first e tt
 takes_first (Round (Reads r) next) first e = subst (λ (f : First). IsTakenFrom f (r.link ∷ [])) (same_some e) refl
 takes_first (Round (Discards k total) next) first e = subst (λ (f : First). IsTakenFrom f (k ∷ [])) (same_some e) refl
-takes_first (PutBytes k asked bytes next) first e = takes_no _ first e tt
-takes_first (AskReady k next) first e = takes_no _ first e tt
 takes_first (Write (heads.Waits h now heading left taken) after) first e = takes_no _ first e tt
 takes_first (Write (heads.Puts h now heading left taken asked) after) first e = takes_no _ first e tt
 takes_first (Write (heads.Walks h top place after) then_) first e = takes_no _ first e tt
 takes_first (Write (heads.Empties h) after) first e = takes_no _ first e tt
-takes_first (Do call next) first e = takes_no _ first e tt
-takes_first (TakeMessage q next) first e = takes_no _ first e tt
-takes_first (TakeHome k next) first e = takes_no _ first e tt
-takes_first (PutHome k n after) first e = takes_no _ first e tt
 takes_first (Say o outcome next) first e = cc
 takes_first (Sent o next) first e = cc
 takes_first (Keep r next) first e = cc
@@ -166,6 +151,7 @@ takes_first (Round (Locks i sought None) next) first e = takes_no _ first e tt
 takes_first (Round (Locks i sought (Some w)) next) first e = takes_no _ first e tt
 takes_first (Round (Joins id) next) first e = takes_no _ first e tt
 takes_first (Round (Opens o) next) first e = takes_no _ first e tt
+takes_first _ first e = takes_no _ first e tt
 
 -- no tick but a put or a question tells that a link failed
 quiet_broken : (p : Plan) (c : Core) (i : ℕ) (answer other : Answer) → answer ≡ other → is_refusal other ≡ false → broken_in p c (record { seat = i; answer = answer } ∷ []) ≡ []

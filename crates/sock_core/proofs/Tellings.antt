@@ -71,18 +71,11 @@ by_ends true x y f g = f
 by_ends false x y f g = g
 
 kind_is : (program : Program) → KindAt (first_in program) (kind_in program)
-kind_is (Do call next) = refl
 kind_is (Say o outcome next) = tt
 kind_is (Sent o next) = tt
 kind_is (Keep r next) = tt
 kind_is (Retries requests after) = tt
 kind_is Rest = tt
-kind_is (TakeMessage q next) = refl
-kind_is (TakeHome k next) = refl
-kind_is (PutHome k n after) = refl
-kind_is (PutBytes k asked bytes next) = refl
-kind_is (AskReady k next) = refl
-kind_is (Aside step next) = refl
 kind_is (Write (heads.Puts h now heading left taken asked) after) = refl
 kind_is (Write (heads.Waits h now heading left taken) after) = refl
 kind_is (Write (heads.Empties h) after) = refl
@@ -96,6 +89,7 @@ kind_is (Round (Joins id) next) = refl
 kind_is (Round (Opens o) next) = refl
 kind_is (Round (Reads r) next) = refl
 kind_is (Round (Discards k total) next) = refl
+kind_is _ = refl
 
 pub kind_first : (program : Program) (first : First) (kind : Kind) → first_in program ≡ Some first → kind ≡ kind_of_first first → kind_in program ≡ Some kind
 kind_first program first kind e f = rw f (subst (λ (o : Option First). KindAt o (kind_in program)) e (kind_is program))
@@ -125,16 +119,10 @@ module _ (p : Plan) (c : Core) where
 
   waits_is : (program : Program) → WaitsIs (first_in program) program
   waits_is (Do call next) = (refl, λ puts. refl)
-  waits_is (Say o outcome next) = tt
-  waits_is (Sent o next) = tt
-  waits_is (Keep r next) = tt
-  waits_is (Retries requests after) = tt
-  waits_is Rest = tt
   waits_is (TakeMessage q next) = refl
   waits_is (TakeHome k next) = refl
   waits_is (PutHome k n after) = refl
   waits_is (PutBytes k asked bytes next) = λ put. refl
-  waits_is (AskReady k next) = tt
   waits_is (Aside step next) = λ found h. refl
   waits_is (Write (heads.Puts h now heading left taken asked) after) = (refl, λ puts. absurd puts)
   waits_is (Write (heads.Waits h now heading left taken) after) = tt
@@ -149,6 +137,7 @@ module _ (p : Plan) (c : Core) where
   waits_is (Round (Opens o) next) = (refl, λ puts. absurd puts)
   waits_is (Round (Reads r) next) = λ found h. refl
   waits_is (Round (Discards k total) next) = λ found h. refl
+  waits_is _ = tt
 
   waits_first : (program : Program) (first : First) → first_in program ≡ Some first → WaitsIs (Some first) program
   waits_first program first e = subst (λ (o : Option First). WaitsIs o program) e (waits_is program)

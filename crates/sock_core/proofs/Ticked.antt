@@ -206,37 +206,7 @@ fits_put asked bytes puts.Failed out out' step paced = tt
 
 pub letters_by : (call : Call) (old fresh : List (Option Letter)) → fresh ≡ old → LettersBy (step_of call) old fresh
 letters_by (steps.ClaimSlot i) old fresh same = same
-letters_by (steps.CreateLife i k) old fresh same = same
-letters_by (steps.AddRef id) old fresh same = same
-letters_by (steps.SubRef i) old fresh same = same
-letters_by (steps.SetOdd i) old fresh same = same
-letters_by (steps.Recycle i from) old fresh same = same
-letters_by (steps.FreeSlot i) old fresh same = same
-letters_by (steps.StoreLink i k) old fresh same = same
-letters_by (steps.LoadLink i w) old fresh same = same
-letters_by (steps.ResetHead i k) old fresh same = same
-letters_by (steps.ClearCode i k) old fresh same = same
-letters_by (steps.StoreCode i h c) old fresh same = same
-letters_by (steps.StoreName n w) old fresh same = same
-letters_by (steps.LoadName n) old fresh same = same
-letters_by (steps.StoreOpen o w) old fresh same = same
-letters_by (steps.LoadOpen o) old fresh same = same
-letters_by (steps.TakeLink k) old fresh same = same
-letters_by (steps.FinishLink k) old fresh same = same
-letters_by (steps.PutLink k) old fresh same = same
-letters_by (steps.LookWord id) old fresh same = same
-letters_by (steps.FindLink id) old fresh same = same
-letters_by (steps.LoadCode id) old fresh same = same
-letters_by (steps.ClaimRequest id q) old fresh same = same
-letters_by (steps.Unconnect q) old fresh same = same
-letters_by (steps.SwapHead i own) old fresh same = same
-letters_by (steps.Connect q before) old fresh same = same
-letters_by (steps.EmptyHead i last) old fresh same = same
-letters_by (steps.ReadNext q) old fresh same = same
-letters_by (steps.ReverseNext q value) old fresh same = same
-letters_by (steps.FreeRequest q g) old fresh same = same
-letters_by (steps.StorePlace o k n) old fresh same = same
-letters_by (steps.DropPlace o k n) old fresh same = same
+letters_by _ old fresh same = same
 
 -- what stands with a message that went home
 same_home : (q : ℕ) (author : Author) (seat : SeatData) (letter : Letter) → letter.author ≡ author → (parcel_of letter.message).bytes ≡ bytes_of seat.message → (parcel_of letter.message).parts ≡ parts_of seat.message →

@@ -13,6 +13,7 @@ use Rattle.sock_words.specs.declared.outcome.Outcome.{Outcome}
 use Rattle.sock_words.specs.declared.outcome.Outcome.TheVariants as outcome
 use Rattle.sock_words.specs.declared.plain.Plan.{Plan}
 use Rattle.sock_words.specs.declared.place_word.PlaceWord.{PlaceWord}
+use Rattle.sock_words.specs.declared.socket_id.SocketId.{SocketId}
 use Rattle.sock_words.specs.declared.vref.Vref.{Vref}
 use Rattle.sock_model.specs.declared.chain.Entry.{Entry}
 use Rattle.sock_model.specs.declared.marks.Mark.{Mark}
@@ -20,32 +21,34 @@ use Rattle.sock_model.specs.declared.marks.Mark.TheVariants as marks
 use Rattle.sock_model.specs.declared.view.View.{View}
 use Rattle.sock_model.specs.Deliveries.{place_value}
 use Rattle.sock_model.specs.Entries.{on}
-use Rattle.sock_model.specs.Layout.{place_index}
+use Rattle.sock_model.specs.Layout.{open_index, place_index}
 use Rattle.sock_model.specs.Marks.{about}
 use Rattle.sock_model.specs.SlotRows.{marks_of}
 use Rattle.sock_model.specs.Weights.{is_coded, is_failer, is_saw, is_stored, is_told, only, pair, total}
 use Rattle.slot_steps.proofs.Numbers.{only_is, pair-same, pair_is, pair_only}
 use Rattle.rpc_client.specs.sock_rule.specs.Closing.{PlacesDiffer}
 use Rattle.rpc_client.specs.sock_rule.specs.OnTable.{put_in}
+use Rattle.rpc_client.specs.sock_table.specs.declared.finding.Noted.TheVariants as noteds
 use Rattle.rpc_client.specs.Failing.{SetBy, TriedTo}
 use Rattle.rpc_client.specs.write_chain.specs.Noting.{Noted, nothing, finding, failing}
 use Rattle.seat_programs.specs.declared.task.Op.TheVariants as ops
 use Rattle.seat_programs.specs.declared.task.Task.{Task}
 use Rattle.seat_programs.specs.Told.{Became}
 use Rattle.sock_deeds.specs.Broken.{noted_links}
-use Rattle.sock_deeds.specs.Deeds.{Did, DoneBy}
-use Rattle.sock_deeds.specs.Runs.{IsOperation, IsFor, IsById, IsReaderCode, ReaderSeat, DeedRun}
+use Rattle.sock_deeds.specs.Deeds.{Did, looks, DoneBy}
+use Rattle.sock_deeds.specs.Runs.{did_in, IsOperation, IsFor, IsById, IsReaderCode, ReaderSeat, DeedRun}
 use Rattle.sock_deeds.proofs.Accepting.{log, act_of_entry}
-use Rattle.sock_deeds.proofs.Acts.{Act, Read, All, after, before, did_of, done_of, has_marks, has_puts, read_marks, read_is_by_id, Late, marks_from, noted_before}
+use Rattle.sock_deeds.proofs.Acts.{Act, Read, All, after, before, did_of, done_of, has_marks, has_puts, later, read_marks, read_is_by_id, Late, marks_from, noted_before}
 use Rattle.sock_deeds.proofs.Ending.{no_faults, SetNow}
 use Rattle.sock_deeds.proofs.Entries.{on_there}
 use Rattle.sock_deeds.proofs.Failing.{at_life, read_life}
 use Rattle.sock_deeds.proofs.Fails.{FailedLife, life_by, fail_for, failer_once, life_is, made_born}
-use Rattle.sock_deeds.proofs.Growing.{back_grew}
+use Rattle.sock_deeds.proofs.Growing.{HasFound, back_grew}
 use Rattle.sock_deeds.proofs.Lives.{MadeHere, failer_life}
 use Rattle.sock_deeds.proofs.Losses.{low_entry, few_on}
 use Rattle.sock_deeds.proofs.Orders.{ends, kept}
-use Rattle.sock_deeds.proofs.Places.{place_low}
+use Rattle.sock_deeds.proofs.Places.{map_back, place_low}
+use Rattle.sock_deeds.proofs.Readers.{dids_of, read_sets}
 use Rattle.sock_deeds.proofs.Sources.{Source, by_open, by_fail, by_set, by_write, done_source}
 use Rattle.sock_deeds.proofs.Tasks.{is_for}
 
@@ -61,25 +64,8 @@ pairs_fit h c d k e ne = let a = pair_only h c k e in let b = pair_only h d k e 
 
 -- a note that a code was stored is of one code
 stored_fit : (h c d : ℕ) → c ≢ d → (m : Mark) → is_stored h c m + is_stored h d m ≤ is_coded h m
-stored_fit h c d ne (marks.Claimed k l) = omega arith
-stored_fit h c d ne (marks.Recycling w) = omega arith
-stored_fit h c d ne (marks.Hold k) = omega arith
-stored_fit h c d ne marks.Probe = omega arith
-stored_fit h c d ne (marks.Zero w) = omega arith
-stored_fit h c d ne (marks.Coding k) = omega arith
-stored_fit h c d ne (marks.Waiting n) = omega arith
-stored_fit h c d ne (marks.Owed n) = omega arith
-stored_fit h c d ne (marks.Handed k n) = omega arith
-stored_fit h c d ne marks.Tried = omega arith
-stored_fit h c d ne (marks.Known k) = omega arith
-stored_fit h c d ne (marks.Born k) = omega arith
-stored_fit h c d ne (marks.Saw w) = omega arith
-stored_fit h c d ne (marks.Failer k) = omega arith
 stored_fit h c d ne (marks.Stored k e) = pairs_fit h c d k e ne
-stored_fit h c d ne (marks.Told k e) = omega arith
-stored_fit h c d ne (marks.Freer k) = omega arith
-stored_fit h c d ne (marks.Linked k l) = omega arith
-stored_fit h c d ne (marks.Met k l) = omega arith
+stored_fit h c d ne other = omega arith
 
 stored_both : (h c d : ℕ) → c ≢ d → (ms : List Mark) → total (is_stored h c) ms + total (is_stored h d) ms ≤ total (is_coded h) ms
 stored_both h c d ne [] = omega arith
@@ -122,14 +108,26 @@ module _ {O : Type 0} {g : Ghosts O} {state : O → OutState} {p : Plan} {client
     pub is : IsOperation clients outcomes client number (ops.Fail n c)
     pub became : Became clients outcomes number outcome.Failed
 
-  -- the reader of this link, whose reading ended early, set its life failed with this code
-  pub record FailedByReader (k c : ℕ) : Type 0 where
+  -- the reader of this link, whose reading ended early, set a life failed that it had found by its `open`, and noted that it stored this code
+  pub record StoredByReader (k c : ℕ) : Type 0 where
     pub place : ℕ
     pub reader : ReaderSeat g state p clients outcomes
     pub there : get_elem? run.readers place ≡ some reader
     pub link_is : reader.link ≡ k
     pub early : reader.early ≡ true
     pub coded : IsReaderCode c
+    pub sock : SocketId
+    pub first : get_elem? (dids_of reader) 0 ≡ some (looks reader.number (noteds.Id sock))
+    pub slot : ℕ
+    pub version : ℕ
+    pub stored : 0 < marks_of (is_stored version c) slot reader.sits.seat.me.0
+
+  -- what that reader found first, its seat still has
+  pub first_found : {k c : ℕ} (f : StoredByReader k c) → HasFound record { place = open_index p f.reader.number; word = f.sock.0 + 1 } f.reader.sits.seat.me.0
+  first_found f =
+      let w = map_back did_in f.reader.sits.deeds 0 (looks f.reader.number (noteds.Id f.sock)) f.first in
+      let done = (subst (λ (x : Did). DoneBy g state p x w.0.before w.0.after) w.2 w.0.done).0 in
+      (later f.reader.sits 0 w.0 w.1).finds record { place = open_index p f.reader.number; word = f.sock.0 + 1 } (0, ap (λ (z : View). get_elem? z.finds 0) done.1.view)
 
   module _ (b : Act run) (n k i h w c : ℕ) (low : i < p.slots) (made : MadeHere run n k i h) (told : 0 < marks_of (is_told h c) i (after run b)) (saw : 0 < marks_of (is_saw w) i (after run b)) (less : h < w) where
     stored : 0 < marks_of (is_stored h c) i (All run)
@@ -146,7 +144,7 @@ module _ {O : Type 0} {g : Ghosts O} {state : O → OutState} {p : Plan} {client
     same_code a d there = one_code h c d i (All run) few stored (let x = has_marks run a (is_stored h d) (λ y. refl) i in omega (arith, x, there))
 
     abbrev IsWhy : Type 0
-    IsWhy = (c ≡ EFAILEDSOCKET) ⊎ (FailsWith n c ⊎ FailedByReader k c)
+    IsWhy = (c ≡ EFAILEDSOCKET) ⊎ (FailsWith n c ⊎ StoredByReader k c)
 
     by_name : (a : Act run) (l : FailedLife run a) → socket_id_slot l.tried.sock.id.0 ≡ i → socket_id_version l.tried.sock.id.0 ≡ h → IsWhy
     by_name a l slot version =
@@ -181,7 +179,21 @@ module _ {O : Type 0} {g : Ghosts O} {state : O → OutState} {p : Plan} {client
         let here = subst (λ x. 0 < marks_of (is_stored h code) x r.d.after.view) slot (subst (λ x. 0 < marks_of (is_stored x code) (socket_id_slot id) r.d.after.view) version its) in
         let all = read_marks run r (is_stored h code) (λ y. refl) i in
         let same = one_code h c code i (All run) few stored (omega (arith, all, here)) in
-        inr (inr record { place = r.c; reader = r.r; there = r.at; link_is = s.2; early = s.0; coded = subst IsReaderCode (sym same) s.1 })
+        let kept = (later r.r.sits r.k r.d r.is).marks (is_stored h code) (λ y. refl) i in
+        let sets_ = read_sets r.r r.k r.d id code outcome.Failed r.is e in
+        inr (inr record {
+          place = r.c;
+          reader = r.r;
+          there = r.at;
+          link_is = s.2;
+          early = s.0;
+          coded = subst IsReaderCode (sym same) s.1;
+          sock = sets_.sock;
+          first = sets_.first;
+          slot = i;
+          version = h;
+          stored = subst (λ z. 0 < marks_of (is_stored h z) i r.r.sits.seat.me.0) (sym same) (omega (arith, here, kept));
+        })
     by_reading r (by_write id v u all grew f listed) =
         absurd (some-ne-none f.link (sym (ap (λ l. get_elem? l f.place) (sym (no_faults g state p r.d.did r.d.before r.d.after r.d.done (read_is_by_id run r))) ∙ listed)))
 
@@ -194,8 +206,8 @@ module _ {O : Type 0} {g : Ghosts O} {state : O → OutState} {p : Plan} {client
         omega (arith, low_, version, less)
 
     -- of a life of the name, which a client found failed: its code is EFAILEDSOCKET, that of a `fail`, or that of its link's reader
-    pub life_code : (c ≡ EFAILEDSOCKET) ⊎ (FailsWith n c ⊎ FailedByReader k c)
-    life_code = elim (marks_from run (is_failer h) (failer_life h) i failed) [
+    pub stored_code : (c ≡ EFAILEDSOCKET) ⊎ (FailsWith n c ⊎ StoredByReader k c)
+    stored_code = elim (marks_from run (is_failer h) (failer_life h) i failed) [
       | inl s ↦ by_source s.0 (done_source (is_failer h) (failer_life h) g state p (did_of run s.0) s.0.d.before s.0.d.after (done_of run s.0) i s.1)
       | inr o ↦ elim o [
         | inl r ↦ by_reading r.0 (done_source (is_failer h) (failer_life h) g state p r.0.d.did r.0.d.before r.0.d.after r.0.d.done i r.1)

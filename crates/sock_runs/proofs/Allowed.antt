@@ -8,7 +8,7 @@ use Rattle.sock_model.specs.declared.view.View.{View}
 use Rattle.sock_model.specs.Layout.{tag_index, ref_index, link_index, head_index, code_index, all_words, name_index, open_index, request_index, next_index, place_index}
 use Rattle.sock_model.specs.Memory.{IDLE}
 use Rattle.seat_programs.specs.Calls.{Call, ClaimSlot, CreateLife, AddRef, SubRef, SetOdd, Recycle, FreeSlot, StoreLink, LoadLink, ResetHead, ClearCode, StoreCode, StoreName, LoadName, StoreOpen, LoadOpen, TakeLink, FinishLink, PutLink, LookWord, FindLink, LoadCode, ClaimRequest, PutMessage, Unconnect, SwapHead, Connect, EmptyHead, ReadNext, ReverseNext, FreeRequest, StorePlace, DropPlace}
-use Rattle.seat_programs.specs.Programs.{Program, Do, Say, Sent, Rest, TakeMessage, TakeHome, PutHome, PutBytes, AskReady, Write, Aside, Round, Keep, Retries}
+use Rattle.seat_programs.specs.Programs.{Program, Do, TakeMessage, TakeHome, PutHome, PutBytes, AskReady}
 use Rattle.sock_runs.proofs.Passes.{goes_round}
 use Rattle.seat_programs.specs.Cores.{Core, SeatState, word_of, found_at}
 use Rattle.sock_runs.specs.Rows.{hand_at}
@@ -54,14 +54,10 @@ module _ (p : Plan) (c : Core) (vs : List View) (sound : Sound p c vs) (few : Ar
   word_there (LoadName n) may x e = let inside = may in omega (arith, inside, sound.lawful.references.sized, some-injective (name_index p n) x e)
   word_there (StoreOpen n w) may x e = let inside = may.0 in omega (arith, inside, sound.lawful.references.sized, some-injective (open_index p n) x e)
   word_there (LoadOpen n) may x e = let inside = may in omega (arith, inside, sound.lawful.references.sized, some-injective (open_index p n) x e)
-  word_there (TakeLink k) may x e = absurd (some-ne-none x (sym e))
-  word_there (FinishLink k) may x e = absurd (some-ne-none x (sym e))
-  word_there (PutLink k) may x e = absurd (some-ne-none x (sym e))
   word_there (LookWord id) may x e = slot_word p c.words sound.lawful.references.sized (socket_id_slot id) (ref_index (socket_id_slot id)) may.0 (omega arith) x e
   word_there (FindLink j h) may x e = slot_word p c.words sound.lawful.references.sized j (link_index j) may.0 (omega arith) x e
   word_there (LoadCode j h) may x e = slot_word p c.words sound.lawful.references.sized j (code_index j) may.0 (omega arith) x e
   word_there (ClaimRequest id q) may x e = let inside = may.0 in omega (arith, inside, sound.lawful.references.sized, some-injective (request_index p q) x e)
-  word_there (PutMessage q heading bytes) may x e = absurd (some-ne-none x (sym e))
   word_there (Unconnect q) may x e = next_there q may.0 x e
   word_there (SwapHead j own) may x e = slot_word p c.words sound.lawful.references.sized j (head_index j) may.0 (omega arith) x e
   word_there (Connect q before) may x e = next_there q may.0 x e
@@ -71,6 +67,7 @@ module _ (p : Plan) (c : Core) (vs : List View) (sound : Sound p c vs) (few : Ar
   word_there (FreeRequest q g) may x e = let inside = free_inside p (state c vs) sound.lawful i v at q g may in omega (arith, inside, sound.lawful.references.sized, some-injective (request_index p q) x e)
   word_there (StorePlace l k n) may x e = place_there l (let inside = may.0.label_in in omega (arith, inside, may.2)) x e
   word_there (DropPlace l k n) may x e = place_there l (let inside = may.0.label_in in omega (arith, inside, may.2)) x e
+  word_there _ may x e = absurd (some-ne-none x (sym e))
 
   allows_word : (call : Call) → May p v call → Finds p v call (found call) (hand_at p c.words c.homes call) → AllowsWord call (found call)
   allows_word (ClaimSlot j) may f = tt
@@ -126,14 +123,7 @@ step_allowed p retries_go c vs i seat v sound few at at_view (TakeHome k next) g
 step_allowed p retries_go c vs i seat v sound few at at_view (PutHome k n after) goes = has_link p retries_go c vs sound i seat v at at_view k n after goes
 step_allowed p retries_go c vs i seat v sound few at at_view (PutBytes k asked bytes next) goes = link_put_there p retries_go c vs sound i seat v at at_view k asked bytes next goes
 step_allowed p retries_go c vs i seat v sound few at at_view (AskReady k next) goes = link_asked_there p retries_go c vs sound i seat v at at_view k next goes
-step_allowed p retries_go c vs i seat v sound few at at_view (Say o outcome next) goes = tt
-step_allowed p retries_go c vs i seat v sound few at at_view (Sent o next) goes = tt
-step_allowed p retries_go c vs i seat v sound few at at_view Rest goes = tt
-step_allowed p retries_go c vs i seat v sound few at at_view (Write w after) goes = tt
-step_allowed p retries_go c vs i seat v sound few at at_view (Aside step next) goes = tt
-step_allowed p retries_go c vs i seat v sound few at at_view (Round head next) goes = tt
-step_allowed p retries_go c vs i seat v sound few at at_view (Keep r next) goes = tt
-step_allowed p retries_go c vs i seat v sound few at at_view (Retries requests after) goes = tt
+step_allowed p retries_go c vs i seat v sound few at at_view _ goes = tt
 
 -- each seat's next step is allowed, also where it is the first of a round
 pub sound_allows : (p : Plan) → RetriesGo p → (c : Core) (vs : List View) (i : ℕ) (seat : SeatState) (v : View) → Sound p c vs → AreFew vs → get_elem? c.seats i ≡ some seat → get_elem? vs i ≡ some v → AllowsStep p c seat (first_step seat.program)

@@ -24,7 +24,7 @@ use Rattle.seat_programs.specs.Rounds.{round, kind_of_round}
 use Rattle.seat_programs.specs.corr_core.specs.declared.marks.Plan.{Plan as IdPlan}
 use Rattle.seat_programs.specs.Cores.{Core, SeatState, word_of, word_after, found_at, words_after, homes_after, hand_after, lies_at, first_of, others_of, link_place, with_seat, next_step, resolved, waiting_at}
 use Rattle.seat_programs.specs.Sends.{block}
-use Rattle.seat_programs.specs.Ticks.{Answer, Unasked, OfPut, OfReady, OfTake, Moment, AreAnswered, fed, with_places, onto_first, with_message, with_link, with_put, with_ready, with_found, taken, step_with, tick_with, ticked, run}
+use Rattle.seat_programs.specs.Ticks.{Answer, OfPut, OfReady, Moment, AreAnswered, fed, with_places, onto_first, with_message, with_link, with_put, with_ready, with_found, taken, step_with, tick_with, ticked, run}
 use Rattle.seat_programs.specs.Runs.{kind_in, IsAtRest, IsSettled}
 use Rattle.seat_programs.specs.Scripts.{beginning}
 use Rattle.sock_runs.specs.Sound.{Sound, IsAhead, AllRest, is_begun, AreFitting, views_after, views_along}
@@ -61,16 +61,12 @@ module _ (p : Plan) (c : Core) (i : ℕ) (seat : SeatState) (ahead : IsAhead c) 
   home_ahead k (some home) next = seat_ahead c i (next home.1) (lies_at c.homes (link_place p k) ++ seat.hand) c.words (set c.homes (link_place p k) none) ahead
 
   put_ahead : (bytes : List ℕ) (answer : Answer) (next : Put → Program) → IsAhead (with_put p i seat c bytes answer next)
-  put_ahead bytes Unasked next = ahead
-  put_ahead bytes (OfReady answer) next = ahead
-  put_ahead bytes (OfTake answer) next = ahead
   put_ahead bytes (OfPut answer) next = seat_ahead c i (next answer) (onto_first (fed bytes answer) seat.hand) c.words c.homes ahead
+  put_ahead bytes _ next = ahead
 
   ready_ahead : (answer : Answer) (next : Ready → Program) → IsAhead (with_ready p i seat c answer next)
-  ready_ahead Unasked next = ahead
-  ready_ahead (OfPut answer) next = ahead
-  ready_ahead (OfTake answer) next = ahead
   ready_ahead (OfReady answer) next = seat_ahead c i (next answer) seat.hand c.words c.homes ahead
+  ready_ahead _ next = ahead
 
   found_ahead : (step : Step) (x : Option (Found step)) (next : Found step → Program) → IsAhead (with_found p i seat c step x next)
   found_ahead step none next = ahead
@@ -85,29 +81,12 @@ module _ (p : Plan) (c : Core) (i : ℕ) (seat : SeatState) (ahead : IsAhead c) 
   step_ahead answer (PutBytes k asked bytes next) = put_ahead bytes answer next
   step_ahead answer (AskReady k next) = ready_ahead answer next
   step_ahead answer (Aside step next) = found_ahead step (found_in step c.calls (taken answer)) next
-  step_ahead answer (Round head next) = ahead
-  step_ahead answer (Keep r next) = ahead
-  step_ahead answer (Retries requests after) = ahead
-  step_ahead answer (Say o outcome next) = ahead
-  step_ahead answer (Sent o next) = ahead
-  step_ahead answer Rest = ahead
-  step_ahead answer (Write w after) = ahead
+  step_ahead answer _ = ahead
 
   tick_ahead : (answer : Answer) (program : Program) → IsAhead (tick_with p i seat c answer program)
   tick_ahead answer (Write w after) = step_ahead answer (block w after)
   tick_ahead answer (Round head next) = step_ahead answer (round head next)
-  tick_ahead answer (Aside step next) = step_ahead answer (Aside step next)
-  tick_ahead answer (Keep r next) = ahead
-  tick_ahead answer (Retries requests after) = ahead
-  tick_ahead answer (Do call next) = step_ahead answer (Do call next)
-  tick_ahead answer (TakeMessage q next) = step_ahead answer (TakeMessage q next)
-  tick_ahead answer (TakeHome k next) = step_ahead answer (TakeHome k next)
-  tick_ahead answer (PutHome k n after) = step_ahead answer (PutHome k n after)
-  tick_ahead answer (PutBytes k asked bytes next) = step_ahead answer (PutBytes k asked bytes next)
-  tick_ahead answer (AskReady k next) = step_ahead answer (AskReady k next)
-  tick_ahead answer (Say o outcome next) = ahead
-  tick_ahead answer (Sent o next) = ahead
-  tick_ahead answer Rest = ahead
+  tick_ahead answer other = step_ahead answer other
 
 -- so is it behind a tick
 pub ticked_ahead : (p : Plan) (c : Core) (m : Moment) → IsAhead c → IsAhead (ticked p c m)
@@ -139,14 +118,9 @@ rests (Sent _ _) begun idle = absurd (true≢false (sym begun))
 rests (Keep _ _) begun idle = absurd (true≢false (sym begun))
 rests (Retries _ _) begun idle = absurd (true≢false (sym begun))
 rests Rest begun idle = refl
-rests (TakeMessage q next) begun idle = absurd (none-some _ (sym idle))
-rests (TakeHome k next) begun idle = absurd (none-some _ (sym idle))
-rests (PutHome k n after) begun idle = absurd (none-some _ (sym idle))
-rests (PutBytes k asked bytes next) begun idle = absurd (none-some _ (sym idle))
-rests (AskReady k next) begun idle = absurd (none-some _ (sym idle))
-rests (Write w after) begun idle = absurd (none-some _ (sym idle))
 rests (Aside step next) begun idle = absurd (none-some (kind_aside step) (sym idle))
 rests (Round head next) begun idle = absurd (none-some (kind_of_round head) (sym idle))
+rests _ begun idle = absurd (none-some _ (sym idle))
 
 pub place_inside : {A : Type 0} (l : List A) (i : ℕ) (a : A) → get_elem? l i ≡ some a → i < length l
 place_inside [] i a e = absurd (some-ne-none a (sym e))

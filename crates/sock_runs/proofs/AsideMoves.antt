@@ -18,7 +18,7 @@ use Rattle.seat_programs.specs.Programs.{Program, Aside}
 use Rattle.seat_programs.specs.Cores.{Calls, Core, SeatState, with_seat}
 use Rattle.sock_runs.specs.Fits.{FitsFound}
 use Rattle.sock_runs.specs.GoesOn.{GoesOn}
-use Rattle.sock_runs.specs.Lasts.{STALE, CHANGE, ERROR, attempt_cost, advance_gain, popped_gain, aside_cost, aside_gain, left_word, fresh, expects, stale_cost, ids_left, IsCountedStep, LastsFor, Lasts}
+use Rattle.sock_runs.specs.Lasts.{STALE, CHANGE, ERROR, attempt_cost, advance_gain, popped_gain, fresh, expects, stale_cost, ids_left, IsCountedStep, LastsFor, Lasts}
 use Rattle.sock_runs.proofs.IdCosts.{Falls}
 use Rattle.sock_runs.proofs.SeatCosts.{IsThere}
 use Rattle.sock_runs.proofs.AsideTicks.{made_counts, ended_counts, locked_counts, queued_counts, unlocked_counts, tag_same, call_same, at_counts}
@@ -104,9 +104,6 @@ module _ (p : Plan) (c : Core) (vs : List View) (n : ℕ) (lasts : Lasts p c vs 
       (λ x. (refl, subst (λ b. 1 ≤ cond b (cond (eqb (parts from).state 1) (STALE + CHANGE) (STALE + CHANGE + ERROR)) 1) (sym x) (omega arith), late x))
       goes f.2 f.1
     where
-      after : ℕ
-      after = ids_left p.requests (set c.calls.words (id_index j) (packed (posted_word (parts from) e))) c.calls.plan.slots
-
       opened : found ≡ from → (parts from).state ≡ 1 → ids_left p.requests (set c.calls.words (id_index j) (packed (posted_word (parts from) e))) c.calls.plan.slots + 0 + STALE + CHANGE ≤ ids_left p.requests c.calls.words c.calls.plan.slots + cond (eqb (parts from).state 1) (STALE + CHANGE) (STALE + CHANGE + ERROR)
       opened is one = subst (λ b. ids_left p.requests (set c.calls.words (id_index j) (packed (posted_word (parts from) e))) c.calls.plan.slots + 0 + STALE + CHANGE ≤ ids_left p.requests c.calls.words c.calls.plan.slots + cond b (STALE + CHANGE) (STALE + CHANGE + ERROR)) (sym (eq-eqb (parts from).state 1 one))
           (won_sum (ids_left p.requests (set c.calls.words (id_index j) (packed (posted_word (parts from) e))) c.calls.plan.slots) (ids_left p.requests c.calls.words c.calls.plan.slots) 0 0 (locked_counts p.requests c.calls.words j c.calls.plan.slots counted.0.1 counted.0.0 from (there ∙ is) e one))

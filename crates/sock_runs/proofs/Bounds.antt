@@ -15,9 +15,6 @@ use Rattle.sock_steps.specs.slot_steps.proofs.Sums.{total_bound}
 use Rattle.sock_steps.specs.slot_steps.proofs.Numbers.{live_le}
 
 module _ (p : Plan) (s : State Home View) (o : References p s) (i : ℕ) (inside : i < p.slots) where
-  abbrev pub word : ℕ
-  word = get_or s.words (ref_index i) 0
-
   pub law : SlotLaw p.first (live (slot_facts s i)) (slot_facts s i)
   law = o.slots i inside
 

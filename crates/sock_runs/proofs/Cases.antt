@@ -17,7 +17,7 @@ use Rattle.sock_model.specs.Messages.{Letter}
 use Rattle.sock_model.specs.Reads.{letter_of, shown, message, link_home}
 use Rattle.seat_programs.specs.Writings.{Writing, Puts, Waits, Empties, Walks}
 use Rattle.seat_programs.specs.Calls.{Call}
-use Rattle.seat_programs.specs.Programs.{Program, Do, Say, Sent, Rest, TakeMessage, TakeHome, PutHome, PutBytes, AskReady, Write, Aside, Round, Keep, Retries}
+use Rattle.seat_programs.specs.Programs.{Program, Do, TakeMessage, TakeHome, PutHome, PutBytes, AskReady, Write, Aside, Round}
 use Rattle.seat_programs.specs.Asides.{Step, Found}
 use Rattle.seat_programs.specs.Heads.{Head, Exit, Posts, Unlocks, Decides, Locks, Joins, Opens, Reads, Discards}
 use Rattle.seat_programs.specs.Rounds.{round}
@@ -56,18 +56,6 @@ answer_begins (Write (Puts h now heading left taken asked) after) answer a = tt
 answer_begins (Write (Waits h now heading left taken) after) answer a = a
 answer_begins (Write (Empties h) after) answer a = tt
 answer_begins (Write (Walks h top at after) then_) answer a = tt
-answer_begins (Do call next) answer a = a
-answer_begins (Say o outcome next) answer a = a
-answer_begins (Sent o next) answer a = a
-answer_begins Rest answer a = a
-answer_begins (TakeMessage q next) answer a = a
-answer_begins (TakeHome k next) answer a = a
-answer_begins (PutHome k n after) answer a = a
-answer_begins (PutBytes k asked bytes next) answer a = a
-answer_begins (AskReady k next) answer a = a
-answer_begins (Aside step next) answer a = a
-answer_begins (Keep r next) answer a = a
-answer_begins (Retries requests after) answer a = a
 answer_begins (Round (Posts id e w) next) answer a = tt
 answer_begins (Round (Unlocks i w advance) next) answer a = tt
 answer_begins (Round (Decides id asked w e) next) answer a = begins_decides (ends_call (parts w) e)
@@ -82,24 +70,14 @@ answer_begins (Round (Joins id) next) answer a = tt
 answer_begins (Round (Opens o) next) answer a = tt
 answer_begins (Round (Reads r) next) answer a = a
 answer_begins (Round (Discards k total) next) answer a = a
+answer_begins _ answer a = a
 
 -- a round that the view allows from the head of a loop on, it allows from its first step on
 pub goes_first : (p : Plan) (v : View) → ((w : Writing) (after : Program) → GoesOn p v (Write w after) → GoesOn p v (block w after))
     → ((head : Head) (next : Exit head → Program) → GoesOn p v (Round head next) → GoesOn p v (round head next)) → (program : Program) → GoesOn p v program → GoesOn p v (first_step program)
 goes_first p v begins rounds (Write w after) g = begins w after g
-goes_first p v begins rounds (Do call next) g = g
-goes_first p v begins rounds (Say o outcome next) g = g
-goes_first p v begins rounds (Sent o next) g = g
-goes_first p v begins rounds Rest g = g
-goes_first p v begins rounds (TakeMessage q next) g = g
-goes_first p v begins rounds (TakeHome k next) g = g
-goes_first p v begins rounds (PutHome k n after) g = g
-goes_first p v begins rounds (PutBytes k asked bytes next) g = g
-goes_first p v begins rounds (AskReady k next) g = g
-goes_first p v begins rounds (Aside step next) g = g
 goes_first p v begins rounds (Round head next) g = rounds head next g
-goes_first p v begins rounds (Keep r next) g = g
-goes_first p v begins rounds (Retries requests after) g = g
+goes_first p v begins rounds _ g = g
 
 module _ (p : Plan) (c : Core) (vs : List View) (m : Moment) (sound : Sound p c vs) (answered : IsAnswered c m)
     (fitting : IsFitting p c m) (begins_round : (v : View) (w : Writing) (after : Program) → GoesOn p v (Write w after) → GoesOn p v (block w after))
@@ -108,19 +86,7 @@ module _ (p : Plan) (c : Core) (vs : List View) (m : Moment) (sound : Sound p c 
   from_first : (seat : SeatState) (v : View) (program : Program) → P (step_with p m.seat seat c m.answer (first_step program)) (views_with p m.seat c vs v m.answer (first_step program))
       → P (tick_with p m.seat seat c m.answer program) (views_of p m.seat c vs v m.answer program)
   from_first seat v (Write w after) x = x
-  from_first seat v (Do call next) x = x
-  from_first seat v (Say o outcome next) x = x
-  from_first seat v (Sent o next) x = x
-  from_first seat v Rest x = x
-  from_first seat v (TakeMessage q next) x = x
-  from_first seat v (TakeHome k next) x = x
-  from_first seat v (PutHome k n after) x = x
-  from_first seat v (PutBytes k asked bytes next) x = x
-  from_first seat v (AskReady k next) x = x
-  from_first seat v (Aside step next) x = x
-  from_first seat v (Round head next) x = x
-  from_first seat v (Keep r next) x = x
-  from_first seat v (Retries requests after) x = x
+  from_first seat v _ x = x
 
   by_view : (seat : SeatState) → get_elem? c.seats m.seat ≡ some seat → ((v : View) → get_elem? vs m.seat ≡ some v → P (tick_with p m.seat seat c m.answer seat.program) (views_of p m.seat c vs v m.answer seat.program))
       → (q : Option View) → get_elem? vs m.seat ≡ q → P (tick_with p m.seat seat c m.answer seat.program) (elim q as (λ o. List View) [ none ↦ vs | some v ↦ views_of p m.seat c vs v m.answer seat.program ])
@@ -175,18 +141,12 @@ module _ (p : Plan) (c : Core) (vs : List View) (m : Moment) (sound : Sound p c 
         subst (λ (x : Answer). P (step_with p m.seat seat c x (PutBytes k asked bytes next)) (views_with p m.seat c vs v x (PutBytes k asked bytes next))) (sym a.1) (put seat v k asked bytes next a.0 at_seat at_view e g a.1 a.2)
     by_first seat v at_seat at_view (AskReady k next) e g f a =
         subst (λ (x : Answer). P (step_with p m.seat seat c x (AskReady k next)) (views_with p m.seat c vs v x (AskReady k next))) (sym a.1) (ready seat v k next a.0 at_seat at_view e g a.1)
-    by_first seat v at_seat at_view (Say o outcome next) e g f a = before
-    by_first seat v at_seat at_view (Sent o next) e g f a = before
-    by_first seat v at_seat at_view Rest e g f a = before
-    by_first seat v at_seat at_view (Write w after) e g f a = before
-    by_first seat v at_seat at_view (Keep r next) e g f a = before
-    by_first seat v at_seat at_view (Retries requests after) e g f a = before
-    by_first seat v at_seat at_view (Round head next) e g f a = before
     by_first seat v at_seat at_view (Aside step next) e g f a = by_found (found_in step c.calls (taken m.answer)) refl
       where
         by_found : (x : Option (Found step)) → found_in step c.calls (taken m.answer) ≡ x → P (with_found p m.seat seat c step x next) vs
         by_found none is = before
         by_found (some found) is = aside seat v step next found at_seat at_view e g (f found is)
+    by_first seat v at_seat at_view _ e g f a = before
 
     pub tick_keeps : P (ticked p c m) (views_after p c vs m)
     tick_keeps = by_seat (λ seat v at_seat at_view. from_first seat v seat.program (by_first seat v at_seat at_view (first_step seat.program) refl

@@ -19,12 +19,11 @@ use Rattle.sock_model.specs.SlotRows.{marks_of, back, looked}
 use Rattle.sock_model.specs.ChainRows.{with_right}
 use Rattle.seat_programs.specs.Calls.{Call, LookWord, LoadCode, SetOdd, SubRef, StoreCode, StorePlace, DropPlace, EmptyHead, ReadNext, ReverseNext, FreeRequest}
 use Rattle.seat_programs.specs.Writings.{Holder, Writing, Puts, Waits, Empties, Walks}
-use Rattle.seat_programs.specs.Programs.{Program, Do, Say, Sent, TakeMessage, TakeHome, PutBytes, Write, LAST_GENERATION, set_failed}
+use Rattle.seat_programs.specs.Programs.{Program, Do, TakeMessage, TakeHome, PutBytes, Write, LAST_GENERATION, set_failed}
 use Rattle.seat_programs.specs.Sends.{freed, one_more, passed, passed_telling, tell_drop, placed, dropped, put_answered, block, first_put}
 use Rattle.seat_programs.specs.Parts.{part}
 use Rattle.seat_programs.specs.Posts.{post}
 use Rattle.seat_programs.specs.Ticks.{FitsPut}
-use Rattle.seat_programs.specs.Cores.{next_step}
 use Rattle.sock_steps.proofs.Quiet.{either_way}
 use Rattle.sock_steps.specs.slot_steps.proofs.Sums.{about-here}
 use Rattle.sock_steps.specs.slot_steps.proofs.Numbers.{only-same}
@@ -36,12 +35,6 @@ use Rattle.sock_runs.proofs.Leaves.{right_way}
 use Rattle.sock_runs.proofs.IdCosts.{lasts_more, post_lasts}
 
 -- ## Numbers
-
--- what is said takes no step
-pub lasts_next : (p : Plan) (v : View) (program : Program) (n : ℕ) → LastsFor p v program n → LastsFor p v (next_step program) n
-lasts_next p v (Say o outcome next) n l = lasts_next p v next n l
-lasts_next p v (Sent o next) n l = lasts_next p v next n l
-lasts_next p v _ n l = l
 
 -- whatever the seat's view
 abbrev pub Lasting : Plan → Program → ℕ → Type 0

@@ -24,7 +24,7 @@ use Rattle.sock_steps.specs.slot_steps.proofs.Numbers.{pair_le}
 use Rattle.sock_steps.specs.slot_steps.proofs.Slots.{recycled_le}
 use Rattle.sock_steps.specs.slot_steps.proofs.Kept.{life_found}
 use Rattle.sock_steps.proofs.Places.{own_count, given_unwaited}
-use Rattle.seat_programs.specs.Calls.{Call, ClaimSlot, CreateLife, AddRef, SubRef, SetOdd, Recycle, FreeSlot, StoreLink, LoadLink, ResetHead, ClearCode, StoreCode, StoreName, LoadName, StoreOpen, LoadOpen, TakeLink, FinishLink, PutLink, LookWord, FindLink, LoadCode, ClaimRequest, PutMessage, Unconnect, SwapHead, Connect, EmptyHead, ReadNext, ReverseNext, FreeRequest, StorePlace, DropPlace}
+use Rattle.seat_programs.specs.Calls.{Call, CreateLife, AddRef, SubRef, SetOdd, FreeSlot, LoadLink, LoadName, LoadOpen, TakeLink, LookWord, FindLink, ClaimRequest}
 use Rattle.seat_programs.specs.Programs.{NO_SOCKET}
 use Rattle.seat_programs.specs.Cores.{word_of, found_at}
 use Rattle.sock_runs.specs.Rows.{hand_at}
@@ -98,39 +98,19 @@ module _ (p : Plan) (s : State Home View) (o : Lawful (λ home. home) p s) (i : 
       by_phase g n small (retired_phase x) = omega (arith, small, x.word)
 
   pub finds : p.slots ≤ 256 → (call : Call) → May p v call → Finds p v call (found_at s.words (word_of p call)) (hand_at p s.words s.homes call)
-  finds few (ClaimSlot j) may = tt
   finds few (CreateLife j k) may = let b = births j k may in (has_room p s o.references j may.0, b.0, b.1)
   finds few (AddRef id) may = has_room p s o.references (socket_id_slot id) may.0.0
   finds few (SubRef j) may = (refs_counted j may.0, of_held j may.0, next_version p s o.references j may.0)
   finds few (SetOdd j) may = of_held j may.0
-  finds few (Recycle j from) may = tt
   finds few (FreeSlot j) may = busy_once j may.0
-  finds few (StoreLink j k) may = tt
   finds few (LoadLink j w) may = (link_in j w may.0 may.1, link_unwaited j w may.0 may.1)
-  finds few (ResetHead j k) may = tt
-  finds few (ClearCode j k) may = tt
-  finds few (StoreCode j h d) may = tt
-  finds few (StoreName n w) may = tt
   finds few (LoadName n) may = named few n may
-  finds few (StoreOpen n w) may = tt
   finds few (LoadOpen n) may = λ is. let found : ℕ = get_or s.words (open_index p n) 0 in (o.references.named.opens n may (id_socket found is) (id_some found is)).0
   finds few (TakeLink k) may = ap (λ (h : Hand). h.link) (found_hand p s o i v at k may)
-  finds few (FinishLink k) may = tt
-  finds few (PutLink k) may = tt
   finds few (LookWord id) may = (of_held (socket_id_slot id) may.0, failed_found (socket_id_slot id) may.0)
   finds few (FindLink j h) may = (held_link_in p s o i v at j h may, held_link_is p s o i v at j h may)
-  finds few (LoadCode j h) may = tt
   finds few (ClaimRequest id q) may = (
     (held_link_in p s o i v at (socket_id_slot id) (socket_id_version id) may.1, held_link_is p s o i v at (socket_id_slot id) (socket_id_version id) may.1),
     request_small q may.0,
   )
-  finds few (PutMessage q heading bytes) may = tt
-  finds few (Unconnect q) may = tt
-  finds few (SwapHead j own) may = tt
-  finds few (Connect q before) may = tt
-  finds few (EmptyHead j last) may = tt
-  finds few (ReadNext q) may = tt
-  finds few (ReverseNext q value) may = tt
-  finds few (FreeRequest q g) may = tt
-  finds few (StorePlace l k n) may = tt
-  finds few (DropPlace l k n) may = tt
+  finds few _ may = tt

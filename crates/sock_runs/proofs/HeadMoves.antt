@@ -17,12 +17,12 @@ use Rattle.seat_programs.specs.corr_core.specs.Law.{LAST}
 use Rattle.seat_programs.specs.id_rule.specs.Lawful.{id_index}
 use Rattle.seat_programs.specs.sock_message.specs.Asked.{Asked}
 use Rattle.seat_programs.specs.Calls.{LoadOpen}
-use Rattle.seat_programs.specs.Asides.{Step, Found, ClaimId, PutCall, MakeId, StoreCall, LoadCall, StoreAt, LoadAt, LoadIdWord, LockId, PostId, UnlockId, EndId, FreeId, TakeCall, TakeBytes, Taking, Bytes, Nothing, NoMore, AtEnd, Closed, Broken, id_slot, id_first}
+use Rattle.seat_programs.specs.Asides.{Step, Found, PutCall, LoadIdWord, LockId, PostId, UnlockId, EndId, FreeId, TakeBytes, Taking, Bytes, Nothing, NoMore, AtEnd, Closed, Broken, id_slot, id_first}
 use Rattle.seat_programs.specs.Heads.{Head, Exit, Sought, Reading, Posts, Unlocks, Decides, Locks, Joins, Opens, Reads, Discards, Posting, WasQueued, HasLocked, Unlocking, Deciding, HasEnded, Locking, Has, Ended}
 use Rattle.seat_programs.specs.Beside.{found_in, at_last, taking_in}
 use Rattle.seat_programs.specs.Posts.{packed, judged, popped, locking, advance_of, ends_call, end_id, unlocked, is_sought, is_first}
 use Rattle.seat_programs.specs.Readers.{took, discarded, room_of}
-use Rattle.seat_programs.specs.Programs.{Program, Do, Say, Sent, Rest, TakeMessage, TakeHome, PutHome, PutBytes, AskReady, Write, Aside, Round, Keep, Retries}
+use Rattle.seat_programs.specs.Programs.{Program, Do, TakeMessage, TakeHome, PutHome, PutBytes, AskReady, Write, Aside, Round}
 use Rattle.seat_programs.specs.Cores.{Core, SeatState}
 use Rattle.seat_programs.specs.Ticks.{Answer, OfReady, OfTake, Moment, FitsTake, IsTaken, IsAnswer, IsAnswered, IsAlwaysReady, taken, with_found, step_with, tick_with, ticked, is_nothing, waits_at, waits}
 use Rattle.seat_programs.specs.Runs.{kind_in, IsAtRest}
@@ -90,18 +90,7 @@ module _ (p : Plan) (go : RetriesGo p) (c : Core) (vs : List View) (n : ℕ) (la
   late_plain (LockId j from) found old = λ _. omega arith
   late_plain (PostId j from e) found old = λ _. omega arith
   late_plain (UnlockId j from advance) found old = λ _. omega arith
-  late_plain (ClaimId j) found old = refl
-  late_plain (PutCall j asked) found old = refl
-  late_plain (MakeId j range) found old = refl
-  late_plain (StoreCall o id) found old = refl
-  late_plain (LoadCall o) found old = refl
-  late_plain (StoreAt o w) found old = refl
-  late_plain (LoadAt o) found old = refl
-  late_plain (LoadIdWord j) found old = refl
-  late_plain (EndId j) found old = refl
-  late_plain (FreeId j) found old = refl
-  late_plain (TakeCall j) found old = refl
-  late_plain (TakeBytes j room) found old = refl
+  late_plain _ found old = refl
 
   any_aside : (step : Step) (next : Found step → Program) → IsCountedAt c answer (Aside step next) → FitsBeside p c answer (Aside step next) → GoesOn p v (Aside step next) → LastsFor p v (Aside step next) (k + 0)
       → Fewer p n (step_with p i seat c answer (Aside step next)) (views_with p i c vs v answer (Aside step next))
@@ -216,17 +205,13 @@ module _ (p : Plan) (go : RetriesGo p) (c : Core) (vs : List View) (n : ℕ) (la
     any_tick (Round head next) at goes l a counted = head_moves head next at goes l a counted
     any_tick (Aside step next) at goes l a counted = inr (any_aside step next counted.0 counted.1 goes l)
     any_tick (Do call next) at goes l a counted = tick_moves p c vs n lasts i seat v at_seat at_view k at_number go sound answer always_ready (Do call next) tt goes (less_zero (Do call next) l) a
-    any_tick (Say o outcome next) at goes l a counted = inl (inl refl)
-    any_tick (Sent o next) at goes l a counted = inl (inl refl)
-    any_tick Rest at goes l a counted = inl (inl refl)
-    any_tick (Keep r next) at goes l a counted = inl (inl refl)
-    any_tick (Retries requests after) at goes l a counted = inl (inl refl)
     any_tick (TakeMessage q next) at goes l a counted = tick_moves p c vs n lasts i seat v at_seat at_view k at_number go sound answer always_ready (TakeMessage q next) tt goes (less_zero (TakeMessage q next) l) a
     any_tick (TakeHome j next) at goes l a counted = tick_moves p c vs n lasts i seat v at_seat at_view k at_number go sound answer always_ready (TakeHome j next) tt goes (less_zero (TakeHome j next) l) a
     any_tick (PutHome j places after) at goes l a counted = tick_moves p c vs n lasts i seat v at_seat at_view k at_number go sound answer always_ready (PutHome j places after) tt goes (less_zero (PutHome j places after) l) a
     any_tick (PutBytes j asked bytes next) at goes l a counted = tick_moves p c vs n lasts i seat v at_seat at_view k at_number go sound answer always_ready (PutBytes j asked bytes next) tt goes (less_zero (PutBytes j asked bytes next) l) a
     any_tick (AskReady j next) at goes l a counted = tick_moves p c vs n lasts i seat v at_seat at_view k at_number go sound answer always_ready (AskReady j next) tt goes (less_zero (AskReady j next) l) a
     any_tick (Write w after) at goes l a counted = tick_moves p c vs n lasts i seat v at_seat at_view k at_number go sound answer always_ready (Write w after) tt goes (less_zero (Write w after) l) a
+    any_tick _ at goes l a counted = inl (inl refl)
 
 -- ## A tick of any seat
 

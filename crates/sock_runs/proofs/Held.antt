@@ -7,7 +7,7 @@ use Rattle.sock_words.specs.Words.{socket_id_version, socket_id_slot, vref_versi
 use Rattle.sock_words.specs.declared.plain.Plan.{Plan}
 use Rattle.sock_model.specs.declared.chain.Right.{Right}
 use Rattle.sock_model.specs.declared.chain.Stage.{Stage}
-use Rattle.sock_model.specs.declared.chain.Stage.TheVariants.{Writes, Placed, Passes, Empties, Walks, Turns}
+use Rattle.sock_model.specs.declared.chain.Stage.TheVariants.{Writes, Placed, Passes, Walks, Turns}
 use Rattle.sock_model.specs.declared.home.Home.{Home}
 use Rattle.sock_model.specs.declared.home.Home.TheVariants.{Link}
 use Rattle.sock_model.specs.declared.view.View.{View}
@@ -18,7 +18,7 @@ use Rattle.sock_model.specs.SlotRows.{met, looked, told_code, met_link}
 use Rattle.sock_model.specs.ChainRows.{with_claim, with_hand, spent_hand, without_hand, with_right, without_right, turned_right, placed_right, dropped_right}
 use Rattle.sock_model.specs.Lawful.{Lawful}
 use Rattle.sock_steps.proofs.Quiet.{either_way}
-use Rattle.seat_programs.specs.Calls.{Call, ClaimSlot, CreateLife, AddRef, SubRef, SetOdd, Recycle, FreeSlot, StoreLink, LoadLink, ResetHead, ClearCode, StoreCode, StoreName, LoadName, StoreOpen, LoadOpen, TakeLink, FinishLink, PutLink, LookWord, FindLink, LoadCode, ClaimRequest, PutMessage, Unconnect, SwapHead, Connect, EmptyHead, ReadNext, ReverseNext, FreeRequest, StorePlace, DropPlace}
+use Rattle.seat_programs.specs.Calls.{Call, LoadName, LoadOpen, TakeLink, FinishLink, PutLink, LookWord, LoadCode, ClaimRequest, PutMessage, Unconnect, SwapHead, EmptyHead, ReadNext, ReverseNext, FreeRequest, StorePlace, DropPlace}
 use Rattle.seat_programs.specs.Cores.{Core, word_of, found_at, hand_after}
 use Rattle.sock_runs.specs.Rows.{row, hand_at, is_id, found_id, taken, by_right, new_claim, filled_claim, ready_claim, exchanged, looked_clean, emptied, settled, read_next, turned_next, freed_stage, freed_next, placed_next, dropped_next}
 use Rattle.sock_runs.specs.May.{May}
@@ -81,10 +81,7 @@ module _ (p : Plan) (v : View) (hand : List Home) (held : AreHeld hand v.rights 
   reads_held : (found : ℕ) (r : Right) → v.rights ≡ r ∷ [] → (b : Stage) → Holds (read_next found v r b)
   reads_held found r one (Placed now) = let r' : Right = settled (record r { stage = Passes now found }) in one_held v r r' one refl one record { link = refl; at_home = refl; took = refl }
   reads_held found r one (Walks top a after) = either_way (found == UNCONNECTED) v (with_right v (record r { stage = Turns top a after found })) Holds held (stage_held r one (Turns top a after found))
-  reads_held found r one (Writes now) = held
-  reads_held found r one (Passes now next) = held
-  reads_held found r one Empties = held
-  reads_held found r one (Turns top a after before) = held
+  reads_held found r one _ = held
 
   turned_alike : (r : Right) (top a before : ℕ) → IsAlike r (turned_right r top a before)
   turned_alike r top a before = either_way (before == r.last) (record r { last = top; stage = Writes a; turned = 0; noted = r.noted + suc r.turned }) (record r { stage = Walks top before a; turned = suc r.turned }) (IsAlike r)
@@ -92,29 +89,17 @@ module _ (p : Plan) (v : View) (hand : List Home) (held : AreHeld hand v.rights 
 
   turns_held : (r : Right) → v.rights ≡ r ∷ [] → (b : Stage) → Holds (turned_next v r b)
   turns_held r one (Turns top a after before) = one_held v r (turned_right r top a before) one refl one (turned_alike r top a before)
-  turns_held r one (Placed now) = held
-  turns_held r one (Walks top a after) = held
-  turns_held r one (Writes now) = held
-  turns_held r one (Passes now next) = held
-  turns_held r one Empties = held
+  turns_held r one _ = held
 
   places_held : (r : Right) → v.rights ≡ r ∷ [] → r.put ≡ length r.bytes → (b : Stage) → Holds (placed_next v r b)
   places_held r one whole (Writes now) = let r' : Right = settled (placed_right r now) in
       one_held v r r' one refl one record { link = refl; at_home = refl; took = append-nil (r.sent ++ r.bytes) ∙ sym (ap (λ n. r.sent ++ take n r.bytes) whole ∙ ap (λ l. r.sent ++ l) (take_all (length r.bytes) r.bytes (le_refl (length r.bytes)))) }
-  places_held r one whole (Turns top a after before) = held
-  places_held r one whole (Placed now) = held
-  places_held r one whole (Walks top a after) = held
-  places_held r one whole (Passes now next) = held
-  places_held r one whole Empties = held
+  places_held r one whole _ = held
 
   drops_held : (r : Right) → v.rights ≡ r ∷ [] → (b : Stage) → Holds (dropped_next v r b)
   drops_held r one (Writes now) = let r' : Right = settled (dropped_right r now (r.sent ++ take r.put r.bytes)) in
       one_held v r r' one refl one record { link = refl; at_home = refl; took = append-nil (r.sent ++ take r.put r.bytes) }
-  drops_held r one (Turns top a after before) = held
-  drops_held r one (Placed now) = held
-  drops_held r one (Walks top a after) = held
-  drops_held r one (Passes now next) = held
-  drops_held r one Empties = held
+  drops_held r one _ = held
 
   -- where the seat's one right is this, the step does this with it
   of_right : (r : Right) → v.rights ≡ r ∷ [] → (then_ : Right → View) (other : View) → Holds (then_ r) → Holds (by_right v.rights then_ other)
@@ -137,21 +122,7 @@ module _ (p : Plan) (c : Core) (vs : List View) (o : Lawful (λ home. home) p (s
   in_hand none_ = held_in_hand hand v.rights v.hands none_ held
 
   pub keeps_held : (call : Call) → May p v call → AreHeld (hand_after p call c.homes hand) (after call).rights (after call).hands
-  keeps_held (ClaimSlot j) may = held
-  keeps_held (CreateLife j k) may = held
-  keeps_held (AddRef id) may = held
-  keeps_held (SubRef j) may = held
-  keeps_held (SetOdd j) may = held
-  keeps_held (Recycle j from) may = held
-  keeps_held (FreeSlot j) may = held
-  keeps_held (StoreLink j k) may = held
-  keeps_held (LoadLink j w) may = held
-  keeps_held (ResetHead j k) may = held
-  keeps_held (ClearCode j k) may = held
-  keeps_held (StoreCode j h d) may = held
-  keeps_held (StoreName n w) may = held
   keeps_held (LoadName n) may = held_id p v hand held (found (LoadName n))
-  keeps_held (StoreOpen n w) may = held
   keeps_held (LoadOpen n) may = held_id p v hand held (found (LoadOpen n))
   keeps_held (TakeLink k) may = let home = (taking p (state c vs) o i v at k may).0 in let h : Hand = record { link = k; took = home.took; next = home.next } in
       let now = in_hand_held (hand_after p (TakeLink k) c.homes hand) v.rights (h ∷ v.hands) may.3 (take_in_hand p c.homes k home hand v.hands (in_hand may.3)) in
@@ -164,7 +135,6 @@ module _ (p : Plan) (c : Core) (vs : List View) (o : Lawful (λ home. home) p (s
       (λ none_. subst (λ rs. Holds p v hand held (by_right rs (looked_clean j w v) (looked j w v))) (sym none_) held)
       (λ mine. of_right p v hand held mine.0 mine.1 (looked_clean j w v) (looked j w v) (looks_held p v hand held j w mine.0 mine.1))
       may.1
-  keeps_held (FindLink j h) may = held
   keeps_held (LoadCode j h) may = either_way (found (LoadCode j h) == 0) v (told_code j h (found (LoadCode j h)) v) (Holds p v hand held) held held
   keeps_held (ClaimRequest id q) may = let n : ℕ = found (ClaimRequest id q) in let k : ℕ = (hand_at p c.words c.homes (ClaimRequest id q)).link in
       either_way (n % 2 == 0) (with_claim (met_link (socket_id_slot id) (socket_id_version id) k v) (new_claim k q n)) v (Holds p v hand held) held held
@@ -172,7 +142,6 @@ module _ (p : Plan) (c : Core) (vs : List View) (o : Lawful (λ home. home) p (s
   keeps_held (Unconnect q) may = claim_way (Holds p v hand held) v.claims (λ d. with_claim v (ready_claim d)) v held (λ d. held)
   keeps_held (SwapHead j own) may = let n : ℕ = found (SwapHead j own) in let g : Hand = hand_at p c.words c.homes (SwapHead j own) in
       claim_way (Holds p v hand held) v.claims (exchanged n g v) v held (exchanges_way (Holds p v hand held) v held (λ d m. held) (λ d m sent l. held) n g)
-  keeps_held (Connect q before) may = held
   keeps_held (EmptyHead j last) may = let r : Right = may.1.0.mine.right in let w : ℕ = found (EmptyHead j last) in
       of_right p v hand held r may.1.1 (emptied last w v) v
       (either_way (w == last) (without_right v r.link) (with_right v (record r { stage = Walks w w 0 })) (Holds p v hand held) (gone_held p v hand held r may.1.1 may.1.0.link_home) (stage_held p v hand held r may.1.1 (Walks w w 0)))
@@ -181,3 +150,4 @@ module _ (p : Plan) (c : Core) (vs : List View) (o : Lawful (λ home. home) p (s
   keeps_held (FreeRequest q g) may = let r : Right = may.4.0 in of_right p v hand held r may.4.1 (freed_next v) v (stage_held p v hand held r may.4.1 (freed_stage r.stage))
   keeps_held (StorePlace l k n) may = let r : Right = may.0.mine.right in of_right p v hand held r may.1 (λ r. placed_next v r r.stage) v (places_held p v hand held r may.1 may.5 r.stage)
   keeps_held (DropPlace l k n) may = let r : Right = may.0.mine.right in of_right p v hand held r may.1 (λ r. dropped_next v r r.stage) v (drops_held p v hand held r may.1 r.stage)
+  keeps_held _ may = held

@@ -8,30 +8,25 @@ use Rattle.seat_programs.specs.corr_core.specs.Word.{parts, code_of, error_of, p
 use Rattle.seat_programs.specs.corr_core.specs.Law.{LAST}
 use Rattle.seat_programs.specs.sock_message.specs.Asked.{Asked}
 use Rattle.seat_programs.specs.Asides.{Step, Found, LoadIdWord, LockId, PostId, UnlockId, FreeId, PutCall, id_slot, id_first}
-use Rattle.seat_programs.specs.Heads.{Head, Exit, Retry, Sought, Posts, Unlocks, Decides, Locks, Joins, Opens, Posting, WasGone, WasStale, WasCrowded, WasQueued, HasLocked, Unlocking, IsOpen, HasNext, Deciding, HasEnded, Locking, NotThere, Has}
+use Rattle.seat_programs.specs.Heads.{Retry, Sought, Posts, Unlocks, Decides, Locks, Joins, Opens, Posting, WasGone, WasStale, WasCrowded, WasQueued, HasLocked, Unlocking, IsOpen, HasNext, Deciding, HasEnded, Locking, NotThere, Has}
 use Rattle.seat_programs.specs.Heads as heads
-use Rattle.seat_programs.specs.Programs.{Program, Do, Say, Sent, Rest, TakeMessage, TakeHome, PutHome, PutBytes, AskReady, Write, Aside, Round, Keep, Retries}
+use Rattle.seat_programs.specs.Programs.{Program, Say, Sent, Rest, TakeMessage, PutBytes, AskReady, Aside, Round, Retries}
 use Rattle.seat_programs.specs.Posts.{packed, advance_of, is_first, is_sought, is_stale, is_full, judged, posted, post, popped, ends_call, end_id, decide, unlocked, decides_round, decided, locking}
 use Rattle.sock_runs.specs.Fits.{FitsWord, FitsPosting, FitsUnlocking, FitsLocking}
 use Rattle.sock_runs.specs.Lasts.{LastsFor, fresh, fresh_at, left_word, STALE, CHANGE, DECISION, ERROR, POST, attempt_cost, advance_gain, aside_cost, aside_gain, unlocking_gain}
 
 -- who has at most so many steps left has at most more
 pub lasts_more : (p : Plan) (v : View) (program : Program) (m n : ℕ) → m ≤ n → LastsFor p v program m → LastsFor p v program n
-lasts_more p v (Do call next) m n le l = let a = l.1 in (l.0, omega (arith, le, a), l.2)
 lasts_more p v (Say o outcome next) m n le l = lasts_more p v next m n le l
 lasts_more p v (Sent o next) m n le l = lasts_more p v next m n le l
 lasts_more p v Rest m n le l = tt
 lasts_more p v (TakeMessage q next) m n le l = λ heading bytes some_. let a = l heading bytes some_ in let b = a.1 in (a.0, omega (arith, le, b), a.2)
-lasts_more p v (TakeHome k next) m n le l = let a = l.1 in (l.0, omega (arith, le, a), l.2)
-lasts_more p v (PutHome k places after) m n le l = let a = l.1 in (l.0, omega (arith, le, a), l.2)
 lasts_more p v (PutBytes k asked bytes next) m n le l = λ answer fits. let a = l answer fits in let b = a.1 in (a.0, omega (arith, le, b), a.2)
 lasts_more p v (AskReady k next) m n le l = λ answer always_ready. let a = l answer always_ready in let b = a.1 in (a.0, omega (arith, le, b), a.2)
-lasts_more p v (Write w after) m n le l = let a = l.1 in (l.0, omega (arith, le, a), l.2)
 lasts_more p v (Aside step next) m n le l = λ found fits. let a = l found fits in let b = a.1 in (a.0, omega (arith, le, b), a.2)
 lasts_more p v (Round (Opens o) next) m n le l = let a = l.1 in (l.0, omega (arith, le, a), l.2)
-lasts_more p v (Round head next) m n le l = let a = l.1 in (l.0, omega (arith, le, a), l.2)
-lasts_more p v (Keep r next) m n le l = let a = l.1 in (l.0, omega (arith, le, a), l.2)
 lasts_more p v (Retries requests after) m n le l = λ u. lasts_more p u after m n le (l u)
+lasts_more p v _ m n le l = let a = l.1 in (l.0, omega (arith, le, a), l.2)
 
 -- the word is the one that the head expects
 pub one_fresh : (i w : ℕ) → fresh_at (i, w) (i, w) ≡ STALE
@@ -165,10 +160,7 @@ module _ (p : Plan) (v : View) where
       decided_last : (exit : Deciding) → LastsFor p v (decided id next exit) (m + 0)
       decided_last (HasEnded o code) = lasts_more p v next m (m + 0) (omega arith) l
       decided_last heads.GoesOn = lasts_more p v next m (m + 0) (omega arith) l
-  posted_lasts id e next m l WasGone f = lasts_more p v next m (ERROR + m + 0) (omega arith) l
-  posted_lasts id e next m l WasStale f = lasts_more p v next m (ERROR + m + 0) (omega arith) l
-  posted_lasts id e next m l (WasCrowded a b) f = lasts_more p v next m (ERROR + m + 0) (omega arith) l
-  posted_lasts id e next m l WasQueued f = lasts_more p v next m (ERROR + m + 0) (omega arith) l
+  posted_lasts id e next m l _ f = lasts_more p v next m (ERROR + m + 0) (omega arith) l
 
   pub post_lasts : (id code attempt : ℕ) (next : Program) (m n : ℕ) → LastsFor p v next m → POST + m ≤ n → LastsFor p v (post id code attempt next) n
   post_lasts id code attempt next m n l room = let e : ℕ = error_of code attempt in λ found fits.

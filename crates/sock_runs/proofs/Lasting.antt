@@ -80,10 +80,8 @@ IsOfSockets other = Unit {0}
 
 -- a round begins with a step
 never_rests : (w : Writing) (after : Program) → kind_in (block w after) ≡ None → ⊥
-never_rests (Puts h now heading left taken asked) after e = none-some _ (sym e)
-never_rests (Waits h now heading left taken) after e = none-some _ (sym e)
-never_rests (Empties h) after e = none-some _ (sym e)
 never_rests (Walks h top place successor) then_ e = none-some _ (sym e)
+never_rests _ after e = none-some _ (sym e)
 
 -- a link that is told how many places it has is no message
 light_places : (n : ℕ) (xs : List Home) → home_weight (first_of xs) ≡ 0 → home_weight (first_of (onto_first (with_places n) xs)) ≡ 0
@@ -262,9 +260,6 @@ module _ (p : Plan) (c : Core) (vs : List View) (n : ℕ) (lasts : Lasts p c vs 
     abbrev hand : Hand
     hand = hand_at p c.words c.homes (SwapHead j own)
 
-    abbrev counts : ℕ → ℕ
-    counts = accepted vs
-
     -- the seat's lists have one entry more, of its claim's link
     counts_after : (e : Entry) (w : View) → e.link ≡ may.1.claim.link → w.lists ≡ more v.lists e → (q : ℕ) → accepted (set vs i w) q ≡ accepted vs q + only may.1.claim.link q
     counts_after e w is lists q = let x = may.1 in let f : View → ℕ = λ u. total (λ (l : List Entry). length (on q l)) u.lists in
@@ -394,14 +389,10 @@ module _ (p : Plan) (c : Core) (vs : List View) (n : ℕ) (lasts : Lasts p c vs 
       first_moves (PutBytes j asked bytes next) step goes l a = inr (subst (λ (x : Answer). Fewer p n (step_with p i seat c x (PutBytes j asked bytes next)) (views_with p i c vs v x (PutBytes j asked bytes next))) (sym a.1) (put_moves j asked bytes next a.0 a.2 goes l))
       first_moves (AskReady j next) step goes l a = inr (subst (λ (x : Answer). Fewer p n (step_with p i seat c x (AskReady j next)) (views_with p i c vs v x (AskReady j next))) (sym a.1)
           (ready_moves j next a.0 (λ e. always_ready (a.1 ∙ ap OfReady e)) goes l))
-      first_moves (Say o outcome next) step goes l a = inl refl
-      first_moves (Sent o next) step goes l a = inl refl
-      first_moves Rest step goes l a = inl refl
-      first_moves (Keep r next) step goes l a = inl refl
-      first_moves (Retries requests after) step goes l a = inl refl
       first_moves (Write w after) step goes l a = absurd step
       first_moves (Aside x next) step goes l a = absurd step
       first_moves (Round head next) step goes l a = absurd step
+      first_moves _ step goes l a = inl refl
 
       -- the seat is at rest or waits, or fewer are left behind its tick
       abbrev pub Moves : Program → Type 0
@@ -444,12 +435,7 @@ module _ (p : Plan) (c : Core) (vs : List View) (n : ℕ) (lasts : Lasts p c vs 
           inr (round_moves (Waits h now heading left taken) after tt goes (lasts_round p v (Waits h now heading left taken) after k goes.0 (λ x. x) l) (answer_begins (Write (Waits h now heading left taken) after) answer a))
       tick_moves (Write (Empties h) after) of goes l a =
           inr (round_moves (Empties h) after tt goes (lasts_round p v (Empties h) after k goes.0 (λ x. x) l) (answer_begins (Write (Empties h) after) answer a))
-      tick_moves (Do call next) of goes l a = no_loop (Do call next) (first_moves (Do call next) tt goes l a)
       tick_moves (Say o outcome next) of goes l a = inl (inl refl)
       tick_moves (Sent o next) of goes l a = inl (inl refl)
       tick_moves Rest of goes l a = inl (inl refl)
-      tick_moves (TakeMessage q next) of goes l a = no_loop (TakeMessage q next) (first_moves (TakeMessage q next) tt goes l a)
-      tick_moves (TakeHome j next) of goes l a = no_loop (TakeHome j next) (first_moves (TakeHome j next) tt goes l a)
-      tick_moves (PutHome j places after) of goes l a = no_loop (PutHome j places after) (first_moves (PutHome j places after) tt goes l a)
-      tick_moves (PutBytes j asked bytes next) of goes l a = no_loop (PutBytes j asked bytes next) (first_moves (PutBytes j asked bytes next) tt goes l a)
-      tick_moves (AskReady j next) of goes l a = no_loop (AskReady j next) (first_moves (AskReady j next) tt goes l a)
+      tick_moves program of goes l a = no_loop program (first_moves program tt goes l a)

@@ -130,10 +130,6 @@ module _ (p : Plan) (v : View) (found : ℕ) (hand : Hand) where
   sending_same (DropPlace l k n) is = right_way Same v.rights (λ r. dropped_next v r r.stage) v (record { plan = refl; passes = refl; spare = refl; stores = refl; hands = refl; found = refl }) (λ r. drops_way Same v (record { plan = refl; passes = refl; spare = refl; stores = refl; hands = refl; found = refl }) (λ c. (record { plan = refl; passes = refl; spare = refl; stores = refl; hands = refl; found = refl })) (λ r. (record { plan = refl; passes = refl; spare = refl; stores = refl; hands = refl; found = refl })) (λ k. (record { plan = refl; passes = refl; spare = refl; stores = refl; hands = refl; found = refl })) r r.stage)
   sending_same _ is = absurd (true≢false (sym is))
 
--- so they take or give no link that belongs to no right
-pub sending_hands : (p : Plan) (v : View) (found : ℕ) (hand : Hand) (call : Call) → is_sending call ≡ true → (row p call found hand v).hands ≡ v.hands
-sending_hands p v found hand call is = (sending_same p v found hand call is).hands
-
 -- whether it is the exchange of a head
 abbrev pub is_exchange : Call → Bool
 is_exchange (SwapHead i own) = true

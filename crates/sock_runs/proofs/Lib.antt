@@ -30,6 +30,7 @@ pub mod ReadCosts
 pub mod AsideTicks
 pub mod AsideMoves
 pub mod HeadMoves
+pub mod AtCalls
 pub mod Records
 pub mod Through
 pub mod ThroughLoops

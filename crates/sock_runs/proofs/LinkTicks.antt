@@ -27,7 +27,7 @@ use Rattle.seat_programs.specs.Programs.{Program, Say, Sent, TakeMessage, TakeHo
 use Rattle.std.specs.List.{AllByRecursion}
 use Rattle.seat_programs.specs.Heads.{Retry}
 use Rattle.seat_programs.specs.Attempts.{retry}
-use Rattle.seat_programs.specs.Asides.{Step, Found, ClaimId, PutCall, MakeId, StoreCall, LoadCall, StoreAt, LoadAt, LoadIdWord, LockId, PostId, UnlockId, EndId, FreeId, TakeCall, TakeBytes, Taking, Bytes}
+use Rattle.seat_programs.specs.Asides.{Step, Found, TakeBytes, Taking, Bytes}
 use Rattle.seat_programs.specs.Programs.{Aside}
 use Rattle.seat_programs.specs.Beside.{calls_after, more_given}
 use Rattle.sock_runs.specs.Fits.{FitsFound, FitsRetry}
@@ -66,20 +66,7 @@ waiting_given k _ a = refl
 
 waiting_stays : (step : Step) (found : Found step) (a : Calls) → (calls_after step found a).waiting ≡ a.waiting
 waiting_stays (TakeBytes k room) found a = waiting_given k found a
-waiting_stays (ClaimId i) found a = refl
-waiting_stays (PutCall i asked) found a = refl
-waiting_stays (MakeId i range) found a = refl
-waiting_stays (StoreCall o id) found a = refl
-waiting_stays (LoadCall o) found a = refl
-waiting_stays (StoreAt o w) found a = refl
-waiting_stays (LoadAt o) found a = refl
-waiting_stays (LoadIdWord i) found a = refl
-waiting_stays (LockId i from) found a = refl
-waiting_stays (PostId i from e) found a = refl
-waiting_stays (UnlockId i from advance) found a = refl
-waiting_stays (EndId i) found a = refl
-waiting_stays (FreeId i) found a = refl
-waiting_stays (TakeCall i) found a = refl
+waiting_stays _ found a = refl
 
 -- each retry may be tried where the seat is at ease
 abbrev pub RetriesGo : Plan → Type 0

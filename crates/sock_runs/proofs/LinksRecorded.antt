@@ -8,9 +8,6 @@ use lib.ListN.{get_elem?}
 use Rattle.atomic_table.proofs.Lists.{at_set, set_here, set_else}
 use Rattle.sock_words.specs.Words.{socket_id, vref_version}
 use Rattle.sock_words.specs.declared.plain.Plan.{Plan}
-use Rattle.seat_programs.specs.sock_io.specs.declared.link.Put.{Put}
-use Rattle.seat_programs.specs.sock_io.specs.declared.link.Ready.{Ready}
-use Rattle.sock_model.specs.declared.chain.Heading.{Heading}
 use Rattle.sock_model.specs.declared.chain.Right.{Right}
 use Rattle.sock_model.specs.declared.home.Home.{Home}
 use Rattle.sock_model.specs.declared.view.View.{View}
@@ -21,9 +18,7 @@ use Rattle.sock_model.specs.Slots.{count}
 use Rattle.sock_model.specs.References.{slot_facts}
 use Rattle.sock_steps.proofs.Places.{counts}
 use Rattle.seat_programs.specs.Calls.{Call, CreateLife, StoreOpen}
-use Rattle.seat_programs.specs.Asides.{Found}
-use Rattle.seat_programs.specs.Heads.{Exit}
-use Rattle.seat_programs.specs.Programs.{Program, Do, Say, Sent, Rest, TakeMessage, TakeHome, PutHome, PutBytes, AskReady, Write, Aside, Round, Keep, Retries}
+use Rattle.seat_programs.specs.Programs.{Program, Do}
 use Rattle.seat_programs.specs.Cores.{Calls, Core, SeatState, word_of, word_after, found_at, words_after, homes_after, hand_after, resolved, next_step, waiting_at, with_seat, stepped}
 use Rattle.seat_programs.specs.Ticks.{Moment, ticked, run, IsAnswered, AreAnswered}
 use Rattle.sock_runs.specs.Rows.{row, hand_at}
@@ -32,9 +27,10 @@ use Rattle.sock_runs.specs.Sound.{state, Sound, first_step, IsFitting, AreFittin
 use Rattle.sock_runs.proofs.Along.{place_inside}
 use Rattle.sock_runs.proofs.Notes.{bears}
 use Rattle.sock_runs.proofs.LinkNotes.{links_only, birth_links}
-use Rattle.sock_runs.proofs.Records.{stores, next_stores, Records, next_stored, first_stored, opens_same}
+use Rattle.sock_runs.proofs.AtCalls.{AtCalls, every_exit}
+use Rattle.sock_runs.proofs.Records.{stores, loads, next_stores, Records, next_stored, first_stored, opens_same}
 use Rattle.sock_runs.proofs.Recorded.{Recorded, recorded_ticks, stores_none}
-use Rattle.sock_runs.proofs.Through.{Passes, PassesOpens, Follows, records_passes, records_opens, records_follow, comes_follows}
+use Rattle.sock_runs.proofs.Through.{Passes, PassesOpens, Follows, at_calls_passes, at_calls_follow, records_passes, records_opens, records_follow, comes_follows}
 use Rattle.sock_runs.proofs.ThroughCalls.{through_first, through_next}
 use Rattle.sock_runs.proofs.Cases.{ComesNext, with_rights, tick_keeps_marks}
 use Rattle.sock_runs.proofs.Rounds.{begins_round}
@@ -43,62 +39,25 @@ use Rattle.sock_runs.proofs.LinkTicks.{RetriesGo}
 use Rattle.sock_runs.proofs.Ticks.{sound_ticks}
 
 -- each life that the program makes it stores next, at an operation that is its link's own
+abbrev pub GivesAt : (ℕ → ℕ → Type 0) → Unit {0} → Call → (ℕ → Program) → (Unit {0} → ℕ → Type 0) → Type 0
+GivesAt own s (CreateLife i k) next behind = (found : ℕ) → ((o : ℕ) × own k o × (next_stores (next found) ≡ some (o, socket_id (vref_version found) i + 1))) × behind tt found
+GivesAt own s call next behind = (found : ℕ) → behind tt found
+
 abbrev pub Gives : (ℕ → ℕ → Type 0) → Program → Type 0
-Gives own (Do (CreateLife i k) next) = (found : ℕ) → ((o : ℕ) × own k o × (next_stores (next found) ≡ some (o, socket_id (vref_version found) i + 1))) × Gives own (next found)
-Gives own (Do call next) = (found : ℕ) → Gives own (next found)
-Gives own (Say o outcome next) = Gives own next
-Gives own (Sent o next) = Gives own next
-Gives own Rest = Unit {0}
-Gives own (TakeMessage q next) = (heading : Heading) (bytes : List ℕ) → Gives own (next heading bytes)
-Gives own (TakeHome k next) = (places : ℕ) → Gives own (next places)
-Gives own (PutHome k n after) = Gives own after
-Gives own (PutBytes k asked bytes next) = (answer : Put) → Gives own (next answer)
-Gives own (AskReady k next) = (answer : Ready) → Gives own (next answer)
-Gives own (Write w after) = Gives own after
-Gives own (Aside step next) = (found : Found step) → Gives own (next found)
-Gives own (Round head next) = (exit : Exit head) → Gives own (next exit)
-Gives own (Keep r next) = Gives own next
-Gives own (Retries requests after) = Gives own after
+Gives own program = AtCalls (Unit {0}) (GivesAt own) every_exit tt program
 
 pub gives_passes : (own : ℕ → ℕ → Type 0) → Passes (Gives own)
-gives_passes own = record {
-  step = λ call next s b l r. plain own call next b r;
-  say = λ o outcome next r. r;
-  sent = λ o next r. r;
-  message = λ q next r. r;
-  home = λ k next r. r;
-  puts_home = λ k n after r. r;
-  put = λ k asked bytes next r. r;
-  ask = λ k next r. r;
-  write = λ w after r. r;
-  aside = λ step next r. r;
-  round = λ head l next r. r;
-  keep = λ r next x. x;
-  retries = λ requests after r. r;
-}
+gives_passes own = at_calls_passes (Unit {0}) (GivesAt own) every_exit tt (plain own) (λ head l next r. r)
   where
-    plain : (own : ℕ → ℕ → Type 0) (call : Call) (next : ℕ → Program) → bears call ≡ none → ((found : ℕ) → Gives own (next found)) → Gives own (Do call next)
-    plain own (CreateLife i k) next b r = absurd (some-ne-none i b)
-    plain own call next b r = r
+    plain : (own : ℕ → ℕ → Type 0) (call : Call) (next : ℕ → Program) → stores call ≡ none → bears call ≡ none → loads call ≡ none → ((found : ℕ) → Gives own (next found)) → Gives own (Do call next)
+    plain own (CreateLife i k) next s b l r = absurd (some-ne-none i b)
+    plain own call next s b l r = r
 
 pub gives_opens : (own : ℕ → ℕ → Type 0) → PassesOpens (Gives own)
 gives_opens own = record { load = λ o next r. r; wait = λ o next r. r }
 
 pub gives_follow : (own : ℕ → ℕ → Type 0) → Follows (Gives own)
-gives_follow own = record {
-  said = λ o outcome next r. r;
-  sent = λ o next r. r;
-  message = λ q next r. r;
-  home = λ k next r. r;
-  puts_home = λ k n after r. r;
-  put = λ k asked bytes next r. r;
-  ask = λ k next r. r;
-  write = λ w after r. r;
-  aside = λ step next r. r;
-  round = λ head next r. r;
-  keep = λ r next x. x;
-  retries = λ requests after r. r;
-}
+gives_follow own = at_calls_follow (Unit {0}) (GivesAt own) every_exit tt (λ head next r. r)
 
 behind_gives : (own : ℕ → ℕ → Type 0) (call : Call) (next : ℕ → Program) → Gives own (Do call next) → (found : ℕ) → Gives own (next found)
 behind_gives own (CreateLife i k) next r found = (r found).1

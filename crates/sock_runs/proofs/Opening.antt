@@ -26,7 +26,6 @@ use Rattle.seat_programs.specs.Scripts.{free_slots, opening_words, sizes_of, beg
 use Rattle.sock_model.specs.Layout.{all_words, open_index}
 use Rattle.seat_programs.specs.corr_core.specs.declared.marks.Plan.{Plan as IdPlan}
 use Rattle.seat_programs.specs.Told.{HaveOwnLinks, Differ, AreTasks}
-use Rattle.sock_runs.proofs.Along.{place_inside}
 use Rattle.sock_runs.proofs.Ends.{none_has}
 use Rattle.seat_programs.specs.Readers.{reader}
 use Rattle.sock_runs.proofs.Records.{but, Records}
@@ -196,10 +195,6 @@ module _ (p : Plan) (clients : List (List Task)) (are : AreTasks p clients) wher
     once = λ o inside some_ j. absurd (some_ (unstored p o));
     lives = λ i h inside born. let none_ = none_has (is_born h) i vs (λ j v at. ap (λ l. total (is_born h) (about i l)) (blank j v at)) in absurd (omega (arith, born, none_));
   }
-
-  -- a seat that is no client's opens nothing
-  pub others_own_none : (j o : ℕ) → length clients ≤ j → own_opens j o ≡ true → ⊥
-  others_own_none j o high there = let x = own_is j o there in omega (arith, place_inside clients j x.0 x.1)
 
 -- neither a reader nor a seat that has nothing to do makes a life
 readers_still : (calls os : List ℕ) (k i : ℕ) (x : Program) → get_elem? (readers_from calls k os) i ≡ some x → Records nothing x

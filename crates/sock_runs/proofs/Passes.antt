@@ -1,12 +1,12 @@
 -- What stands aside of the sockets passes: whatever its steps find that is as the rule of the ids says, the view allows what follows.
-use Rattle.std.proofs.Common.{◌≡◌, ◌≢◌, ℕ, zero, suc, ◌+◌, ◌-◌, ◌*◌, ◌/◌, ◌%◌, ◌<◌, ◌≤◌, ◌==◌, ◌&&◌, ◌||◌, not, Bool, true, false, List, [], ◌∷◌, ◌++◌, length, refl, sym, ap, ◌∙◌, subst, arith, cond, eqb, eqb-true, eq-eqb, ne_eqb, nat_lt, Some, None}
+use Rattle.std.proofs.Common.{◌≡◌, ◌≢◌, ℕ, zero, suc, ◌+◌, ◌-◌, ◌*◌, ◌/◌, ◌%◌, ◌<◌, ◌≤◌, ◌==◌, ◌&&◌, ◌||◌, not, Bool, true, false, List, [], ◌∷◌, ◌++◌, length, refl, sym, ◌∙◌, subst, arith, cond, eqb, eqb-true, eq-eqb, nat_lt, Some, None}
 use Rattle.sock_words.specs.declared.plain.Plan.{Plan}
 use Rattle.sock_model.specs.declared.chain.Heading.{Heading}
 use Rattle.sock_model.specs.declared.view.View.{View}
 use Rattle.seat_programs.specs.corr_core.specs.Word.{Parts, parts, posted_word, locked_word, unlocked_word, code_of, error_of}
 use Rattle.seat_programs.specs.brpc_model.specs.Frame.{Frame}
 use Rattle.seat_programs.specs.brpc_model.specs.Stream as streams
-use Rattle.seat_programs.specs.Asides.{Step, Found, Taking, Bytes, Nothing, NoMore, AtEnd, Closed, Broken, TakeCall, EndId, FreeId, LoadIdWord, id_slot, id_first}
+use Rattle.seat_programs.specs.Asides.{Taking, Bytes, Nothing, Closed, FreeId, id_slot, id_first}
 use Rattle.seat_programs.specs.Heads.{Head, Exit, Retry, Sought, Version, Reading, Posts, Unlocks, Decides, Locks, Joins, Opens, Reads, Discards, Posting, WasGone, WasStale, WasCrowded, WasQueued, HasLocked, Unlocking, IsOpen, HasNext, Deciding, HasEnded, GoesOn as OpenAgain, Locking, NotThere, Has, Ended}
 use Rattle.seat_programs.specs.Programs.{Program, Say, Aside, Round}
 use Rattle.seat_programs.specs.Posts.{packed, advance_of, is_first, is_sought, is_stale, is_full, judged, post_with, post, posted, popped, end_id, ends_call, is_final, decide, decided, unlocked, locking}
@@ -69,10 +69,6 @@ pub and_left : (a b : Bool) → (a && b) ≡ true → a ≡ true
 and_left true b e = refl
 and_left false b e = e
 
-or_left : (a b : Bool) → (a || b) ≡ false → a ≡ false
-or_left true b e = e
-or_left false b e = refl
-
 or_right : (a b : Bool) → (a || b) ≡ false → b ≡ false
 or_right true b e = cc
 or_right false b e = e
@@ -119,10 +115,7 @@ module _ (p : Plan) (v : View) where
 
   pub posted_goes : (id e : ℕ) (next : Program) → GoesOn p v next → Goes FitsPosting (posted id e next)
   posted_goes id e next goes (HasLocked word) f = decide_goes id word e (decided id next) f (decided_goes id next goes)
-  posted_goes id e next goes WasGone f = goes
-  posted_goes id e next goes WasStale f = goes
-  posted_goes id e next goes (WasCrowded a b) f = goes
-  posted_goes id e next goes WasQueued f = goes
+  posted_goes id e next goes _ f = goes
 
   pub post_with_goes : (id e : ℕ) (k : Posting → Program) → Goes FitsPosting k → GoesOn p v (post_with id e k)
   post_with_goes id e k goes = λ found fits. judged_goes id e found k fits goes
@@ -172,18 +165,13 @@ module _ (p : Plan) (v : View) where
       responses_goes loose r.ids s.frames r.kept (λ kept. read_on (record { ids = r.ids; link = r.link; id = r.id; rest = r.rest; total = r.total + length bytes; kept = kept }) (r.rest ++ bytes) s.ending k)
       (λ kept. read_goes loose (record { ids = r.ids; link = r.link; id = r.id; rest = r.rest; total = r.total + length bytes; kept = kept }) (r.rest ++ bytes) s.ending k goes)
   took_goes loose r k goes Nothing = ((tt, loose), goes)
-  took_goes loose r k goes NoMore = goes (Rattle.seat_programs.specs.Readers.ended_by 1014 false false r) (refl, λ z. absurd (omega (arith, z)))
-  took_goes loose r k goes AtEnd = goes (Rattle.seat_programs.specs.Readers.ended_by 1014 false false r) (refl, λ z. absurd (omega (arith, z)))
   took_goes loose r k goes Closed = goes (Rattle.seat_programs.specs.Readers.ended_by 1014 true false r) (refl, λ z. absurd (omega (arith, z)))
-  took_goes loose r k goes Broken = goes (Rattle.seat_programs.specs.Readers.ended_by 1014 false false r) (refl, λ z. absurd (omega (arith, z)))
+  took_goes loose r k goes _ = goes (Rattle.seat_programs.specs.Readers.ended_by 1014 false false r) (refl, λ z. absurd (omega (arith, z)))
 
   discarded_goes : v.loose ≡ [] → (l total : ℕ) (k : ℕ → Program) → ((exit : ℕ) → GoesOn p v (k exit)) → (t : Taking) → GoesOn p v (Rattle.seat_programs.specs.Readers.discarded l total k t)
   discarded_goes loose l total k goes (Bytes bytes) = way p v (nat_lt (total + length bytes) LIMIT) (Round (Discards l (total + length bytes)) k) (k (total + length bytes)) (λ _. ((tt, loose), λ exit _. goes exit)) (λ _. goes (total + length bytes))
   discarded_goes loose l total k goes Nothing = ((tt, loose), λ exit _. goes exit)
-  discarded_goes loose l total k goes NoMore = goes total
-  discarded_goes loose l total k goes AtEnd = goes total
-  discarded_goes loose l total k goes Closed = goes total
-  discarded_goes loose l total k goes Broken = goes total
+  discarded_goes loose l total k goes _ = goes total
 
   opens_goes : v.loose ≡ [] → (o word : ℕ) (k : ℕ → Program) → o < p.operations → ((w : ℕ) → w ≢ 0 → FindsId p w → GoesOn p (found_id w v) (k w)) → FindsId p word → (b : Bool) → eqb word 0 ≡ b → GoesOn p (found_id word v) (cond b (Round (Opens o) k) (k word))
   opens_goes loose o word k inside goes f true e = subst (λ w. GoesOn p (found_id w v) (Round (Opens o) k)) (sym (eqb-true word 0 e)) ((inside, loose), goes)

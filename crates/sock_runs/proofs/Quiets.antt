@@ -16,13 +16,13 @@ use Rattle.sock_model.specs.declared.home.Home.{Home}
 use Rattle.sock_model.specs.Messages.{Letter}
 use Rattle.sock_model.specs.Reads.{message, link_home}
 use Rattle.seat_programs.specs.Calls.{kind_of}
-use Rattle.seat_programs.specs.Programs.{Program, Do, Say, Sent, Rest, TakeMessage, TakeHome, PutHome, PutBytes, AskReady, Write, Aside, Round, Keep, Retries}
+use Rattle.seat_programs.specs.Programs.{Program, Do, TakeMessage, TakeHome, PutHome, PutBytes, AskReady, Write, Aside, Round}
 use Rattle.seat_programs.specs.Asides.{Step, Found, kind_aside}
 use Rattle.seat_programs.specs.Beside.{found_in}
 use Rattle.seat_programs.specs.Rounds.{round, kind_of_round}
 use Rattle.seat_programs.specs.Sends.{block}
 use Rattle.seat_programs.specs.Cores.{Core, SeatState}
-use Rattle.seat_programs.specs.Ticks.{Answer, Unasked, OfPut, OfReady, OfTake, Moment, with_message, with_link, with_put, with_ready, with_found, taken, step_with, tick_with, ticked, run}
+use Rattle.seat_programs.specs.Ticks.{Answer, OfPut, OfReady, Moment, with_message, with_link, with_put, with_ready, with_found, taken, step_with, tick_with, ticked, run}
 use Rattle.seat_programs.specs.Runs.{kind_in, IsAtRest}
 
 -- what is said of the seats, whatever state one seat has
@@ -39,16 +39,12 @@ module _ (p : Plan) (c : Core) (i : ℕ) (seat : SeatState) (P : List SeatState 
   home_keeps change k (some home) next = change _
 
   put_keeps : Changes → (bytes : List ℕ) (answer : Answer) (next : Put → Program) → P (with_put p i seat c bytes answer next).seats
-  put_keeps change bytes Unasked next = same
-  put_keeps change bytes (OfReady answer) next = same
-  put_keeps change bytes (OfTake answer) next = same
   put_keeps change bytes (OfPut answer) next = change _
+  put_keeps change bytes _ next = same
 
   ready_keeps : Changes → (answer : Answer) (next : Ready → Program) → P (with_ready p i seat c answer next).seats
-  ready_keeps change Unasked next = same
-  ready_keeps change (OfPut answer) next = same
-  ready_keeps change (OfTake answer) next = same
   ready_keeps change (OfReady answer) next = change _
+  ready_keeps change _ next = same
 
   found_keeps : Changes → (step : Step) (x : Option (Found step)) (next : Found step → Program) → P (with_found p i seat c step x next).seats
   found_keeps change step none next = same
@@ -62,13 +58,7 @@ module _ (p : Plan) (c : Core) (i : ℕ) (seat : SeatState) (P : List SeatState 
   step_keeps change answer (PutBytes k asked bytes next) = put_keeps change bytes answer next
   step_keeps change answer (AskReady k next) = ready_keeps change answer next
   step_keeps change answer (Aside step next) = found_keeps change step (found_in step c.calls (taken answer)) next
-  step_keeps change answer (Round head next) = same
-  step_keeps change answer (Keep r next) = same
-  step_keeps change answer (Retries requests after) = same
-  step_keeps change answer (Say o outcome next) = same
-  step_keeps change answer (Sent o next) = same
-  step_keeps change answer Rest = same
-  step_keeps change answer (Write w after) = same
+  step_keeps change answer _ = same
 
   -- where it has a step left
   tick_keeps : (answer : Answer) (program : Program) → (kind_in program ≢ None → Changes) → P (tick_with p i seat c answer program).seats
@@ -81,11 +71,7 @@ module _ (p : Plan) (c : Core) (i : ℕ) (seat : SeatState) (P : List SeatState 
   tick_keeps answer (PutHome k n after) change = step_keeps (change (λ e. none-some _ (sym e))) answer (PutHome k n after)
   tick_keeps answer (PutBytes k asked bytes next) change = step_keeps (change (λ e. none-some _ (sym e))) answer (PutBytes k asked bytes next)
   tick_keeps answer (AskReady k next) change = step_keeps (change (λ e. none-some _ (sym e))) answer (AskReady k next)
-  tick_keeps answer (Keep r next) change = same
-  tick_keeps answer (Retries requests after) change = same
-  tick_keeps answer (Say o outcome next) change = same
-  tick_keeps answer (Sent o next) change = same
-  tick_keeps answer Rest change = same
+  tick_keeps answer _ change = same
 
 -- of a tick of any seat
 ticked_keeps : (p : Plan) (c : Core) (m : Moment) (P : List SeatState → Type 0) → P c.seats → ((seat new : SeatState) → get_elem? c.seats m.seat ≡ some seat → kind_in seat.program ≢ None → P (set c.seats m.seat new)) → P (ticked p c m).seats

@@ -5,7 +5,7 @@ use Rattle.sock_model.specs.declared.view.View.{View}
 use Rattle.seat_programs.specs.brpc_model.specs.Frame.{Frame, Judged, NoneYet, Faulty, Begins, judged}
 use Rattle.seat_programs.specs.brpc_model.specs.Stream as streams
 use Rattle.seat_programs.specs.corr_core.specs.Word.{parts}
-use Rattle.seat_programs.specs.Asides.{TakeBytes, Taking, Bytes, Nothing, NoMore, AtEnd, Closed, Broken, call_id}
+use Rattle.seat_programs.specs.Asides.{TakeBytes, Taking, Bytes, Nothing, Closed, call_id}
 use Rattle.seat_programs.specs.Heads.{Version, Reading, Locks, Reads, Discards, Locking, NotThere, Has, Ended}
 use Rattle.seat_programs.specs.Programs.{Program, Say, Round}
 use Rattle.seat_programs.specs.Readers.{LIMIT, answer, answered, responses, read_on, took, took_bytes, last_of, ended_by, room_of, discarded, slot_in, version_in, has_response, ending_of, is_early}
@@ -98,10 +98,8 @@ module _ (p : Plan) (v : View) where
   pub reads_fall : (r : Reading) (k : Ended → Program) (n : ℕ) → LastsFor p v (Round (Reads r) k) n → (t : Taking) → FitsRoom (room_of r.total) t → t ≢ Nothing → Falls p v (TakeBytes r.link (room_of r.total)) (took r k) n t
   reads_fall r k n l (Bytes bytes) fits moves = let few = fits.1 in let x = bytes_last r bytes k l.0 n l.2 l.1 fits.0 (omega (arith, few)) in let le = x.1 in (x.0, omega (arith, le), x.2)
   reads_fall r k n l Nothing fits moves = absurd (moves refl)
-  reads_fall r k n l NoMore fits moves = let room = l.1 in (l.0 + 0, omega (arith, room), l.2 (ended_by 1014 false false r) (refl, λ z. absurd (omega (arith, z))))
-  reads_fall r k n l AtEnd fits moves = let room = l.1 in (l.0 + 0, omega (arith, room), l.2 (ended_by 1014 false false r) (refl, λ z. absurd (omega (arith, z))))
   reads_fall r k n l Closed fits moves = let room = l.1 in (l.0 + 0, omega (arith, room), l.2 (ended_by 1014 true false r) (refl, λ z. absurd (omega (arith, z))))
-  reads_fall r k n l Broken fits moves = let room = l.1 in (l.0 + 0, omega (arith, room), l.2 (ended_by 1014 false false r) (refl, λ z. absurd (omega (arith, z))))
+  reads_fall r k n l _ fits moves = let room = l.1 in (l.0 + 0, omega (arith, room), l.2 (ended_by 1014 false false r) (refl, λ z. absurd (omega (arith, z))))
 
   pub discards_fall : (j total : ℕ) (k : ℕ → Program) (n : ℕ) → LastsFor p v (Round (Discards j total) k) n → (t : Taking) → FitsRoom (room_of total) t → t ≢ Nothing → Falls p v (TakeBytes j (room_of total)) (discarded j total k) n t
   discards_fall j total k n l (Bytes bytes) fits moves = by_limit (nat_lt (total + length bytes) LIMIT) l.0 l.1 l.2
@@ -111,7 +109,4 @@ module _ (p : Plan) (v : View) where
       by_limit true m room leave = let some_ = fits.0 in let few = fits.1 in (LIMIT - (total + length bytes) + 1 + m, omega (arith, room, some_, few), (m, omega arith, leave))
       by_limit false m room leave = (m + 0, omega (arith, room), leave (total + length bytes) tt)
   discards_fall j total k n l Nothing fits moves = absurd (moves refl)
-  discards_fall j total k n l NoMore fits moves = let room = l.1 in (l.0 + 0, omega (arith, room), l.2 total tt)
-  discards_fall j total k n l AtEnd fits moves = let room = l.1 in (l.0 + 0, omega (arith, room), l.2 total tt)
-  discards_fall j total k n l Closed fits moves = let room = l.1 in (l.0 + 0, omega (arith, room), l.2 total tt)
-  discards_fall j total k n l Broken fits moves = let room = l.1 in (l.0 + 0, omega (arith, room), l.2 total tt)
+  discards_fall j total k n l _ fits moves = let room = l.1 in (l.0 + 0, omega (arith, room), l.2 total tt)

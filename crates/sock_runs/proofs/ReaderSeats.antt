@@ -8,23 +8,21 @@ use native.Mathlib.Decide.{ℕ_discrete}
 use lib.ListN.{get_elem?}
 use Rattle.atomic_table.proofs.Lists.{at_set}
 use Rattle.sock_words.specs.declared.plain.Plan.{Plan}
-use Rattle.seat_programs.specs.sock_io.specs.declared.link.Put.{Put}
-use Rattle.seat_programs.specs.sock_io.specs.declared.link.Ready.{Ready}
-use Rattle.sock_model.specs.declared.chain.Heading.{Heading}
 use Rattle.sock_model.specs.declared.home.Home.{Home}
 use Rattle.sock_model.specs.declared.view.View.{View}
 use Rattle.sock_model.specs.Layout.{open_index}
 use Rattle.seat_programs.specs.Calls.{Call, LoadOpen, StoreOpen}
-use Rattle.seat_programs.specs.Asides.{Found}
 use Rattle.seat_programs.specs.Heads.{Head, Exit, Opens, Reads}
-use Rattle.seat_programs.specs.Programs.{Program, Do, Say, Sent, Rest, TakeMessage, TakeHome, PutHome, PutBytes, AskReady, Write, Aside, Round, Keep, Retries, NO_SOCKET}
+use Rattle.seat_programs.specs.Programs.{Program, Do, Rest, Round, NO_SOCKET}
 use Rattle.seat_programs.specs.Readers.{read, reader}
 use Rattle.seat_programs.specs.Cores.{Calls, Core, SeatState, word_of, word_after, found_at, words_after, hand_after, resolved, next_step, waiting_at, with_seat, stepped}
 use Rattle.seat_programs.specs.Ticks.{Moment, ticked, run, IsAnswered, AreAnswered}
 use Rattle.sock_runs.specs.May.{May, Knows}
 use Rattle.sock_runs.specs.Sound.{Sound, first_step, IsFitting, AreFitting, views_after}
+use Rattle.sock_runs.proofs.AtCalls.{AtCalls, every_exit}
 use Rattle.sock_runs.proofs.Records.{stores, loads, awaits, opens_same}
-use Rattle.sock_runs.proofs.Through.{Passes, Follows, comes_follows}
+use Rattle.sock_runs.proofs.Notes.{bears}
+use Rattle.sock_runs.proofs.Through.{Passes, Follows, at_calls_passes, at_calls_follow, comes_follows}
 use Rattle.sock_runs.proofs.ThroughCalls.{through_reading, through_head, through_next}
 use Rattle.sock_runs.proofs.Cases.{ComesNext, tick_keeps_marks}
 use Rattle.sock_runs.proofs.Rounds.{begins_round}
@@ -34,64 +32,30 @@ use Rattle.sock_runs.proofs.Ticks.{sound_ticks}
 
 -- ## Programs that load no word of an `open`
 
+abbrev pub NoLoad : Unit {0} → Call → (ℕ → Program) → (Unit {0} → ℕ → Type 0) → Type 0
+NoLoad s (LoadOpen o) next behind = ⊥
+NoLoad s call next behind = (found : ℕ) → behind tt found
+
+abbrev pub NoWait : (head : Head) → (Exit head → Type 0) → Type 0
+NoWait (Opens o) behind = ⊥
+NoWait head behind = every_exit head behind
+
 abbrev pub NoOpens : Program → Type 0
-NoOpens (Do (LoadOpen o) next) = ⊥
-NoOpens (Do call next) = (found : ℕ) → NoOpens (next found)
-NoOpens (Say o outcome next) = NoOpens next
-NoOpens (Sent o next) = NoOpens next
-NoOpens Rest = Unit {0}
-NoOpens (TakeMessage q next) = (heading : Heading) (bytes : List ℕ) → NoOpens (next heading bytes)
-NoOpens (TakeHome k next) = (places : ℕ) → NoOpens (next places)
-NoOpens (PutHome k n after) = NoOpens after
-NoOpens (PutBytes k asked bytes next) = (answer : Put) → NoOpens (next answer)
-NoOpens (AskReady k next) = (answer : Ready) → NoOpens (next answer)
-NoOpens (Write w after) = NoOpens after
-NoOpens (Aside step next) = (found : Found step) → NoOpens (next found)
-NoOpens (Round (Opens o) next) = ⊥
-NoOpens (Round head next) = (exit : Exit head) → NoOpens (next exit)
-NoOpens (Keep r next) = NoOpens next
-NoOpens (Retries requests after) = NoOpens after
+NoOpens program = AtCalls (Unit {0}) NoLoad NoWait tt program
 
 no_opens_passes : Passes NoOpens
-no_opens_passes = record {
-  step = λ call next s b l r. plain call next l r;
-  say = λ o outcome next r. r;
-  sent = λ o next r. r;
-  message = λ q next r. r;
-  home = λ k next r. r;
-  puts_home = λ k n after r. r;
-  put = λ k asked bytes next r. r;
-  ask = λ k next r. r;
-  write = λ w after r. r;
-  aside = λ step next r. r;
-  round = λ head l next r. looped head l next r;
-  keep = λ r next x. x;
-  retries = λ requests after r. r;
-}
+no_opens_passes = at_calls_passes (Unit {0}) NoLoad NoWait tt plain looped
   where
-    plain : (call : Call) (next : ℕ → Program) → loads call ≡ none → ((found : ℕ) → NoOpens (next found)) → NoOpens (Do call next)
-    plain (LoadOpen o) next l r = absurd (some-ne-none o l)
-    plain call next l r = r
+    plain : (call : Call) (next : ℕ → Program) → stores call ≡ none → bears call ≡ none → loads call ≡ none → ((found : ℕ) → NoOpens (next found)) → NoOpens (Do call next)
+    plain (LoadOpen o) next s b l r = absurd (some-ne-none o l)
+    plain call next s b l r = r
 
     looped : (head : Head) → awaits head ≡ none → (next : Exit head → Program) → ((exit : Exit head) → NoOpens (next exit)) → NoOpens (Round head next)
     looped (Opens o) l next r = absurd (some-ne-none o l)
     looped head l next r = r
 
 no_opens_follow : Follows NoOpens
-no_opens_follow = record {
-  said = λ o outcome next r. r;
-  sent = λ o next r. r;
-  message = λ q next r. r;
-  home = λ k next r. r;
-  puts_home = λ k n after r. r;
-  put = λ k asked bytes next r. r;
-  ask = λ k next r. r;
-  write = λ w after r. r;
-  aside = λ step next r. r;
-  round = λ head next r. left head next r;
-  keep = λ r next x. x;
-  retries = λ requests after r. r;
-}
+no_opens_follow = at_calls_follow (Unit {0}) NoLoad NoWait tt left
   where
     left : (head : Head) (next : Exit head → Program) → NoOpens (Round head next) → (exit : Exit head) → NoOpens (next exit)
     left (Opens o) next r = absurd r

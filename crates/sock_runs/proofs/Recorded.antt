@@ -107,10 +107,6 @@ records_more (Retries requests after) left more up r = records_more after left m
 abbrev pub nothing : ℕ → Bool
 nothing _ = false
 
--- a seat that has no operation left is such a program
-pub records_nothing : (p : Plan) (Q : ℕ → ℕ → Type 0) (c : Core) (vs : List View) → Recorded p Q c vs → (j : ℕ) → ((o : ℕ) → Q j o → ⊥) → (seat : SeatState) → get_elem? c.seats j ≡ some seat → Records nothing seat.program
-records_nothing p Q c vs r j none_ seat at = records_more seat.program (r.left j) nothing (λ o e. absurd (none_ o (r.among j o e))) (r.records j seat at)
-
 -- a step that stores nothing and makes no life goes on as it may
 pub plain_next : (left : ℕ → Bool) (call : Call) (next : ℕ → Program) → stores call ≡ none → bears call ≡ none → Records left (Do call next) → (found : ℕ) → Records left (next found)
 plain_next left (CreateLife i k) next s b r found = absurd (some-ne-none i b)

@@ -7,16 +7,13 @@ use Rattle.sock_words.specs.declared.plain.Plan.{Plan}
 use Rattle.sock_model.specs.declared.view.View.{View}
 use Rattle.sock_model.specs.Layout.{tag_index, ref_index, link_index, head_index, code_index, name_index, open_index, request_index, next_index, place_index}
 use Rattle.sock_model.specs.Deliveries.{place_value}
-use Rattle.seat_programs.specs.Calls.{Call, ClaimSlot, CreateLife, AddRef, SubRef, SetOdd, Recycle, FreeSlot, StoreLink, LoadLink, ResetHead, ClearCode, StoreCode, StoreName, LoadName, StoreOpen, LoadOpen, TakeLink, FinishLink, PutLink, LookWord, FindLink, LoadCode, ClaimRequest, PutMessage, Unconnect, SwapHead, Connect, EmptyHead, ReadNext, ReverseNext, FreeRequest, StorePlace, DropPlace}
-use Rattle.seat_programs.specs.sock_io.specs.declared.link.Put.{Put}
-use Rattle.seat_programs.specs.sock_io.specs.declared.link.Ready.{Ready}
-use Rattle.sock_model.specs.declared.chain.Heading.{Heading}
-use Rattle.seat_programs.specs.Asides.{Found}
-use Rattle.seat_programs.specs.Heads.{Head, Exit, Retry, Opens}
-use Rattle.seat_programs.specs.Programs.{Program, Do, Say, Sent, Rest, TakeMessage, TakeHome, PutHome, PutBytes, AskReady, Write, Aside, Round, Keep, Retries}
+use Rattle.seat_programs.specs.Calls.{Call, ClaimSlot, CreateLife, AddRef, SubRef, SetOdd, Recycle, FreeSlot, StoreLink, LoadLink, ResetHead, ClearCode, StoreCode, StoreName, LoadName, StoreOpen, LoadOpen, LookWord, FindLink, LoadCode, ClaimRequest, Unconnect, SwapHead, Connect, EmptyHead, ReadNext, ReverseNext, FreeRequest, StorePlace, DropPlace}
+use Rattle.seat_programs.specs.Heads.{Head, Retry, Opens}
+use Rattle.seat_programs.specs.Programs.{Program, Do, Say, Sent, Write, Round, Keep, Retries}
 use Rattle.seat_programs.specs.Cores.{word_of, word_after, found_at, words_after, next_step, resolved}
 use Rattle.sock_runs.specs.May.{May}
 use Rattle.sock_runs.specs.Sound.{first_step}
+use Rattle.sock_runs.proofs.AtCalls.{AtCalls, every_exit}
 
 -- ## What a program stores in the words of operations
 
@@ -42,24 +39,14 @@ awaits _ = none
 abbrev pub but : ℕ → (ℕ → Bool) → ℕ → Bool
 but o left x = left x && not (x == o)
 
--- the program stores only words of the operations of `left`, each at most once, and of each life that it makes at once
+-- it stores only words of the operations of `left`, each at most once, and of each life that it makes at once
+abbrev pub RecordsAt : (ℕ → Bool) → Call → (ℕ → Program) → ((ℕ → Bool) → ℕ → Type 0) → Type 0
+RecordsAt left (CreateLife i k) next behind = (found : ℕ) → ((o : ℕ) × (next_stores (next found) ≡ some (o, socket_id (vref_version found) i + 1))) × behind left found
+RecordsAt left (StoreOpen o w) next behind = (left o ≡ true) × ((found : ℕ) → behind (but o left) found)
+RecordsAt left call next behind = (found : ℕ) → behind left found
+
 abbrev pub Records : (ℕ → Bool) → Program → Type 0
-Records left (Do (CreateLife i k) next) = (found : ℕ) → ((o : ℕ) × (next_stores (next found) ≡ some (o, socket_id (vref_version found) i + 1))) × Records left (next found)
-Records left (Do (StoreOpen o w) next) = (left o ≡ true) × ((found : ℕ) → Records (but o left) (next found))
-Records left (Do call next) = (found : ℕ) → Records left (next found)
-Records left (Say o outcome next) = Records left next
-Records left (Sent o next) = Records left next
-Records left Rest = Unit {0}
-Records left (TakeMessage q next) = (heading : Heading) (bytes : List ℕ) → Records left (next heading bytes)
-Records left (TakeHome k next) = (places : ℕ) → Records left (next places)
-Records left (PutHome k n after) = Records left after
-Records left (PutBytes k asked bytes next) = (answer : Put) → Records left (next answer)
-Records left (AskReady k next) = (answer : Ready) → Records left (next answer)
-Records left (Write w after) = Records left after
-Records left (Aside step next) = (found : Found step) → Records left (next found)
-Records left (Round head next) = (exit : Exit head) → Records left (next exit)
-Records left (Keep r next) = Records left next
-Records left (Retries requests after) = Records left after
+Records left program = AtCalls (Unit {0}) RecordsAt every_exit left program
 
 pub next_stored : (ws : List Retry) (program : Program) (x : ℕ × ℕ) → next_stores program ≡ some x → next_stores (next_step (resolved ws program)) ≡ some x
 next_stored ws (Say o outcome next) x e = absurd (some-ne-none x (sym e))
@@ -96,14 +83,10 @@ opens_same p ws v o inside (StoreName n w) may none_ = let slot = may.0 in get_o
 opens_same p ws v o inside (LoadName n) may none_ = ap (λ l. get_or l (open_index p o) 0) (set-get_or ws (name_index p n) 0)
 opens_same p ws v o inside (StoreOpen n w) may none_ = absurd (some-ne-none (n, w) none_)
 opens_same p ws v o inside (LoadOpen n) may none_ = ap (λ l. get_or l (open_index p o) 0) (set-get_or ws (open_index p n) 0)
-opens_same p ws v o inside (TakeLink k) may none_ = refl
-opens_same p ws v o inside (FinishLink k) may none_ = refl
-opens_same p ws v o inside (PutLink k) may none_ = refl
 opens_same p ws v o inside (LookWord id) may none_ = ap (λ l. get_or l (open_index p o) 0) (set-get_or ws (ref_index (socket_id_slot id)) 0)
 opens_same p ws v o inside (FindLink i h) may none_ = ap (λ l. get_or l (open_index p o) 0) (set-get_or ws (link_index i) 0)
 opens_same p ws v o inside (LoadCode i h) may none_ = ap (λ l. get_or l (open_index p o) 0) (set-get_or ws (code_index i) 0)
 opens_same p ws v o inside (ClaimRequest id q) may none_ = let low = inside in get_or-set_other ws (request_index p q) (open_index p o) (word_after (ClaimRequest id q) (get_or ws (request_index p q) 0)) 0 (λ e. omega arith)
-opens_same p ws v o inside (PutMessage q heading bytes) may none_ = refl
 opens_same p ws v o inside (Unconnect q) may none_ = let low = inside in get_or-set_other ws (next_index p q) (open_index p o) (word_after (Unconnect q) 0) 0 (λ e. omega arith)
 opens_same p ws v o inside (SwapHead i own) may none_ = let slot = may.0 in get_or-set_other ws (head_index i) (open_index p o) own 0 (λ e. omega arith)
 opens_same p ws v o inside (Connect q before) may none_ = let low = inside in get_or-set_other ws (next_index p q) (open_index p o) before 0 (λ e. omega arith)
@@ -113,3 +96,4 @@ opens_same p ws v o inside (ReverseNext q value) may none_ = let low = inside in
 opens_same p ws v o inside (FreeRequest q g) may none_ = let low = inside in get_or-set_other ws (request_index p q) (open_index p o) (2 * (g + 1)) 0 (λ e. omega arith)
 opens_same p ws v o inside (StorePlace l k n) may none_ = let low = inside in get_or-set_other ws (place_index p l) (open_index p o) (place_value false k n) 0 (λ e. omega arith)
 opens_same p ws v o inside (DropPlace l k n) may none_ = let low = inside in get_or-set_other ws (place_index p l) (open_index p o) (place_value true k n) 0 (λ e. omega arith)
+opens_same p ws v o inside _ may none_ = refl

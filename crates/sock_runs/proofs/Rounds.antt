@@ -41,7 +41,7 @@ use Rattle.sock_runs.proofs.Passes.{tell_goes}
 use Rattle.seat_programs.specs.Sends.{freed, one_more, passed, passed_telling, tell_drop, placed, dropped, put_answered, ready_answered, block, first_put}
 use Rattle.sock_runs.specs.May.{even_version}
 use Rattle.sock_runs.specs.Rows as Rows
-use Rattle.sock_runs.specs.Rows.{row, by_right, settled, settled_stage, read_next, turned_next, placed_next, dropped_next, emptied, looked_clean, took_bytes}
+use Rattle.sock_runs.specs.Rows.{by_right, settled, settled_stage, read_next, turned_next, placed_next, dropped_next, emptied, looked_clean, took_bytes}
 use Rattle.sock_runs.specs.Writes.{IsHolder, HasMessage, IsBetween, IsNote, AreNotes, behind}
 use Rattle.sock_runs.specs.GoesOn.{GoesOn}
 
@@ -335,10 +335,6 @@ module _ (p : Plan) (after : Program) where
         (subst (λ l. GoesOn p (with_right v (record s { stage = settled_stage l (stages.Placed now) })) (passed_telling h now tells after)) (sym last) (passed_branch (eqb now h.last) (eqb (generation_of now) LAST_GENERATION) refl refl))
 
 -- ## The message in hand
-
--- the seat may begin a round with this message in hand
-abbrev pub Has : Plan → View → Holder → Right → ℕ → Heading → List ℕ → ℕ → Type 0
-Has p v h r now heading left taken = IsHolder p v h r × HasMessage p r now heading left taken
 
 module _ {p : Plan} {v : View} {h : Holder} {r : Right} where
   holder_noted : (new : List SlotMark) → AreNotes new → IsHolder p v h r → IsHolder p (with_notes new v) h r

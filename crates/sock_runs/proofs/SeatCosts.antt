@@ -7,7 +7,7 @@ use Rattle.sock_model.specs.declared.view.View.{View}
 use Rattle.sock_model.specs.Weights.{total}
 use Rattle.seat_programs.specs.id_rule.specs.Lawful.{id_index}
 use Rattle.seat_programs.specs.Heads.{Head, Exit, Retry, Posts, Unlocks, Locks}
-use Rattle.seat_programs.specs.Programs.{Program, Do, Say, Sent, Rest, TakeMessage, TakeHome, PutHome, PutBytes, AskReady, Write, Aside, Round, Keep, Retries}
+use Rattle.seat_programs.specs.Programs.{Program, Say, Sent, Round, Keep, Retries}
 use Rattle.seat_programs.specs.Attempts.{retry}
 use Rattle.seat_programs.specs.Cores.{resolved, still_waiting, next_step}
 use Rattle.sock_runs.specs.GoesOn.{GoesOn}
@@ -132,12 +132,4 @@ module _ (p : Plan) (v : View) (words : List ℕ) (left : std.Option (ℕ × ℕ
         (lasts_more p v (retry p.requests k.id k.attempt (Retries requests after)) (attempt_cost p.requests + m) (attempt_cost p.requests + m + 0) (omega arith) (retry_lasts p k.id k.attempt (Retries requests after) m (λ u. l) v)),
   )
   settled ws (Round head next) m g l = stays ws (Round head next) m (arrives_at p v head next m l) l
-  settled ws (Do call next) m g l = stays ws (Do call next) m (omega arith) l
-  settled ws Rest m g l = stays ws Rest m (omega arith) l
-  settled ws (TakeMessage q next) m g l = stays ws (TakeMessage q next) m (omega arith) l
-  settled ws (TakeHome k next) m g l = stays ws (TakeHome k next) m (omega arith) l
-  settled ws (PutHome k places after) m g l = stays ws (PutHome k places after) m (omega arith) l
-  settled ws (PutBytes k asked bytes next) m g l = stays ws (PutBytes k asked bytes next) m (omega arith) l
-  settled ws (AskReady k next) m g l = stays ws (AskReady k next) m (omega arith) l
-  settled ws (Write w after) m g l = stays ws (Write w after) m (omega arith) l
-  settled ws (Aside step next) m g l = stays ws (Aside step next) m (omega arith) l
+  settled ws program m g l = stays ws program m (omega arith) l

@@ -13,11 +13,12 @@ use Rattle.seat_programs.specs.Calls.{Call, CreateLife, StoreOpen, AddRef, SubRe
 use Rattle.seat_programs.specs.Writings.{Writing}
 use Rattle.seat_programs.specs.Asides.{Step, Found}
 use Rattle.seat_programs.specs.Heads.{Head, Exit, Retry, Opens}
-use Rattle.seat_programs.specs.Programs.{Program, Do, Say, Sent, Rest, TakeMessage, TakeHome, PutHome, PutBytes, AskReady, Write, Aside, Round, Keep, Retries, LAST_VERSION, recycle, release, address, reach, set_failed, fail, fail_outcome, hold, drop_held}
+use Rattle.seat_programs.specs.Programs.{Program, Do, Say, Sent, TakeMessage, TakeHome, PutHome, PutBytes, AskReady, Write, Aside, Round, Keep, Retries, LAST_VERSION, recycle, release, address, reach, set_failed, fail, fail_outcome, hold, drop_held}
 use Rattle.seat_programs.specs.Cores.{next_step}
 use Rattle.sock_runs.proofs.Cases.{ComesNext}
 use Rattle.sock_runs.proofs.Notes.{bears}
-use Rattle.sock_runs.proofs.Records.{stores, loads, awaits, Records}
+use Rattle.sock_runs.proofs.AtCalls.{AtCalls, every_exit}
+use Rattle.sock_runs.proofs.Records.{stores, loads, awaits, RecordsAt, Records}
 
 -- a step that makes no life, and neither stores in the word of an operation nor loads one, keeps it, and so do what is said, what stands aside of the sockets, and all that whoever writes a link does
 pub record Passes (G : Program → Type 0) : Type 0 where
@@ -55,47 +56,59 @@ pub record Follows (G : Program → Type 0) : Type 0 where
   pub keep : (r : Retry) (next : Program) → G (Keep r next) → G next
   pub retries : (requests : ℕ) (after : Program) → G (Retries requests after) → G after
 
--- so does what a program stores, of whatever operations
+-- what asks something of steps on words and of loops alone is kept where it asks nothing of these steps and loops
+module _ {S : Type 0} (rest : Type 0) (calls : S → Call → (ℕ → Program) → (S → ℕ → Type 0) → Type 0) (loops : (head : Head) → (Exit head → Type 0) → Type 0) (s : S) where
+  abbrev A : Program → Type 0
+  A = AtCalls rest calls loops s
+
+  pub at_calls_passes : ((call : Call) (next : ℕ → Program) → stores call ≡ none → bears call ≡ none → loads call ≡ none → ((found : ℕ) → A (next found)) → A (Do call next))
+      → ((head : Head) → awaits head ≡ none → (next : Exit head → Program) → ((exit : Exit head) → A (next exit)) → A (Round head next)) → Passes A
+  at_calls_passes plain looped = record {
+    step = plain;
+    say = λ o outcome next r. r;
+    sent = λ o next r. r;
+    message = λ q next r. r;
+    home = λ k next r. r;
+    puts_home = λ k n after r. r;
+    put = λ k asked bytes next r. r;
+    ask = λ k next r. r;
+    write = λ w after r. r;
+    aside = λ step next r. r;
+    round = looped;
+    keep = λ r next x. x;
+    retries = λ requests after r. r;
+  }
+
+  pub at_calls_follow : ((head : Head) (next : Exit head → Program) → A (Round head next) → (exit : Exit head) → A (next exit)) → Follows A
+  at_calls_follow left = record {
+    said = λ o outcome next r. r;
+    sent = λ o next r. r;
+    message = λ q next r. r;
+    home = λ k next r. r;
+    puts_home = λ k n after r. r;
+    put = λ k asked bytes next r. r;
+    ask = λ k next r. r;
+    write = λ w after r. r;
+    aside = λ step next r. r;
+    round = left;
+    keep = λ r next x. x;
+    retries = λ requests after r. r;
+  }
+
+-- so is what a program stores, of whatever operations
 pub records_passes : (left : ℕ → Bool) → Passes (Records left)
-records_passes left = record {
-  step = λ call next s b l r. plain left call next s b r;
-  say = λ o outcome next r. r;
-  sent = λ o next r. r;
-  message = λ q next r. r;
-  home = λ k next r. r;
-  puts_home = λ k n after r. r;
-  put = λ k asked bytes next r. r;
-  ask = λ k next r. r;
-  write = λ w after r. r;
-  aside = λ step next r. r;
-  round = λ head l next r. r;
-  keep = λ r next x. x;
-  retries = λ requests after r. r;
-}
+records_passes left = at_calls_passes (Unit {0}) RecordsAt every_exit left (plain left) (λ head l next r. r)
   where
-    plain : (left : ℕ → Bool) (call : Call) (next : ℕ → Program) → stores call ≡ none → bears call ≡ none → ((found : ℕ) → Records left (next found)) → Records left (Do call next)
-    plain left (CreateLife i k) next s b r = absurd (some-ne-none i b)
-    plain left (StoreOpen o w) next s b r = absurd (some-ne-none (o, w) s)
-    plain left call next s b r = r
+    plain : (left : ℕ → Bool) (call : Call) (next : ℕ → Program) → stores call ≡ none → bears call ≡ none → loads call ≡ none → ((found : ℕ) → Records left (next found)) → Records left (Do call next)
+    plain left (CreateLife i k) next s b l r = absurd (some-ne-none i b)
+    plain left (StoreOpen o w) next s b l r = absurd (some-ne-none (o, w) s)
+    plain left call next s b l r = r
 
 pub records_opens : (left : ℕ → Bool) → PassesOpens (Records left)
 records_opens left = record { load = λ o next r. r; wait = λ o next r. r }
 
 pub records_follow : (left : ℕ → Bool) → Follows (Records left)
-records_follow left = record {
-  said = λ o outcome next r. r;
-  sent = λ o next r. r;
-  message = λ q next r. r;
-  home = λ k next r. r;
-  puts_home = λ k n after r. r;
-  put = λ k asked bytes next r. r;
-  ask = λ k next r. r;
-  write = λ w after r. r;
-  aside = λ step next r. r;
-  round = λ head next r. r;
-  keep = λ r next x. x;
-  retries = λ requests after r. r;
-}
+records_follow left = at_calls_follow (Unit {0}) RecordsAt every_exit left (λ head next r. r)
 
 -- what follows what is said
 module _ (G : Program → Type 0) (f : Follows G) where
@@ -111,15 +124,8 @@ module _ (G : Program → Type 0) (f : Follows G) where
   comes_follows p (PutHome k n after) program comes x = subst G (sym comes) (f.puts_home k n after x)
   comes_follows p (PutBytes k asked bytes next) program comes x = subst G (sym comes.1) (f.put k asked bytes next x comes.0)
   comes_follows p (AskReady k next) program comes x = subst G (sym comes.1) (f.ask k next x comes.0)
-  comes_follows p (Do call next) program comes x = absurd comes
-  comes_follows p (Say o outcome next) program comes x = absurd comes
-  comes_follows p (Sent o next) program comes x = absurd comes
-  comes_follows p Rest program comes x = absurd comes
-  comes_follows p (Write w after) program comes x = absurd comes
   comes_follows p (Aside step next) program comes x = subst G (sym comes.1) (f.aside step next x comes.0)
-  comes_follows p (Round head next) program comes x = absurd comes
-  comes_follows p (Keep r next) program comes x = absurd comes
-  comes_follows p (Retries requests after) program comes x = absurd comes
+  comes_follows p _ program comes x = absurd comes
 
 module _ (G : Program → Type 0) (g : Passes G) where
   pub through_recycle : (i from : ℕ) (next : Bool → Program) → ((b : Bool) → G (next b)) → G (recycle i from next)

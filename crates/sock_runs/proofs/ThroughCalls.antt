@@ -10,8 +10,8 @@ use Rattle.seat_programs.specs.brpc_model.specs.Frame.{Frame}
 use Rattle.seat_programs.specs.sock_message.specs.Asked.{Asked, name_of, frame_of}
 use Rattle.seat_programs.specs.Calls.{LookWord, FindLink, ClaimRequest, LoadName}
 use Rattle.seat_programs.specs.Asides.{ClaimId, PutCall, MakeId, StoreCall, LoadCall, StoreAt, LoadAt, TakeCall, call_id, id_slot, id_first}
-use Rattle.seat_programs.specs.Heads.{Head, Exit, First, Posts, Unlocks, Decides, Locks, Joins, Opens, Reads, Discards, Retry, Posting, WasGone, WasStale, WasCrowded, WasQueued, HasLocked, Unlocking, IsOpen, HasNext, Locking, NotThere, Has, Ended}
-use Rattle.seat_programs.specs.Programs.{Program, Do, Say, Sent, Rest, TakeMessage, TakeHome, PutHome, PutBytes, AskReady, Write, Aside, Round, Keep, Retries, NO_SOCKET, release, address}
+use Rattle.seat_programs.specs.Heads.{Head, Exit, First, Unlocks, Locks, Joins, Opens, Reads, Discards, Retry, Posting, HasLocked, Unlocking, IsOpen, HasNext, Locking, NotThere, Has, Ended}
+use Rattle.seat_programs.specs.Programs.{Program, Do, Say, Sent, Rest, Write, Aside, Round, Keep, Retries, NO_SOCKET, release, address}
 use Rattle.seat_programs.specs.Posts.{WHOLE, post, posted, decided}
 use Rattle.seat_programs.specs.Attempts.{claims_from, heading_for, attempt, begin_call, claim_id, call, tried_again, retry_locked, retry, expire_outcome, expire, join}
 use Rattle.seat_programs.specs.Readers.{LIMIT, kept_for, ends_with, posted_last, post_each, thrown_away, read, reader}
@@ -90,10 +90,7 @@ module _ (G : Program → Type 0) (g : Passes G) where
 
   through_posted_last : (id e : ℕ) (kept : List Frame) (next : Program) → G next → (exit : Posting) → G (posted_last id e kept next exit)
   through_posted_last id e kept next after (HasLocked word) = through_ends_with id e word (kept_for id (parts word).range kept) next after
-  through_posted_last id e kept next after WasGone = after
-  through_posted_last id e kept next after WasStale = after
-  through_posted_last id e kept next after (WasCrowded a b) = after
-  through_posted_last id e kept next after WasQueued = after
+  through_posted_last id e kept next after _ = after
 
   through_post_each : (os : List ℕ) (k c : ℕ) (kept : List Frame) (next : Program) → G next → G (post_each os k c kept next)
   through_post_each [] k c kept next after = after
@@ -119,30 +116,13 @@ module _ (G : Program → Type 0) (g : Passes G) where
 
   first_round : (head : Head) (next : Exit head → Program) → ((o : ℕ) → (exits : ℕ → Program) → G (Round (Opens o) exits) → G (round (Opens o) exits)) → Follows G → G (Round head next) → G (round head next)
   first_round (Opens o) next opened f x = opened o next x
-  first_round (Posts id e w) next opened f x = through_round G g (Posts id e w) refl next (f.round (Posts id e w) next x)
-  first_round (Unlocks i w advance) next opened f x = through_round G g (Unlocks i w advance) refl next (f.round (Unlocks i w advance) next x)
-  first_round (Decides id asked w e) next opened f x = through_round G g (Decides id asked w e) refl next (f.round (Decides id asked w e) next x)
-  first_round (Locks i sought w) next opened f x = through_round G g (Locks i sought w) refl next (f.round (Locks i sought w) next x)
-  first_round (Joins id) next opened f x = through_round G g (Joins id) refl next (f.round (Joins id) next x)
-  first_round (Reads r) next opened f x = through_round G g (Reads r) refl next (f.round (Reads r) next x)
-  first_round (Discards l total) next opened f x = through_round G g (Discards l total) refl next (f.round (Discards l total) next x)
+  first_round other next opened f x = through_round G g other refl next (f.round other next x)
 
   -- the first step of a round, where the seat is at the head of a loop; of one that waits for an `open` it has to be said
   pub through_head : ((o : ℕ) → (exits : ℕ → Program) → G (Round (Opens o) exits) → G (round (Opens o) exits)) → Follows G → (program : Program) → G program → G (first_step program)
   through_head opened f (Write w after) x = through_block G g w after (f.write w after x)
   through_head opened f (Round head next) x = first_round head next opened f x
-  through_head opened f (Do call next) x = x
-  through_head opened f (Say o outcome next) x = x
-  through_head opened f (Sent o next) x = x
-  through_head opened f Rest x = x
-  through_head opened f (TakeMessage q next) x = x
-  through_head opened f (TakeHome k next) x = x
-  through_head opened f (PutHome k n after) x = x
-  through_head opened f (PutBytes k asked bytes next) x = x
-  through_head opened f (AskReady k next) x = x
-  through_head opened f (Aside step next) x = x
-  through_head opened f (Keep r next) x = x
-  through_head opened f (Retries requests after) x = x
+  through_head opened f _ x = x
 
   pub through_first : PassesOpens G → Follows G → (program : Program) → G program → G (first_step program)
   through_first w f program x = through_head (λ o exits y. through_opens G g w o exits (f.round (Opens o) exits y)) f program x
@@ -154,16 +134,7 @@ module _ (G : Program → Type 0) (g : Passes G) where
   through_resolved f ws (Keep r next) x = through_resolved f (ws ++ r ∷ []) next (f.keep r next x)
   through_resolved f [] (Retries requests after) x = through_resolved f [] after (f.retries requests after x)
   through_resolved f (r ∷ ws) (Retries requests after) x = through_retry requests r.id r.attempt (Retries requests after) x
-  through_resolved f ws (Do call next) x = x
-  through_resolved f ws Rest x = x
-  through_resolved f ws (TakeMessage q next) x = x
-  through_resolved f ws (TakeHome k next) x = x
-  through_resolved f ws (PutHome k n after) x = x
-  through_resolved f ws (PutBytes k asked bytes next) x = x
-  through_resolved f ws (AskReady k next) x = x
-  through_resolved f ws (Write w after) x = x
-  through_resolved f ws (Aside step next) x = x
-  through_resolved f ws (Round head next) x = x
+  through_resolved f ws _ x = x
 
   pub through_next : Follows G → (ws : List Retry) (program : Program) → G program → G (next_step (resolved ws program))
   through_next f ws program x = next_follows G f (resolved ws program) (through_resolved f ws program x)

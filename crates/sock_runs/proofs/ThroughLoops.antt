@@ -9,7 +9,7 @@ use Rattle.seat_programs.specs.corr_core.specs.Law.{LAST}
 use Rattle.seat_programs.specs.brpc_model.specs.Frame.{Frame}
 use Rattle.seat_programs.specs.brpc_model.specs.Stream as streams
 use Rattle.seat_programs.specs.sock_message.specs.Asked.{Asked}
-use Rattle.seat_programs.specs.Asides.{PutCall, LoadIdWord, LockId, PostId, UnlockId, EndId, FreeId, TakeCall, TakeBytes, Taking, Bytes, Nothing, NoMore, AtEnd, Closed, Broken, call_id, id_slot, id_first}
+use Rattle.seat_programs.specs.Asides.{PutCall, LoadIdWord, LockId, PostId, UnlockId, EndId, FreeId, TakeCall, TakeBytes, Taking, Bytes, Nothing, Closed, call_id, id_slot, id_first}
 use Rattle.seat_programs.specs.Heads.{Head, Exit, Retry, Sought, Version, Reading, Posts, Unlocks, Decides, Locks, Joins, Opens, Reads, Discards, Posting, WasGone, WasStale, WasCrowded, WasQueued, HasLocked, Unlocking, IsOpen, HasNext, Deciding, HasEnded, GoesOn, Locking, NotThere, Has, Ended}
 use Rattle.seat_programs.specs.Programs.{Program, Say}
 use Rattle.seat_programs.specs.Posts.{packed, advance_of, is_first, is_sought, is_stale, is_full, judged, posts_round, post_with, posted, post, popped, unlocks_round, ends_call, end_id, decide, decided, unlocked, decides_round, locking, locks_round, joins_round}
@@ -63,10 +63,7 @@ module _ (G : Program → Type 0) (g : Passes G) where
 
   pub through_posted : (id e : ℕ) (next : Program) → G next → (exit : Posting) → G (posted id e next exit)
   through_posted id e next after (HasLocked word) = through_decide id word e (decided id next) (through_decided id next after)
-  through_posted id e next after WasGone = after
-  through_posted id e next after WasStale = after
-  through_posted id e next after (WasCrowded a b) = after
-  through_posted id e next after WasQueued = after
+  through_posted id e next after _ = after
 
   pub through_post : (id c attempt : ℕ) (next : Program) → G next → G (post id c attempt next)
   through_post id c attempt next after = through_post_with id (error_of c attempt) (posted id (error_of c attempt) next) (through_posted id (error_of c attempt) next after)
@@ -112,18 +109,13 @@ module _ (G : Program → Type 0) (g : Passes G) where
       through_responses r.ids s.frames r.kept (λ kept. read_on (record { ids = r.ids; link = r.link; id = r.id; rest = r.rest; total = r.total + length bytes; kept = kept }) (r.rest ++ bytes) s.ending k)
       (λ kept. through_read_on (record { ids = r.ids; link = r.link; id = r.id; rest = r.rest; total = r.total + length bytes; kept = kept }) (r.rest ++ bytes) s.ending k after)
   through_took r k after Nothing = g.round (Reads r) refl k after
-  through_took r k after NoMore = after (ended_by 1014 false false r)
-  through_took r k after AtEnd = after (ended_by 1014 false false r)
   through_took r k after Closed = after (ended_by 1014 true false r)
-  through_took r k after Broken = after (ended_by 1014 false false r)
+  through_took r k after _ = after (ended_by 1014 false false r)
 
   through_discarded : (l total : ℕ) (k : ℕ → Program) → ((x : ℕ) → G (k x)) → (t : Taking) → G (discarded l total k t)
   through_discarded l total k after (Bytes bytes) = either_way (nat_lt (total + length bytes) LIMIT) _ _ G (g.round (Discards l (total + length bytes)) refl k after) (after (total + length bytes))
   through_discarded l total k after Nothing = g.round (Discards l total) refl k after
-  through_discarded l total k after NoMore = after total
-  through_discarded l total k after AtEnd = after total
-  through_discarded l total k after Closed = after total
-  through_discarded l total k after Broken = after total
+  through_discarded l total k after _ = after total
 
   -- one round of each loop but that which waits for an `open`
   pub through_round : (head : Head) → awaits head ≡ none → (k : Exit head → Program) → ((x : Exit head) → G (k x)) → G (round head k)

@@ -8,13 +8,12 @@ use lib.ListN.{get_elem?}
 use Rattle.sock_words.specs.declared.kind.Kind.{Kind}
 use Rattle.sock_words.specs.declared.plain.Plan.{Plan}
 use Rattle.seat_programs.specs.Writings.{Puts, Waits, Empties, Walks}
-use Rattle.seat_programs.specs.Programs.{Program, Do, Say, Sent, Rest, TakeMessage, TakeHome, PutHome, PutBytes, AskReady, Write, Aside, Round, Keep, Retries}
+use Rattle.seat_programs.specs.Programs.{Program, PutBytes, AskReady, Write, Aside, Round}
 use Rattle.seat_programs.specs.Asides.{TakeBytes}
 use Rattle.seat_programs.specs.Heads.{Reads, Discards}
 use Rattle.seat_programs.specs.Cores.{Core, SeatState}
 use Rattle.seat_programs.specs.Ticks.{Unasked, quiet, tick_with, ticked, run, IsAnswer, AreAnswered}
-use Rattle.seat_programs.specs.Runs.{kind_in, IsAtRest, IsSettled}
-use Rattle.sock_runs.proofs.Along.{place_inside}
+use Rattle.seat_programs.specs.Runs.{kind_in, IsAtRest}
 
 -- whoever asks its link isn't at rest, and stays as it is where the link isn't asked
 asks_or_not : (p : Plan) (c : Core) (i : ℕ) (seat : SeatState) (program : Program) → IsAnswer program Unasked ⊎ ((tick_with p i seat c Unasked program ≡ c) × (kind_in program ≢ None))
@@ -25,19 +24,9 @@ asks_or_not p c i seat (Write (Puts h now heading left taken asked) after) = inl
 asks_or_not p c i seat (Write (Empties h) after) = inl tt
 asks_or_not p c i seat (Write (Walks h top at after) then_) = inl tt
 asks_or_not p c i seat (Aside (TakeBytes k room) next) = inr (refl, λ e. none-some _ (sym e))
-asks_or_not p c i seat (Aside step next) = inl tt
 asks_or_not p c i seat (Round (Reads r) next) = inr (refl, λ e. none-some _ (sym e))
 asks_or_not p c i seat (Round (Discards k total) next) = inr (refl, λ e. none-some _ (sym e))
-asks_or_not p c i seat (Round head next) = inl tt
-asks_or_not p c i seat (Keep r next) = inl tt
-asks_or_not p c i seat (Retries requests after) = inl tt
-asks_or_not p c i seat (Do call next) = inl tt
-asks_or_not p c i seat (Say o outcome next) = inl tt
-asks_or_not p c i seat (Sent o next) = inl tt
-asks_or_not p c i seat Rest = inl tt
-asks_or_not p c i seat (TakeMessage q next) = inl tt
-asks_or_not p c i seat (TakeHome k next) = inl tt
-asks_or_not p c i seat (PutHome k n after) = inl tt
+asks_or_not p c i seat _ = inl tt
 
 -- where a tick leaves all as it is, so do more of them
 stays : (p : Plan) (c : Core) (i n : ℕ) → ticked p c (quiet i) ≡ c → run p c (replicate n (quiet i)) ≡ c
@@ -56,11 +45,3 @@ quiet_answered p c i (suc n) idle = by_seat (quiet_answered p (ticked p c (quiet
         let here : IsAtRest c i = subst (λ d. IsAtRest d i) (stays p c i (suc n) same) idle in
         absurd (x.1 (ap (λ o. elim o as (λ o. std.Option Kind) [ none ↦ None | some s ↦ kind_in s.program ]) (sym e) ∙ here)))
         (asks_or_not p c i seat seat.program)
-
--- where no seat has a step left, the seat at no place has none either
-pub settled_at : (c : Core) → IsSettled c → (i : ℕ) → IsAtRest c i
-settled_at c settled i = by_seat (get_elem? c.seats i) refl
-  where
-    by_seat : (q : Option SeatState) → get_elem? c.seats i ≡ q → IsAtRest c i
-    by_seat none e = ap (λ o. elim o as (λ o. std.Option Kind) [ none ↦ None | some s ↦ kind_in s.program ]) e
-    by_seat (some seat) e = settled i (place_inside c.seats i seat e)

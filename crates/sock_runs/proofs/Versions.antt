@@ -15,7 +15,7 @@ use Rattle.sock_model.specs.Slots.{count, live}
 use Rattle.sock_model.specs.References.{slot_facts}
 use Rattle.sock_steps.specs.slot_steps.proofs.Numbers.{life_is, or-even, or-odd}
 use Rattle.sock_steps.proofs.Places.{own_count}
-use Rattle.seat_programs.specs.Calls.{Call, ClaimSlot, CreateLife, AddRef, SubRef, SetOdd, Recycle, FreeSlot, StoreLink, LoadLink, ResetHead, ClearCode, StoreCode, StoreName, LoadName, StoreOpen, LoadOpen, TakeLink, FinishLink, PutLink, LookWord, FindLink, LoadCode, ClaimRequest, PutMessage, Unconnect, SwapHead, Connect, EmptyHead, ReadNext, ReverseNext, FreeRequest, StorePlace, DropPlace}
+use Rattle.seat_programs.specs.Calls.{Call, ClaimSlot, CreateLife, AddRef, SubRef, SetOdd, Recycle, FreeSlot, StoreLink, LoadLink, ResetHead, ClearCode, StoreCode, StoreName, LoadName, StoreOpen, LoadOpen, LookWord, FindLink, LoadCode, ClaimRequest, Unconnect, SwapHead, Connect, EmptyHead, ReadNext, ReverseNext, FreeRequest, StorePlace, DropPlace}
 use Rattle.seat_programs.specs.Cores.{Core, word_of, word_after, found_at, words_after}
 use Rattle.sock_runs.specs.Rows.{hand_at}
 use Rattle.sock_runs.specs.May.{May, Finds}
@@ -82,14 +82,10 @@ module _ (p : Plan) (c : Core) (vs : List View) (sound : Sound p c vs) (i : ℕ)
   versions_on (LoadName n) may j inside = loaded j (name_index p n)
   versions_on (StoreOpen n w) may j inside = other j (open_index p n) w (λ e. omega (arith, e, inside))
   versions_on (LoadOpen n) may j inside = loaded j (open_index p n)
-  versions_on (TakeLink k) may j inside = omega arith
-  versions_on (FinishLink k) may j inside = omega arith
-  versions_on (PutLink k) may j inside = omega arith
   versions_on (LookWord id) may j inside = loaded j (ref_index (socket_id_slot id))
   versions_on (FindLink n h) may j inside = loaded j (link_index n)
   versions_on (LoadCode n h) may j inside = loaded j (code_index n)
   versions_on (ClaimRequest id q) may j inside = other j (request_index p q) (word_after (ClaimRequest id q) (get_or c.words (request_index p q) 0)) (λ e. omega (arith, e, inside))
-  versions_on (PutMessage q heading bytes) may j inside = omega arith
   versions_on (Unconnect q) may j inside = other j (next_index p q) (word_after (Unconnect q) 0) (λ e. omega (arith, e, inside))
   versions_on (SwapHead n mine) may j inside = other j (head_index n) mine (λ e. omega (arith, e))
   versions_on (Connect q before) may j inside = other j (next_index p q) before (λ e. omega (arith, e, inside))
@@ -99,6 +95,7 @@ module _ (p : Plan) (c : Core) (vs : List View) (sound : Sound p c vs) (i : ℕ)
   versions_on (FreeRequest q g) may j inside = other j (request_index p q) (2 * (g + 1)) (λ e. omega (arith, e, inside))
   versions_on (StorePlace l k n) may j inside = other j (place_index p l) (place_value false k n) (λ e. omega (arith, e, inside))
   versions_on (DropPlace l k n) may j inside = other j (place_index p l) (place_value true k n) (λ e. omega (arith, e, inside))
+  versions_on _ may j inside = omega arith
 
   -- a life that was made is no later one than the slot's
   pub born_low : (j h : ℕ) → j < p.slots → 0 < count (is_born h) (slot_facts (state c vs) j) → (h ≤ version j) × (h % 2 ≡ 0)

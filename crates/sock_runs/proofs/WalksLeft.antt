@@ -96,10 +96,6 @@ module _ (counts : ℕ → ℕ) where
   abbrev left : Right → ℕ
   left = walk_left counts
 
-  -- a right at another stage, where it turns nothing
-  restaged_few : (r : Right) (b : Stage) → is_turning b ≤ is_turning r.stage → is_turning r.stage ≤ is_turning b → left (record r { stage = b }) + 0 ≤ left r
-  restaged_few r b less more = omega (arith, less, more)
-
   not_turning : (last : ℕ) (b : Stage) → is_turning (settled_stage last b) ≡ is_turning b
   not_turning last (Placed now) = either_way ((now == last) && (generation_of now == LAST_GENERATION)) Empties (Placed now) (λ (z : Stage). is_turning z ≡ 0) refl refl
   not_turning last (Passes now next) = either_way (generation_of now == LAST_GENERATION) (Writes next) (Passes now next) (λ (z : Stage). is_turning z ≡ 0) refl refl

@@ -21,13 +21,13 @@ use Rattle.seat_programs.specs.Ticks.{Moment, quiet, run, AreAnswered}
 use Rattle.seat_programs.specs.Runs.{IsAtRest, IsSettled}
 use Rattle.seat_programs.specs.Scripts.{sizes_of, programs, readers_from, all_programs, tasks_from, all_tasks, opened, ending, is_ending, set_up, played, IsRunWithCalls}
 use Rattle.seat_programs.specs.Told.{AreTasks}
-use Rattle.sock_runs.specs.Sound.{Sound, IsAhead, AllRest, AreFitting, AllFailed, AllEnded, IsOver, IsAlive, views_along}
+use Rattle.sock_runs.specs.Sound.{Sound, IsAhead, AllRest, AreFitting, AllFailed, IsOver, views_along}
 use Rattle.sock_runs.proofs.HandTicks.{AtHome}
 use Rattle.sock_runs.proofs.LinkTicks.{RetriesGo}
 use Rattle.sock_runs.proofs.Along.{run_sound, seat_ahead, seat_rests, place_inside, run_ahead, beginning_ahead, settled_rests}
 use Rattle.sock_runs.proofs.Unasked.{quiet_answered}
 use Rattle.sock_runs.proofs.Quiets.{run_rests}
-use Rattle.sock_runs.proofs.Ends.{all_ended, is_over, none_alive, links_home}
+use Rattle.sock_runs.proofs.Ends.{is_over, links_home}
 use Rattle.sock_runs.proofs.Recorded.{Recorded, run_recorded}
 use Rattle.sock_runs.proofs.Rested.{IsPast, recorded_ending, recorded_on, rested_failed}
 use Rattle.sock_runs.proofs.Opening.{opens_in, or_cases, own_opens, own_is, beginning_recorded, others_still}
@@ -74,10 +74,6 @@ own_listed script are j o there = let x = own_is (plan_of script) (all_tasks scr
     (omega (arith, place_inside (all_tasks script) j x.0 x.1, tasks_many script 0 (clients script + 1)), listed (numbered script) (names script) t.0 o (numbered script) (ap (λ l. opens_in l o) t.1 ∙ x.2))
 
 -- ## The run
-
--- the ticks of the clients and the readers before the ending
-abbrev pub moments_of : (script : List Item) (turns : List Turn) (core : Core) → IsRunWithCalls script turns core → List Moment
-moments_of script turns core is = is.scheduled ++ is.later
 
 -- the core before the ending, the one in which seat 0 begins it, and the one in which seat 0 has made it
 abbrev pub rested_of : (script : List Item) (turns : List Turn) (core : Core) → IsRunWithCalls script turns core → Core
@@ -222,21 +218,9 @@ module _ (script : List Item) (are : AreTasks (plan_of script) (all_tasks script
     pub end_rests : AllRest core
     end_rests = settled_rests core ended_ahead owed.after
 
-    -- with these views at the end
-    pub end_sound : (ws : List View) × Sound p core ws × AllRest core
-    end_sound = (views_ended script turns core is vs, ended_sound, end_rests)
-
     -- every life was failed
     pub end_failed : AllFailed p core (views_ended script turns core is vs)
     end_failed = rested_failed p (IsListed script) core (views_ended script turns core is vs) ended_sound recorded_end end_rests (λ j o x. owed.past o x.1.0 x.1.1)
-
-    -- and none is alive
-    pub end_dead : (i h : ℕ) → ¬ IsAlive p core (views_ended script turns core is vs) i h
-    end_dead = none_alive p core (views_ended script turns core is vs) ended_sound end_rests end_failed
-
-    -- each life has ended, and each slot is free again unless its versions are used up
-    pub end_ended : AllEnded p core (views_ended script turns core is vs)
-    end_ended = all_ended p core (views_ended script turns core is vs) ended_sound end_rests end_failed
 
     pub end_over : (i : ℕ) → i < p.slots → IsOver core.words i
     end_over = is_over p core (views_ended script turns core is vs) ended_sound end_rests end_failed

@@ -7,9 +7,6 @@ use mathlib.Core.Option.{Option, some}
 use lib.ListN.{get_elem?}
 use Rattle.atomic_table.proofs.Lists.{at_set}
 use Rattle.sock_words.specs.declared.plain.Plan.{Plan}
-use Rattle.seat_programs.specs.sock_io.specs.declared.link.Put.{Put}
-use Rattle.seat_programs.specs.sock_io.specs.declared.link.Ready.{Ready}
-use Rattle.sock_model.specs.declared.chain.Heading.{Heading}
 use Rattle.sock_model.specs.declared.home.Home.{Home}
 use Rattle.sock_model.specs.declared.view.View.{View}
 use Rattle.sock_model.specs.Layout.{open_index}
@@ -19,15 +16,14 @@ use Rattle.seat_programs.specs.declared.task.Op.TheVariants as ops
 use Rattle.seat_programs.specs.declared.task.Task.{Task}
 use Rattle.seat_programs.specs.declared.task.Sizes.{Sizes}
 use Rattle.seat_programs.specs.Calls.{Call, StoreOpen}
-use Rattle.seat_programs.specs.Asides.{Found}
-use Rattle.seat_programs.specs.Heads.{Exit}
-use Rattle.seat_programs.specs.Programs.{Program, Do, Say, Sent, Rest, TakeMessage, TakeHome, PutHome, PutBytes, AskReady, Write, Aside, Round, Keep, Retries, open_from, make_socket}
+use Rattle.seat_programs.specs.Programs.{Program, Do, Rest, open_from, make_socket}
 use Rattle.seat_programs.specs.Clients.{HeldLife, held_under, without_name, drop_of, operation, client_from}
 use Rattle.seat_programs.specs.Cores.{Calls, Core, SeatState, word_of, found_at, hand_after, resolved, next_step, waiting_at, with_seat, stepped}
 use Rattle.seat_programs.specs.Ticks.{Moment, ticked, run, IsAnswered, AreAnswered}
 use Rattle.sock_runs.specs.May.{May}
 use Rattle.sock_runs.specs.Sound.{Sound, first_step, IsFitting, AreFitting, views_after}
-use Rattle.sock_runs.proofs.Through.{Passes, PassesOpens, Follows, comes_follows, through_fail, through_hold, through_drop}
+use Rattle.sock_runs.proofs.AtCalls.{AtCalls, every_exit}
+use Rattle.sock_runs.proofs.Through.{Passes, PassesOpens, Follows, at_calls_passes, at_calls_follow, comes_follows, through_fail, through_hold, through_drop}
 use Rattle.sock_runs.proofs.ThroughSends.{through_send}
 use Rattle.sock_runs.proofs.ThroughCalls.{through_call, through_expire, through_join, through_first, through_next}
 use Rattle.sock_runs.proofs.Cases.{ComesNext, tick_keeps_marks}
@@ -38,62 +34,25 @@ use Rattle.sock_runs.proofs.Ticks.{sound_ticks}
 use Rattle.sock_runs.proofs.Opening.{is_opening, opens_in, or_cases, second_true}
 use Rattle.sock_runs.proofs.ReaderSeats.{stays_stored, stored_some}
 
+abbrev pub WillStoreAt : ℕ → Unit {0} → Call → (ℕ → Program) → (Unit {0} → ℕ → Type 0) → Type 0
+WillStoreAt o s (StoreOpen n w) next behind = (n ≡ o) ⊎ ((found : ℕ) → behind tt found)
+WillStoreAt o s call next behind = (found : ℕ) → behind tt found
+
 abbrev pub WillStore : ℕ → Program → Type 0
-WillStore o (Do (StoreOpen n w) next) = (n ≡ o) ⊎ ((found : ℕ) → WillStore o (next found))
-WillStore o (Do call next) = (found : ℕ) → WillStore o (next found)
-WillStore o (Say n outcome next) = WillStore o next
-WillStore o (Sent n next) = WillStore o next
-WillStore o Rest = ⊥
-WillStore o (TakeMessage q next) = (heading : Heading) (bytes : List ℕ) → WillStore o (next heading bytes)
-WillStore o (TakeHome k next) = (places : ℕ) → WillStore o (next places)
-WillStore o (PutHome k n after) = WillStore o after
-WillStore o (PutBytes k asked bytes next) = (answer : Put) → WillStore o (next answer)
-WillStore o (AskReady k next) = (answer : Ready) → WillStore o (next answer)
-WillStore o (Write w after) = WillStore o after
-WillStore o (Aside step next) = (found : Found step) → WillStore o (next found)
-WillStore o (Round head next) = (exit : Exit head) → WillStore o (next exit)
-WillStore o (Keep r next) = WillStore o next
-WillStore o (Retries requests after) = WillStore o after
+WillStore o program = AtCalls ⊥ (WillStoreAt o) every_exit tt program
 
 any_call : (o : ℕ) (call : Call) (next : ℕ → Program) → ((found : ℕ) → WillStore o (next found)) → WillStore o (Do call next)
 any_call o (StoreOpen n w) next r = inr r
 any_call o call next r = r
 
-will_passes : (o : ℕ) → Passes (WillStore o)
-will_passes o = record {
-  step = λ call next s b l r. any_call o call next r;
-  say = λ n outcome next r. r;
-  sent = λ n next r. r;
-  message = λ q next r. r;
-  home = λ k next r. r;
-  puts_home = λ k n after r. r;
-  put = λ k asked bytes next r. r;
-  ask = λ k next r. r;
-  write = λ w after r. r;
-  aside = λ step next r. r;
-  round = λ head l next r. r;
-  keep = λ r next x. x;
-  retries = λ requests after r. r;
-}
+pub will_passes : (o : ℕ) → Passes (WillStore o)
+will_passes o = at_calls_passes ⊥ (WillStoreAt o) every_exit tt (λ call next s b l r. any_call o call next r) (λ head l next r. r)
 
 will_opens : (o : ℕ) → PassesOpens (WillStore o)
 will_opens o = record { load = λ n next r. r; wait = λ n next r. r }
 
-will_follow : (o : ℕ) → Follows (WillStore o)
-will_follow o = record {
-  said = λ n outcome next r. r;
-  sent = λ n next r. r;
-  message = λ q next r. r;
-  home = λ k next r. r;
-  puts_home = λ k n after r. r;
-  put = λ k asked bytes next r. r;
-  ask = λ k next r. r;
-  write = λ w after r. r;
-  aside = λ step next r. r;
-  round = λ head next r. r;
-  keep = λ r next x. x;
-  retries = λ requests after r. r;
-}
+pub will_follow : (o : ℕ) → Follows (WillStore o)
+will_follow o = at_calls_follow ⊥ (WillStoreAt o) every_exit tt (λ head next r. r)
 
 -- ## Clients
 

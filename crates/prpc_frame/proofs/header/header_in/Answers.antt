@@ -1,4 +1,4 @@
-use Rattle.std.proofs.Common.{◌≡◌, ℕ, List, length, take, ap, ◌∙◌, arith, length-take}
+use Rattle.std.proofs.Common.{ℕ, List, length, take, ap, ◌∙◌, arith, length-take}
 use Rattle.std.specs.Prelude.{slice_index}
 use Rattle.std.proofs.lemmas.List.{take-take}
 use Rattle.prpc_frame.proofs.header.header_in.Goals as goal

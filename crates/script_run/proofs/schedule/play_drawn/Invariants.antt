@@ -3,6 +3,7 @@ use Rattle.brpc_model.specs.Operations.{clients, operations}
 use Rattle.script_print.specs.Seats.{seat_count}
 use Rattle.seat_programs.specs.Runs.{Scheduled}
 use Rattle.sock_core.specs.Runs.{SameLinks}
+use Rattle.sock_core.proofs.Linkers.{SaysAsBefore}
 use Rattle.script_run.specs.Played.{IsPlayable, HasPlayed}
 use Rattle.script_run.proofs.Lines.{drawn_so_far, draws_of, seats_in}
 use Rattle.script_run.proofs.schedule.play_drawn.Given as goal
@@ -14,10 +15,5 @@ invariant-loop g l = record {
   played : HasPlayed (λ c. Scheduled l.initial.machine.plan c (drawn_so_far (seats_in l.script) (clients l.script) l.counter l.seed)) l.initial.machine l.machine;
   playable : IsPlayable l.machine;
   ends : SameLinks l.initial.machine l.machine;
-  asked : g.L.Linker.asked l.links ≡ g.L.Linker.asked l.initial.links;
-  accepted : g.L.Linker.accepted l.links ≡ g.L.Linker.accepted l.initial.links;
-  back : g.L.Linker.back l.links ≡ g.L.Linker.back l.initial.links;
-  done : g.L.Linker.done l.links ≡ g.L.Linker.done l.initial.links;
-  faults : g.L.Linker.faults l.links ≡ g.L.Linker.faults l.initial.links;
-  always_ready : g.L.Linker.always_ready l.links ≡ g.L.Linker.always_ready l.initial.links;
+  says : SaysAsBefore g.L.Linker.asked g.L.Linker.accepted g.L.Linker.back g.L.Linker.done g.L.Linker.faults g.L.Linker.always_ready l.initial.links l.links;
 }

@@ -2,6 +2,7 @@ use Rattle.std.proofs.Common.{refl, ◌∙◌, map, take}
 use Rattle.brpc_model.specs.Operations.{schedule}
 use Rattle.script_run.specs.Outlines.{meant}
 use Rattle.seat_programs.specs.Runs.{Scheduled}
+use Rattle.sock_core.proofs.Linkers.{says_same, says_still}
 use Rattle.sock_core.proofs.Joining.{same_links_none, same_links_join}
 use Rattle.script_run.proofs.Playing.{none_played}
 use Rattle.script_run.proofs.Lines.{mark_played, whole_played}
@@ -12,12 +13,7 @@ loop-mark-init g c = record {
   played = none_played (λ d. Scheduled c.args.machine.now.plan d (schedule (map meant (take 0 c.args.marks.now)))) c.args.machine.now (λ d. refl);
   playable = c.requires.playable;
   ends = same_links_none c.args.machine.now;
-  asked = refl;
-  accepted = refl;
-  back = refl;
-  done = refl;
-  faults = refl;
-  always_ready = refl;
+  says = says_same;
 }
 
 pub returns-in_err-play_mark-clause-ends : goal.returns-in_err-play_mark-clause-ends
@@ -30,12 +26,7 @@ loop-mark-preserved g c =
       played = mark_played c.args.marks.now c.loop-mark.mark-index c.mark-item.result c.args.machine.now c.loop-mark.machine c.play_mark.new.machine c.loop-mark-test.true c.mark-item.is i.played step.played;
       playable = step.playable;
       ends = same_links_join c.args.machine.now c.loop-mark.machine c.play_mark.new.machine i.ends step.ends;
-      asked = step.asked ∙ i.asked;
-      accepted = step.accepted ∙ i.accepted;
-      back = step.back ∙ i.back;
-      done = step.done ∙ i.done;
-      faults = step.faults ∙ i.faults;
-      always_ready = step.always_ready ∙ i.always_ready;
+      says = says_still i.says step.asked step.accepted step.back step.done step.faults step.always_ready;
     }
 
 pub returns-clause-played : goal.returns-clause-played

@@ -1,5 +1,6 @@
 use Rattle.std.proofs.Common.{◌≡◌, replicate, subst, refl, ◌∙◌, arith}
 use Rattle.seat_programs.specs.Ticks.{seats_of}
+use Rattle.sock_core.proofs.Linkers.{says_same, says_still}
 use Rattle.script_run.specs.Played.{HasPlayed}
 use Rattle.sock_core.proofs.Joining.{same_links_none, same_links_join}
 use Rattle.script_run.proofs.Playing.{none_played}
@@ -11,12 +12,7 @@ loop-init g c = record {
   played = none_played (λ d moments. seats_of moments ≡ replicate 0 c.args.seat) c.args.machine.now (λ d. refl);
   playable = c.requires.playable;
   ends = same_links_none c.args.machine.now;
-  asked = refl;
-  accepted = refl;
-  back = refl;
-  done = refl;
-  faults = refl;
-  always_ready = refl;
+  says = says_same;
 }
 
 pub returns-in_err-tick_seat-clause-ends : goal.returns-in_err-tick_seat-clause-ends
@@ -39,12 +35,7 @@ loop-preserved g c =
       played = one_more_tick c.args.seat c.loop.counter c.args.machine.now c.loop.machine c.tick_seat.new.machine i.played step.ticked;
       playable = step.playable;
       ends = same_links_join c.args.machine.now c.loop.machine c.tick_seat.new.machine i.ends step.ends;
-      asked = step.asked ∙ i.asked;
-      accepted = step.accepted ∙ i.accepted;
-      back = step.back ∙ i.back;
-      done = step.done ∙ i.done;
-      faults = step.faults ∙ i.faults;
-      always_ready = step.always_ready ∙ i.always_ready;
+      says = says_still i.says step.asked step.accepted step.back step.done step.faults step.always_ready;
     }
 
 pub returns-clause-played : goal.returns-clause-played

@@ -1,4 +1,5 @@
 use Rattle.std.proofs.Common.{Ok, ap, refl, ◌∙◌}
+use Rattle.sock_core.proofs.Linkers.{says_same, says_still}
 use Rattle.sock_core.proofs.Endings.{both_join}
 use Rattle.sock_core.proofs.Rounding.{played_none, played_more, played_last}
 use Rattle.sock_core.proofs.machine.Machine.play_on.Goals as goal
@@ -6,12 +7,7 @@ use Rattle.sock_core.proofs.machine.Machine.play_on.Goals as goal
 pub loop-init : goal.loop-init
 loop-init g c = record {
   so_far = played_none c.args.self.now c.requires.rest c.in_ok-end.ensures.left;
-  asked = refl;
-  accepted = refl;
-  back = refl;
-  done = refl;
-  faults = refl;
-  always_ready = refl;
+  says = says_same;
 }
 
 pub round-requires-clause-enough : goal.round-requires-clause-enough
@@ -32,10 +28,5 @@ returns-then-not-branch-clause-same g c = let i = c.loop.invariant.so_far in bot
 pub loop-preserved : goal.loop-preserved
 loop-preserved g c = let moved = c.in_ok-round.ensures.moved (ap Ok c.if-not-branch.false) in record {
   so_far = played_more c.args.self.now c.loop.self c.round.new.self c.loop.counter c.loop.invariant.so_far moved.0 c.in_ok-round.ensures.rest moved.1;
-  asked = c.round.ensures.asked ∙ c.loop.invariant.asked;
-  accepted = c.round.ensures.accepted ∙ c.loop.invariant.accepted;
-  back = c.round.ensures.back ∙ c.loop.invariant.back;
-  done = c.round.ensures.done ∙ c.loop.invariant.done;
-  faults = c.round.ensures.faults ∙ c.loop.invariant.faults;
-  always_ready = c.round.ensures.always_ready ∙ c.loop.invariant.always_ready;
+  says = says_still c.loop.invariant.says c.round.ensures.asked c.round.ensures.accepted c.round.ensures.back c.round.ensures.done c.round.ensures.faults c.round.ensures.always_ready;
 }

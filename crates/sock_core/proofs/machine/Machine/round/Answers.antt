@@ -2,6 +2,7 @@ use Rattle.std.proofs.Common.{◌≡◌, ℕ, true, List, refl, sym, ap, subst, 
 use Rattle.sock_words.specs.declared.plain.Plan.{Plan}
 use Rattle.seat_programs.specs.Runs.{from_to}
 use Rattle.sock_core.specs.Machines.{READERS}
+use Rattle.sock_core.proofs.Linkers.{says_same, says_still}
 use Rattle.sock_core.proofs.Endings.{in_ok, both_join}
 use Rattle.sock_core.proofs.Rounding.{RoundSoFar, round_begins, round_moved, round_still, round_went, round_stood, client_more, reader_more}
 use Rattle.sock_core.proofs.machine.Machine.round.Goals as goal
@@ -10,12 +11,7 @@ pub loop-seat-init : goal.loop-seat-init
 loop-seat-init g c = record {
   so_far = round_begins c.args.self.now c.requires.enough c.requires.rest;
   inside = let some_ = c.clients-seat-end.ensures.some in let is = c.clients-seat-end.ensures.count in omega (arith, some_, is);
-  asked = refl;
-  accepted = refl;
-  back = refl;
-  done = refl;
-  faults = refl;
-  always_ready = refl;
+  says = says_same;
 }
 
 pub loop-seat-preserved : goal.loop-seat-preserved
@@ -29,23 +25,13 @@ loop-seat-preserved g c =
         so_far = subst (RoundSoFar c.args.self.now c.advance.new.self (from_to 1 ((c.loop-seat.seat + 1) - 1))) (sym w.moved-is) (subst (λ (l : List ℕ). RoundSoFar c.args.self.now c.advance.new.self l true) more
             (round_moved c.args.self.now c.loop-seat.self c.advance.new.self (from_to 1 (c.loop-seat.seat - 1)) c.loop-seat.seat c.loop-seat.moved c.in_ok-advance.field-0 i.so_far t.tick t.left t.enough.1 rest moved.0 moved.1));
         inside = omega arith;
-        asked = c.advance.ensures.asked ∙ c.loop-seat.invariant.asked;
-        accepted = c.advance.ensures.accepted ∙ c.loop-seat.invariant.accepted;
-        back = c.advance.ensures.back ∙ c.loop-seat.invariant.back;
-        done = c.advance.ensures.done ∙ c.loop-seat.invariant.done;
-        faults = c.advance.ensures.faults ∙ c.loop-seat.invariant.faults;
-        always_ready = c.advance.ensures.always_ready ∙ c.loop-seat.invariant.always_ready;
+        says = says_still c.loop-seat.invariant.says c.advance.ensures.asked c.advance.ensures.accepted c.advance.ensures.back c.advance.ensures.done c.advance.ensures.faults c.advance.ensures.always_ready;
       }
       | goal.else-is_moved w ↦ record {
         so_far = subst (RoundSoFar c.args.self.now c.advance.new.self (from_to 1 ((c.loop-seat.seat + 1) - 1))) (sym w.moved-is) (subst (λ (l : List ℕ). RoundSoFar c.args.self.now c.advance.new.self l c.loop-seat.moved) more
             (round_still c.args.self.now c.loop-seat.self c.advance.new.self (from_to 1 (c.loop-seat.seat - 1)) c.loop-seat.seat c.loop-seat.moved c.in_ok-advance.field-0 i.so_far t.tick t.left t.enough.1 rest (c.is_moved.ensures.still w.if-is_moved.false)));
         inside = omega arith;
-        asked = c.advance.ensures.asked ∙ c.loop-seat.invariant.asked;
-        accepted = c.advance.ensures.accepted ∙ c.loop-seat.invariant.accepted;
-        back = c.advance.ensures.back ∙ c.loop-seat.invariant.back;
-        done = c.advance.ensures.done ∙ c.loop-seat.invariant.done;
-        faults = c.advance.ensures.faults ∙ c.loop-seat.invariant.faults;
-        always_ready = c.advance.ensures.always_ready ∙ c.loop-seat.invariant.always_ready;
+        says = says_still c.loop-seat.invariant.says c.advance.ensures.asked c.advance.ensures.accepted c.advance.ensures.back c.advance.ensures.done c.advance.ensures.faults c.advance.ensures.always_ready;
       }
     ]
 
@@ -57,12 +43,7 @@ loop-link-init g c =
     let all : c.loop-seat.seat ≡ c.args.self.now.plan.seats = omega (arith, inside, is) in record {
       so_far = subst (λ (l : List ℕ). RoundSoFar c.args.self.now c.loop-seat.self l c.loop-seat.moved) (ap (λ n. from_to 1 (n - 1)) all ∙ sym (append-nil (from_to 1 (c.args.self.now.plan.seats - 1)))) i.so_far;
       inside = omega arith;
-      asked = i.asked;
-      accepted = i.accepted;
-      back = i.back;
-      done = i.done;
-      faults = i.faults;
-      always_ready = i.always_ready;
+      says = i.says;
     }
 
 pub loop-link-preserved : goal.loop-link-preserved
@@ -79,23 +60,13 @@ loop-link-preserved g c =
         so_far = subst (RoundSoFar c.args.self.now c.advance-in-loop-link.new.self (clients ++ from_to READERS (c.loop-link.link + 1))) (sym w.moved-is) (subst (λ (l : List ℕ). RoundSoFar c.args.self.now c.advance-in-loop-link.new.self l true) more
             (round_moved c.args.self.now c.loop-link.self c.advance-in-loop-link.new.self (clients ++ from_to READERS c.loop-link.link) (READERS + c.loop-link.link) c.loop-link.moved c.in_ok-advance-2.field-0 i.so_far t.tick t.left t.enough.1 rest moved.0 moved.1));
         inside = omega (arith, is, same);
-        asked = c.advance-in-loop-link.ensures.asked ∙ c.loop-link.invariant.asked;
-        accepted = c.advance-in-loop-link.ensures.accepted ∙ c.loop-link.invariant.accepted;
-        back = c.advance-in-loop-link.ensures.back ∙ c.loop-link.invariant.back;
-        done = c.advance-in-loop-link.ensures.done ∙ c.loop-link.invariant.done;
-        faults = c.advance-in-loop-link.ensures.faults ∙ c.loop-link.invariant.faults;
-        always_ready = c.advance-in-loop-link.ensures.always_ready ∙ c.loop-link.invariant.always_ready;
+        says = says_still c.loop-link.invariant.says c.advance-in-loop-link.ensures.asked c.advance-in-loop-link.ensures.accepted c.advance-in-loop-link.ensures.back c.advance-in-loop-link.ensures.done c.advance-in-loop-link.ensures.faults c.advance-in-loop-link.ensures.always_ready;
       }
       | goal.else-is_moved-2 w ↦ record {
         so_far = subst (RoundSoFar c.args.self.now c.advance-in-loop-link.new.self (clients ++ from_to READERS (c.loop-link.link + 1))) (sym w.moved-is) (subst (λ (l : List ℕ). RoundSoFar c.args.self.now c.advance-in-loop-link.new.self l c.loop-link.moved) more
             (round_still c.args.self.now c.loop-link.self c.advance-in-loop-link.new.self (clients ++ from_to READERS c.loop-link.link) (READERS + c.loop-link.link) c.loop-link.moved c.in_ok-advance-2.field-0 i.so_far t.tick t.left t.enough.1 rest (c.is_moved-in-loop-link.ensures.still w.if-is_moved-2.false)));
         inside = omega (arith, is, same);
-        asked = c.advance-in-loop-link.ensures.asked ∙ c.loop-link.invariant.asked;
-        accepted = c.advance-in-loop-link.ensures.accepted ∙ c.loop-link.invariant.accepted;
-        back = c.advance-in-loop-link.ensures.back ∙ c.loop-link.invariant.back;
-        done = c.advance-in-loop-link.ensures.done ∙ c.loop-link.invariant.done;
-        faults = c.advance-in-loop-link.ensures.faults ∙ c.loop-link.invariant.faults;
-        always_ready = c.advance-in-loop-link.ensures.always_ready ∙ c.loop-link.invariant.always_ready;
+        says = says_still c.loop-link.invariant.says c.advance-in-loop-link.ensures.asked c.advance-in-loop-link.ensures.accepted c.advance-in-loop-link.ensures.back c.advance-in-loop-link.ensures.done c.advance-in-loop-link.ensures.faults c.advance-in-loop-link.ensures.always_ready;
       }
     ]
 

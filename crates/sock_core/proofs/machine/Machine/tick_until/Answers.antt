@@ -1,16 +1,12 @@
 use Rattle.std.proofs.Common.{◌∙◌, refl}
+use Rattle.sock_core.proofs.Linkers.{says_same, says_still}
 use Rattle.sock_core.proofs.Endings.{both_join, passed_none, passed_more, passed_last}
 use Rattle.sock_core.proofs.machine.Machine.tick_until.Goals as goal
 
 pub loop-init : goal.loop-init
 loop-init g c = record {
   so_far = passed_none c.args.self.now c.args.seat c.args.kind c.requires.rest c.in_ok-end.ensures.left;
-  asked = refl;
-  accepted = refl;
-  back = refl;
-  done = refl;
-  faults = refl;
-  always_ready = refl;
+  says = says_same;
 }
 
 pub tick-requires-clause-rest : goal.tick-requires-clause-rest
@@ -28,10 +24,5 @@ returns-in_err-tick-clause-same g c = let i = c.loop.invariant.so_far in both_jo
 pub loop-preserved : goal.loop-preserved
 loop-preserved g c = record {
   so_far = passed_more c.args.self.now c.loop.self c.tick.new.self c.args.seat c.args.kind c.loop.counter c.loop.invariant.so_far c.in_ok-tick.field-0 (c.is_last.ensures.other c.if-is_last.false) c.in_ok-tick.ensures.tick c.in_ok-tick.ensures.left c.in_ok-tick.ensures.rest;
-  asked = c.tick.ensures.asked ∙ c.loop.invariant.asked;
-  accepted = c.tick.ensures.accepted ∙ c.loop.invariant.accepted;
-  back = c.tick.ensures.back ∙ c.loop.invariant.back;
-  done = c.tick.ensures.done ∙ c.loop.invariant.done;
-  faults = c.tick.ensures.faults ∙ c.loop.invariant.faults;
-  always_ready = c.tick.ensures.always_ready ∙ c.loop.invariant.always_ready;
+  says = says_still c.loop.invariant.says c.tick.ensures.asked c.tick.ensures.accepted c.tick.ensures.back c.tick.ensures.done c.tick.ensures.faults c.tick.ensures.always_ready;
 }

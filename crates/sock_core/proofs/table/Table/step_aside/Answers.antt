@@ -46,18 +46,7 @@ on_word : (s : code.Aside) → ((i : ℕ) → s ≡ steps.PutCall i → ⊥) →
 on_word (steps.PutCall i) put take bytes = put i refl
 on_word (steps.TakeCall i) put take bytes = take i refl
 on_word (steps.TakeBytes k n) put take bytes = bytes k n refl
-on_word (steps.ClaimId i) put take bytes = tt
-on_word (steps.MakeId i range) put take bytes = tt
-on_word (steps.StoreCall o id) put take bytes = tt
-on_word (steps.LoadCall o) put take bytes = tt
-on_word (steps.StoreAt o w) put take bytes = tt
-on_word (steps.LoadAt o) put take bytes = tt
-on_word (steps.LoadIdWord i) put take bytes = tt
-on_word (steps.LockId i from) put take bytes = tt
-on_word (steps.PostId i from e) put take bytes = tt
-on_word (steps.UnlockId i from advance) put take bytes = tt
-on_word (steps.EndId i) put take bytes = tt
-on_word (steps.FreeId i) put take bytes = tt
+on_word _ put take bytes = tt
 
 -- no client takes bytes of a link
 pub make_aside-requires-clause-kind : goal.make_aside-requires-clause-kind

@@ -1,0 +1,24 @@
+-- What a meta says whose names and text are seen where they lie.
+use Rattle.std.specs.Prelude.{option_map}
+use Rattle.rpc_meta.specs.brpc_model.specs.Meta as meta
+use Rattle.prpc_frame.specs.declared.view.MetaView.{MetaView}
+use Rattle.prpc_frame.specs.declared.view.RequestView.{RequestView}
+use Rattle.prpc_frame.specs.declared.view.ResponseView.{ResponseView}
+
+-- a request
+abbrev pub request_viewed : RequestView → meta.RequestMeta
+request_viewed r = record { service = r.service.now; method = r.method.now; log_id = r.log_id }
+
+-- a response
+abbrev pub response_viewed : ResponseView → meta.ResponseMeta
+response_viewed r = record { code = r.code; text = r.text.now }
+
+-- a meta
+abbrev pub viewed : MetaView → meta.Meta
+viewed m = record {
+  request = option_map request_viewed m.request;
+  response = option_map response_viewed m.response;
+  compress_type = m.compress_type;
+  correlation_id = m.correlation_id;
+  attachment_size = m.attachment_size;
+}
