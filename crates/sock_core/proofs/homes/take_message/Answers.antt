@@ -1,5 +1,5 @@
-use Rattle.std.proofs.Common.{◌≡◌, refl, sym, ◌∙◌, Some, None, ap, arith}
-use Rattle.std.proofs.lemmas.List.{length-map}
+use Rattle.std.proofs.Common.{◌≡◌, refl, sym, ◌∙◌, Some, None, slice_set, ap, arith}
+use Rattle.std.proofs.lemmas.List.{length-map, map-set}
 use mathlib.Core.Option.{some}
 use Rattle.sock_core.specs.Letters.{lying_in, letters_in}
 use Rattle.sock_core.proofs.Asking.{there_in, inside_list}
@@ -21,3 +21,9 @@ returns-in-None-clause-taken c =
   where
     none_some : {A : Type 0} {a : A} → None ≡ Some a → ⊥
     none_some e = cc
+
+pub returns-in-Some-clause-letters : goal.returns-in-Some-clause-letters
+returns-in-Some-clause-letters c = map-set lying_in c.args.letters.now c.from.result c.take.new.self ∙ (λ i. slice_set (letters_in c.args.letters.now) (c.from.ensures i) (lying_in (c.take.ensures.after i)))
+
+pub returns-in-None-clause-letters : goal.returns-in-None-clause-letters
+returns-in-None-clause-letters c = map-set lying_in c.args.letters.now c.from.result c.take.new.self ∙ (λ i. slice_set (letters_in c.args.letters.now) (c.from.ensures i) (lying_in (c.take.ensures.after i)))
