@@ -1,21 +1,20 @@
 -- What an outline keeps of a script: its schedule, its links, and all that a report has of it.
-use Rattle.std.proofs.Common.{◌≡◌, ℕ, zero, suc, ◌+◌, List, [], ◌∷◌, ◌++◌, map, length, replicate, flat_map, take, decimal, codes, slice_get, unwrap_or, option_map, refl, ap, ap₂, sym, ◌∙◌, subst}
-use Rattle.std.specs.Prelude.{Option, Some, None, zip, filter}
+use Rattle.std.proofs.Common.{◌≡◌, ℕ, zero, suc, ◌+◌, List, [], ◌∷◌, ◌++◌, map, length, flat_map, take, decimal, codes, slice_get, unwrap_or, option_map, refl, ap, ap₂, sym, ◌∙◌}
+use Rattle.std.specs.Prelude.{Option, zip, filter}
 use Rattle.std.specs.List.{cons_option}
 use Rattle.std.proofs.lemmas.List.{length-replicate}
 use Rattle.sock_words.specs.Printed.{word, hex_text}
 use Rattle.sock_words.specs.declared.outcome.Outcome.{Outcome}
 use Rattle.sock_words.specs.declared.outcome.Outcome.TheVariants.{Placed}
 use Rattle.sock_words.specs.declared.place_word.PlaceWord.{PlaceWord}
-use Rattle.brpc_model.specs.Items.{Item, Slots, Requests, First, Open, Client, Send, Call, Expire, Join, Fail, Hold, Drop, Sched, Tick, To, is_operation, is_call, opened_name}
+use Rattle.brpc_model.specs.Items.{Item, Slots, Requests, First, Client, Send, Sched, Tick, To, is_operation, opened_name}
 use Rattle.brpc_model.specs.Operations.{Operation, Label, Turn, turn_of, schedule, operations, operations_from, link_names}
 use Rattle.brpc_model.specs.PlaceWords.{IsReportText}
 use Rattle.brpc_model.specs.Report.{LinkLine, Report, outcome_lines, label_text, link_lines, report_text}
 use Rattle.script_report.specs.declared.operations.OperationPlace.{OperationPlace}
 use Rattle.script_report.specs.declared.sums.Sums.{Sums}
-use Rattle.script_report.specs.declared.summary.Load.{Load}
 use Rattle.script_report.specs.Lines.{place_of, outcome_text_lines}
-use Rattle.script_report.specs.Sums.{one_of, together, told_of, sums_of, summary_text, is_send, is_placed_send, is_answered_call, is_other, answered_bytes}
+use Rattle.script_report.specs.Sums.{one_of, together, told_of, sums_of, summary_text}
 use Rattle.script_report.proofs.Texts.{outcomes_are}
 use Rattle.script_report.proofs.Summed.{items_are, sums_cons}
 use Rattle.script_run.specs.declared.report.Print.{Print}

@@ -1,4 +1,4 @@
-use Rattle.std.proofs.Common.{◌<◌, ◌+◌, ap, sym, subst, refl, ◌∙◌, arith}
+use Rattle.std.proofs.Common.{◌<◌, ◌+◌, ap, sym, subst, ◌∙◌, arith}
 use Rattle.brpc_model.specs.Operations.{clients}
 use Rattle.report_fits.proofs.Sizes.{keeps_limits}
 use Rattle.script_print.specs.Seats.{SeatDraws}

@@ -1,4 +1,4 @@
-use Rattle.std.proofs.Common.{refl, ◌∙◌, map, take}
+use Rattle.std.proofs.Common.{refl, map, take}
 use Rattle.brpc_model.specs.Operations.{schedule}
 use Rattle.script_run.specs.Outlines.{meant}
 use Rattle.seat_programs.specs.Runs.{Scheduled}
