@@ -7,7 +7,7 @@ use Rattle.sock_io.specs.declared.link.Mode.{Mode}
 use Rattle.sock_io.specs.declared.link.OpenFault.{OpenFault}
 use Rattle.sock_io.specs.declared.link.OpenFault.TheVariants as opening
 use Rattle.script_links.specs.Given.{AreNumbered, AreUntouched, IsBeginning, specs_of}
-use Rattle.script_beside.specs.Served.{IsShort, IsServedText, IsCompleteText}
+use Rattle.script_threads.specs.Served.{IsShort, IsServedText, IsCompleteText}
 use Rattle.brpc_eng.specs.Answers as answer
 
 -- what a run leaves where a link couldn't be opened

@@ -36,7 +36,7 @@ use Rattle.serve_port.specs.Serving.{ServedConnection, IsServed, any_failing, an
 use Rattle.script_links.specs.Given.{AreNumbered, AreUntouched, IsBeginning, specs_of}
 use Rattle.script_run.specs.Causes.{CameLate, late_in}
 use Rattle.script_run.specs.Played.{IsRunText}
-use Rattle.script_beside.specs.Served.{IsCompleteText}
+use Rattle.script_threads.specs.Served.{IsCompleteText}
 use Rattle.brpc_eng.specs.Streams.{script_limit, IsAtEnd}
 
 -- ## What a call finds outside, and what it leaves there

@@ -2,7 +2,7 @@ ghost use Rattle.std.specs.Prelude.{◌≡◌, ◌≢◌, true, []};
 ghost use Rattle.std.specs.List.{list_all};
 ghost use Rattle.script_links.specs.Given.{has_piece};
 ghost use Rattle.script_links.specs.Offered.{TellOffers};
-ghost use Rattle.script_beside.specs.Served.{IsShort};
+ghost use Rattle.script_threads.specs.Served.{IsShort};
 ghost use Rattle.script_run.specs.Played.{TellClosed};
 ghost use Rattle.brpc_eng.specs.Status.{number_of};
 ghost use Rattle.brpc_eng.specs.Answers.{OpenedBy, RanOnThreads, ReplayedInput, RunTold, CountsStand, run_mode};
@@ -11,9 +11,9 @@ use crate::replay::write_fault;
 use crate::run::write_report;
 use crate::status::Status;
 use crate::streams::{InputFault, read_all};
-use script_beside::run_with_readers;
 use script_items::Script;
 use script_lang::{ScriptError, read_script};
+use script_threads::run_on_threads;
 use sock_io::{Gate, Linker, Mode, OpenFault, Sink, Source};
 use std::alloc::Global;
 use std::sync::Wait;
@@ -92,7 +92,7 @@ fn threads_and_report<R: Threads + Wait + Sync, K: Sink, L: Linker, G: Gate + Sy
     ensures linker { number_of result ≢ 8 → L.faults links.new ≡ L.faults links.old }
 {
     let mode = run_mode(port);
-    let ran = run_with_readers(rt, alloc, mode, script, links, gate);
+    let ran = run_on_threads(rt, alloc, mode, script, links, gate);
     tell_run(ran, out)
 }
 

@@ -7,8 +7,8 @@ use Rattle.id_rule.specs.Lawful.{all_words}
 use Rattle.sock_message.specs.Asked.{Asked}
 use Rattle.seat_programs.specs.declared.task.Task.{Task}
 use Rattle.seat_programs.specs.Heads.{Retry}
-use Rattle.seat_programs.specs.Asides.{Step, MakeId, ClaimId, PutCall, StoreCall, LoadCall, StoreAt, LoadAt, LoadIdWord, LockId, PostId, UnlockId, EndId, FreeId, TakeCall, TakeBytes, Found}
-use Rattle.seat_programs.specs.Programs.{Program, Say, Sent, Do, Rest, TakeMessage, TakeHome, PutHome, PutBytes, AskReady, Write, Aside, Round, Keep, Retries}
+use Rattle.seat_programs.specs.Asides.{Step, MakeId, Found}
+use Rattle.seat_programs.specs.Programs.{Program, Say, Sent, Aside, Keep, Retries}
 use Rattle.seat_programs.specs.Cores.{resolved, said, next_step}
 use Rattle.sock_words.specs.declared.outcome.Outcome.{Outcome}
 use Rattle.call_causes.specs.Scenes.{Birth, Saying, Scene, In, IsOver, IsOther, StaysWithin, Later}
@@ -32,34 +32,12 @@ use Rattle.call_causes.proofs.Chains.{sayings_of, AreFewTries, KeepsFew, IsKept,
 pub sayings_keep : (x : Program) (ss : List Saying) (s : Saying) → In s ss → In s (sayings_of x ss)
 sayings_keep (Say o outcome next) ss s there = sayings_keep next ((record { number = o; outcome = outcome }) ∷ ss) s (inr there)
 sayings_keep (Sent o next) ss s there = sayings_keep next ss s there
-sayings_keep (Do call next) ss s there = there
-sayings_keep Rest ss s there = there
-sayings_keep (TakeMessage r next) ss s there = there
-sayings_keep (TakeHome k next) ss s there = there
-sayings_keep (PutHome k n after) ss s there = there
-sayings_keep (PutBytes k asked bytes next) ss s there = there
-sayings_keep (AskReady k next) ss s there = there
-sayings_keep (Write v after) ss s there = there
-sayings_keep (Aside step next) ss s there = there
-sayings_keep (Round head next) ss s there = there
-sayings_keep (Keep r next) ss s there = there
-sayings_keep (Retries n after) ss s there = there
+sayings_keep _ ss s there = there
 
 pub overs_keep : (x : Program) (ss : List Saying) (a b : Saying) → IsOver a b ss → IsOver a b (sayings_of x ss)
 overs_keep (Say o outcome next) ss a b there = overs_keep next ((record { number = o; outcome = outcome }) ∷ ss) a b (inr there)
 overs_keep (Sent o next) ss a b there = overs_keep next ss a b there
-overs_keep (Do call next) ss a b there = there
-overs_keep Rest ss a b there = there
-overs_keep (TakeMessage r next) ss a b there = there
-overs_keep (TakeHome k next) ss a b there = there
-overs_keep (PutHome k n after) ss a b there = there
-overs_keep (PutBytes k asked bytes next) ss a b there = there
-overs_keep (AskReady k next) ss a b there = there
-overs_keep (Write v after) ss a b there = there
-overs_keep (Aside step next) ss a b there = there
-overs_keep (Round head next) ss a b there = there
-overs_keep (Keep r next) ss a b there = there
-overs_keep (Retries n after) ss a b there = there
+overs_keep _ ss a b there = there
 
 -- what is said next is said directly behind this
 next_over : (w : Scene) (o : ℕ) (outcome : Outcome) (x : Program) (ss : List Saying) → ((a b : Saying) → IsOver a b (sayings_of x ((record { number = o; outcome = outcome }) ∷ ss)) → IsOver a b w.sayings) → IsNextSaid w o outcome x
@@ -76,16 +54,7 @@ said_all w (Sent o next) ws ss all overs = said_all w next ws ss all overs
 said_all w (Keep r next) ws ss all overs = said_all w next (ws ++ r ∷ []) ss all overs
 said_all w (Retries n after) [] ss all overs = said_all w after [] ss all overs
 said_all w (Retries n after) (r ∷ ws) ss all overs = tt
-said_all w (Do call next) ws ss all overs = tt
-said_all w Rest ws ss all overs = tt
-said_all w (TakeMessage r next) ws ss all overs = tt
-said_all w (TakeHome k next) ws ss all overs = tt
-said_all w (PutHome k n after) ws ss all overs = tt
-said_all w (PutBytes k asked bytes next) ws ss all overs = tt
-said_all w (AskReady k next) ws ss all overs = tt
-said_all w (Write v after) ws ss all overs = tt
-said_all w (Aside step next) ws ss all overs = tt
-said_all w (Round head next) ws ss all overs = tt
+said_all w _ ws ss all overs = tt
 
 module _ (p : Plan) (q : IdPlan) (clients : List (List Task)) (gives : ℕ → List ℕ) (numbered : AreNumbered p q clients gives) (w w' : Scene) (ms : List Mark) (j : ℕ) (m : Mark) (at : At ms j m) (plan : w.core.calls.plan ≡ q) (sized : length w.core.calls.words ≡ all_words q) (low : (k : ℕ) → k < q.slots → (word_at w k).first ≤ 67108856)
     (slots : SlotsLaw q w ms) (births : BirthsLaw p q clients gives w) (tasks : TasksLaw p q clients gives w w.core.outcomes w.sayings ms) (claims : ClaimsLaw p q clients gives w ms) (reads : ReadsLaw p q clients gives w ms)
@@ -99,20 +68,7 @@ module _ (p : Plan) (q : IdPlan) (clients : List (List Task)) (gives : ℕ → L
       let z : Claims i (Some asked) ≡ Claims k (Some may.0) = sym slot ∙ may.3 in
       let one : asked ≡ may.0 = cc in
       other_call p q clients gives numbered w births w.core.outcomes w.sayings ms tasks j m at may.1 may.2 may.5 may.9 may.8 c there (may.7 ∙ (ap (λ (a : Asked). a.operation) (sym one) ∙ e))
-  fresh (ClaimId k) n may c i asked is there slot = absurd is
-  fresh (PutCall k a) n may c i asked is there slot = absurd is
-  fresh (StoreCall o id) n may c i asked is there slot = absurd is
-  fresh (LoadCall o) n may c i asked is there slot = absurd is
-  fresh (StoreAt o x) n may c i asked is there slot = absurd is
-  fresh (LoadAt o) n may c i asked is there slot = absurd is
-  fresh (LoadIdWord k) n may c i asked is there slot = absurd is
-  fresh (LockId k from) n may c i asked is there slot = absurd is
-  fresh (PostId k from e) n may c i asked is there slot = absurd is
-  fresh (UnlockId k from advance) n may c i asked is there slot = absurd is
-  fresh (EndId k) n may c i asked is there slot = absurd is
-  fresh (FreeId k) n may c i asked is there slot = absurd is
-  fresh (TakeCall k) n may c i asked is there slot = absurd is
-  fresh (TakeBytes k r) n may c i asked is there slot = absurd is
+  fresh _ n may c i asked is there slot = absurd is
 
   module _ (may : MayAside p q clients gives w m step) where
     pub is_later : Later p q clients gives w w'

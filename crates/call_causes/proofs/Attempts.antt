@@ -1,5 +1,5 @@
 -- The attempt of each id that was made is how often it was advanced, behind a step aside of any seat.
-use Rattle.std.proofs.Common.{◌≡◌, ◌≢◌, ℕ, ◌+◌, ◌*◌, ◌<◌, ◌≤◌, ◌⊎◌, inl, inr, ⊎_elim, Bool, true, false, cond, eqb, eqb-true, eq-eqb, ne_eqb, List, [], ◌∷◌, ◌++◌, length, set, Option, None, Some, refl, sym, ap, ◌∙◌, subst, arith}
+use Rattle.std.proofs.Common.{◌≡◌, ◌≢◌, ℕ, ◌+◌, ◌*◌, ◌<◌, ◌≤◌, ◌⊎◌, inl, inr, ⊎_elim, Bool, true, false, cond, eqb, eqb-true, eq-eqb, ne_eqb, List, [], ◌∷◌, ◌++◌, length, set, Some, refl, sym, ap, ◌∙◌, subst, arith}
 use mathlib.Core.Option as core
 use mathlib.Core.Logic.{dite}
 use native.Mathlib.Decide.{ℕ_discrete}
@@ -9,7 +9,7 @@ use Rattle.corr_core.specs.declared.marks.Plan.{Plan as IdPlan}
 use Rattle.id_rule.specs.Lawful.{id_index, all_words}
 use Rattle.sock_message.specs.Asked.{Asked}
 use Rattle.seat_programs.specs.declared.task.Task.{Task}
-use Rattle.seat_programs.specs.Asides.{Step, ClaimId, PutCall, MakeId, StoreCall, LoadCall, StoreAt, LoadAt, LoadIdWord, LockId, PostId, UnlockId, EndId, FreeId, TakeCall, TakeBytes, Found, call_id, id_slot, id_first}
+use Rattle.seat_programs.specs.Asides.{Step, ClaimId, PutCall, MakeId, StoreAt, LockId, PostId, UnlockId, EndId, FreeId, TakeCall, Found, call_id, id_slot, id_first}
 use Rattle.seat_programs.specs.Beside.{call_at}
 use Rattle.seat_programs.specs.Posts.{packed, advance_of}
 use Rattle.id_runs.proofs.Keeps.{parts_packed}
@@ -104,12 +104,7 @@ module _ (p : Plan) (q : IdPlan) (clients : List (List Task)) (gives : ℕ → L
       let zero_ : (word_at w' i).state ≡ 0 = ap (λ (y : Parts). y.state) x in let y : (word_at w' k).state ≡ 0 = subst (λ n. (word_at w' n).state ≡ 0) here zero_ in omega (arith, y, live))
   touched (FreeId i) found b knows k here live none_ still = subst Same here (ap (λ (x : Parts). x.attempt) (word_stays p q clients gives w w' m plan i knows sized 0 b.words))
   touched (TakeCall i) found b knows k here live none_ still = no_words k b.words
-  touched (StoreCall o id) found b knows k t live none_ still = absurd t
-  touched (LoadCall o) found b knows k t live none_ still = absurd t
-  touched (StoreAt o x) found b knows k t live none_ still = absurd t
-  touched (LoadAt o) found b knows k t live none_ still = absurd t
-  touched (LoadIdWord i) found b knows k t live none_ still = absurd t
-  touched (TakeBytes l room) found b knows k t live none_ still = absurd t
+  touched _ found b knows k t live none_ still = absurd t
 
   attempt_same : (step : Step) (found : Found step) → Behind step found → KnowsStep p q clients gives w step found → (k : ℕ) → k < q.slots → 0 < (word_at w' k).state → (IsMake step k → ⊥) → (IsAdvance step found k → ⊥) → Same k
   attempt_same step found b knows k inside live none_ still = ⊎_elim (λ t. touched step found b knows k t live none_ still) (λ n. ap (λ (x : Parts). x.attempt) (beside p q clients gives w w' m plan step found b k inside n).word) (tests p q clients gives w w' m plan sized fits step k)
@@ -132,20 +127,8 @@ module _ (p : Plan) (q : IdPlan) (clients : List (List Task)) (gives : ℕ → L
           (λ k x. x.0) (λ k x. x) (refl, same)
       by_found false hit words more = none_more more (λ k x. let z : false ≡ true = sym hit ∙ eq-eqb found from x.1 in cc)
   advance_of_step (UnlockId i from false) found b knows = none_more b.advances (λ k x. x)
-  advance_of_step (ClaimId i) found b knows = none_more b.advances (λ k x. x)
-  advance_of_step (PutCall i asked) found b knows = none_more b.advances (λ k x. x)
-  advance_of_step (MakeId i range) found b knows = none_more b.advances (λ k x. x)
-  advance_of_step (StoreCall o id) found b knows = none_more b.advances (λ k x. x)
-  advance_of_step (LoadCall o) found b knows = none_more b.advances (λ k x. x)
   advance_of_step (StoreAt o x) found b knows = none_more b.advances (λ k x. x)
-  advance_of_step (LoadAt o) found b knows = none_more b.advances (λ k x. x)
-  advance_of_step (LoadIdWord i) found b knows = none_more b.advances (λ k x. x)
-  advance_of_step (LockId i from) found b knows = none_more b.advances (λ k x. x)
-  advance_of_step (PostId i from e) found b knows = none_more b.advances (λ k x. x)
-  advance_of_step (EndId i) found b knows = none_more b.advances (λ k x. x)
-  advance_of_step (FreeId i) found b knows = none_more b.advances (λ k x. x)
-  advance_of_step (TakeCall i) found b knows = none_more b.advances (λ k x. x)
-  advance_of_step (TakeBytes l room) found b knows = none_more b.advances (λ k x. x)
+  advance_of_step _ found b knows = none_more b.advances (λ k x. x)
 
   -- an exchange that advances an attempt leaves the range another, and has its error
   advance_has : (step : Step) (found : Found step) → KnowsStep p q clients gives w step found → MayAside p q clients gives w m step → (k : ℕ) → IsAdvance step found k → ((word_at w k).attempt + 3 ≤ (word_at w k).range) × MayAdvance p q clients gives w (call_id k (word_at w k).first) (word_at w k).attempt
@@ -154,20 +137,7 @@ module _ (p : Plan) (q : IdPlan) (clients : List (List Task)) (gives : ℕ → L
     (let held : SlotFits q w (Locked i may.0 may.1) = subst (SlotFits q w) may.2 fits in subst (λ f. MayAdvance p q clients gives w (call_id i f) (word_at w i).attempt) (sym held.3) (subst (MayAdvance p q clients gives w (call_id i may.0)) (sym held.5) (may.3 refl))),
   )
   advance_has (UnlockId i from false) found knows may k at = absurd at
-  advance_has (ClaimId i) found knows may k at = absurd at
-  advance_has (PutCall i asked) found knows may k at = absurd at
-  advance_has (MakeId i range) found knows may k at = absurd at
-  advance_has (StoreCall o id) found knows may k at = absurd at
-  advance_has (LoadCall o) found knows may k at = absurd at
-  advance_has (StoreAt o x) found knows may k at = absurd at
-  advance_has (LoadAt o) found knows may k at = absurd at
-  advance_has (LoadIdWord i) found knows may k at = absurd at
-  advance_has (LockId i from) found knows may k at = absurd at
-  advance_has (PostId i from e) found knows may k at = absurd at
-  advance_has (EndId i) found knows may k at = absurd at
-  advance_has (FreeId i) found knows may k at = absurd at
-  advance_has (TakeCall i) found knows may k at = absurd at
-  advance_has (TakeBytes l room) found knows may k at = absurd at
+  advance_has _ found knows may k at = absurd at
 
   -- the call that lies at a home whose id lives
   at_home : (i : ℕ) (asked : Asked) → i < q.slots → 0 < (word_at w i).state → LiesAt w i asked → In (record { id = call_id i (word_at w i).first; asked = asked }) w.births
@@ -338,17 +308,4 @@ module _ (p : Plan) (q : IdPlan) (clients : List (List Task)) (gives : ℕ → L
               where
                 one_make : (s : Step) (i k : ℕ) → IsMake s i → IsMake s k → i ≡ k
                 one_make (MakeId j range) i k a b = sym a ∙ b
-                one_make (ClaimId j) i k a b = absurd a
-                one_make (PutCall j asked) i k a b = absurd a
-                one_make (StoreCall o id) i k a b = absurd a
-                one_make (LoadCall o) i k a b = absurd a
-                one_make (StoreAt o x) i k a b = absurd a
-                one_make (LoadAt o) i k a b = absurd a
-                one_make (LoadIdWord j) i k a b = absurd a
-                one_make (LockId j from) i k a b = absurd a
-                one_make (PostId j from e) i k a b = absurd a
-                one_make (UnlockId j from advance) i k a b = absurd a
-                one_make (EndId j) i k a b = absurd a
-                one_make (FreeId j) i k a b = absurd a
-                one_make (TakeCall j) i k a b = absurd a
-                one_make (TakeBytes l room) i k a b = absurd a
+                one_make _ i k a b = absurd a

@@ -7,7 +7,7 @@ use Rattle.corr_core.specs.Word.{Parts, parts, made_word, posted_word, unlocked_
 use Rattle.corr_core.specs.declared.marks.Plan.{Plan as IdPlan}
 use Rattle.id_rule.specs.Lawful.{id_index, all_words}
 use Rattle.seat_programs.specs.declared.task.Task.{Task}
-use Rattle.seat_programs.specs.Asides.{Step, ClaimId, PutCall, MakeId, StoreCall, LoadCall, StoreAt, LoadAt, LoadIdWord, LockId, PostId, UnlockId, EndId, FreeId, TakeCall, TakeBytes, Found, id_slot, id_first}
+use Rattle.seat_programs.specs.Asides.{Step, ClaimId, PutCall, MakeId, LockId, PostId, UnlockId, EndId, FreeId, TakeCall, Found, id_slot, id_first}
 use Rattle.seat_programs.specs.Posts.{packed, advance_of}
 use Rattle.id_runs.proofs.Keeps.{parts_packed}
 use Rattle.call_causes.specs.Scenes.{Birth, Scene}
@@ -95,12 +95,7 @@ module _ (p : Plan) (q : IdPlan) (clients : List (List Task)) (gives : ℕ → L
       )
   touched (FreeId i) found b knows may k low t = subst (TurnAt (FreeId i)) t (same_turn (IsMake (FreeId i) i) (IsEnd (FreeId i) i) (word_at w i) (word_at w' i) (word_stays p q clients gives w w' m plan i knows sized 0 b.words))
   touched (TakeCall i) found b knows may k low t = words_turn (TakeCall i) k b.words
-  touched (StoreCall o id) found b knows may k low t = absurd t
-  touched (LoadCall o) found b knows may k low t = absurd t
-  touched (StoreAt o x) found b knows may k low t = absurd t
-  touched (LoadAt o) found b knows may k low t = absurd t
-  touched (LoadIdWord i) found b knows may k low t = absurd t
-  touched (TakeBytes l room) found b knows may k low t = absurd t
+  touched _ found b knows may k low t = absurd t
 
   -- whether a step is made at the slot
   pub tests : (step : Step) (k : ℕ) → Touches step k ⊎ (Touches step k → ⊥)
@@ -113,12 +108,7 @@ module _ (p : Plan) (q : IdPlan) (clients : List (List Task)) (gives : ℕ → L
   tests (EndId i) k = dite (ℕ_discrete i k) (λ e. inl e) (λ n. inr n)
   tests (FreeId i) k = dite (ℕ_discrete i k) (λ e. inl e) (λ n. inr n)
   tests (TakeCall i) k = dite (ℕ_discrete i k) (λ e. inl e) (λ n. inr n)
-  tests (StoreCall o id) k = inr (λ x. x)
-  tests (LoadCall o) k = inr (λ x. x)
-  tests (StoreAt o v) k = inr (λ x. x)
-  tests (LoadAt o) k = inr (λ x. x)
-  tests (LoadIdWord i) k = inr (λ x. x)
-  tests (TakeBytes l room) k = inr (λ x. x)
+  tests _ k = inr (λ x. x)
 
   pub turn : (step : Step) (found : Found step) → Behind step found → KnowsStep p q clients gives w step found → MayAside p q clients gives w m step → (k : ℕ) → k < q.slots → TurnAt step k
   turn step found b knows may k low = ⊎_elim (λ t. touched step found b knows may k low t) (λ n. same_turn (IsMake step k) (IsEnd step k) (word_at w k) (word_at w' k) (beside p q clients gives w w' m plan step found b k low n).word) (tests step k)

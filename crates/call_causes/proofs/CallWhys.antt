@@ -28,14 +28,11 @@ module _ (p : Plan) (q : IdPlan) (clients : List (List Task)) (gives : ℕ → L
   names_found_none c t u n is us sought has low seeks = let d = is_done p q clients gives ascending w ms e c t is in by_told d d.told
     where
       by_own : (d : IsDone p q clients gives ascending w ms e c t) (op : Op) → SeeksName n op → WhyOwn p q clients gives w c d.before op outcomes.Unopened → NoneFound p q clients gives w d.before n
-      by_own d (ops.Fail m code) s why = subst (NoneFound p q clients gives w d.before) s why
-      by_own d (ops.Hold m) s why = subst (NoneFound p q clients gives w d.before) s why
-      by_own d (ops.Send m bytes) s why = subst (NoneFound p q clients gives w d.before) s why
-      by_own d (ops.Call asked) s why = subst (NoneFound p q clients gives w d.before) s why
       by_own d (ops.Open m k) s why = absurd s
       by_own d (ops.Expire o) s why = absurd s
       by_own d (ops.Join o) s why = absurd s
       by_own d (ops.Drop m) s why = absurd s
+      by_own d _ s why = subst (NoneFound p q clients gives w d.before) s why
 
       by_told : (d : IsDone p q clients gives ascending w ms e c t) → ToldOf p q clients gives w c d.before t → Became clients w.core.outcomes u.number outcomes.Unopened
       by_told d (was_said y s why just) = e.tasks.said u.number outcomes.Unopened (((by_own d t.op sought (subst (WhyOwn p q clients gives w c d.before t.op) (one_outcome p q clients gives w ms e t.number y outcomes.Unopened (e.tasks.said t.number y s) has) why)).own u (d.all u us low)).1 seeks)
@@ -57,14 +54,11 @@ module _ (p : Plan) (q : IdPlan) (clients : List (List Task)) (gives : ℕ → L
   opens_none n t h k slot version op became = let x = h k op in x.2 (subst IsOpened (one_outcome p q clients gives w ms e t.number (outcomes.Opened slot version k) x.0 became (e.tasks.said t.number x.0 x.1)) tt)
 
   seeks : (n : ℕ) (op : Op) → Seeks p clients w.core.outcomes fixed (given w.core) orders n op → SeeksName n op
-  seeks n (ops.Fail m code) s = s
-  seeks n (ops.Hold m) s = s
-  seeks n (ops.Send m bytes) s = s
-  seeks n (ops.Call asked) s = s
   seeks n (ops.Open m k) s = absurd s
   seeks n (ops.Expire t) s = absurd s
   seeks n (ops.Join t) s = absurd s
   seeks n (ops.Drop m) s = absurd s
+  seeks n _ s = s
 
   found_none : (c : ℕ) (t : Task) (d : IsDone p q clients gives ascending w ms e c t) (n : ℕ) → NoneFound p q clients gives w d.before n → FoundNone p clients w.core.outcomes fixed (given w.core) orders c t.number n
   found_none c t d n f = record {
@@ -143,8 +137,4 @@ module _ (p : Plan) (q : IdPlan) (clients : List (List Task)) (gives : ℕ → L
       by_op (ops.Call asked) e on = why_call c t asked x is e has
       by_op (ops.Expire o) op on = why_expire p q clients gives ascending w ms e fixed orders last c t is o x op has
       by_op (ops.Join o) op on = why_join p q clients gives ascending w ms e fixed orders last c t is o x op has
-      by_op (ops.Open n k) op on = absurd on
-      by_op (ops.Send n bytes) op on = absurd on
-      by_op (ops.Hold n) op on = absurd on
-      by_op (ops.Drop n) op on = absurd on
-      by_op (ops.Fail n code) op on = absurd on
+      by_op _ op on = absurd on

@@ -12,7 +12,7 @@ use Rattle.seat_programs.specs.declared.task.Op.{Op}
 use Rattle.seat_programs.specs.declared.task.Op.TheVariants as ops
 use Rattle.seat_programs.specs.declared.task.Task.{Task}
 use Rattle.seat_programs.specs.Asides.{PutCall, MakeId, StoreCall, call_id, id_slot, id_first}
-use Rattle.seat_programs.specs.Heads.{Retry, Unlocks, Joins, Posting, WasGone, WasStale, WasCrowded, WasQueued, HasLocked, Unlocking, IsOpen, HasNext, Deciding, HasEnded, GoesOn, Locking, NotThere, Has}
+use Rattle.seat_programs.specs.Heads.{Retry, Unlocks, Joins, Posting, WasGone, WasStale, WasCrowded, WasQueued, HasLocked, Unlocking, IsOpen, HasNext, HasEnded, GoesOn, Locking, NotThere, Has}
 use Rattle.seat_programs.specs.Programs.{Program, Say, Aside, Round}
 use Rattle.seat_programs.specs.Posts.{post, post_with, posted, decide, decided}
 use Rattle.seat_programs.specs.Attempts.{attempt, begin_call, claim_id, call, tried_again, retry_locked, retry, expire_outcome, expire, join}
@@ -53,10 +53,7 @@ module _ (p : Plan) (q : IdPlan) (clients : List (List Task)) (gives : ℕ → L
   seeks_unopened w c before n (ops.Send a bytes) _ none_ why s = absurd (none_ (subst (Named p q clients gives w) s why))
   seeks_unopened w c before n (ops.Call asked) outcomes.Unopened none_ why s = refl
   seeks_unopened w c before n (ops.Call asked) _ none_ why s = absurd why
-  seeks_unopened w c before n (ops.Open a k) x none_ why s = absurd s
-  seeks_unopened w c before n (ops.Expire t) x none_ why s = absurd s
-  seeks_unopened w c before n (ops.Join t) x none_ why s = absurd s
-  seeks_unopened w c before n (ops.Drop a) x none_ why s = absurd s
+  seeks_unopened w c before n _ x none_ why s = absurd s
 
   own_none : (w : Scene) (c : ℕ) (before : List Task) (t : Task) (n : ℕ) → (Named p q clients gives w n → ⊥) → ToldOf p q clients gives w c before t → HasNoneOf p q clients gives w n t × (SeeksName n t.op → Said w t.number outcomes.Unopened)
   own_none w c before t n none_ (was_said x s why just) = (

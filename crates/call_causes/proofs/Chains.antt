@@ -71,16 +71,7 @@ said_first w ws (Sent o next) s = said_first w ws next s
 said_first w ws (Keep r next) s = said_first w (ws ++ r ∷ []) next s
 said_first w [] (Retries requests after) s = tt
 said_first w (r ∷ ws) (Retries requests after) s = tt
-said_first w ws (Do call next) s = tt
-said_first w ws Rest s = tt
-said_first w ws (TakeMessage r next) s = tt
-said_first w ws (TakeHome k next) s = tt
-said_first w ws (PutHome k n after) s = tt
-said_first w ws (PutBytes k asked bytes next) s = tt
-said_first w ws (AskReady k next) s = tt
-said_first w ws (Write v after) s = tt
-said_first w ws (Aside step next) s = tt
-said_first w ws (Round head next) s = tt
+said_first w ws _ s = tt
 
 module _ (p : Plan) (q : IdPlan) (clients : List (List Task)) (gives : ℕ → List ℕ) (numbered : AreNumbered p q clients gives) (w : Scene) (births : BirthsLaw p q clients gives w) (here : Later p q clients gives w w) (j : ℕ) where
   abbrev pub Behind : Mark → List (Option Outcome) → List Saying → List Mark → Program → Type 0

@@ -1,5 +1,5 @@
 -- Each id slot is claimed for one call, and no call claims two: so there is room for each call, also behind a step aside.
-use Rattle.std.proofs.Common.{◌≡◌, ◌≢◌, ℕ, zero, suc, ◌+◌, ◌*◌, ◌<◌, ◌≤◌, ◌⊎◌, inl, inr, ⊎_elim, Bool, true, false, cond, eqb, eqb-true, List, [], ◌∷◌, ◌++◌, length, get_or, set, Option, None, Some, refl, sym, ap, ◌∙◌, subst, arith}
+use Rattle.std.proofs.Common.{◌≡◌, ◌≢◌, ℕ, zero, suc, ◌+◌, ◌*◌, ◌<◌, ◌≤◌, ◌⊎◌, inl, inr, ⊎_elim, Bool, true, false, cond, eqb, List, [], ◌∷◌, ◌++◌, length, get_or, set, Option, None, refl, sym, ap, ◌∙◌, subst, arith}
 use mathlib.Core.Logic.{dite}
 use native.Mathlib.Decide.{ℕ_discrete}
 use Rattle.sock_words.specs.declared.plain.Plan.{Plan}
@@ -14,7 +14,7 @@ use Rattle.seat_programs.specs.Asides.{Step, ClaimId, PutCall, MakeId, StoreCall
 use Rattle.seat_programs.specs.Asides as asides
 use Rattle.seat_programs.specs.Posts.{packed, advance_of}
 use Rattle.call_causes.specs.Scenes.{Birth, Saying, Claim, Scene, In, IsClaimed, IsTaskOf, HasRoom}
-use Rattle.call_causes.specs.Says.{with_attempt, unlocked_by, shape_of, Slot, NoSlot, Claims, Locked, Holds, Leaves, Mark, with_slot, put_in, taken_out, IsVacant, MayAside}
+use Rattle.call_causes.specs.Says.{with_attempt, unlocked_by, shape_of, Slot, NoSlot, Claims, Locked, Leaves, Mark, with_slot, put_in, taken_out, IsVacant, MayAside}
 use Rattle.call_causes.specs.Stories.{At, tag_at, SlotFits, BirthsLaw, TasksLaw, ClaimsLaw, tasks_behind, ahead, unclaimed, IsBehind, KnowsStep, put_of, born_by, claimed_by, stored_by, mark_after}
 use Rattle.call_causes.proofs.Effects.{Touches, beside, tag_stays, tag_is}
 use Rattle.call_causes.proofs.Births.{tests}
@@ -65,10 +65,7 @@ module _ (p : Plan) (q : IdPlan) (clients : List (List Task)) (gives : ℕ → L
 
   pub in_unclaimed : (s : Slot) (bs : List Birth) (todo : List Task) (t : Task) → In t (unclaimed p q clients gives s bs todo) → In t todo
   in_unclaimed (Claims i c) bs todo t there = in_tasks_behind todo t there
-  in_unclaimed NoSlot bs todo t there = in_ahead bs todo t there
-  in_unclaimed (Locked i f range) bs todo t there = in_ahead bs todo t there
-  in_unclaimed (Holds i f range asked) bs todo t there = in_ahead bs todo t there
-  in_unclaimed (Leaves i) bs todo t there = in_ahead bs todo t there
+  in_unclaimed _ bs todo t there = in_ahead bs todo t there
 
 module _ (p : Plan) (q : IdPlan) (clients : List (List Task)) (gives : ℕ → List ℕ) (numbered : AreNumbered p q clients gives) (w w' : Scene) (ms : List Mark) (j : ℕ) (m : Mark) (at : At ms j m) (plan : w.core.calls.plan ≡ q) (sized : length w.core.calls.words ≡ all_words q) (fits : SlotFits q w m.slot) (births : BirthsLaw p q clients gives w)
     (os : List (Option Outcome)) (ss : List Saying) (tasks : TasksLaw p q clients gives w os ss ms) (claims : ClaimsLaw p q clients gives w ms) where
@@ -102,12 +99,7 @@ module _ (p : Plan) (q : IdPlan) (clients : List (List Task)) (gives : ℕ → L
   touched_tag (EndId i) found b knows k here some_ = inl (word_tag i k (packed (free_word ((parts found).first + (parts found).range))) here knows.0 b.words some_)
   touched_tag (FreeId i) found b knows k here some_ = absurd (some_ (subst (λ n. tag_at w' n ≡ 0) here (tag_is p q clients gives w w' m plan i knows sized 0 b.words)))
   touched_tag (TakeCall i) found b knows k here some_ = inl (words_tag k b.words some_)
-  touched_tag (StoreCall o id) found b knows k t some_ = absurd t
-  touched_tag (LoadCall o) found b knows k t some_ = absurd t
-  touched_tag (StoreAt o x) found b knows k t some_ = absurd t
-  touched_tag (LoadAt o) found b knows k t some_ = absurd t
-  touched_tag (LoadIdWord i) found b knows k t some_ = absurd t
-  touched_tag (TakeBytes l room) found b knows k t some_ = absurd t
+  touched_tag _ found b knows k t some_ = absurd t
 
   -- a slot that is taken was, or the step claims it
   tag_before : (step : Step) (found : Found step) → Behind step found → Knows step found → (k : ℕ) → k < q.slots → tag_at w' k ≢ 0 → (tag_at w k ≢ 0) ⊎ IsNewAt step found k
@@ -131,25 +123,17 @@ module _ (p : Plan) (q : IdPlan) (clients : List (List Task)) (gives : ℕ → L
 
   put_less : (s : Slot) (asked : Asked) (bs : List Birth) (todo : List Task) (u : Task) → In u (unclaimed p q clients gives (put_in asked s) bs todo) → In u (unclaimed p q clients gives s bs todo)
   put_less NoSlot asked bs todo u x = x
-  put_less (Claims i c) asked bs todo u x = x
-  put_less (Locked i f range) asked bs todo u x = x
-  put_less (Holds i f range a) asked bs todo u x = x
-  put_less (Leaves i) asked bs todo u x = x
+  put_less _ asked bs todo u x = x
 
   taken_less : (s : Slot) (asked : Asked) (bs : List Birth) (todo : List Task) (u : Task) → In u (unclaimed p q clients gives (taken_out asked s) bs todo) → In u (unclaimed p q clients gives s bs todo)
   taken_less NoSlot asked bs todo u x = x
-  taken_less (Claims i c) asked bs todo u x = x
-  taken_less (Locked i f range) asked bs todo u x = x
-  taken_less (Holds i f range a) asked bs todo u x = x
-  taken_less (Leaves i) asked bs todo u x = x
+  taken_less _ asked bs todo u x = x
 
   -- a seat that holds no id has claimed nothing
   vacant_less : (s : Slot) (bs : List Birth) (todo : List Task) (u : Task) → IsVacant s → In u (ahead p q clients gives bs todo) → In u (unclaimed p q clients gives s bs todo)
   vacant_less NoSlot bs todo u v x = x
   vacant_less (Leaves i) bs todo u v x = x
-  vacant_less (Claims i c) bs todo u v x = absurd v
-  vacant_less (Locked i f range) bs todo u v x = absurd v
-  vacant_less (Holds i f range asked) bs todo u v x = absurd v
+  vacant_less _ bs todo u v x = absurd v
 
   tested : (c : Bool) (s t : Slot) (bs : List Birth) (todo : List Task) (u : Task) → (In u (unclaimed p q clients gives t bs todo) → In u (unclaimed p q clients gives s bs todo)) → (n : Mark) → n.slot ≡ s → n.makes ≡ bs → n.todo ≡ todo
       → In u (unclaimed p q clients gives (cond c (with_slot t n) n).slot (cond c (with_slot t n) n).makes (cond c (with_slot t n) n).todo) → In u (unclaimed p q clients gives s bs todo)
@@ -215,10 +199,7 @@ module _ (p : Plan) (q : IdPlan) (clients : List (List Task)) (gives : ℕ → L
     where
       by_slot : (s : Slot) (u : Task) → In u (unclaimed p q clients gives s [] may.2) → In u (unclaimed p q clients gives s (may.0 ∷ []) (may.1 ∷ may.2))
       by_slot (Claims k c) u x = in_tasks_behind p q clients gives may.2 u x
-      by_slot NoSlot u x = x
-      by_slot (Locked k f range) u x = x
-      by_slot (Holds k f range asked) u x = x
-      by_slot (Leaves k) u x = x
+      by_slot _ u x = x
 
       stored : (u : Task) → In u (unclaimed p q clients gives m.slot [] may.2) → In u (unclaimed p q clients gives m.slot m.makes m.todo)
       stored u x = subst (λ ys. In u (unclaimed p q clients gives m.slot m.makes ys)) (sym may.4) (subst (λ bs. In u (unclaimed p q clients gives m.slot bs (may.1 ∷ may.2))) (sym may.3) (by_slot m.slot u x))
@@ -241,10 +222,7 @@ module _ (p : Plan) (q : IdPlan) (clients : List (List Task)) (gives : ℕ → L
 
       attempt_less : (n : ℕ) (s : Slot) (u : Task) → In u (unclaimed p q clients gives (with_attempt n s) m.makes m.todo) → In u (unclaimed p q clients gives s m.makes m.todo)
       attempt_less n NoSlot u x = x
-      attempt_less n (Claims k c) u x = x
-      attempt_less n (Locked k f shape) u x = x
-      attempt_less n (Holds k f shape a) u x = x
-      attempt_less n (Leaves k) u x = x
+      attempt_less n _ u x = x
 
       by_oldest : (c : Bool) (u : Task) → In u (unclaimed p q clients gives (cond c (with_slot NoSlot m) (with_slot (with_attempt (parts (unlocked_by from advance)).attempt m.slot) m)).slot (cond c (with_slot NoSlot m) (with_slot (with_attempt (parts (unlocked_by from advance)).attempt m.slot) m)).makes (cond c (with_slot NoSlot m) (with_slot (with_attempt (parts (unlocked_by from advance)).attempt m.slot) m)).todo) → In u (unclaimed p q clients gives m.slot m.makes m.todo)
       by_oldest true u x = opened u x

@@ -1,7 +1,6 @@
 -- What a step aside makes of the words and homes of the id slots: those of its own slot, and no others.
-use Rattle.std.proofs.Common.{◌≡◌, ◌≢◌, ℕ, ◌+◌, ◌*◌, ◌<◌, ◌≤◌, Bool, true, false, cond, eqb, eqb-true, List, [], ◌∷◌, length, get_or, set, get_or-set_other, get_or-set_same, Option, None, Some, refl, sym, ap, ◌∙◌, subst, arith}
+use Rattle.std.proofs.Common.{◌≡◌, ◌≢◌, ℕ, ◌+◌, ◌*◌, ◌<◌, ◌≤◌, cond, eqb, List, [], ◌∷◌, length, get_or, set, get_or-set_other, get_or-set_same, Option, None, Some, refl, sym, ap, ◌∙◌, arith}
 use mathlib.Core.Option as core
-use mathlib.Core.Option.{some-injective, some-ne-none}
 use lib.ListN.{get_elem?}
 use Rattle.atomic_table.proofs.Lists.{at_set}
 use Rattle.std.proofs.Common.{⊎_elim}
@@ -11,7 +10,7 @@ use Rattle.corr_core.specs.declared.marks.Plan.{Plan as IdPlan}
 use Rattle.id_rule.specs.Lawful.{tag_index, id_index, call_index, at_index, all_words}
 use Rattle.sock_message.specs.Asked.{Asked}
 use Rattle.seat_programs.specs.declared.task.Task.{Task}
-use Rattle.seat_programs.specs.Asides.{Step, ClaimId, PutCall, MakeId, StoreCall, LoadCall, StoreAt, LoadAt, LoadIdWord, LockId, PostId, UnlockId, EndId, FreeId, TakeCall, TakeBytes, Bytes, Found}
+use Rattle.seat_programs.specs.Asides.{Step, ClaimId, PutCall, MakeId, StoreCall, StoreAt, LockId, PostId, UnlockId, EndId, FreeId, TakeCall, TakeBytes, Bytes, Found}
 use Rattle.seat_programs.specs.Posts.{packed, advance_of}
 use Rattle.call_causes.specs.Scenes.{Scene}
 use Rattle.call_causes.specs.Says.{Mark}
@@ -79,10 +78,7 @@ module _ (p : Plan) (q : IdPlan) (clients : List (List Task)) (gives : ℕ → L
     beside (PutCall i asked) found b k low ne = by_homes i k (core.some (Some asked)) b.words b.homes ne
     beside (MakeId i range) found b k low ne = by_words (id_index i) (packed (made_word (parts found).first range)) k b.words b.homes (λ e. omega (arith, e)) (λ e. ne (omega (arith, e)))
     beside (StoreCall o id) found b k low ne = let z = stored_beside k (2 * w.core.calls.plan.slots) low refl o in by_words (call_index w.core.calls.plan o) id k b.words b.homes z.0 z.1
-    beside (LoadCall o) found b k low ne = by_none k b.words b.homes
     beside (StoreAt o x) found b k low ne = let z = stored_beside k (2 * w.core.calls.plan.slots) low refl o in by_words (at_index w.core.calls.plan o) x k b.words b.homes z.2 z.3
-    beside (LoadAt o) found b k low ne = by_none k b.words b.homes
-    beside (LoadIdWord i) found b k low ne = by_none k b.words b.homes
     beside (LockId i from) found b k low ne = by_words (id_index i) (cond (eqb found from) (packed (posted_word (parts from) 0)) found) k b.words b.homes (λ e. omega (arith, e)) (λ e. ne (omega (arith, e)))
     beside (PostId i from e) found b k low ne = by_words (id_index i) (cond (eqb found from) (packed (posted_word (parts from) e)) found) k b.words b.homes (λ e. omega (arith, e)) (λ e. ne (omega (arith, e)))
     beside (UnlockId i from advance) found b k low ne = by_words (id_index i) (cond (eqb found from) (packed (unlocked_word (parts from) (advance_of advance))) found) k b.words b.homes (λ e. omega (arith, e)) (λ e. ne (omega (arith, e)))
@@ -91,6 +87,7 @@ module _ (p : Plan) (q : IdPlan) (clients : List (List Task)) (gives : ℕ → L
     beside (TakeCall i) found b k low ne = by_homes i k (core.some None) b.words b.homes ne
     beside (TakeBytes l room) (Bytes bytes) b k low ne = by_none k b.words b.homes
     beside (TakeBytes l room) _ b k low ne = by_none k b.words b.homes
+    beside _ found b k low ne = by_none k b.words b.homes
 
     -- ## At the slot itself
 

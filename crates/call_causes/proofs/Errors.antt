@@ -5,7 +5,7 @@ use Rattle.corr_core.specs.Word.{Parts, parts, made_word, locked_word, posted_wo
 use Rattle.corr_core.specs.declared.marks.Plan.{Plan as IdPlan}
 use Rattle.id_rule.specs.Lawful.{id_index, all_words}
 use Rattle.seat_programs.specs.declared.task.Task.{Task}
-use Rattle.seat_programs.specs.Asides.{Step, ClaimId, PutCall, MakeId, StoreCall, LoadCall, StoreAt, LoadAt, LoadIdWord, LockId, PostId, UnlockId, EndId, FreeId, TakeCall, TakeBytes, Found, call_id}
+use Rattle.seat_programs.specs.Asides.{Step, ClaimId, PutCall, MakeId, LockId, PostId, UnlockId, EndId, FreeId, TakeCall, Found, call_id}
 use Rattle.seat_programs.specs.Posts.{packed, advance_of}
 use Rattle.id_runs.proofs.Keeps.{parts_packed}
 use Rattle.call_causes.specs.Scenes.{Scene, CauseOf, Later}
@@ -88,12 +88,7 @@ module _ (p : Plan) (q : IdPlan) (clients : List (List Task)) (gives : ℕ → L
         )
     touched (FreeId i) found b knows shows k low t = subst (λ n. HasCauses w' n (word_at w' n)) t (subst (HasCauses w' i) (sym (word_stays p q clients gives w w' m plan i knows sized 0 b.words)) (before i knows))
     touched (TakeCall i) found b knows shows k low t = subst (HasCauses w' k) (sym (ap (λ ws. parts (get_or ws (id_index k) 0)) b.words)) (before k low)
-    touched (StoreCall o id) found b knows shows k low t = absurd t
-    touched (LoadCall o) found b knows shows k low t = absurd t
-    touched (StoreAt o x) found b knows shows k low t = absurd t
-    touched (LoadAt o) found b knows shows k low t = absurd t
-    touched (LoadIdWord i) found b knows shows k low t = absurd t
-    touched (TakeBytes r room) found b knows shows k low t = absurd t
+    touched _ found b knows shows k low t = absurd t
 
     pub errors : (step : Step) (found : Found step) → IsBehind p q clients gives w w' m step found → KnowsStep p q clients gives w step found → Shows p q clients gives w' step found → (k : ℕ) → k < q.slots → HasCauses w' k (word_at w' k)
     errors step found b knows shows k low = ⊎_elim (λ t. touched step found b knows shows k low t) (λ n. subst (HasCauses w' k) (sym (beside p q clients gives w w' m plan step found b k low n).word) (before k low)) (tests p q clients gives w w' m plan sized fits step k)

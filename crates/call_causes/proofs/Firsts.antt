@@ -8,7 +8,7 @@ use Rattle.seat_programs.specs.declared.task.Task.{Task}
 use Rattle.seat_programs.specs.Asides.{PutCall, id_slot, id_first}
 use Rattle.seat_programs.specs.Heads.{Posts, Unlocks, Decides, Locks, Joins, Opens, Reads, Discards, Deciding, HasEnded}
 use Rattle.seat_programs.specs.Posts.{end_id, ends_call, unlocked, decides_round}
-use Rattle.seat_programs.specs.Programs.{Program, Do, Say, Sent, Rest, TakeMessage, TakeHome, PutHome, PutBytes, AskReady, Write, Aside, Round, Keep, Retries}
+use Rattle.seat_programs.specs.Programs.{Program, Write, Aside, Round}
 use Rattle.seat_programs.specs.Rounds.{round}
 use Rattle.seat_programs.specs.Sends.{block}
 use Rattle.outcome_causes.specs.sock_runs.specs.Sound.{first_step}
@@ -25,19 +25,7 @@ module _ (p : Plan) (q : IdPlan) (clients : List (List Task)) (gives : ℕ → L
 
   may_here : (w : Scene) (m : Mark) (x : Program) → SaysOn p q clients gives w m x → MayFirst w m x
   may_here w m (Aside step next) says = says.0
-  may_here w m (Do call next) says = tt
-  may_here w m (Say o outcome next) says = tt
-  may_here w m (Sent o next) says = tt
-  may_here w m Rest says = tt
-  may_here w m (TakeMessage r next) says = tt
-  may_here w m (TakeHome k next) says = tt
-  may_here w m (PutHome k n after) says = tt
-  may_here w m (PutBytes k asked bytes next) says = tt
-  may_here w m (AskReady k next) says = tt
-  may_here w m (Write x after) says = tt
-  may_here w m (Round head next) says = tt
-  may_here w m (Keep r next) says = tt
-  may_here w m (Retries requests after) says = tt
+  may_here w m _ says = tt
 
   -- the range ends, or its call goes back home
   may_decide : (w : Scene) (m : Mark) (id : ℕ) (asked : Asked) (word e : ℕ) (k : Deciding → Program) → AtHead p q clients gives w m (Decides id asked word e) → MayFirst w m (decides_round id asked word e k)
@@ -58,14 +46,4 @@ module _ (p : Plan) (q : IdPlan) (clients : List (List Task)) (gives : ℕ → L
   may_first w m (Round (Reads r) next) says = may_here w m (round (Reads r) next) (round_says p q clients gives w m (Reads r) next (λ d there. absurd there) says)
   may_first w m (Round (Discards k total) next) says = may_here w m (round (Discards k total) next) (round_says p q clients gives w m (Discards k total) next (λ d there. absurd there) says)
   may_first w m (Aside step next) says = says.0
-  may_first w m (Do call next) says = tt
-  may_first w m (Say o outcome next) says = tt
-  may_first w m (Sent o next) says = tt
-  may_first w m Rest says = tt
-  may_first w m (TakeMessage r next) says = tt
-  may_first w m (TakeHome k next) says = tt
-  may_first w m (PutHome k n after) says = tt
-  may_first w m (PutBytes k asked bytes next) says = tt
-  may_first w m (AskReady k next) says = tt
-  may_first w m (Keep r next) says = tt
-  may_first w m (Retries requests after) says = tt
+  may_first w m _ says = tt

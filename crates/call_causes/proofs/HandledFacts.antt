@@ -1,5 +1,5 @@
 -- What the story of the calls and the rule of the ids tell a reader of a step aside of any seat: id words go on, what is found is what is there, and bytes are taken of the seat's own link.
-use Rattle.std.proofs.Common.{◌≡◌, ◌≢◌, ℕ, ◌+◌, ◌<◌, ◌≤◌, ◌⊎◌, inl, inr, cond, eqb, ne_eqb, List, [], ◌++◌, length, refl, sym, ap, ◌∙◌, subst, arith}
+use Rattle.std.proofs.Common.{◌≡◌, ◌≢◌, ℕ, ◌+◌, ◌<◌, ◌≤◌, ◌⊎◌, inl, inr, cond, eqb, ne_eqb, List, [], ◌++◌, length, refl, ap, ◌∙◌, arith}
 use Rattle.std.specs.Prelude.{slice_index}
 use mathlib.Core.Option.{Option, some}
 use lib.ListN.{get_elem?}
@@ -8,7 +8,7 @@ use Rattle.corr_core.specs.Word.{Parts, parts, free_word}
 use Rattle.corr_core.specs.declared.marks.Plan.{Plan as IdPlan}
 use Rattle.id_rule.specs.Lawful.{id_index, all_words}
 use Rattle.seat_programs.specs.declared.task.Task.{Task}
-use Rattle.seat_programs.specs.Asides.{Step, Found, ClaimId, PutCall, MakeId, StoreCall, LoadCall, StoreAt, LoadAt, LoadIdWord, LockId, PostId, UnlockId, EndId, FreeId, TakeCall, TakeBytes, Taking}
+use Rattle.seat_programs.specs.Asides.{Step, Found, LoadIdWord, LockId, PostId, EndId, TakeBytes, Taking}
 use Rattle.seat_programs.specs.Beside.{found_in, calls_after}
 use Rattle.seat_programs.specs.Posts.{packed}
 use Rattle.seat_programs.specs.Programs.{Program, Aside}
@@ -94,18 +94,8 @@ module _ (p : Plan) (q : IdPlan) (clients : List (List Task)) (gives : ℕ → L
   finds_word w' m low plan sized (EndId i) found b kn =
       let x = word_is p q clients gives w w' m plan i kn.0 sized (packed (free_word ((parts found).first + (parts found).range))) b.words ∙ parts_packed (free_word ((parts found).first + (parts found).range)) (omega arith) (omega arith) (omega arith) (omega arith) (omega arith) (omega arith) in
       ap (λ (y : Parts). y.first) x ∙ ap (λ (y : Parts). y.first + y.range) kn.1
-  finds_word w' m low plan sized (ClaimId i) found b kn = tt
-  finds_word w' m low plan sized (PutCall i asked) found b kn = tt
-  finds_word w' m low plan sized (MakeId i range) found b kn = tt
-  finds_word w' m low plan sized (StoreCall o id) found b kn = tt
-  finds_word w' m low plan sized (LoadCall o) found b kn = tt
-  finds_word w' m low plan sized (StoreAt o x) found b kn = tt
-  finds_word w' m low plan sized (LoadAt o) found b kn = tt
   finds_word w' m low plan sized (PostId i from e) found b kn = (kn.0.1, low i kn.0.0)
-  finds_word w' m low plan sized (UnlockId i from advance) found b kn = tt
-  finds_word w' m low plan sized (FreeId i) found b kn = tt
-  finds_word w' m low plan sized (TakeCall i) found b kn = tt
-  finds_word w' m low plan sized (TakeBytes l room) found b kn = tt
+  finds_word w' m low plan sized _ found b kn = tt
 
   tied_to : (ms : List Mark) (reads : ReadsLaw p q clients gives w ms) (i : ℕ) (m : Mark) (at : At ms i m) (step : Step) → MayAside p q clients gives w m step → Tied i w.core step
   tied_to ms reads i m at (TakeBytes l room) may = (reads.tied i l m at may, reads.inside i l m at may)

@@ -9,7 +9,7 @@ use Rattle.corr_core.specs.declared.marks.Plan.{Plan as IdPlan}
 use Rattle.seat_programs.specs.declared.task.Task.{Task}
 use Rattle.seat_programs.specs.Asides.{id_slot, id_first}
 use Rattle.seat_programs.specs.Heads.{Exit, Retry, Decides}
-use Rattle.seat_programs.specs.Programs.{Program, Do, Say, Sent, Rest, TakeMessage, TakeHome, PutHome, PutBytes, AskReady, Write, Aside, Round, Keep, Retries}
+use Rattle.seat_programs.specs.Programs.{Program, Write, Round}
 use Rattle.seat_programs.specs.Cores.{Core, SeatState}
 use Rattle.seat_programs.specs.Ticks.{Moment, quiet, ticked, run}
 use Rattle.seat_programs.specs.Runs.{IsAtRest}
@@ -50,18 +50,7 @@ module _ (p : Plan) (q : IdPlan) (clients : List (List Task)) (gives : ℕ → L
   goes_first : (u : IdView) (x : Program) → IdGoesOn p q u x → IdGoesOn p q u (first_step x)
   goes_first u (Write v after) g = block_goes p q small u v after g
   goes_first u (Round head next) g = ids_round p q u head next g
-  goes_first u (Do call next) g = g
-  goes_first u (Say o outcome next) g = g
-  goes_first u (Sent o next) g = g
-  goes_first u Rest g = g
-  goes_first u (TakeMessage r next) g = g
-  goes_first u (TakeHome k next) g = g
-  goes_first u (PutHome k n after) g = g
-  goes_first u (PutBytes k asked bytes next) g = g
-  goes_first u (AskReady k next) g = g
-  goes_first u (Aside step next) g = g
-  goes_first u (Keep r next) g = g
-  goes_first u (Retries requests after) g = g
+  goes_first u _ g = g
 
   of_scene : (w : Scene) (ms : List Mark) → CallStory p q clients gives w ms → (us : List IdView) → SoundIds p q w.core us → (m : Moment) → Known q w.core m
   of_scene w ms story us ids m = record {

@@ -6,7 +6,7 @@ use Rattle.corr_core.specs.Word.{Parts, parts, posted_word, unlocked_word, code_
 use Rattle.corr_core.specs.Law.{LAST}
 use Rattle.brpc_model.specs.Frame.{Frame}
 use Rattle.sock_message.specs.Asked.{Asked}
-use Rattle.seat_programs.specs.Asides.{Step, Found, LoadAt, PostId, EndId, FreeId, TakeCall, TakeBytes, Taking, Bytes, Nothing, NoMore, AtEnd, Closed, Broken, call_id, id_slot, id_first}
+use Rattle.seat_programs.specs.Asides.{Step, Found, PostId, FreeId, TakeBytes, Taking, Bytes, Nothing, call_id, id_slot, id_first}
 use Rattle.seat_programs.specs.Heads.{Head, Exit, Retry, Sought, Posts, Unlocks, Decides, Locks, Joins, Opens, Reads, Discards, Posting, WasGone, WasStale, WasCrowded, WasQueued, HasLocked, Unlocking, IsOpen, HasNext, Deciding, HasEnded, GoesOn, Locking, NotThere, Has, Ended}
 use Rattle.seat_programs.specs.Programs.{Program, Do, Say, Sent, Rest, TakeMessage, TakeHome, PutHome, PutBytes, AskReady, Write, Aside, Round, Keep, Retries, LAST_VERSION, recycle, release, address, set_failed}
 use Rattle.seat_programs.specs.Posts.{WHOLE, packed, advance_of, is_final, is_first, is_sought, is_stale, is_full, judged, posts_round, post_with, popped, unlocks_round, ends_call, end_id, decided, unlocked, locking}
@@ -126,10 +126,7 @@ module _ (F : Type 0) (kept : List Frame) where
 
   after_posted : (id e : ℕ) (next : Program) → is_final (code_of e) ≡ true → After next → (x : Posting) → After (posted_last id e kept next x)
   after_posted id e next final a (HasLocked word) = after_ends id e word (kept_for id (parts word).range kept) next refl final a
-  after_posted id e next final a WasGone = a
-  after_posted id e next final a WasStale = a
-  after_posted id e next final a (WasCrowded x y) = a
-  after_posted id e next final a WasQueued = a
+  after_posted id e next final a _ = a
 
   after_each : (os : List ℕ) (k code : ℕ) (next : Program) → is_final code ≡ true → After next → After (post_each os k code kept next)
   after_each [] k code next final a = a
@@ -193,10 +190,7 @@ after_first F kept (Round (Discards l total) next) a = (a.0, after_discarded)
     after_discarded : (t : Taking) → After F kept (discarded l total next t)
     after_discarded (Bytes bytes) = both F kept (nat_lt (total + length bytes) LIMIT) (Round (Discards l (total + length bytes)) next) (next (total + length bytes)) (a.0, a.1) (a.1 (total + length bytes))
     after_discarded Nothing = (a.0, a.1)
-    after_discarded NoMore = a.1 total
-    after_discarded AtEnd = a.1 total
-    after_discarded Closed = a.1 total
-    after_discarded Broken = a.1 total
+    after_discarded _ = a.1 total
 
 -- what is said before the next step makes no difference
 pub after_next : (F : Type 0) (kept : List Frame) (ws : List Retry) (program : Program) → After F kept program → After F kept (next_step (resolved ws program))

@@ -17,9 +17,9 @@ use Rattle.corr_core.specs.Word.{parts}
 use Rattle.corr_core.specs.declared.marks.Plan.{Plan as IdPlan}
 use Rattle.id_rule.specs.Lawful.{id_index}
 use Rattle.owed_calls.specs.sock_steps.proofs.Quiet.{either_way}
-use Rattle.seat_programs.specs.Asides.{Step, ClaimId, PutCall, MakeId, StoreCall, LoadCall, StoreAt, LoadAt, LoadIdWord, LockId, PostId, UnlockId, EndId, FreeId, TakeCall, TakeBytes, Taking, Bytes, Nothing, NoMore, AtEnd, Closed, Broken, Found, id_slot, id_first}
+use Rattle.seat_programs.specs.Asides.{Step, TakeBytes, Taking, Bytes, Nothing, NoMore, AtEnd, Closed, Broken, Found, id_slot, id_first}
 use Rattle.seat_programs.specs.Heads.{Exit, Retry, Decides, Locks}
-use Rattle.seat_programs.specs.Programs.{Program, Do, Say, Sent, Rest, TakeMessage, TakeHome, PutHome, PutBytes, AskReady, Write, Aside, Round, Keep, Retries}
+use Rattle.seat_programs.specs.Programs.{Program, Do, TakeMessage, TakeHome, PutHome, PutBytes, AskReady, Write, Aside, Round}
 use Rattle.sock_message.specs.Asked.{Asked}
 use Rattle.seat_programs.specs.Writings.{Puts, Waits, Empties, Walks}
 use Rattle.seat_programs.specs.Sends.{block}
@@ -27,7 +27,7 @@ use Rattle.seat_programs.specs.Rounds.{round}
 use Rattle.seat_programs.specs.Beside.{found_in, calls_after}
 use Rattle.seat_programs.specs.Readers.{has_response, slot_in, version_in, is_early}
 use Rattle.seat_programs.specs.Cores.{Core, SeatState, word_of, found_at, words_after, word_after, homes_after, hand_after, lies_at, first_of, others_of, link_place, resolved, waiting_at, next_step, with_seat}
-use Rattle.seat_programs.specs.Ticks.{Answer, Unasked, OfPut, OfReady, OfTake, Moment, fed, with_places, onto_first, taken, with_message, with_link, with_put, with_ready, with_found, step_with, tick_with, ticked}
+use Rattle.seat_programs.specs.Ticks.{Answer, OfPut, OfReady, Moment, fed, with_places, onto_first, taken, with_message, with_link, with_put, with_ready, with_found, step_with, tick_with, ticked}
 use Rattle.outcome_causes.specs.sock_runs.specs.Sound.{first_step}
 use Rattle.call_causes.specs.Lists.{Take, taken_link, takes_by, takes_at, given, is_soon, soon_from, soon_by, soon_at}
 use Rattle.call_causes.specs.Scenes.{In}
@@ -144,20 +144,7 @@ module _ (p : Plan) (q : IdPlan) (k : ℕ) (St : Sit → Program → Type 0) (st
       gave_same (TakeBytes l room) AtEnd tied far = refl
       gave_same (TakeBytes l room) Closed tied far = refl
       gave_same (TakeBytes l room) Broken tied far = refl
-      gave_same (ClaimId i) found tied far = refl
-      gave_same (PutCall i asked) found tied far = refl
-      gave_same (MakeId i range) found tied far = refl
-      gave_same (StoreCall n id) found tied far = refl
-      gave_same (LoadCall n) found tied far = refl
-      gave_same (StoreAt n x) found tied far = refl
-      gave_same (LoadAt n) found tied far = refl
-      gave_same (LoadIdWord i) found tied far = refl
-      gave_same (LockId i from) found tied far = refl
-      gave_same (PostId i from e) found tied far = refl
-      gave_same (UnlockId i from advance) found tied far = refl
-      gave_same (EndId i) found tied far = refl
-      gave_same (FreeId i) found tied far = refl
-      gave_same (TakeCall i) found tied far = refl
+      gave_same _ found tied far = refl
 
       abbrev behind : (step : Step) → Found step → Program → Core
       behind step found x = with_seat m.seat x seat.hand c.words c.homes (record { words = c.words; homes = c.homes; seats = c.seats; outcomes = c.outcomes; calls = calls_after step found c.calls })
@@ -174,19 +161,11 @@ module _ (p : Plan) (q : IdPlan) (k : ℕ) (St : Sit → Program → Type 0) (st
 
       gave_more : (l room : ℕ) (found : Taking) → l ≡ k → l < length c.calls.gave → get_or (calls_after (TakeBytes l room) found c.calls).gave k [] ≡ get_or c.calls.gave k [] ++ bytes_in found
       gave_more l room (Bytes bytes) same low = ap (λ n. get_or (set c.calls.gave l (get_or c.calls.gave l [] ++ bytes)) n []) (sym same) ∙ (get_or-set_same c.calls.gave l (get_or c.calls.gave l [] ++ bytes) [] low ∙ ap (λ n. get_or c.calls.gave n [] ++ bytes) same)
-      gave_more l room Nothing same low = sym (append-nil (get_or c.calls.gave k []))
-      gave_more l room NoMore same low = sym (append-nil (get_or c.calls.gave k []))
-      gave_more l room AtEnd same low = sym (append-nil (get_or c.calls.gave k []))
-      gave_more l room Closed same low = sym (append-nil (get_or c.calls.gave k []))
-      gave_more l room Broken same low = sym (append-nil (get_or c.calls.gave k []))
+      gave_more l room _ same low = sym (append-nil (get_or c.calls.gave k []))
 
       plan_same : (l room : ℕ) (found : Taking) → (calls_after (TakeBytes l room) found c.calls).plan ≡ c.calls.plan
       plan_same l room (Bytes bytes) = refl
-      plan_same l room Nothing = refl
-      plan_same l room NoMore = refl
-      plan_same l room AtEnd = refl
-      plan_same l room Closed = refl
-      plan_same l room Broken = refl
+      plan_same l room _ = refl
 
       own_take : (l room : ℕ) (next : Taking → Program) (found : Taking) → Facts q m.seat c (TakeBytes l room) found → m.seat ≡ 32 + k → l ≡ k → takes_at c m ≡ (record { link = l; found = found }) ∷ [] → Took k q.slots (sit k c soon) (after (TakeBytes l room) found (next found)) found
       own_take l room next found f here same takes = let d : Core = behind (TakeBytes l room) found (next found) in record {
@@ -228,15 +207,11 @@ module _ (p : Plan) (q : IdPlan) (k : ℕ) (St : Sit → Program → Type 0) (st
 
       put_tick : (bytes : List ℕ) (answer : Answer) (next : Put → Program) → (m.seat ≡ 32 + k → ⊥) → Goal (with_put p m.seat seat c bytes answer next)
       put_tick bytes (OfPut answer) next no_ = moved (next answer) (onto_first (fed bytes answer) seat.hand) c.words c.homes (λ here. absurd (no_ here))
-      put_tick bytes Unasked next no_ = stays
-      put_tick bytes (OfReady r) next no_ = stays
-      put_tick bytes (OfTake t) next no_ = stays
+      put_tick bytes _ next no_ = stays
 
       ready_tick : (answer : Answer) (next : Ready → Program) → (m.seat ≡ 32 + k → ⊥) → Goal (with_ready p m.seat seat c answer next)
       ready_tick (OfReady answer) next no_ = moved (next answer) seat.hand c.words c.homes (λ here. absurd (no_ here))
-      ready_tick Unasked next no_ = stays
-      ready_tick (OfPut a) next no_ = stays
-      ready_tick (OfTake t) next no_ = stays
+      ready_tick _ next no_ = stays
 
       never : (x : Program) → first_step seat.program ≡ x → ((t : Sit) → Onward k q.slots St (sit k c soon) t [] x → ⊥) → m.seat ≡ 32 + k → ⊥
       never x first no_ here = no_ (sit k c soon) (subst Own first own here (sit k c soon) [])
@@ -250,13 +225,7 @@ module _ (p : Plan) (q : IdPlan) (k : ℕ) (St : Sit → Program → Type 0) (st
       first_tick answer a (PutBytes j asked bytes next) first = put_tick bytes answer next (never (PutBytes j asked bytes next) first (λ t x. x))
       first_tick answer a (AskReady j next) first = ready_tick answer next (never (AskReady j next) first (λ t x. x))
       first_tick answer a (Aside step next) first = subst (λ y. Goal (with_found p m.seat seat c step (found_in step c.calls (taken y)) next)) a (aside_tick step next first (found_in step c.calls (taken m.answer)) refl)
-      first_tick answer a (Say n outcome next) first = stays
-      first_tick answer a (Sent n next) first = stays
-      first_tick answer a Rest first = stays
-      first_tick answer a (Write x next) first = stays
-      first_tick answer a (Round head next) first = stays
-      first_tick answer a (Keep r next) first = stays
-      first_tick answer a (Retries requests next) first = stays
+      first_tick answer a _ first = stays
 
       any_tick : (x : Program) → seat.program ≡ x → Goal (tick_with p m.seat seat c m.answer x)
       any_tick (Write x next) is = first_tick m.answer refl (block x next) (ap first_step is)
@@ -268,11 +237,7 @@ module _ (p : Plan) (q : IdPlan) (k : ℕ) (St : Sit → Program → Type 0) (st
       any_tick (PutBytes j asked bytes next) is = first_tick m.answer refl (PutBytes j asked bytes next) (ap first_step is)
       any_tick (AskReady j next) is = first_tick m.answer refl (AskReady j next) (ap first_step is)
       any_tick (Aside step next) is = first_tick m.answer refl (Aside step next) (ap first_step is)
-      any_tick (Say n outcome next) is = stays
-      any_tick (Sent n next) is = stays
-      any_tick Rest is = stays
-      any_tick (Keep r next) is = stays
-      any_tick (Retries requests next) is = stays
+      any_tick _ is = stays
 
     -- it goes on with the soon frames of the tick
     pub reader_ticks : HasReader (soon ++ soon_at p c m) (ticked p c m)

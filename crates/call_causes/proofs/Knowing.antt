@@ -10,7 +10,7 @@ use Rattle.corr_core.specs.declared.marks.Plan.{Plan as IdPlan}
 use Rattle.id_rule.specs.Lawful.{tag_index, id_index, call_index, at_index, all_words, local}
 use Rattle.sock_message.specs.Asked.{Asked}
 use Rattle.seat_programs.specs.declared.task.Task.{Task}
-use Rattle.seat_programs.specs.Asides.{Step, ClaimId, PutCall, MakeId, StoreCall, LoadCall, StoreAt, LoadAt, LoadIdWord, LockId, PostId, UnlockId, EndId, FreeId, TakeCall, TakeBytes, Taking, Found}
+use Rattle.seat_programs.specs.Asides.{Step, ClaimId, MakeId, StoreCall, LoadCall, LoadAt, LoadIdWord, LockId, PostId, UnlockId, EndId, TakeCall, TakeBytes, Taking, Found}
 use Rattle.seat_programs.specs.Posts.{advance_of}
 use Rattle.seat_programs.specs.Beside.{found_in, call_at}
 use Rattle.id_runs.specs.Held.{IdView, id_state, MayId}
@@ -60,17 +60,15 @@ module _ (p : Plan) (q : IdPlan) (clients : List (List Task)) (gives : ℕ → L
 
     pub knows : (step : Step) (t : core.Option Taking) (found : Found step) → found_in step w.core.calls t ≡ core.some found → MayId p q u step → MayAside p q clients gives w m step → KnowsStep p q clients gives w step found
     knows (ClaimId i) t found is may a = (may, sym (some-injective (get_or w.core.calls.words (tag_index i) 0) found is), taken_with i may)
-    knows (PutCall i asked) t found is may a = may.0
     knows (MakeId i range) t found is may a = let f = finds (MakeId i range) t found is may in (is_word i found may.0 is, f.1, may.2, may.3)
     knows (StoreCall o id) t found is may a = (may.0, may.1)
     knows (LoadCall o) t found is may a = (may, sym (some-injective (get_or w.core.calls.words (call_index w.core.calls.plan o) 0) found is) ∙ ap (λ (r : IdPlan). get_or w.core.calls.words (call_index r o) 0) ids.plan)
-    knows (StoreAt o x) t found is may a = may.0
     knows (LoadAt o) t found is may a = (may, sym (some-injective (get_or w.core.calls.words (at_index w.core.calls.plan o) 0) found is) ∙ ap (λ (r : IdPlan). get_or w.core.calls.words (at_index r o) 0) ids.plan)
     knows (LoadIdWord i) t found is may a = let f = finds (LoadIdWord i) t found is may in (is_word i found may is, f.2)
     knows (LockId i from) t found is may a = (is_word i found may.0 is, may.1, taken_with i may.0)
     knows (PostId i from e) t found is may a = let f = finds (PostId i from e) t found is may in (is_word i found may.0 is, may.1, may.3, taken_with i may.0, f.2)
     knows (UnlockId i from advance) t found is may a = let x = may.1 in let l = x.7 in let att = l.attempt_is in let rg = l.range_is in let room = x.8 in (is_word i found may.0 is, l.state_is, few from (advance_of advance) (omega (arith, att, rg, room)), call_there p q w.core.calls ids.plan us ids.rule j u at_view (ids.real j u at_view) i may.0 (Rattle.corr_core.specs.declared.marks.Token.TheVariants.Locked x.0 x.1 x.2 x.5 x.3 x.4 (Rattle.corr_core.specs.declared.marks.Hand.TheVariants.Full x.5), x.5, x.6, refl), (omega (arith, att, rg, room)))
     knows (EndId i) t found is may a = is_word i found may.0 is
-    knows (FreeId i) t found is may a = may.0
     knows (TakeCall i) t found is may a = (may.0, lies i (get_elem? w.core.calls.homes i) found refl is)
     knows (TakeBytes k room) t found is may a = reads.inside j k m at a
+    knows _ t found is may a = may.0

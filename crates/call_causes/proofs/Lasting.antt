@@ -11,11 +11,11 @@ use Rattle.sock_message.specs.Asked.{Asked}
 use Rattle.seat_programs.specs.declared.task.Op.{Op}
 use Rattle.seat_programs.specs.declared.task.Op.TheVariants as ops
 use Rattle.seat_programs.specs.declared.task.Task.{Task}
-use Rattle.seat_programs.specs.Asides.{Step, ClaimId, PutCall, MakeId, StoreCall, LoadCall, StoreAt, LoadAt, LoadIdWord, LockId, PostId, UnlockId, EndId, FreeId, TakeCall, TakeBytes, call_id}
-use Rattle.seat_programs.specs.Heads.{Head, Posts, Unlocks, Decides, Locks, Joins, Opens, Reads, Discards}
+use Rattle.seat_programs.specs.Asides.{Step, PutCall, StoreCall, UnlockId, EndId, call_id}
+use Rattle.seat_programs.specs.Heads.{Head, Unlocks, Decides, Reads}
 use Rattle.seat_programs.specs.Programs.{Program, Do, Say, Sent, Rest, TakeMessage, TakeHome, PutHome, PutBytes, AskReady, Write, Aside, Round, Keep, Retries}
-use Rattle.call_causes.specs.Scenes.{Birth, Scene, In, Said, IsBorn, MayAdvance, IsAnsweredIn, IsExpired, CauseOf, of_expiry, of_other, FailedIn, by_expiry, by_compression, by_other, WhyEnded, HasNoneOf, NoneFound, HasBegunIn, HasNotBegunIn, WhyOwn, IsJust, ToldOf, was_said, was_sent, was_begun, AreTold, StaysWithin, Later}
-use Rattle.call_causes.specs.Says.{Mark, MayUnlock, MayAside, CameFrom, IsReading, AtHead, SaysOn}
+use Rattle.call_causes.specs.Scenes.{Birth, Scene, IsBorn, MayAdvance, IsAnsweredIn, IsExpired, CauseOf, of_expiry, of_other, FailedIn, by_expiry, by_compression, by_other, WhyEnded, HasNoneOf, NoneFound, HasBegunIn, HasNotBegunIn, WhyOwn, IsJust, ToldOf, was_said, was_sent, was_begun, AreTold, StaysWithin, Later}
+use Rattle.call_causes.specs.Says.{Mark, MayUnlock, MayAside, CameFrom, AtHead, SaysOn}
 
 module _ (p : Plan) (q : IdPlan) (clients : List (List Task)) (gives : ℕ → List ℕ) where
   abbrev After : Scene → Scene → Type 0
@@ -99,19 +99,15 @@ module _ (p : Plan) (q : IdPlan) (clients : List (List Task)) (gives : ℕ → L
 
     pub own_on : (c : ℕ) (before : List Task) (op : Op) (x : Outcome) → WhyOwn p q clients gives w c before op x → WhyOwn p q clients gives w' c before op x
     own_on c before (ops.Call asked) outcomes.Unopened y = none_found_on before (Rattle.sock_message.specs.Asked.name_of asked 0) y
-    own_on c before (ops.Call asked) _ y = absurd y
     own_on c before (ops.Expire t) outcomes.Expired y = (y.0, l.said t (outcomes.CallFailed y.0 1008) y.1)
     own_on c before (ops.Expire t) outcomes.Queued y = has_begun_on c before t y
     own_on c before (ops.Expire t) outcomes.Late y = has_begun_on c before t y
     own_on c before (ops.Expire t) (outcomes.Crowded a b) y = (has_begun_on c before t y.0, y.1, y.2)
     own_on c before (ops.Expire t) outcomes.NotBegun y = not_begun_on before t y
-    own_on c before (ops.Expire t) _ y = absurd y
     own_on c before (ops.Join t) outcomes.Joined y = has_begun_on c before t y
     own_on c before (ops.Join t) outcomes.NotBegun y = not_begun_on before t y
-    own_on c before (ops.Join t) _ y = absurd y
     own_on c before (ops.Open n k) (outcomes.Opened slot version j) y = l.named n y
     own_on c before (ops.Open n k) outcomes.SlotsFull y = tt
-    own_on c before (ops.Open n k) _ y = absurd y
     own_on c before (ops.Send n bytes) outcomes.Unopened y = none_found_on before n y
     own_on c before (ops.Send n bytes) _ y = l.named n y
     own_on c before (ops.Hold n) outcomes.Unopened y = none_found_on before n y
@@ -119,6 +115,7 @@ module _ (p : Plan) (q : IdPlan) (clients : List (List Task)) (gives : ℕ → L
     own_on c before (ops.Fail n code) outcomes.Unopened y = none_found_on before n y
     own_on c before (ops.Fail n code) _ y = l.named n y
     own_on c before (ops.Drop n) _ y = tt
+    own_on c before _ _ y = absurd y
 
     pub just_on : (o : ℕ) (op : Op) (x : Outcome) → IsJust p q clients gives w o op x → IsJust p q clients gives w' o op x
     just_on o op outcomes.Expired j = (j.0, j.1, j.2, l.over (record { number = o; outcome = outcomes.Expired }) (record { number = j.0; outcome = outcomes.CallFailed j.1 1008 }) j.3)
@@ -141,28 +138,14 @@ module _ (p : Plan) (q : IdPlan) (clients : List (List Task)) (gives : ℕ → L
     aside_on m (PutCall i asked) may = ⊎_elim (λ x. inl x) (λ x. inr (x.0, x.1, x.2, l.born (call_id i x.0) asked x.3)) may
     aside_on m (StoreCall o id) may = (may.0, may.1, may.2, may.3, may.4, may.5, may.6, may.7, may.8, l.born may.0.id may.0.asked may.9, l.named (Rattle.sock_message.specs.Asked.name_of may.0.asked 0) may.10)
     aside_on m (EndId i) may = (may.0, may.1, may.2, may.3, l.born (call_id i may.0) may.2 may.4, may.5)
-    aside_on m (ClaimId i) may = may
-    aside_on m (MakeId i range) may = may
-    aside_on m (LoadCall o) may = may
-    aside_on m (StoreAt o x) may = may
-    aside_on m (LoadAt o) may = may
-    aside_on m (LoadIdWord i) may = may
-    aside_on m (LockId i from) may = may
-    aside_on m (PostId i from e) may = may
     aside_on m (UnlockId i from advance) may = unlock_on m i advance may
-    aside_on m (FreeId i) may = may
-    aside_on m (TakeCall i) may = may
-    aside_on m (TakeBytes k room) may = may
+    aside_on m _ may = may
 
     head_on : (m : Mark) (head : Head) → AtHead p q clients gives w m head → AtHead p q clients gives w' m head
     head_on m (Decides id asked word e) at = (at.0, l.born id asked at.1, at.2, at.3, at.4, λ part. l.posted (record { id = id; error = e }) (at.5 part))
     head_on m (Reads r) at = (at.0, record { inside = at.1.inside; link = at.1.link; goes = at.1.goes; kept = kept_on r.link r.kept at.1.kept })
-    head_on m (Posts id e word) at = at
     head_on m (Unlocks i word advance) at = (unlock_on m i advance at.0, at.1, at.2)
-    head_on m (Locks i sought word) at = at
-    head_on m (Joins id) at = at
-    head_on m (Opens o) at = at
-    head_on m (Discards k total) at = at
+    head_on m _ at = at
 
     -- what a program may say it may say later
     pub says_on : (m : Mark) (x : Program) → SaysOn p q clients gives w m x → SaysOn p q clients gives w' m x

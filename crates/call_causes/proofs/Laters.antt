@@ -1,5 +1,5 @@
 -- Behind a step aside what happened before has happened, and more.
-use Rattle.std.proofs.Common.{◌≡◌, ◌≢◌, ℕ, ◌+◌, ◌*◌, ◌<◌, ◌≤◌, ◌⊎◌, inl, inr, ⊎_elim, Bool, true, false, cond, eqb, List, [], ◌∷◌, ◌++◌, length, get_or, set, get_or-set_other, get_or-set_same, slice_get, Option, None, Some, refl, sym, ap, ◌∙◌, subst, arith}
+use Rattle.std.proofs.Common.{◌≡◌, ◌≢◌, ℕ, ◌+◌, ◌*◌, ◌<◌, ◌≤◌, ◌⊎◌, inl, inr, ⊎_elim, Bool, true, false, cond, eqb, List, [], ◌∷◌, ◌++◌, length, get_or, set, get_or-set_other, get_or-set_same, slice_get, None, Some, refl, sym, ap, ◌∙◌, subst, arith}
 use mathlib.Core.Option as core
 use mathlib.Core.Option.{some-injective}
 use mathlib.Core.Logic.{dite}
@@ -14,7 +14,7 @@ use Rattle.corr_core.specs.declared.marks.Plan.{Plan as IdPlan}
 use Rattle.id_rule.specs.Lawful.{tag_index, id_index, call_index, at_index, all_words}
 use Rattle.sock_message.specs.Asked.{Asked}
 use Rattle.seat_programs.specs.declared.task.Task.{Task}
-use Rattle.seat_programs.specs.Asides.{Step, ClaimId, PutCall, MakeId, StoreCall, LoadCall, StoreAt, LoadAt, LoadIdWord, LockId, PostId, UnlockId, EndId, FreeId, TakeCall, TakeBytes, Bytes, Found, call_id}
+use Rattle.seat_programs.specs.Asides.{Step, ClaimId, PutCall, MakeId, StoreCall, LoadCall, StoreAt, LockId, PostId, UnlockId, EndId, FreeId, TakeCall, TakeBytes, Bytes, Found, call_id}
 use Rattle.seat_programs.specs.Asides as asides
 use Rattle.seat_programs.specs.Posts.{packed, advance_of}
 use Rattle.id_runs.proofs.Keeps.{parts_packed}
@@ -39,20 +39,8 @@ module _ (p : Plan) (q : IdPlan) (clients : List (List Task)) (gives : ℕ → L
       (b.births ∙ (ap (λ s. born_by p q clients gives (call_id i (parts found).first) (put_of p q clients gives s) ++ w.births) may.3 ∙ ap (λ (y : Parts). (record { id = call_id i y.first; asked = may.0 }) ∷ w.births) knows.0.1))
       f.2 (word ∙ (ap (λ (y : Parts). made_word y.first range) knows.0.1 ∙ ap (made_word (word_at w i).first) may.4)) (subst (λ n. (2 ≤ n) × (n ≤ 8)) may.4 (knows.2, knows.3))
       (λ a lies. f.3 a (ap (λ hs. get_elem? hs i) (sym b.homes) ∙ lies)) (λ k inside ne. beside p q clients gives w w' m plan (MakeId i range) found b k inside ne)
-  made_of (ClaimId i) found b knows may = no_more b.births (λ k x. x)
-  made_of (PutCall i asked) found b knows may = no_more b.births (λ k x. x)
-  made_of (StoreCall o id) found b knows may = no_more b.births (λ k x. x)
-  made_of (LoadCall o) found b knows may = no_more b.births (λ k x. x)
   made_of (StoreAt o x) found b knows may = no_more b.births (λ k x. x)
-  made_of (LoadAt o) found b knows may = no_more b.births (λ k x. x)
-  made_of (LoadIdWord i) found b knows may = no_more b.births (λ k x. x)
-  made_of (LockId i from) found b knows may = no_more b.births (λ k x. x)
-  made_of (PostId i from e) found b knows may = no_more b.births (λ k x. x)
-  made_of (UnlockId i from advance) found b knows may = no_more b.births (λ k x. x)
-  made_of (EndId i) found b knows may = no_more b.births (λ k x. x)
-  made_of (FreeId i) found b knows may = no_more b.births (λ k x. x)
-  made_of (TakeCall i) found b knows may = no_more b.births (λ k x. x)
-  made_of (TakeBytes l room) found b knows may = no_more b.births (λ k x. x)
+  made_of _ found b knows may = no_more b.births (λ k x. x)
 
   abbrev Behind : (step : Step) → Found step → Type 0
   Behind step found = IsBehind p q clients gives w w' m step found
@@ -69,24 +57,13 @@ module _ (p : Plan) (q : IdPlan) (clients : List (List Task)) (gives : ℕ → L
   home_before (TakeCall i) found b knows may k a inside lies = dite (ℕ_discrete i k)
       (λ here. absurd (let z = some-injective None (Some a) (lies_is p q clients gives w w' m plan i (core.some None) a b.homes (subst (λ n. LiesAt w' n a) (sym here) lies)) in cc))
       (λ ne. inl (sym (beside p q clients gives w w' m plan (TakeCall i) found b k inside ne).home ∙ lies))
-  home_before (ClaimId i) found b knows may k a inside lies = inl (ap (λ hs. get_elem? hs k) (sym b.homes) ∙ lies)
-  home_before (MakeId i range) found b knows may k a inside lies = inl (ap (λ hs. get_elem? hs k) (sym b.homes) ∙ lies)
-  home_before (StoreCall o id) found b knows may k a inside lies = inl (ap (λ hs. get_elem? hs k) (sym b.homes) ∙ lies)
-  home_before (LoadCall o) found b knows may k a inside lies = inl (ap (λ hs. get_elem? hs k) (sym b.homes) ∙ lies)
-  home_before (StoreAt o x) found b knows may k a inside lies = inl (ap (λ hs. get_elem? hs k) (sym b.homes) ∙ lies)
-  home_before (LoadAt o) found b knows may k a inside lies = inl (ap (λ hs. get_elem? hs k) (sym b.homes) ∙ lies)
-  home_before (LoadIdWord i) found b knows may k a inside lies = inl (ap (λ hs. get_elem? hs k) (sym b.homes) ∙ lies)
-  home_before (LockId i from) found b knows may k a inside lies = inl (ap (λ hs. get_elem? hs k) (sym b.homes) ∙ lies)
-  home_before (PostId i from e) found b knows may k a inside lies = inl (ap (λ hs. get_elem? hs k) (sym b.homes) ∙ lies)
-  home_before (UnlockId i from advance) found b knows may k a inside lies = inl (ap (λ hs. get_elem? hs k) (sym b.homes) ∙ lies)
-  home_before (EndId i) found b knows may k a inside lies = inl (ap (λ hs. get_elem? hs k) (sym b.homes) ∙ lies)
-  home_before (FreeId i) found b knows may k a inside lies = inl (ap (λ hs. get_elem? hs k) (sym b.homes) ∙ lies)
   home_before (TakeBytes l room) (Bytes bytes) b knows may k a inside lies = inl (ap (λ hs. get_elem? hs k) (sym b.homes) ∙ lies)
   home_before (TakeBytes l room) asides.Nothing b knows may k a inside lies = inl (ap (λ hs. get_elem? hs k) (sym b.homes) ∙ lies)
   home_before (TakeBytes l room) asides.NoMore b knows may k a inside lies = inl (ap (λ hs. get_elem? hs k) (sym b.homes) ∙ lies)
   home_before (TakeBytes l room) asides.AtEnd b knows may k a inside lies = inl (ap (λ hs. get_elem? hs k) (sym b.homes) ∙ lies)
   home_before (TakeBytes l room) asides.Closed b knows may k a inside lies = inl (ap (λ hs. get_elem? hs k) (sym b.homes) ∙ lies)
   home_before (TakeBytes l room) asides.Broken b knows may k a inside lies = inl (ap (λ hs. get_elem? hs k) (sym b.homes) ∙ lies)
+  home_before _ found b knows may k a inside lies = inl (ap (λ hs. get_elem? hs k) (sym b.homes) ∙ lies)
 
   -- ## Words of calls
 
@@ -101,27 +78,23 @@ module _ (p : Plan) (q : IdPlan) (clients : List (List Task)) (gives : ℕ → L
 
   pub begun_still : (step : Step) (found : Found step) → Behind step found → KnowsStep p q clients gives w step found → (o : ℕ) → Begun p q clients gives w o → Begun p q clients gives w' o
   begun_still (ClaimId i) found b knows o = word_beside (tag_index i) 1 o b.words (let z = knows.0 in λ e. omega (arith, z, e))
-  begun_still (PutCall i asked) found b knows o = words_still o b.words
   begun_still (MakeId i range) found b knows o = word_beside (id_index i) (packed (made_word (parts found).first range)) o b.words (λ e. omega (arith, e))
   begun_still (StoreCall u id) found b knows o = dite (ℕ_discrete u o)
       (λ here. λ _ e. knows.1 (sym (stored_is u id knows.0 b.words) ∙ (ap (λ n. get_or w'.core.calls.words (call_index q n) 0) here ∙ e)))
       (λ ne. word_beside (call_index q u) id o (b.words ∙ ap (λ (r : IdPlan). set w.core.calls.words (call_index r u) id) plan) (λ e. ne (omega (arith, e))))
-  begun_still (LoadCall u) found b knows o = words_still o b.words
   begun_still (StoreAt u x) found b knows o = word_beside (at_index q u) x o (b.words ∙ ap (λ (r : IdPlan). set w.core.calls.words (at_index r u) x) plan) (λ e. omega (arith, e))
-  begun_still (LoadAt u) found b knows o = words_still o b.words
-  begun_still (LoadIdWord i) found b knows o = words_still o b.words
   begun_still (LockId i from) found b knows o = word_beside (id_index i) (cond (eqb found from) (packed (posted_word (parts from) 0)) found) o b.words (λ e. omega (arith, e))
   begun_still (PostId i from e) found b knows o = word_beside (id_index i) (cond (eqb found from) (packed (posted_word (parts from) e)) found) o b.words (λ z. omega (arith, z))
   begun_still (UnlockId i from advance) found b knows o = word_beside (id_index i) (cond (eqb found from) (packed (unlocked_word (parts from) (advance_of advance))) found) o b.words (λ e. omega (arith, e))
   begun_still (EndId i) found b knows o = word_beside (id_index i) (packed (free_word ((parts found).first + (parts found).range))) o b.words (λ e. omega (arith, e))
   begun_still (FreeId i) found b knows o = word_beside (tag_index i) 0 o b.words (λ e. omega (arith, knows, e))
-  begun_still (TakeCall i) found b knows o = words_still o b.words
   begun_still (TakeBytes l room) (Bytes bytes) b knows o = words_still o b.words
   begun_still (TakeBytes l room) asides.Nothing b knows o = words_still o b.words
   begun_still (TakeBytes l room) asides.NoMore b knows o = words_still o b.words
   begun_still (TakeBytes l room) asides.AtEnd b knows o = words_still o b.words
   begun_still (TakeBytes l room) asides.Closed b knows o = words_still o b.words
   begun_still (TakeBytes l room) asides.Broken b knows o = words_still o b.words
+  begun_still _ found b knows o = words_still o b.words
 
   -- ## Words of where attempts went
 
@@ -143,20 +116,18 @@ module _ (p : Plan) (q : IdPlan) (clients : List (List Task)) (gives : ℕ → L
       (λ here. subst (λ n. at_word_attempt (get_or w'.core.calls.words (at_index q n) 0) ≤ 6) here
       (subst (λ n. at_word_attempt n ≤ 6) (sym (ap (λ ws. get_or ws (at_index q u) 0) words ∙ get_or-set_same w.core.calls.words (at_index q u) x 0 (omega (arith, sized, knows)))) may))
       (λ ne. at_beside (at_index q u) x o inside words (λ e. ne (omega (arith, e))))
-  ats_still (LoadAt u) found b knows may o inside = ats_same o inside b.words
-  ats_still (LoadIdWord i) found b knows may o inside = ats_same o inside b.words
   ats_still (LockId i from) found b knows may o inside = at_beside (id_index i) (cond (eqb found from) (packed (posted_word (parts from) 0)) found) o inside b.words (let z = knows.0.0 in λ e. omega (arith, z, e))
   ats_still (PostId i from e) found b knows may o inside = at_beside (id_index i) (cond (eqb found from) (packed (posted_word (parts from) e)) found) o inside b.words (let z = knows.0.0 in λ x. omega (arith, z, x))
   ats_still (UnlockId i from advance) found b knows may o inside = at_beside (id_index i) (cond (eqb found from) (packed (unlocked_word (parts from) (advance_of advance))) found) o inside b.words (let z = knows.0.0 in λ e. omega (arith, z, e))
   ats_still (EndId i) found b knows may o inside = at_beside (id_index i) (packed (free_word ((parts found).first + (parts found).range))) o inside b.words (let z = knows.0 in λ e. omega (arith, z, e))
   ats_still (FreeId i) found b knows may o inside = at_beside (tag_index i) 0 o inside b.words (λ e. omega (arith, e))
-  ats_still (TakeCall i) found b knows may o inside = ats_same o inside b.words
   ats_still (TakeBytes l room) (Bytes bytes) b knows may o inside = ats_same o inside b.words
   ats_still (TakeBytes l room) asides.Nothing b knows may o inside = ats_same o inside b.words
   ats_still (TakeBytes l room) asides.NoMore b knows may o inside = ats_same o inside b.words
   ats_still (TakeBytes l room) asides.AtEnd b knows may o inside = ats_same o inside b.words
   ats_still (TakeBytes l room) asides.Closed b knows may o inside = ats_same o inside b.words
   ats_still (TakeBytes l room) asides.Broken b knows may o inside = ats_same o inside b.words
+  ats_still _ found b knows may o inside = ats_same o inside b.words
 
   -- ## Frames
 
@@ -177,20 +148,7 @@ module _ (p : Plan) (q : IdPlan) (clients : List (List Task)) (gives : ℕ → L
   came_still (TakeBytes l room) asides.AtEnd b knows = gave_same b.gave
   came_still (TakeBytes l room) asides.Closed b knows = gave_same b.gave
   came_still (TakeBytes l room) asides.Broken b knows = gave_same b.gave
-  came_still (ClaimId i) found b knows = gave_same b.gave
-  came_still (PutCall i asked) found b knows = gave_same b.gave
-  came_still (MakeId i range) found b knows = gave_same b.gave
-  came_still (StoreCall o id) found b knows = gave_same b.gave
-  came_still (LoadCall o) found b knows = gave_same b.gave
-  came_still (StoreAt o x) found b knows = gave_same b.gave
-  came_still (LoadAt o) found b knows = gave_same b.gave
-  came_still (LoadIdWord i) found b knows = gave_same b.gave
-  came_still (LockId i from) found b knows = gave_same b.gave
-  came_still (PostId i from e) found b knows = gave_same b.gave
-  came_still (UnlockId i from advance) found b knows = gave_same b.gave
-  came_still (EndId i) found b knows = gave_same b.gave
-  came_still (FreeId i) found b knows = gave_same b.gave
-  came_still (TakeCall i) found b knows = gave_same b.gave
+  came_still _ found b knows = gave_same b.gave
 
   -- ## Claims
 
@@ -200,20 +158,7 @@ module _ (p : Plan) (q : IdPlan) (clients : List (List Task)) (gives : ℕ → L
       by_found : (c : Bool) → In (record { slot = i; operation = o }) (cond c (claimed_by p q clients gives k m.todo ++ w.claims) w.claims)
       by_found true = in_behind (record { slot = i; operation = o }) (claimed_by p q clients gives k m.todo) w.claims there
       by_found false = there
-  claims_still (PutCall k asked) found b i o there = subst (In (record { slot = i; operation = o })) (sym b.claims) there
-  claims_still (MakeId k range) found b i o there = subst (In (record { slot = i; operation = o })) (sym b.claims) there
-  claims_still (StoreCall u id) found b i o there = subst (In (record { slot = i; operation = o })) (sym b.claims) there
-  claims_still (LoadCall u) found b i o there = subst (In (record { slot = i; operation = o })) (sym b.claims) there
-  claims_still (StoreAt u x) found b i o there = subst (In (record { slot = i; operation = o })) (sym b.claims) there
-  claims_still (LoadAt u) found b i o there = subst (In (record { slot = i; operation = o })) (sym b.claims) there
-  claims_still (LoadIdWord k) found b i o there = subst (In (record { slot = i; operation = o })) (sym b.claims) there
-  claims_still (LockId k from) found b i o there = subst (In (record { slot = i; operation = o })) (sym b.claims) there
-  claims_still (PostId k from e) found b i o there = subst (In (record { slot = i; operation = o })) (sym b.claims) there
-  claims_still (UnlockId k from advance) found b i o there = subst (In (record { slot = i; operation = o })) (sym b.claims) there
-  claims_still (EndId k) found b i o there = subst (In (record { slot = i; operation = o })) (sym b.claims) there
-  claims_still (FreeId k) found b i o there = subst (In (record { slot = i; operation = o })) (sym b.claims) there
-  claims_still (TakeCall k) found b i o there = subst (In (record { slot = i; operation = o })) (sym b.claims) there
-  claims_still (TakeBytes l room) found b i o there = subst (In (record { slot = i; operation = o })) (sym b.claims) there
+  claims_still _ found b i o there = subst (In (record { slot = i; operation = o })) (sym b.claims) there
 
   -- ## All of it
 

@@ -13,14 +13,14 @@ use Rattle.sock_model.specs.Reads.{message, link_home}
 use Rattle.sock_model.specs.declared.home.Home.{Home}
 use Rattle.corr_core.specs.declared.marks.Plan.{Plan as IdPlan}
 use Rattle.seat_programs.specs.declared.task.Task.{Task}
-use Rattle.seat_programs.specs.Asides.{Step, ClaimId, PutCall, MakeId, StoreCall, LoadCall, StoreAt, LoadAt, LoadIdWord, LockId, PostId, UnlockId, EndId, FreeId, TakeCall, TakeBytes, Bytes, Found}
+use Rattle.seat_programs.specs.Asides.{Step, TakeBytes, Bytes, Found}
 use Rattle.seat_programs.specs.Asides as asides
-use Rattle.seat_programs.specs.Programs.{Program, Do, Say, Sent, Rest, TakeMessage, TakeHome, PutHome, PutBytes, AskReady, Write, Aside, Round, Keep, Retries}
+use Rattle.seat_programs.specs.Programs.{Program, TakeMessage, TakeHome, PutBytes, AskReady, Write, Aside, Round}
 use Rattle.seat_programs.specs.Sends.{block}
 use Rattle.seat_programs.specs.Rounds.{round}
 use Rattle.seat_programs.specs.Beside.{found_in, calls_after}
 use Rattle.seat_programs.specs.Cores.{Calls, Core, SeatState}
-use Rattle.seat_programs.specs.Ticks.{Answer, Unasked, OfPut, OfReady, OfTake, Moment, taken, with_message, with_link, with_put, with_ready, with_found, step_with, tick_with, ticked, run}
+use Rattle.seat_programs.specs.Ticks.{Answer, OfPut, OfReady, Moment, taken, with_message, with_link, with_put, with_ready, with_found, step_with, tick_with, ticked, run}
 use Rattle.call_causes.specs.Lists.{given}
 use Rattle.call_causes.specs.Scenes.{LeadsTo}
 
@@ -45,20 +45,7 @@ step_grows (TakeBytes l room) asides.NoMore a = same_grows a.gave
 step_grows (TakeBytes l room) asides.AtEnd a = same_grows a.gave
 step_grows (TakeBytes l room) asides.Closed a = same_grows a.gave
 step_grows (TakeBytes l room) asides.Broken a = same_grows a.gave
-step_grows (ClaimId k) found a = same_grows a.gave
-step_grows (PutCall k b) found a = same_grows a.gave
-step_grows (MakeId k range) found a = same_grows a.gave
-step_grows (StoreCall o id) found a = same_grows a.gave
-step_grows (LoadCall o) found a = same_grows a.gave
-step_grows (StoreAt o w) found a = same_grows a.gave
-step_grows (LoadAt o) found a = same_grows a.gave
-step_grows (LoadIdWord k) found a = same_grows a.gave
-step_grows (LockId k from) found a = same_grows a.gave
-step_grows (PostId k from e) found a = same_grows a.gave
-step_grows (UnlockId k from advance) found a = same_grows a.gave
-step_grows (EndId k) found a = same_grows a.gave
-step_grows (FreeId k) found a = same_grows a.gave
-step_grows (TakeCall k) found a = same_grows a.gave
+step_grows _ found a = same_grows a.gave
 
 module _ (p : Plan) (i : ℕ) (seat : SeatState) (c : Core) where
   found_grows : (step : Step) (x : Option (Found step)) (next : Found step → Program) → Grows c.calls.gave (with_found p i seat c step x next).calls.gave
@@ -75,47 +62,24 @@ module _ (p : Plan) (i : ℕ) (seat : SeatState) (c : Core) where
 
   put_grows : (bytes : List ℕ) (answer : Answer) (next : Put → Program) → Grows c.calls.gave (with_put p i seat c bytes answer next).calls.gave
   put_grows bytes (OfPut put) next = same_grows c.calls.gave
-  put_grows bytes Unasked next = same_grows c.calls.gave
-  put_grows bytes (OfReady r) next = same_grows c.calls.gave
-  put_grows bytes (OfTake t) next = same_grows c.calls.gave
+  put_grows bytes _ next = same_grows c.calls.gave
 
   ready_grows : (answer : Answer) (next : Ready → Program) → Grows c.calls.gave (with_ready p i seat c answer next).calls.gave
   ready_grows (OfReady r) next = same_grows c.calls.gave
-  ready_grows Unasked next = same_grows c.calls.gave
-  ready_grows (OfPut put) next = same_grows c.calls.gave
-  ready_grows (OfTake t) next = same_grows c.calls.gave
+  ready_grows _ next = same_grows c.calls.gave
 
   with_grows : (answer : Answer) (program : Program) → Grows c.calls.gave (step_with p i seat c answer program).calls.gave
-  with_grows answer (Do call next) = same_grows c.calls.gave
   with_grows answer (TakeMessage r next) = letter_grows r (message (λ (h : Home). h) c.homes r) (λ letter. next letter.0 letter.1)
   with_grows answer (TakeHome k next) = link_grows k (link_home (λ (h : Home). h) p c.homes k) next
-  with_grows answer (PutHome k n after) = same_grows c.calls.gave
   with_grows answer (PutBytes k asked bytes next) = put_grows bytes answer next
   with_grows answer (AskReady k next) = ready_grows answer next
   with_grows answer (Aside step next) = found_grows step (found_in step c.calls (taken answer)) next
-  with_grows answer (Say o outcome next) = same_grows c.calls.gave
-  with_grows answer (Sent o next) = same_grows c.calls.gave
-  with_grows answer Rest = same_grows c.calls.gave
-  with_grows answer (Write x after) = same_grows c.calls.gave
-  with_grows answer (Round head next) = same_grows c.calls.gave
-  with_grows answer (Keep r next) = same_grows c.calls.gave
-  with_grows answer (Retries requests after) = same_grows c.calls.gave
+  with_grows answer _ = same_grows c.calls.gave
 
   any_grows : (answer : Answer) (program : Program) → Grows c.calls.gave (tick_with p i seat c answer program).calls.gave
   any_grows answer (Write x after) = with_grows answer (block x after)
   any_grows answer (Round head next) = with_grows answer (round head next)
-  any_grows answer (Do call next) = with_grows answer (Do call next)
-  any_grows answer (TakeMessage r next) = with_grows answer (TakeMessage r next)
-  any_grows answer (TakeHome k next) = with_grows answer (TakeHome k next)
-  any_grows answer (PutHome k n after) = with_grows answer (PutHome k n after)
-  any_grows answer (PutBytes k asked bytes next) = with_grows answer (PutBytes k asked bytes next)
-  any_grows answer (AskReady k next) = with_grows answer (AskReady k next)
-  any_grows answer (Aside step next) = with_grows answer (Aside step next)
-  any_grows answer (Say o outcome next) = with_grows answer (Say o outcome next)
-  any_grows answer (Sent o next) = with_grows answer (Sent o next)
-  any_grows answer Rest = with_grows answer Rest
-  any_grows answer (Keep r next) = with_grows answer (Keep r next)
-  any_grows answer (Retries requests after) = with_grows answer (Retries requests after)
+  any_grows answer program = with_grows answer program
 
 tick_grows : (p : Plan) (c : Core) (m : Moment) → Grows c.calls.gave (ticked p c m).calls.gave
 tick_grows p c m = by_seat (get_elem? c.seats m.seat)

@@ -1,11 +1,11 @@
 -- What each reader has of its link is what the link gave, behind a step aside of any seat.
-use Rattle.std.proofs.Common.{◌≡◌, ◌≢◌, ℕ, ◌+◌, ◌<◌, ⊎_elim, Bool, true, false, cond, eqb, List, [], ◌∷◌, ◌++◌, length, length-set, get_or, set, get_or-set_other, get_or-set_same, Option, refl, sym, ap, ◌∙◌, subst, arith}
+use Rattle.std.proofs.Common.{◌≡◌, ◌≢◌, ℕ, ◌+◌, ◌<◌, ⊎_elim, Bool, true, false, cond, eqb, List, [], ◌∷◌, ◌++◌, length, length-set, get_or, set, get_or-set_other, get_or-set_same, refl, sym, ap, ◌∙◌, subst, arith}
 use Rattle.atomic_table.proofs.Lists.{at_set}
 use Rattle.sock_words.specs.declared.plain.Plan.{Plan}
 use Rattle.corr_core.specs.Word.{parts}
 use Rattle.corr_core.specs.declared.marks.Plan.{Plan as IdPlan}
 use Rattle.seat_programs.specs.declared.task.Task.{Task}
-use Rattle.seat_programs.specs.Asides.{Step, ClaimId, PutCall, MakeId, StoreCall, LoadCall, StoreAt, LoadAt, LoadIdWord, LockId, PostId, UnlockId, EndId, FreeId, TakeCall, TakeBytes, Bytes, Found}
+use Rattle.seat_programs.specs.Asides.{Step, ClaimId, PutCall, MakeId, StoreCall, LockId, PostId, UnlockId, EndId, FreeId, TakeCall, TakeBytes, Bytes, Found}
 use Rattle.seat_programs.specs.Asides as asides
 use Rattle.call_causes.specs.Lists.{given}
 use Rattle.call_causes.specs.Scenes.{Scene}
@@ -64,10 +64,6 @@ module _ (p : Plan) (q : IdPlan) (clients : List (List Task)) (gives : ℕ → L
   reads_after_step (PutCall i asked) found b knows may = same_reads b.gave (mark_after p q clients gives (PutCall i asked) found m) refl refl
   reads_after_step (MakeId i range) found b knows may = same_reads b.gave (mark_after p q clients gives (MakeId i range) found m) refl refl
   reads_after_step (StoreCall o id) found b knows may = let z = stored m.todo in same_reads b.gave (mark_after p q clients gives (StoreCall o id) found m) z.0 z.1
-  reads_after_step (LoadCall o) found b knows may = same_reads b.gave m refl refl
-  reads_after_step (StoreAt o x) found b knows may = same_reads b.gave m refl refl
-  reads_after_step (LoadAt o) found b knows may = same_reads b.gave m refl refl
-  reads_after_step (LoadIdWord i) found b knows may = same_reads b.gave m refl refl
   reads_after_step (LockId i from) found b knows may = let z = tested (eqb found from) (with_slot (Locked i (parts from).first (shape_of (parts from))) m) refl refl in same_reads b.gave (mark_after p q clients gives (LockId i from) found m) z.0 z.1
   reads_after_step (PostId i from e) found b knows may = let x = tested (eqb (parts from).state 1) (with_slot (Locked i (parts from).first (shape_of (parts from))) m) refl refl in
       let z = tested (eqb found from) (cond (eqb (parts from).state 1) (with_slot (Locked i (parts from).first (shape_of (parts from))) m) m) x.0 x.1 in same_reads b.gave (mark_after p q clients gives (PostId i from e) found m) z.0 z.1
@@ -75,3 +71,4 @@ module _ (p : Plan) (q : IdPlan) (clients : List (List Task)) (gives : ℕ → L
   reads_after_step (EndId i) found b knows may = same_reads b.gave (mark_after p q clients gives (EndId i) found m) refl refl
   reads_after_step (FreeId i) found b knows may = same_reads b.gave (mark_after p q clients gives (FreeId i) found m) refl refl
   reads_after_step (TakeCall i) found b knows may = same_reads b.gave (mark_after p q clients gives (TakeCall i) found m) refl refl
+  reads_after_step _ found b knows may = same_reads b.gave m refl refl

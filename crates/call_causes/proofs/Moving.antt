@@ -1,5 +1,5 @@
 -- What a step aside makes of the mark of its seat, and what it shows, is as the laws say.
-use Rattle.std.proofs.Common.{◌≡◌, ◌≢◌, ℕ, ◌+◌, ◌*◌, ◌<◌, ◌≤◌, ◌⊎◌, inl, inr, ⊎_elim, Bool, true, false, cond, eqb, eq-eqb, ne_eqb, List, [], ◌∷◌, ◌++◌, length, get_or, set, get_or-set_same, Option, None, Some, refl, sym, ap, ◌∙◌, subst, arith}
+use Rattle.std.proofs.Common.{◌≡◌, ◌≢◌, ℕ, ◌+◌, ◌*◌, ◌<◌, ◌≤◌, ◌⊎◌, inl, inr, ⊎_elim, Bool, true, false, cond, eqb, eq-eqb, ne_eqb, List, [], ◌∷◌, ◌++◌, length, get_or, get_or-set_same, Option, None, Some, refl, sym, ap, ◌∙◌, subst, arith}
 use mathlib.Core.Option.{some-injective}
 use lib.ListN.{get_elem?}
 use Rattle.sock_words.specs.Words.{at_word_attempt}
@@ -12,7 +12,7 @@ use Rattle.corr_core.specs.declared.marks.Plan.{Plan as IdPlan}
 use Rattle.id_rule.specs.Lawful.{call_index, all_words}
 use Rattle.sock_message.specs.Asked.{Asked}
 use Rattle.seat_programs.specs.declared.task.Task.{Task}
-use Rattle.seat_programs.specs.Asides.{Step, ClaimId, PutCall, MakeId, StoreCall, LoadCall, StoreAt, LoadAt, LoadIdWord, LockId, PostId, UnlockId, EndId, FreeId, TakeCall, TakeBytes, Bytes, Found, call_id, id_slot, id_first}
+use Rattle.seat_programs.specs.Asides.{Step, ClaimId, MakeId, StoreCall, LoadCall, LoadAt, LoadIdWord, LockId, PostId, UnlockId, EndId, TakeCall, TakeBytes, Bytes, Found, call_id, id_slot, id_first}
 use Rattle.seat_programs.specs.Asides as asides
 use Rattle.call_causes.specs.Scenes.{Birth, Saying, Scene, In, IsBorn, IsErrorCode, IsTaskOf, EndedAt, CauseOf, of_expiry, of_other, Later}
 use Rattle.call_causes.specs.Says.{Shape, shape_of, with_attempt, unlocked_by, Slot, NoSlot, Claims, Locked, Holds, Leaves, Mark, with_slot, with_owed, with_made, IsVacant, HasCodes, MayAside, Moves}
@@ -46,9 +46,7 @@ module _ (p : Plan) (q : IdPlan) (clients : List (List Task)) (gives : ℕ → L
   pub free_unclaimed : (s : Slot) (bs : List Birth) (todo : List Task) (t : Task) → IsVacant s → bs ≡ [] → In t todo → In t (unclaimed p q clients gives s bs todo)
   free_unclaimed NoSlot bs todo t v is there = subst (λ xs. In t (ahead p q clients gives xs todo)) (sym is) there
   free_unclaimed (Leaves i) bs todo t v is there = subst (λ xs. In t (ahead p q clients gives xs todo)) (sym is) there
-  free_unclaimed (Claims i c) bs todo t v is there = absurd v
-  free_unclaimed (Locked i f range) bs todo t v is there = absurd v
-  free_unclaimed (Holds i f range asked) bs todo t v is there = absurd v
+  free_unclaimed _ bs todo t v is there = absurd v
 
 module _ (p : Plan) (q : IdPlan) (clients : List (List Task)) (gives : ℕ → List ℕ) (w w' : Scene) (ms : List Mark) (os : List (Option Outcome)) (ss : List Saying) (j : ℕ) (m : Mark) (plan : w.core.calls.plan ≡ q) (sized : length w.core.calls.words ≡ all_words q) (fits : SlotFits q w m.slot)
     (law : BirthsLaw p q clients gives w) (low : (k : ℕ) → k < q.slots → (word_at w k).first ≤ 67108856) (at : At ms j m) (tasks : TasksLaw p q clients gives w os ss ms) (claims : ClaimsLaw p q clients gives w ms) (reads : ReadsLaw p q clients gives w ms) (l : Later p q clients gives w w') where
@@ -110,7 +108,6 @@ module _ (p : Plan) (q : IdPlan) (clients : List (List Task)) (gives : ℕ → L
       λ t ts todo. let x = claims.taken i knows.0 (λ e. ne (knows.1 ∙ e)) in (x.0, l.claimed i x.0 x.1, λ same. claims.free j m t at (free_unclaimed p q clients gives m.slot m.makes m.todo t may.0.0 may.0.2 (subst (In t) (sym todo) (inl refl))) i (subst (λ n. In (record { slot = i; operation = n }) w.claims) same x.1)),
     )),
   )
-  moves (PutCall i asked) found b knows may = refl
   moves (MakeId i range) found b knows may = λ asked slot. (
     ap (λ s. with_made (born_by p q clients gives (call_id i (parts found).first) (put_of p q clients gives s)) (with_slot NoSlot m)) slot,
     subst (In (record { id = call_id i (parts found).first; asked = asked })) (sym (b.births ∙ ap (λ s. born_by p q clients gives (call_id i (parts found).first) (put_of p q clients gives s) ++ w.births) slot)) (inl refl),
@@ -135,7 +132,6 @@ module _ (p : Plan) (q : IdPlan) (clients : List (List Task)) (gives : ℕ → L
     )),
     (λ none_. ((λ begun. begun (ap (λ ws. get_or ws (call_index q o) 0) b.words ∙ (sym knows.1 ∙ none_))), are_told_on p q clients gives w w' l m.client m.done (tasks.told j m at))),
   )
-  moves (StoreAt o x) found b knows may = refl
   moves (LoadAt o) found b knows may = (refl, subst (λ n. at_word_attempt n ≤ 6) (sym knows.1) (law.ats o knows.0))
   moves (LoadIdWord i) found b knows may = (refl, has_codes i found knows.0.0 knows.0.1 knows.1)
   moves (LockId i from) found b knows may = let x : Mark = with_slot (Locked i (parts from).first (shape_of (parts from))) m in ((λ same. ap (λ c. cond c x m) (eq-eqb found from same)), (λ ne. ap (λ c. cond c x m) (ne_eqb found from ne)))
@@ -166,7 +162,6 @@ module _ (p : Plan) (q : IdPlan) (clients : List (List Task)) (gives : ℕ → L
       state_fits true = omega arith
       state_fits false = omega arith
   moves (EndId i) found b knows may = λ f shape asked slot. (ap (λ s. with_owed (ended_of p q clients gives s) (with_slot (Leaves i) m)) slot, used i found b knows may f shape asked slot)
-  moves (FreeId i) found b knows may = refl
   moves (TakeCall i) found b knows may = (refl, taken)
     where
       taken : (f : ℕ) (shape : Shape) → m.slot ≡ Locked i f shape → IsBorn w' (call_id i f) found × (found.range ≡ shape.range)
@@ -188,3 +183,4 @@ module _ (p : Plan) (q : IdPlan) (clients : List (List Task)) (gives : ℕ → L
   moves (TakeBytes k room) asides.AtEnd b knows may = (refl, λ own. ap (λ g. get_or g k []) b.gave ∙ reads.bytes j k m at own)
   moves (TakeBytes k room) asides.Closed b knows may = (refl, λ own. ap (λ g. get_or g k []) b.gave ∙ reads.bytes j k m at own)
   moves (TakeBytes k room) asides.Broken b knows may = (refl, λ own. ap (λ g. get_or g k []) b.gave ∙ reads.bytes j k m at own)
+  moves _ found b knows may = refl

@@ -13,7 +13,7 @@ use Rattle.seat_programs.specs.Posts.{packed, advance_of, is_first, is_sought, i
 use Rattle.id_runs.proofs.Keeps.{parts_packed}
 use Rattle.id_runs.proofs.Loops.{not_equal}
 use Rattle.call_causes.specs.Scenes.{Birth, Scene, IsBorn, WasPosted, WasDecided, IsOther, EndedAt, MayAdvance, CauseOf, of_expiry, of_other, FailedIn, by_expiry, by_other, Later}
-use Rattle.call_causes.specs.Says.{Shape, shape_of, HasShape, with_attempt, unlocked_by, Slot, NoSlot, Claims, Locked, Holds, Leaves, Mark, with_slot, with_owed, IsVacant, IsFree, put_in, taken_out, SaidBy, HasCodes, MayUnlock, Moves, Shows, IsSoughtIn, AtHead, Again, MatchesRange, LeavesPost, LeavesUnlock, IsLast, EndsBy, LeavesDecision, LeavesLock, YieldsPost, SaysOn}
+use Rattle.call_causes.specs.Says.{Shape, shape_of, HasShape, with_attempt, unlocked_by, Slot, NoSlot, Locked, Holds, Leaves, Mark, with_slot, with_owed, IsVacant, IsFree, put_in, taken_out, SaidBy, HasCodes, MayUnlock, Moves, Shows, IsSoughtIn, AtHead, Again, MatchesRange, LeavesPost, LeavesUnlock, IsLast, EndsBy, LeavesDecision, LeavesLock, YieldsPost, SaysOn}
 use Rattle.call_causes.proofs.Lasting.{far, cause_on, unlock_on}
 
 -- ## Tests
@@ -313,10 +313,7 @@ module _ (p : Plan) (q : IdPlan) (clients : List (List Task)) (gives : ℕ → L
 
       twice : (a b : ℕ) (s : Slot) → with_attempt b (with_attempt a s) ≡ with_attempt b s
       twice a b NoSlot = refl
-      twice a b (Claims j c) = refl
-      twice a b (Locked j f shape) = refl
-      twice a b (Holds j f shape asked) = refl
-      twice a b (Leaves j) = refl
+      twice a b _ = refl
 
       rebase : (v : Scene) (a : ℕ) (exit : Unlocking) (m'' : Mark) → LeavesUnlock p q clients gives v (with_slot (with_attempt a m.slot) m) i exit m'' → LeavesUnlock p q clients gives v m i exit m''
       rebase v a (IsOpen word) m'' lv = lv

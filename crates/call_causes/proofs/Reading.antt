@@ -11,14 +11,14 @@ use Rattle.corr_core.specs.Word.{parts, error_of, code_of, attempt_of}
 use Rattle.corr_core.specs.declared.marks.Plan.{Plan as IdPlan}
 use Rattle.sock_message.specs.Asked.{Asked}
 use Rattle.seat_programs.specs.declared.task.Task.{Task}
-use Rattle.seat_programs.specs.Asides.{Taking, Bytes, Nothing, NoMore, AtEnd, Closed, Broken, call_id, id_slot, id_first}
+use Rattle.seat_programs.specs.Asides.{Taking, Bytes, Nothing, Closed, call_id, id_slot, id_first}
 use Rattle.seat_programs.specs.Heads.{Version, Reading, Locks, Opens, Reads, Discards, WasGone, WasStale, WasCrowded, WasQueued, HasLocked, Locking, NotThere, Has, Ended}
 use Rattle.seat_programs.specs.Programs.{Program, Rest, Say, Round, NO_SOCKET, address, release, set_failed}
-use Rattle.seat_programs.specs.Posts.{is_stale, post_with, decide, decided}
+use Rattle.seat_programs.specs.Posts.{is_stale, post_with, decided}
 use Rattle.seat_programs.specs.Readers.{LIMIT, by_code, outcome_by, ending_of, has_response, slot_in, version_in, is_early, answer, answered, responses, last_of, ended_by, read_on, took_bytes, took, reads_round, discarded, discards_round, opens_round, kept_for, ends_with, posted_last, post_each, thrown_away, read, reader}
 use Rattle.call_causes.specs.Lists.{given}
 use Rattle.call_causes.specs.Scenes.{Birth, Scene, Came, IsResponseTo, WasPosted, HasFaulted, IsOther, of_other, by_compression, WhyEnded}
-use Rattle.call_causes.specs.Says.{Shape, shape_of, HasShape, with_attempt, unlocked_by, Slot, NoSlot, Locked, Mark, with_slot, with_owed, with_bytes, IsVacant, IsFree, taken_out, SaidBy, GoesFrom, CameFrom, IsReading, Again, LeavesLock, LeavesPost, YieldsPost, Leaves', SaysOn}
+use Rattle.call_causes.specs.Says.{Shape, HasShape, Locked, Mark, with_slot, with_owed, with_bytes, IsFree, taken_out, SaidBy, GoesFrom, CameFrom, IsReading, Again, LeavesLock, Leaves', SaysOn}
 use Rattle.call_causes.proofs.Lasting.{far, kept_on}
 use Rattle.call_causes.proofs.Posts.{After, Then, Follows, way, plain_way, and_left, and_right, again_same, follows_on, end_says, decide_says, decided_says, failed_of, Exits, post_with_says}
 use Rattle.call_causes.proofs.Programs.{release_says, address_says, set_failed_says, again_on}
@@ -200,10 +200,8 @@ module _ (p : Plan) (q : IdPlan) (clients : List (List Task)) (gives : ℕ → L
         (with_bytes (m.bytes ++ bytes) m) free (read_on_says bytes (λ x. let lead = l.within.1 r.link in (r.link, at.inside, subst HasFault (ap (λ xs. xs ++ lead.0) (sym is) ∙ lead.1) (faults_more (m.bytes ++ bytes) lead.0 x))) (streams.stream (r.rest ++ bytes)).ending refl) v l (frames_came bytes v is) (kept_on p q clients gives w v l r.link r.kept at.kept) s)
     took_says Nothing v m1 l s same is = subst (λ x. Tells v x (Round (Reads r) k)) (sym same)
         ((free, record { inside = at.inside; link = at.link; goes = at.goes; kept = kept_on p q clients gives w v l r.link r.kept at.kept }), λ exit v2 m2 l2 s2 lv. (tt, goes exit v2 m2 (far p q clients gives w v v2 l l2) s2 lv))
-    took_says NoMore v m1 l s same is = ends 1014 (inl refl) false false v m1 l same s
-    took_says AtEnd v m1 l s same is = ends 1014 (inl refl) false false v m1 l same s
     took_says Closed v m1 l s same is = ends 1014 (inl refl) true false v m1 l same s
-    took_says Broken v m1 l s same is = ends 1014 (inl refl) false false v m1 l same s
+    took_says _ v m1 l s same is = ends 1014 (inl refl) false false v m1 l same s
 
     pub reads_says : Tells w m (reads_round r k)
     reads_says = (at.link, λ t v m1 l s mv. (tt, took_says t v m1 l s mv.0 (mv.1 at.link)))
@@ -221,10 +219,7 @@ module _ (p : Plan) (q : IdPlan) (clients : List (List Task)) (gives : ℕ → L
     discarded_says (Bytes bytes) v m1 l s same = way p q clients gives v m1 (nat_lt (total + length bytes) LIMIT) (Round (Discards link (total + length bytes)) k) (k (total + length bytes)) s
         (λ _ _. again_says (total + length bytes) (m.bytes ++ bytes) v m1 l same) (λ _ s'. goes (total + length bytes) v m1 l s' (m.bytes ++ bytes) same)
     discarded_says Nothing v m1 l s same = again_says total m.bytes v m1 l same
-    discarded_says NoMore v m1 l s same = goes total v m1 l s m.bytes same
-    discarded_says AtEnd v m1 l s same = goes total v m1 l s m.bytes same
-    discarded_says Closed v m1 l s same = goes total v m1 l s m.bytes same
-    discarded_says Broken v m1 l s same = goes total v m1 l s m.bytes same
+    discarded_says _ v m1 l s same = goes total v m1 l s m.bytes same
 
     pub discards_says : Tells w m (discards_round link total k)
     discards_says = (own, λ t v m1 l s mv. (tt, discarded_says t v m1 l s mv.0))

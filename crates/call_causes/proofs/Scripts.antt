@@ -12,7 +12,7 @@ use Rattle.sock_message.specs.Asked.{Asked}
 use Rattle.seat_programs.specs.declared.task.Op.{Op}
 use Rattle.seat_programs.specs.declared.task.Op.TheVariants as ops
 use Rattle.seat_programs.specs.declared.task.Task.{Task}
-use Rattle.seat_programs.specs.Tasks.{Numbered, numbered, number_of, tasks, opens, calls, op_of, plan_of, id_plan_of}
+use Rattle.seat_programs.specs.Tasks.{Numbered, numbered, number_of, opens, calls, op_of, plan_of, id_plan_of}
 use Rattle.seat_programs.specs.Scripts.{all_tasks}
 use Rattle.seat_programs.specs.Told.{HaveOwnLinks, IsOpen}
 use Rattle.owed_calls.specs.programs_allowed.proofs.Beginning as beginning
@@ -22,7 +22,7 @@ use Rattle.owed_calls.specs.report_fits.proofs.Reading.{InRange}
 use Rattle.owed_calls.specs.report_fits.proofs.Numbering.{link_at, numbered_at, are_from}
 use Rattle.owed_calls.specs.report_fits.proofs.Targets.{IsTarget, AreThere, expired, joined}
 use Rattle.owed_calls.specs.report_fits.proofs.TaskLemmas as lemmas
-use Rattle.owed_calls.specs.report_fits.proofs.TaskLemmas.{of_tasks, has_task, asks_at, numbers_at, call_asks, expire_asks, join_asks, fail_asks}
+use Rattle.owed_calls.specs.report_fits.proofs.TaskLemmas.{of_tasks, has_task, numbers_at, call_asks, expire_asks, join_asks, fail_asks}
 use Rattle.call_causes.specs.Scenes.{In, IsTaskOf}
 use Rattle.call_causes.proofs.BirthTicks.{all_in, in_all}
 use Rattle.call_causes.proofs.Numbered.{AllDistinct, AreNumbered}
@@ -136,9 +136,7 @@ module _ (script : List Item) (made : AreMade script) (there : AreThere script) 
       let x = fail_asks (numbered script) (names script) (numbers_at script t.number a.operation) a.operation.item n code (a.asks ∙ ap (λ o. Some o) op) in
       all_at InRange script (Fail x.0 code) range (item_there t.number a.operation (Fail x.0 code) a.there x.1)
   fits_op c t (ops.Open n k) is op = tt
-  fits_op c t (ops.Send n bytes) is op = tt
-  fits_op c t (ops.Hold n) is op = tt
-  fits_op c t (ops.Drop n) is op = tt
+  fits_op c t _ is op = tt
 
   -- client 0 only opens sockets
   opens_only : (c : ℕ) (t : Task) → IsTaskOf (plan_of script) (id_plan_of script) (all_tasks script) gives c t → (IsOpen t.op → ⊥) → c ≢ 0
@@ -146,13 +144,9 @@ module _ (script : List Item) (made : AreMade script) (there : AreThere script) 
 
   fits_client : (c : ℕ) (t : Task) (op : Op) → IsTaskOf (plan_of script) (id_plan_of script) (all_tasks script) gives c t → t.op ≡ op → FitsClient (plan_of script) (id_plan_of script) (all_tasks script) gives c op
   fits_client c t (ops.Open n k) is op = tt
-  fits_client c t (ops.Call asked) is op = opens_only c t is (λ o. subst IsOpen op o)
   fits_client c t (ops.Expire o) is op = opens_only c t is (λ o. subst IsOpen op o)
   fits_client c t (ops.Join o) is op = opens_only c t is (λ o. subst IsOpen op o)
-  fits_client c t (ops.Send n bytes) is op = opens_only c t is (λ o. subst IsOpen op o)
-  fits_client c t (ops.Hold n) is op = opens_only c t is (λ o. subst IsOpen op o)
-  fits_client c t (ops.Drop n) is op = opens_only c t is (λ o. subst IsOpen op o)
-  fits_client c t (ops.Fail n code) is op = opens_only c t is (λ o. subst IsOpen op o)
+  fits_client c t _ is op = opens_only c t is (λ o. subst IsOpen op o)
 
   pub begins : Begins (plan_of script) (id_plan_of script) (all_tasks script) gives are_numbered have_slots (opens script)
   begins = record {

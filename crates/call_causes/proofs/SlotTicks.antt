@@ -7,33 +7,24 @@ use Rattle.corr_core.specs.declared.marks.Plan.{Plan as IdPlan}
 use Rattle.id_rule.specs.Lawful.{all_words}
 use Rattle.sock_message.specs.Asked.{Asked}
 use Rattle.seat_programs.specs.declared.task.Task.{Task}
-use Rattle.seat_programs.specs.Asides.{Step, ClaimId, PutCall, MakeId, StoreCall, LoadCall, StoreAt, LoadAt, LoadIdWord, LockId, PostId, UnlockId, EndId, FreeId, TakeCall, TakeBytes, Bytes, Found}
+use Rattle.seat_programs.specs.Asides.{Step, ClaimId, PutCall, MakeId, StoreCall, StoreAt, LockId, PostId, UnlockId, EndId, FreeId, TakeCall, TakeBytes, Bytes, Found}
 use Rattle.seat_programs.specs.Asides as asides
 use Rattle.call_causes.specs.Scenes.{Scene}
-use Rattle.call_causes.specs.Says.{shape_of, with_attempt, unlocked_by, Slot, NoSlot, Claims, Locked, Holds, Leaves, Mark, with_slot, put_in, taken_out, MayAside}
+use Rattle.call_causes.specs.Says.{shape_of, with_attempt, unlocked_by, Slot, NoSlot, Claims, Locked, Mark, with_slot, put_in, taken_out, MayAside}
 use Rattle.call_causes.specs.Stories.{At, word_at, tag_at, InSlot, SlotsLaw, IsBehind, KnowsStep, mark_after, stored_by}
 use Rattle.call_causes.proofs.Slots.{like_fits, in_tag, other_like, own_fits}
 
 put_slot : (asked : Asked) (k : ℕ) (s : Slot) → InSlot k (put_in asked s) → InSlot k s
 put_slot asked k NoSlot x = x
-put_slot asked k (Claims i c) x = x
-put_slot asked k (Locked i f range) x = x
-put_slot asked k (Holds i f range c) x = x
-put_slot asked k (Leaves i) x = x
+put_slot asked k _ x = x
 
 attempt_slot : (n k : ℕ) (s : Slot) → InSlot k (with_attempt n s) → InSlot k s
 attempt_slot n k NoSlot x = x
-attempt_slot n k (Claims i c) x = x
-attempt_slot n k (Locked i f shape) x = x
-attempt_slot n k (Holds i f shape c) x = x
-attempt_slot n k (Leaves i) x = x
+attempt_slot n k _ x = x
 
 taken_slot : (asked : Asked) (k : ℕ) (s : Slot) → InSlot k (taken_out asked s) → InSlot k s
 taken_slot asked k NoSlot x = x
-taken_slot asked k (Claims i c) x = x
-taken_slot asked k (Locked i f range) x = x
-taken_slot asked k (Holds i f range c) x = x
-taken_slot asked k (Leaves i) x = x
+taken_slot asked k _ x = x
 
 module _ (p : Plan) (q : IdPlan) (clients : List (List Task)) (gives : ℕ → List ℕ) (w w' : Scene) (ms : List Mark) (j : ℕ) (m : Mark) (plan : w.core.calls.plan ≡ q) (sized : length w.core.calls.words ≡ all_words q) (law : SlotsLaw q w ms) (at : At ms j m) where
   -- no other seat has something of the slot
@@ -88,10 +79,8 @@ module _ (p : Plan) (q : IdPlan) (clients : List (List Task)) (gives : ℕ → L
   new_slot (TakeBytes l room) asides.AtEnd knows may k = λ x. inl x
   new_slot (TakeBytes l room) asides.Closed knows may k = λ x. inl x
   new_slot (TakeBytes l room) asides.Broken knows may k = λ x. inl x
-  new_slot (LoadCall o) found knows may k = λ x. inl x
   new_slot (StoreAt o x) found knows may k = λ x. inl x
-  new_slot (LoadAt o) found knows may k = λ x. inl x
-  new_slot (LoadIdWord i) found knows may k = λ x. inl x
+  new_slot _ found knows may k = λ x. inl x
 
   pub slots_after : (step : Step) (found : Found step) → IsBehind p q clients gives w w' m step found → KnowsStep p q clients gives w step found → MayAside p q clients gives w m step → SlotsLaw q w' (set ms j (mark_after p q clients gives step found m))
   slots_after step found b knows may = record { fits = fits; single = single }

@@ -11,7 +11,7 @@ use Rattle.corr_core.specs.declared.marks.Plan.{Plan as IdPlan}
 use Rattle.id_rule.specs.Lawful.{tag_index, id_index, all_words}
 use Rattle.sock_message.specs.Asked.{Asked}
 use Rattle.seat_programs.specs.declared.task.Task.{Task}
-use Rattle.seat_programs.specs.Asides.{Step, ClaimId, PutCall, MakeId, StoreCall, LoadCall, StoreAt, LoadAt, LoadIdWord, LockId, PostId, UnlockId, EndId, FreeId, TakeCall, TakeBytes, Taking, Bytes, Found}
+use Rattle.seat_programs.specs.Asides.{Step, ClaimId, PutCall, MakeId, StoreCall, LoadCall, StoreAt, LoadAt, LoadIdWord, LockId, PostId, UnlockId, EndId, FreeId, TakeCall, TakeBytes, Bytes, Found}
 use Rattle.seat_programs.specs.Posts.{packed, advance_of}
 use Rattle.id_runs.proofs.Keeps.{parts_packed}
 use Rattle.call_causes.specs.Scenes.{Scene}
@@ -44,10 +44,7 @@ module _ (q : IdPlan) where
   -- a slot of which a seat has something is taken, and its id isn't open
   pub in_tag : (w : Scene) (s : Slot) (k : ℕ) → SlotFits q w s → InSlot k s → (tag_at w k ≢ 0) × ((word_at w k).state ≢ 1)
   in_tag w NoSlot k f x = absurd x
-  in_tag w (Claims i c) k f x = subst (λ n. (tag_at w n ≢ 0) × ((word_at w n).state ≢ 1)) x (f.1, (let z = f.2 in λ e. omega (arith, e, z)))
-  in_tag w (Locked i first range) k f x = subst (λ n. (tag_at w n ≢ 0) × ((word_at w n).state ≢ 1)) x (f.1, (let z = f.2 in λ e. omega (arith, e, z)))
-  in_tag w (Holds i first range asked) k f x = subst (λ n. (tag_at w n ≢ 0) × ((word_at w n).state ≢ 1)) x (f.1, (let z = f.2 in λ e. omega (arith, e, z)))
-  in_tag w (Leaves i) k f x = subst (λ n. (tag_at w n ≢ 0) × ((word_at w n).state ≢ 1)) x (f.1, (let z = f.2 in λ e. omega (arith, e, z)))
+  in_tag w _ k f x = subst (λ n. (tag_at w n ≢ 0) × ((word_at w n).state ≢ 1)) x (f.1, (let z = f.2 in λ e. omega (arith, e, z)))
 
 module _ (p : Plan) (q : IdPlan) (clients : List (List Task)) (gives : ℕ → List ℕ) (w w' : Scene) (m : Mark) (plan : w.core.calls.plan ≡ q) (sized : length w.core.calls.words ≡ all_words q) where
   of_same : (k : ℕ) → SameAt p q clients gives k w w' → LikeAt q k w w'
@@ -136,12 +133,7 @@ module _ (p : Plan) (q : IdPlan) (clients : List (List Task)) (gives : ℕ → L
   shared_like (LoadAt o) found sh b knows s f k low there = of_same k (beside p q clients gives w w' m plan (LoadAt o) found b k low (λ x. x))
   shared_like (LoadIdWord i) found sh b knows s f k low there = of_same k (beside p q clients gives w w' m plan (LoadIdWord i) found b k low (λ x. x))
   shared_like (TakeBytes l room) found sh b knows s f k low there = of_same k (beside p q clients gives w w' m plan (TakeBytes l room) found b k low (λ x. x))
-  shared_like (PutCall i asked) found sh b knows s f k low there = absurd sh
-  shared_like (MakeId i range) found sh b knows s f k low there = absurd sh
-  shared_like (UnlockId i from advance) found sh b knows s f k low there = absurd sh
-  shared_like (EndId i) found sh b knows s f k low there = absurd sh
-  shared_like (FreeId i) found sh b knows s f k low there = absurd sh
-  shared_like (TakeCall i) found sh b knows s f k low there = absurd sh
+  shared_like _ found sh b knows s f k low there = absurd sh
 
   -- where the step is made at the seat's own slot, which is no other's
   alone : (step : Step) (found : Found step) → Behind step found → (i : ℕ) → ((k : ℕ) → Touches step k → i ≡ k) → InSlot i m.slot → (s : Slot) → ((k : ℕ) → InSlot k s → InSlot k m.slot → ⊥) → (k : ℕ) → k < q.slots → InSlot k s → LikeAt q k w w'
@@ -155,15 +147,7 @@ module _ (p : Plan) (q : IdPlan) (clients : List (List Task)) (gives : ℕ → L
   other_like (EndId i) found b knows may s f apart = alone (EndId i) found b i (λ k t. t) (subst (InSlot i) (sym may.3) refl) s apart
   other_like (FreeId i) found b knows may s f apart = alone (FreeId i) found b i (λ k t. t) (subst (InSlot i) (sym may) refl) s apart
   other_like (TakeCall i) found b knows may s f apart = alone (TakeCall i) found b i (λ k t. t) (subst (InSlot i) (sym may.2) refl) s apart
-  other_like (ClaimId i) found b knows may s f apart = shared_like (ClaimId i) found tt b knows s f
-  other_like (StoreCall o id) found b knows may s f apart = shared_like (StoreCall o id) found tt b knows s f
-  other_like (LoadCall o) found b knows may s f apart = shared_like (LoadCall o) found tt b knows s f
-  other_like (StoreAt o x) found b knows may s f apart = shared_like (StoreAt o x) found tt b knows s f
-  other_like (LoadAt o) found b knows may s f apart = shared_like (LoadAt o) found tt b knows s f
-  other_like (LoadIdWord i) found b knows may s f apart = shared_like (LoadIdWord i) found tt b knows s f
-  other_like (LockId i from) found b knows may s f apart = shared_like (LockId i from) found tt b knows s f
-  other_like (PostId i from e) found b knows may s f apart = shared_like (PostId i from e) found tt b knows s f
-  other_like (TakeBytes l room) found b knows may s f apart = shared_like (TakeBytes l room) found tt b knows s f
+  other_like other found b knows may s f apart = shared_like other found tt b knows s f
 
   -- ## The own slot
 
@@ -229,10 +213,6 @@ module _ (p : Plan) (q : IdPlan) (clients : List (List Task)) (gives : ℕ → L
       by_todo : (ts : List Task) → SlotFits q w' (stored_by p q clients gives ts m).slot
       by_todo [] = stays (StoreCall o id) found tt b knows f
       by_todo (t ∷ ts) = stays (StoreCall o id) found tt b knows f
-  own_fits (LoadCall o) found b knows may f = stays (LoadCall o) found tt b knows f
-  own_fits (StoreAt o x) found b knows may f = stays (StoreAt o x) found tt b knows f
-  own_fits (LoadAt o) found b knows may f = stays (LoadAt o) found tt b knows f
-  own_fits (LoadIdWord i) found b knows may f = stays (LoadIdWord i) found tt b knows f
   own_fits (LockId i from) found b knows may f = lock_own i from found b knows f (eqb found from) refl
   own_fits (PostId i from e) found b knows may f = post_own i from e found b knows f (eqb found from) (eqb (parts from).state 1) refl refl
   own_fits (UnlockId i from advance) found b knows may f = by_found (eqb found from) refl b.words (subst (SlotFits q w) may.2 f)
@@ -282,3 +262,4 @@ module _ (p : Plan) (q : IdPlan) (clients : List (List Task)) (gives : ℕ → L
   own_fits (TakeBytes l room) Rattle.seat_programs.specs.Asides.AtEnd b knows may f = stays (TakeBytes l room) Rattle.seat_programs.specs.Asides.AtEnd tt b knows f
   own_fits (TakeBytes l room) Rattle.seat_programs.specs.Asides.Closed b knows may f = stays (TakeBytes l room) Rattle.seat_programs.specs.Asides.Closed tt b knows f
   own_fits (TakeBytes l room) Rattle.seat_programs.specs.Asides.Broken b knows may f = stays (TakeBytes l room) Rattle.seat_programs.specs.Asides.Broken tt b knows f
+  own_fits other found b knows may f = stays other found tt b knows f

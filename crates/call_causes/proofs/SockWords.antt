@@ -8,7 +8,7 @@ use Rattle.sock_words.specs.declared.plain.Plan.{Plan}
 use Rattle.sock_model.specs.Layout.{tag_index, code_index, name_index, open_index, request_index, next_index, place_index, all_words}
 use Rattle.corr_core.specs.declared.marks.Plan.{Plan as IdPlan}
 use Rattle.seat_programs.specs.declared.task.Task.{Task}
-use Rattle.seat_programs.specs.Calls.{Call, ClaimSlot, CreateLife, AddRef, SubRef, SetOdd, Recycle, FreeSlot, StoreLink, LoadLink, ResetHead, ClearCode, StoreCode, StoreName, LoadName, StoreOpen, LoadOpen, TakeLink, FinishLink, PutLink, LookWord, FindLink, LoadCode, ClaimRequest, PutMessage, Unconnect, SwapHead, Connect, EmptyHead, ReadNext, ReverseNext, FreeRequest, StorePlace, DropPlace}
+use Rattle.seat_programs.specs.Calls.{Call, ClaimSlot, CreateLife, AddRef, SubRef, SetOdd, Recycle, FreeSlot, StoreLink, LoadLink, ResetHead, ClearCode, StoreCode, StoreName, LoadName, StoreOpen, LoadOpen, LookWord, FindLink, LoadCode, ClaimRequest, Unconnect, SwapHead, Connect, EmptyHead, ReadNext, ReverseNext, FreeRequest, StorePlace, DropPlace}
 use Rattle.seat_programs.specs.Cores.{word_of, found_at, words_after, word_after}
 use Rattle.call_causes.specs.Scenes.{IsOther}
 use Rattle.call_causes.specs.Says.{MayDo}
@@ -90,10 +90,7 @@ module _ (p : Plan) where
     names_after (ReverseNext r value) in_ may ws sized n low some_ = other_name ws (next_index p r) value n (λ e. omega (arith, low, e)) some_
     names_after (StorePlace l k m) in_ may ws sized n low some_ = other_name ws (place_index p l) (word_after (StorePlace l k m) (found_at ws (word_of p (StorePlace l k m)))) n (λ e. omega (arith, low, e)) some_
     names_after (DropPlace l k m) in_ may ws sized n low some_ = other_name ws (place_index p l) (word_after (DropPlace l k m) (found_at ws (word_of p (DropPlace l k m)))) n (λ e. omega (arith, low, e)) some_
-    names_after (TakeLink k) in_ may ws sized n low some_ = some_
-    names_after (FinishLink k) in_ may ws sized n low some_ = some_
-    names_after (PutLink k) in_ may ws sized n low some_ = some_
-    names_after (PutMessage r heading bytes) in_ may ws sized n low some_ = some_
+    names_after _ in_ may ws sized n low some_ = some_
 
   -- ## Codes
 
@@ -146,7 +143,4 @@ module _ (p : Plan) where
     codes_after (ReverseNext r value) may ws are = code_behind ws (next_index p r) value (omega arith) are
     codes_after (StorePlace l k n) may ws are = code_behind ws (place_index p l) (word_after (StorePlace l k n) (found_at ws (word_of p (StorePlace l k n)))) (omega arith) are
     codes_after (DropPlace l k n) may ws are = code_behind ws (place_index p l) (word_after (DropPlace l k n) (found_at ws (word_of p (DropPlace l k n)))) (omega arith) are
-    codes_after (TakeLink k) may ws are = are
-    codes_after (FinishLink k) may ws are = are
-    codes_after (PutLink k) may ws are = are
-    codes_after (PutMessage r heading bytes) may ws are = are
+    codes_after _ may ws are = are

@@ -14,7 +14,7 @@ use Rattle.seat_programs.specs.Asides.{Step, ClaimId, PutCall, MakeId, StoreCall
 use Rattle.seat_programs.specs.Asides as asides
 use Rattle.seat_programs.specs.Posts.{packed, advance_of}
 use Rattle.call_causes.specs.Scenes.{Birth, Saying, Scene, In, AreTold, was_begun, Later}
-use Rattle.call_causes.specs.Says.{Shape, shape_of, HasShape, with_attempt, unlocked_by, Slot, NoSlot, Claims, Locked, Holds, Leaves, Mark, with_slot, with_owed, with_made, with_done, MayAside}
+use Rattle.call_causes.specs.Says.{shape_of, with_attempt, unlocked_by, Slot, NoSlot, Claims, Locked, Holds, Leaves, Mark, with_slot, with_owed, with_made, with_done, MayAside}
 use Rattle.call_causes.specs.Stories.{At, word_at, SlotFits, HasPassed, IsCurrent, BirthsLaw, undo, ahead, tasks_behind, IsUntold, AreQuiet, TasksLaw, IsBehind, KnowsStep, put_of, born_by, ended_of, stored_by, mark_after}
 use Rattle.call_causes.proofs.Lasting.{are_told_on}
 use Rattle.call_causes.proofs.Births.{Turn, keeps, ends, makes, IsMake, IsEnd, turn, current_before, passed_still}
@@ -68,25 +68,21 @@ module _ (p : Plan) (q : IdPlan) (clients : List (List Task)) (gives : ℕ → L
 
   calls_same : (step : Step) (found : Found step) → Behind step found → KnowsStep p q clients gives w step found → CallsSame step
   calls_same (ClaimId i) found b knows o inside none_ = one_word (tag_index i) 1 o b.words (let z = knows.0 in λ e. omega (arith, z, e))
-  calls_same (PutCall i asked) found b knows o inside none_ = no_word o b.words
   calls_same (MakeId i range) found b knows o inside none_ = one_word (id_index i) (packed (made_word (parts found).first range)) o b.words (λ e. omega (arith, e))
   calls_same (StoreCall u id) found b knows o inside none_ = one_word (call_index q u) id o (b.words ∙ ap (λ (r : IdPlan). set w.core.calls.words (call_index r u) id) plan) (λ e. none_ (omega (arith, e)))
-  calls_same (LoadCall u) found b knows o inside none_ = no_word o b.words
   calls_same (StoreAt u x) found b knows o inside none_ = one_word (at_index q u) x o (b.words ∙ ap (λ (r : IdPlan). set w.core.calls.words (at_index r u) x) plan) (λ e. omega (arith, e))
-  calls_same (LoadAt u) found b knows o inside none_ = no_word o b.words
-  calls_same (LoadIdWord i) found b knows o inside none_ = no_word o b.words
   calls_same (LockId i from) found b knows o inside none_ = one_word (id_index i) (cond (eqb found from) (packed (posted_word (parts from) 0)) found) o b.words (λ e. omega (arith, e))
   calls_same (PostId i from e) found b knows o inside none_ = one_word (id_index i) (cond (eqb found from) (packed (posted_word (parts from) e)) found) o b.words (λ z. omega (arith, z))
   calls_same (UnlockId i from advance) found b knows o inside none_ = one_word (id_index i) (cond (eqb found from) (packed (unlocked_word (parts from) (advance_of advance))) found) o b.words (λ e. omega (arith, e))
   calls_same (EndId i) found b knows o inside none_ = one_word (id_index i) (packed (free_word ((parts found).first + (parts found).range))) o b.words (λ e. omega (arith, e))
   calls_same (FreeId i) found b knows o inside none_ = one_word (tag_index i) 0 o b.words (λ e. omega (arith, knows, e))
-  calls_same (TakeCall i) found b knows o inside none_ = no_word o b.words
   calls_same (TakeBytes k room) (Bytes bytes) b knows o inside none_ = no_word o b.words
   calls_same (TakeBytes k room) asides.Nothing b knows o inside none_ = no_word o b.words
   calls_same (TakeBytes k room) asides.NoMore b knows o inside none_ = no_word o b.words
   calls_same (TakeBytes k room) asides.AtEnd b knows o inside none_ = no_word o b.words
   calls_same (TakeBytes k room) asides.Closed b knows o inside none_ = no_word o b.words
   calls_same (TakeBytes k room) asides.Broken b knows o inside none_ = no_word o b.words
+  calls_same _ found b knows o inside none_ = no_word o b.words
 
   module _ (step : Step) (found : Found step) (b : Behind step found) (knows : KnowsStep p q clients gives w step found) (may : MayAside p q clients gives w m step) where
     -- ## Ranges

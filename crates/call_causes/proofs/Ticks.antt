@@ -17,7 +17,7 @@ use Rattle.corr_core.specs.declared.marks.Plan.{Plan as IdPlan}
 use Rattle.seat_programs.specs.declared.task.Op.TheVariants as ops
 use Rattle.seat_programs.specs.declared.task.Task.{Task}
 use Rattle.seat_programs.specs.Calls.{Call, StoreName, LoadName, LoadCode}
-use Rattle.seat_programs.specs.Asides.{Step, ClaimId, PutCall, MakeId, StoreCall, LoadCall, StoreAt, LoadAt, LoadIdWord, LockId, PostId, UnlockId, EndId, FreeId, TakeCall, TakeBytes, Taking, Bytes, Found}
+use Rattle.seat_programs.specs.Asides.{Step, TakeBytes, Taking, Bytes, Found}
 use Rattle.seat_programs.specs.Asides as asides
 use Rattle.seat_programs.specs.Heads.{Retry}
 use Rattle.seat_programs.specs.Programs.{Program, Do, Say, Sent, Rest, TakeMessage, TakeHome, PutHome, PutBytes, AskReady, Write, Aside, Round, Keep, Retries}
@@ -26,9 +26,9 @@ use Rattle.seat_programs.specs.Rounds.{round}
 use Rattle.seat_programs.specs.Cores.{Calls, Core, SeatState, word_of, found_at, words_after, word_after, homes_after, hand_after, lies_at, first_of, others_of, link_place, resolved, waiting_at, next_step, with_seat}
 use Rattle.seat_programs.specs.Beside.{found_in, calls_after}
 use Rattle.seat_programs.specs.Scripts.{is_ending}
-use Rattle.seat_programs.specs.Ticks.{Answer, Unasked, OfPut, OfReady, OfTake, Moment, fed, with_places, onto_first, taken, with_message, with_link, with_put, with_ready, with_found, step_with, tick_with, ticked}
+use Rattle.seat_programs.specs.Ticks.{Answer, OfPut, OfReady, Moment, fed, with_places, onto_first, taken, with_message, with_link, with_put, with_ready, with_found, step_with, tick_with, ticked}
 use Rattle.id_runs.specs.Held.{IdView, id_row}
-use Rattle.id_runs.specs.Goes.{FitsRetryId, FitsOwner, IdGoesOn, SoundIds, FitsFirst, IsFittingIds}
+use Rattle.id_runs.specs.Goes.{FitsRetryId, IdGoesOn, SoundIds, FitsFirst, IsFittingIds}
 use Rattle.id_runs.specs.Goes as goes
 use Rattle.id_runs.proofs.Loops.{ids_round}
 use Rattle.id_runs.proofs.Programs.{block_goes}
@@ -36,7 +36,7 @@ use Rattle.id_runs.proofs.Owners.{steps_on}
 use Rattle.call_causes.specs.Lists.{advances_by, advanced_with, advanced_at}
 use Rattle.call_causes.specs.Posts.{Post, posts_by, posted_with, posted_at}
 use Rattle.call_causes.specs.Decided.{Decision, decision_in, decided_at}
-use Rattle.call_causes.specs.Scenes.{Scene, In, Said, IsTaskOf, Named, HasNoneOf, ToldOf, was_said, was_sent, was_begun, AreTold, HasRoom, LeadsTo, StaysWithin, Later}
+use Rattle.call_causes.specs.Scenes.{Scene, In, IsTaskOf, Named, HasNoneOf, ToldOf, was_said, was_sent, was_begun, AreTold, HasRoom, LeadsTo, StaysWithin, Later}
 use Rattle.call_causes.specs.Says.{Mark, SaidBy, MayDo, FindsDo, NoneOfSetup, SaysOn}
 use Rattle.call_causes.specs.Stories.{At, SlotsLaw, ClaimsLaw, ReadsLaw, IsBehind, births_after, claims_after, mark_after, CallStory, HasStory, GoesOn, undo}
 use Rattle.call_causes.proofs.Lasting.{far, here_later, are_told_on, says_on}
@@ -80,20 +80,7 @@ waiting_same (TakeBytes l room) asides.NoMore a = refl
 waiting_same (TakeBytes l room) asides.AtEnd a = refl
 waiting_same (TakeBytes l room) asides.Closed a = refl
 waiting_same (TakeBytes l room) asides.Broken a = refl
-waiting_same (ClaimId k) found a = refl
-waiting_same (PutCall k b) found a = refl
-waiting_same (MakeId k range) found a = refl
-waiting_same (StoreCall o id) found a = refl
-waiting_same (LoadCall o) found a = refl
-waiting_same (StoreAt o w) found a = refl
-waiting_same (LoadAt o) found a = refl
-waiting_same (LoadIdWord k) found a = refl
-waiting_same (LockId k from) found a = refl
-waiting_same (PostId k from e) found a = refl
-waiting_same (UnlockId k from advance) found a = refl
-waiting_same (EndId k) found a = refl
-waiting_same (FreeId k) found a = refl
-waiting_same (TakeCall k) found a = refl
+waiting_same _ found a = refl
 
 module _ (p : Plan) (q : IdPlan) where
   few_of : (ws : List Retry) → AllByRecursion (FitsRetryId q) ws → AreFewTries ws
@@ -106,16 +93,7 @@ module _ (p : Plan) (q : IdPlan) where
   keeps_few u (Sent o next) g = keeps_few u next g
   keeps_few u (Keep r next) g = (g.0.1, keeps_few u next g.1)
   keeps_few u (Retries requests after) g = keeps_few u after (g.1 u g.0)
-  keeps_few u (Do call next) g = tt
-  keeps_few u Rest g = tt
-  keeps_few u (TakeMessage r next) g = tt
-  keeps_few u (TakeHome k next) g = tt
-  keeps_few u (PutHome k n after) g = tt
-  keeps_few u (PutBytes k asked bytes next) g = tt
-  keeps_few u (AskReady k next) g = tt
-  keeps_few u (Write v after) g = tt
-  keeps_few u (Aside step next) g = tt
-  keeps_few u (Round head next) g = tt
+  keeps_few u _ g = tt
 
 -- the scene in which these errors are noted
 abbrev pub noted : List Decision → Scene → Scene
@@ -377,15 +355,11 @@ module _ (p : Plan) (q : IdPlan) (clients : List (List Task)) (gives : ℕ → L
 
     by_put : (bytes : List ℕ) (next : Put → Program) → ((answer : Put) (v : Scene) → Later p q clients gives w v → SaidBy v (next answer) → SaysOn p q clients gives v m (next answer)) → ((answer : Put) → IdGoesOn p q u (next answer)) → (answer : Answer) → Leads (with_put p i seat w.core bytes answer next) → Goes w.posts w.advances (with_put p i seat w.core bytes answer next)
     by_put bytes next says go (OfPut answer) lead = on_homes (next answer) (onto_first (fed bytes answer) seat.hand) w.core.homes (keeps_few p q u (next answer) (go answer)) lead (λ v l s. says answer v l s)
-    by_put bytes next says go Unasked lead = before lead
-    by_put bytes next says go (OfReady r) lead = before lead
-    by_put bytes next says go (OfTake t) lead = before lead
+    by_put bytes next says go _ lead = before lead
 
     by_ready : (next : Ready → Program) → ((answer : Ready) (v : Scene) → Later p q clients gives w v → SaidBy v (next answer) → SaysOn p q clients gives v m (next answer)) → ((answer : Ready) → IdGoesOn p q u (next answer)) → (answer : Answer) → Leads (with_ready p i seat w.core answer next) → Goes w.posts w.advances (with_ready p i seat w.core answer next)
     by_ready next says go (OfReady answer) lead = on_homes (next answer) seat.hand w.core.homes (keeps_few p q u (next answer) (go answer)) lead (λ v l s. says answer v l s)
-    by_ready next says go Unasked lead = before lead
-    by_ready next says go (OfPut a) lead = before lead
-    by_ready next says go (OfTake t) lead = before lead
+    by_ready next says go _ lead = before lead
 
     first_step : (answer : Answer) (program : Program) → SaysOn p q clients gives w m program → IdGoesOn p q u program → FitsFirst p w.core program → AllowsDo p program → Leads (step_with p i seat w.core answer program) → Goes (posted_with w.core.calls (taken answer) program ++ w.posts) (advanced_with w.core.calls (taken answer) program ++ w.advances) (step_with p i seat w.core answer program)
     first_step answer (Do call next) says go fits in_ lead = let found : ℕ = found_at w.core.words (word_of p call) in
@@ -398,13 +372,7 @@ module _ (p : Plan) (q : IdPlan) (clients : List (List Task)) (gives : ℕ → L
     first_step answer (PutBytes k asked bytes next) says go fits in_ lead = by_put bytes next says go answer lead
     first_step answer (AskReady k next) says go fits in_ lead = by_ready next says go answer lead
     first_step answer (Aside step next) says go fits in_ lead = by_found step next (taken answer) says go (found_in step w.core.calls (taken answer)) refl lead
-    first_step answer (Say o outcome next) says go fits in_ lead = before lead
-    first_step answer (Sent o next) says go fits in_ lead = before lead
-    first_step answer Rest says go fits in_ lead = before lead
-    first_step answer (Write x after) says go fits in_ lead = before lead
-    first_step answer (Round head next) says go fits in_ lead = before lead
-    first_step answer (Keep r next) says go fits in_ lead = before lead
-    first_step answer (Retries requests after) says go fits in_ lead = before lead
+    first_step answer _ says go fits in_ lead = before lead
 
     -- where the error on which the seat decides is noted, if it decides on one
     any_step : (answer : Answer) (program : Program) → ((d : Decision) → In d (decision_in program) → In d w.decisions) → SaysOn p q clients gives w m program → IdGoesOn p q u program → FitsFirst p w.core (goes.first_of program) → AllowsDo p (goes.first_of program) → Leads (tick_with p i seat w.core answer program) → Goes (posted_with w.core.calls (taken answer) (goes.first_of program) ++ w.posts) (advanced_with w.core.calls (taken answer) (goes.first_of program) ++ w.advances) (tick_with p i seat w.core answer program)
@@ -417,11 +385,7 @@ module _ (p : Plan) (q : IdPlan) (clients : List (List Task)) (gives : ℕ → L
     any_step answer (PutBytes k asked bytes next) on says go fits in_ lead = first_step answer (PutBytes k asked bytes next) says go fits in_ lead
     any_step answer (AskReady k next) on says go fits in_ lead = first_step answer (AskReady k next) says go fits in_ lead
     any_step answer (Aside step next) on says go fits in_ lead = first_step answer (Aside step next) says go fits in_ lead
-    any_step answer (Say o outcome next) on says go fits in_ lead = before lead
-    any_step answer (Sent o next) on says go fits in_ lead = before lead
-    any_step answer Rest on says go fits in_ lead = before lead
-    any_step answer (Keep r next) on says go fits in_ lead = before lead
-    any_step answer (Retries requests after) on says go fits in_ lead = before lead
+    any_step answer _ on says go fits in_ lead = before lead
 
   -- the step of each seat is one of the table
   abbrev pub Allows : Core → Moment → Type 0

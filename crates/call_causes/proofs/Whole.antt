@@ -33,14 +33,11 @@ use Rattle.call_causes.proofs.Run.{run_told, many_seats}
 use Rattle.call_causes.proofs.Over.{has_ended}
 
 seeks_name : (n : ℕ) (op : Op) → Seeks n op → SeeksName n op
-seeks_name n (ops.Fail m code) s = s
-seeks_name n (ops.Hold m) s = s
-seeks_name n (ops.Send m bytes) s = s
-seeks_name n (ops.Call asked) s = s
 seeks_name n (ops.Open m k) s = absurd s
 seeks_name n (ops.Expire t) s = absurd s
 seeks_name n (ops.Join t) s = absurd s
 seeks_name n (ops.Drop m) s = absurd s
+seeks_name n _ s = s
 
 module _ (script : List Item) (made : AreMade script) (there : AreThere script) (range : AllByRecursion InRange script) (turns : List Turn) (core : Core) (is : IsRunWithCalls script turns core) where
   abbrev gives : ℕ → List ℕ

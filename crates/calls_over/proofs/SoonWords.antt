@@ -16,9 +16,9 @@ use Rattle.sock_model.specs.Messages.{Letter}
 use Rattle.sock_model.specs.Reads.{message, link_home}
 use Rattle.seat_programs.specs.Asides.{Step, Found, id_slot, id_first}
 use Rattle.seat_programs.specs.Beside.{found_in}
-use Rattle.seat_programs.specs.Programs.{Program, Do, Say, Sent, Rest, TakeMessage, TakeHome, PutHome, PutBytes, AskReady, Write, Aside, Round, Keep, Retries}
+use Rattle.seat_programs.specs.Programs.{Program, TakeMessage, TakeHome, PutBytes, AskReady, Aside}
 use Rattle.seat_programs.specs.Cores.{Core, SeatState}
-use Rattle.seat_programs.specs.Ticks.{Answer, Unasked, OfPut, OfReady, OfTake, Moment, taken, with_message, with_link, with_put, with_ready, with_found, step_with, tick_with, ticked}
+use Rattle.seat_programs.specs.Ticks.{Answer, OfPut, OfReady, Moment, taken, with_message, with_link, with_put, with_ready, with_found, step_with, tick_with, ticked}
 use Rattle.sock_runs.specs.Sound.{first_step}
 use Rattle.owed_calls.specs.Sound.{id_word_of}
 use Rattle.served_fits.specs.call_causes.proofs.Handled.{bound, Goes, goes_same}
@@ -76,35 +76,23 @@ module _ (p : Plan) (q : IdPlan) (c : Core) (m : Moment) (known : Known q c m) (
 
     by_put : (bytes : List ℕ) (answer : Answer) (next : Put → Program) → On (with_put p m.seat seat c bytes answer next)
     by_put bytes (OfPut answer) next = stays
-    by_put bytes Unasked next = stays
-    by_put bytes (OfReady r) next = stays
-    by_put bytes (OfTake t) next = stays
+    by_put bytes _ next = stays
 
     by_ready : (answer : Answer) (next : Ready → Program) → On (with_ready p m.seat seat c answer next)
     by_ready (OfReady answer) next = stays
-    by_ready Unasked next = stays
-    by_ready (OfPut a) next = stays
-    by_ready (OfTake t) next = stays
+    by_ready _ next = stays
 
     by_found : (step : Step) (next : Found step → Program) → first_step seat.program ≡ Aside step next → (x : Option (Found step)) → found_in step c.calls (taken m.answer) ≡ x → On (with_found p m.seat seat c step x next)
     by_found step next first none is = stays
     by_found step next first (some found) is = (known.facts seat at step next (taken m.answer) found first is).goes i low
 
     by_first : (x : Program) → first_step seat.program ≡ x → On (step_with p m.seat seat c m.answer x)
-    by_first (Do call next) first = stays
     by_first (TakeMessage r next) first = by_letter r (message (λ home. home) c.homes r) (λ letter. next letter.0 letter.1)
     by_first (TakeHome k next) first = by_link k (link_home (λ home. home) p c.homes k) next
-    by_first (PutHome k n after) first = stays
     by_first (PutBytes k asked bytes next) first = by_put bytes m.answer next
     by_first (AskReady k next) first = by_ready m.answer next
     by_first (Aside step next) first = by_found step next first (found_in step c.calls (taken m.answer)) refl
-    by_first (Say o outcome next) first = stays
-    by_first (Sent o next) first = stays
-    by_first Rest first = stays
-    by_first (Write w after) first = stays
-    by_first (Round head next) first = stays
-    by_first (Keep r next) first = stays
-    by_first (Retries requests after) first = stays
+    by_first _ first = stays
 
   -- the word of each id goes on
   pub words_go : Goes (id_word_of c i) (id_word_of (ticked p c m) i)

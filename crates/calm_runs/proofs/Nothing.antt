@@ -29,6 +29,7 @@ use Rattle.send_causes.specs.outcome_causes.specs.Stories.{In}
 use Rattle.send_causes.specs.outcome_causes.proofs.Plain.{in_both}
 use Rattle.send_causes.specs.joint_runs.proofs.Runs.{AreMade, first_views}
 use Rattle.send_causes.proofs.Early.{start, go, fitting, known, first_fresh}
+use Rattle.send_causes.proofs.SeatTicks.{never_later}
 use Rattle.send_causes.specs.outcome_causes.proofs.Scripts as stories
 use Rattle.send_causes.specs.owed_calls.specs.Settled.{IsAtRest}
 use Rattle.calm_runs.specs.Calm.{IsCalm}
@@ -133,13 +134,7 @@ module _ (script : List Item) (made : AreMade script) (turns : List Turn) (core 
 
   never_late : (o : ℕ) → (S o → ⊥) → is_said_late script turns core is o ≡ false
   never_late o plain_ = ap (λ (x : std.Option (std.Option Outcome)). (elim (slice_get before.outcomes o) as (λ x. Bool) [ std.None ↦ false | std.Some x ↦ elim x as (λ y. Bool) [ std.None ↦ true | std.Some outcome ↦ false ] ])
-      && (elim x as (λ x. Bool) [ std.None ↦ false | std.Some x ↦ elim x as (λ y. Bool) [ std.None ↦ false | std.Some outcome ↦ true ] ])) (same_outcome o plain_) ∙ never (slice_get before.outcomes o)
-    where
-      never : (x : std.Option (std.Option Outcome)) → ((elim x as (λ x. Bool) [ std.None ↦ false | std.Some x ↦ elim x as (λ y. Bool) [ std.None ↦ true | std.Some outcome ↦ false ] ])
-          && (elim x as (λ x. Bool) [ std.None ↦ false | std.Some x ↦ elim x as (λ y. Bool) [ std.None ↦ false | std.Some outcome ↦ true ] ])) ≡ false
-      never std.None = refl
-      never (std.Some std.None) = refl
-      never (std.Some (std.Some outcome)) = refl
+      && (elim x as (λ x. Bool) [ std.None ↦ false | std.Some x ↦ elim x as (λ y. Bool) [ std.None ↦ false | std.Some outcome ↦ true ] ])) (same_outcome o plain_) ∙ never_later (slice_get before.outcomes o)
 
   -- no operation but those on calls has its outcome while the run is ending, and no call is put home
   pub none_late : late_of_run script turns core is ≡ []

@@ -9,11 +9,7 @@ use lib.ListN.{get_elem?}
 use Rattle.atomic_table.proofs.Lists.{at_set}
 use Rattle.sock_words.specs.declared.plain.Plan.{Plan}
 use Rattle.sock_words.specs.declared.outcome.Outcome.{Outcome}
-use Rattle.sock_io.specs.declared.link.Put.{Put}
-use Rattle.sock_io.specs.declared.link.Ready.{Ready}
 use Rattle.sock_model.specs.declared.home.Home.{Home}
-use Rattle.sock_model.specs.Messages.{Letter}
-use Rattle.sock_model.specs.Reads.{message, link_home}
 use Rattle.sock_steps.proofs.Quiet.{either_way}
 use Rattle.corr_core.specs.Word.{parts, posted_word, code_of}
 use Rattle.sock_message.specs.Asked.{Asked}
@@ -24,60 +20,15 @@ use Rattle.seat_programs.specs.Cores.{Calls, Core, SeatState, resolved, said, ne
 use Rattle.seat_programs.specs.Drops.{call_in}
 use Rattle.seat_programs.specs.Heads.{Retry, Posts, Unlocks, Decides, Locks, Opens, Reads, Discards, HasEnded, Has}
 use Rattle.seat_programs.specs.Posts.{packed, end_id, unlocked}
-use Rattle.seat_programs.specs.Programs.{Program, Do, Say, Rest, TakeMessage, TakeHome, PutHome, PutBytes, AskReady, Aside, Round}
-use Rattle.seat_programs.specs.Ticks.{Answer, OfPut, OfReady, Moment, taken, ticked, step_with, tick_with, with_message, with_link, with_put, with_ready, with_found}
+use Rattle.seat_programs.specs.Programs.{Program, Do, Say, Rest, Aside, Round}
+use Rattle.seat_programs.specs.Ticks.{Answer, Moment, taken, ticked, step_with, tick_with, with_found}
 use Rattle.sock_runs.specs.Sound.{first_step}
 use Rattle.send_causes.specs.outcome_causes.specs.Facts.{born_at, born_of, put_at, put_by}
 use Rattle.send_causes.specs.call_causes.proofs.Sayings.{got_other}
 use Rattle.send_causes.proofs.Readings.{ticks_first}
+use Rattle.send_causes.proofs.SeatTicks.{own_tick, tick_none, tick_some}
 use Rattle.calm_runs.specs.Calm.{IsCalm}
 use Rattle.calm_runs.proofs.Programs.{calm_end_id, calm_posts, calm_locking, calm_took, calm_discarded}
-
--- ## Ticks of any seat
-
-module _ (p : Plan) (i : ℕ) (seat : SeatState) (c : Core) where
-  -- a tick of seat i changes no other seat
-  abbrev Own : Core → Type 0
-  Own d = (d.seats ≡ c.seats) ⊎ ((s : SeatState) × (d.seats ≡ slice_set c.seats i s))
-
-  own_message : (q : ℕ) (o : Option Letter) (next : Letter → Program) → Own (with_message p i seat c q o next)
-  own_message q none next = inl refl
-  own_message q (some letter) next = inr (_, refl)
-
-  own_link : (k : ℕ) (o : Option (List ℕ × ℕ)) (next : ℕ → Program) → Own (with_link p i seat c k o next)
-  own_link k none next = inl refl
-  own_link k (some home) next = inr (_, refl)
-
-  own_put : (bytes : List ℕ) (answer : Answer) (next : Put → Program) → Own (with_put p i seat c bytes answer next)
-  own_put bytes (OfPut put) next = inr (_, refl)
-  own_put bytes _ next = inl refl
-
-  own_ready : (answer : Answer) (next : Ready → Program) → Own (with_ready p i seat c answer next)
-  own_ready (OfReady ready) next = inr (_, refl)
-  own_ready _ next = inl refl
-
-  own_found : (step : Step) (o : Option (Found step)) (next : Found step → Program) → Own (with_found p i seat c step o next)
-  own_found step none next = inl refl
-  own_found step (some found) next = inr (_, refl)
-
-  own_step : (answer : Answer) (program : Program) → Own (step_with p i seat c answer program)
-  own_step answer (Do call next) = inr (_, refl)
-  own_step answer (TakeMessage q next) = own_message q (message (λ home. home) c.homes q) _
-  own_step answer (TakeHome k next) = own_link k (link_home (λ home. home) p c.homes k) next
-  own_step answer (PutHome k n after) = inr (_, refl)
-  own_step answer (PutBytes k asked bytes next) = own_put bytes answer next
-  own_step answer (AskReady k next) = own_ready answer next
-  own_step answer (Aside step next) = own_found step (found_in step c.calls (taken answer)) next
-  own_step answer _ = inl refl
-
-  own_tick : (answer : Answer) → Own (tick_with p i seat c answer seat.program)
-  own_tick answer = subst Own (sym (ticks_first p i seat c answer seat.program)) (own_step answer (first_step seat.program))
-
-tick_none : (p : Plan) (c : Core) (m : Moment) → get_elem? c.seats m.seat ≡ none → ticked p c m ≡ c
-tick_none p c m e = ap (λ (o : Option SeatState). elim o as (λ o. Core) [ none ↦ c | some seat ↦ tick_with p m.seat seat c m.answer seat.program ]) e
-
-tick_some : (p : Plan) (c : Core) (m : Moment) (seat : SeatState) → get_elem? c.seats m.seat ≡ some seat → ticked p c m ≡ tick_with p m.seat seat c m.answer seat.program
-tick_some p c m seat e = ap (λ (o : Option SeatState). elim o as (λ o. Core) [ none ↦ c | some seat ↦ tick_with p m.seat seat c m.answer seat.program ]) e
 
 shows_none : (f : SeatState → List ℕ) (c : Core) (i : ℕ) → ((seat : SeatState) → get_elem? c.seats i ≡ some seat → f seat ≡ []) → elim (get_elem? c.seats i) as (λ o. List ℕ) [ none ↦ [] | some seat ↦ f seat ] ≡ []
 shows_none f c i h = by (get_elem? c.seats i) refl

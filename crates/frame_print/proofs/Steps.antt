@@ -12,8 +12,7 @@ use Rattle.io_block.specs.declared.memory.NoMemory.{NoMemory}
 use Rattle.prpc_frame.specs.Answers.{Fed, Answers}
 use Rattle.prpc_frame.specs.declared.fault.NextFault.{NextFault}
 use Rattle.prpc_frame.specs.declared.fault.NextFault.TheVariants as next
-use Rattle.prpc_frame.specs.Leads.{Leads}
-use Rattle.prpc_frame.specs.Meaning.{frame_of, fault_of, IsFault}
+use Rattle.prpc_frame.specs.Meaning.{fault_of, IsFault}
 use Rattle.prpc_frame.specs.declared.frame.Frame as code
 use Rattle.prpc_frame.specs.declared.fault.FrameFault.{FrameFault}
 use Rattle.frame_print.specs.declared.print.Met.{Met}
@@ -24,7 +23,7 @@ use Rattle.frame_print.specs.Cutting.{CutPrinted, CutGathered, CutStopped, CutsW
 use Rattle.prpc_frame.specs.Cuts.{Cut}
 use Rattle.frame_print.proofs.Writing.{Appends-nil, Appends-append, front_behind, front_before, rose_from}
 use Rattle.frame_print.proofs.Cuts.{printed_fed, fault_meant}
-use Rattle.prpc_frame.proofs.Cuts.{cut_none, cut_next}
+use Rattle.prpc_frame.proofs.Cuts.{cut_none, cut_more}
 
 -- ## Reading
 
@@ -92,39 +91,38 @@ err_wrote a b x y t (Err f) e w = (w.front, w.failed)
 pub gathered_none : (bytes held : List ℕ) (o : Option (List ℕ)) → held ≡ [] → CutGathered bytes o bytes o held
 gathered_none bytes held o none = record { frames = []; cut = cut_none bytes; done = []; wrote = Appends-nil o; split = none }
 
-lines_next : (fs : List Frame) (f : code.Frame) → flat_map frame_line (fs ++ frame_of f ∷ []) ≡ flat_map frame_line fs ++ frame_line (frame_of f)
-lines_next fs f = flat_map-append frame_line fs (frame_of f ∷ []) ∙ ap (λ l. flat_map frame_line fs ++ l) (append-nil (frame_line (frame_of f)))
+lines_next : (fs : List Frame) (f : Frame) → flat_map frame_line (fs ++ f ∷ []) ≡ flat_map frame_line fs ++ frame_line f
+lines_next fs f = flat_map-append frame_line fs (f ∷ []) ∙ ap (λ l. flat_map frame_line fs ++ l) (append-nil (frame_line f))
+
+line_behind : (fs : List Frame) (v f : Frame) (done held : List ℕ) → v ≡ f → done ++ held ≡ flat_map frame_line fs → done ++ (held ++ frame_line v) ≡ flat_map frame_line (fs ++ f ∷ [])
+line_behind fs v f done held same split =
+    ap (λ v. done ++ (held ++ frame_line v)) same ∙ sym (append_assoc done held (frame_line f)) ∙ ap (λ l. l ++ frame_line f) split ∙ sym (lines_next fs f)
 
 -- the line of the frame at the front waits
-pub gathered_next : (old cutter new : List ℕ) (o p q : Option (List ℕ)) (held now : List ℕ) (x y z : ℕ) (f : code.Frame) (there : Option code.Frame) (r : Result (Unit {0}) Failed) → CutGathered old o cutter p held → y ≡ x → there ≡ Some f →
-    ((at : ℕ) (more : List ℕ) → Leads at more cutter (Ok there) new) → is_err r ≡ false → Gathers p q y z held now (frame_line (frame_of f)) r → CutGathered old o new q now × (z ≡ x)
-gathered_next old cutter new o p q held now x y z f there (Err e) g kept is leads ok w = absurd (cc)
-gathered_next old cutter new o p q held now x y z f there (Ok u) g kept is leads ok w = (
+pub gathered_next : (old cutter new : List ℕ) (o p q : Option (List ℕ)) (held now : List ℕ) (x y z : ℕ) (v f : Frame) (r : Result (Unit {0}) Failed) → CutGathered old o cutter p held → y ≡ x → Cut cutter (f ∷ []) new → v ≡ f →
+    is_err r ≡ false → Gathers p q y z held now (frame_line v) r → CutGathered old o new q now × (z ≡ x)
+gathered_next old cutter new o p q held now x y z v f (Err e) g kept one same ok w = absurd (cc)
+gathered_next old cutter new o p q held now x y z v f (Ok u) g kept one same ok w = (
   record {
-    frames = g.frames ++ frame_of f ∷ [];
-    cut = cut_next old cutter new g.frames f there g.cut is leads;
+    frames = g.frames ++ f ∷ [];
+    cut = cut_more old cutter new g.frames (f ∷ []) g.cut one;
     done = g.done ++ w.0;
     wrote = Appends-append o p q g.done w.0 g.wrote w.1;
-    split = append_assoc g.done w.0 now
-        ∙ ap (λ l. g.done ++ l) w.2
-        ∙ sym (append_assoc g.done held (frame_line (frame_of f)))
-        ∙ ap (λ l. l ++ frame_line (frame_of f)) g.split
-        ∙ sym (lines_next g.frames f);
+    split = append_assoc g.done w.0 now ∙ ap (λ l. g.done ++ l) w.2 ∙ line_behind g.frames v f g.done held same g.split;
   },
   w.3 ∙ kept,
 )
 
 -- the sink failed in the lines that waited, or in that line
-pub gather_stopped : (old cutter new : List ℕ) (o p q : Option (List ℕ)) (held now : List ℕ) (x y z : ℕ) (f : code.Frame) (there : Option code.Frame) (r : Result (Unit {0}) Failed) → CutGathered old o cutter p held → y ≡ x → there ≡ Some f →
-    ((at : ℕ) (more : List ℕ) → Leads at more cutter (Ok there) new) → is_err r ≡ true → Gathers p q y z held now (frame_line (frame_of f)) r → CutStopped old o new q x z
-gather_stopped old cutter new o p q held now x y z f there (Ok u) g kept is leads err w = absurd (cc)
-gather_stopped old cutter new o p q held now x y z f there (Err e) g kept is leads err w =
+pub gather_stopped : (old cutter new : List ℕ) (o p q : Option (List ℕ)) (held now : List ℕ) (x y z : ℕ) (v f : Frame) (r : Result (Unit {0}) Failed) → CutGathered old o cutter p held → y ≡ x → Cut cutter (f ∷ []) new → v ≡ f →
+    is_err r ≡ true → Gathers p q y z held now (frame_line v) r → CutStopped old o new q x z
+gather_stopped old cutter new o p q held now x y z v f (Ok u) g kept one same err w = absurd (cc)
+gather_stopped old cutter new o p q held now x y z v f (Err e) g kept one same err w =
     let Q : List ℕ → Type 0 = λ l. WrotePart o q l in
-    let lines = sym (append_assoc g.done held (frame_line (frame_of f))) ∙ ap (λ l. l ++ frame_line (frame_of f)) g.split ∙ sym (lines_next g.frames f) in
     record {
-      frames = g.frames ++ frame_of f ∷ [];
-      cut = cut_next old cutter new g.frames f there g.cut is leads;
-      front = subst Q lines (front_behind o p q g.done (held ++ frame_line (frame_of f)) g.wrote w.0);
+      frames = g.frames ++ f ∷ [];
+      cut = cut_more old cutter new g.frames (f ∷ []) g.cut one;
+      front = subst Q (line_behind g.frames v f g.done held same g.split) (front_behind o p q g.done (held ++ frame_line v) g.wrote w.0);
       rose = rose_from x y z kept w.1;
     }
 

@@ -1,4 +1,5 @@
 pub mod Written
+pub mod View
 pub mod Pieces
 pub mod Printed
 pub mod FrameEnd

@@ -1,19 +1,20 @@
 ghost use Rattle.std.specs.Prelude.{option_map};
 ghost use Rattle.brpc_model.specs.Spelling.{where_some};
 ghost use Rattle.brpc_model.specs.FramesText.{request_text, response_text, frame_line};
-ghost use Rattle.rpc_meta.specs.Meaning.{request_of, response_of};
-ghost use Rattle.prpc_frame.specs.Meaning.{frame_of};
+ghost use Rattle.prpc_frame.specs.View.{request_viewed, response_viewed};
 ghost use Rattle.frame_print.specs.Written.{Writes};
+ghost use Rattle.frame_print.specs.View.{bytes_viewed, frame_viewed};
 ghost use Rattle.frame_print.specs.FrameEnd.{numbers_text, bytes_text, end_text};
 
 use crate::piece::{Piece, print_pieces};
-use prpc_frame::Frame;
-use rpc_meta::{RequestMeta, ResponseMeta};
+use crate::view::{BytesView, FrameView};
+use prpc_frame::{RequestView, ResponseView};
 use sock_io::{Failed, Sink};
 
 /// Writes the line of a frame. It takes no memory.
-pub fn print_frame<K: Sink>(out: &mut K, frame: &Frame) -> Result<(), Failed>
-    ensures { Writes (K.contents out.old) (K.contents out.new) (K.faults out.old) (K.faults out.new) (frame_line (frame_of frame.now)) result }
+#[inline(always)]
+pub fn print_frame<K: Sink>(out: &mut K, frame: &FrameView) -> Result<(), Failed>
+    ensures { Writes (K.contents out.old) (K.contents out.new) (K.faults out.old) (K.faults out.new) (frame_line (frame_viewed frame.now)) result }
 {
     print_pieces(out, &[Piece::Text(b"frame")])?;
     print_request(out, &frame.meta.request)?;
@@ -22,14 +23,15 @@ pub fn print_frame<K: Sink>(out: &mut K, frame: &Frame) -> Result<(), Failed>
 }
 
 // ` request SERVICE METHOD`, where there is one.
-fn print_request<K: Sink>(out: &mut K, request: &Option<RequestMeta>) -> Result<(), Failed>
-    ensures { Writes (K.contents out.old) (K.contents out.new) (K.faults out.old) (K.faults out.new) (where_some request_text (option_map request_of request.now)) result }
+#[inline(always)]
+fn print_request<K: Sink>(out: &mut K, request: &Option<RequestView>) -> Result<(), Failed>
+    ensures { Writes (K.contents out.old) (K.contents out.new) (K.faults out.old) (K.faults out.new) (where_some request_text (option_map request_viewed request.now)) result }
 {
     let Some(request) = request else {
         return Ok(());
     };
-    let service = Piece::Hex(request.service.as_slice());
-    let method = Piece::Hex(request.method.as_slice());
+    let service = Piece::Hex(request.service);
+    let method = Piece::Hex(request.method);
     print_pieces(
         out,
         &[
@@ -42,14 +44,15 @@ fn print_request<K: Sink>(out: &mut K, request: &Option<RequestMeta>) -> Result<
 }
 
 // ` response CODE TEXT`, where there is one.
-fn print_response<K: Sink>(out: &mut K, response: &Option<ResponseMeta>) -> Result<(), Failed>
-    ensures { Writes (K.contents out.old) (K.contents out.new) (K.faults out.old) (K.faults out.new) (where_some response_text (option_map response_of response.now)) result }
+#[inline(always)]
+fn print_response<K: Sink>(out: &mut K, response: &Option<ResponseView>) -> Result<(), Failed>
+    ensures { Writes (K.contents out.old) (K.contents out.new) (K.faults out.old) (K.faults out.new) (where_some response_text (option_map response_viewed response.now)) result }
 {
     let Some(response) = response else {
         return Ok(());
     };
     let code = Piece::Signed(response.code);
-    let text = Piece::Hex(response.text.as_slice());
+    let text = Piece::Hex(response.text);
     print_pieces(
         out,
         &[Piece::Text(b" response "), code, Piece::Text(b" "), text],
@@ -57,14 +60,16 @@ fn print_response<K: Sink>(out: &mut K, response: &Option<ResponseMeta>) -> Resu
 }
 
 // What stands behind them.
-fn print_end<K: Sink>(out: &mut K, frame: &Frame) -> Result<(), Failed>
-    ensures { Writes (K.contents out.old) (K.contents out.new) (K.faults out.old) (K.faults out.new) (end_text (frame_of frame.now)) result }
+#[inline(always)]
+fn print_end<K: Sink>(out: &mut K, frame: &FrameView) -> Result<(), Failed>
+    ensures { Writes (K.contents out.old) (K.contents out.new) (K.faults out.old) (K.faults out.new) (end_text (frame_viewed frame.now)) result }
 {
     print_numbers(out, frame.meta.correlation_id, frame.meta.compress_type)?;
-    print_bytes(out, frame)
+    print_bodies(out, frame.payload, frame.attachment)
 }
 
 // ` id N compress Z`.
+#[inline(always)]
 fn print_numbers<K: Sink>(out: &mut K, id: u64, compress: i32) -> Result<(), Failed>
     ensures { Writes (K.contents out.old) (K.contents out.new) (K.faults out.old) (K.faults out.new) (numbers_text id compress) result }
 {
@@ -81,16 +86,21 @@ fn print_numbers<K: Sink>(out: &mut K, id: u64, compress: i32) -> Result<(), Fai
 }
 
 // ` payload HEX attachment HEX` and the end of the line.
-fn print_bytes<K: Sink>(out: &mut K, frame: &Frame) -> Result<(), Failed>
-    ensures { Writes (K.contents out.old) (K.contents out.new) (K.faults out.old) (K.faults out.new) (bytes_text frame.now.payload.items frame.now.attachment.items) result }
+#[inline(always)]
+fn print_bodies<'a, K: Sink>(
+    out: &mut K,
+    payload: BytesView<'a>,
+    attachment: BytesView<'a>,
+) -> Result<(), Failed>
+    ensures { Writes (K.contents out.old) (K.contents out.new) (K.faults out.old) (K.faults out.new) (bytes_text (bytes_viewed payload.entry) (bytes_viewed attachment.entry)) result }
 {
     print_pieces(
         out,
         &[
             Piece::Text(b" payload "),
-            Piece::Buffer(&frame.payload),
+            Piece::Bytes(payload),
             Piece::Text(b" attachment "),
-            Piece::Buffer(&frame.attachment),
+            Piece::Bytes(attachment),
             Piece::Text(b"\n"),
         ],
     )

@@ -1,9 +1,11 @@
 ghost use Rattle.std.specs.Prelude.{◌≡◌, ◌*◌, ◌<◌, ◌≤◌, length, slice_index};
 ghost use Rattle.hex.specs.Hex.{encode_lower, lower_digits};
 ghost use Rattle.sock_words.specs.Printed.{hex_text};
+ghost use Rattle.frame_print.specs.View.{bytes_viewed};
 ghost use Rattle.frame_print.specs.Written.{Writes};
 
 use crate::output::{from_place, write_all};
+use crate::view::BytesView;
 use io_buf::IoBuf;
 use sock_io::{Failed, Sink};
 
@@ -23,8 +25,19 @@ pub fn print_hex<K: Sink>(out: &mut K, bytes: &[u8]) -> Result<(), Failed>
     print_digits(out, bytes)
 }
 
-/// Writes the bytes of a buffer in hexadecimal, `-` for none.
-pub fn print_buffer<K: Sink>(out: &mut K, buf: &IoBuf) -> Result<(), Failed>
+/// Writes bytes in hexadecimal wherever they lie, `-` for none.
+#[inline(always)]
+pub fn print_bytes<K: Sink>(out: &mut K, bytes: BytesView) -> Result<(), Failed>
+    ensures { Writes (K.contents out.old) (K.contents out.new) (K.faults out.old) (K.faults out.new) (hex_text (bytes_viewed bytes.entry)) result }
+{
+    match bytes {
+        BytesView::Piece(bytes) => print_hex(out, bytes),
+        BytesView::Blocks(buf) => print_buffer(out, buf),
+    }
+}
+
+// Writes the bytes of a buffer in hexadecimal, `-` for none.
+fn print_buffer<K: Sink>(out: &mut K, buf: &IoBuf) -> Result<(), Failed>
     ensures { Writes (K.contents out.old) (K.contents out.new) (K.faults out.old) (K.faults out.new) (hex_text buf.now.items) result }
 {
     if buf.is_empty() {

@@ -8,5 +8,6 @@ mod lines;
 mod output;
 mod piece;
 mod print;
+mod view;
 
 pub use print::{PrintFault, StreamEnd, print_frames};

@@ -1,11 +1,12 @@
 ghost use Rattle.std.specs.Prelude.{◌≡◌, ◌≤◌, ◌++◌, ℕ, [], IfOk, OnErr, OnOk, MatchBool, length, take, Some};
 ghost use Rattle.brpc_model.specs.FramesText.{frame_line};
-ghost use Rattle.prpc_frame.specs.Meaning.{frame_of};
+ghost use Rattle.frame_print.specs.View.{frame_viewed};
 ghost use Rattle.frame_print.specs.Written.{Writes, Gathers};
 
 use crate::frame_text::print_frame;
 use crate::output::write_all;
-use prpc_frame::{Frame, NoMemory};
+use crate::view::FrameView;
+use prpc_frame::NoMemory;
 use sock_io::{Failed, Sink};
 use std::alloc::Global;
 use std::marker::Model;
@@ -63,8 +64,8 @@ impl Lines {
     }
 
     /// One more line, unless it is long or finds no room.
-    fn gather(&mut self, frame: &Frame) -> bool
-        ensures { MatchBool result (self.new.bytes ≡ self.old.bytes ++ frame_line (frame_of frame.now)) (self.new.bytes ≡ self.old.bytes) }
+    fn gather(&mut self, frame: &FrameView) -> bool
+        ensures { MatchBool result (self.new.bytes ≡ self.old.bytes ++ frame_line (frame_viewed frame.now)) (self.new.bytes ≡ self.old.bytes) }
     {
         if frame.payload.len() > MOST || frame.attachment.len() > MOST {
             return false;
@@ -81,8 +82,8 @@ impl Lines {
 
     /// The line of a frame. It waits where it finds room; otherwise those before it are written, and
     /// then it waits, or is written too where it is long.
-    pub fn print<K: Sink>(&mut self, out: &mut K, frame: &Frame) -> Result<(), Failed>
-        ensures { Gathers (K.contents out.old) (K.contents out.new) (K.faults out.old) (K.faults out.new) self.old.bytes self.new.bytes (frame_line (frame_of frame.now)) result }
+    pub fn print<K: Sink>(&mut self, out: &mut K, frame: &FrameView) -> Result<(), Failed>
+        ensures { Gathers (K.contents out.old) (K.contents out.new) (K.faults out.old) (K.faults out.new) self.old.bytes self.new.bytes (frame_line (frame_viewed frame.now)) result }
     {
         if self.gather(frame) {
             return Ok(());

@@ -3,9 +3,9 @@ ghost use Rattle.std.specs.Fmt.{signed_decimal};
 ghost use Rattle.frame_print.specs.Written.{Writes};
 ghost use Rattle.frame_print.specs.Pieces.{piece_text, pieces_text};
 
-use crate::hexadecimal::{print_buffer, print_hex};
+use crate::hexadecimal::{print_bytes, print_hex};
 use crate::output::write_all;
-use io_buf::IoBuf;
+use crate::view::BytesView;
 use itoa::Buffer;
 use sock_io::{Failed, Sink};
 
@@ -20,8 +20,8 @@ pub enum Piece<'a> {
     Signed(i32),
     /// Bytes in hexadecimal, `-` for none.
     Hex(&'a [u8]),
-    /// The bytes of a buffer, likewise.
-    Buffer(&'a IoBuf),
+    /// Bytes wherever they lie, likewise.
+    Bytes(BytesView<'a>),
 }
 
 /// Writes pieces one after another. It takes no memory.
@@ -44,7 +44,7 @@ fn print_piece<K: Sink>(out: &mut K, piece: Piece) -> Result<(), Failed>
         Piece::Number(number) => print_number(out, number),
         Piece::Signed(number) => print_signed(out, number),
         Piece::Hex(bytes) => print_hex(out, bytes),
-        Piece::Buffer(buf) => print_buffer(out, buf),
+        Piece::Bytes(bytes) => print_bytes(out, bytes),
     }
 }
 

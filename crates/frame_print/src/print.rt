@@ -4,6 +4,7 @@ ghost use Rattle.frame_print.specs.Cutting.{CutsWhole, EndsStopped, Judges, Rest
 
 use crate::ending_text::{print_fault, print_rest};
 use crate::lines::Lines;
+use crate::view::{FrameView, front_view};
 use prpc_frame::{BlockPool, Cutter, FrameFault, NextFault};
 use sock_io::{Failed, Sink, Source};
 use std::alloc::Global;
@@ -136,10 +137,19 @@ fn print_whole<K: Sink>(
     ensures untold { IfOk result (λ met. met ≡ None → cutter.new.told ≡ false) }
 {
     loop {
+        if let Some(frame) = cutter.front() {
+            let size = frame.size;
+            let printed = lines.print(out, &front_view(frame));
+            cutter.skip(size);
+            if printed.is_err() {
+                return Err(PrintFault::Sink);
+            }
+            continue;
+        }
         let len = cutter.held();
         match cutter.next() {
             Ok(Some(frame)) => {
-                if lines.print(out, &frame).is_err() {
+                if lines.print(out, &FrameView::of(&frame)).is_err() {
                     return Err(PrintFault::Sink);
                 }
             }

@@ -1,5 +1,5 @@
 -- What each link of a run tells of what it was offered at its takes says what it was given at each of them, whatever it had taken by then.
-use Rattle.std.proofs.Common.{◌≡◌, ℕ, List, [], ◌∷◌, ◌++◌, Bool, true, replicate, refl, sym, ap, ◌∙◌, subst}
+use Rattle.std.proofs.Common.{◌≡◌, ℕ, List, [], ◌∷◌, ◌++◌, Bool, true, refl, sym, ap, ◌∙◌, subst}
 use Rattle.std.specs.Prelude.{slice_get, Some}
 use mathlib.Core.Option as core
 use Rattle.sock_model.specs.declared.home.Home.{Home}
@@ -11,7 +11,7 @@ use Rattle.seat_programs.specs.Asides.{TakeBytes, Taking, Bytes, Nothing, NoMore
 use Rattle.seat_programs.specs.Programs.{Program, Aside}
 use Rattle.seat_programs.specs.Cores.{Core}
 use Rattle.seat_programs.specs.Tasks.{plan_of}
-use Rattle.seat_programs.specs.Ticks.{Answer, Moment, AreAnswered, quiet, taken, ticked, run}
+use Rattle.seat_programs.specs.Ticks.{Answer, Moment, AreAnswered, taken, ticked, run}
 use Rattle.seat_programs.specs.Scripts.{opened, set_up, played, IsRunWithCalls}
 use Rattle.sock_runs.specs.Sound.{Sound, AreFitting, views_after, views_along}
 use Rattle.sock_runs.proofs.LinkTicks.{RetriesGo}
@@ -26,6 +26,7 @@ use Rattle.served_runs.specs.run_theorems.specs.Offered as told
 use Rattle.served_runs.specs.run_theorems.specs.OfferedRuns as runs
 use Rattle.served_runs.specs.call_causes.specs.Lists.{given}
 use Rattle.served_runs.specs.send_causes.proofs.Early.{start, go, fitting}
+use Rattle.served_runs.specs.send_causes.proofs.RunTicks.{in_setup, in_clients, in_closing}
 use Rattle.served_runs.specs.Offered.{TookSoFar, IsDone, IsOfferedSo, OffersAt, AreOffered, OffersInRun}
 use Rattle.offered_runs.proofs.Once.{IsOnce, one_link, once_tick, once_along, once_opened, once_ending}
 
@@ -80,34 +81,25 @@ module _ (script : List Item) where
   )
 
 module _ (script : List Item) (made : AreMade script) (turns : List Turn) (core : Core) (is : IsRunWithCalls script turns core) where
-  abbrev in_setup : List Moment
-  in_setup = replicate is.setup (quiet 0)
-
-  abbrev in_clients : List Moment
-  in_clients = is.scheduled ++ is.later
-
-  abbrev in_closing : List Moment
-  in_closing = replicate is.last (quiet 0)
-
   abbrev set_up_views : List View
-  set_up_views = views_along (plan_of script) (opened script) (first_views script) in_setup
+  set_up_views = views_along (plan_of script) (opened script) (first_views script) (in_setup is)
 
   begun : Sound (plan_of script) (set_up script is.setup) set_up_views
   begun = set_up_sound script made.are (first_views script) (start script made turns core is) (go script made turns core is) turns core is (fitting script made turns core is)
 
   set_up_once : AllOnce script (set_up script is.setup)
-  set_up_once k = once_along (plan_of script) k (go script made turns core is) in_setup (opened script) (first_views script) (let s = start script made turns core is in s.sound)
+  set_up_once k = once_along (plan_of script) k (go script made turns core is) (in_setup is) (opened script) (first_views script) (let s = start script made turns core is in s.sound)
       (set_up_answered script made.are (first_views script) (start script made turns core is) (go script made turns core is) turns core is (fitting script made turns core is)) (let f = fitting script made turns core is in f.of_setup)
       (once_opened script k)
 
-  played_once : AllOnce script (played script is.setup in_clients)
-  played_once k = once_along (plan_of script) k (go script made turns core is) in_clients (set_up script is.setup) set_up_views begun is.answered (let f = fitting script made turns core is in f.of_played) (set_up_once k)
+  played_once : AllOnce script (played script is.setup (in_clients is))
+  played_once k = once_along (plan_of script) k (go script made turns core is) (in_clients is) (set_up script is.setup) set_up_views begun is.answered (let f = fitting script made turns core is in f.of_played) (set_up_once k)
 
-  closed_once : AllOnce script (run (plan_of script) (closing_of script turns core is) in_closing)
-  closed_once k = once_along (plan_of script) k (go script made turns core is) in_closing (closing_of script turns core is) (views_played script turns core is (first_views script))
+  closed_once : AllOnce script (run (plan_of script) (closing_of script turns core is) (in_closing is))
+  closed_once k = once_along (plan_of script) k (go script made turns core is) (in_closing is) (closing_of script turns core is) (views_played script turns core is (first_views script))
       (closing_sound script made.are (first_views script) (start script made turns core is) (go script made turns core is) turns core is (fitting script made turns core is))
       (end_answered script made.are (first_views script) (start script made turns core is) (go script made turns core is) turns core is (fitting script made turns core is)) (let f = fitting script made turns core is in f.of_closing)
-      (once_ending script k (played script is.setup in_clients) (played_once k))
+      (once_ending script k (played script is.setup (in_clients is)) (played_once k))
 
   ended_once : AllOnce script is.ended
   ended_once k = subst (IsOnce (plan_of script) k) (sym is.is_ended) (closed_once k)
@@ -115,7 +107,7 @@ module _ (script : List Item) (made : AreMade script) (turns : List Turn) (core 
   -- each link was given at each take what belongs to what it took
   pub offers_in_run : ((k : ℕ) (shape : Shape) → slice_get (link_shapes script) k ≡ Some shape → runs.OffersInRun script turns core is k shape.serve shape.end) → ClosesInRun script turns core is → OffersInRun script turns core is
   offers_in_run offers closes = record {
-    played = offered_along script (go script made turns core is) in_clients (set_up script is.setup) set_up_views begun is.answered (let f = fitting script made turns core is in f.of_played) set_up_once (λ k shape there. (offers k shape there).played) closes.played;
+    played = offered_along script (go script made turns core is) (in_clients is) (set_up script is.setup) set_up_views begun is.answered (let f = fitting script made turns core is in f.of_played) set_up_once (λ k shape there. (offers k shape there).played) closes.played;
     final = offered_along script (go script made turns core is) is.final is.ended (views_closed script turns core is (first_views script))
         (closed_sound script made.are (first_views script) (start script made turns core is) (go script made turns core is) turns core is (fitting script made turns core is)) is.answered_again (let f = fitting script made turns core is in f.of_final)
         ended_once (λ k shape there. (offers k shape there).final) closes.final;

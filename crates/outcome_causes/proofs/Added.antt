@@ -46,11 +46,11 @@ linked_note h k = record { claimed = λ a l. refl; recycling = λ w. refl; hold 
 pub tried_note : IsNote is_tried
 tried_note = record { claimed = λ a k. refl; recycling = λ w. refl; hold = λ g. refl; probe = refl; zeros = λ w. refl; coding = λ g. refl; known = λ g. refl; saw = λ w. refl; stored = λ g c. refl; told = λ g c. refl; freer = λ g. refl; met = λ g k. refl }
 
-coding_is : (h : ℕ) (x : Mark) → 0 < is_coding h x → (g : ℕ) × (x ≡ Coding g)
+pub coding_is : (h : ℕ) (x : Mark) → 0 < is_coding h x → (g : ℕ) × (x ≡ Coding g)
 coding_is h (Coding k) p = (k, refl)
 coding_is h _ p = absurd (omega arith)
 
-recycling_is : (x : Mark) → 0 < is_recycling x → (w : ℕ) × (x ≡ Recycling w)
+pub recycling_is : (x : Mark) → 0 < is_recycling x → (w : ℕ) × (x ≡ Recycling w)
 recycling_is (Recycling w) p = (w, refl)
 recycling_is _ p = absurd (omega arith)
 

@@ -22,14 +22,7 @@ use Rattle.sock_runs.specs.Rows.{row, is_id, found_id}
 use Rattle.sock_runs.proofs.Leaves.{sending_marks}
 use Rattle.outcome_causes.specs.Explains.{holds_behind}
 use Rattle.outcome_causes.proofs.Tests.{split}
-
-coding_is : (h : ℕ) (x : Mark) → 0 < is_coding h x → (g : ℕ) × (x ≡ Coding g)
-coding_is h (Coding k) p = (k, refl)
-coding_is h _ p = absurd (omega arith)
-
-recycling_is : (x : Mark) → 0 < is_recycling x → (w : ℕ) × (x ≡ Recycling w)
-recycling_is (Recycling w) p = (w, refl)
-recycling_is _ p = absurd (omega arith)
+use Rattle.outcome_causes.proofs.Added.{coding_is, recycling_is}
 
 only_one : (h k : ℕ) → only h k ≤ 1
 only_one h k = dite (ℕ_discrete k h) (λ e. let a = only-at h k e in omega arith) (λ n. let a = only-else h k n in omega arith)

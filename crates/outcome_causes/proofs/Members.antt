@@ -1,5 +1,5 @@
 -- Members of lists, and what holds of each.
-use Rattle.std.proofs.Common.{◌≡◌, ◌≢◌, ℕ, zero, suc, ◌<◌, ◌⊎◌, Bool, true, false, cond, ◌&&◌, eqb, eq-eqb, ne_eqb, List, [], ◌∷◌, length, set, inl, inr, sym, refl, ap, ◌∙◌, subst, arith}
+use Rattle.std.proofs.Common.{◌≡◌, ◌≢◌, ℕ, zero, suc, ◌<◌, ◌⊎◌, Bool, true, false, cond, ◌&&◌, eqb, eq-eqb, ne_eqb, List, [], ◌∷◌, ◌++◌, length, set, inl, inr, ⊎_elim, sym, refl, ap, ◌∙◌, subst, arith}
 use Rattle.std.specs.Prelude.{Some, slice_get, get_or, Contains}
 use Rattle.std.specs.List.{AllByRecursion}
 use mathlib.Core.Logic.{dite}
@@ -8,6 +8,20 @@ use Rattle.brpc_model.specs.Order.{EachBefore}
 use Rattle.outcome_causes.specs.Stories.{Entry, Event, In, trace_of}
 
 module _ {A : Type 0} where
+  pub in_left : (xs ys : List A) (x : A) → In x xs → In x (xs ++ ys)
+  in_left [] ys x m = absurd m
+  in_left (y ∷ xs) ys x (inl e) = inl e
+  in_left (y ∷ xs) ys x (inr m) = inr (in_left xs ys x m)
+
+  pub in_right : (xs ys : List A) (x : A) → In x ys → In x (xs ++ ys)
+  in_right [] ys x m = m
+  in_right (y ∷ xs) ys x m = inr (in_right xs ys x m)
+
+  pub in_both : (xs ys : List A) (x : A) → In x (xs ++ ys) → In x xs ⊎ In x ys
+  in_both [] ys x m = inr m
+  in_both (y ∷ xs) ys x (inl e) = inl (inl e)
+  in_both (y ∷ xs) ys x (inr m) = ⊎_elim (λ a. inl (inr a)) (λ b. inr b) (in_both xs ys x m)
+
   pub all_in : (P : A → Type 0) (xs : List A) (x : A) → AllByRecursion P xs → In x xs → P x
   all_in P [] x h m = absurd m
   all_in P (y ∷ ys) x h (inl e) = subst P (sym e) h.0

@@ -23,38 +23,24 @@ use Rattle.outcome_causes.specs.PlainTasks.{told_tasks_of}
 use Rattle.outcome_causes.specs.Stories.{In}
 use Rattle.outcome_causes.specs.TaskCauses.{ToldTasks}
 use Rattle.outcome_causes.proofs.Members.{in_contains, contains_in}
+pub use Rattle.outcome_causes.proofs.Members.{in_left, in_right, in_both}
 use Rattle.outcome_causes.proofs.Lifted.{filtered_in, why_lifted, told_lifted, are_lifted, lives_lifted}
 use Rattle.outcome_causes.proofs.Scripts.{lost_of_run, late, lost_before, orders, run_told}
 
-module _ {A : Type 0} where
-  pub in_left : (xs ys : List A) (x : A) → In x xs → In x (xs ++ ys)
-  in_left [] ys x m = absurd m
-  in_left (y ∷ xs) ys x (inl e) = inl e
-  in_left (y ∷ xs) ys x (inr m) = inr (in_left xs ys x m)
-
-  pub in_right : (xs ys : List A) (x : A) → In x ys → In x (xs ++ ys)
-  in_right [] ys x m = m
-  in_right (y ∷ xs) ys x m = inr (in_right xs ys x m)
-
-  pub in_both : (xs ys : List A) (x : A) → In x (xs ++ ys) → In x xs ⊎ In x ys
-  in_both [] ys x m = inr m
-  in_both (y ∷ xs) ys x (inl e) = inl (inl e)
-  in_both (y ∷ xs) ys x (inr m) = ⊎_elim (λ a. inl (inr a)) (λ b. inr b) (in_both xs ys x m)
-
 -- a link that was lost in some ticks answered that it failed, or its socket was closed
-lost_so : (p : Plan) (c : Core) (ms : List Moment) (k : ℕ) → In k (lost_in p c ms) → In k (broken_in p c ms) ⊎ In k (shown_in closed_at p c ms)
+pub lost_so : (p : Plan) (c : Core) (ms : List Moment) (k : ℕ) → In k (lost_in p c ms) → In k (broken_in p c ms) ⊎ In k (shown_in closed_at p c ms)
 lost_so p c [] k m = absurd m
 lost_so p c (x ∷ xs) k m = ⊎_elim
     (λ a. ⊎_elim (λ b. inl (in_left _ (broken_in p (ticked p c x) xs) k b)) (λ b. inr (in_left (closed_at c x) (shown_in closed_at p (ticked p c x) xs) k b)) (in_both _ (closed_at c x) k a))
     (λ a. ⊎_elim (λ b. inl (in_right _ (broken_in p (ticked p c x) xs) k b)) (λ b. inr (in_right (closed_at c x) (shown_in closed_at p (ticked p c x) xs) k b)) (lost_so p (ticked p c x) xs k a))
     (in_both _ (lost_in p (ticked p c x) xs) k m)
 
-in_numbers : (ts : List Task) (t : Task) → In t ts → In t.number (map (λ (t : Task). t.number) ts)
+pub in_numbers : (ts : List Task) (t : Task) → In t ts → In t.number (map (λ (t : Task). t.number) ts)
 in_numbers [] t m = absurd m
 in_numbers (u ∷ ts) t (inl e) = inl (ap (λ (t : Task). t.number) e)
 in_numbers (u ∷ ts) t (inr m) = inr (in_numbers ts t m)
 
-in_all : (f : List Task → List ℕ) (clients : List (List Task)) (c o : ℕ) (ts : List Task) → slice_get clients c ≡ Some ts → In o (f ts) → In o (flat_map f clients)
+pub in_all : (f : List Task → List ℕ) (clients : List (List Task)) (c o : ℕ) (ts : List Task) → slice_get clients c ≡ Some ts → In o (f ts) → In o (flat_map f clients)
 in_all f [] c o ts e m = absurd (cc)
 in_all f (us ∷ clients) zero o ts e m = in_left (f us) (flat_map f clients) o (subst (λ l. In o (f l)) (sym (same e)) m)
   where

@@ -1,5 +1,5 @@
 -- Ticks one after another keep the story: those of the setup, then those of all seats, and those behind the ending.
-use Rattle.std.proofs.Common.{◌≡◌, ℕ, zero, suc, ◌⊎◌, Bool, true, false, List, [], ◌∷◌, ◌++◌, replicate, inl, inr, ⊎_elim, refl, ap, ◌∙◌, sym, subst, arith}
+use Rattle.std.proofs.Common.{◌≡◌, ℕ, zero, suc, ◌⊎◌, Bool, true, false, List, [], ◌∷◌, replicate, inl, inr, ⊎_elim, refl, ap, ◌∙◌, sym, subst, arith}
 use Rattle.std.specs.Prelude.{None}
 use Rattle.std.specs.Prelude as std
 use mathlib.Core.Option.{some, none}
@@ -25,6 +25,7 @@ use Rattle.outcome_causes.specs.Stories.{Event, In}
 use Rattle.outcome_causes.specs.Explains.{Closing, ExplainsBy}
 use Rattle.outcome_causes.specs.Losses.{lost_at, lost_in}
 use Rattle.outcome_causes.specs.Kept.{undo, AreMadeNow, of_sends, IsSpoken, SeatAt, SeatStory, Story, IsReady}
+use Rattle.outcome_causes.proofs.Members.{in_left, in_right}
 use Rattle.outcome_causes.proofs.Closings.{ending_explains}
 use Rattle.outcome_causes.proofs.Seats.{no_claims}
 use Rattle.outcome_causes.proofs.Ticks.{tick_story, get_of, moved}
@@ -46,15 +47,6 @@ module _ (p : Plan) (clients : List (List Task)) (are : AreTasks p clients) wher
     pub sound : Sound p c views
     pub story : Story p clients over c views events lost
 
-  in_left : (k : ℕ) (xs ys : List ℕ) → In k xs → In k (xs ++ ys)
-  in_left k [] ys m = absurd m
-  in_left k (x ∷ xs) ys (inl e) = inl e
-  in_left k (x ∷ xs) ys (inr m) = inr (in_left k xs ys m)
-
-  in_right : (k : ℕ) (xs ys : List ℕ) → In k ys → In k (xs ++ ys)
-  in_right k [] ys m = m
-  in_right k (x ∷ xs) ys m = inr (in_right k xs ys m)
-
   -- what ticks make of it: each link that was lost meanwhile was so in one of them, and each new step was made in one of them
   pub record Goes (over : Bool) (moments : List Moment) (c : Core) (views : List View) (t : IsStoried over c views) : Type 0 where
     pub after : IsStoried over (run p c moments) (views_along p c views moments)
@@ -69,7 +61,7 @@ module _ (p : Plan) (clients : List (List Task)) (are : AreTasks p clients) wher
         → Goes over xs (ticked p c x) (views_after p c views x) next → Goes over (x ∷ xs) c views t
     then_goes over x xs c views t next losses kept made r = record {
       after = r.after;
-      losses = λ k m. ⊎_elim (λ n. ⊎_elim (λ o. inl o) (λ o. inr (in_left k (lost_at c x) (lost_in p (ticked p c x) xs) o)) (losses k n)) (λ n. inr (in_right k (lost_at c x) (lost_in p (ticked p c x) xs) n)) (r.losses k m);
+      losses = λ k m. ⊎_elim (λ n. ⊎_elim (λ o. inl o) (λ o. inr (in_left (lost_at c x) (lost_in p (ticked p c x) xs) k o)) (losses k n)) (λ n. inr (in_right (lost_at c x) (lost_in p (ticked p c x) xs) k n)) (r.losses k m);
       kept = λ e m. r.kept e (kept e m);
       made = λ e m. ⊎_elim (λ n. made e n) (λ n. inr (inr n)) (r.made e m);
     }

@@ -39,7 +39,7 @@ use Rattle.seat_programs.specs.Clients.{ending_of}
 use Rattle.outcome_causes.specs.Facts.{before_ending, is_told, is_said_late}
 use Rattle.outcome_causes.proofs.Broken.{good_more}
 use Rattle.outcome_causes.proofs.Events.{event}
-use Rattle.outcome_causes.proofs.Members.{all_in, get_there}
+use Rattle.outcome_causes.proofs.Members.{all_in, in_left, in_right, get_there}
 use Rattle.outcome_causes.proofs.Tasks.{fits_of}
 use Rattle.outcome_causes.proofs.Outcomes.{IsSaidOf, said_keeps, run_said, made_unsaid}
 use Rattle.seat_programs.specs.ToldCalls.{Order}
@@ -141,15 +141,6 @@ module _ (script : List Item) (are : AreTasks (plan_of script) (all_tasks script
   pub final_told : Goes (plan_of script) (told_tasks_of script) seats true is.final is.ended (views_closed script turns core is vs) ended_told
   final_told = seats_run (plan_of script) (told_tasks_of script) seats go is.final is.ended (views_closed script turns core is vs) is.answered_again fitting.of_final ended_told
 
-  in_left : (k : ℕ) (xs ys : List ℕ) → In k xs → In k (xs ++ ys)
-  in_left k [] ys m = absurd m
-  in_left k (x ∷ xs) ys (inl e) = inl e
-  in_left k (x ∷ xs) ys (inr m) = inr (in_left k xs ys m)
-
-  in_right : (k : ℕ) (xs ys : List ℕ) → In k ys → In k (xs ++ ys)
-  in_right k [] ys m = m
-  in_right k (x ∷ xs) ys m = inr (in_right k xs ys m)
-
   abbrev pub lost_one : List ℕ
   lost_one = lost_in (plan_of script) (opened script) (replicate is.setup (quiet 0))
 
@@ -168,10 +159,10 @@ module _ (script : List Item) (are : AreTasks (plan_of script) (all_tasks script
   lost_where k m = ⊎_elim
       (λ d. ⊎_elim
       (λ b. ⊎_elim
-      (λ a. ⊎_elim (λ z. absurd z) (λ z. in_left k lost_one (lost_two ++ (lost_three ++ lost_four)) z) (set_up_told.0.losses k (subst (In k) over.2 a)))
-      (λ a. in_right k lost_one (lost_two ++ (lost_three ++ lost_four)) (in_left k lost_two (lost_three ++ lost_four) a)) (played_told.losses k b))
-      (λ b. in_right k lost_one (lost_two ++ (lost_three ++ lost_four)) (in_right k lost_two (lost_three ++ lost_four) (in_left k lost_three lost_four b))) (closed_told.losses k d))
-      (λ d. in_right k lost_one (lost_two ++ (lost_three ++ lost_four)) (in_right k lost_two (lost_three ++ lost_four) (in_right k lost_three lost_four d))) (final_told.losses k m)
+      (λ a. ⊎_elim (λ z. absurd z) (λ z. in_left lost_one (lost_two ++ (lost_three ++ lost_four)) k z) (set_up_told.0.losses k (subst (In k) over.2 a)))
+      (λ a. in_right lost_one (lost_two ++ (lost_three ++ lost_four)) k (in_left lost_two (lost_three ++ lost_four) k a)) (played_told.losses k b))
+      (λ b. in_right lost_one (lost_two ++ (lost_three ++ lost_four)) k (in_right lost_two (lost_three ++ lost_four) k (in_left lost_three lost_four k b))) (closed_told.losses k d))
+      (λ d. in_right lost_one (lost_two ++ (lost_three ++ lost_four)) k (in_right lost_two (lost_three ++ lost_four) k (in_right lost_three lost_four k d))) (final_told.losses k m)
 
   -- and each step of the story was made by the setup, or in a tick behind it
   made_where : (e : Event) → In e final_told.after.events → (e.client ≡ 0) ⊎ MadeInRun script turns core is e.client e.number e.entry.call e.entry.found
@@ -189,7 +180,7 @@ module _ (script : List Item) (are : AreTasks (plan_of script) (all_tasks script
 
   pub before_within : (k : ℕ) → In k played_told.after.lost → In k lost_before
   unfolding first
-  before_within k m = ⊎_elim (λ a. ⊎_elim (λ z. absurd z) (λ z. in_left k lost_one lost_two z) (set_up_told.0.losses k (subst (In k) over.2 a))) (λ a. in_right k lost_one lost_two a) (played_told.losses k m)
+  before_within k m = ⊎_elim (λ a. ⊎_elim (λ z. absurd z) (λ z. in_left lost_one lost_two k z) (set_up_told.0.losses k (subst (In k) over.2 a))) (λ a. in_right lost_one lost_two k a) (played_told.losses k m)
 
   abbrev pub late : ℕ → Type 0
   late o = is_said_late script turns core is o ≡ true

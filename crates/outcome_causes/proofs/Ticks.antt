@@ -60,7 +60,7 @@ use Rattle.outcome_causes.proofs.Added.{IsNote, born_note, failer_note, linked_n
 use Rattle.outcome_causes.proofs.Names.{name_stays}
 use Rattle.outcome_causes.proofs.Used.{word_stays}
 use Rattle.outcome_causes.proofs.Means.{means_of, odd_failed, held_given}
-use Rattle.outcome_causes.proofs.Members.{all_in, all_of, trace_here}
+use Rattle.outcome_causes.proofs.Members.{all_in, all_of, in_left, in_right, in_both, trace_here}
 use Rattle.outcome_causes.proofs.AtWork.{next_is, is_at}
 use Rattle.outcome_causes.proofs.Holding.{holds_row}
 use Rattle.outcome_causes.proofs.Sending.{Within, round_goes}
@@ -520,20 +520,6 @@ module _ (p : Plan) (clients : List (List Task)) (are : AreTasks p clients) (ove
     pub kept : (e : Event) → In e es → In e events
     pub losses : (k : ℕ) → In k lost → In k broken ⊎ In k (lost_at c m)
 
-  in_left : (k : ℕ) (xs ys : List ℕ) → In k xs → In k (xs ++ ys)
-  in_left k [] ys n = absurd n
-  in_left k (x ∷ xs) ys (inl e) = inl e
-  in_left k (x ∷ xs) ys (inr n) = inr (in_left k xs ys n)
-
-  in_right : (k : ℕ) (xs ys : List ℕ) → In k ys → In k (xs ++ ys)
-  in_right k [] ys n = n
-  in_right k (x ∷ xs) ys n = inr (in_right k xs ys n)
-
-  from_both : (k : ℕ) (xs ys : List ℕ) → In k (xs ++ ys) → In k xs ⊎ In k ys
-  from_both k [] ys n = inr n
-  from_both k (x ∷ xs) ys (inl e) = inl (inl e)
-  from_both k (x ∷ xs) ys (inr n) = ⊎_elim (λ a. inl (inr a)) (λ a. inr a) (from_both k xs ys n)
-
   new_step : (seat : SeatState) (v : View) (call : Call) (next : ℕ → Program) → get_elem? c.seats m.seat ≡ some seat → first_step seat.program ≡ Do call next → (tasks : List Task) → slice_get clients m.seat ≡ Some tasks
       → (trace : List Entry) (done : List Done) (todo : List Task) → SeatAt p (IsSpoken clients) over es broken c.outcomes m.seat tasks Own trace done todo seat.program v → (e : Event) → In e (told_of m.seat todo (step call (found_at c.words (word_of p call))) es) → In e es ⊎ IsNew e
   new_step seat v call next at does tasks asks trace done [] s e n = inl n
@@ -552,7 +538,7 @@ module _ (p : Plan) (clients : List (List Task)) (are : AreTasks p clients) (ove
   broken_here : (seat : SeatState) (k : ℕ) → get_elem? c.seats m.seat ≡ some seat → is_refusal m.answer ≡ true → asked_link seat.program ≡ k ∷ [] → In k (lost_at c m)
   broken_here seat k at refuses asked = let a : broken_at c m ≡ asked_link seat.program = ap (λ b. cond b (elim (get_elem? c.seats m.seat) as (λ o. List ℕ) [ none ↦ [] | some seat ↦ asked_link seat.program ]) []) refuses
       ∙ ap (λ o. elim o as (λ o. List ℕ) [ none ↦ [] | some seat ↦ asked_link seat.program ]) at in
-      in_left k (broken_at c m) (closed_at c m) (subst (In k) (sym (a ∙ asked)) (inl refl))
+      in_left (broken_at c m) (closed_at c m) k (subst (In k) (sym (a ∙ asked)) (inl refl))
 
   put_broken : (seat : SeatState) (k : ℕ) (answer : Put) → get_elem? c.seats m.seat ≡ some seat → m.answer ≡ OfPut answer → asked_link seat.program ≡ k ∷ [] → (x : ℕ) → In x (broken_put k answer broken) → In x broken ⊎ In x (lost_at c m)
   put_broken seat k puts.Failed at is asked x (inl e) = inr (subst (λ z. In z (lost_at c m)) (sym e) (broken_here seat k at (ap is_refusal is) asked))
@@ -578,7 +564,7 @@ module _ (p : Plan) (clients : List (List Task)) (are : AreTasks p clients) (ove
 
   -- a socket that is closed loses its link in the tick
   closed_here : (seat : SeatState) (call : Call) (next : ℕ → Program) → get_elem? c.seats m.seat ≡ some seat → may_close m.seat ≡ true → (call_in seat.program ≡ Some call) ⊎ (lost_of c.words call ≡ []) → (k : ℕ) → In k (lost_of c.words call) → In k (lost_at c m)
-  closed_here seat call next at closes is k n = in_right k (broken_at c m) (closed_at c m) (subst (In k) (sym (ap (λ b. cond b (elim (get_elem? c.seats m.seat) as (λ o. List ℕ) [ none ↦ [] | some seat ↦ lost_by c.words (call_in seat.program) ]) []) closes
+  closed_here seat call next at closes is k n = in_right (broken_at c m) (closed_at c m) k (subst (In k) (sym (ap (λ b. cond b (elim (get_elem? c.seats m.seat) as (λ o. List ℕ) [ none ↦ [] | some seat ↦ lost_by c.words (call_in seat.program) ]) []) closes
       ∙ ap (λ o. elim o as (λ o. List ℕ) [ none ↦ [] | some seat ↦ lost_by c.words (call_in seat.program) ]) at)) (⊎_elim (λ e. subst (λ o. In k (lost_by c.words o)) (sym e) n) (λ e. absurd (subst (In k) e n)) is))
 
   closes_is : (n : ℕ) → MayClose n → may_close n ≡ true
@@ -667,7 +653,7 @@ module _ (p : Plan) (clients : List (List Task)) (are : AreTasks p clients) (ove
         told = closing_story p clients are over c vs es broken sound story m.seat seat v tasks at here asks_ call next may trace done todo s;
         fresh = λ e n. inl n;
         kept = λ e n. n;
-        losses = λ k n. ⊎_elim (λ a. inr (closed_here seat call next at (closes_is m.seat (old.closes refl)) (none_or_odd p.slots p.requests (IsSpoken clients) done trace todo seat.program call next old.explains is) k a)) (λ a. inl a) (from_both k (lost_of c.words call) broken n);
+        losses = λ k n. ⊎_elim (λ a. inr (closed_here seat call next at (closes_is m.seat (old.closes refl)) (none_or_odd p.slots p.requests (IsSpoken clients) done trace todo seat.program call next old.explains is) k a)) (λ a. inl a) (in_both (lost_of c.words call) broken k n);
       }
 
   -- a tick keeps the story

@@ -27,7 +27,7 @@ use Rattle.slot_steps.proofs.Numbers.{live_le}
 use Rattle.sock_steps.proofs.Places.{own_count}
 use Rattle.seat_programs.specs.Calls.{Call, SetOdd, LookWord, LoadCode}
 use Rattle.seat_programs.specs.Writings.{Puts, Waits, Empties, Walks}
-use Rattle.seat_programs.specs.Programs.{Program, Do, Say, Sent, Rest, TakeMessage, TakeHome, PutHome, PutBytes, AskReady, Write, Aside, Round, Keep, Retries}
+use Rattle.seat_programs.specs.Programs.{Program, Do, Rest, TakeMessage, TakeHome, PutHome, PutBytes, AskReady, Write, Aside, Round}
 use Rattle.corr_core.specs.Word.{parts, code_of}
 use Rattle.seat_programs.specs.Asides.{PutCall, id_slot}
 use Rattle.seat_programs.specs.Heads.{HasEnded, Posts, Unlocks, Decides, Locks, Joins, Opens, Reads, Discards}
@@ -47,7 +47,7 @@ use Rattle.outcome_causes.proofs.Added.{failer_note, linked_note, row_adds}
 use Rattle.run_laws.specs.World.{Event, Stop, stopped_after}
 use Rattle.run_laws.specs.Seen.{event_at}
 use Rattle.run_laws.specs.Late.{next_at, PutsInto, LooksLive, Looks, FailsSocket}
-use Rattle.run_laws.proofs.Modes.{Mode, Unknown, Live, Fed, Dead, Asks, Broken, mode_behind, put_mode, ready_mode, Guarded, come_guarded}
+use Rattle.run_laws.proofs.Modes.{Mode, Unknown, Live, Dead, mode_behind, put_mode, ready_mode, Guarded, come_guarded}
 use Rattle.run_laws.proofs.Lives.{live_unfailed, even_is, link_is, failed_stays}
 use Rattle.run_laws.proofs.Cases.{IsStill, tick_does}
 use Rattle.run_laws.proofs.Kept.{IsGiven, Kept, mode, mode_guarded}
@@ -69,54 +69,19 @@ Arrived p c views stopped m k s = (m.seat ≡ s) × Looks c m k × (IsGone p c v
 
 pub guarded_put : (m : Mode) (k : ℕ) (program : Program) → Guarded m program → PutsInto k program → (j : ℕ) × (m ≡ Live j)
 guarded_put m k (PutBytes l asked bytes next) g puts = (g.0, g.1)
-guarded_put m k (Do call next) g puts = absurd puts
-guarded_put m k (Say o outcome next) g puts = absurd puts
-guarded_put m k (Sent o next) g puts = absurd puts
-guarded_put m k Rest g puts = absurd puts
-guarded_put m k (TakeMessage q next) g puts = absurd puts
-guarded_put m k (TakeHome q next) g puts = absurd puts
-guarded_put m k (PutHome q n after) g puts = absurd puts
-guarded_put m k (AskReady q next) g puts = absurd puts
-guarded_put m k (Write w after) g puts = absurd puts
-guarded_put m k (Aside s next) g puts = absurd puts
-guarded_put m k (Round head next) g puts = absurd puts
-guarded_put m k (Keep r next) g puts = absurd puts
-guarded_put m k (Retries requests after) g puts = absurd puts
+guarded_put m k _ g puts = absurd puts
 
 pub first_put : (k : ℕ) (program : Program) → PutsInto k program → first_step program ≡ program
 first_put k (PutBytes l asked bytes next) puts = refl
-first_put k (Do call next) puts = absurd puts
-first_put k (Say o outcome next) puts = absurd puts
-first_put k (Sent o next) puts = absurd puts
-first_put k Rest puts = absurd puts
-first_put k (TakeMessage q next) puts = absurd puts
-first_put k (TakeHome q next) puts = absurd puts
-first_put k (PutHome q n after) puts = absurd puts
-first_put k (AskReady q next) puts = absurd puts
-first_put k (Write w after) puts = absurd puts
-first_put k (Aside s next) puts = absurd puts
-first_put k (Round head next) puts = absurd puts
-first_put k (Keep r next) puts = absurd puts
-first_put k (Retries requests after) puts = absurd puts
+first_put k _ puts = absurd puts
 
 -- a step that puts is that of a seat at a put
 pub put_first : (k : ℕ) (program : Program) → PutsInto k (first_step program) → PutsInto k program
 put_first k (PutBytes l asked bytes next) puts = puts
-put_first k (Do call next) puts = absurd puts
-put_first k (Say o outcome next) puts = absurd puts
-put_first k (Sent o next) puts = absurd puts
-put_first k Rest puts = absurd puts
-put_first k (TakeMessage q next) puts = absurd puts
-put_first k (TakeHome q next) puts = absurd puts
-put_first k (PutHome q n after) puts = absurd puts
-put_first k (AskReady q next) puts = absurd puts
 put_first k (Write (Puts h now heading left taken asked) after) puts = absurd puts
 put_first k (Write (Waits h now heading left taken) after) puts = absurd puts
 put_first k (Write (Empties h) after) puts = absurd puts
 put_first k (Write (Walks h top at after) then_) puts = absurd puts
-put_first k (Aside s next) puts = absurd puts
-put_first k (Keep r next) puts = absurd puts
-put_first k (Retries requests after) puts = absurd puts
 put_first k (Round (Posts id e w) next) puts = absurd puts
 put_first k (Round (Unlocks i w advance) next) puts = absurd puts
 put_first k (Round (Decides id asked w e) next) puts = by_end (ends_call (parts w) e) puts
@@ -131,6 +96,7 @@ put_first k (Round (Joins id) next) puts = absurd puts
 put_first k (Round (Opens o) next) puts = absurd puts
 put_first k (Round (Reads r) next) puts = absurd puts
 put_first k (Round (Discards l total) next) puts = absurd puts
+put_first k _ puts = absurd puts
 
 still_none : (k : ℕ) (program : Program) → IsStill program → PutsInto k program → ⊥
 still_none k (PutBytes l asked bytes next) still puts = still
@@ -143,19 +109,7 @@ still_none k _ still puts = puts
 -- whoever puts has the right to write the link
 pub put_right_of : (p : Plan) (w : View) (k : ℕ) (program : Program) → PutsInto k program → GoesOn p w program → (r : Right) × (w.rights ≡ r ∷ []) × (r.link ≡ k)
 put_right_of p w k (PutBytes l asked bytes next) puts goes = let may = goes.0 in (may.0, may.1.0, may.1.1 ∙ puts)
-put_right_of p w k (Do call next) puts goes = absurd puts
-put_right_of p w k (Say o outcome next) puts goes = absurd puts
-put_right_of p w k (Sent o next) puts goes = absurd puts
-put_right_of p w k Rest puts goes = absurd puts
-put_right_of p w k (TakeMessage q next) puts goes = absurd puts
-put_right_of p w k (TakeHome q next) puts goes = absurd puts
-put_right_of p w k (PutHome q n after) puts goes = absurd puts
-put_right_of p w k (AskReady q next) puts goes = absurd puts
-put_right_of p w k (Write a after) puts goes = absurd puts
-put_right_of p w k (Aside s next) puts goes = absurd puts
-put_right_of p w k (Round head next) puts goes = absurd puts
-put_right_of p w k (Keep r next) puts goes = absurd puts
-put_right_of p w k (Retries requests after) puts goes = absurd puts
+put_right_of p w k _ puts goes = absurd puts
 
 pub unknown_live : (j : ℕ) → Unknown ≡ Live j → ⊥
 unknown_live j e = cc
@@ -170,22 +124,16 @@ live_look m (LoadCode i h) found j e = absurd (by_mode m e)
   where
     by_mode : (n : Mode) → mode_behind n (LoadCode i h) found ≡ Live j → ⊥
     by_mode Unknown y = cc
-    by_mode (Live s) y = cc
-    by_mode Fed y = cc
-    by_mode Dead y = cc
-    by_mode (Asks s) y = cc
-    by_mode (Broken s) y = cc
+    by_mode _ y = cc
 live_look m _ found j e = absurd (unknown_live j e)
 
 put_live : (i : ℕ) (answer : Put) (j : ℕ) → put_mode i answer ≡ Live j → ⊥
 put_live i (puts.Took n) j e = cc
-put_live i puts.Again j e = cc
-put_live i puts.Failed j e = cc
+put_live i _ j e = cc
 
 ready_live : (i : ℕ) (answer : Ready) (j : ℕ) → ready_mode i answer ≡ Live j → ⊥
 ready_live i asks.Now j e = cc
-ready_live i asks.NotYet j e = cc
-ready_live i asks.Failed j e = cc
+ready_live i _ j e = cc
 
 -- ## A tick
 

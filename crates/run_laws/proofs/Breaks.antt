@@ -43,18 +43,6 @@ asked_first (Write (Puts h now heading left taken asked) after) = refl
 asked_first (Write (Waits h now heading left taken) after) = refl
 asked_first (Write (Empties h) after) = refl
 asked_first (Write (Walks h top at after) then_) = refl
-asked_first (Do call next) = refl
-asked_first (Say o outcome next) = refl
-asked_first (Sent o next) = refl
-asked_first Rest = refl
-asked_first (TakeMessage q next) = refl
-asked_first (TakeHome k next) = refl
-asked_first (PutHome k n after) = refl
-asked_first (PutBytes k asked bytes next) = refl
-asked_first (AskReady k next) = refl
-asked_first (Aside s next) = refl
-asked_first (Keep r next) = refl
-asked_first (Retries requests after) = refl
 asked_first (Round (Posts id e w) next) = refl
 asked_first (Round (Unlocks i w advance) next) = refl
 asked_first (Round (Decides id asked w e) next) = by_end (ends_call (parts w) e)
@@ -69,6 +57,7 @@ asked_first (Round (Joins id) next) = refl
 asked_first (Round (Opens o) next) = refl
 asked_first (Round (Reads r) next) = refl
 asked_first (Round (Discards l total) next) = refl
+asked_first _ = refl
 
 still_asks : (program : Program) → IsStill program → asked_link program ≡ []
 still_asks (PutBytes k asked bytes next) still = absurd still

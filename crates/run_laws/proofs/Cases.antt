@@ -53,18 +53,6 @@ first_head (Write (Puts h now heading left taken asked) next) e = e
 first_head (Write (Waits h now heading left taken) next) e = e
 first_head (Write (Empties h) next) e = e
 first_head (Write (Walks h top at later) next) e = e
-first_head (Do call next) e = e
-first_head (Say o outcome next) e = e
-first_head (Sent o next) e = e
-first_head Rest e = e
-first_head (TakeMessage q next) e = e
-first_head (TakeHome k next) e = e
-first_head (PutHome k n next) e = e
-first_head (PutBytes k asked bytes next) e = e
-first_head (AskReady k next) e = e
-first_head (Aside s next) e = e
-first_head (Keep r next) e = e
-first_head (Retries requests after) e = e
 first_head (Round (Posts id e w) next) h = h
 first_head (Round (Unlocks i w advance) next) h = h
 first_head (Round (Decides id asked w e) next) h = by_end (ends_call (parts w) e) h
@@ -79,25 +67,14 @@ first_head (Round (Joins id) next) h = h
 first_head (Round (Opens o) next) h = h
 first_head (Round (Reads r) next) h = h
 first_head (Round (Discards k total) next) h = h
+first_head _ e = e
 
 module _ (p : Plan) (c : Core) (vs : List View) (m : Moment) (sound : Sound p c vs) (answered : IsAnswered c m) (P : Event → Core → List View → Type 0)
     (nobody : get_elem? c.seats m.seat ≡ none → P Nothing c vs) (still : (seat : SeatState) → get_elem? c.seats m.seat ≡ some seat → IsStill (first_step seat.program) → P Nothing c vs) where
   from_first : (seat : SeatState) (v : View) (program : Program) → P (next_event p m.seat c.words v m.answer (first_step program)) (step_with p m.seat seat c m.answer (first_step program)) (views_with p m.seat c vs v m.answer (first_step program))
       → P (next_event p m.seat c.words v m.answer (first_step program)) (tick_with p m.seat seat c m.answer program) (views_of p m.seat c vs v m.answer program)
   from_first seat v (Write w after) x = x
-  from_first seat v (Do call next) x = x
-  from_first seat v (Say o outcome next) x = x
-  from_first seat v (Sent o next) x = x
-  from_first seat v Rest x = x
-  from_first seat v (TakeMessage q next) x = x
-  from_first seat v (TakeHome k next) x = x
-  from_first seat v (PutHome k n after) x = x
-  from_first seat v (PutBytes k asked bytes next) x = x
-  from_first seat v (AskReady k next) x = x
-  from_first seat v (Aside step next) x = x
-  from_first seat v (Round head next) x = x
-  from_first seat v (Keep r next) x = x
-  from_first seat v (Retries requests after) x = x
+  from_first seat v _ x = x
 
   by_view : (seat : SeatState) → ((v : View) → get_elem? vs m.seat ≡ some v → P (next_event p m.seat c.words v m.answer (first_step seat.program)) (tick_with p m.seat seat c m.answer seat.program) (views_of p m.seat c vs v m.answer seat.program))
       → (get_elem? vs m.seat ≡ none → ⊥) → (q : Option View) → get_elem? vs m.seat ≡ q
@@ -154,11 +131,6 @@ module _ (p : Plan) (c : Core) (vs : List View) (m : Moment) (sound : Sound p c 
         (put seat v k asked bytes next a.0 at_seat at_view e g a.1 a.2)
     by_first seat v at_seat at_view (AskReady k next) e g a =
         subst (λ (x : Answer). P (next_event p m.seat c.words v x (AskReady k next)) (step_with p m.seat seat c x (AskReady k next)) (views_with p m.seat c vs v x (AskReady k next))) (sym a.1) (ready seat v k next a.0 at_seat at_view e g a.1)
-    by_first seat v at_seat at_view (Say o outcome next) e g a = still seat at_seat (subst IsStill (sym e) tt)
-    by_first seat v at_seat at_view (Sent o next) e g a = still seat at_seat (subst IsStill (sym e) tt)
-    by_first seat v at_seat at_view Rest e g a = still seat at_seat (subst IsStill (sym e) tt)
-    by_first seat v at_seat at_view (Keep r next) e g a = still seat at_seat (subst IsStill (sym e) tt)
-    by_first seat v at_seat at_view (Retries requests after) e g a = still seat at_seat (subst IsStill (sym e) tt)
     by_first seat v at_seat at_view (Aside s next) e g a = by_found (found_in s c.calls (taken m.answer))
       where
         by_found : (x : Option (Found s)) → P Nothing (with_found p m.seat seat c s x next) vs
@@ -166,6 +138,7 @@ module _ (p : Plan) (c : Core) (vs : List View) (m : Moment) (sound : Sound p c 
         by_found (some found) = aside seat v s next found at_seat at_view e g
     by_first seat v at_seat at_view (Write w after) e g a = absurd (first_head seat.program (subst IsHead (sym e) tt))
     by_first seat v at_seat at_view (Round head next) e g a = absurd (first_head seat.program (subst IsHead (sym e) tt))
+    by_first seat v at_seat at_view _ e g a = still seat at_seat (subst IsStill (sym e) tt)
 
     pub tick_does : P (event_at p c vs m) (ticked p c m) (views_after p c vs m)
     tick_does = by_seat (λ seat at_seat none_. beside c.seats vs m.seat seat sound.each at_seat none_)

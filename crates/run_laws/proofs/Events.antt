@@ -20,7 +20,7 @@ use Rattle.sock_model.specs.declared.view.View.{View}
 use Rattle.sock_model.specs.Weights.{pair, is_failer, is_linked, is_probe, is_stage}
 use Rattle.sock_model.specs.ChainRows.{taken_right}
 use Rattle.sock_model.specs.Links.{Given}
-use Rattle.sock_model.specs.Plain.{Life, life_at, plain, same_life}
+use Rattle.sock_model.specs.Plain.{Life, life_at, plain}
 use Rattle.sock_model.specs.Plain as lives
 use Rattle.sock_model.specs.References.{slot_facts}
 use Rattle.sock_model.specs.Slots.{count}
@@ -49,7 +49,7 @@ use Rattle.message_events.specs.Events as messages_seen
 use Rattle.message_events.specs.Messages as messages
 use Rattle.message_events.specs.Standing as standing
 use Rattle.message_events.proofs.Each.{no_event, each_call, takes_letter, goes_away, comes_home, takes_bytes}
-use Rattle.run_laws.specs.World.{World, Event, Nothing, Birth, Hold, Drop, Fail, End, Accept, Take, Stop, Place, Dropped, Free, of_lives, of_messages, IsCutOff, NeedsBoth, links_after, stopped_after, Becomes}
+use Rattle.run_laws.specs.World.{World, Event, Nothing, Hold, Drop, Fail, End, Dropped, of_lives, of_messages, IsCutOff, NeedsBoth, links_after, stopped_after, Becomes}
 use Rattle.run_laws.specs.World as world
 use Rattle.run_laws.specs.Seen.{accept_event, stop_event, step_event, put_event, ready_event, event_at, links_of, world_of}
 use Rattle.run_laws.proofs.Modes.{Mode, Comes}
@@ -112,33 +112,27 @@ step_messages i _ found v = refl
 
 put_lives : (k : ℕ) (bytes : List ℕ) (answer : Put) → of_lives (put_event k bytes answer) ≡ lives.Nothing
 put_lives k bytes (puts.Took n) = refl
-put_lives k bytes puts.Again = refl
-put_lives k bytes puts.Failed = refl
+put_lives k bytes _ = refl
 
 put_messages : (k : ℕ) (bytes : List ℕ) (answer : Put) → of_messages (put_event k bytes answer) ≡ messages_seen.put_event k bytes answer
 put_messages k bytes (puts.Took n) = refl
-put_messages k bytes puts.Again = refl
-put_messages k bytes puts.Failed = refl
+put_messages k bytes _ = refl
 
 put_links : (k : ℕ) (bytes : List ℕ) (answer : Put) (links : world.Links) → links_after (put_event k bytes answer) links ≡ links
 put_links k bytes (puts.Took n) links = refl
-put_links k bytes puts.Again links = refl
-put_links k bytes puts.Failed links = refl
+put_links k bytes _ links = refl
 
 ready_lives : (k : ℕ) (answer : Ready) → of_lives (ready_event k answer) ≡ lives.Nothing
 ready_lives k asks.Now = refl
-ready_lives k asks.NotYet = refl
-ready_lives k asks.Failed = refl
+ready_lives k _ = refl
 
 ready_messages : (k : ℕ) (answer : Ready) → of_messages (ready_event k answer) ≡ messages.Nothing
 ready_messages k asks.Now = refl
-ready_messages k asks.NotYet = refl
-ready_messages k asks.Failed = refl
+ready_messages k _ = refl
 
 ready_links : (k : ℕ) (answer : Ready) (links : world.Links) → links_after (ready_event k answer) links ≡ links
 ready_links k asks.Now links = refl
-ready_links k asks.NotYet links = refl
-ready_links k asks.Failed links = refl
+ready_links k _ links = refl
 
 -- a birth alone gives a life its link
 links_if : (links : world.Links) (b : Bool) (x y : Event) → links_after x links ≡ links → links_after y links ≡ links → links_after (cond b x y) links ≡ links

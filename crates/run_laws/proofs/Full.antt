@@ -12,7 +12,7 @@ use Rattle.sock_model.specs.declared.chain.Claim.{Claim}
 use Rattle.sock_model.specs.declared.chain.Entry.{Entry}
 use Rattle.sock_model.specs.declared.chain.Right.{Right}
 use Rattle.sock_model.specs.declared.chain.Stage.{Stage}
-use Rattle.sock_model.specs.declared.chain.Stage.TheVariants.{Writes, Placed, Passes, Empties, Walks, Turns}
+use Rattle.sock_model.specs.declared.chain.Stage.TheVariants.{Writes, Walks, Turns}
 use Rattle.sock_model.specs.declared.view.View.{View}
 use Rattle.sock_model.specs.declared.view.Hand.{Hand}
 use Rattle.sock_model.specs.ChainRows.{with_claim, with_right, without_right, queued, righted, with_hand, spent_hand, taken_right}
@@ -80,12 +80,8 @@ row_full p (EmptyHead i last) found hand v may f = by_right_full v f v.rights (e
 row_full p (ReadNext q) found hand v may f = by_right_full v f v.rights (λ r. read_next found v r r.stage) (λ r. by_stage r r.stage)
   where
     by_stage : (r : Right) (stage : Stage) → IsFull (read_next found v r stage)
-    by_stage r (Placed now) = f
     by_stage r (Walks top at after) = either (eqb found UNCONNECTED) v (with_right v (record r { stage = Turns top at after found })) f f
-    by_stage r (Writes now) = f
-    by_stage r (Passes now next) = f
-    by_stage r Empties = f
-    by_stage r (Turns top at after before) = f
+    by_stage r _ = f
 row_full p (ReverseNext q value) found hand v may f = by_right_full v f v.rights (λ r. turned_next v r r.stage) (λ r. by_stage r r.stage)
   where
     by_stage : (r : Right) (stage : Stage) → IsFull (turned_next v r stage)

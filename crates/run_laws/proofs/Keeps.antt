@@ -23,7 +23,7 @@ use Rattle.life_events.specs.Events.{life_of}
 use Rattle.life_events.proofs.Laws.{plain_law}
 use Rattle.message_events.specs.Messages.{Has, IsIn}
 use Rattle.message_events.specs.Standing.{messages}
-use Rattle.run_laws.specs.World.{Event, Nothing, Hold, Drop, Fail, End, Accept, Take, Stop, Place, Dropped, of_messages, stopped_after}
+use Rattle.run_laws.specs.World.{Event, Nothing, Hold, Drop, Fail, End, Accept, of_messages, stopped_after}
 use Rattle.run_laws.specs.World as world
 use Rattle.run_laws.specs.Seen.{accept_event, stop_event, step_event, put_event, ready_event, event_at, AreEvents, stopped_along}
 use Rattle.run_laws.specs.Happening.{Happen}
@@ -65,13 +65,11 @@ some_step p v full i _ found may = tt
 
 some_put : (k : ℕ) (bytes : List ℕ) (answer : Put) → IsSome (put_event k bytes answer)
 some_put k bytes (puts.Took n) = tt
-some_put k bytes puts.Again = tt
-some_put k bytes puts.Failed = tt
+some_put k bytes _ = tt
 
 some_ready : (k : ℕ) (answer : Ready) → IsSome (ready_event k answer)
 some_ready k asks.Now = tt
-some_ready k asks.NotYet = tt
-some_ready k asks.Failed = tt
+some_ready k _ = tt
 
 module _ (p : Plan) (c : Core) (views : List View) (stopped : ℕ → Bool) (m : Moment) (runs : Runs p c views stopped) (answered : IsGiven p c m) where
   some_event : IsSome (event_at p c views m)
@@ -82,18 +80,7 @@ module _ (p : Plan) (c : Core) (views : List View) (stopped : ℕ → Bool) (m :
 
   is_some : (e : Event) → IsSome e → (d : Entry) → IsIn (messages p c views) (of_messages e) d → d.bytes ≢ []
   is_some (Accept e seat) some_ d is = ⊎_elim (λ has. runs.some_bytes d has) (λ same. subst (λ (x : Entry). x.bytes ≢ []) (sym same) some_) is
-  is_some Nothing some_ d is = runs.some_bytes d is
-  is_some (world.Birth l k) some_ d is = runs.some_bytes d is
-  is_some (Hold l seat) some_ d is = runs.some_bytes d is
-  is_some (Drop l seat) some_ d is = runs.some_bytes d is
-  is_some (Fail l seat) some_ d is = runs.some_bytes d is
-  is_some (End l) some_ d is = runs.some_bytes d is
-  is_some (world.Claim r) some_ d is = runs.some_bytes d is
-  is_some (Take k bytes) some_ d is = runs.some_bytes d is
-  is_some (Stop k) some_ d is = runs.some_bytes d is
-  is_some (Place k) some_ d is = runs.some_bytes d is
-  is_some (Dropped k) some_ d is = runs.some_bytes d is
-  is_some (world.Free r) some_ d is = runs.some_bytes d is
+  is_some _ some_ d is = runs.some_bytes d is
 
   runs_tick : Runs p (ticked p c m) (views_after p c views m) (stopped_after (event_at p c views m) stopped)
   runs_tick = record {

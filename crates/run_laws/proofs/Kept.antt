@@ -10,8 +10,8 @@ use Rattle.sock_model.specs.declared.chain.Right.{Right}
 use Rattle.sock_model.specs.declared.home.Home.{Home}
 use Rattle.sock_model.specs.declared.view.View.{View}
 use Rattle.sock_model.specs.Links.{HoldsLink, Failed}
-use Rattle.seat_programs.specs.Writings.{Writing, Puts, Waits, Empties, Walks}
-use Rattle.seat_programs.specs.Programs.{Program, Do, Say, Sent, Rest, TakeMessage, TakeHome, PutHome, PutBytes, AskReady, Write, Aside, Round, Keep, Retries}
+use Rattle.seat_programs.specs.Writings.{Writing, Waits}
+use Rattle.seat_programs.specs.Programs.{Program, Write, Round}
 use Rattle.seat_programs.specs.Cores.{Calls, Core, SeatState, resolved, waiting_at, next_step, with_seat}
 use Rattle.sock_runs.specs.GoesOn.{GoesOn}
 use Rattle.seat_programs.specs.Ticks.{Moment, IsAnswered, ticked}
@@ -68,46 +68,22 @@ pub record Kept (p : Plan) (c : Core) (views : List View) (stopped : ℕ → Boo
 -- a seat that sets its life failed next isn't at the head of a loop
 pub first_broken : (m : Mode) (i : ℕ) (program : Program) → Guarded m program → m ≡ Broken i → first_mode m program ≡ Broken i
 first_broken m i (Write w after) g e = absurd (subst IsWhole e g.0)
-first_broken m i (Do call next) g e = e
-first_broken m i (Say o outcome next) g e = e
-first_broken m i (Sent o next) g e = e
-first_broken m i Rest g e = e
-first_broken m i (TakeMessage q next) g e = e
-first_broken m i (TakeHome k next) g e = e
-first_broken m i (PutHome k n after) g e = e
-first_broken m i (PutBytes k asked bytes next) g e = e
-first_broken m i (AskReady k next) g e = e
-first_broken m i (Aside step next) g e = e
 first_broken m i (Round head next) g e = absurd (subst IsWhole e g.0)
-first_broken m i (Keep r next) g e = e
-first_broken m i (Retries requests after) g e = e
+first_broken m i _ g e = e
 
 round_fits : (p : Plan) (v : View) (stopped : ℕ → Bool) (w : Writing) (after : Program) → GoesOn p v (Write w after) → Fits p v stopped (round_mode w)
-round_fits p v stopped (Puts h now heading left taken asked) after goes r one = tt
 round_fits p v stopped (Waits h now heading left taken) after goes r one = let at = goes.0 in let mine = at.1 in
     let same : at.0 ≡ r = heads_same at.0 r (sym mine.one ∙ one) in
     (socket_id_version h.id, subst (HoldsLink p v (socket_id_slot h.id) (socket_id_version h.id)) (sym mine.link ∙ ap (λ (x : Right). x.link) same) mine.holds)
   where
     heads_same : (x y : Right) → x ∷ [] ≡ y ∷ [] → x ≡ y
     heads_same x y e = cc
-round_fits p v stopped (Empties h) after goes r one = tt
-round_fits p v stopped (Walks h top at next) after goes r one = tt
+round_fits p v stopped _ after goes r one = tt
 
 pub first_fits : (p : Plan) (v : View) (stopped : ℕ → Bool) (m : Mode) (program : Program) → GoesOn p v program → Fits p v stopped m → Fits p v stopped (first_mode m program)
 first_fits p v stopped m (Write w after) goes fits = round_fits p v stopped w after goes
-first_fits p v stopped m (Do call next) goes fits = fits
-first_fits p v stopped m (Say o outcome next) goes fits = fits
-first_fits p v stopped m (Sent o next) goes fits = fits
-first_fits p v stopped m Rest goes fits = fits
-first_fits p v stopped m (TakeMessage q next) goes fits = fits
-first_fits p v stopped m (TakeHome k next) goes fits = fits
-first_fits p v stopped m (PutHome k n after) goes fits = fits
-first_fits p v stopped m (PutBytes k asked bytes next) goes fits = fits
-first_fits p v stopped m (AskReady k next) goes fits = fits
-first_fits p v stopped m (Aside step next) goes fits = fits
 first_fits p v stopped m (Round head next) goes fits = λ r one. tt
-first_fits p v stopped m (Keep r next) goes fits = fits
-first_fits p v stopped m (Retries requests after) goes fits = fits
+first_fits p v stopped m _ goes fits = fits
 
 -- ## A step of seat i
 

@@ -31,8 +31,7 @@ use Rattle.brpc_model.specs.Stream as streams
 use Rattle.sock_words.specs.Words.{at_word, at_word_slot, at_word_first, at_word_link, at_word_attempt}
 use Rattle.sock_words.specs.declared.outcome.Outcome.TheVariants.{NotBegun, Joined}
 use Rattle.sock_message.specs.Asked.{Asked, frame_of}
-use Rattle.seat_programs.specs.Asides.{Found, FreeId, PutCall, StoreAt, Taking, Bytes, Nothing, NoMore, AtEnd, Closed, id_slot, id_first, call_id}
-use Rattle.seat_programs.specs.Asides as taking
+use Rattle.seat_programs.specs.Asides.{Found, FreeId, PutCall, StoreAt, Taking, Bytes, Nothing, Closed, id_slot, id_first, call_id}
 use Rattle.seat_programs.specs.Heads.{Head, Exit, Retry, Sought, Version, Reading, Ended, Posts, Unlocks, Decides, Locks, Joins, Opens, Reads, Discards, Posting, WasGone, WasStale, WasCrowded, WasQueued, HasLocked, Unlocking, IsOpen, HasNext, Deciding, HasEnded, Locking, NotThere}
 use Rattle.seat_programs.specs.Heads.{GoesOn as OpenAgain, Has as HasLock}
 use Rattle.seat_programs.specs.Posts.{WHOLE, packed, advance_of, is_first, is_stale, is_full, is_sought, judged, post, post_with, posted, popped, ends_call, end_id, decide, decided, unlocked, locking}
@@ -198,10 +197,7 @@ decided_guarded id next g OpenAgain = g
 
 posted_guarded : (id e : ℕ) (next : Program) → Guarded Unknown next → Goes (posted id e next)
 posted_guarded id e next g (HasLocked word) = decide_guarded Unknown tt id word e (decided id next) (decided_guarded id next g)
-posted_guarded id e next g WasGone = g
-posted_guarded id e next g WasStale = g
-posted_guarded id e next g (WasCrowded a b) = g
-posted_guarded id e next g WasQueued = g
+posted_guarded id e next g _ = g
 
 post_with_guarded : (m : Mode) → IsWhole m → (id e : ℕ) (k : Posting → Program) → Goes k → Guarded m (post_with id e k)
 post_with_guarded m whole id e k goes = (whole, λ found. judged_guarded id e found k goes)
@@ -249,18 +245,13 @@ took_guarded r k goes (Bytes bytes) = let s = streams.stream (r.rest ++ bytes) i
     responses_guarded r.ids s.frames r.kept (λ kept. read_on (record { ids = r.ids; link = r.link; id = r.id; rest = r.rest; total = r.total + length bytes; kept = kept }) (r.rest ++ bytes) s.ending k)
     (λ kept. read_on_guarded (record { ids = r.ids; link = r.link; id = r.id; rest = r.rest; total = r.total + length bytes; kept = kept }) (r.rest ++ bytes) s.ending k goes)
 took_guarded r k goes Nothing = (tt, goes)
-took_guarded r k goes NoMore = goes (ended_by 1014 false false r)
-took_guarded r k goes AtEnd = goes (ended_by 1014 false false r)
 took_guarded r k goes Closed = goes (ended_by 1014 true false r)
-took_guarded r k goes taking.Broken = goes (ended_by 1014 false false r)
+took_guarded r k goes _ = goes (ended_by 1014 false false r)
 
 discarded_guarded : (l total : ℕ) (k : ℕ → Program) → Goes k → (t : Taking) → Guarded Unknown (discarded l total k t)
 discarded_guarded l total k goes (Bytes bytes) = sides (nat_lt (total + length bytes) LIMIT) (Round (Discards l (total + length bytes)) k) (k (total + length bytes)) Unknown (tt, goes) (goes (total + length bytes))
 discarded_guarded l total k goes Nothing = (tt, goes)
-discarded_guarded l total k goes NoMore = goes total
-discarded_guarded l total k goes AtEnd = goes total
-discarded_guarded l total k goes Closed = goes total
-discarded_guarded l total k goes taking.Broken = goes total
+discarded_guarded l total k goes _ = goes total
 
 -- one round of each loop
 pub loop_guarded : (head : Head) (k : Exit head → Program) → Goes k → Guarded Unknown (round head k)
@@ -336,19 +327,8 @@ module _ (after : Program) (k : Guarded Unknown after) where
 -- a seat at the head of a loop makes the first step of the round, and any other its next one
 pub first_guarded : (m : Mode) (program : Program) → Guarded m program → Guarded (first_mode m program) (first_step program)
 first_guarded m (Write w after) g = block_guarded after g.1 w
-first_guarded m (Do call next) g = g
-first_guarded m (Say o outcome next) g = g
-first_guarded m (Sent o next) g = g
-first_guarded m Rest g = g
-first_guarded m (TakeMessage q next) g = g
-first_guarded m (TakeHome k next) g = g
-first_guarded m (PutHome k n after) g = g
-first_guarded m (PutBytes k asked bytes next) g = g
-first_guarded m (AskReady k next) g = g
-first_guarded m (Aside step next) g = g
 first_guarded m (Round head next) g = loop_guarded head next g.1
-first_guarded m (Keep r next) g = g
-first_guarded m (Retries requests after) g = g
+first_guarded m _ g = g
 
 -- ## Sending
 
@@ -468,10 +448,7 @@ ends_with_guarded id e word (f ∷ fs) next g = answer_guarded f (id_first id) n
 
 posted_last_guarded : (id e : ℕ) (kept : List Frame) (next : Program) → Guarded Unknown next → Goes (posted_last id e kept next)
 posted_last_guarded id e kept next g (HasLocked word) = ends_with_guarded id e word (kept_for id (parts word).range kept) next g
-posted_last_guarded id e kept next g WasGone = g
-posted_last_guarded id e kept next g WasStale = g
-posted_last_guarded id e kept next g (WasCrowded a b) = g
-posted_last_guarded id e kept next g WasQueued = g
+posted_last_guarded id e kept next g _ = g
 
 each_guarded : (os : List ℕ) (k c : ℕ) (kept : List Frame) (next : Program) → Guarded Unknown next → Guarded Unknown (post_each os k c kept next)
 each_guarded [] k c kept next g = g
@@ -507,16 +484,7 @@ come_guarded m ws (Sent o next) g = come_guarded m ws next g
 come_guarded m ws (Keep r next) g = come_guarded m (ws ++ r ∷ []) next g
 come_guarded m [] (Retries requests after) g = come_guarded m [] after (subst (λ (n : Mode). Guarded n after) (sym g.0) g.1)
 come_guarded m (r ∷ ws) (Retries requests after) g = subst (λ (n : Mode). Guarded n (retry requests r.id r.attempt (Retries requests after))) (sym g.0) (retry_guarded requests r.id r.attempt (Retries requests after) (refl, g.1))
-come_guarded m ws (Write w after) g = g
-come_guarded m ws (Do call next) g = g
-come_guarded m ws Rest g = g
-come_guarded m ws (TakeMessage q next) g = g
-come_guarded m ws (TakeHome k next) g = g
-come_guarded m ws (PutHome k n after) g = g
-come_guarded m ws (PutBytes k asked bytes next) g = g
-come_guarded m ws (AskReady k next) g = g
-come_guarded m ws (Aside step next) g = g
-come_guarded m ws (Round head next) g = g
+come_guarded m ws _ g = g
 
 -- ## Clients
 

@@ -342,12 +342,8 @@ module _ (p : Plan) (c : Core) (views : List View) (stopped : ℕ → Bool) (kep
           by_test false = refl
 
       by_mode : (r : Right) (n : Mode) → FitsRight p v stopped n r → FitsRight p (row_of (LoadCode j h)) stopped (mode_behind n (LoadCode j h) (found (LoadCode j h))) r
-      by_mode r Unknown f = tt
-      by_mode r (Live s) f = tt
-      by_mode r Fed f = tt
       by_mode r Dead f = f
-      by_mode r (Asks s) f = tt
-      by_mode r (Broken s) f = tt
+      by_mode r _ f = tt
 
   step_kept : (call : Call) (next : ℕ → Program) (is : first_step seat.program ≡ Do call next) (may : May p v call) (sound : Sound p (stepped p i seat call next c) (set views i (row_of call)))
       → Kept p (stepped p i seat call next c) (set views i (row_of call)) (stopped_after (step_event i call (found call) v) stopped)

@@ -44,14 +44,10 @@ module _ (script : List Item) (outcomes : List (Option Outcome)) (callless : is_
   plain_task c t is = by t.op refl
     where
       by : (o : Op) → t.op ≡ o → is_plain o ≡ true
-      by (ops.Open n k) e = refl
-      by (ops.Send n bytes) e = refl
       by (ops.Call asked) e = absurd (no_call c t asked is e)
       by (ops.Expire o) e = absurd (no_expire c t o is e)
       by (ops.Join o) e = absurd (no_join c t o is e)
-      by (ops.Hold n) e = refl
-      by (ops.Drop n) e = refl
-      by (ops.Fail n code) e = refl
+      by _ e = refl
 
   -- so nothing more is told of it
   pub all_told : (fixed : Fixed) (gave : ℕ → List ℕ) (orders : ℕ → Order) (last : ℕ → ℕ) (core : Core) → ToldSends (plan_of script) (all_tasks script) outcomes fixed gave orders last core → ToldCalls (plan_of script) (all_tasks script) outcomes fixed gave orders core

@@ -16,9 +16,6 @@ use Rattle.brpc_model.specs.Frame.{Frame}
 use Rattle.brpc_model.specs.Stream as streams
 use Rattle.brpc_model.specs.Items.{Item}
 use Rattle.brpc_model.specs.Operations.{Turn}
-use Rattle.sock_io.specs.declared.link.Put.{Put}
-use Rattle.sock_model.specs.Messages.{Letter}
-use Rattle.sock_model.specs.Reads.{message, link_home}
 use Rattle.sock_steps.proofs.Quiet.{either_way}
 use Rattle.seat_programs.specs.Asides.{Step, Found, TakeBytes, Taking, Bytes, Nothing, Closed}
 use Rattle.seat_programs.specs.Beside.{found_in}
@@ -27,14 +24,16 @@ use Rattle.seat_programs.specs.Clients.{client_from, ending_of}
 use Rattle.seat_programs.specs.Cores.{Core, SeatState, resolved, said, next_step, waiting_at}
 use Rattle.seat_programs.specs.Drops.{call_in}
 use Rattle.seat_programs.specs.Heads.{Retry, Opens, Reads, Discards, Reading, Ended}
-use Rattle.seat_programs.specs.Programs.{Program, Do, Rest, TakeMessage, TakeHome, PutHome, PutBytes, AskReady, Write, Aside, Round, LAST_VERSION, NO_SOCKET, recycle, release, address, set_failed}
+use Rattle.seat_programs.specs.Programs.{Program, Do, Rest, Aside, Round, LAST_VERSION, NO_SOCKET, recycle, release, address, set_failed}
 use Rattle.seat_programs.specs.Readers.{LIMIT, has_response, slot_in, responses, read_on, took, discarded, thrown_away, read, reader}
 use Rattle.seat_programs.specs.Scripts.{IsRunWithCalls, all_programs, programs, readers_from, sizes_of, all_tasks, opened, set_up, played, ending}
 use Rattle.seat_programs.specs.Tasks.{calls, opens, plan_of, id_plan_of}
-use Rattle.seat_programs.specs.Ticks.{Answer, OfPut, OfReady, Moment, quiet, taken, ticked, run, step_with, tick_with, with_message, with_link, with_put, with_ready, with_found}
+use Rattle.seat_programs.specs.Ticks.{Answer, Moment, quiet, taken, ticked, run, step_with, tick_with, with_found}
 use Rattle.sock_runs.specs.Sound.{first_step}
 use Rattle.sock_runs.proofs.Opening.{mapped}
 use Rattle.outcome_causes.specs.Facts.{born_at, born_of, put_at, put_by, shown_in, late_of_run, late_links_of_run, is_said_late}
+use Rattle.send_causes.proofs.Readings.{ticks_first}
+use Rattle.send_causes.proofs.SeatTicks.{own_tick, tick_none, tick_some, never_later}
 
 -- no step of the program makes a life or puts a call home, and it says nothing
 abbrev pub IsMute : Program → Type 0
@@ -140,49 +139,7 @@ mute_aside step next x = absurd x
 
 -- ## Ticks
 
-by_first : (p : Plan) (i : ℕ) (seat : SeatState) (c : Core) (answer : Answer) (program : Program) → tick_with p i seat c answer program ≡ step_with p i seat c answer (first_step program)
-by_first p i seat c answer (Write w after) = refl
-by_first p i seat c answer (Round head next) = refl
-by_first p i seat c answer _ = refl
-
 module _ (p : Plan) (i : ℕ) (seat : SeatState) (c : Core) where
-  -- a tick of seat i changes no other seat
-  abbrev Own : Core → Type 0
-  Own d = (d.seats ≡ c.seats) ⊎ ((s : SeatState) × (d.seats ≡ slice_set c.seats i s))
-
-  own_message : (q : ℕ) (o : Option Letter) (next : Letter → Program) → Own (with_message p i seat c q o next)
-  own_message q none next = inl refl
-  own_message q (some letter) next = inr (_, refl)
-
-  own_link : (k : ℕ) (o : Option (List ℕ × ℕ)) (next : ℕ → Program) → Own (with_link p i seat c k o next)
-  own_link k none next = inl refl
-  own_link k (some home) next = inr (_, refl)
-
-  own_put : (bytes : List ℕ) (answer : Answer) (next : Put → Program) → Own (with_put p i seat c bytes answer next)
-  own_put bytes (OfPut put) next = inr (_, refl)
-  own_put bytes _ next = inl refl
-
-  own_ready : (answer : Answer) (next : Rattle.sock_io.specs.declared.link.Ready.Ready → Program) → Own (with_ready p i seat c answer next)
-  own_ready (OfReady ready) next = inr (_, refl)
-  own_ready _ next = inl refl
-
-  own_found : (step : Step) (o : Option (Found step)) (next : Found step → Program) → Own (with_found p i seat c step o next)
-  own_found step none next = inl refl
-  own_found step (some found) next = inr (_, refl)
-
-  own_step : (answer : Answer) (program : Program) → Own (step_with p i seat c answer program)
-  own_step answer (Do call next) = inr (_, refl)
-  own_step answer (TakeMessage q next) = own_message q (message (λ home. home) c.homes q) _
-  own_step answer (TakeHome k next) = own_link k (link_home (λ home. home) p c.homes k) next
-  own_step answer (PutHome k n after) = inr (_, refl)
-  own_step answer (PutBytes k asked bytes next) = own_put bytes answer next
-  own_step answer (AskReady k next) = own_ready answer next
-  own_step answer (Aside step next) = own_found step (found_in step c.calls (taken answer)) next
-  own_step answer _ = inl refl
-
-  own_tick : (answer : Answer) → Own (tick_with p i seat c answer seat.program)
-  own_tick answer = subst Own (sym (by_first p i seat c answer seat.program)) (own_step answer (first_step seat.program))
-
   -- that of a mute one says nothing, and leaves it mute
   record Quietly (d : Core) : Type 0 where
     outcomes : d.outcomes ≡ c.outcomes
@@ -203,16 +160,10 @@ module _ (p : Plan) (i : ℕ) (seat : SeatState) (c : Core) where
   quiet_step answer _ x = absurd x
 
   quiet_tick : (answer : Answer) → IsMute seat.program → Quietly (tick_with p i seat c answer seat.program)
-  quiet_tick answer x = subst Quietly (sym (by_first p i seat c answer seat.program)) (quiet_step answer (first_step seat.program) (first_mute seat.program x))
+  quiet_tick answer x = subst Quietly (sym (ticks_first p i seat c answer seat.program)) (quiet_step answer (first_step seat.program) (first_mute seat.program x))
 
 abbrev pub MuteAt : ℕ → Core → Type 0
 MuteAt j c = (s : SeatState) → get_elem? c.seats j ≡ some s → IsMute s.program
-
-tick_none : (p : Plan) (c : Core) (m : Moment) → get_elem? c.seats m.seat ≡ none → ticked p c m ≡ c
-tick_none p c m e = ap (λ (o : Option SeatState). elim o as (λ o. Core) [ none ↦ c | some seat ↦ tick_with p m.seat seat c m.answer seat.program ]) e
-
-tick_some : (p : Plan) (c : Core) (m : Moment) (seat : SeatState) → get_elem? c.seats m.seat ≡ some seat → ticked p c m ≡ tick_with p m.seat seat c m.answer seat.program
-tick_some p c m seat e = ap (λ (o : Option SeatState). elim o as (λ o. Core) [ none ↦ c | some seat ↦ tick_with p m.seat seat c m.answer seat.program ]) e
 
 at_same : (j : ℕ) (c d : Core) → d.seats ≡ c.seats → MuteAt j c → MuteAt j d
 at_same j c d e x s at = x s (ap (λ (l : List SeatState). get_elem? l j) (sym e) ∙ at)
@@ -361,13 +312,7 @@ module _ (script : List Item) (callless : calls script ≡ []) where
       -- no operation has its outcome while the run is ending
       never_late : (o : ℕ) → is_said_late script turns core is o ≡ false
       never_late o = ap (λ (os : List (std.Option Outcome)). (elim (slice_get before.outcomes o) as (λ x. Bool) [ std.None ↦ false | std.Some x ↦ elim x as (λ y. Bool) [ std.None ↦ true | std.Some outcome ↦ false ] ])
-          && (elim (slice_get os o) as (λ x. Bool) [ std.None ↦ false | std.Some x ↦ elim x as (λ y. Bool) [ std.None ↦ false | std.Some outcome ↦ true ] ])) same_outcomes ∙ never (slice_get before.outcomes o)
-        where
-          never : (x : std.Option (std.Option Outcome)) → ((elim x as (λ x. Bool) [ std.None ↦ false | std.Some x ↦ elim x as (λ y. Bool) [ std.None ↦ true | std.Some outcome ↦ false ] ])
-              && (elim x as (λ x. Bool) [ std.None ↦ false | std.Some x ↦ elim x as (λ y. Bool) [ std.None ↦ false | std.Some outcome ↦ true ] ])) ≡ false
-          never std.None = refl
-          never (std.Some std.None) = refl
-          never (std.Some (std.Some outcome)) = refl
+          && (elim (slice_get os o) as (λ x. Bool) [ std.None ↦ false | std.Some x ↦ elim x as (λ y. Bool) [ std.None ↦ false | std.Some outcome ↦ true ] ])) same_outcomes ∙ never_later (slice_get before.outcomes o)
 
       none_kept : (f : ℕ → Bool) (xs : List ℕ) → ((x : ℕ) → f x ≡ false) → filter f xs ≡ []
       none_kept f [] h = refl

@@ -52,13 +52,7 @@ module _ (script : List Item) (made : AreMade script) (turns : List Turn) (core 
     where
       by : (op : Op) → t.op ≡ op → OwnsFail (λ o code. P code) P gone t.number op
       by (ops.Fail name code) is_ = fits j ts at t there name code is_
-      by (ops.Open n k) is_ = tt
-      by (ops.Send n bytes) is_ = tt
-      by (ops.Call asked) is_ = tt
-      by (ops.Expire u) is_ = tt
-      by (ops.Join u) is_ = tt
-      by (ops.Hold n) is_ = tt
-      by (ops.Drop n) is_ = tt
+      by _ is_ = tt
 
   all_of : (Q : Task → Type 0) (ts : List Task) → ((t : Task) → In t ts → Q t) → AllByRecursion Q ts
   all_of Q [] f = tt

@@ -73,13 +73,7 @@ module _ (script : List Item) (are : AreTasks (plan_of script) (all_tasks script
     where
       by : (op : Op) → t.op ≡ op → OwnsFail (IsFailOf (told_tasks_of script) j) IsOtherCode (inl refl) t.number op
       by (ops.Fail name code) is = (t, name, down (all_tasks script) (length (opens script)) j t (ts, at, there) (ap is_plain is), refl, is)
-      by (ops.Open n k) is = tt
-      by (ops.Send n bytes) is = tt
-      by (ops.Call asked) is = tt
-      by (ops.Expire u) is = tt
-      by (ops.Join u) is = tt
-      by (ops.Hold n) is = tt
-      by (ops.Drop n) is = tt
+      by _ is = tt
 
   clients_codes : (j : ℕ) (x : Program) → get_elem? (programs (sizes_of (plan_of script) (id_plan_of script)) (all_tasks script)) j ≡ some x → Stores (IsFailOf (told_tasks_of script) j) IsOtherCode NoFail x
   clients_codes j x at = let sizes : Sizes = sizes_of (plan_of script) (id_plan_of script) in let t = mapped (client_from sizes []) (all_tasks script) j x at in

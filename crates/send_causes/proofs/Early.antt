@@ -28,7 +28,7 @@ use Rattle.seat_programs.specs.Asides.{Taking, Bytes, Nothing, NoMore, AtEnd, Cl
 use Rattle.seat_programs.specs.Beside.{at_last}
 use Rattle.seat_programs.specs.Calls.{Call, SetOdd}
 use Rattle.seat_programs.specs.Drops.{call_in}
-use Rattle.seat_programs.specs.Programs.{Program, Do, Say, Sent, Rest, TakeMessage, TakeHome, PutHome, PutBytes, AskReady, Write, Aside, Round, Keep, Retries, open_from, make_socket}
+use Rattle.seat_programs.specs.Programs.{Program, Do, Say, Sent, Rest, Write, Retries, open_from, make_socket}
 use Rattle.seat_programs.specs.Readers.{LIMIT, reader}
 use Rattle.seat_programs.specs.Heads.{Retry}
 use Rattle.seat_programs.specs.Clients.{operation, client_from, ending_of}
@@ -179,15 +179,7 @@ opens_ticks p c o = by_seat (get_elem? c.seats 0) refl
         by_program (Say n outcome next) x = o
         by_program (Sent n next) x = o
         by_program (Retries requests after) x = o
-        by_program (TakeMessage q next) x = absurd x
-        by_program (TakeHome k next) x = absurd x
-        by_program (PutHome k n after) x = absurd x
-        by_program (PutBytes k asked bytes next) x = absurd x
-        by_program (AskReady k next) x = absurd x
-        by_program (Write w after) x = absurd x
-        by_program (Aside s next) x = absurd x
-        by_program (Round head next) x = absurd x
-        by_program (Keep r next) x = absurd x
+        by_program _ x = absurd x
 
 none_closed : (c : Core) → Opens c → (x : ℕ) → In x (closed_at c (quiet 0)) → ⊥
 none_closed c o x there = by_seat (get_elem? c.seats 0) refl there

@@ -44,6 +44,7 @@ use Rattle.call_causes.specs.Lists.{shows_in}
 use Rattle.id_runs.proofs.Opening.{unused}
 use Rattle.send_causes.specs.Counts.{AreLabelled}
 use Rattle.send_causes.specs.EndedCalls.{Load, loaded_at, loads_of_run, Store, stored_at, stores_of_run}
+use Rattle.send_causes.proofs.RunTicks.{in_setup, in_clients, in_closing}
 use Rattle.send_causes.proofs.Runs.{AreLabelledIn, IsCallOf, behind_ids, asked_by, none_home}
 use Rattle.send_causes.proofs.EndedTrails.{Trail, lost, Follows}
 use Rattle.send_causes.proofs.EndedPrograms.{client_goes, ending_goes, reader_goes}
@@ -149,23 +150,14 @@ module _ (script : List Item) (are : AreTasks (plan_of script) (all_tasks script
   abbrev After : Bool → List Event → Core → List View → List Moment → Type 0
   After over before c ws ms = Behind (plan_of script) (id_plan_of script) narrow (IsCallOf script) (stores_of_run script turns core is) (told_tasks_of script) tasks_are ids over before c ws ms
 
-  abbrev in_setup : List Moment
-  in_setup = replicate is.setup (quiet 0)
-
-  abbrev in_clients : List Moment
-  in_clients = is.scheduled ++ is.later
-
-  abbrev in_closing : List Moment
-  in_closing = replicate is.last (quiet 0)
-
   abbrev s₁ : List Store
-  s₁ = shows_in stored_at (plan_of script) (opened script) in_setup
+  s₁ = shows_in stored_at (plan_of script) (opened script) (in_setup is)
 
   abbrev s₂ : List Store
-  s₂ = shows_in stored_at (plan_of script) (set_up script is.setup) in_clients
+  s₂ = shows_in stored_at (plan_of script) (set_up script is.setup) (in_clients is)
 
   abbrev s₃ : List Store
-  s₃ = shows_in stored_at (plan_of script) (closing_of script turns core is) in_closing
+  s₃ = shows_in stored_at (plan_of script) (closing_of script turns core is) (in_closing is)
 
   abbrev s₄ : List Store
   s₄ = shows_in stored_at (plan_of script) is.ended is.final
@@ -180,7 +172,7 @@ module _ (script : List Item) (are : AreTasks (plan_of script) (all_tasks script
         (all_follow (IsCallOf script) (sizes_of (plan_of script) (id_plan_of script)) (all_tasks script) (asked_by script) (calls script) (opens script)) vs bare;
   }
 
-  setup_part : After false [] (opened script) vs in_setup
+  setup_part : After false [] (opened script) vs (in_setup is)
   setup_part = setup_named p q narrow (IsCallOf script) (stores_of_run script turns core is) (told_tasks_of script) tasks_are ids go is.setup (opened script) vs begins.sound (set_up_answered script are vs begins go turns core is fitting) fitting.of_setup labelled.of_setup
       (λ x there. in_left s₁ (s₂ ++ (s₃ ++ s₄)) x there) first (λ e m. absurd m)
 
@@ -189,16 +181,16 @@ module _ (script : List Item) (are : AreTasks (plan_of script) (all_tasks script
     named : Keeps true c ws
     up : (e : Event) → In e before → In e named.events
 
-  over_part : IsOn setup_part.named.events (set_up script is.setup) (views_along (plan_of script) (opened script) vs in_setup)
+  over_part : IsOn setup_part.named.events (set_up script is.setup) (views_along (plan_of script) (opened script) vs (in_setup is))
   over_part = let k = setup_part.named in
-      let t : IsStoried (plan_of script) (told_tasks_of script) tasks_are false (set_up script is.setup) (views_along (plan_of script) (opened script) vs in_setup) = record { events = k.events; lost = k.lost_links; sound = set_up_sound script are vs begins go turns core is fitting; story = k.story } in
-      let o = set_up_over (plan_of script) (told_tasks_of script) tasks_are (set_up script is.setup) (views_along (plan_of script) (opened script) vs in_setup) t is.is_set_up in record {
-        named = record { events = o.0.events; lost_links = o.0.lost; story = o.0.story; trails = k.trails; law = subst (λ es. NameLaw (IsCallOf script) (stores_of_run script turns core is) es (set_up script is.setup) (views_along (plan_of script) (opened script) vs in_setup) k.trails) (sym o.1) k.law };
+      let t : IsStoried (plan_of script) (told_tasks_of script) tasks_are false (set_up script is.setup) (views_along (plan_of script) (opened script) vs (in_setup is)) = record { events = k.events; lost = k.lost_links; sound = set_up_sound script are vs begins go turns core is fitting; story = k.story } in
+      let o = set_up_over (plan_of script) (told_tasks_of script) tasks_are (set_up script is.setup) (views_along (plan_of script) (opened script) vs (in_setup is)) t is.is_set_up in record {
+        named = record { events = o.0.events; lost_links = o.0.lost; story = o.0.story; trails = k.trails; law = subst (λ es. NameLaw (IsCallOf script) (stores_of_run script turns core is) es (set_up script is.setup) (views_along (plan_of script) (opened script) vs (in_setup is)) k.trails) (sym o.1) k.law };
         up = λ e there. subst (In e) (sym o.1) there;
       }
 
-  clients_part : After true over_part.named.events (set_up script is.setup) (views_along (plan_of script) (opened script) vs in_setup) in_clients
-  clients_part = seats_named p q narrow (IsCallOf script) (stores_of_run script turns core is) (told_tasks_of script) tasks_are ids go in_clients (set_up script is.setup) (views_along (plan_of script) (opened script) vs in_setup) (set_up_sound script are vs begins go turns core is fitting) is.answered fitting.of_played labelled.of_played
+  clients_part : After true over_part.named.events (set_up script is.setup) (views_along (plan_of script) (opened script) vs (in_setup is)) (in_clients is)
+  clients_part = seats_named p q narrow (IsCallOf script) (stores_of_run script turns core is) (told_tasks_of script) tasks_are ids go (in_clients is) (set_up script is.setup) (views_along (plan_of script) (opened script) vs (in_setup is)) (set_up_sound script are vs begins go turns core is fitting) is.answered fitting.of_played labelled.of_played
       (λ x there. in_right s₁ (s₂ ++ (s₃ ++ s₄)) x (in_left s₂ (s₃ ++ s₄) x there)) over_part.named
 
   -- seat 0 begins the ending
@@ -206,7 +198,7 @@ module _ (script : List Item) (are : AreTasks (plan_of script) (all_tasks script
   closing_on = let k = clients_part.named in let c : Core = rested_of script turns core is in let sound = played_sound script are vs begins go turns core is fitting in
       let some_ = tasks_are.some_ in let seat = at_there (rested_of script turns core is).seats 0 (omega (arith, k.story.each, some_)) in let v = at_there (views_played script turns core is vs) 0 (omega (arith, sound.each, k.story.each, some_)) in
       let t = elem_there (rested_of script turns core is).seats k.trails 0 seat.0 k.law.each seat.1 in
-      let us = behind_ids p q narrow (IsCallOf script) ids in_clients (set_up script is.setup) labelled.of_played in
+      let us = behind_ids p q narrow (IsCallOf script) ids (in_clients is) (set_up script is.setup) labelled.of_played in
       let n = subst (λ xs. (ts : List Trail) × NameLaw (IsCallOf script) (stores_of_run script turns core is) k.events (closing_of script turns core is) xs ts) (set_again (views_played script turns core is vs) 0 v.0 v.1)
       (moves p q narrow (IsCallOf script) (stores_of_run script turns core is) (told_tasks_of script) true (rested_of script turns core is) (views_played script turns core is vs) k.events k.events k.lost_links sound k.story (λ e m. m) k.trails k.law us.0 us.1 0 seat.0 v.0 t.0 seat.1 v.1 t.1
       (ending_of (opens script)) [] (rested_of script turns core is).homes v.0 v.0.rights refl (ending_goes (IsCallOf script) (opens script))) in record {
@@ -221,8 +213,8 @@ module _ (script : List Item) (are : AreTasks (plan_of script) (all_tasks script
         up = λ e there. there;
       }
 
-  closing_part : After true closing_on.named.events (closing_of script turns core is) (views_played script turns core is vs) in_closing
-  closing_part = seats_named p q narrow (IsCallOf script) (stores_of_run script turns core is) (told_tasks_of script) tasks_are ids go in_closing (closing_of script turns core is) (views_played script turns core is vs) (closing_sound script are vs begins go turns core is fitting)
+  closing_part : After true closing_on.named.events (closing_of script turns core is) (views_played script turns core is vs) (in_closing is)
+  closing_part = seats_named p q narrow (IsCallOf script) (stores_of_run script turns core is) (told_tasks_of script) tasks_are ids go (in_closing is) (closing_of script turns core is) (views_played script turns core is vs) (closing_sound script are vs begins go turns core is fitting)
       (end_answered script are vs begins go turns core is fitting) fitting.of_closing labelled.of_closing (λ x there. in_right s₁ (s₂ ++ (s₃ ++ s₄)) x (in_right s₂ (s₃ ++ s₄) x (in_left s₃ s₄ x there))) closing_on.named
 
   closed_on : IsOn closing_part.named.events is.ended (views_closed script turns core is vs)
@@ -230,7 +222,7 @@ module _ (script : List Item) (are : AreTasks (plan_of script) (all_tasks script
     named = record {
       events = k.events;
       lost_links = k.lost_links;
-      story = is_ending_story (plan_of script) (told_tasks_of script) tasks_are (run (plan_of script) (closing_of script turns core is) in_closing) (views_closed script turns core is vs) k.events k.lost_links k.story;
+      story = is_ending_story (plan_of script) (told_tasks_of script) tasks_are (run (plan_of script) (closing_of script turns core is) (in_closing is)) (views_closed script turns core is vs) k.events k.lost_links k.story;
       trails = k.trails;
       law = record { views = k.law.views; trails = k.law.trails; calls = k.law.calls; ats = k.law.ats; each = k.law.each; programs = k.law.programs };
     };
@@ -262,9 +254,9 @@ module _ (script : List Item) (are : AreTasks (plan_of script) (all_tasks script
       (λ a. of_clients l (on setup_part.named.events over_part.named.events over_part.up l (setup_part.loads l a some_)))
       (λ b. ⊎_elim (λ a. of_played l (clients_part.loads l a some_))
       (λ b. ⊎_elim (λ a. of_closing l (closing_part.loads l a some_)) (λ a. final_part.loads l a some_)
-      (in_both (shows_in loaded_at (plan_of script) (closing_of script turns core is) in_closing) (shows_in loaded_at (plan_of script) is.ended is.final) l b))
-      (in_both (shows_in loaded_at (plan_of script) (set_up script is.setup) in_clients) (shows_in loaded_at (plan_of script) (closing_of script turns core is) in_closing ++ shows_in loaded_at (plan_of script) is.ended is.final) l b))
-      (in_both (shows_in loaded_at (plan_of script) (opened script) in_setup) (shows_in loaded_at (plan_of script) (set_up script is.setup) in_clients ++ (shows_in loaded_at (plan_of script) (closing_of script turns core is) in_closing ++ shows_in loaded_at (plan_of script) is.ended is.final)) l there)
+      (in_both (shows_in loaded_at (plan_of script) (closing_of script turns core is) (in_closing is)) (shows_in loaded_at (plan_of script) is.ended is.final) l b))
+      (in_both (shows_in loaded_at (plan_of script) (set_up script is.setup) (in_clients is)) (shows_in loaded_at (plan_of script) (closing_of script turns core is) (in_closing is) ++ shows_in loaded_at (plan_of script) is.ended is.final) l b))
+      (in_both (shows_in loaded_at (plan_of script) (opened script) (in_setup is)) (shows_in loaded_at (plan_of script) (set_up script is.setup) (in_clients is) ++ (shows_in loaded_at (plan_of script) (closing_of script turns core is) (in_closing is) ++ shows_in loaded_at (plan_of script) is.ended is.final)) l there)
 
   -- so it is as the run ends, and each at word that was loaded in it is known
   pub record EndNamed (c : Core) : Type 0 where

@@ -16,7 +16,7 @@ use Rattle.seat_programs.specs.Cores.{Core, SeatState, resolved, next_step}
 use Rattle.seat_programs.specs.declared.task.Sizes.{Sizes}
 use Rattle.seat_programs.specs.declared.task.Task.{Task}
 use Rattle.seat_programs.specs.Programs.{Program, Say, Sent, Rest, Keep, Retries}
-use Rattle.seat_programs.specs.Ticks.{Moment, AreAnswered, quiet, ticked, run}
+use Rattle.seat_programs.specs.Ticks.{Moment, AreAnswered, ticked, run}
 use Rattle.seat_programs.specs.Tasks.{opens, calls, plan_of, id_plan_of}
 use Rattle.seat_programs.specs.Scripts.{sizes_of, programs, readers_from, all_programs, all_tasks, beginning, opened, set_up, played, IsRunWithCalls}
 use Rattle.sock_runs.specs.Sound.{Sound, AreFitting, views_after, views_along}
@@ -37,6 +37,7 @@ use Rattle.call_causes.specs.owed_calls.specs.Lives.{ClosesInRun}
 use Rattle.call_causes.specs.Lists.{shows_in}
 use Rattle.send_causes.specs.Counts.{AreLabelled}
 use Rattle.send_causes.specs.EndedCalls.{Store, stored_at, stores_of_run, AreStoredOnce}
+use Rattle.send_causes.proofs.RunTicks.{in_setup, in_clients, in_closing}
 use Rattle.send_causes.proofs.Early.{start, go, fitting}
 use Rattle.send_causes.proofs.Runs.{AreLabelledIn, IsCallOf, behind_ids, asked_by, clients_go, readers_go, none_waits, none_home}
 use Rattle.send_causes.proofs.Sends.{narrow}
@@ -108,40 +109,31 @@ module _ (script : List Item) (made : AreMade script) (turns : List Turn) (core 
   abbrev L : List Store → Core → List Trial → Type 0
   L done c ts = OnceLaw (IsCallOf script) ids (id_plan_of script) done c ts
 
-  abbrev in_setup : List Moment
-  in_setup = replicate is.setup (quiet 0)
-
-  abbrev in_clients : List Moment
-  in_clients = is.scheduled ++ is.later
-
-  abbrev in_closing : List Moment
-  in_closing = replicate is.last (quiet 0)
-
   abbrev vs : List View
   vs = first_views script
 
-  setup_part : B [] (opened script) in_setup (set_up script is.setup)
-  setup_part = run_once (plan_of script) (id_plan_of script) (narrow script made turns core is closes) (IsCallOf script) ids (go script made turns core is) in_setup (opened script) vs (let s = start script made turns core is in s.sound)
+  setup_part : B [] (opened script) (in_setup is) (set_up script is.setup)
+  setup_part = run_once (plan_of script) (id_plan_of script) (narrow script made turns core is closes) (IsCallOf script) ids (go script made turns core is) (in_setup is) (opened script) vs (let s = start script made turns core is in s.sound)
       (set_up_answered script made.are vs (start script made turns core is) (go script made turns core is) turns core is (fitting script made turns core is)) (let f = fitting script made turns core is in f.of_setup) labelled.of_setup []
       (map (λ (x : Program). Idle) (all_programs (programs (sizes_of (plan_of script) (id_plan_of script)) (all_tasks script)) (readers_from (calls script) 0 (opens script))))
       (begins_once (plan_of script) (id_plan_of script) (narrow script made turns core is closes) (IsCallOf script) ids (all_programs (programs (sizes_of (plan_of script) (id_plan_of script)) (all_tasks script)) (readers_from (calls script) 0 (opens script)))
       (all_stow (IsCallOf script) (sizes_of (plan_of script) (id_plan_of script)) (all_tasks script) (asked_by script) (calls script) (opens script)))
 
-  clients_part : B setup_part.all (set_up script is.setup) in_clients (played script is.setup in_clients)
-  clients_part = run_once (plan_of script) (id_plan_of script) (narrow script made turns core is closes) (IsCallOf script) ids (go script made turns core is) in_clients (set_up script is.setup) (views_along (plan_of script) (opened script) vs in_setup)
+  clients_part : B setup_part.all (set_up script is.setup) (in_clients is) (played script is.setup (in_clients is))
+  clients_part = run_once (plan_of script) (id_plan_of script) (narrow script made turns core is closes) (IsCallOf script) ids (go script made turns core is) (in_clients is) (set_up script is.setup) (views_along (plan_of script) (opened script) vs (in_setup is))
       (set_up_sound script made.are vs (start script made turns core is) (go script made turns core is) turns core is (fitting script made turns core is)) is.answered (let f = fitting script made turns core is in f.of_played) labelled.of_played setup_part.all setup_part.trials setup_part.law
 
   -- seat 0 begins the ending
   closing_law : (ts : List Trial) × L clients_part.all (closing_of script turns core is) ts
   closing_law = let k = clients_part in let many = seats_played script made turns core is in
-      let seat = at_there (played script is.setup in_clients).seats 0 (omega (arith, many)) in
-      let t = elem_there (played script is.setup in_clients).seats k.trials 0 seat.0 k.law.each seat.1 in
-      let us = behind_ids (plan_of script) (id_plan_of script) (narrow script made turns core is closes) (IsCallOf script) ids in_clients (set_up script is.setup) labelled.of_played in
-      let b = moves (plan_of script) (id_plan_of script) (narrow script made turns core is closes) (IsCallOf script) ids k.all (played script is.setup in_clients) k.trials k.law us.0 us.1 0 seat.0 t.0 seat.1 t.1 (ending_of (opens script)) [] (played script is.setup in_clients).homes (ending_goes (IsCallOf script) (opens script)) in
+      let seat = at_there (played script is.setup (in_clients is)).seats 0 (omega (arith, many)) in
+      let t = elem_there (played script is.setup (in_clients is)).seats k.trials 0 seat.0 k.law.each seat.1 in
+      let us = behind_ids (plan_of script) (id_plan_of script) (narrow script made turns core is closes) (IsCallOf script) ids (in_clients is) (set_up script is.setup) labelled.of_played in
+      let b = moves (plan_of script) (id_plan_of script) (narrow script made turns core is closes) (IsCallOf script) ids k.all (played script is.setup (in_clients is)) k.trials k.law us.0 us.1 0 seat.0 t.0 seat.1 t.1 (ending_of (opens script)) [] (played script is.setup (in_clients is)).homes (ending_goes (IsCallOf script) (opens script)) in
       (b.trials, b.behind)
 
-  closing_part : B clients_part.all (closing_of script turns core is) in_closing (run (plan_of script) (closing_of script turns core is) in_closing)
-  closing_part = run_once (plan_of script) (id_plan_of script) (narrow script made turns core is closes) (IsCallOf script) ids (go script made turns core is) in_closing (closing_of script turns core is) (views_played script turns core is vs)
+  closing_part : B clients_part.all (closing_of script turns core is) (in_closing is) (run (plan_of script) (closing_of script turns core is) (in_closing is))
+  closing_part = run_once (plan_of script) (id_plan_of script) (narrow script made turns core is closes) (IsCallOf script) ids (go script made turns core is) (in_closing is) (closing_of script turns core is) (views_played script turns core is vs)
       (closing_sound script made.are vs (start script made turns core is) (go script made turns core is) turns core is (fitting script made turns core is)) (end_answered script made.are vs (start script made turns core is) (go script made turns core is) turns core is (fitting script made turns core is))
       (let f = fitting script made turns core is in f.of_closing) labelled.of_closing clients_part.all closing_law.0 closing_law.1
 
@@ -156,9 +148,9 @@ module _ (script : List Item) (made : AreMade script) (turns : List Turn) (core 
   all_there : (x : Store) → In x (stores_of_run script turns core is) → In x final_part.all
   all_there x there = ⊎_elim (λ a. final_part.old x (closing_part.old x (clients_part.old x (setup_part.new x a))))
       (λ b. ⊎_elim (λ a. final_part.old x (closing_part.old x (clients_part.new x a)))
-      (λ b. ⊎_elim (λ a. final_part.old x (closing_part.new x a)) (λ a. final_part.new x a) (in_both (shows_in stored_at (plan_of script) (closing_of script turns core is) in_closing) (shows_in stored_at (plan_of script) is.ended is.final) x b))
-      (in_both (shows_in stored_at (plan_of script) (set_up script is.setup) in_clients) (shows_in stored_at (plan_of script) (closing_of script turns core is) in_closing ++ shows_in stored_at (plan_of script) is.ended is.final) x b))
-      (in_both (shows_in stored_at (plan_of script) (opened script) in_setup) (shows_in stored_at (plan_of script) (set_up script is.setup) in_clients ++ (shows_in stored_at (plan_of script) (closing_of script turns core is) in_closing ++ shows_in stored_at (plan_of script) is.ended is.final)) x there)
+      (λ b. ⊎_elim (λ a. final_part.old x (closing_part.new x a)) (λ a. final_part.new x a) (in_both (shows_in stored_at (plan_of script) (closing_of script turns core is) (in_closing is)) (shows_in stored_at (plan_of script) is.ended is.final) x b))
+      (in_both (shows_in stored_at (plan_of script) (set_up script is.setup) (in_clients is)) (shows_in stored_at (plan_of script) (closing_of script turns core is) (in_closing is) ++ shows_in stored_at (plan_of script) is.ended is.final) x b))
+      (in_both (shows_in stored_at (plan_of script) (opened script) (in_setup is)) (shows_in stored_at (plan_of script) (set_up script is.setup) (in_clients is) ++ (shows_in stored_at (plan_of script) (closing_of script turns core is) (in_closing is) ++ shows_in stored_at (plan_of script) is.ended is.final)) x there)
 
   -- no attempt has two at words
   pub run_stored_once : AreStoredOnce script turns core is

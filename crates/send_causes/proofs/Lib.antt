@@ -10,6 +10,7 @@ pub mod Takeless
 pub mod ReaderParts
 pub mod Closers
 pub mod Readings
+pub mod SeatTicks
 pub mod ReaderRuns
 pub mod Early
 pub mod Places
@@ -62,6 +63,7 @@ pub mod EndedWhole
 pub mod EndedTrails
 pub mod EndedPrograms
 pub mod EndedNames
+pub mod RunTicks
 pub mod EndedNamed
 pub mod EndedLives
 pub mod EndedAttempts

@@ -224,10 +224,7 @@ module _ (script : List Item) (turns : List Turn) (core : Core) (is : IsRunWithC
         which : (t : Taking) → In t (heard_takes is k) → is_last script turns core is t ≡ true → Contains (heard_takes is k) AtEnd ⊎ (HasFault (given_by (heard_takes is k)) ⊎ ((reading_limit ≤ length (given_by (heard_takes is k))) ⊎ Contains (heard_takes is k) Broken))
         which AtEnd m is' = inl (in_contains (heard_takes is k) AtEnd m)
         which Broken m is' = inr (inr (inr (in_contains (heard_takes is k) Broken m)))
-        which (Bytes bytes) m is' = absurd (true≢false (sym is'))
-        which Nothing m is' = absurd (true≢false (sym is'))
-        which NoMore m is' = absurd (true≢false (sym is'))
-        which Closed m is' = absurd (true≢false (sym is'))
+        which _ m is' = absurd (true≢false (sym is'))
 
         by : (a b c : Bool) → Gone k ≡ a → is_fault script turns core is (stream (given core k)).ending ≡ b → nat_le LIMIT (length (given core k)) ≡ c → (a || (b || c)) ≡ true
             → Contains (heard_takes is k) AtEnd ⊎ (HasFault (given_by (heard_takes is k)) ⊎ ((reading_limit ≤ length (given_by (heard_takes is k))) ⊎ Contains (heard_takes is k) Broken))
@@ -243,8 +240,4 @@ module _ (script : List Item) (turns : List Turn) (core : Core) (is : IsRunWithC
     where
       which : (t : Taking) → is_closed script turns core is t ≡ true → t ≡ Closed
       which Closed e = refl
-      which (Bytes bytes) e = absurd (true≢false (sym e))
-      which Nothing e = absurd (true≢false (sym e))
-      which NoMore e = absurd (true≢false (sym e))
-      which AtEnd e = absurd (true≢false (sym e))
-      which Broken e = absurd (true≢false (sym e))
+      which _ e = absurd (true≢false (sym e))

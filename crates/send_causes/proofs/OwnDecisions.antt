@@ -1,5 +1,5 @@
 -- In a whole run each decision on an error of an attempt is made by the seat that posted it.
-use Rattle.std.proofs.Common.{◌≡◌, ◌≢◌, ◌⊎◌, ℕ, inl, inr, ⊎_elim, List, [], ◌++◌, map, replicate, sym, subst, arith}
+use Rattle.std.proofs.Common.{◌≡◌, ◌≢◌, ◌⊎◌, ℕ, inl, inr, ⊎_elim, List, [], ◌++◌, map, sym, subst, arith}
 use Rattle.std.proofs.lemmas.List.{append-nil}
 use Rattle.std.specs.List.{AllByRecursion}
 use Rattle.brpc_model.specs.Items.{Item}
@@ -9,7 +9,7 @@ use Rattle.seat_programs.specs.Clients.{ending_of}
 use Rattle.seat_programs.specs.Cores.{Core}
 use Rattle.seat_programs.specs.Posts.{WHOLE}
 use Rattle.seat_programs.specs.Programs.{Program}
-use Rattle.seat_programs.specs.Ticks.{Moment, quiet}
+use Rattle.seat_programs.specs.Ticks.{Moment}
 use Rattle.seat_programs.specs.Tasks.{opens, calls, plan_of, id_plan_of}
 use Rattle.seat_programs.specs.Scripts.{sizes_of, programs, readers_from, all_programs, all_tasks, opened, set_up, played, IsRunWithCalls}
 use Rattle.sock_runs.specs.Sound.{views_along}
@@ -30,6 +30,7 @@ use Rattle.call_causes.proofs.Numbered.{AreNumbered}
 use Rattle.call_causes.proofs.Opening.{Begins}
 use Rattle.call_causes.proofs.Run as runs
 use Rattle.call_causes.proofs.Scripts.{are_numbered, have_slots, begins}
+use Rattle.send_causes.proofs.RunTicks.{in_setup, in_clients, in_closing}
 use Rattle.send_causes.proofs.Rests.{many}
 use Rattle.send_causes.proofs.Sends.{narrow}
 use Rattle.send_causes.proofs.OwnDecisionsPrograms.{ending_goes}
@@ -57,34 +58,25 @@ module _ (script : List Item) (made : AreMade script) (there : AreThere script) 
 
   -- ## The ticks of each part
 
-  abbrev in_setup : List Moment
-  in_setup = replicate is.setup (quiet 0)
-
-  abbrev in_clients : List Moment
-  in_clients = is.scheduled ++ is.later
-
-  abbrev in_closing : List Moment
-  in_closing = replicate is.last (quiet 0)
-
   abbrev posts_in_setup : List Post
-  posts_in_setup = shows_in posted_at (plan_of script) (opened script) in_setup
+  posts_in_setup = shows_in posted_at (plan_of script) (opened script) (in_setup is)
 
   abbrev posts_in_clients : List Post
-  posts_in_clients = shows_in posted_at (plan_of script) (set_up script is.setup) in_clients
+  posts_in_clients = shows_in posted_at (plan_of script) (set_up script is.setup) (in_clients is)
 
   abbrev posts_in_closing : List Post
-  posts_in_closing = shows_in posted_at (plan_of script) (closing_of script turns core is) in_closing
+  posts_in_closing = shows_in posted_at (plan_of script) (closing_of script turns core is) (in_closing is)
 
-  queued_setup : AllQueued (id_plan_of script) (plan_of script) [] (opened script) in_setup
+  queued_setup : AllQueued (id_plan_of script) (plan_of script) [] (opened script) (in_setup is)
   queued_setup = let s = sound in setup_queued (plan_of script) (id_plan_of script) (all_tasks script) (given core) numbered slots (runs.small script made (given core) numbered slots fit turns core is leads) is.setup [] [] (opened script) (first_views script) s.setup
       (runs.set_up_leads script made (given core) numbered slots fit turns core is leads) (runs.first_tale script made (given core) numbered slots fit turns core is leads).0
 
-  queued_clients : AllQueued (id_plan_of script) (plan_of script) posts_in_setup (set_up script is.setup) in_clients
-  queued_clients = let s = sound in played_queued (plan_of script) (id_plan_of script) (all_tasks script) (given core) numbered slots (runs.small script made (given core) numbered slots fit turns core is leads) in_clients posts_in_setup
-      (runs.in_setup script made (given core) numbered slots fit turns core is leads) (set_up script is.setup) (views_along (plan_of script) (opened script) (first_views script) in_setup) s.clients
+  queued_clients : AllQueued (id_plan_of script) (plan_of script) posts_in_setup (set_up script is.setup) (in_clients is)
+  queued_clients = let s = sound in played_queued (plan_of script) (id_plan_of script) (all_tasks script) (given core) numbered slots (runs.small script made (given core) numbered slots fit turns core is leads) (in_clients is) posts_in_setup
+      (runs.in_setup script made (given core) numbered slots fit turns core is leads) (set_up script is.setup) (views_along (plan_of script) (opened script) (first_views script) (in_setup is)) s.clients
       (runs.set_up_ahead script made (given core) numbered slots fit turns core is leads) is.is_set_up (runs.played_leads script made (given core) numbered slots fit turns core is leads) (runs.set_up_tale script made (given core) numbered slots fit turns core is leads).0
 
-  queued_closing : AllQueued (id_plan_of script) (plan_of script) (posts_in_setup ++ posts_in_clients) (closing_of script turns core is) in_closing
+  queued_closing : AllQueued (id_plan_of script) (plan_of script) (posts_in_setup ++ posts_in_clients) (closing_of script turns core is) (in_closing is)
   queued_closing = let s = sound in setup_queued (plan_of script) (id_plan_of script) (all_tasks script) (given core) numbered slots (runs.small script made (given core) numbered slots fit turns core is leads) is.last (posts_in_setup ++ posts_in_clients)
       (runs.in_setup script made (given core) numbered slots fit turns core is leads ++ runs.in_clients script made (given core) numbered slots fit turns core is leads) (closing_of script turns core is) (views_played script turns core is (first_views script)) s.closing
       (runs.closed_leads script made (given core) numbered slots fit turns core is leads) (runs.ending_tale script made (given core) numbered slots fit turns core is leads).0
@@ -107,39 +99,39 @@ module _ (script : List Item) (made : AreMade script) (there : AreThere script) 
   Mine₀ j x = ⊥
 
   abbrev Mine₁ : ℕ → Post → Type 0
-  Mine₁ j x = Mine₀ j x ⊎ In x (shows_in (posted_by j) (plan_of script) (opened script) in_setup)
+  Mine₁ j x = Mine₀ j x ⊎ In x (shows_in (posted_by j) (plan_of script) (opened script) (in_setup is))
 
   abbrev Mine₂ : ℕ → Post → Type 0
-  Mine₂ j x = Mine₁ j x ⊎ In x (shows_in (posted_by j) (plan_of script) (set_up script is.setup) in_clients)
+  Mine₂ j x = Mine₁ j x ⊎ In x (shows_in (posted_by j) (plan_of script) (set_up script is.setup) (in_clients is))
 
   abbrev Mine₃ : ℕ → Post → Type 0
-  Mine₃ j x = Mine₂ j x ⊎ In x (shows_in (posted_by j) (plan_of script) (closing_of script turns core is) in_closing)
+  Mine₃ j x = Mine₂ j x ⊎ In x (shows_in (posted_by j) (plan_of script) (closing_of script turns core is) (in_closing is))
 
-  setup_part : A [] Mine₀ (opened script) in_setup
-  setup_part = let s = sound in run_aims (plan_of script) (id_plan_of script) (narrow script made turns core is closes) in_setup [] Mine₀ (opened script) (first_views script) s.setup queued_setup
+  setup_part : A [] Mine₀ (opened script) (in_setup is)
+  setup_part = let s = sound in run_aims (plan_of script) (id_plan_of script) (narrow script made turns core is closes) (in_setup is) [] Mine₀ (opened script) (first_views script) s.setup queued_setup
       (map (λ (x : Program). Calm) (all_programs (programs (sizes_of (plan_of script) (id_plan_of script)) (all_tasks script)) (readers_from (calls script) 0 (opens script))))
       (begins_aims (plan_of script) (id_plan_of script) (all_programs (programs (sizes_of (plan_of script) (id_plan_of script)) (all_tasks script)) (readers_from (calls script) 0 (opens script)))
       (all_aim (sizes_of (plan_of script) (id_plan_of script)) (all_tasks script) (calls script) (opens script)))
 
-  clients_part : A posts_in_setup Mine₁ (set_up script is.setup) in_clients
-  clients_part = let s = sound in run_aims (plan_of script) (id_plan_of script) (narrow script made turns core is closes) in_clients posts_in_setup Mine₁ (set_up script is.setup) (views_along (plan_of script) (opened script) (first_views script) in_setup) s.clients queued_clients
+  clients_part : A posts_in_setup Mine₁ (set_up script is.setup) (in_clients is)
+  clients_part = let s = sound in run_aims (plan_of script) (id_plan_of script) (narrow script made turns core is closes) (in_clients is) posts_in_setup Mine₁ (set_up script is.setup) (views_along (plan_of script) (opened script) (first_views script) (in_setup is)) s.clients queued_clients
       setup_part.stands setup_part.law
 
   -- seat 0 begins the ending
   closing_law : (ss : List Stand) × L (posts_in_setup ++ posts_in_clients) Mine₂ (closing_of script turns core is) ss
-  closing_law = let s = sound in let k = clients_part in let c : Core = played script is.setup in_clients in let some_ = many script made turns core is in
-      let seat = at_there (played script is.setup in_clients).seats 0 (omega (arith, some_)) in
-      let t = elem_there (played script is.setup in_clients).seats k.stands 0 seat.0 k.law.each seat.1 in
-      let both = behind_both (plan_of script) (id_plan_of script) (set_up script is.setup) (views_along (plan_of script) (opened script) (first_views script) in_setup) in_clients s.clients in
-      let b = restarts (plan_of script) (id_plan_of script) (narrow script made turns core is closes) (λ x. In x (posts_in_setup ++ posts_in_clients)) Mine₂ (played script is.setup in_clients) k.stands k.law both.id_views both.ids 0 seat.0 t.0 seat.1 t.1
+  closing_law = let s = sound in let k = clients_part in let c : Core = played script is.setup (in_clients is) in let some_ = many script made turns core is in
+      let seat = at_there (played script is.setup (in_clients is)).seats 0 (omega (arith, some_)) in
+      let t = elem_there (played script is.setup (in_clients is)).seats k.stands 0 seat.0 k.law.each seat.1 in
+      let both = behind_both (plan_of script) (id_plan_of script) (set_up script is.setup) (views_along (plan_of script) (opened script) (first_views script) (in_setup is)) (in_clients is) s.clients in
+      let b = restarts (plan_of script) (id_plan_of script) (narrow script made turns core is closes) (λ x. In x (posts_in_setup ++ posts_in_clients)) Mine₂ (played script is.setup (in_clients is)) k.stands k.law both.id_views both.ids 0 seat.0 t.0 seat.1 t.1
       (ending_of (opens script)) (ending_goes (opens script)) in (
         b.0,
         law_more (id_plan_of script) (λ x. In x (posts_in_setup ++ posts_in_clients) ⊎ In x []) (λ x. In x (posts_in_setup ++ posts_in_clients)) (λ j x. Mine₂ j x ⊎ ((j ≡ 0) × In x [])) Mine₂ (closing_of script turns core is) b.0 (λ x old. inl old)
             (λ j x mine. ⊎_elim (λ old. old) (λ now. absurd now.1) mine) b.1,
       )
 
-  closing_part : A (posts_in_setup ++ posts_in_clients) Mine₂ (closing_of script turns core is) in_closing
-  closing_part = let s = sound in run_aims (plan_of script) (id_plan_of script) (narrow script made turns core is closes) in_closing (posts_in_setup ++ posts_in_clients) Mine₂ (closing_of script turns core is) (views_played script turns core is (first_views script)) s.closing queued_closing
+  closing_part : A (posts_in_setup ++ posts_in_clients) Mine₂ (closing_of script turns core is) (in_closing is)
+  closing_part = let s = sound in run_aims (plan_of script) (id_plan_of script) (narrow script made turns core is closes) (in_closing is) (posts_in_setup ++ posts_in_clients) Mine₂ (closing_of script turns core is) (views_played script turns core is (first_views script)) s.closing queued_closing
       closing_law.0 closing_law.1
 
   closed_law : L ((posts_in_setup ++ posts_in_clients) ++ posts_in_closing) Mine₃ is.ended closing_part.stands
@@ -154,13 +146,13 @@ module _ (script : List Item) (made : AreMade script) (there : AreThere script) 
 
   module _ (j : ℕ) where
     abbrev a : List Post
-    a = shows_in (posted_by j) (plan_of script) (opened script) in_setup
+    a = shows_in (posted_by j) (plan_of script) (opened script) (in_setup is)
 
     abbrev b : List Post
-    b = shows_in (posted_by j) (plan_of script) (set_up script is.setup) in_clients
+    b = shows_in (posted_by j) (plan_of script) (set_up script is.setup) (in_clients is)
 
     abbrev c : List Post
-    c = shows_in (posted_by j) (plan_of script) (closing_of script turns core is) in_closing
+    c = shows_in (posted_by j) (plan_of script) (closing_of script turns core is) (in_closing is)
 
     abbrev d : List Post
     d = shows_in (posted_by j) (plan_of script) is.ended is.final
@@ -186,7 +178,7 @@ module _ (script : List Item) (made : AreMade script) (there : AreThere script) 
   own_decisions j d at own = ⊎_elim (λ x. first_there j (record { id = d.id; error = d.error }) (setup_part.owned j d x own))
       (λ rest. ⊎_elim (λ x. second_there j (record { id = d.id; error = d.error }) (clients_part.owned j d x own))
       (λ rest. ⊎_elim (λ x. third_there j (record { id = d.id; error = d.error }) (closing_part.owned j d x own)) (λ x. last_there j (record { id = d.id; error = d.error }) (final_part.owned j d x own))
-      (in_either d (shows_in (decided_by j) (plan_of script) (closing_of script turns core is) in_closing) (shows_in (decided_by j) (plan_of script) is.ended is.final) rest))
-      (in_either d (shows_in (decided_by j) (plan_of script) (set_up script is.setup) in_clients) (shows_in (decided_by j) (plan_of script) (closing_of script turns core is) in_closing ++ shows_in (decided_by j) (plan_of script) is.ended is.final) rest))
-      (in_either d (shows_in (decided_by j) (plan_of script) (opened script) in_setup)
-      (shows_in (decided_by j) (plan_of script) (set_up script is.setup) in_clients ++ (shows_in (decided_by j) (plan_of script) (closing_of script turns core is) in_closing ++ shows_in (decided_by j) (plan_of script) is.ended is.final)) at)
+      (in_either d (shows_in (decided_by j) (plan_of script) (closing_of script turns core is) (in_closing is)) (shows_in (decided_by j) (plan_of script) is.ended is.final) rest))
+      (in_either d (shows_in (decided_by j) (plan_of script) (set_up script is.setup) (in_clients is)) (shows_in (decided_by j) (plan_of script) (closing_of script turns core is) (in_closing is) ++ shows_in (decided_by j) (plan_of script) is.ended is.final) rest))
+      (in_either d (shows_in (decided_by j) (plan_of script) (opened script) (in_setup is))
+      (shows_in (decided_by j) (plan_of script) (set_up script is.setup) (in_clients is) ++ (shows_in (decided_by j) (plan_of script) (closing_of script turns core is) (in_closing is) ++ shows_in (decided_by j) (plan_of script) is.ended is.final)) at)

@@ -7,7 +7,7 @@ use Rattle.sock_words.specs.declared.plain.Plan.{Plan}
 use Rattle.seat_programs.specs.Calls.{SubRef, StoreCode, LoadLink, TakeLink, FinishLink, PutLink, FreeSlot}
 use Rattle.seat_programs.specs.Clients.{ending_of}
 use Rattle.seat_programs.specs.Heads.{Retry}
-use Rattle.seat_programs.specs.Programs.{Program, Do, Say, Sent, Rest, TakeMessage, TakeHome, PutHome, PutBytes, AskReady, Write, Aside, Round, Keep, Retries, NO_SOCKET, LAST_VERSION, recycle, release, address, set_failed}
+use Rattle.seat_programs.specs.Programs.{Program, Do, Rest, NO_SOCKET, LAST_VERSION, recycle, release, address, set_failed}
 use Rattle.seat_programs.specs.Cores.{Core, SeatState, resolved, next_step, waiting_at, word_of, found_at}
 use Rattle.seat_programs.specs.Ticks.{quiet, ticked, tick_with}
 use Rattle.outcome_causes.specs.Stories.{In}
@@ -69,18 +69,7 @@ module _ (p : Plan) where
       by (Do call next) g = let y : Program = next (found_at c.words (word_of p call)) in
           (_, set_first c.seats s.0 _ s.1, subst OnSockets (sym (alone (waiting_at c.calls.waiting 0) (next (found_at c.words (word_of p call))) (g (found_at c.words (word_of p call))))) (g (found_at c.words (word_of p call))))
       by Rest g = s
-      by (Say o outcome next) g = absurd g
-      by (Sent o next) g = absurd g
-      by (TakeMessage r next) g = absurd g
-      by (TakeHome k next) g = absurd g
-      by (PutHome k n after) g = absurd g
-      by (PutBytes k asked bytes next) g = absurd g
-      by (AskReady k next) g = absurd g
-      by (Write w after) g = absurd g
-      by (Aside step next) g = absurd g
-      by (Round head next) g = absurd g
-      by (Keep r next) g = absurd g
-      by (Retries many after) g = absurd g
+      by _ g = absurd g
 
   none_posted : (c : Core) → MakesSteps c → (x : Post) → In x (posted_at c (quiet 0)) → ⊥
   none_posted c s x at = by s.0.program s.2 (subst (λ o. In x (elim o as (λ o. List Post) [ none ↦ [] | some seat ↦ posted_with c.calls none (goes.first_of seat.program) ])) s.1 at)
@@ -88,18 +77,7 @@ module _ (p : Plan) where
       by : (y : Program) → OnSockets y → In x (posted_with c.calls none (goes.first_of y)) → ⊥
       by (Do call next) g m = m
       by Rest g m = m
-      by (Say o outcome next) g m = absurd g
-      by (Sent o next) g m = absurd g
-      by (TakeMessage r next) g m = absurd g
-      by (TakeHome k next) g m = absurd g
-      by (PutHome k n after) g m = absurd g
-      by (PutBytes k asked bytes next) g m = absurd g
-      by (AskReady k next) g m = absurd g
-      by (Write w after) g m = absurd g
-      by (Aside step next) g m = absurd g
-      by (Round head next) g m = absurd g
-      by (Keep r next) g m = absurd g
-      by (Retries many after) g m = absurd g
+      by _ g m = absurd g
 
   pub none_closing : (n : ℕ) (c : Core) → MakesSteps c → (x : Post) → In x (shows_in posted_at p c (replicate n (quiet 0))) → ⊥
   none_closing zero c s x at = at

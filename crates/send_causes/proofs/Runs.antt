@@ -152,13 +152,7 @@ asked_by script i ts at = all_of (λ (t : Task). OpCalls (IsCallOf script) t.op)
       where
         of_op : (o : Op) → t.op ≡ o → OpCalls (IsCallOf script) o
         of_op (ops.Call asked) is = (i, ts, t, at, m, is, subst (OwnsCall t.number) is (all_in (λ (u : Task). OwnsCall u.number u.op) ts t (all_in (AllByRecursion (λ (u : Task). OwnsCall u.number u.op)) (all_tasks script) ts (own_from script 0 (clients script + 1)) (in_of_at (all_tasks script) i ts at)) m))
-        of_op (ops.Open n k) is = tt
-        of_op (ops.Send n bytes) is = tt
-        of_op (ops.Expire u) is = tt
-        of_op (ops.Join u) is = tt
-        of_op (ops.Hold n) is = tt
-        of_op (ops.Drop n) is = tt
-        of_op (ops.Fail n c) is = tt
+        of_op _ is = tt
 
 module _ (script : List Item) (are : AreTasks (plan_of script) (all_tasks script)) (vs : List View) (begins : Begins script vs) (go : RetriesGo (plan_of script)) (turns : List Turn) (core : Core) (is : IsRunWithCalls script turns core)
     (fitting : AreFittingIn script turns core is) (narrow : (id_plan_of script).slots ≤ 65536) (bare : (i : ℕ) (v : View) → get_elem? vs i ≡ some v → (v.claims ≡ []) × (v.lists ≡ [] ∷ [])) (ids : ℕ → ℕ) (labelled : AreLabelledIn ids script turns core is) where

@@ -1,7 +1,7 @@
 -- What a whole run tells of each `open`, `send`, `hold`, `drop` and `fail`, and of the links: in runs with calls all but three things, in runs without calls all.
 use Rattle.std.proofs.Common.{◌≡◌, ◌≢◌, ℕ, zero, suc, ◌-◌, ◌*◌, ◌<◌, ◌≤◌, ◌⊎◌, true, List, [], ◌∷◌, ◌++◌, length, length-set, map, flat_map, replicate, get_or, inl, inr, ⊎_elim, refl, sym, ap, ◌∙◌, subst, arith}
 use Rattle.std.proofs.lemmas.Bool.{true≢false}
-use Rattle.std.specs.Prelude.{Contains, Option, Some, None, slice_get}
+use Rattle.std.specs.Prelude.{Contains, Option, None}
 use Rattle.std.specs.List.{AllByRecursion}
 use mathlib.Core.Logic.{dite}
 use mathlib.Core.Option.{none, some, some-injective, some-ne-none}
@@ -24,7 +24,7 @@ use Rattle.seat_programs.specs.Cores.{Core, SeatState, resolved, next_step, wait
 use Rattle.sock_words.specs.declared.kind.Kind.{Kind}
 use Rattle.seat_programs.specs.Runs.{IsAtRest, kind_in}
 use Rattle.seat_programs.specs.Tasks.{opens, calls, plan_of, id_plan_of}
-use Rattle.seat_programs.specs.Ticks.{Moment, quiet, ticked, broken_in}
+use Rattle.seat_programs.specs.Ticks.{Moment, quiet, broken_in}
 use Rattle.seat_programs.specs.Scripts.{all_tasks, opened, set_up, played, IsRunWithCalls}
 use Rattle.seat_programs.specs.Told.{AreTasks, IsTask}
 use Rattle.seat_programs.specs.ToldCalls.{Accepted, Order, Fixed, AreOrders, IsSent, InOwnOrder, IsFailing}
@@ -43,7 +43,8 @@ use Rattle.outcome_causes.specs.TaskCauses as causes
 use Rattle.outcome_causes.specs.TaskCauses.{ToldTasks}
 use Rattle.outcome_causes.proofs.Members.{in_contains, contains_in}
 use Rattle.outcome_causes.proofs.Lifted.{filtered_in, task_down, why_lifted, told_lifted, are_lifted, lives_lifted}
-use Rattle.outcome_causes.proofs.Plain.{in_left, in_right, in_both}
+use Rattle.outcome_causes.proofs.Plain.{in_left, in_right, in_both, in_numbers, in_all}
+pub use Rattle.outcome_causes.proofs.Plain.{lost_so}
 use Rattle.outcome_causes.proofs.Scripts.{lost_of_run, lost_before, late, orders, run_tells, failed_early}
 use Rattle.call_causes.specs.programs_allowed.specs.Openings.{links_of_all, without_passes, client_view, opening_views, all_seats}
 use Rattle.call_causes.specs.joint_runs.proofs.Both.{AreBounded}
@@ -58,27 +59,6 @@ use Rattle.send_causes.proofs.Rests.{clients_rest}
 use Rattle.send_causes.proofs.Runs.{AreLabelledIn}
 use Rattle.send_causes.proofs.Whole.{run_orders, run_sent}
 use Rattle.report_fits.proofs.Lists.{all_map}
-
--- a link that was lost in some ticks answered that it failed, or its socket was closed
-pub lost_so : (p : Plan) (c : Core) (ms : List Moment) (k : ℕ) → In k (lost_in p c ms) → In k (broken_in p c ms) ⊎ In k (shown_in closed_at p c ms)
-lost_so p c [] k m = absurd m
-lost_so p c (x ∷ xs) k m = ⊎_elim
-    (λ a. ⊎_elim (λ b. inl (in_left _ (broken_in p (ticked p c x) xs) k b)) (λ b. inr (in_left (closed_at c x) (shown_in closed_at p (ticked p c x) xs) k b)) (in_both _ (closed_at c x) k a))
-    (λ a. ⊎_elim (λ b. inl (in_right _ (broken_in p (ticked p c x) xs) k b)) (λ b. inr (in_right (closed_at c x) (shown_in closed_at p (ticked p c x) xs) k b)) (lost_so p (ticked p c x) xs k a))
-    (in_both _ (lost_in p (ticked p c x) xs) k m)
-
-in_numbers : (ts : List Task) (t : Task) → In t ts → In t.number (map (λ (t : Task). t.number) ts)
-in_numbers [] t m = absurd m
-in_numbers (u ∷ ts) t (inl e) = inl (ap (λ (t : Task). t.number) e)
-in_numbers (u ∷ ts) t (inr m) = inr (in_numbers ts t m)
-
-in_all : (f : List Task → List ℕ) (clients : List (List Task)) (c o : ℕ) (ts : List Task) → slice_get clients c ≡ Some ts → In o (f ts) → In o (flat_map f clients)
-in_all f [] c o ts e m = absurd (cc)
-in_all f (us ∷ clients) zero o ts e m = in_left (f us) (flat_map f clients) o (subst (λ l. In o (f l)) (sym (same e)) m)
-  where
-    same : Some us ≡ Some ts → us ≡ ts
-    same e = cc
-in_all f (us ∷ clients) (suc c) o ts e m = in_right (f us) (flat_map f clients) o (in_all f clients c o ts e m)
 
 before_map : {A : Type 0} (P Q : A → A → Type 0) → ((x y : A) → P x y → Q x y) → (xs : List A) → EachBefore P xs → EachBefore Q xs
 before_map P Q f [] a = tt

@@ -135,19 +135,7 @@ fits_as p c program call next e f = by program e f
   where
     by : (program : Program) → first_step program ≡ Do call next → FitsFirst p c (goes.first_of program) → FitsSock call (found_at c.words (word_of p call))
     by (Write w after) e f = subst (FitsFirst p c) e f
-    by (Round head k) e f = subst (FitsFirst p c) e f
-    by (Do d k) e f = subst (FitsFirst p c) e f
-    by (Say o outcome k) e f = subst (FitsFirst p c) e f
-    by (Sent o k) e f = subst (FitsFirst p c) e f
-    by Rest e f = subst (FitsFirst p c) e f
-    by (TakeMessage q k) e f = subst (FitsFirst p c) e f
-    by (TakeHome l k) e f = subst (FitsFirst p c) e f
-    by (PutHome l n k) e f = subst (FitsFirst p c) e f
-    by (PutBytes l a b k) e f = subst (FitsFirst p c) e f
-    by (AskReady l k) e f = subst (FitsFirst p c) e f
-    by (Aside s k) e f = subst (FitsFirst p c) e f
-    by (Keep r k) e f = subst (FitsFirst p c) e f
-    by (Retries n k) e f = subst (FitsFirst p c) e f
+    by _ e f = subst (FitsFirst p c) e f
 
 -- ## Calls at home
 

@@ -20,7 +20,7 @@ use Rattle.send_causes.specs.joint_runs.proofs.Runs.{AreMade, first_views}
 use Rattle.send_causes.specs.owed_calls.proofs.EndsStill.{view_of}
 use Rattle.send_causes.proofs.LateEnding.{ended_past}
 use Rattle.send_causes.proofs.LateLives.{WasPast, Lives, lives_tell, lives_ticks}
-use Rattle.send_causes.proofs.LateLooks.{Mode, Idle, Saw, Claims, Writes}
+use Rattle.send_causes.proofs.LateLooks.{Mode, Idle, Writes}
 use Rattle.send_causes.proofs.LateRests.{none_stands, ended_idle}
 use Rattle.send_causes.proofs.LateSeats.{Righted, rights_of, AllStand, stand_ticks}
 use Rattle.served_runs.proofs.Places.{IsPut}
@@ -49,9 +49,7 @@ module _ (script : List Item) (made : AreMade script) (turns : List Turn) (core 
 
   late_right : (m : Mode) (k : ℕ) → rights_of (plan_of script) IsLate (WasPast (plan_of script) is.ended IsLate) m k → IsLate k
   late_right Writes k x = x
-  late_right Idle k x = absurd x
-  late_right (Saw id) k x = absurd x
-  late_right Claims k x = absurd x
+  late_right _ k x = absurd x
 
   -- so whoever puts bytes into a link has such a one
   pub late_put : (k : ℕ) (c : Core) (vs : List View) (m : Moment) (ms : List Moment) → Sound (plan_of script) c vs → AreLate c vs (m ∷ ms) → IsPut (plan_of script) k c m → IsLate k

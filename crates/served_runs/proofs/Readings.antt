@@ -29,10 +29,7 @@ IsBad g = Faults 0 g ⊎ (LIMIT ≤ length g)
 abbrev pub is_last : Taking → Bool
 is_last (Bytes bytes) = false
 is_last Nothing = false
-is_last NoMore = true
-is_last AtEnd = true
-is_last Closed = true
-is_last Broken = true
+is_last _ = true
 
 abbrev pub IsOver : List ℕ → Bool → Type 0
 IsOver g last = (last ≡ true) ⊎ IsBad g
@@ -172,10 +169,7 @@ module _ (k : ℕ) where
   go_discarded g last off l total next own f goes (Bytes bytes) = either_way (nat_lt (total + length bytes) LIMIT) (Round (Discards l (total + length bytes)) next) (next (total + length bytes)) (Goes (g ++ bytes) (last || false))
       (own, ap (λ b. b || false) off, fault_stays 0 g bytes f, goes) (goes (total + length bytes) (g ++ bytes) (last || false) (fault_stays 0 g bytes f))
   go_discarded g last off l total next own f goes Nothing = (own, ap (λ b. b || false) off, fault_stays 0 g [] f, goes)
-  go_discarded g last off l total next own f goes NoMore = goes total (g ++ []) (last || true) (fault_stays 0 g [] f)
-  go_discarded g last off l total next own f goes AtEnd = goes total (g ++ []) (last || true) (fault_stays 0 g [] f)
-  go_discarded g last off l total next own f goes Closed = goes total (g ++ []) (last || true) (fault_stays 0 g [] f)
-  go_discarded g last off l total next own f goes Broken = goes total (g ++ []) (last || true) (fault_stays 0 g [] f)
+  go_discarded g last off l total next own f goes _ = goes total (g ++ []) (last || true) (fault_stays 0 g [] f)
 
   -- one round of a loop
   go_round : (g : List ℕ) (last : Bool) (head : Head) (next : Exit head → Program) → Goes g last (Round head next) → Goes g last (round head next)
@@ -194,34 +188,17 @@ module _ (k : ℕ) where
   pub goes_first : (g : List ℕ) (last : Bool) (program : Program) → Goes g last program → Goes g last (first_step program)
   goes_first g last (Write w after) x = absurd x
   goes_first g last (Round head next) x = go_round g last head next x
-  goes_first g last (Do call next) x = x
-  goes_first g last (Say o outcome next) x = x
-  goes_first g last (Sent o next) x = x
-  goes_first g last Rest x = x
-  goes_first g last (TakeMessage q next) x = x
-  goes_first g last (TakeHome l next) x = x
-  goes_first g last (PutHome l n after) x = x
-  goes_first g last (PutBytes l asked bytes next) x = x
-  goes_first g last (AskReady l next) x = x
-  goes_first g last (Aside step next) x = x
-  goes_first g last (Keep r next) x = x
-  goes_first g last (Retries requests after) x = x
+  goes_first g last _ x = x
 
   pub goes_next : (g : List ℕ) (last : Bool) (ws : List Retry) (program : Program) → Goes g last program → Goes g last (next_step (resolved ws program))
   goes_next g last ws (Say o outcome next) x = goes_next g last ws next x
   goes_next g last ws (Sent o next) x = goes_next g last ws next x
   goes_next g last ws (Keep r next) x = goes_next g last (ws ++ r ∷ []) next x
-  goes_next g last ws (Retries requests after) x = absurd x
   goes_next g last ws (Do call next) x = x
   goes_next g last ws Rest x = x
-  goes_next g last ws (TakeMessage q next) x = absurd x
-  goes_next g last ws (TakeHome l next) x = absurd x
-  goes_next g last ws (PutHome l n after) x = absurd x
-  goes_next g last ws (PutBytes l asked bytes next) x = absurd x
-  goes_next g last ws (AskReady l next) x = absurd x
-  goes_next g last ws (Write w after) x = absurd x
   goes_next g last ws (Aside step next) x = x
   goes_next g last ws (Round head next) x = x
+  goes_next g last ws _ x = absurd x
 
   -- the reader's program where it begins to read
   pub begins_reading : (calls : List ℕ) (ids id : ℕ) → Goes [] false (Round (Reads (record { ids = ids; link = k; id = id; rest = []; total = 0; kept = [] })) (read calls))

@@ -20,7 +20,7 @@ use Rattle.seat_programs.specs.Readers.{LIMIT, reader}
 use Rattle.seat_programs.specs.Cores.{Core, SeatState, lies_at, link_place}
 use Rattle.seat_programs.specs.Runs.{from_to}
 use Rattle.seat_programs.specs.Tasks.{opens, calls, plan_of}
-use Rattle.seat_programs.specs.Ticks.{Moment, quiet, ticked, run}
+use Rattle.seat_programs.specs.Ticks.{Moment, ticked, run}
 use Rattle.seat_programs.specs.Scripts.{opened, ending, is_ending, set_up, played, taken_by, took_at_home, IsRunWithCalls}
 use Rattle.sock_runs.specs.Sound.{AllRest, views_along}
 use Rattle.sock_runs.proofs.Along.{place_inside}
@@ -42,6 +42,7 @@ use Rattle.send_causes.specs.call_causes.specs.Lists.{given}
 use Rattle.send_causes.proofs.Early.{Any, ends_anyhow, start, go, fitting, known, begins_at}
 use Rattle.send_causes.proofs.EndedWhole.{opened_keeps, closing_keeps, closed_keeps}
 use Rattle.send_causes.proofs.ReaderRuns.{founds, keeps_along}
+use Rattle.send_causes.proofs.RunTicks.{in_setup, in_clients, in_closing}
 use Rattle.served_runs.specs.Offered.{TookSoFar, offered_by, OffersInRun}
 use Rattle.served_runs.proofs.Ends.{IsOverSo, Holds}
 use Rattle.served_runs.proofs.Lasts.{Behind, lasts_along}
@@ -89,15 +90,6 @@ module _ (script : List Item) (made : AreMade script) (turns : List Turn) (core 
   pub link_inside : k < (plan_of script).links
   link_inside = let i = place_inside (opens script) k o at in let many = (let x = known script made turns core is in x.as_many) in omega (arith, i, many)
 
-  abbrev in_setup : List Moment
-  in_setup = replicate is.setup (quiet 0)
-
-  abbrev in_clients : List Moment
-  in_clients = is.scheduled ++ is.later
-
-  abbrev in_closing : List Moment
-  in_closing = replicate is.last (quiet 0)
-
   -- ## How it begins
 
   opened_holds : H (opened script)
@@ -107,13 +99,13 @@ module _ (script : List Item) (made : AreMade script) (turns : List Turn) (core 
   long_opened = let e = empty_long (plan_of script).links in let l = link_inside in omega (arith, e, l)
 
   long_set_up : k < length (set_up script is.setup).calls.gave
-  long_set_up = let e = gave_long (plan_of script) in_setup (opened script) in let l = long_opened in omega (arith, e, l)
+  long_set_up = let e = gave_long (plan_of script) (in_setup is) (opened script) in let l = long_opened in omega (arith, e, l)
 
-  long_played : k < length (played script is.setup in_clients).calls.gave
-  long_played = let e = gave_long (plan_of script) in_clients (set_up script is.setup) in let l = long_set_up in omega (arith, e, l)
+  long_played : k < length (played script is.setup (in_clients is)).calls.gave
+  long_played = let e = gave_long (plan_of script) (in_clients is) (set_up script is.setup) in let l = long_set_up in omega (arith, e, l)
 
   long_ended : k < length is.ended.calls.gave
-  long_ended = let e = gave_long (plan_of script) in_closing (closing_of script turns core is) in let l = long_played in let same = ap (λ (c : Core). length c.calls.gave) is.is_ended in omega (arith, e, l, same)
+  long_ended = let e = gave_long (plan_of script) (in_closing is) (closing_of script turns core is) in let l = long_played in let same = ap (λ (c : Core). length c.calls.gave) is.is_ended in omega (arith, e, l, same)
 
   -- ## Until the ending
 
@@ -123,35 +115,35 @@ module _ (script : List Item) (made : AreMade script) (turns : List Turn) (core 
   set_up_holds : H (set_up script is.setup)
   set_up_holds = holds_along script in_os (IsListed script) (go script made turns core is) k o (in_os k o at) shape shape_is Fails IsEarly
       (λ c vs m ms sound early ending put. true≢false (sym ending ∙ early)) (λ c vs m ms sound answered fits early. run_ending (plan_of script) c (m ∷ []) ∙ early)
-      in_setup (opened script) (first_views script) (λ n. []) (let s = start script made turns core is in s.sound)
+      (in_setup is) (opened script) (first_views script) (λ n. []) (let s = start script made turns core is in s.sound)
       (set_up_answered script made.are (first_views script) (start script made turns core is) (go script made turns core is) turns core is (fitting script made turns core is)) (let f = fitting script made turns core is in f.of_setup)
       (recorded_opened script made.are (first_views script) (start script made turns core is) (go script made turns core is) turns core is (fitting script made turns core is)) (opened_keeps script made turns core is)
       (quiet_offered script is.setup (opened script)) long_opened (λ there. absurd (quiet_takes (plan_of script) k is.setup (opened script) Broken there)) refl opened_holds
 
   set_up_early : (set_up script is.setup).calls.ending ≡ false
-  set_up_early = run_ending (plan_of script) (opened script) in_setup
+  set_up_early = run_ending (plan_of script) (opened script) (in_setup is)
 
-  played_early : (played script is.setup in_clients).calls.ending ≡ false
-  played_early = run_ending (plan_of script) (set_up script is.setup) in_clients ∙ set_up_early
+  played_early : (played script is.setup (in_clients is)).calls.ending ≡ false
+  played_early = run_ending (plan_of script) (set_up script is.setup) (in_clients is) ∙ set_up_early
 
-  set_up_keeps : Kept script in_os (set_up script is.setup) (views_along (plan_of script) (opened script) (first_views script) in_setup) (λ n. [] ++ founds (plan_of script) (calls script) (opens script) in_os Any (Unit {0}) ends_anyhow (opened script) in_setup n)
-  set_up_keeps = keeps_along (plan_of script) (calls script) (opens script) in_os Any (Unit {0}) ends_anyhow (IsListed script) (go script made turns core is) in_setup (opened script) (first_views script) (λ n. [])
+  set_up_keeps : Kept script in_os (set_up script is.setup) (views_along (plan_of script) (opened script) (first_views script) (in_setup is)) (λ n. [] ++ founds (plan_of script) (calls script) (opens script) in_os Any (Unit {0}) ends_anyhow (opened script) (in_setup is) n)
+  set_up_keeps = keeps_along (plan_of script) (calls script) (opens script) in_os Any (Unit {0}) ends_anyhow (IsListed script) (go script made turns core is) (in_setup is) (opened script) (first_views script) (λ n. [])
       (let s = start script made turns core is in s.sound) (set_up_answered script made.are (first_views script) (start script made turns core is) (go script made turns core is) turns core is (fitting script made turns core is)) (let f = fitting script made turns core is in f.of_setup)
       (recorded_opened script made.are (first_views script) (start script made turns core is) (go script made turns core is) turns core is (fitting script made turns core is)) (λ e. tt) (opened_keeps script made turns core is)
 
   -- the takes of the run
-  in_early : In Broken (as_taken (taken_in (plan_of script) (set_up script is.setup) in_clients k)) → Fails
-  in_early there = subst (In Broken) (sym (taken_append (taken_in (plan_of script) (set_up script is.setup) in_clients k) (taken_in (plan_of script) is.ended is.final k)))
-      (in_left (as_taken (taken_in (plan_of script) (set_up script is.setup) in_clients k)) (as_taken (taken_in (plan_of script) is.ended is.final k)) Broken there)
+  in_early : In Broken (as_taken (taken_in (plan_of script) (set_up script is.setup) (in_clients is) k)) → Fails
+  in_early there = subst (In Broken) (sym (taken_append (taken_in (plan_of script) (set_up script is.setup) (in_clients is) k) (taken_in (plan_of script) is.ended is.final k)))
+      (in_left (as_taken (taken_in (plan_of script) (set_up script is.setup) (in_clients is) k)) (as_taken (taken_in (plan_of script) is.ended is.final k)) Broken there)
 
   in_late : In Broken (as_taken (taken_in (plan_of script) is.ended is.final k)) → Fails
-  in_late there = subst (In Broken) (sym (taken_append (taken_in (plan_of script) (set_up script is.setup) in_clients k) (taken_in (plan_of script) is.ended is.final k)))
-      (in_right (as_taken (taken_in (plan_of script) (set_up script is.setup) in_clients k)) (as_taken (taken_in (plan_of script) is.ended is.final k)) Broken there)
+  in_late there = subst (In Broken) (sym (taken_append (taken_in (plan_of script) (set_up script is.setup) (in_clients is) k) (taken_in (plan_of script) is.ended is.final k)))
+      (in_right (as_taken (taken_in (plan_of script) (set_up script is.setup) (in_clients is) k)) (as_taken (taken_in (plan_of script) is.ended is.final k)) Broken there)
 
-  pub played_holds : H (played script is.setup in_clients)
+  pub played_holds : H (played script is.setup (in_clients is))
   played_holds = holds_along script in_os (IsListed script) (go script made turns core is) k o (in_os k o at) shape shape_is Fails IsEarly
       (λ c vs m ms sound early ending put. true≢false (sym ending ∙ early)) (λ c vs m ms sound answered fits early. run_ending (plan_of script) c (m ∷ []) ∙ early)
-      in_clients (set_up script is.setup) (views_along (plan_of script) (opened script) (first_views script) in_setup) _
+      (in_clients is) (set_up script is.setup) (views_along (plan_of script) (opened script) (first_views script) (in_setup is)) _
       (set_up_sound script made.are (first_views script) (start script made turns core is) (go script made turns core is) turns core is (fitting script made turns core is)) is.answered (let f = fitting script made turns core is in f.of_played)
       (recorded_set_up script made.are (first_views script) (start script made turns core is) (go script made turns core is) turns core is (fitting script made turns core is)) set_up_keeps
       offers.played long_set_up in_early set_up_early set_up_holds
@@ -168,14 +160,14 @@ module _ (script : List Item) (made : AreMade script) (turns : List Turn) (core 
   closing_holds : H (closing_of script turns core is)
   closing_holds = let h = played_holds in record {
     last = h.last;
-    reader = λ seat there. h.reader seat (sym (set_else (played script is.setup in_clients).seats 0 (32 + k) _ (λ e. let z : ⊥ = omega (arith, e) in z)) ∙ there);
-    over = λ e. over_in_ending (played script is.setup in_clients) (h.over e);
+    reader = λ seat there. h.reader seat (sym (set_else (played script is.setup (in_clients is)).seats 0 (32 + k) _ (λ e. let z : ⊥ = omega (arith, e) in z)) ∙ there);
+    over = λ e. over_in_ending (played script is.setup (in_clients is)) (h.over e);
   }
 
-  closed_holds : H (run (plan_of script) (closing_of script turns core is) in_closing)
+  closed_holds : H (run (plan_of script) (closing_of script turns core is) (in_closing is))
   closed_holds = holds_along script in_os (IsListed script) (go script made turns core is) k o (in_os k o at) shape shape_is Fails IsEarly
       (λ c vs m ms sound early ending put. true≢false (sym ending ∙ early)) (λ c vs m ms sound answered fits early. run_ending (plan_of script) c (m ∷ []) ∙ early)
-      in_closing (closing_of script turns core is) (views_played script turns core is (first_views script)) _
+      (in_closing is) (closing_of script turns core is) (views_played script turns core is (first_views script)) _
       (closing_sound script made.are (first_views script) (start script made turns core is) (go script made turns core is) turns core is (fitting script made turns core is))
       (end_answered script made.are (first_views script) (start script made turns core is) (go script made turns core is) turns core is (fitting script made turns core is)) (let f = fitting script made turns core is in f.of_closing)
       (recorded_closing script made.are (first_views script) (start script made turns core is) (go script made turns core is) turns core is (fitting script made turns core is)) (closing_keeps script made turns core is)
@@ -189,7 +181,7 @@ module _ (script : List Item) (made : AreMade script) (turns : List Turn) (core 
   over_when_ending c (inr (inr (inr (gave, how)))) = inr (inr (inr (gave, inr refl)))
 
   ended_holds : H is.ended
-  ended_holds = subst H (sym is.is_ended) (let h = closed_holds in record { last = h.last; reader = h.reader; over = λ e. over_when_ending (run (plan_of script) (closing_of script turns core is) in_closing) (h.over e) })
+  ended_holds = subst H (sym is.is_ended) (let h = closed_holds in record { last = h.last; reader = h.reader; over = λ e. over_when_ending (run (plan_of script) (closing_of script turns core is) (in_closing is)) (h.over e) })
 
   -- ## The end
 
@@ -207,20 +199,20 @@ module _ (script : List Item) (made : AreMade script) (turns : List Turn) (core 
   Part c = IsPart script k shape c
 
   part_set_up : Part (set_up script is.setup)
-  part_set_up = part_along script k shape shape_is (go script made turns core is) in_setup (opened script) (first_views script) (let s = start script made turns core is in s.sound)
+  part_set_up = part_along script k shape shape_is (go script made turns core is) (in_setup is) (opened script) (first_views script) (let s = start script made turns core is in s.sound)
       (set_up_answered script made.are (first_views script) (start script made turns core is) (go script made turns core is) turns core is (fitting script made turns core is)) (let f = fitting script made turns core is in f.of_setup)
       (quiet_offered script is.setup (opened script)) long_opened (λ took t. (offered_by shape took, ap (λ l. l ++ offered_by shape took) (empty_at (plan_of script).links k)))
 
-  part_played : Part (played script is.setup in_clients)
-  part_played = part_along script k shape shape_is (go script made turns core is) in_clients (set_up script is.setup) (views_along (plan_of script) (opened script) (first_views script) in_setup)
+  part_played : Part (played script is.setup (in_clients is))
+  part_played = part_along script k shape shape_is (go script made turns core is) (in_clients is) (set_up script is.setup) (views_along (plan_of script) (opened script) (first_views script) (in_setup is))
       (set_up_sound script made.are (first_views script) (start script made turns core is) (go script made turns core is) turns core is (fitting script made turns core is)) is.answered (let f = fitting script made turns core is in f.of_played)
       offers.played long_set_up part_set_up
 
-  part_closed : Part (run (plan_of script) (closing_of script turns core is) in_closing)
-  part_closed = part_along script k shape shape_is (go script made turns core is) in_closing (closing_of script turns core is) (views_played script turns core is (first_views script))
+  part_closed : Part (run (plan_of script) (closing_of script turns core is) (in_closing is))
+  part_closed = part_along script k shape shape_is (go script made turns core is) (in_closing is) (closing_of script turns core is) (views_played script turns core is (first_views script))
       (closing_sound script made.are (first_views script) (start script made turns core is) (go script made turns core is) turns core is (fitting script made turns core is))
       (end_answered script made.are (first_views script) (start script made turns core is) (go script made turns core is) turns core is (fitting script made turns core is)) (let f = fitting script made turns core is in f.of_closing)
-      (quiet_offered script is.last (closing_of script turns core is)) long_played (λ took t. part_played took (t.0, t.1, lies_before script k (played script is.setup in_clients) _ t.2))
+      (quiet_offered script is.last (closing_of script turns core is)) long_played (λ took t. part_played took (t.0, t.1, lies_before script k (played script is.setup (in_clients is)) _ t.2))
 
   part_over : Part core
   part_over = subst Part (sym is.is_end) (part_along script k shape shape_is (go script made turns core is) is.final is.ended (views_closed script turns core is (first_views script))
@@ -232,26 +224,26 @@ module _ (script : List Item) (made : AreMade script) (turns : List Turn) (core 
   abbrev B : Core → Type 0
   B c = Behind script k o shape c
 
-  last_played : In AtEnd (as_taken (taken_in (plan_of script) (set_up script is.setup) in_clients k)) → B (played script is.setup in_clients)
-  last_played there = (lasts_along script k o shape in_os (IsListed script) (go script made turns core is) (in_os k o at) shape_is in_clients (set_up script is.setup) (views_along (plan_of script) (opened script) (first_views script) in_setup) _
+  last_played : In AtEnd (as_taken (taken_in (plan_of script) (set_up script is.setup) (in_clients is) k)) → B (played script is.setup (in_clients is))
+  last_played there = (lasts_along script k o shape in_os (IsListed script) (go script made turns core is) (in_os k o at) shape_is (in_clients is) (set_up script is.setup) (views_along (plan_of script) (opened script) (first_views script) (in_setup is)) _
       (set_up_sound script made.are (first_views script) (start script made turns core is) (go script made turns core is) turns core is (fitting script made turns core is)) is.answered (let f = fitting script made turns core is in f.of_played)
       (recorded_set_up script made.are (first_views script) (start script made turns core is) (go script made turns core is) turns core is (fitting script made turns core is)) set_up_keeps
       offers.played long_set_up (let h = set_up_holds in (h.last, h.reader))).1 (inr there)
 
-  last_closing : B (played script is.setup in_clients) → B (closing_of script turns core is)
+  last_closing : B (played script is.setup (in_clients is)) → B (closing_of script turns core is)
   last_closing b = (
-    λ seat there. b.0 seat (sym (set_else (played script is.setup in_clients).seats 0 (32 + k) _ (λ e. let z : ⊥ = omega (arith, e) in z)) ∙ there),
-    λ took more t. b.1 took more (t.0, t.1, lies_before script k (played script is.setup in_clients) _ t.2),
+    λ seat there. b.0 seat (sym (set_else (played script is.setup (in_clients is)).seats 0 (32 + k) _ (λ e. let z : ⊥ = omega (arith, e) in z)) ∙ there),
+    λ took more t. b.1 took more (t.0, t.1, lies_before script k (played script is.setup (in_clients is)) _ t.2),
   )
 
-  last_closed : B (closing_of script turns core is) → B (run (plan_of script) (closing_of script turns core is) in_closing)
-  last_closed b = (lasts_along script k o shape in_os (IsListed script) (go script made turns core is) (in_os k o at) shape_is in_closing (closing_of script turns core is) (views_played script turns core is (first_views script)) _
+  last_closed : B (closing_of script turns core is) → B (run (plan_of script) (closing_of script turns core is) (in_closing is))
+  last_closed b = (lasts_along script k o shape in_os (IsListed script) (go script made turns core is) (in_os k o at) shape_is (in_closing is) (closing_of script turns core is) (views_played script turns core is (first_views script)) _
       (closing_sound script made.are (first_views script) (start script made turns core is) (go script made turns core is) turns core is (fitting script made turns core is))
       (end_answered script made.are (first_views script) (start script made turns core is) (go script made turns core is) turns core is (fitting script made turns core is)) (let f = fitting script made turns core is in f.of_closing)
       (recorded_closing script made.are (first_views script) (start script made turns core is) (go script made turns core is) turns core is (fitting script made turns core is)) (closing_keeps script made turns core is)
       (quiet_offered script is.last (closing_of script turns core is)) long_played (let h = closing_holds in (h.last, h.reader))).1 (inl b)
 
-  last_ended : B (run (plan_of script) (closing_of script turns core is) in_closing) → B is.ended
+  last_ended : B (run (plan_of script) (closing_of script turns core is) (in_closing is)) → B is.ended
   last_ended b = subst B (sym is.is_ended) (b.0, b.1)
 
   last_over : B is.ended ⊎ In AtEnd (as_taken (taken_in (plan_of script) is.ended is.final k)) → B core
@@ -262,8 +254,8 @@ module _ (script : List Item) (made : AreMade script) (turns : List Turn) (core 
 
   last_taken : In AtEnd (heard_takes is k) → B core
   last_taken there = ⊎_elim (λ early. last_over (inl (last_ended (last_closed (last_closing (last_played early)))))) (λ late. last_over (inr late))
-      (in_both (as_taken (taken_in (plan_of script) (set_up script is.setup) in_clients k)) (as_taken (taken_in (plan_of script) is.ended is.final k)) AtEnd
-      (subst (In AtEnd) (taken_append (taken_in (plan_of script) (set_up script is.setup) in_clients k) (taken_in (plan_of script) is.ended is.final k)) there))
+      (in_both (as_taken (taken_in (plan_of script) (set_up script is.setup) (in_clients is) k)) (as_taken (taken_in (plan_of script) is.ended is.final k)) AtEnd
+      (subst (In AtEnd) (taken_append (taken_in (plan_of script) (set_up script is.setup) (in_clients is) k) (taken_in (plan_of script) is.ended is.final k)) there))
 
   -- ## Where it lies in the end
 

@@ -9,7 +9,7 @@ use Rattle.sock_io.specs.declared.link.Ready.{Ready}
 use Rattle.sock_model.specs.Layout.{open_index}
 use Rattle.sock_model.specs.Messages.{Letter}
 use Rattle.sock_model.specs.Reads.{message, link_home}
-use Rattle.seat_programs.specs.Asides.{Step, Found, ClaimId, PutCall, MakeId, StoreCall, LoadCall, StoreAt, LoadAt, LoadIdWord, LockId, PostId, UnlockId, EndId, FreeId, TakeCall, TakeBytes, Taking, Bytes, Nothing, NoMore, AtEnd, Closed, Broken}
+use Rattle.seat_programs.specs.Asides.{Step, Found, TakeBytes, Taking, Bytes}
 use Rattle.seat_programs.specs.Beside.{at_last, found_in, calls_after, more_given}
 use Rattle.seat_programs.specs.Calls.{LoadOpen}
 use Rattle.seat_programs.specs.Heads.{Retry, Reads}
@@ -66,28 +66,11 @@ module _ (p : Plan) (k : ℕ) (c : Core) (m : Moment) where
 
     other_link : (l : ℕ) → l ≢ k → (found : Taking) → get_or (more_given l found c.calls).gave k [] ≡ given c k
     other_link l far (Bytes bytes) = get_or-set_other c.calls.gave l k (get_or c.calls.gave l [] ++ bytes) [] (λ e. far (sym e))
-    other_link l far Nothing = refl
-    other_link l far NoMore = refl
-    other_link l far AtEnd = refl
-    other_link l far Closed = refl
-    other_link l far Broken = refl
+    other_link l far _ = refl
 
     aside_gave : (step : Step) (next : Found step → Program) → NoneOf k (takes_by (Aside step next)) → given (step_with p m.seat seat c m.answer (Aside step next)) k ≡ given c k
     aside_gave (TakeBytes l room) next none_ = found_gave (TakeBytes l room) (found_in (TakeBytes l room) c.calls (taken m.answer)) next (other_link l (apart k l none_))
-    aside_gave (ClaimId i) next none_ = found_gave (ClaimId i) (found_in (ClaimId i) c.calls (taken m.answer)) next (λ found. refl)
-    aside_gave (PutCall i asked) next none_ = found_gave (PutCall i asked) (found_in (PutCall i asked) c.calls (taken m.answer)) next (λ found. refl)
-    aside_gave (MakeId i range) next none_ = found_gave (MakeId i range) (found_in (MakeId i range) c.calls (taken m.answer)) next (λ found. refl)
-    aside_gave (StoreCall o id) next none_ = found_gave (StoreCall o id) (found_in (StoreCall o id) c.calls (taken m.answer)) next (λ found. refl)
-    aside_gave (LoadCall o) next none_ = found_gave (LoadCall o) (found_in (LoadCall o) c.calls (taken m.answer)) next (λ found. refl)
-    aside_gave (StoreAt o w) next none_ = found_gave (StoreAt o w) (found_in (StoreAt o w) c.calls (taken m.answer)) next (λ found. refl)
-    aside_gave (LoadAt o) next none_ = found_gave (LoadAt o) (found_in (LoadAt o) c.calls (taken m.answer)) next (λ found. refl)
-    aside_gave (LoadIdWord i) next none_ = found_gave (LoadIdWord i) (found_in (LoadIdWord i) c.calls (taken m.answer)) next (λ found. refl)
-    aside_gave (LockId i from) next none_ = found_gave (LockId i from) (found_in (LockId i from) c.calls (taken m.answer)) next (λ found. refl)
-    aside_gave (PostId i from e) next none_ = found_gave (PostId i from e) (found_in (PostId i from e) c.calls (taken m.answer)) next (λ found. refl)
-    aside_gave (UnlockId i from advance) next none_ = found_gave (UnlockId i from advance) (found_in (UnlockId i from advance) c.calls (taken m.answer)) next (λ found. refl)
-    aside_gave (EndId i) next none_ = found_gave (EndId i) (found_in (EndId i) c.calls (taken m.answer)) next (λ found. refl)
-    aside_gave (FreeId i) next none_ = found_gave (FreeId i) (found_in (FreeId i) c.calls (taken m.answer)) next (λ found. refl)
-    aside_gave (TakeCall i) next none_ = found_gave (TakeCall i) (found_in (TakeCall i) c.calls (taken m.answer)) next (λ found. refl)
+    aside_gave other next none_ = found_gave other (found_in other c.calls (taken m.answer)) next (λ found. refl)
 
     step_gave : (x : Program) → NoneOf k (takes_by x) → given (step_with p m.seat seat c m.answer x) k ≡ given c k
     step_gave (Aside step next) none_ = aside_gave step next none_
@@ -113,11 +96,7 @@ module _ (p : Plan) (k : ℕ) (c : Core) (m : Moment) where
 
   pub gave_more : (seat : SeatState) (next : Taking → Program) (found : Taking) → k < length c.calls.gave → given (took_so seat next found) k ≡ given c k ++ bytes_found found
   gave_more seat next (Bytes bytes) low = get_or-set_same c.calls.gave k (get_or c.calls.gave k [] ++ bytes) [] low
-  gave_more seat next Nothing low = sym (append-nil (given c k))
-  gave_more seat next NoMore low = sym (append-nil (given c k))
-  gave_more seat next AtEnd low = sym (append-nil (given c k))
-  gave_more seat next Closed low = sym (append-nil (given c k))
-  gave_more seat next Broken low = sym (append-nil (given c k))
+  gave_more seat next _ low = sym (append-nil (given c k))
 
 -- ## Where its reader stands
 

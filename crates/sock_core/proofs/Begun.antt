@@ -90,13 +90,8 @@ still_none sizes (t ∷ ts) = by_op t.op (still_none sizes ts)
   where
     by_op : (op : Op) → still_waiting [] (client_from sizes [] ts) ≡ [] → still_waiting [] (operation sizes [] t.number (λ held. client_from sizes held ts) op) ≡ []
     by_op (ops.Open name k) later = open_still sizes.slots 0 t.number name k (client_from sizes [] ts)
-    by_op (ops.Send name bytes) later = refl
-    by_op (ops.Call asked) later = refl
-    by_op (ops.Expire o) later = refl
-    by_op (ops.Join o) later = refl
-    by_op (ops.Hold name) later = refl
     by_op (ops.Drop name) later = later
-    by_op (ops.Fail name code) later = refl
+    by_op _ later = refl
 
 abbrev pub new_seat : List Task → SeatData
 new_seat ts = record { tasks = ts; leaving = false; held = []; ending = []; point = point.Rest; waiting = []; message = None; call = None; out = None }

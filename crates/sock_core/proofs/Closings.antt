@@ -115,13 +115,9 @@ module _ (old fresh : MachineState) (i : ℕ) (place seat' : SeatData) (step : S
   made_closes first answer w = one_closes p c (record { seat = i; answer = answer }) (by first w)
     where
       by : (first : First) → MadeFirst (table_of old) (table_of fresh) i place seat' step first answer → taken answer ≢ core.some Closed
-      by (OfCall call) w = asks_none answer Unasked w.0 refl
-      by (OfAside aside) w = asks_none answer Unasked w.0 refl
-      by (OfMessage q) w = asks_none answer Unasked w.0 refl
-      by (OfLink k) w = asks_none answer Unasked w.0 refl
-      by (OfHome k n) w = asks_none answer Unasked w.0 refl
       by (kinds.OfPut k asked bytes) w = asks_none answer (OfPut w.0) w.1 refl
       by (kinds.OfReady k) w = asks_none answer (OfReady w.0) w.1 refl
+      by _ w = asks_none answer Unasked w.0 refl
 
 -- the other end closed its half, where it tells that
 is_closing : (o : Option Bool) → o ≢ None → o ≢ Some false → o ≡ Some true

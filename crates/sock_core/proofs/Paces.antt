@@ -112,13 +112,8 @@ client_calm sizes held [] (t ∷ ts) = by_op t.op (λ hs. client_calm sizes hs [
   where
     by_op : (op : Op) → ((hs : List HeldLife) → CalmAlone (client_from sizes hs ts)) → CalmAlone (operation sizes held t.number (λ held'. client_from sizes held' ts) op)
     by_op (ops.Open name k) later = open_alone sizes.slots 0 t.number name k (client_from sizes held ts)
-    by_op (ops.Send name bytes) later = tt
-    by_op (ops.Call asked) later = tt
-    by_op (ops.Expire o) later = tt
-    by_op (ops.Join o) later = tt
-    by_op (ops.Hold name) later = tt
     by_op (ops.Drop name) later = drop_calm t.number (held_under name held) (client_from sizes (without_name name held) ts) (later (without_name name held))
-    by_op (ops.Fail name code) later = tt
+    by_op _ later = tt
 
 pub ending_calm : (os : List ℕ) → IsCalm (next_step (ending_of os))
 ending_calm [] = tt

@@ -14,7 +14,7 @@ use Rattle.sock_model.specs.declared.view.Hand.{Hand}
 use Rattle.seat_programs.specs.declared.task.Sizes.{Sizes}
 use Rattle.seat_programs.specs.Calls as calls
 use Rattle.seat_programs.specs.Asides as asides
-use Rattle.seat_programs.specs.Programs.{Program, Do, Say, Sent, Rest, TakeMessage, TakeHome, PutHome, PutBytes, AskReady, Write, Aside, Round, Keep, Retries}
+use Rattle.seat_programs.specs.Programs.{Program, Do, TakeMessage, TakeHome, PutHome, PutBytes, AskReady, Write, Aside, Round}
 use Rattle.seat_programs.specs.Writings as heads
 use Rattle.seat_programs.specs.Rounds.{round}
 use Rattle.seat_programs.specs.Ticks.{quiet}
@@ -196,16 +196,4 @@ module _ (m : MachineState) (sized : IsSized (table_of m)) (s : IsSoundMachine m
     where
       is_first : (x : Program) → FitsFirst m.plan c (goes.first_of x) → FitsFirst m.plan c (first_step x)
       is_first (Write w after) f = f
-      is_first (Round head next) f = f
-      is_first (Do call next) f = f
-      is_first (Aside step next) f = f
-      is_first (TakeMessage r next) f = f
-      is_first (TakeHome k next) f = f
-      is_first (PutHome k n after) f = f
-      is_first (PutBytes k asked bytes next) f = f
-      is_first (AskReady k next) f = f
-      is_first (Say o outcome next) f = f
-      is_first (Sent o next) f = f
-      is_first (Keep r next) f = f
-      is_first (Retries requests after) f = f
-      is_first Rest f = f
+      is_first _ f = f

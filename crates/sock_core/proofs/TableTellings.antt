@@ -10,7 +10,7 @@ use Rattle.seat_programs.specs.Calls as calls
 use Rattle.seat_programs.specs.Cores.{Core, word_of, found_at}
 use Rattle.seat_programs.specs.Heads.{Posts, Unlocks, Decides, Locks, Joins, Opens, Reads, Discards}
 use Rattle.seat_programs.specs.Writings as heads
-use Rattle.seat_programs.specs.Programs.{Program, Do, Say, Sent, Rest, TakeMessage, TakeHome, PutHome, PutBytes, AskReady, Write, Aside, Round, Keep, Retries}
+use Rattle.seat_programs.specs.Programs.{Program, Write, Aside, Round}
 use Rattle.seat_programs.specs.Ticks.{Unasked, OfTake, is_nothing}
 use Rattle.call_slots.specs.Steps.{word_found}
 use Rattle.seat_states.specs.Steps.{First, OfCall, OfAside, first_in, kind_of_first}
@@ -90,18 +90,7 @@ still_aside t program step first h = still program (subst MovesFirst (sym first)
     still (Round (Decides id asked w e) next) m = refl
     still (Round (Reads r) next) m = refl
     still (Round (Discards k total) next) m = refl
-    still (Do call next) m = refl
-    still (Say o outcome next) m = refl
-    still (Sent o next) m = refl
-    still Rest m = refl
-    still (TakeMessage q next) m = refl
-    still (TakeHome k next) m = refl
-    still (PutHome k n after) m = refl
-    still (PutBytes k asked bytes next) m = refl
-    still (AskReady k next) m = refl
-    still (Aside own next) m = refl
-    still (Keep r next) m = refl
-    still (Retries requests after) m = refl
+    still _ m = refl
 
 -- what a step aside tells, as one of the whole step
 pub told_aside : (old fresh : TableState) (seat seat' : SeatData) (step : Step) (s : code.Aside) {E : Type 0} (r : Result Tick E) → step ≡ firsts.Aside s → IfOk r (λ tick. (i : ℕ) → StepTold old fresh i seat seat' (firsts.Aside s) tick) → (i : ℕ) → IfOk r (λ tick. StepTold old fresh i seat seat' step tick)

@@ -4,9 +4,9 @@ ghost use Rattle.brpc_model.specs.Script.{script_of};
 ghost use Rattle.script_links.specs.Given.{has_piece};
 
 use crate::held::{HeldGate, HeldLinker, is_done, new_flags};
-use script_beside::run_with_readers;
 use script_items::Script;
 use script_lang::read_script;
+use script_threads::run_on_threads;
 use sock_io::{Gate, Linker, Mode, OpenGate};
 use std::alloc::{AllocError, Global};
 use std::sync::{Arc, Wait};
@@ -36,7 +36,7 @@ pub(crate) fn report_over<L: Linker, G: Gate + Sync, R: Threads + Wait + Sync>(
     requires back { L.back links.old ≡ [] }
 {
     let script = script_in(alloc, text)?;
-    match run_with_readers(rt, alloc, Mode::Ring, &script, links, gate) {
+    match run_on_threads(rt, alloc, Mode::Ring, &script, links, gate) {
         Ok(report) => Some(report),
         Err(_fault) => None,
     }

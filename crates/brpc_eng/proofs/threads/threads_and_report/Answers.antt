@@ -4,12 +4,12 @@ use Rattle.brpc_eng.proofs.threads.threads_and_report.Goals as goal
 
 pub returns-clause-ran : goal.returns-clause-ran
 returns-clause-ran g c =
-    threads_ran c.args.script.now c.requires.short c.run_with_readers-ran.result _ _ _ c.run_mode-mode.result (run_mode c.args.port) c.run_mode-mode.ensures c.run_with_readers-ran.ensures.served (c.run_with_readers-ran.ensures.failed, c.run_with_readers-ran.ensures.unopened) c.tell_run.ensures
+    threads_ran c.args.script.now c.requires.short c.run_on_threads-ran.result _ _ _ c.run_mode-mode.result (run_mode c.args.port) c.run_mode-mode.ensures c.run_on_threads-ran.ensures.served (c.run_on_threads-ran.ensures.failed, c.run_on_threads-ran.ensures.unopened) c.tell_run.ensures
 
 pub returns-clause-opened : goal.returns-clause-opened
 returns-clause-opened g c =
-    run_opened c.args.script.now c.run_with_readers-ran.result _ _ _ c.run_mode-mode.result (run_mode c.args.port) c.run_mode-mode.ensures
-    c.run_with_readers-ran.ensures.asked c.run_with_readers-ran.ensures.front c.run_with_readers-ran.ensures.given_back c.run_with_readers-ran.ensures.numbered c.tell_run.ensures
+    run_opened c.args.script.now c.run_on_threads-ran.result _ _ _ c.run_mode-mode.result (run_mode c.args.port) c.run_mode-mode.ensures
+    c.run_on_threads-ran.ensures.asked c.run_on_threads-ran.ensures.front c.run_on_threads-ran.ensures.given_back c.run_on_threads-ran.ensures.numbered c.tell_run.ensures
 
-pub run_with_readers-requires-clause-script : goal.run_with_readers-requires-clause-script
-run_with_readers-requires-clause-script g c = (c.requires.short.0, c.requires.short.1.0)
+pub run_on_threads-requires-clause-script : goal.run_on_threads-requires-clause-script
+run_on_threads-requires-clause-script g c = (c.requires.short.0, c.requires.short.1.0)

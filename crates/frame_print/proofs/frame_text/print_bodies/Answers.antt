@@ -1,0 +1,9 @@
+use Rattle.sock_words.specs.Printed.{hex_text}
+use Rattle.frame_print.specs.View.{bytes_viewed}
+use Rattle.frame_print.proofs.Writing.{as_text}
+use Rattle.frame_print.proofs.PieceLemmas.{bytes_parts}
+use Rattle.frame_print.proofs.frame_text.print_bodies.Goals as goal
+
+pub returns : goal.returns
+returns g c =
+    as_text _ _ _ _ _ _ _ c.print_pieces.ensures (bytes_parts (hex_text (bytes_viewed c.args.payload)) (hex_text (bytes_viewed c.args.attachment)))

@@ -1,6 +1,0 @@
-pub mod Told
-pub mod Sockets
-pub mod Joins
-pub use Rattle.script_calls
-pub mod Gave
-pub mod Served
