@@ -1,4 +1,4 @@
-use Rattle.std.proofs.Common.{refl, arith, ap, ◌∙◌, inl, Some, slice_set}
+use Rattle.std.proofs.Common.{refl, arith, ap, length, ◌∙◌, inl, Some, slice_set}
 use Rattle.seat_programs.specs.Calls as calls
 use Rattle.seat_programs.specs.Scripts.{sizes_of}
 use Rattle.seat_states.specs.declared.point.Step.TheVariants as firsts
@@ -8,6 +8,7 @@ use Rattle.client_seats.specs.Seats.{seat_data, around, bytes_of, parts_of, mess
 use Rattle.sock_core.specs.Letters.{letters_in}
 use Rattle.sock_core.specs.Machines.{TableState, table_sizes}
 use Rattle.sock_core.proofs.Stepping.{written, makes_along, goes, next_along}
+use Rattle.sock_core.proofs.TableCuts.{on_err, cut_along, cut_ids}
 use Rattle.sock_core.proofs.TableRoom.{room_for}
 use Rattle.sock_core.proofs.TableGoes.{may_next, follows_as, hand_put, put_next, put_flat}
 use Rattle.sock_core.proofs.table.Table.put_message.Goals as goal
@@ -63,3 +64,8 @@ returns-clause-ok g c seat_number =
         },
       );
     })
+
+pub returns-in_err-put_message-clause-err : goal.returns-in_err-put_message-clause-err
+returns-in_err-put_message-clause-err g c =
+    let same = written c.self.inside.letters.len c.put_message.new.letters _ (omega (arith, c.self.inside.letters.ok)) ∙ c.in_err-put_message.ensures.err ∙ c.deref_mut.ensures.value in
+    on_err c.from_residual.result (cut_along c.self.view_is (cut_ids _ _ refl refl refl refl (ap (λ ls. length (letters_in ls)) same) refl refl refl))
