@@ -84,7 +84,7 @@ text_same script report =
     ap (λ ns. outcome_lines (operations (map outlined script)) report.outcomes ++ link_lines (operations (map outlined script)) 0 ns report.links ++ codes "end\n") (names_same script)
     ∙ ap₂ (λ (a b : List ℕ). a ++ b ++ codes "end\n") (lines_same (operations (map outlined script)) (operations script) places report.outcomes) (links_same (operations (map outlined script)) (operations script) places 0 (link_names script) report.links)
 
-report_same : (script : List Item) (said : List (Option Outcome)) (words : List PlaceWord) (took : List (List ℕ)) (text : List ℕ) → IsReportText (map outlined script) said words took text → IsReportText script said words took text
+abbrev report_same : (script : List Item) (said : List (Option Outcome)) (words : List PlaceWord) (took : List (List ℕ)) (text : List ℕ) → IsReportText (map outlined script) said words took text → IsReportText script said words took text
 report_same script said words took text r = record {
   report = r.report;
   told = record { outcomes = r.told.outcomes; line_each = r.told.line_each ∙ ap length (names_same script); links = r.told.links };
