@@ -1,8 +1,10 @@
-use Rattle.std.proofs.Common.{◌≡◌, ◌≢◌, true, List, None, IfOk, sym, subst, ◌∙◌}
+use Rattle.std.proofs.Common.{◌≡◌, ◌≢◌, true, List, None, IfOk, ap, sym, subst, slice_get, ◌∙◌}
 use Rattle.std.specs.List.{AllByRecursion}
 use Rattle.brpc_model.specs.Items.{Item}
 use Rattle.brpc_model.specs.Link.{LinkEnd}
 use Rattle.sock_io.specs.Link.{end_of}
+use Rattle.sock_io.specs.declared.link.Mode.TheVariants as mode
+use Rattle.script_links.specs.Given.{specs_of}
 use Rattle.script_links.specs.Offered.{TellOffers}
 use Rattle.script_run.specs.Played.{IsMade, IsPrinted, TellClosed, turns_of}
 use Rattle.script_links.proofs.Numbering.{numbered_of, unused_of, silent_of, all_so, all_mapped}
@@ -31,10 +33,10 @@ run_on-requires-clause-closed g c κs within tell =
     subst (AllByRecursion (λ (e : LinkEnd). e.closed ≢ None)) (sym c.in-Ok-of.ensures.ends) (all_mapped (λ e. end_of (g.L.O.Out.state e.out) (g.L.I.In.state e.inn)) (λ (e : LinkEnd). e.closed ≢ None) (λ e. (tell e.inn).1) c.args.ends.items)
 
 pub run_on-requires-clause-offers : goal.run_on-requires-clause-offers
-run_on-requires-clause-offers g c κs within tell k spec at = c.in-Ok-of.ensures.offers k spec.serve spec.end (c.requires.offers tell k spec at)
+run_on-requires-clause-offers g c κs within tell k spec at = c.in-Ok-of.ensures.offers k spec.serve spec.end (c.requires.offers tell k spec (sym (ap (λ s. slice_get (specs_of mode.Loop s) k) c.in-Ok.ensures.1) ∙ at))
 
 pub run_on-requires-clause-made : goal.run_on-requires-clause-made
-run_on-requires-clause-made g c =
+run_on-requires-clause-made g c κs within =
     let made = c.in-Ok-of.ensures in
     subst (λ (s : List Item). IsMade s c.in-Ok-of.machine) (c.in-Ok.ensures.0 ∙ sym c.in-Ok.ensures.1)
     (record { plan = made.plan.0; id_plan = made.plan.1; opens = made.opens.0; calls = made.opens.1; agrees = made.agrees.0; agrees_gave = made.agrees.1; setup = made.core; first = made.rest })
