@@ -31,7 +31,7 @@ pub fn load<K: Sink, L: Linker>(alloc: Global, draw: &Draw, out: &mut K, links: 
         clients: draw.clients,
         operations: draw.operations,
     });
-    match run_script(alloc, &script, Schedule::Drawn(seed), summary, links) {
+    match run_script(alloc, script, Schedule::Drawn(seed), summary, links) {
         Ok(text) => write_report(out, &text),
         Err(RunFault::OpenFailed) => Status::OpenFailed,
         Err(RunFault::NoMemory) => Status::NoMemory,

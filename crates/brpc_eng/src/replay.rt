@@ -42,7 +42,7 @@ pub fn replay<S: Source, K: Sink, L: Linker>(
         Ok(script) => {
             // The text isn't needed while the script runs.
             drop(bytes);
-            run_and_report(alloc, &script, schedule, out, links)
+            run_and_report(alloc, script, schedule, out, links)
         }
         Err(ScriptError::Fault { line, kind }) => write_fault(alloc, line, kind, out),
         Err(ScriptError::NoMemory) => Status::NoMemory,

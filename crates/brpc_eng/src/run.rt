@@ -18,20 +18,20 @@ use std::alloc::Global;
 /// Runs a script, and writes its report.
 pub fn run_and_report<K: Sink, L: Linker>(
     alloc: Global,
-    script: &Script,
+    script: Script,
     schedule: Schedule,
     out: &mut K,
     links: &mut L,
 ) -> Status
     requires asked { L.asked links.old ≡ [] }
     requires back { L.back links.old ≡ [] }
-    requires script { (bytes : List ℕ) × (script_of bytes ≡ Ok script.now) × (length bytes ≤ script_limit) }
-    requires pieces { list_all has_piece script.now ≡ true }
-    ensures ran { Ran (turns_of script.now schedule) script.now
+    requires script { (bytes : List ℕ) × (script_of bytes ≡ Ok script) × (length bytes ≤ script_limit) }
+    requires pieces { list_all has_piece script ≡ true }
+    ensures ran { Ran (turns_of script schedule) script
         (record { before = K.contents out.old; now = K.contents out.new; faults = record { before = K.faults out.old; now = K.faults out.new } })
         (record { always_ready = L.always_ready links.old; tells = TellClosed L.I.state; offering = TellOffers L.O.state L.I.state; tells_in = L.tells_in; asked = L.asked links.new; ends = L.back links.new; accepted = L.accepted links.new; done = L.done links.new; faults = record { before = L.faults links.old; now = L.faults links.new } })
         (number_of result) }
-    ensures opened { OpenedBy modes.Loop script.now
+    ensures opened { OpenedBy modes.Loop script
         (record { always_ready = L.always_ready links.old; tells = TellClosed L.I.state; offering = TellOffers L.O.state L.I.state; tells_in = L.tells_in; asked = L.asked links.new; ends = L.back links.new; accepted = L.accepted links.new; done = L.done links.new; faults = record { before = L.faults links.old; now = L.faults links.new } })
         (number_of result) }
     ensures linker { number_of result ≢ 8 → L.faults links.new ≡ L.faults links.old }

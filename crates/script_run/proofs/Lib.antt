@@ -1,4 +1,5 @@
 pub mod Playing
+pub mod Outlined
 pub mod Lines
 pub mod Telling
 pub mod Homes

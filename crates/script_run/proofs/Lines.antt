@@ -10,10 +10,7 @@ use Rattle.sock_words.specs.KindText.{kind_text}
 use Rattle.brpc_model.specs.Items.{Item}
 use Rattle.brpc_model.specs.Drawn.{drawn, drawn_state, state_behind, seat_of, sim_seats_of}
 use Rattle.brpc_model.specs.Operations.{Turn, Ticks, turn_of, schedule, seat_number, clients, link_names, operations}
-use Rattle.script_items.specs.Meaning.{item}
 use Rattle.script_items.specs.Meaning as meaning
-use Rattle.script_items.specs.declared.line.Line.{Line}
-use Rattle.script_items.specs.declared.line.Line.TheVariants as lines
 use Rattle.script_items.specs.declared.line.Seat.{Seat}
 use Rattle.script_print.proofs.SeatLemmas.{seats_more, count_some}
 use Rattle.script_print.specs.Seats.{SeatDraws, seat_count}
@@ -25,9 +22,13 @@ use Rattle.seat_programs.specs.Tasks.{plan_of}
 use Rattle.sock_core.specs.Links.{Taken, Given}
 use Rattle.sock_core.specs.Machines.{MachineState, core_with}
 use Rattle.sock_core.specs.Runs.{Ran}
+use Rattle.script_run.specs.declared.mark.Mark.{Mark}
+use Rattle.script_run.specs.declared.mark.Mark.TheVariants as marks
+use Rattle.script_run.specs.Outlines.{meant, outlined}
 use Rattle.script_run.specs.Played.{IsPlayable, HasPlayed, HasTurns}
 use Rattle.sock_core.proofs.Joining.{ran_rest, ran_join, run_append}
 use Rattle.sock_core.proofs.Resting.{none_follows}
+use Rattle.script_run.proofs.Outlined.{schedule_same}
 use Rattle.script_run.proofs.Playing.{as_played, then_played, none_played}
 
 -- ## Ticks of one seat
@@ -65,11 +66,11 @@ leads_of p m took gave i kind moments h leads = let c = core_with m took gave in
       subst (LeadsUpTo p i kind c) (sym none) (h.far i (omega (arith, l)) took gave)
 ] refl
 
-pub to_line : (old new : MachineState) (seat : Seat) (kind : Kind) (number : ℕ) (line : Line) → line ≡ lines.To seat kind → number ≡ min (seat_number (meaning.seat_of seat)) 65535 → IsPlayable old →
-    HasPlayed (LeadsUpTo old.plan number (kind_text kind)) old new → HasPlayed (HasTurns old.plan (turn_of (item line))) old new
-to_line old new seat kind number line is at h played =
+pub to_mark : (old new : MachineState) (seat : Seat) (kind : Kind) (number : ℕ) (mark : Mark) → mark ≡ marks.To seat kind → number ≡ min (seat_number (meaning.seat_of seat)) 65535 → IsPlayable old →
+    HasPlayed (LeadsUpTo old.plan number (kind_text kind)) old new → HasPlayed (HasTurns old.plan (turn_of (meant mark))) old new
+to_mark old new seat kind number mark is at h played =
     let i = seat_number (meaning.seat_of seat) in
-    subst (λ l. HasPlayed (HasTurns old.plan (turn_of (item l))) old new) (sym is)
+    subst (λ l. HasPlayed (HasTurns old.plan (turn_of (meant l))) old new) (sym is)
     (as_played (LeadsUpTo old.plan number (kind_text kind)) (LeadsUpTo old.plan i (kind_text kind)) old new
     (λ took gave moments leads. leads_of old.plan old took gave i (kind_text kind) moments h (subst (λ (n : ℕ). LeadsUpTo old.plan n (kind_text kind) (core_with old took gave) moments) at leads)) played)
 
@@ -97,11 +98,11 @@ module _ (old new : MachineState) (i n : ℕ) (playable : IsPlayable old) (h : H
     | false ↦ λ is. let l = leb-false i 65535 is in ticks_above (omega (arith, l))
   ] refl
 
-pub tick_line : (old new : MachineState) (seat : Seat) (ticks number : ℕ) (line : Line) → line ≡ lines.Tick seat ticks → number ≡ min (seat_number (meaning.seat_of seat)) 65535 → IsPlayable old →
-    HasPlayed (λ d moments. seats_of moments ≡ replicate ticks number) old new → HasPlayed (HasTurns old.plan (turn_of (item line))) old new
-tick_line old new seat ticks number line is at h played =
+pub tick_mark : (old new : MachineState) (seat : Seat) (ticks number : ℕ) (mark : Mark) → mark ≡ marks.Tick seat ticks → number ≡ min (seat_number (meaning.seat_of seat)) 65535 → IsPlayable old →
+    HasPlayed (λ d moments. seats_of moments ≡ replicate ticks number) old new → HasPlayed (HasTurns old.plan (turn_of (meant mark))) old new
+tick_mark old new seat ticks number mark is at h played =
     let i = seat_number (meaning.seat_of seat) in
-    subst (λ l. HasPlayed (HasTurns old.plan (turn_of (item l))) old new) (sym is)
+    subst (λ l. HasPlayed (HasTurns old.plan (turn_of (meant l))) old new) (sym is)
     (ticks_of old new i ticks h (subst (λ (j : ℕ). HasPlayed (λ d moments. seats_of moments ≡ replicate ticks j) old new) at played))
 
 other_line : (m : MachineState) (turn : Option Turn) → turn ≡ None → HasPlayed (HasTurns m.plan turn) m m
@@ -140,15 +141,15 @@ pub map_more : {A B : Type 0} (f : A → B) (xs : List A) (x : A) → map f (xs 
 map_more f [] x = refl
 map_more f (y ∷ ys) x = ap (λ l. f y ∷ l) (map_more f ys x)
 
-schedule_more : (lines : List Line) (i : ℕ) (line : Line) → i < length lines → line ≡ get_or lines i line → schedule (map item (take (i + 1) lines)) ≡ schedule (map item (take i lines)) ++ cons_option (turn_of (item line)) []
-schedule_more lines i line within at =
-    ap (λ ls. schedule (map item ls)) (take_more lines i line within ∙ ap (λ l. take i lines ++ l ∷ []) (sym at))
-    ∙ ap schedule (map_more item (take i lines) line) ∙ filter_map-append turn_of (map item (take i lines)) (item line ∷ [])
+schedule_more : (ms : List Mark) (i : ℕ) (mark : Mark) → i < length ms → mark ≡ get_or ms i mark → schedule (map meant (take (i + 1) ms)) ≡ schedule (map meant (take i ms)) ++ cons_option (turn_of (meant mark)) []
+schedule_more ms i mark within at =
+    ap (λ ls. schedule (map meant ls)) (take_more ms i mark within ∙ ap (λ l. take i ms ++ l ∷ []) (sym at))
+    ∙ ap schedule (map_more meant (take i ms) mark) ∙ filter_map-append turn_of (map meant (take i ms)) (meant mark ∷ [])
 
-pub line_played : (lines : List Line) (i : ℕ) (line : Line) (a b c : MachineState) → i < length lines → line ≡ get_or lines i line →
-    HasPlayed (λ d. Scheduled a.plan d (schedule (map item (take i lines)))) a b → HasPlayed (HasTurns b.plan (turn_of (item line))) b c → HasPlayed (λ d. Scheduled a.plan d (schedule (map item (take (i + 1) lines)))) a c
-line_played lines i line a b c within at h k =
-    subst (λ ts. HasPlayed (λ d. Scheduled a.plan d ts) a c) (sym (schedule_more lines i line within at)) (played_more (schedule (map item (take i lines))) (turn_of (item line)) a b c h k)
+pub mark_played : (ms : List Mark) (i : ℕ) (mark : Mark) (a b c : MachineState) → i < length ms → mark ≡ get_or ms i mark →
+    HasPlayed (λ d. Scheduled a.plan d (schedule (map meant (take i ms)))) a b → HasPlayed (HasTurns b.plan (turn_of (meant mark))) b c → HasPlayed (λ d. Scheduled a.plan d (schedule (map meant (take (i + 1) ms)))) a c
+mark_played ms i mark a b c within at h k =
+    subst (λ ts. HasPlayed (λ d. Scheduled a.plan d ts) a c) (sym (schedule_more ms i mark within at)) (played_more (schedule (map meant (take i ms))) (turn_of (meant mark)) a b c h k)
 
 -- ## Seats that are drawn
 
@@ -224,20 +225,20 @@ drawn_played script n count seed a b e f h =
 
 -- ## A whole schedule
 
-pub whole_played : (lines : List Line) (i : ℕ) (a b : MachineState) → length lines ≤ i → HasPlayed (λ d. Scheduled a.plan d (schedule (map item (take i lines)))) a b → HasPlayed (λ d. Scheduled a.plan d (schedule (map item lines))) a b
-whole_played lines i a b h played = subst (λ ls. HasPlayed (λ d. Scheduled a.plan d (schedule (map item ls))) a b) (take_all i lines h) played
+pub whole_played : (ms : List Mark) (i : ℕ) (a b : MachineState) → length ms ≤ i → HasPlayed (λ d. Scheduled a.plan d (schedule (map meant (take i ms)))) a b → HasPlayed (λ d. Scheduled a.plan d (schedule (map meant ms))) a b
+whole_played ms i a b h played = subst (λ ls. HasPlayed (λ d. Scheduled a.plan d (schedule (map meant ls))) a b) (take_all i ms h) played
 
-pub by_lines : (script : List Item) (lines : List Line) (turns : List Turn) (a b : MachineState) → map item lines ≡ script → turns ≡ schedule script → HasPlayed (λ d. Scheduled a.plan d (schedule (map item lines))) a b → HasPlayed (λ d. Scheduled a.plan d turns) a b
-by_lines script lines turns a b e f played = subst (λ ts. HasPlayed (λ d. Scheduled a.plan d ts) a b) (ap schedule e ∙ sym f) played
+pub by_marks : (script : List Item) (ms : List Mark) (turns : List Turn) (a b : MachineState) → map meant ms ≡ map outlined script → turns ≡ schedule script → HasPlayed (λ d. Scheduled a.plan d (schedule (map meant ms))) a b → HasPlayed (λ d. Scheduled a.plan d turns) a b
+by_marks script ms turns a b e f played = subst (λ ts. HasPlayed (λ d. Scheduled a.plan d ts) a b) (ap schedule e ∙ schedule_same script ∙ sym f) played
 
 -- a line that isn't one of the schedule
-no_turn : (line : Line) → ((seat : Seat) (ticks : ℕ) → line ≡ lines.Tick seat ticks → ⊥) → ((seat : Seat) (kind : Kind) → line ≡ lines.To seat kind → ⊥) → turn_of (item line) ≡ None
-no_turn (lines.Tick seat ticks) h k = absurd (h seat ticks refl)
-no_turn (lines.To seat kind) h k = absurd (k seat kind refl)
+no_turn : (mark : Mark) → ((seat : Seat) (ticks : ℕ) → mark ≡ marks.Tick seat ticks → ⊥) → ((seat : Seat) (kind : Kind) → mark ≡ marks.To seat kind → ⊥) → turn_of (meant mark) ≡ None
+no_turn (marks.Tick seat ticks) h k = absurd (h seat ticks refl)
+no_turn (marks.To seat kind) h k = absurd (k seat kind refl)
 no_turn _ h k = refl
 
-pub unscheduled_line : (m : MachineState) (line : Line) → ((seat : Seat) (ticks : ℕ) → line ≡ lines.Tick seat ticks → ⊥) → ((seat : Seat) (kind : Kind) → line ≡ lines.To seat kind → ⊥) → HasPlayed (HasTurns m.plan (turn_of (item line))) m m
-unscheduled_line m line h k = other_line m (turn_of (item line)) (no_turn line h k)
+pub unscheduled_mark : (m : MachineState) (mark : Mark) → ((seat : Seat) (ticks : ℕ) → mark ≡ marks.Tick seat ticks → ⊥) → ((seat : Seat) (kind : Kind) → mark ≡ marks.To seat kind → ⊥) → HasPlayed (HasTurns m.plan (turn_of (meant mark))) m m
+unscheduled_mark m mark h k = other_line m (turn_of (meant mark)) (no_turn mark h k)
 
 pub by_draws : (turns drawn : List Turn) (a b : MachineState) → turns ≡ drawn → HasPlayed (λ d. Scheduled a.plan d drawn) a b → HasPlayed (λ d. Scheduled a.plan d turns) a b
 by_draws turns drawn a b e played = subst (λ ts. HasPlayed (λ d. Scheduled a.plan d ts) a b) (sym e) played

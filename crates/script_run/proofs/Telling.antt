@@ -46,22 +46,23 @@ module _ {A T : Type 0} (f : A → LinkEnd) (view : T → List ℕ) (ends : List
 
 -- what is printed of a script, by what was said, the place words and what the links took
 module _ {A L T E : Type 0} (items : T → List ℕ) (view : A → List ℕ) (ends_of : L → LinkEnd) (Prints : List Item → List (Option Outcome) → List PlaceWord → List (List ℕ) → List ℕ → Type 0) where
-  -- the text that was printed is that of what is left
-  pub reported : (r : Result T E) (lines : List Line) (script : List Item) (count : ℕ) (outcomes : List (ℕ × Outcome)) (said shown : List (Option Outcome)) (words : List PlaceWord) (links : List L) (took showing : List A) →
-      map item lines ≡ script → count ≡ length (operations script) → ((os : List (Option Outcome)) → length os ≡ count → outcomes ≡ told_from 0 os → said ≡ os) → shown ≡ said → showing ≡ took → AreTold (map ends_of links) (map view took) →
+  -- the text that was printed is that of what is left, where lines are printed that are reported like those of the script
+  pub reported : (r : Result T E) (lines : List Line) (kept script : List Item) (count : ℕ) (outcomes : List (ℕ × Outcome)) (said shown : List (Option Outcome)) (words : List PlaceWord) (links : List L) (took showing : List A) →
+      map item lines ≡ kept → ((os : List (Option Outcome)) (x : List (List ℕ)) (text : List ℕ) → Prints kept os words x text → Prints script os words x text) → count ≡ length (operations script) → ((os : List (Option Outcome)) → length os ≡ count → outcomes ≡ told_from 0 os → said ≡ os) → shown ≡ said → showing ≡ took → AreTold (map ends_of links) (map view took) →
       IfOk r (λ t. ArePlaces words → HasEachOutcome words shown → Prints (map item lines) shown words (map view showing) (items t)) →
       IfOk r (λ t. (os : List (Option Outcome)) → length os ≡ length (operations script) → outcomes ≡ told_from 0 os → ArePlaces words → HasEachOutcome words os → (x : List (List ℕ)) × AreTold (map ends_of links) x × Prints script os words x (items t))
-  reported (Ok t) lines script count outcomes said shown words links took showing e counted spread f s told h =
+  reported (Ok t) lines kept script count outcomes said shown words links took showing e alike counted spread f s told h =
       λ os many are places each.
       let is : shown ≡ os = f ∙ spread os (many ∙ sym counted) are in (
         map view took,
         told,
-        subst (λ xs. Prints xs os words (map view took) (items t)) e
+        alike os (map view took) (items t)
+            (subst (λ xs. Prints xs os words (map view took) (items t)) e
             (subst (λ xs. Prints (map item lines) xs words (map view took) (items t)) is
             (subst (λ xs. Prints (map item lines) shown words (map view xs) (items t)) s
-            (h places (subst (HasEachOutcome words) (sym is) each)))),
+            (h places (subst (HasEachOutcome words) (sym is) each))))),
       )
-  reported (Err x) lines script count outcomes said shown words links took showing e counted spread f s told h = tt
+  reported (Err x) lines kept script count outcomes said shown words links took showing e alike counted spread f s told h = tt
 
 -- a summary has the numbers of the report that is told
 pub summed : {T E : Type 0} (items : T → List ℕ) (shows : Print) (load : Load) (script : List Item) (said : List (Option Outcome)) (words : List PlaceWord) (took : List (List ℕ)) (r : Result T E) → shows ≡ print.Summary load →

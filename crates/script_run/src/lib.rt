@@ -2,7 +2,10 @@
 //! back, and prints the report, or a summary of it.
 #![tactic(auto)]
 
+mod mark;
+mod marks;
 mod outcomes;
+mod outline;
 mod report;
 mod run;
 mod schedule;

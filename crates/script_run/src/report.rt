@@ -10,9 +10,9 @@ ghost use Rattle.report_fits.specs.Ends.{AreTold};
 ghost use Rattle.script_run.specs.Played.{IsPrintOf};
 
 use crate::outcomes::said_of;
-use script_items::{Line, Script};
+use crate::outline::Outline;
+use script_items::Line;
 use script_report::{Load, print_report, print_summary};
-use script_tasks::plan_of;
 use sock_io::{Ends, In, Out, Peer};
 use sock_words::{Outcome, PlaceWord};
 use std::alloc::{AllocError, Global};
@@ -67,18 +67,19 @@ fn printed(
 /// The report of a run, or its summary, by the outcomes, the place words and the links that it left.
 pub fn report<O: Out, I: In, P: Peer>(
     alloc: Global,
-    script: &Script,
+    script: Outline,
     print: Print,
     outcomes: Vec<(u16, Outcome)>,
     places: &[PlaceWord],
     ends: &[Ends<O, I, P>],
 ) -> Result<Vec<u8>, AllocError>
-    requires script { (bytes : List ℕ) × (script_of bytes ≡ Ok script.now) }
-    ensures { IfOk result (λ text. (os : List (Option Outcome)) → length os ≡ length (operations script.now) → outcomes.items ≡ told_from 0 os → ArePlaces places.now → HasEachOutcome places.now os →
-        (took : List (List ℕ)) × AreTold (map (λ e. end_of (O.state e.out) (I.state e.inn)) ends.now) took × IsPrintOf print script.now os places.now took text.items) }
+    requires script { (bytes : List ℕ) × (script_of bytes ≡ Ok script) }
+    ensures { IfOk result (λ text. (os : List (Option Outcome)) → length os ≡ length (operations script) → outcomes.items ≡ told_from 0 os → ArePlaces places.now → HasEachOutcome places.now os →
+        (took : List (List ℕ)) × AreTold (map (λ e. end_of (O.state e.out) (I.state e.inn)) ends.now) took × IsPrintOf print script os places.now took text.items) }
 {
-    let plan = plan_of(alloc, script.lines())?;
+    let plan = script.plan();
+    let lines = script.into_lines(alloc)?;
     let said = said_of(alloc, plan.operations, outcomes)?;
     let took = taken_by(alloc, ends)?;
-    printed(alloc, print, script.lines(), &said, places, &took)
+    printed(alloc, print, &lines, &said, places, &took)
 }

@@ -17,11 +17,12 @@ ghost use Rattle.script_links.specs.Offered.{AreAsked, TellOffers};
 ghost use Rattle.script_run.specs.Played.{IsMade, HasRun, IsPrintOf, IsPrinted, TellClosed, turns_of};
 ghost use Rattle.report_fits.specs.Ends.{AreTold};
 
+use crate::outline::Outline;
 use crate::report::{Print, report};
 use crate::schedule::{Schedule, play_schedule};
 use script_items::Script;
 use script_links::{give_back, open_links};
-use sock_core::{Finished, Machine, NotMade};
+use sock_core::{Finished, Machine, NotMade, Prepared};
 use sock_io::{Ends, In, Linker, Mode, NoMemory, OpenFault, Out, Peer};
 use sock_words::{Outcome, PlaceWord};
 use std::alloc::Global;
@@ -40,21 +41,21 @@ pub enum RunFault {
 /// nothing is run, and nothing is put on the others.
 pub fn run_script<L: Linker>(
     alloc: Global,
-    script: &Script,
+    script: Script,
     schedule: Schedule,
     print: Print,
     links: &mut L,
 ) -> Result<Vec<u8>, RunFault>
-    requires script { (bytes : List ℕ) × (script_of bytes ≡ Ok script.now) }
-    requires pieces { list_all has_piece script.now ≡ true }
+    requires script { (bytes : List ℕ) × (script_of bytes ≡ Ok script) }
+    requires pieces { list_all has_piece script ≡ true }
     requires asked { L.asked links.old ≡ [] }
     requires back { L.back links.old ≡ [] }
-    ensures text { IfOk result (λ text. L.always_ready links.old ≡ true → TellClosed L.I.state → IsPrinted (TellOffers L.O.state L.I.state) print script.now (turns_of script.now schedule) text.items (L.back links.new)) }
+    ensures text { IfOk result (λ text. L.always_ready links.old ≡ true → TellClosed L.I.state → IsPrinted (TellOffers L.O.state L.I.state) print script (turns_of script schedule) text.items (L.back links.new)) }
     ensures unopened { IsErrOf result RunFault.OpenFailed → AreUntouched 0 (L.back links.new) }
-    ensures all { OnOk result (length (L.back links.new) ≡ length (link_names script.now)) }
+    ensures all { OnOk result (length (L.back links.new) ≡ length (link_names script)) }
     // What is asked of the links is what the lines of the script ask, all of it unless one could not be opened.
-    ensures asked { OnOk result (L.asked links.new ≡ specs_of Mode.Loop script.now) }
-    ensures front { IsBeginning (L.asked links.new) (specs_of Mode.Loop script.now) }
+    ensures asked { OnOk result (L.asked links.new ≡ specs_of Mode.Loop script) }
+    ensures front { IsBeginning (L.asked links.new) (specs_of Mode.Loop script) }
     ensures given_back { length (L.back links.new) ≡ length (L.asked links.new) }
     ensures numbered { AreNumbered 0 (L.back links.new) }
     ensures always_ready { L.always_ready links.new ≡ L.always_ready links.old }
@@ -84,26 +85,40 @@ fn not_opened(fault: OpenFault) -> RunFault
     }
 }
 
+/// What a machine wants of a script, and what the run wants of it besides.
+fn prepare(alloc: Global, script: Script) -> Result<(Prepared, Outline), NoMemory>
+    requires { (bytes : List ℕ) × (script_of bytes ≡ Ok script) }
+    ensures { IfOk result (λ both. (both.0 ≡ script) × (both.1 ≡ script)) }
+{
+    let Ok(prepared) = Prepared::of(alloc, &script) else {
+        return Err(NoMemory);
+    };
+    match Outline::of(alloc, script, prepared.plan()) {
+        Ok(outline) => Ok((prepared, outline)),
+        Err(_) => Err(NoMemory),
+    }
+}
+
 /// Runs a script over its links, and gives them back.
 fn run_over<L: Linker>(
     alloc: Global,
-    script: &Script,
+    script: Script,
     schedule: Schedule,
     print: Print,
     links: &mut L,
     ends: Vec<Ends<L::O, L::I, L::P>>,
 ) -> Result<Vec<u8>, RunFault>
-    requires script { (bytes : List ℕ) × (script_of bytes ≡ Ok script.now) }
+    requires script { (bytes : List ℕ) × (script_of bytes ≡ Ok script) }
     requires untouched { AreUntouched 0 (map (λ e. end_of (L.O.state e.out) (L.I.state e.inn)) ends.items) }
     requires unfinished { AllByRecursion (λ (e : Ends L.O L.I L.P). (L.O.state e.out).finished ≡ false) ends.items }
     requires unclosed { AllByRecursion (λ (e : Ends L.O L.I L.P). IfSome (L.I.state e.inn).closing (λ closing. closing ≡ false)) ends.items }
     requires always_ready { L.always_ready links.old ≡ true → AllByRecursion (λ (e : Ends L.O L.I L.P). (L.O.state e.out).always_ready ≡ true) ends.items }
-    requires offers { TellOffers L.O.state L.I.state → AreAsked (specs_of Mode.Loop script.now) (map (λ e. L.O.state e.out) ends.items) (map (λ e. L.I.state e.inn) ends.items) }
-    requires all { length ends.items ≡ length (link_names script.now) }
+    requires offers { TellOffers L.O.state L.I.state → AreAsked (specs_of Mode.Loop script) (map (λ e. L.O.state e.out) ends.items) (map (λ e. L.I.state e.inn) ends.items) }
+    requires all { length ends.items ≡ length (link_names script) }
     requires few { length ends.items ≤ 256 }
     requires opened { length (L.asked links.old) ≡ length ends.items }
     requires back { L.back links.old ≡ [] }
-    ensures text { IfOk result (λ text. L.always_ready links.old ≡ true → TellClosed L.I.state → IsPrinted (TellOffers L.O.state L.I.state) print script.now (turns_of script.now schedule) text.items (L.back links.new)) }
+    ensures text { IfOk result (λ text. L.always_ready links.old ≡ true → TellClosed L.I.state → IsPrinted (TellOffers L.O.state L.I.state) print script (turns_of script schedule) text.items (L.back links.new)) }
     ensures back { length (L.back links.new) ≡ length ends.items }
     ensures numbered { AreNumbered 0 (L.back links.new) }
     ensures asked { L.asked links.new ≡ L.asked links.old }
@@ -111,37 +126,42 @@ fn run_over<L: Linker>(
     ensures always_ready { L.always_ready links.new ≡ L.always_ready links.old }
     ensures known { IsErrOf result RunFault.OpenFailed → ⊥ }
 {
-    let machine = match Machine::new(alloc, script, ends) {
+    // Behind this its lines aren't there any more.
+    let Ok((prepared, outline)) = prepare(alloc, script) else {
+        give_back(links, ends);
+        return Err(RunFault::NoMemory);
+    };
+    let machine = match Machine::of(alloc, prepared, ends) {
         Ok(machine) => machine,
         Err(NotMade { ends: unused }) => {
             give_back(links, unused);
             return Err(RunFault::NoMemory);
         }
     };
-    run_on(alloc, script, schedule, print, links, machine)
+    run_on(alloc, outline, schedule, print, links, machine)
 }
 
 /// Runs a script on a machine, and gives its links back.
 fn run_on<L: Linker>(
     alloc: Global,
-    script: &Script,
+    script: Outline,
     schedule: Schedule,
     print: Print,
     links: &mut L,
     mut machine: Machine<L::O, L::I, L::P>,
 ) -> Result<Vec<u8>, RunFault>
-    requires script { (bytes : List ℕ) × (script_of bytes ≡ Ok script.now) }
-    requires made { IsMade script.now machine }
+    requires script { (bytes : List ℕ) × (script_of bytes ≡ Ok script) }
+    requires made { IsMade script machine }
     requires untouched { AreUntouched 0 machine.ends }
     requires always_ready { L.always_ready links.old ≡ true → AreAlwaysReady machine.links }
     requires tell { TellClosed L.I.state → TellClosing machine.links }
     requires closed { TellClosed L.I.state → AllByRecursion (λ (e : LinkEnd). e.closed ≢ None) machine.ends }
-    requires offers { TellOffers L.O.state L.I.state → AreAsked (specs_of Mode.Loop script.now) machine.links.outs machine.links.inns }
-    requires all { length machine.ends ≡ length (link_names script.now) }
+    requires offers { TellOffers L.O.state L.I.state → AreAsked (specs_of Mode.Loop script) machine.links.outs machine.links.inns }
+    requires all { length machine.ends ≡ length (link_names script) }
     requires few { length machine.ends ≤ 256 }
     requires opened { length (L.asked links.old) ≡ length machine.ends }
     requires back { L.back links.old ≡ [] }
-    ensures text { IfOk result (λ text. L.always_ready links.old ≡ true → TellClosed L.I.state → IsPrinted (TellOffers L.O.state L.I.state) print script.now (turns_of script.now schedule) text.items (L.back links.new)) }
+    ensures text { IfOk result (λ text. L.always_ready links.old ≡ true → TellClosed L.I.state → IsPrinted (TellOffers L.O.state L.I.state) print script (turns_of script schedule) text.items (L.back links.new)) }
     ensures back { length (L.back links.new) ≡ length machine.ends }
     ensures numbered { AreNumbered 0 (L.back links.new) }
     ensures asked { L.asked links.new ≡ L.asked links.old }
@@ -149,7 +169,7 @@ fn run_on<L: Linker>(
     ensures always_ready { L.always_ready links.new ≡ L.always_ready links.old }
     ensures known { IsErrOf result RunFault.OpenFailed → ⊥ }
 {
-    let played = play(alloc, &mut machine, links, script, schedule);
+    let played = play(&mut machine, links, &script, schedule);
     let Finished {
         outcomes,
         places,
@@ -163,17 +183,17 @@ fn run_on<L: Linker>(
 /// The report of a run that was played, or its summary, by what it left.
 fn report_played<O: Out, I: In, P: Peer>(
     alloc: Global,
-    script: &Script,
+    script: Outline,
     print: Print,
     played: Result<(), NoMemory>,
     outcomes: Vec<(u16, Outcome)>,
     places: &[PlaceWord],
     ends: &[Ends<O, I, P>],
 ) -> Result<Vec<u8>, RunFault>
-    requires script { (bytes : List ℕ) × (script_of bytes ≡ Ok script.now) }
+    requires script { (bytes : List ℕ) × (script_of bytes ≡ Ok script) }
     ensures played { IsOk result → IsOk played }
-    ensures text { IfOk result (λ text. (os : List (Option Outcome)) → length os ≡ length (operations script.now) → outcomes.items ≡ told_from 0 os → ArePlaces places.now → HasEachOutcome places.now os →
-        (took : List (List ℕ)) × AreTold (map (λ e. end_of (O.state e.out) (I.state e.inn)) ends.now) took × IsPrintOf print script.now os places.now took text.items) }
+    ensures text { IfOk result (λ text. (os : List (Option Outcome)) → length os ≡ length (operations script) → outcomes.items ≡ told_from 0 os → ArePlaces places.now → HasEachOutcome places.now os →
+        (took : List (List ℕ)) × AreTold (map (λ e. end_of (O.state e.out) (I.state e.inn)) ends.now) took × IsPrintOf print script os places.now took text.items) }
     ensures known { IsErrOf result RunFault.OpenFailed → ⊥ }
 {
     if played.is_err() {
@@ -187,10 +207,9 @@ fn report_played<O: Out, I: In, P: Peer>(
 
 /// Plays a schedule of a script, and then settles it.
 fn play<L: Linker>(
-    alloc: Global,
     machine: &mut Machine<L::O, L::I, L::P>,
     links: &mut L,
-    script: &Script,
+    script: &Outline,
     schedule: Schedule,
 ) -> Result<(), NoMemory>
     requires script { (bytes : List ℕ) × (script_of bytes ≡ Ok script.now) }
@@ -205,6 +224,6 @@ fn play<L: Linker>(
     ensures faults { L.faults links.new ≡ L.faults links.old }
     ensures always_ready { L.always_ready links.new ≡ L.always_ready links.old }
 {
-    play_schedule(alloc, machine, links, script, schedule)?;
+    play_schedule(machine, links, script, schedule)?;
     machine.settle(links)
 }

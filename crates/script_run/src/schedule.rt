@@ -5,18 +5,19 @@ ghost use Rattle.seat_programs.specs.Ticks.{seats_of};
 ghost use Rattle.seat_programs.specs.Runs.{LeadsUpTo, Scheduled};
 ghost use Rattle.seat_programs.specs.Scripts.{drawn_turns};
 ghost use Rattle.brpc_model.specs.Operations.{seat_number, turn_of, schedule};
-ghost use Rattle.script_items.specs.Meaning.{item, seat_of};
+ghost use Rattle.script_items.specs.Meaning.{seat_of};
 ghost use Rattle.sock_words.specs.KindText.{kind_text};
 ghost use Rattle.sock_core.specs.Runs.{SameLinks};
+ghost use Rattle.script_run.specs.Outlines.{meant};
 ghost use Rattle.script_run.specs.Played.{IsPlayable, HasPlayed, HasTurns, turns_of};
 
-use script_items::{Line, Script, Seat};
+use crate::mark::Mark;
+use crate::outline::Outline;
+use script_items::Seat;
 use script_print::DrawnSeats;
-use script_tasks::plan_of;
 use sock_core::{Machine, Tick};
 use sock_io::{Linker, NoMemory};
 use sock_words::Kind;
-use std::alloc::Global;
 
 /// By which schedule a script is run.
 #[derive(Clone, Copy, Debug, PartialEq, Eq)]
@@ -108,14 +109,14 @@ fn play_until<L: Linker>(
     machine.tick_until(links, seat, kind)
 }
 
-/// Plays a line, where it is one of the schedule.
-fn play_line<L: Linker>(
+/// Plays a line by its mark, where it is one of the schedule.
+fn play_mark<L: Linker>(
     machine: &mut Machine<L::O, L::I, L::P>,
     links: &mut L,
-    line: &Line,
+    mark: &Mark,
 ) -> Result<(), NoMemory>
     requires playable { IsPlayable machine.old }
-    ensures played { OnOk result (HasPlayed (HasTurns machine.old.plan (turn_of (item line.now))) machine.old machine.new) }
+    ensures played { OnOk result (HasPlayed (HasTurns machine.old.plan (turn_of (meant mark.now))) machine.old machine.new) }
     ensures playable { OnOk result (IsPlayable machine.new) }
     ensures ends { SameLinks machine.old machine.new }
     ensures asked { L.asked links.new ≡ L.asked links.old }
@@ -125,21 +126,21 @@ fn play_line<L: Linker>(
     ensures faults { L.faults links.new ≡ L.faults links.old }
     ensures always_ready { L.always_ready links.new ≡ L.always_ready links.old }
 {
-    match line {
-        Line::Tick { seat, ticks } => play_ticks(machine, links, seat_number(*seat), *ticks),
-        Line::To { seat, kind } => play_until(machine, links, seat_number(*seat), *kind),
+    match mark {
+        Mark::Tick { seat, ticks } => play_ticks(machine, links, seat_number(*seat), *ticks),
+        Mark::To { seat, kind } => play_until(machine, links, seat_number(*seat), *kind),
         _ => Ok(()),
     }
 }
 
 /// Plays the lines of the schedule, in order.
-fn play_lines<L: Linker>(
+fn play_marks<L: Linker>(
     machine: &mut Machine<L::O, L::I, L::P>,
     links: &mut L,
-    lines: &[Line],
+    marks: &[Mark],
 ) -> Result<(), NoMemory>
     requires playable { IsPlayable machine.old }
-    ensures played { OnOk result (HasPlayed (λ c. Scheduled machine.old.plan c (schedule (map item lines.now))) machine.old machine.new) }
+    ensures played { OnOk result (HasPlayed (λ c. Scheduled machine.old.plan c (schedule (map meant marks.now))) machine.old machine.new) }
     ensures playable { OnOk result (IsPlayable machine.new) }
     ensures ends { SameLinks machine.old machine.new }
     ensures asked { L.asked links.new ≡ L.asked links.old }
@@ -149,18 +150,17 @@ fn play_lines<L: Linker>(
     ensures faults { L.faults links.new ≡ L.faults links.old }
     ensures always_ready { L.always_ready links.new ≡ L.always_ready links.old }
 {
-    for line in lines {
-        play_line(machine, links, line)?;
+    for mark in marks {
+        play_mark(machine, links, mark)?;
     }
     Ok(())
 }
 
 /// Plays a tick of each seat that is drawn from a seed.
 fn play_drawn<L: Linker>(
-    alloc: Global,
     machine: &mut Machine<L::O, L::I, L::P>,
     links: &mut L,
-    script: &Script,
+    script: &Outline,
     seed: u64,
 ) -> Result<(), NoMemory>
     requires script { (bytes : List ℕ) × (script_of bytes ≡ Ok script.now) }
@@ -175,9 +175,7 @@ fn play_drawn<L: Linker>(
     ensures faults { L.faults links.new ≡ L.faults links.old }
     ensures always_ready { L.always_ready links.new ≡ L.always_ready links.old }
 {
-    let Ok(plan) = plan_of(alloc, script.lines()) else {
-        return Err(NoMemory);
-    };
+    let plan = script.plan();
     let mut seats = DrawnSeats::new(plan.seats - 1, plan.links, seed);
     for _ in 0..seats.count(plan.operations) {
         let seat = seats.next_seat();
@@ -188,10 +186,9 @@ fn play_drawn<L: Linker>(
 
 /// Plays a schedule of a script.
 pub fn play_schedule<L: Linker>(
-    alloc: Global,
     machine: &mut Machine<L::O, L::I, L::P>,
     links: &mut L,
-    script: &Script,
+    script: &Outline,
     schedule: Schedule,
 ) -> Result<(), NoMemory>
     requires script { (bytes : List ℕ) × (script_of bytes ≡ Ok script.now) }
@@ -207,7 +204,7 @@ pub fn play_schedule<L: Linker>(
     ensures always_ready { L.always_ready links.new ≡ L.always_ready links.old }
 {
     match schedule {
-        Schedule::Own => play_lines(machine, links, script.lines()),
-        Schedule::Drawn(seed) => play_drawn(alloc, machine, links, script, seed),
+        Schedule::Own => play_marks(machine, links, script.marks()),
+        Schedule::Drawn(seed) => play_drawn(machine, links, script, seed),
     }
 }

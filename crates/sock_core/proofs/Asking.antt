@@ -58,6 +58,15 @@ at_there items j k x y there at = ap (λ i. slice_index_or items i x) there ∙ 
     found (z ∷ l) zero e = cc
     found (z ∷ l) (suc i) e = found l i e
 
+-- and so is what is read off it
+pub there_in : {A B : Type 0} (f : A → B) (items : List A) (j k : ℕ) (x : A) (y : B) → j ≡ k → get_elem? (map f items) k ≡ some y → f (slice_index_or items j x) ≡ y
+there_in f items j k x y there at = ap (λ i. f (slice_index_or items i x)) there ∙ found items k at
+  where
+    found : (l : List _) (i : ℕ) → get_elem? (map f l) i ≡ some y → f (slice_index_or l i x) ≡ y
+    found [] i e = cc
+    found (z ∷ l) zero e = cc
+    found (z ∷ l) (suc i) e = found l i e
+
 pub inside_list : {A : Type 0} (l : List A) (i : ℕ) (a : A) → get_elem? l i ≡ some a → i < length l
 inside_list l i a e = place_inside l i a e
 

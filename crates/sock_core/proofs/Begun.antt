@@ -16,7 +16,9 @@ use Rattle.seat_states.specs.declared.point.Point.TheVariants as point
 use Rattle.reader_seats.specs.Readers.{ReaderData, reader_program}
 use Rattle.client_seats.specs.Following.{FollowsOn}
 use Rattle.client_seats.specs.Seats.{SeatData, seat_program, client_of}
+use Rattle.sock_core.specs.declared.letter.Letter.{Letter}
 use Rattle.sock_core.specs.Beginnings.{AreBegun, AreReading, said_first}
+use Rattle.sock_core.specs.Letters.{letters_in}
 use Rattle.sock_core.proofs.Lengths.{length_said}
 use Rattle.sock_core.proofs.Stepping.{written}
 
@@ -127,3 +129,8 @@ told_length os (x ∷ ps) = told_length (said (resolved [] x) os) ps ∙ length_
 -- what was written over all of a list
 pub written_over : {A : Type 0} (n : ℕ) (xs ys : List A) → length xs ≡ n → take n (xs ++ drop (length xs) ys) ≡ xs
 written_over n xs ys e = written n xs (drop (length xs) ys) e
+
+-- homes without a message
+pub none_in : (n : ℕ) → letters_in (replicate n None) ≡ replicate n None
+none_in zero = refl
+none_in (suc n) = ap (λ (l : List (Option Letter)). None ∷ l) (none_in n)

@@ -60,22 +60,28 @@ either true x y a b = a
 either false x y a b = b
 
 recycle_none : (i from : ℕ) (next : Bool → Program) → ((b : Bool) → AsksNone (next b)) → AsksNone (recycle i from next)
-recycle_none i from next after = λ found. either (found == from) _ _
-    (λ k a b d. either (nat_le (vref_version from + 1) LAST_VERSION) _ _ (λ e. after true) (after true)) (after false)
+recycle_none i from next after = (
+  tt,
+  λ found. either (found == from) _ _
+      (tt, λ k. (tt, λ a. (tt, λ b. (tt, λ d. either (nat_le (vref_version from + 1) LAST_VERSION) _ _ (tt, λ e. after true) (after true))))) (after false),
+)
 
 release_none : (i : ℕ) (next : Bool → Program) → ((b : Bool) → AsksNone (next b)) → AsksNone (release i next)
-release_none i next after = λ found. either ((vref_version found % 2 == 1) && (vref_nref found == 1)) _ _ (recycle_none i (found - 1) next after) (after false)
+release_none i next after = (tt, λ found. either ((vref_version found % 2 == 1) && (vref_nref found == 1)) _ _ (recycle_none i (found - 1) next after) (after false))
 
 address_none : (id : ℕ) (held : Program) (gone : ℕ → Program) → AsksNone held → ((found : ℕ) → AsksNone (gone found)) → AsksNone (address id held gone)
-address_none id held gone h after = λ found. either (vref_version found == socket_id_version id) _ _ h (release_none (socket_id_slot id) (λ b. gone found) (λ b. after found))
+address_none id held gone h after = (tt, λ found. either (vref_version found == socket_id_version id) _ _ h (release_none (socket_id_slot id) (λ b. gone found) (λ b. after found)))
 
 set_failed_none : (id code : ℕ) (next : ℕ → Program) → ((found : ℕ) → AsksNone (next found)) → AsksNone (set_failed id code next)
-set_failed_none id code next after = λ found. either (vref_version found % 2 == 0) _ _ (λ a b. after found) (after found)
+set_failed_none id code next after = (tt, λ found. either (vref_version found % 2 == 0) _ _ (tt, λ a. (tt, λ b. after found)) (after found))
 
 end_none : (o : ℕ) (next : Program) → AsksNone next → AsksNone (end_open o next)
-end_none o next x = λ word. either (word == 0) _ _ x (either (word == NO_SOCKET) _ _ x
-    (address_none (word - 1) (set_failed (word - 1) 1014 (λ found. release (socket_id_slot (word - 1)) (λ b. next))) (λ found. next)
-    (set_failed_none (word - 1) 1014 (λ found. release (socket_id_slot (word - 1)) (λ b. next)) (λ found. release_none (socket_id_slot (word - 1)) (λ b. next) (λ b. x))) (λ found. x)))
+end_none o next x = (
+  tt,
+  λ word. either (word == 0) _ _ x (either (word == NO_SOCKET) _ _ x
+      (address_none (word - 1) (set_failed (word - 1) 1014 (λ found. release (socket_id_slot (word - 1)) (λ b. next))) (λ found. next)
+      (set_failed_none (word - 1) 1014 (λ found. release (socket_id_slot (word - 1)) (λ b. next)) (λ found. release_none (socket_id_slot (word - 1)) (λ b. next) (λ b. x))) (λ found. x))),
+)
 
 ending_none : (os : List ℕ) → AsksNone (ending_of os)
 ending_none [] = tt

@@ -104,8 +104,9 @@ either true x y a b = a
 either false x y a b = b
 
 open_none : (more i o name k : ℕ) (next : Program) → AsksNone next → AsksNone (open_from more i o name k next)
-open_none zero i o name k next x = λ a b d e. (λ h. cc, x)
-open_none (suc more) i o name k next x = λ found. either (found == 0) _ _ (λ a b d e f g. (λ h. cc, x)) (open_none more (i + 1) o name k next x)
+open_none zero i o name k next x = (tt, λ a. (tt, λ b. (tt, λ d. (tt, λ e. (λ h. cc, x)))))
+open_none (suc more) i o name k next x =
+    (tt, λ found. either (found == 0) _ _ (tt, λ a. (tt, λ b. (tt, λ d. (tt, λ e. (tt, λ f. (tt, λ g. (λ h. cc, x))))))) (open_none more (i + 1) o name k next x))
 
 task_none : (sizes : Sizes) (o : ℕ) (next : List HeldLife → Program) (op : Op) → IsOpen op → AsksNone (next []) → AsksNone (operation sizes [] o next op)
 task_none sizes o next (ops.Open name k) own x = open_none sizes.slots 0 o name k (next []) x

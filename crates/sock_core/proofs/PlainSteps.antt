@@ -114,7 +114,7 @@ first_call Rest first e x = cc
 first_call _ first e x = absurd x
 
 after_none : (program : Program) (found : ℕ) → AsksNone program → AsksNone (after_word program found)
-after_none (Do call after) found x = x found
+after_none (Do call after) found x = x.1 found
 after_none (Say o outcome after) found x = x
 after_none (Sent o after) found x = x
 after_none (Retries requests after) found x = x
@@ -135,7 +135,7 @@ none_either true x y f g h = f h
 none_either false x y f g h = g h
 
 freed_asks : (now : ℕ) (next : Program) → (AsksNone next → ⊥) → AsksNone (freed now next) → ⊥
-freed_asks now next f = none_either (generation_of now == LAST_GENERATION) next (Do (calls.FreeRequest (slot_of now) (generation_of now)) (λ _. next)) f (λ x. f (x 0))
+freed_asks now next f = none_either (generation_of now == LAST_GENERATION) next (Do (calls.FreeRequest (slot_of now) (generation_of now)) (λ _. next)) f (λ x. f (x.1 0))
 
 -- what it needs is in hand, and it stands
 plain_stands : (a : Context) (p : Point) → AsksNone (point_program a p) → HasInHand a p × (framed p a ≡ a) × HasLinkAt p × TellsCodeAt p
@@ -151,14 +151,14 @@ plain_stands a (points.Retry r (retries.Lock at)) x = (tt, refl, tt, tt)
 plain_stands a (points.Retry r (retries.TakeCall w)) x = (tt, refl, tt, tt)
 plain_stands a (points.Retry r (retries.PutCall w)) x = absurd x
 plain_stands a (points.Retry r (retries.Unlock w advance)) x = absurd x
-plain_stands a (points.Retry r retries.LoadName) x = absurd (x 0)
-plain_stands a (points.Write w (writes.DropPlace c n)) x = absurd (dropped c.author (x 0))
+plain_stands a (points.Retry r retries.LoadName) x = absurd (x.1 0)
+plain_stands a (points.Write w (writes.DropPlace c n)) x = absurd (dropped c.author (x.1 0))
   where
     told : (author : Author) (next : Program) → (AsksNone next → ⊥) → AsksNone (tell_drop (heading_by author a.left_parts) n next) → ⊥
     told author next f = none_either ((heading_by author a.left_parts).owner == 0) next _ f (λ y. y)
 
     dropped : (author : Author) → AsksNone (passed_telling (one_more (holder_of w.holder)) c.ticket.0 (tell author a.left_parts n) (written_program a w)) → ⊥
-    dropped author = none_either (c.ticket.0 == w.holder.last.0) _ _ (freed_asks c.ticket.0 _ (told author _ (λ y. y))) (λ y. freed_asks c.ticket.0 _ (told author _ (λ z. z)) (y 0))
+    dropped author = none_either (c.ticket.0 == w.holder.last.0) _ _ (freed_asks c.ticket.0 _ (told author _ (λ y. y))) (λ y. freed_asks c.ticket.0 _ (told author _ (λ z. z)) (y.1 0))
 plain_stands a (points.Write w writes.EmptyHead) x = (tt, refl, tt, tt)
 plain_stands a (points.Write w writes.PutHome) x = (tt, refl, tt, tt)
 plain_stands a (points.Write w _) x = (tt, refl, tt, tt)

@@ -1,6 +1,7 @@
 -- A seat that asks no link, makes no step aside of the sockets and holds no life wants no room.
 use Rattle.std.proofs.Common.{◌≡◌, refl, ℕ, ◌<◌, ◌⊎◌, inl, inr, Some, vec_len, vec_capacity, sym, subst}
 use Rattle.sock_words.specs.declared.socket_id.SocketId.{SocketId}
+use Rattle.seat_programs.specs.Calls.{Call}
 use Rattle.seat_programs.specs.Programs.{Program, Do, Say, Sent, Rest, Retries}
 use Rattle.call_points.specs.Steps.{after_word}
 use Rattle.seat_states.specs.declared.point.Next.{Next}
@@ -11,11 +12,11 @@ use Rattle.client_seats.specs.declared.seat.Seat.{Seat}
 use Rattle.client_seats.specs.Seats.{seat_data, seat_program}
 use Rattle.client_seats.specs.Following.{HasRoom}
 use Rattle.sock_core.specs.Machines.{TableState, table_sizes}
-use Rattle.sock_core.specs.Driving.{AsksNone}
+use Rattle.sock_core.specs.Driving.{PutsNone, AsksNone}
 use Rattle.sock_core.proofs.FirstSteps.{same_some}
 
 after_none : (program : Program) (found : ℕ) → AsksNone program → AsksNone (after_word program found)
-after_none (Do call next) found x = x found
+after_none (Do call next) found x = x.1 found
 after_none (Say o outcome next) found x = x
 after_none (Sent o next) found x = x
 after_none (Retries requests after) found x = x
@@ -35,6 +36,15 @@ only_calls (Sent o next) first e x = cc
 only_calls (Retries requests after) first e x = cc
 only_calls Rest first e x = cc
 only_calls _ first e x = absurd x
+
+-- and that is none of a message
+pub puts_none : (program : Program) (call : Call) → first_in program ≡ Some (OfCall call) → AsksNone program → PutsNone call
+puts_none (Do own next) call e x = let same : own ≡ call = cc in subst PutsNone same x.0
+puts_none (Say o outcome next) call e x = cc
+puts_none (Sent o next) call e x = cc
+puts_none (Retries requests after) call e x = cc
+puts_none Rest call e x = cc
+puts_none _ call e x = absurd x
 
 no_hold : (a : Context) (program : Program) (found : ℕ) (n : Next) → AsksNone program → next_program a n ≡ after_word program found → (o name : ℕ) (id : SocketId) → n ≡ nexts.Held o name id → ⊥
 no_hold a program found n plain is o name id held =

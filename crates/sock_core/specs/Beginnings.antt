@@ -1,6 +1,7 @@
 -- How a machine begins.
 use Rattle.std.specs.Prelude.{ℕ, ◌≡◌, false, List, [], map, fold, replicate, Option, None}
 use Rattle.std.specs.List.{AllByRecursion}
+use Rattle.brpc_model.specs.Items.{Item}
 use Rattle.sock_words.specs.declared.plain.Plan.{Plan}
 use Rattle.sock_words.specs.declared.outcome.Outcome.{Outcome}
 use Rattle.corr_core.specs.declared.marks.Plan.{Plan as IdPlan}
@@ -8,7 +9,8 @@ use Rattle.seat_programs.specs.declared.task.Task.{Task}
 use Rattle.seat_programs.specs.declared.task.Sizes.{Sizes}
 use Rattle.seat_programs.specs.Programs.{Program}
 use Rattle.seat_programs.specs.Cores.{said, next_step, resolved}
-use Rattle.seat_programs.specs.Scripts.{opening_words, opening_calls, programs, readers_from, sizes_of}
+use Rattle.seat_programs.specs.Scripts.{opening_words, opening_calls, programs, readers_from, sizes_of, all_tasks}
+use Rattle.seat_programs.specs.Tasks as wants
 use Rattle.call_slots.specs.Slots.{SlotState, calls_with}
 use Rattle.reader_seats.specs.Readers.{ReaderData, reader_program}
 use Rattle.sock_core.specs.declared.letter.Letter.{Letter}
@@ -37,3 +39,11 @@ pub record AreParts (p : Plan) (q : IdPlan) (clients : List (List Task)) (calls 
   pub seats_are : AreBegun (sizes_of p q) ss clients
   pub readers_are : AreReading calls opens rs
   pub outcomes_are : os ≡ said_first (replicate p.operations None) (programs (sizes_of p q) clients)
+
+-- what a script wants of a machine: the sizes of its tables, the tasks of each client, and which operations are calls and `open`s
+pub record IsWanted (script : List Item) (p : Plan) (q : IdPlan) (clients : List (List Task)) (calls opens : List ℕ) : Type 0 where
+  pub plan : p ≡ wants.plan_of script
+  pub id_plan : q ≡ wants.id_plan_of script
+  pub tasks : clients ≡ all_tasks script
+  pub calls_are : calls ≡ wants.calls script
+  pub opens_are : opens ≡ wants.opens script

@@ -2,6 +2,7 @@
 use Rattle.std.specs.Prelude.{ℕ, ◌≡◌, ◌≢◌, ◌-◌, ◌<◌, ◌≤◌, true, false, [], slice_set}
 use mathlib.Core.Option as core
 use lib.ListN.{get_elem?}
+use Rattle.seat_programs.specs.Calls.{Call, PutMessage}
 use Rattle.seat_programs.specs.Programs.{Program, Do, Say, Sent, Rest, Retries}
 use Rattle.seat_programs.specs.Clients.{ending_of}
 use Rattle.seat_programs.specs.Cores.{next_step}
@@ -45,9 +46,15 @@ IsOther other kind = ⊥
 
 -- ## Seat 0, which asks no link, holds no life and calls nothing
 
--- neither the program nor what follows asks a link, makes a step aside of the sockets, comes to where a link is written, or holds a life
+-- a step that puts no message into its home
+abbrev pub PutsNone : Call → Type 0
+PutsNone (PutMessage request heading bytes) = ⊥
+PutsNone other = Unit {0}
+
+-- neither the program nor what follows asks a link, sends a message, makes a step aside of the sockets, comes to where a link is written, or
+-- holds a life
 abbrev pub AsksNone : Program → Type 0
-AsksNone (Do call next) = (found : ℕ) → AsksNone (next found)
+AsksNone (Do call next) = PutsNone call × ((found : ℕ) → AsksNone (next found))
 AsksNone (Say o outcome next) = (outcome ≢ Held) × AsksNone next
 AsksNone (Sent o next) = AsksNone next
 AsksNone Rest = Unit {0}

@@ -1,3 +1,4 @@
+pub mod Letters
 pub mod Links
 pub mod Machines
 pub mod Runs

@@ -1,39 +1,54 @@
-ghost use Rattle.std.specs.Prelude.{◌≡◌, ◌≢◌, ◌<◌, ℕ, [], Some, None, option_map, length, slice_set, slice_index_or};
+ghost use Rattle.std.specs.Prelude.{◌≡◌, ◌≢◌, ◌<◌, ℕ, [], Some, None, OnOk, OnErr, option_map, length, slice_set, slice_index_or};
 ghost use mathlib.Core.Option.{some};
 ghost use lib.ListN.{get_elem?};
 ghost use Rattle.sock_core.specs.declared.letter.Letter.{Letter};
 ghost use Rattle.message_parts.specs.Parcels.{parcel_of, outgoing_of};
 ghost use Rattle.client_seats.specs.Seats.{bytes_of, message_in, call_in};
+ghost use Rattle.sock_core.specs.Letters.{letters_in};
 
 use crate::letter::Letter;
 use client_seats::InHand;
 use message_parts::OutgoingParcel;
 use seat_states::Author;
+use sock_io::NoMemory;
+use std::alloc::Global;
 
-/// The message that a seat has in hand goes to the home of a request, for its author.
-pub fn put_message(letters: &mut [Option<Letter>], request: u16, author: Author, hand: &mut InHand)
+/// The message that a seat has in hand goes to the home of a request, for its author. The memory is for the message there.
+pub fn put_message(
+    alloc: Global,
+    letters: &mut [Option<Box<Letter>>],
+    request: u16,
+    author: Author,
+    hand: &mut InHand,
+) -> Result<(), NoMemory>
     requires there { request < length letters.old }
     requires some { bytes_of (message_in hand.old) ≢ [] }
-    ensures letters { (letter : Letter) × (letter.author ≡ author) × (Some (parcel_of letter.message) ≡ message_in hand.old) × (letters.new ≡ slice_set letters.old request (Some letter)) }
-    ensures rest { (message_in hand.new ≡ None) × (call_in hand.new ≡ call_in hand.old) }
+    ensures letters { OnOk result ((letter : Letter) × (letter.author ≡ author) × (Some (parcel_of letter.message) ≡ message_in hand.old) × (letters_in letters.new ≡ slice_set (letters_in letters.old) request (Some letter))) }
+    ensures rest { OnOk result ((message_in hand.new ≡ None) × (call_in hand.new ≡ call_in hand.old)) }
+    ensures err { OnErr result (letters.new ≡ letters.old) }
 {
     if let Some(message) = hand.take_message() {
-        letters[usize::from(request)] = Some(Letter { author, message });
+        let Ok(letter) = Box::new(alloc, Letter { author, message }) else {
+            return Err(NoMemory);
+        };
+        letters[usize::from(request)] = Some(letter);
     }
+    Ok(())
 }
 
 /// The message of a request is taken out of its home; who sent it.
 pub fn take_message(
-    letters: &mut [Option<Letter>],
+    letters: &mut [Option<Box<Letter>>],
     request: u16,
     out: &mut Option<OutgoingParcel>,
 ) -> Author
-    requires there { (letter : Letter) × (get_elem? letters.old request ≡ some (Some letter)) }
-    ensures taken { (letter : Letter) × (get_elem? letters.old request ≡ some (Some letter)) × (result ≡ letter.author) × (option_map outgoing_of out.new ≡ Some (record { left = (parcel_of letter.message).bytes; taken = 0; parts = (parcel_of letter.message).parts })) }
-    ensures letters { letters.new ≡ slice_set letters.old request None }
+    requires there { (letter : Letter) × (get_elem? (letters_in letters.old) request ≡ some (Some letter)) }
+    ensures taken { (letter : Letter) × (get_elem? (letters_in letters.old) request ≡ some (Some letter)) × (result ≡ letter.author) × (option_map outgoing_of out.new ≡ Some (record { left = (parcel_of letter.message).bytes; taken = 0; parts = (parcel_of letter.message).parts })) }
+    ensures letters { letters_in letters.new ≡ slice_set (letters_in letters.old) request None }
 {
     match letters[usize::from(request)].take() {
-        Some(letter) => {
+        Some(home) => {
+            let letter = Box::into_inner(home);
             *out = Some(letter.message.begin());
             letter.author
         }

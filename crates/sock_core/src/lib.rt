@@ -8,6 +8,7 @@ mod inputs;
 mod letter;
 mod link_calls;
 mod machine;
+mod prepared;
 mod reading;
 mod setup;
 mod table;
@@ -17,3 +18,4 @@ mod words;
 
 pub use finished::Finished;
 pub use machine::{Machine, NotMade, On, Tick};
+pub use prepared::Prepared;

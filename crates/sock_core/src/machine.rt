@@ -14,7 +14,8 @@ ghost use Rattle.sock_core.specs.Runs.{SameLinks, SameTable, Ticked, Led, Still,
 ghost use Rattle.sock_core.specs.Driving.{LastsAtMost, LeavesFewer, Leaves, IsLast, IsOther, IsPlain, FirstRests, TickedFirst, told_ending};
 
 use crate::finished::{Finished, gather, gather_places};
-use crate::inputs::{Wanted, wanted_of};
+use crate::inputs::Wanted;
+use crate::prepared::Prepared;
 use crate::setup::{Parts, parts_of};
 use crate::table::Table;
 use crate::tables::{READERS, Tables};
@@ -427,10 +428,37 @@ impl<O: Out, I: In, P: Peer> Machine<O, I, P> {
         ensures offers { IfOk result (λ m. StayOffered (map (λ (e : _). O.state e.out) ends.items) (map (λ (e : _). I.state e.inn) ends.items) m.links) }
         ensures back { IfErr result (λ e. e.ends ≡ ends) }
     {
-        let Ok(wanted) = wanted_of(alloc, script) else {
+        let Ok(prepared) = Prepared::of(alloc, script) else {
             return Err(NotMade { ends });
         };
-        let mut machine = Machine::start(alloc, wanted, ends)?;
+        Machine::of(alloc, prepared, ends)
+    }
+
+    /// The same of a script that was prepared, of which no line is needed any more.
+    pub fn of(
+        alloc: Global,
+        script: Prepared,
+        ends: Vec<Ends<O, I, P>>,
+    ) -> Result<Self, NotMade<O, I, P>>
+        requires script { (bytes : List ℕ) × (script_of bytes ≡ Ok script) }
+        requires links { length ends.items ≡ length (link_names script) }
+        requires fresh { AllByRecursion (λ (e : _). (O.state e.out).finished ≡ false) ends.items }
+        requires unused { AllByRecursion (λ (e : _). IfSome (O.state e.out).took (λ bytes. bytes ≡ [])) ends.items }
+        requires silent { AllByRecursion (λ (e : _). ((I.state e.inn).gave ≡ 0) × IfSome (I.state e.inn).gave_bytes (λ bytes. bytes ≡ [])) ends.items }
+        requires unclosed { AllByRecursion (λ (e : _). IfSome (I.state e.inn).closing (λ closing. closing ≡ false)) ends.items }
+        ensures plan { IfOk result (λ m. (m.plan ≡ plan_of script) × (m.ids.plan ≡ id_plan_of script)) }
+        ensures opens { IfOk result (λ m. (m.opens ≡ opens script) × (m.calls ≡ calls script)) }
+        ensures agrees { IfOk result (λ m. Agrees m.links (λ k. []) × AgreesGave m.links (λ k. [])) }
+        ensures core { IfOk result (λ m. (n : ℕ) × (core_with m (λ k. []) (λ k. []) ≡ set_up script n)) }
+        ensures rest { IfOk result FirstRests }
+        ensures enough { IfOk result (λ m. (m.short ≡ false) × (m.ending ≡ false)) }
+        ensures ends { IfOk result (λ m. m.ends ≡ map (λ (e : _). end_of (O.state e.out) (I.state e.inn)) ends.items) }
+        ensures outs { IfOk result (λ m. AllByRecursion (λ (e : _). (O.state e.out).always_ready ≡ true) ends.items → AreAlwaysReady m.links) }
+        ensures tell { IfOk result (λ m. AllByRecursion (λ (e : _). (I.state e.inn).closing ≢ None) ends.items → TellClosing m.links) }
+        ensures offers { IfOk result (λ m. StayOffered (map (λ (e : _). O.state e.out) ends.items) (map (λ (e : _). I.state e.inn) ends.items) m.links) }
+        ensures back { IfErr result (λ e. e.ends ≡ ends) }
+    {
+        let mut machine = Machine::start(alloc, script.into_wanted(), ends)?;
         machine.run_first();
         Ok(machine)
     }

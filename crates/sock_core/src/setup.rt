@@ -1,6 +1,7 @@
 ghost use Rattle.std.specs.Prelude.{◌≡◌, ◌*◌, ◌≤◌, ℕ, List, [], None, IfOk, OnOk, ◌++◌, length, map, replicate, vec_len, vec_capacity};
 ghost use Rattle.seat_programs.specs.Scripts.{free_slot, free_slots, opening_words, programs};
 ghost use Rattle.client_seats.specs.Seats.{seat_data};
+ghost use Rattle.sock_core.specs.Letters.{letters_in};
 ghost use Rattle.sock_core.specs.Beginnings.{AreBegun, AreReading, AreParts, said_first};
 
 use crate::letter::Letter;
@@ -45,10 +46,10 @@ fn push_zeros(words: &mut Vec<u64>, count: usize) -> Result<(), AllocError>
 fn opening_words(alloc: Global, plan: &Plan) -> Result<Vec<u64>, AllocError>
     ensures { IfOk result (λ words. words.items ≡ opening_words plan.now) }
 {
-    let mut words = Vec::new(alloc);
-    push_slots(&mut words, plan.slots, plan.first)?;
     let requests = 2 * usize::from(plan.requests);
     let others = usize::from(plan.names) + 9 * usize::from(plan.operations) + requests;
+    let mut words = Vec::with_capacity(alloc, 6 * usize::from(plan.slots) + others)?;
+    push_slots(&mut words, plan.slots, plan.first)?;
     push_zeros(&mut words, others)?;
     Ok(words)
 }
@@ -57,7 +58,7 @@ fn opening_words(alloc: Global, plan: &Plan) -> Result<Vec<u64>, AllocError>
 fn empty_places<T: Drop>(alloc: Global, count: u16) -> Result<Vec<Option<T>>, AllocError>
     ensures { IfOk result (λ places. places.items ≡ replicate count None) }
 {
-    let mut places = Vec::new(alloc);
+    let mut places = Vec::with_capacity(alloc, usize::from(count))?;
     for _ in 0..count {
         places.push(None)?;
     }
@@ -113,7 +114,7 @@ fn readers_of(alloc: Global, opens: &VecDeque<u16>) -> Result<Vec<ReaderSeat>, A
 pub struct Parts {
     pub words: Vec<u64>,
     /// The home of each request.
-    pub letters: Vec<Option<Letter>>,
+    pub letters: Vec<Option<Box<Letter>>>,
     /// Who has each link in hand.
     pub holders: Vec<Option<u16>>,
     /// How many messages of each link have places.
@@ -139,7 +140,7 @@ pub fn parts_of(
     opens: &VecDeque<u16>,
 ) -> Result<Parts, NoMemory>
     requires few { length opens.now.items ≤ 65535 }
-    ensures parts { IfOk result (λ parts. (calls : List ℕ) → AreParts plan.now id_plan.now (map (λ (tasks : _). tasks.items) clients.items) calls opens.now.items parts.words.items parts.letters.items parts.holders.items parts.nexts.items parts.ids (map seat_data parts.seats.items) parts.readers.items parts.outcomes.items) }
+    ensures parts { IfOk result (λ parts. (calls : List ℕ) → AreParts plan.now id_plan.now (map (λ (tasks : _). tasks.items) clients.items) calls opens.now.items parts.words.items (letters_in parts.letters.items) parts.holders.items parts.nexts.items parts.ids (map seat_data parts.seats.items) parts.readers.items parts.outcomes.items) }
     ensures told { IfOk result (λ parts. parts.told.items ≡ []) }
     ensures told_room { IfOk result (λ parts. plan.now.operations ≤ vec_capacity parts.told) }
     ensures places { IfOk result (λ parts. parts.places.items ≡ []) }

@@ -41,8 +41,8 @@ pub fn has_room(place: &mut Seat) -> bool
 pub struct Table<O: Out, I: In, P: Peer> {
     pub plan: Plan,
     pub words: Vec<u64>,
-    /// The message at the home of each request.
-    pub letters: Vec<Option<Letter>>,
+    /// The message at the home of each request, in memory of its own.
+    pub letters: Vec<Option<Box<Letter>>>,
     pub ends: Vec<Ends<O, I, P>>,
     /// Which seat has each link in hand.
     pub holders: Vec<Option<u16>>,
@@ -66,6 +66,7 @@ pub struct Table<O: Out, I: In, P: Peer> {
 impl<O: Out, I: In, P: Peer> Model for Table<O, I, P> {
     ghost use Rattle.std.specs.Prelude.{◌≡◌, map, vec_len};
     ghost use Rattle.sock_io.specs.Link.{end_of};
+    ghost use Rattle.sock_core.specs.Letters.{letters_in};
     ghost use Rattle.sock_core.specs.Machines.{TableState};
 
     ghost Value = { TableState };
@@ -73,7 +74,7 @@ impl<O: Out, I: In, P: Peer> Model for Table<O, I, P> {
     ghost view = { λ t. record {
       plan = t.plan;
       words = t.words.items;
-      letters = t.letters.items;
+      letters = letters_in t.letters.items;
       links = record { holders = t.holders.items; nexts = t.nexts.items; outs = map (λ (e : _). O.state e.out) t.ends.items; inns = map (λ (e : _). I.state e.inn) t.ends.items };
       ids = t.ids;
       calls = t.calls.items;
@@ -185,17 +186,30 @@ impl<O: Out, I: In, P: Peer> Table<O, I, P> {
     }
 
     /// The message that the seat has goes to its home.
-    pub fn put_message(&mut self, place: &mut Seat, request: u16, author: Author)
+    pub fn put_message(
+        &mut self,
+        place: &mut Seat,
+        request: u16,
+        author: Author,
+    ) -> Result<(), NoMemory>
         requires next { IsNext self.old (seat_data place.old) (Step.PutMessage request author) }
         requires stand { IsReady self.old (seat_data place.old) × MayStand (seat_data place.old) }
         requires fits { Fits self.old (seat_data place.old) (Step.PutMessage request author) }
         requires room { HasRoom place.old ⊎ AsksNone (seat_program (table_sizes self.old) (seat_data place.old)) }
-        ensures { (seat : ℕ) → Makes self.old self.new seat (seat_data place.old) (seat_data place.new) (Step.PutMessage request author) Unasked }
+        ensures ok { OnOk result ((seat : ℕ) → Makes self.old self.new seat (seat_data place.old) (seat_data place.new) (Step.PutMessage request author) Unasked) }
+        ensures err { OnErr result (IsCutTable self.old self.new) }
     {
-        put_message(&mut self.letters, request, author, &mut place.hand);
+        put_message(
+            self.alloc,
+            &mut self.letters,
+            request,
+            author,
+            &mut place.hand,
+        )?;
         let sizes = self.sizes();
         let next = place.point.next(sizes, place.calling(), 0);
         place.follow(sizes, next, &mut self.outcomes);
+        Ok(())
     }
 
     /// A message is taken out of its home.
@@ -322,7 +336,7 @@ impl<O: Out, I: In, P: Peer> Table<O, I, P> {
             },
             Step::Aside(step) => self.step_aside(place, step),
             Step::PutMessage(request, author) => {
-                self.put_message(place, request, author);
+                self.put_message(place, request, author)?;
                 Ok(Tick::Moved(kind))
             }
             Step::TakeMessage(request) => {

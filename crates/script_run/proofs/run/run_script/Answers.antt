@@ -13,18 +13,18 @@ use Rattle.script_run.proofs.run.run_script.Goals as goal
 
 pub open_links-opened-requires-clause-few : goal.open_links-opened-requires-clause-few
 open_links-opened-requires-clause-few g c κs within =
-    let few = few_links c.requires.script.0 c.args.script.now c.lines.result.now c.requires.script.1 c.lines.ensures in omega (arith, few)
+    let few = few_links c.requires.script.0 c.args.script c.lines.result.now c.requires.script.1 c.lines.ensures in omega (arith, few)
 
 pub open_links-opened-requires-clause-pieces : goal.open_links-opened-requires-clause-pieces
 open_links-opened-requires-clause-pieces g c κs within = pieces_of c.lines.result.now ∙ ap (list_all has_piece) c.lines.ensures ∙ c.requires.pieces
 
 pub run_over-requires-clause-all : goal.run_over-requires-clause-all
-run_over-requires-clause-all g c κs within = c.in-Ok.ensures.whole ∙ links_of c.args.script.now c.lines.result.now c.lines.ensures
+run_over-requires-clause-all g c κs within = c.in-Ok.ensures.whole ∙ links_of c.args.script c.lines.result.now c.lines.ensures
 
 pub run_over-requires-clause-few : goal.run_over-requires-clause-few
 run_over-requires-clause-few g c κs within =
     let most = c.in-Ok.ensures.most in
-    let few = few_links c.requires.script.0 c.args.script.now c.lines.result.now c.requires.script.1 c.lines.ensures in omega (arith, most, few)
+    let few = few_links c.requires.script.0 c.args.script c.lines.result.now c.requires.script.1 c.lines.ensures in omega (arith, most, few)
 
 pub run_over-requires-clause-always_ready : goal.run_over-requires-clause-always_ready
 run_over-requires-clause-always_ready g c κs within always_ready = c.in-Ok.ensures.prompt_each (sym c.in-Ok.ensures.always_ready ∙ always_ready) refl
@@ -40,16 +40,16 @@ give_back-requires-clause-numbered g c κs within = numbered_of 0 _ c.in-Err.ens
 pub give_back-requires-clause-few : goal.give_back-requires-clause-few
 give_back-requires-clause-few g c κs within =
     let most = c.in-Err.ensures.most in
-    let few = few_links c.requires.script.0 c.args.script.now c.lines.result.now c.requires.script.1 c.lines.ensures in omega (arith, most, few)
+    let few = few_links c.requires.script.0 c.args.script c.lines.result.now c.requires.script.1 c.lines.ensures in omega (arith, most, few)
 
 pub returns-in-Ok-clause-all : goal.returns-in-Ok-clause-all
 returns-in-Ok-clause-all g c =
-    ok_all c.run_over.result (c.run_over.ensures.back ∙ c.in-Ok.ensures.whole ∙ links_of c.args.script.now c.lines.result.now c.lines.ensures)
+    ok_all c.run_over.result (c.run_over.ensures.back ∙ c.in-Ok.ensures.whole ∙ links_of c.args.script c.lines.result.now c.lines.ensures)
 
 pub returns-in-Err-clause-kept : goal.returns-in-Err-clause-kept
 returns-in-Err-clause-kept g c known =
     c.give_back.ensures.faults ∙ c.in-Err.ensures.kept (λ e. let is : c.in-Err.fault ≡ Failed = cc in known (ap (λ x. Err x) (c.not_opened.ensures.kept is)))
 
 pub returns-in-Ok-clause-text : goal.returns-in-Ok-clause-text
-returns-in-Ok-clause-text g c = IfOk-weaker c.run_over.result _ (λ text. g.L.Linker.always_ready c.args.links.now ≡ true → TellClosed g.L.I.In.state → IsPrinted (TellOffers g.L.O.Out.state g.L.I.In.state) c.args.print c.args.script.now (turns_of c.args.script.now c.args.schedule) text.items (g.L.Linker.back c.run_over.new.links))
+returns-in-Ok-clause-text g c = IfOk-weaker c.run_over.result _ (λ text. g.L.Linker.always_ready c.args.links.now ≡ true → TellClosed g.L.I.In.state → IsPrinted (TellOffers g.L.O.Out.state g.L.I.In.state) c.args.print c.args.script (turns_of c.args.script c.args.schedule) text.items (g.L.Linker.back c.run_over.new.links))
     (λ text h always_ready tell. h (c.in-Ok.ensures.always_ready ∙ always_ready) tell) c.run_over.ensures.text

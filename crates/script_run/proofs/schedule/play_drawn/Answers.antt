@@ -1,29 +1,24 @@
-use Rattle.std.proofs.Common.{◌<◌, ◌+◌, ap, sym, subst, refl, ◌∙◌, arith}
+use Rattle.std.proofs.Common.{◌<◌, ◌+◌, ap, sym, subst, ◌∙◌, arith}
 use Rattle.brpc_model.specs.Operations.{clients}
-use Rattle.report_fits.specs.Limits.{KeepsLimits}
 use Rattle.report_fits.proofs.Sizes.{keeps_limits}
 use Rattle.script_print.specs.Seats.{SeatDraws}
 use Rattle.sock_words.specs.declared.plain.Plan.{Plan}
-use Rattle.seat_programs.specs.Tasks.{plan_of}
 use Rattle.sock_core.proofs.Linkers.{says_same, says_still}
 use Rattle.sock_core.proofs.Joining.{same_links_none, same_links_join}
 use Rattle.script_run.proofs.Lines.{seats_in, none_drawn, begins_drawing, count_is, seats_there, draws_on, seat_drawn, drawn_more, drawn_played}
 use Rattle.script_run.proofs.schedule.play_drawn.Goals as goal
 
-pub plan_of-requires : goal.plan_of-requires
-plan_of-requires g c = subst KeepsLimits (sym c.lines.ensures) (keeps_limits c.requires.script.0 c.args.script.now c.requires.script.1)
-
 pub new-seats-requires : goal.new-seats-requires
 new-seats-requires g c =
     let limits = (keeps_limits c.requires.script.0 c.args.script.now c.requires.script.1).links in
-    let plan = ap (λ (p : Plan). p.links) (c.in-Ok.ensures ∙ ap plan_of c.lines.ensures) in omega (arith, limits, plan)
+    let plan = ap (λ (p : Plan). p.links) c.plan-plan.ensures in omega (arith, limits, plan)
 
 pub loop-init : goal.loop-init
 loop-init g c =
-    let plan = c.in-Ok.ensures ∙ ap plan_of c.lines.ensures in
-    let begins = begins_drawing c.args.script.now c.in-Ok.plan c.new-seats.result c.args.seed plan c.new-seats.ensures in record {
+    let plan = c.plan-plan.ensures in
+    let begins = begins_drawing c.args.script.now c.plan-plan.result c.new-seats.result c.args.seed plan c.new-seats.ensures in record {
       draws = begins;
-      count = count_is c.args.script.now c.in-Ok.plan c.new-seats.result 0 c.args.seed c.count-end.result plan begins c.count-end.ensures;
+      count = count_is c.args.script.now c.plan-plan.result c.new-seats.result 0 c.args.seed c.count-end.result plan begins c.count-end.ensures;
       played = none_drawn (seats_in c.args.script.now) (clients c.args.script.now) c.args.seed c.args.machine.now;
       playable = c.requires.playable;
       ends = same_links_none c.args.machine.now;

@@ -2,12 +2,12 @@ use Rattle.std.proofs.Common.{ap}
 use Rattle.seat_programs.specs.Scripts.{drawn_turns}
 use Rattle.script_run.specs.Played.{turns_of}
 use Rattle.sock_core.proofs.Endings.{on_ok}
-use Rattle.script_run.proofs.Lines.{by_lines, by_draws}
+use Rattle.script_run.proofs.Lines.{by_marks, by_draws}
 use Rattle.script_run.proofs.schedule.play_schedule.Goals as goal
 
 pub returns-in-Own-clause-played : goal.returns-in-Own-clause-played
 returns-in-Own-clause-played g c =
-    on_ok c.play_lines.result (by_lines c.args.script.now c.lines.result.now (turns_of c.args.script.now c.args.schedule) c.args.machine.now c.play_lines.new.machine c.lines.ensures (ap (turns_of c.args.script.now) c.in-Own.is)) c.play_lines.ensures.played
+    on_ok c.play_marks.result (by_marks c.args.script.now c.marks.result.now (turns_of c.args.script.now c.args.schedule) c.args.machine.now c.play_marks.new.machine c.marks.ensures (ap (turns_of c.args.script.now) c.in-Own.is)) c.play_marks.ensures.played
 
 pub returns-in-Drawn-clause-played : goal.returns-in-Drawn-clause-played
 returns-in-Drawn-clause-played g c =

@@ -1,7 +1,8 @@
 use Rattle.std.proofs.Common.{None, length, map, replicate, ap, ◌∙◌, arith}
 use Rattle.seat_programs.specs.Scripts.{programs, sizes_of}
 use Rattle.sock_core.specs.Beginnings.{said_first}
-use Rattle.sock_core.proofs.Begun.{told_length, written_over}
+use Rattle.sock_core.specs.Letters.{letters_in}
+use Rattle.sock_core.proofs.Begun.{told_length, written_over, none_in}
 use Rattle.sock_core.proofs.setup.parts_of.Goals as goal
 
 pub returns-clause-parts : goal.returns-clause-parts
@@ -13,7 +14,7 @@ returns-clause-parts c calls =
     let sized = c.in_ok-outcomes.outcomes.ok in
     record {
       words_are = c.in_ok-words.ensures;
-      letters_are = c.in_ok-letters.ensures;
+      letters_are = ap letters_in c.in_ok-letters.ensures ∙ none_in c.args.plan.now.requests;
       holders_are = c.in_ok-holders.ensures;
       nexts_are = c.in_ok-nexts.ensures;
       ids_are = c.in_ok-ids.ensures;

@@ -4,6 +4,7 @@ use Rattle.sock_io.specs.Link.{end_of}
 use Rattle.seat_programs.specs.Cores.{Calls}
 use Rattle.client_seats.specs.Seats.{seat_data}
 use Rattle.sock_core.specs.Links.{LinksData}
+use Rattle.sock_core.specs.Letters.{letters_in}
 use Rattle.sock_core.specs.Machines.{MachineState}
 use Rattle.sock_core.proofs.Starting.{begins_core, machine_begins}
 use Rattle.sock_core.proofs.Making.{all_open, nothing_taken, nothing_given, none_closing, all_tell, all_prompt, parts_new, begins_plain}
@@ -23,7 +24,7 @@ invariant_of-result g c =
     let m : MachineState = record {
       plan = c.args.wanted.plan;
       words = c.in-Ok.parts.words.items;
-      letters = c.in-Ok.parts.letters.items;
+      letters = letters_in c.in-Ok.parts.letters.items;
       links = l;
       ids = c.in-Ok.parts.ids;
       calls = c.args.wanted.calls.items;
@@ -59,7 +60,7 @@ returns-clause-core g c =
     let m : MachineState = record {
       plan = c.args.wanted.plan;
       words = c.in-Ok.parts.words.items;
-      letters = c.in-Ok.parts.letters.items;
+      letters = letters_in c.in-Ok.parts.letters.items;
       links = l;
       ids = c.in-Ok.parts.ids;
       calls = c.args.wanted.calls.items;
@@ -88,7 +89,7 @@ returns-clause-plain g c =
     let m : MachineState = record {
       plan = c.args.wanted.plan;
       words = c.in-Ok.parts.words.items;
-      letters = c.in-Ok.parts.letters.items;
+      letters = letters_in c.in-Ok.parts.letters.items;
       links = l;
       ids = c.in-Ok.parts.ids;
       calls = c.args.wanted.calls.items;

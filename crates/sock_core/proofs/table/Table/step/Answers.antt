@@ -1,14 +1,16 @@
 use Rattle.std.proofs.Common.{◌≢◌, ◌∙◌, refl, sym, subst, ⊎_elim}
+use Rattle.seat_programs.specs.Calls as calls
 use Rattle.seat_programs.specs.Cores.{word_of, found_at}
 use Rattle.sock_io.specs.declared.link.Ready.TheVariants as asks
 use Rattle.seat_states.specs.declared.point.Step.{Step}
 use Rattle.seat_states.specs.declared.point.Step.TheVariants as firsts
+use Rattle.seat_states.specs.Points.{heading_by}
 use Rattle.seat_states.specs.Steps.{step_of, step_as}
-use Rattle.client_seats.specs.Seats.{seat_data, around, seat_program}
+use Rattle.client_seats.specs.Seats.{seat_data, around, seat_program, bytes_of, parts_of}
 use Rattle.sock_core.specs.Machines.{table_sizes}
 use Rattle.sock_core.specs.Steps.{IsNext}
 use Rattle.sock_core.proofs.Tellings.{call_moved, call_waited, letter_moved, message_moved, link_moved, home_moved, put_moved, ready_moved, ready_waited}
-use Rattle.sock_core.proofs.TableRoom.{only_calls}
+use Rattle.sock_core.proofs.TableRoom.{only_calls, puts_none}
 use Rattle.sock_core.proofs.TableTellings.{told_aside}
 use Rattle.sock_core.proofs.table.Table.step.Goals as goal
 
@@ -43,11 +45,18 @@ returns-in-Aside-clause-none g c plain =
     let own = around (table_sizes c.args.self.now) seat in
     absurd (only_calls (seat_program (table_sizes c.args.self.now) seat) (step_as own (firsts.Aside c.in-Aside.step)) (subst (λ (step : Step). IsNext c.args.self.now seat step) c.in-Aside.is c.requires.next) plain)
 
-pub returns-in-PutMessage-clause-ok : goal.returns-in-PutMessage-clause-ok
-returns-in-PutMessage-clause-ok g c =
+pub returns-in_ok-put_message-in-PutMessage-clause-ok : goal.returns-in_ok-put_message-in-PutMessage-clause-ok
+returns-in_ok-put_message-in-PutMessage-clause-ok g c =
     let seat = seat_data c.args.place.now in
     let own = around (table_sizes c.args.self.now) seat in
-    letter_moved c.kind-kind.result c.requires.next (c.kind-kind.ensures own) c.in-PutMessage.request c.in-PutMessage.author c.in-PutMessage.is (c.put_message.ensures c.args.seat)
+    letter_moved c.kind-kind.result c.requires.next (c.kind-kind.ensures own) c.in-PutMessage.request c.in-PutMessage.author c.in-PutMessage.is (c.in_ok-put_message-in-PutMessage.ensures.ok c.args.seat)
+
+-- where a message goes home there is one
+pub returns-in_err-put_message-in-PutMessage-clause-none : goal.returns-in_err-put_message-in-PutMessage-clause-none
+returns-in_err-put_message-in-PutMessage-clause-none g c plain =
+    let seat = seat_data c.args.place.now in
+    let heading = heading_by c.in-PutMessage.author (parts_of seat.message) in
+    absurd (puts_none (seat_program (table_sizes c.args.self.now) seat) (calls.PutMessage c.in-PutMessage.request heading (bytes_of seat.message)) (subst (λ (step : Step). IsNext c.args.self.now seat step) c.in-PutMessage.is c.requires.next) plain)
 
 pub returns-in-TakeMessage-clause-ok : goal.returns-in-TakeMessage-clause-ok
 returns-in-TakeMessage-clause-ok g c =

@@ -1,16 +1,24 @@
-use Rattle.std.proofs.Common.{refl, arith, ap, ◌∙◌, slice_set, None, inr, option_map}
+use Rattle.std.proofs.Common.{◌≡◌, refl, arith, ap, sym, subst, ◌∙◌, slice_set, Some, None, inr, option_map}
+use mathlib.Core.Option.{some}
+use lib.ListN.{get_elem?}
 use Rattle.seat_programs.specs.Scripts.{sizes_of}
 use Rattle.message_parts.specs.Parcels.{parcel_of, outgoing_of}
 use Rattle.seat_states.specs.Points.{next_program}
 use Rattle.seat_states.proofs.StepFacts.{takes_message}
 use Rattle.client_seats.specs.Seats.{seat_data, around}
-use Rattle.sock_core.specs.Machines.{table_sizes}
+use Rattle.sock_core.specs.Letters.{letters_in}
+use Rattle.sock_core.specs.Machines.{TableState, table_sizes}
 use Rattle.sock_core.proofs.Stepping.{written, makes_along, goes, message_is}
 use Rattle.sock_core.proofs.TableGoes.{follows_as}
 use Rattle.sock_core.proofs.table.Table.take_message.Goals as goal
 
 pub with_message-next-requires : goal.with_message-next-requires
 with_message-next-requires g c = let seat = seat_data c.args.place.now in record { step = (takes_message (around (table_sizes c.args.self.now) seat) seat.point c.args.request c.requires.next).0 }
+
+pub take_message-author-requires : goal.take_message-author-requires
+take_message-author-requires g c = record {
+  there = (c.requires.fits.0, ap (λ ls. get_elem? (letters_in ls) c.args.request) c.deref_mut.ensures.value ∙ subst (λ (t : TableState). get_elem? t.letters c.args.request ≡ some (Some c.requires.fits.0)) (sym c.self.view_is) c.requires.fits.1);
+}
 
 pub follow-requires : goal.follow-requires
 follow-requires g c = record { room = λ o name id e. c.requires.room.0; more = inr c.requires.room.1 }
@@ -27,7 +35,7 @@ returns g c seat_number =
           letter = taken.0;
           at = rw c.deref_mut.ensures.value at taken.1;
           words = refl;
-          letters = written c.self.inside.letters.len c.take_message-author.new.letters _ (omega (arith, c.self.inside.letters.ok)) ∙ c.take_message-author.ensures.letters ∙ ap (λ ls. slice_set ls c.args.request None) c.deref_mut.ensures.value;
+          letters = ap letters_in (written c.self.inside.letters.len c.take_message-author.new.letters _ (omega (arith, c.self.inside.letters.ok))) ∙ c.take_message-author.ensures.letters ∙ ap (λ ls. slice_set (letters_in ls) c.args.request None) c.deref_mut.ensures.value;
           links = refl;
           ids = refl;
           ends = refl;
