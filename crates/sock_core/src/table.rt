@@ -6,6 +6,7 @@ ghost use Rattle.client_seats.specs.Seats.{seat_data, seat_program};
 ghost use Rattle.client_seats.specs.Following.{HasRoom};
 ghost use Rattle.sock_core.specs.Driving.{AsksNone};
 ghost use Rattle.sock_core.specs.Machines.{table_sizes};
+ghost use Rattle.sock_core.specs.Passing.{Passes};
 ghost use Rattle.sock_core.specs.Steps.{IsSized, IsNext, IsReady, IsOnWord, MayStand, Fits, Makes, FoundBeside};
 ghost use Rattle.sock_core.specs.Runs.{IsWaitingFor};
 ghost use Rattle.sock_core.specs.Telling.{StepTold, waits_by};
@@ -16,12 +17,12 @@ use crate::letter::Letter;
 use crate::link_calls::{ask_ready, is_of, put_bytes};
 use crate::machine::{On, Tick};
 use crate::waiting::awaited;
-use crate::words::{end_link, pass_link, step_word};
+use crate::words::{end_link, is_taken, pass_link, step_word};
 use call_points::Aside;
 use call_slots::CallSlots;
 use client_seats::Seat;
 use seat_programs::Sizes;
-use seat_states::{Author, Call, Step};
+use seat_states::{Author, Call, CallStep, Point, SendStep, Step};
 use sock_io::{Ends, In, NoMemory, Out, Peer, Put, Ready};
 use sock_message::BlockPool;
 use sock_words::{Outcome, Plan};
@@ -94,6 +95,23 @@ impl<O: Out, I: In, P: Peer> Table<O, I, P> {
             slots: self.plan.slots,
             requests: self.plan.requests,
             ids: self.id_slots,
+        }
+    }
+
+    /// Whether a seat at this point finds its request or id slot taken, and there is one behind it.
+    #[inline(always)]
+    pub fn passes(&self, point: &Point) -> bool
+        ensures { result ≡ true → Passes self.now point.now }
+    {
+        match *point {
+            Point::Send(_, SendStep::Claim(request)) => {
+                u32::from(request) + 1 < u32::from(self.plan.requests)
+                    && is_taken(&self.plan, &self.words, request)
+            }
+            Point::Call(CallStep::ClaimId(slot, _)) => {
+                u32::from(slot) + 1 < u32::from(self.id_slots) && self.ids.is_claimed(slot)
+            }
+            _ => false,
         }
     }
 

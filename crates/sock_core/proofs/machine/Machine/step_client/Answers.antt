@@ -8,7 +8,7 @@ use Rattle.sock_core.specs.Runs.{SameTable, SameLinks, Ticked}
 use Rattle.sock_core.specs.Driving.{Leaves, FirstRests}
 use Rattle.sock_core.proofs.Preparing.{prepared_keeps, prepared_idle, prepared_ready, prepared_stands, cut_keeps, cut_sizes}
 use Rattle.sock_core.proofs.ClientTicks.{client_sized, client_fits, client_idle, idle_rests, went_keeps, went_same, went_ticks, went_leaves, went_rests}
-use Rattle.sock_core.proofs.machine.Machine.advance_client.Goals as goal
+use Rattle.sock_core.proofs.machine.Machine.step_client.Goals as goal
 
 pub invariant_of-self : goal.invariant_of-self
 invariant_of-self g c = (
