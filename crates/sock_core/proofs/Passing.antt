@@ -1,8 +1,6 @@
 -- Passing over what is taken is a step of its seat.
-use Rattle.std.proofs.Common.{◌≡◌, refl, ℕ, suc, ◌+◌, ◌-◌, ◌%◌, ◌==◌, ◌<◌, Bool, false, if◌then◌else◌, List, slice_index, slice_set, ap, sym, ◌∙◌, arith, subst}
-use Rattle.std.proofs.lemmas.List.{set-get_or}
-use mathlib.Core.Option as core
-use lib.ListN.{get_elem?}
+use Rattle.std.proofs.Common.{◌≡◌, refl, ℕ, suc, ◌+◌, ◌-◌, ◌%◌, ◌==◌, ◌/◌, ◌<◌, Bool, false, if◌then◌else◌, List, map, length, slice_index, slice_index_or, slice_set, ap, sym, ◌∙◌, arith, subst}
+use Rattle.std.proofs.lemmas.List.{set-get_or, map-set}
 use Rattle.sock_words.specs.declared.kind.Kind.TheVariants.{C1, I1}
 use Rattle.sock_words.specs.declared.socket_id.SocketId.{SocketId}
 use Rattle.sock_model.specs.Layout.{request_index}
@@ -25,13 +23,16 @@ use Rattle.seat_states.specs.declared.point.Step.{Step}
 use Rattle.seat_states.specs.declared.point.Step.TheVariants as firsts
 use Rattle.seat_states.specs.Points.{Context, client_on, heading_by, sent_program, claims_program}
 use Rattle.client_seats.specs.Following.{IsPrepared}
-use Rattle.client_seats.specs.Seats.{SeatData, around, seat_program}
+use Rattle.client_seats.specs.declared.seat.Seat.{Seat}
+use Rattle.client_seats.specs.Seats.{SeatData, seat_data, around, seat_program}
+use Rattle.reader_seats.specs.Readers.{ReaderData}
 use Rattle.sock_core.specs.declared.machine.Tick.{Tick}
 use Rattle.sock_core.specs.declared.machine.Tick.TheVariants.{Moved}
-use Rattle.sock_core.specs.Machines.{TableState, table_sizes}
-use Rattle.sock_core.specs.Passing.{Passes}
-use Rattle.sock_core.specs.Steps.{IsNext, MayStand, Goes}
+use Rattle.sock_core.specs.Machines.{MachineState, TableState, table_sizes}
+use Rattle.sock_core.specs.Passing.{PassesRequest, PassesSlot, HasPassed}
+use Rattle.sock_core.specs.Steps.{IsNext, NextIs, MayStand, Goes}
 use Rattle.sock_core.specs.Telling.{StepTold}
+use Rattle.sock_core.proofs.Places.{view_of, seat_there, told_here, with_room}
 
 -- the seat at another point
 abbrev pub seat_at : SeatData → Point → SeatData
@@ -55,7 +56,7 @@ module _ (t : TableState) (seat : SeatData) (i : ℕ) where
   context = around (table_sizes t) seat
 
   -- a request that is taken
-  module _ (s : Sending) (q : ℕ) (h : Passes t (points.Send s (sends.Claim q))) where
+  module _ (s : Sending) (q : ℕ) (h : PassesRequest t q) where
     abbrev found : ℕ
     found = slice_index t.words (request_index t.plan q)
 
@@ -97,7 +98,7 @@ module _ (t : TableState) (seat : SeatData) (i : ℕ) where
     }
 
   -- an id slot that is taken
-  module _ (slot : ℕ) (socket : SocketId) (h : Passes t (points.Call (begins.ClaimId slot socket))) where
+  module _ (slot : ℕ) (socket : SocketId) (h : PassesSlot t slot) where
     abbrev at_slot : Point
     at_slot = points.Call (begins.ClaimId slot socket)
 
@@ -131,3 +132,62 @@ module _ (t : TableState) (seat : SeatData) (i : ℕ) where
       };
       tells = (refl, refl);
     }
+
+-- ## The seat as it lies in memory
+
+module _ (t : TableState) (items : List Seat) (readers : List ReaderData) (opens : List ℕ) (short : Bool) (i j : ℕ) (there : j ≡ i) (x : Seat) (inside : j < length items) (is : x ≡ slice_index_or items j x) where
+  abbrev before : MachineState
+  before = view_of t items readers opens short
+
+  abbrev behind : Seat → MachineState
+  behind z = view_of t (slice_set items j z) readers opens short
+
+  -- where it stays, so does the machine
+  pub stays : behind x ≡ before
+  stays = ap (λ (ss : List SeatData). record before { seats = ss }) (with_room items j x x is refl)
+
+  passed : (z : Seat) (step : Step) (tick : Tick) → IsPrepared (table_sizes t) (seat_data x) (seat_data x) → MayStand (seat_data x) → IsNext t (seat_data x) step → StepTold t t i (seat_data x) (seat_data z) step tick → HasPassed before (behind z) i tick
+  passed z step tick prepared stand next told =
+      let at = seat_there t items readers opens short i j there x inside is in
+      let n : NextIs before i step = record { seat = seat_data x; at = at; is = next } in
+      record {
+        prepared = record {
+          seat = seat_data x;
+          at = at;
+          seat' = seat_data x;
+          is = ap (λ (ss : List SeatData). record before { seats = ss }) (sym (with_room items j x x is refl) ∙ map-set seat_data items j x ∙ ap (λ k. slice_set (map seat_data items) k (seat_data x)) there);
+          prepared = prepared;
+          stand = stand;
+        };
+        step = step;
+        next = n;
+        told = told_here t items readers opens short i j there x x is refl step n z told;
+      }
+
+  module _ (s : Sending) (q : ℕ) (point : x.point ≡ points.Send s (sends.Claim q)) (h : PassesRequest t q) where
+    of_request : seat_data x ≡ seat_at (seat_data x) (points.Send s (sends.Claim q))
+    of_request = ap (seat_at (seat_data x)) point
+
+    pub passed_request : (z : Seat) → seat_data z ≡ seat_at (seat_data x) (points.Send s (sends.Claim (q + 1))) → HasPassed before (behind z) i (Moved C1)
+    passed_request z news = passed z (firsts.Call (steps.ClaimRequest s.id q)) (Moved C1)
+        (subst (λ (y : SeatData). IsPrepared (table_sizes t) y y) (sym of_request) (record { program = refl; waiting = refl; hand = tt; frame = refl; out = refl; ending = refl }))
+        (subst MayStand (sym of_request) (record { link = tt; told = tt }))
+        (subst (λ (y : SeatData). IsNext t y (firsts.Call (steps.ClaimRequest s.id q))) (sym of_request) refl)
+        (subst (λ (y : SeatData). StepTold t t i y (seat_data z) (firsts.Call (steps.ClaimRequest s.id q)) (Moved C1)) (sym of_request)
+        (subst (λ (y : SeatData). StepTold t t i (seat_at (seat_data x) (points.Send s (sends.Claim q))) y (firsts.Call (steps.ClaimRequest s.id q)) (Moved C1)) (sym news) (request_passed t (seat_data x) i s q h)))
+
+  module _ (slot : ℕ) (socket : SocketId) (point : x.point ≡ points.Call (begins.ClaimId slot socket)) (h : PassesSlot t slot) where
+    of_slot : seat_data x ≡ seat_at (seat_data x) (points.Call (begins.ClaimId slot socket))
+    of_slot = ap (seat_at (seat_data x)) point
+
+    pub passed_slot : (z : Seat) → seat_data z ≡ seat_at (seat_data x) (points.Call (begins.ClaimId (slot + 1) socket)) → HasPassed before (behind z) i (Moved I1)
+    passed_slot z news = passed z (firsts.Aside (code.ClaimId slot)) (Moved I1)
+        (subst (λ (y : SeatData). IsPrepared (table_sizes t) y y) (sym of_slot) (record { program = refl; waiting = refl; hand = tt; frame = refl; out = refl; ending = refl }))
+        (subst MayStand (sym of_slot) (record { link = tt; told = tt }))
+        (subst (λ (y : SeatData). IsNext t y (firsts.Aside (code.ClaimId slot))) (sym of_slot) refl)
+        (subst (λ (y : SeatData). StepTold t t i y (seat_data z) (firsts.Aside (code.ClaimId slot)) (Moved I1)) (sym of_slot)
+        (subst (λ (y : SeatData). StepTold t t i (seat_at (seat_data x) (points.Call (begins.ClaimId slot socket))) y (firsts.Aside (code.ClaimId slot)) (Moved I1)) (sym news) (slot_passed t (seat_data x) i slot socket h)))
+
+-- the tables as they lie in memory
+pub passed_along : {m n fresh : MachineState} {i : ℕ} {tick : Tick} → m ≡ n → HasPassed m fresh i tick → HasPassed n fresh i tick
+passed_along {m} {n} {fresh} {i} {tick} e h = subst (λ (x : MachineState). HasPassed x fresh i tick) e h

@@ -141,10 +141,10 @@ impl<O: Out, I: In, P: Peer> Machine<O, I, P> {
         if self.tables.is_at_rest(seat) {
             return Ok(Tick::Idle);
         }
-        if self.tables.is_passing(seat) {
-            return Ok(self.tables.pass(seat));
-        }
-        self.step_client(seat)
+        let Some(tick) = self.tables.pass(seat) else {
+            return self.step_client(seat);
+        };
+        Ok(tick)
     }
 
     /// A step of the reader of a link.

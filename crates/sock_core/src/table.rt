@@ -6,7 +6,7 @@ ghost use Rattle.client_seats.specs.Seats.{seat_data, seat_program};
 ghost use Rattle.client_seats.specs.Following.{HasRoom};
 ghost use Rattle.sock_core.specs.Driving.{AsksNone};
 ghost use Rattle.sock_core.specs.Machines.{table_sizes};
-ghost use Rattle.sock_core.specs.Passing.{Passes};
+ghost use Rattle.sock_core.specs.Passing.{PassesRequest, PassesSlot};
 ghost use Rattle.sock_core.specs.Steps.{IsSized, IsNext, IsReady, IsOnWord, MayStand, Fits, Makes, FoundBeside};
 ghost use Rattle.sock_core.specs.Runs.{IsWaitingFor};
 ghost use Rattle.sock_core.specs.Telling.{StepTold, waits_by};
@@ -22,7 +22,7 @@ use call_points::Aside;
 use call_slots::CallSlots;
 use client_seats::Seat;
 use seat_programs::Sizes;
-use seat_states::{Author, Call, CallStep, Point, SendStep, Step};
+use seat_states::{Author, Call, Step};
 use sock_io::{Ends, In, NoMemory, Out, Peer, Put, Ready};
 use sock_message::BlockPool;
 use sock_words::{Outcome, Plan};
@@ -98,21 +98,24 @@ impl<O: Out, I: In, P: Peer> Table<O, I, P> {
         }
     }
 
-    /// Whether a seat at this point finds its request or id slot taken, and there is one behind it.
+    /// Whether a request is taken, and there is one behind it.
     #[inline(always)]
-    pub fn passes(&self, point: &Point) -> bool
-        ensures { result ≡ true → Passes self.now point.now }
+    pub fn passes_request(&self, request: u16) -> bool
+        ensures passes { result ≡ true → PassesRequest self.now request }
+        ensures fits { result ≡ true → request < 65535 }
     {
-        match *point {
-            Point::Send(_, SendStep::Claim(request)) => {
-                u32::from(request) + 1 < u32::from(self.plan.requests)
-                    && is_taken(&self.plan, &self.words, request)
-            }
-            Point::Call(CallStep::ClaimId(slot, _)) => {
-                u32::from(slot) + 1 < u32::from(self.id_slots) && self.ids.is_claimed(slot)
-            }
-            _ => false,
-        }
+        request < u16::MAX
+            && request + 1 < self.plan.requests
+            && is_taken(&self.plan, &self.words, request)
+    }
+
+    /// The same of an id slot.
+    #[inline(always)]
+    pub fn passes_slot(&self, slot: u16) -> bool
+        ensures passes { result ≡ true → PassesSlot self.now slot }
+        ensures fits { result ≡ true → slot < 65535 }
+    {
+        slot < u16::MAX && slot + 1 < self.id_slots && self.ids.is_claimed(slot)
     }
 
     /// A step on a word, or a move that tells nothing; for what its seat waits, if it does. Only a seat that comes to hold a life or to keep a retry

@@ -3,7 +3,7 @@ ghost use Rattle.sock_core.specs.Machines.{MachineState, table_of};
 ghost use Rattle.client_seats.specs.Seats.{seat_data};
 ghost use Rattle.client_seats.specs.Following.{IsPrepared};
 ghost use Rattle.sock_core.specs.Steps.{IsSized, HasNoStep, NextIs, StepFits, PreparedAt, ReadyAt, StandsAt, MayStand};
-ghost use Rattle.sock_core.specs.Passing.{PassesAt, HasPassed};
+ghost use Rattle.sock_core.specs.Passing.{HasPassed};
 ghost use Rattle.sock_core.specs.Telling.{TickTold};
 ghost use Rattle.sock_core.specs.Reading.{NextReadIs, HasNoRead, ReadFits, TickRead, IsCutShort};
 ghost use Rattle.sock_core.specs.Driving.{BeganEnding, IsPlain, told_ending};
@@ -107,31 +107,34 @@ impl<O: Out, I: In, P: Peer> Tables<O, I, P> {
         at < self.seats.len() && is_rest(&self.seats[at].point)
     }
 
-    /// Whether a client finds the request or the id slot taken that it tries, and there is one behind it.
+    /// A client that finds the request or the id slot taken that it tries goes on to the one behind it, if there is one.
+    /// Most of its steps are such, and nothing else is changed by them.
     #[inline(always)]
-    pub fn is_passing(&self, seat: u16) -> bool
-        ensures { result ≡ true → PassesAt self.now seat }
+    pub fn pass(&mut self, seat: u16) -> Option<Tick>
+        ensures some { IfSome result (λ tick. HasPassed self.old self.new seat tick) }
+        ensures none { IfNone result (self.new ≡ self.old) }
     {
         let at = usize::from(seat);
-        at < self.seats.len() && self.table.passes(&self.seats[at].point)
-    }
-
-    /// It tries the next one: a step that changes nothing else.
-    #[inline(always)]
-    pub fn pass(&mut self, seat: u16) -> Tick
-        requires { PassesAt self.old seat }
-        ensures { HasPassed self.old self.new seat result }
-    {
-        match &mut self.seats[usize::from(seat)].point {
-            Point::Send(_, SendStep::Claim(request)) => {
-                *request += 1;
-                Tick::Moved(Kind::C1)
+        if at >= self.seats.len() {
+            return None;
+        }
+        let place = &mut self.seats[at];
+        match place.point {
+            Point::Send(sending, SendStep::Claim(request)) => {
+                if !self.table.passes_request(request) {
+                    return None;
+                }
+                place.point = Point::Send(sending, SendStep::Claim(request + 1));
+                Some(Tick::Moved(Kind::C1))
             }
-            Point::Call(CallStep::ClaimId(slot, _)) => {
-                *slot += 1;
-                Tick::Moved(Kind::I1)
+            Point::Call(CallStep::ClaimId(slot, socket)) => {
+                if !self.table.passes_slot(slot) {
+                    return None;
+                }
+                place.point = Point::Call(CallStep::ClaimId(slot + 1, socket));
+                Some(Tick::Moved(Kind::I1))
             }
-            _ => Tick::Idle,
+            _ => None,
         }
     }
 
