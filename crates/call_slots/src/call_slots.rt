@@ -30,12 +30,12 @@ impl Model for CallSlots {
 }
 
 impl CallSlots {
-    ghost use Rattle.std.specs.Prelude.{◌≡◌, ◌<◌, ℕ, false, [], replicate, IfOk};
+    ghost use Rattle.std.specs.Prelude.{◌≡◌, ◌<◌, ℕ, true, false, [], replicate, IfOk};
     ghost use mathlib.Core.Option.{some};
     ghost use Rattle.std.specs.Option.{option_copied};
     ghost use lib.ListN.{get_elem?};
     ghost use Rattle.sock_message.specs.Asked.{Asked};
-    ghost use Rattle.seat_programs.specs.Asides.{PutCall, TakeCall};
+    ghost use Rattle.seat_programs.specs.Asides.{ClaimId, PutCall, TakeCall};
     ghost use Rattle.seat_programs.specs.Beside.{call_at};
     ghost use Rattle.seat_programs.specs.Scripts.{opening_calls};
     ghost use Rattle.call_points.specs.Steps.{step_of};
@@ -57,6 +57,14 @@ impl CallSlots {
         ensures { (asked : Asked) → Makes self.old (step_of asked step) (word_found (step_of asked step) result) self.new }
     {
         step_word(self.plan, &mut self.words, step)
+    }
+
+    /// Whether a slot is there and claimed: to claim it once more changes nothing.
+    pub fn is_claimed(&self, slot: u16) -> bool
+        ensures { result ≡ true → Makes self.now (ClaimId slot) (some 1) self.now }
+    {
+        let place = tag_place(slot);
+        place < self.words.len() && self.words[place] == 1
     }
 
     /// The call goes into the home of a slot, and the slot's tag is answered.

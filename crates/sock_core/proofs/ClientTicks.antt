@@ -12,6 +12,7 @@ use Rattle.sock_core.specs.Machines.{MachineState, READERS, IsMachine, table_of}
 use Rattle.sock_core.specs.Reading.{NextReadIs, HasNoRead, ReadFits, TickRead, IsCutShort}
 use Rattle.sock_core.specs.Runs.{SameTable, SameLinks, Ticked}
 use Rattle.sock_core.specs.Steps.{IsSized, NextIs, HasNoStep, StepFits, PreparedAt}
+use Rattle.sock_core.specs.Passing.{HasPassed}
 use Rattle.sock_core.specs.Telling.{TickTold}
 use Rattle.sock_core.specs.Driving.{Leaves, FirstRests}
 use Rattle.sock_core.proofs.Advancing.{is_sized, few_seats, some_seat, few_slots, few_calls, told_links, told_table, told_ticks, told_keeps, told_leaves, told_enough, read_links_stay, read_table, read_ticks, read_keeps, read_leaves}
@@ -110,6 +111,28 @@ module _ (old mid : MachineState) (room i : ℕ) (is : IsMachine old room) (enou
 
       pub went_rests : OnOk r (i ≢ 0 → FirstRests old → FirstRests new)
       went_rests = then_ok (λ (tick : Tick). TickTold mid new i step tick) (i ≢ 0 → FirstRests old → FirstRests new) r ok client_rests
+
+-- ## A client at rest, and one that passes over what is taken
+
+module _ (old : MachineState) (i : ℕ) (inside : i < length old.seats) where
+  pub rest_client : HasNoStep old i → Ticked old old i Idle
+  rest_client none_ = rest_ticks old i (no_step_rests old i inside none_)
+
+  module _ (room : ℕ) (is : IsMachine old room) (enough : old.short ≡ false) (new : MachineState) (tick : Tick) (h : HasPassed old new i tick) where
+    pub passed_ticks : Ticked old new i tick
+    passed_ticks = client_ticks old old room i is enough inside h.prepared new h.step h.next tick h.told
+
+    pub passed_keeps : IsMachine new room
+    passed_keeps = client_keeps old old room i is enough inside h.prepared new h.step h.next tick h.told
+
+    pub passed_leaves : Leaves tick old new
+    passed_leaves = client_leaves old old room i is enough inside h.prepared new h.step h.next tick h.told
+
+    pub passed_same : SameTable old new × SameLinks old new
+    passed_same = client_same old old room i is enough inside h.prepared new h.step h.next tick h.told
+
+    pub passed_rests : i ≢ 0 → FirstRests old → FirstRests new
+    passed_rests = client_rests old old room i is enough inside h.prepared new h.step h.next tick h.told
 
 -- ## A reader
 

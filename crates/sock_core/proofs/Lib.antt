@@ -47,3 +47,4 @@ pub mod TableCuts
 pub mod TableGoes
 pub mod TablePlaces
 pub mod TableTellings
+pub mod Passing

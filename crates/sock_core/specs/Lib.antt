@@ -8,3 +8,4 @@ pub mod Reading
 pub mod Driving
 pub mod Beginnings
 pub mod Finish
+pub mod Passing

@@ -108,8 +108,9 @@ impl<O: Out, I: In, P: Peer> Model for Machine<O, I, P> {
 }
 
 impl<O: Out, I: In, P: Peer> Machine<O, I, P> {
-    /// A step of a client.
-    fn advance_client(&mut self, seat: u16) -> Result<Tick, NoMemory>
+    /// A step of a client that isn't at rest and passes over nothing.
+    #[inline(never)]
+    fn step_client(&mut self, seat: u16) -> Result<Tick, NoMemory>
         requires client { seat < length self.old.seats }
         requires enough { self.old.short ≡ false }
         ensures tick { IfOk result (λ tick. Ticked self.old self.new seat tick) }
@@ -126,7 +127,29 @@ impl<O: Out, I: In, P: Peer> Machine<O, I, P> {
         self.tables.step(seat, &step)
     }
 
+    /// A step of a client. Most find it at rest, or find what it wants taken.
+    #[inline(always)]
+    fn advance_client(&mut self, seat: u16) -> Result<Tick, NoMemory>
+        requires client { seat < length self.old.seats }
+        requires enough { self.old.short ≡ false }
+        ensures tick { IfOk result (λ tick. Ticked self.old self.new seat tick) }
+        ensures left { IfOk result (λ tick. Leaves tick self.old self.new) }
+        ensures enough { OnOk result (self.new.short ≡ false) }
+        ensures same { SameTable self.old self.new × SameLinks self.old self.new }
+        ensures rest { OnOk result (seat ≢ 0 → FirstRests self.old → FirstRests self.new) }
+        ensures sizes { ∥ HasSizes self.new ∥₁ }
+    {
+        if self.tables.is_at_rest(seat) {
+            return Ok(Tick::Idle);
+        }
+        let Some(tick) = self.tables.pass(seat) else {
+            return self.step_client(seat);
+        };
+        Ok(tick)
+    }
+
     /// A step of the reader of a link.
+    #[inline(never)]
     fn advance_reader<L: Linker<O = O, I = I, P = P>>(
         &mut self,
         links: &mut L,
@@ -153,6 +176,7 @@ impl<O: Out, I: In, P: Peer> Machine<O, I, P> {
     }
 
     /// A step of any seat.
+    #[inline(always)]
     fn advance<L: Linker<O = O, I = I, P = P>>(
         &mut self,
         links: &mut L,

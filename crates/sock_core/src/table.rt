@@ -6,6 +6,7 @@ ghost use Rattle.client_seats.specs.Seats.{seat_data, seat_program};
 ghost use Rattle.client_seats.specs.Following.{HasRoom};
 ghost use Rattle.sock_core.specs.Driving.{AsksNone};
 ghost use Rattle.sock_core.specs.Machines.{table_sizes};
+ghost use Rattle.sock_core.specs.Passing.{PassesRequest, PassesSlot};
 ghost use Rattle.sock_core.specs.Steps.{IsSized, IsNext, IsReady, IsOnWord, MayStand, Fits, Makes, FoundBeside};
 ghost use Rattle.sock_core.specs.Runs.{IsWaitingFor};
 ghost use Rattle.sock_core.specs.Telling.{StepTold, waits_by};
@@ -16,7 +17,7 @@ use crate::letter::Letter;
 use crate::link_calls::{ask_ready, is_of, put_bytes};
 use crate::machine::{On, Tick};
 use crate::waiting::awaited;
-use crate::words::{end_link, pass_link, step_word};
+use crate::words::{end_link, is_taken, pass_link, step_word};
 use call_points::Aside;
 use call_slots::CallSlots;
 use client_seats::Seat;
@@ -96,6 +97,26 @@ impl<O: Out, I: In, P: Peer> Table<O, I, P> {
             requests: self.plan.requests,
             ids: self.id_slots,
         }
+    }
+
+    /// Whether a request is taken, and there is one behind it.
+    #[inline(always)]
+    pub fn passes_request(&self, request: u16) -> bool
+        ensures passes { result ≡ true → PassesRequest self.now request }
+        ensures fits { result ≡ true → request < 65535 }
+    {
+        request < u16::MAX
+            && request + 1 < self.plan.requests
+            && is_taken(&self.plan, &self.words, request)
+    }
+
+    /// The same of an id slot.
+    #[inline(always)]
+    pub fn passes_slot(&self, slot: u16) -> bool
+        ensures passes { result ≡ true → PassesSlot self.now slot }
+        ensures fits { result ≡ true → slot < 65535 }
+    {
+        slot < u16::MAX && slot + 1 < self.id_slots && self.ids.is_claimed(slot)
     }
 
     /// A step on a word, or a move that tells nothing; for what its seat waits, if it does. Only a seat that comes to hold a life or to keep a retry

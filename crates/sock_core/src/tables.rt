@@ -3,20 +3,22 @@ ghost use Rattle.sock_core.specs.Machines.{MachineState, table_of};
 ghost use Rattle.client_seats.specs.Seats.{seat_data};
 ghost use Rattle.client_seats.specs.Following.{IsPrepared};
 ghost use Rattle.sock_core.specs.Steps.{IsSized, HasNoStep, NextIs, StepFits, PreparedAt, ReadyAt, StandsAt, MayStand};
+ghost use Rattle.sock_core.specs.Passing.{HasPassed};
 ghost use Rattle.sock_core.specs.Telling.{TickTold};
 ghost use Rattle.sock_core.specs.Reading.{NextReadIs, HasNoRead, ReadFits, TickRead, IsCutShort};
 ghost use Rattle.sock_core.specs.Driving.{BeganEnding, IsPlain, told_ending};
 
 use crate::machine::Tick;
 use crate::table::{Table, has_room};
-use crate::waiting::stands;
+use crate::waiting::{is_rest, stands};
 use client_seats::Seat;
 use reader_points::ReadStep;
 use reader_seats::ReaderSeat;
 use seat_programs::Sizes;
-use seat_states::{Point, Step};
+use seat_states::{CallStep, Point, SendStep, Step};
 use sock_io::{In, Linker, NoMemory, Out, Peer};
 use sock_message::BlockPool;
+use sock_words::Kind;
 use std::alloc::Global;
 use std::collections::VecDeque;
 use std::marker::Model;
@@ -78,7 +80,7 @@ fn is_prepared(place: &mut Seat, alloc: Global, pool: &mut BlockPool) -> bool
         return false;
     };
     // Each word found fits, so each point stands.
-    stands(place.point)
+    stands(&place.point)
 }
 
 impl<O: Out, I: In, P: Peer> Tables<O, I, P> {
@@ -94,6 +96,46 @@ impl<O: Out, I: In, P: Peer> Tables<O, I, P> {
         ensures { result ≡ self.now.plan.links }
     {
         self.table.plan.links
+    }
+
+    /// Whether a client has nothing left to do.
+    #[inline(always)]
+    pub fn is_at_rest(&self, seat: u16) -> bool
+        ensures { result ≡ true → HasNoStep self.now seat }
+    {
+        let at = usize::from(seat);
+        at < self.seats.len() && is_rest(&self.seats[at].point)
+    }
+
+    /// A client that finds the request or the id slot taken that it tries goes on to the one behind it, if there is one.
+    /// Most of its steps are such, and nothing else is changed by them.
+    #[inline(always)]
+    pub fn pass(&mut self, seat: u16) -> Option<Tick>
+        ensures some { IfSome result (λ tick. HasPassed self.old self.new seat tick) }
+        ensures none { IfNone result (self.new ≡ self.old) }
+    {
+        let at = usize::from(seat);
+        if at >= self.seats.len() {
+            return None;
+        }
+        let place = &mut self.seats[at];
+        match place.point {
+            Point::Send(sending, SendStep::Claim(request)) => {
+                if !self.table.passes_request(request) {
+                    return None;
+                }
+                place.point = Point::Send(sending, SendStep::Claim(request + 1));
+                Some(Tick::Moved(Kind::C1))
+            }
+            Point::Call(CallStep::ClaimId(slot, socket)) => {
+                if !self.table.passes_slot(slot) {
+                    return None;
+                }
+                place.point = Point::Call(CallStep::ClaimId(slot + 1, socket));
+                Some(Tick::Moved(Kind::I1))
+            }
+            _ => None,
+        }
     }
 
     /// What the next step of a client needs in hand is made, where it isn't there, and its point stands. Its program stays.

@@ -117,12 +117,22 @@ pub fn awaited_by_reader(point: ReadPoint, found: u64) -> Option<On>
     }
 }
 
-/// Whether the link at a point fits an at word, and the code of a dropped message an error.
-pub fn stands(point: Point) -> bool
-    ensures link { result ≡ true → HasLinkAt point }
-    ensures told { result ≡ true → TellsCodeAt point }
+/// Whether a client at this point has nothing left to do.
+pub fn is_rest(point: &Point) -> bool
+    ensures { result ≡ true → point.now ≡ Point.Rest }
 {
-    match point {
+    match *point {
+        Point::Rest => true,
+        _ => false,
+    }
+}
+
+/// Whether the link at a point fits an at word, and the code of a dropped message an error.
+pub fn stands(point: &Point) -> bool
+    ensures link { result ≡ true → HasLinkAt point.now }
+    ensures told { result ≡ true → TellsCodeAt point.now }
+{
+    match *point {
         Point::Attempt(_, _, AttemptStep::StoreAt(link)) => link < u16::MAX,
         Point::Write(_, WriteStep::DropPlace(_, code)) => code < 4096,
         _ => true,

@@ -1,6 +1,7 @@
-ghost use Rattle.std.specs.Prelude.{◌≡◌, ◌<◌, ℕ, length, map};
+ghost use Rattle.std.specs.Prelude.{◌≡◌, ◌%◌, ◌<◌, ℕ, true, length, map, slice_index};
 ghost use mathlib.Core.Option.{some};
 ghost use Rattle.sock_io.specs.Link.{end_of};
+ghost use Rattle.sock_model.specs.Layout.{request_index};
 ghost use Rattle.seat_programs.specs.Cores.{word_of, found_at, words_after, word_after};
 ghost use Rattle.sock_runs.specs.Sound.{AllowsWord};
 ghost use Rattle.seat_states.specs.Steps.{step_of};
@@ -25,6 +26,21 @@ pub fn step_word(plan: &Plan, words: &mut [u64], call: Call) -> u64
         }
         None => 0,
     }
+}
+
+/// Where the word of a request stands.
+fn request_place(plan: &Plan, request: u16) -> usize
+    ensures { result ≡ request_index plan.now request }
+{
+    6 * plan.slots as usize + plan.names as usize + plan.operations as usize + request as usize
+}
+
+/// Whether the word of a request is there, and says that it is taken.
+pub fn is_taken(plan: &Plan, words: &[u64], request: u16) -> bool
+    ensures { result ≡ true → slice_index words.now (request_index plan.now request) % 2 ≡ 1 }
+{
+    let place = request_place(plan, request);
+    place < words.len() && words[place] % 2 == 1
 }
 
 /// A seat takes a link or puts it back: who has each link in hand.
