@@ -85,7 +85,6 @@ pub fn over_connection<R: Threads + Wait + Sync + Alloc<A = Global>>(
     let mut links = Noting::new(alloc, GiveLinker::new(alloc, 0, bytes));
     let said = shown(alloc, &answered(rt, asked, &mut links)?)?;
     let digits = hex::encode(alloc, links.taken())?;
-    let digits = hex::encode(alloc, links.taken())?;
     format!(in alloc; "{said} took [{digits}]")
 }
 
