@@ -215,7 +215,6 @@ module _ (p : Plan) (q : IdPlan) (clients : List (List Task)) (gives : ℕ → L
       by_todo (t ∷ ts) = stays (StoreCall o id) found tt b knows f
   own_fits (LockId i from) found b knows may f = lock_own i from found b knows f (eqb found from) refl
   own_fits (PostId i from e) found b knows may f = post_own i from e found b knows f (eqb found from) (eqb (parts from).state 1) refl refl
-  own_fits other found b knows may f = stays other found tt b knows f
   own_fits (UnlockId i from advance) found b knows may f = by_found (eqb found from) refl b.words (subst (SlotFits q w) may.2 f)
     where
       moved : (v : ℕ) → w'.core.calls.words ≡ set w.core.calls.words (id_index i) v → (parts v).first ≡ (word_at w i).first → (parts v).range ≡ (word_at w i).range → (parts v).state ≡ (word_at w i).state → (parts v).attempt ≡ (word_at w i).attempt → SlotFits q w (Locked i may.0 may.1) → SlotFits q w' m.slot
@@ -263,3 +262,4 @@ module _ (p : Plan) (q : IdPlan) (clients : List (List Task)) (gives : ℕ → L
   own_fits (TakeBytes l room) Rattle.seat_programs.specs.Asides.AtEnd b knows may f = stays (TakeBytes l room) Rattle.seat_programs.specs.Asides.AtEnd tt b knows f
   own_fits (TakeBytes l room) Rattle.seat_programs.specs.Asides.Closed b knows may f = stays (TakeBytes l room) Rattle.seat_programs.specs.Asides.Closed tt b knows f
   own_fits (TakeBytes l room) Rattle.seat_programs.specs.Asides.Broken b knows may f = stays (TakeBytes l room) Rattle.seat_programs.specs.Asides.Broken tt b knows f
+  own_fits other found b knows may f = stays other found tt b knows f

@@ -1,5 +1,5 @@
 -- A meta that was built of what was gathered is the one that its definition has.
-use Rattle.std.proofs.Common.{◌≡◌, ◌⊎◌, ℕ, ℤ, List, Bool, true, false, not, Option, Some, None, option_map, Result, Ok, Err, IfSome, refl, ap, sym, ◌∙◌, inl, inr, rules}
+use Rattle.std.proofs.Common.{◌≡◌, ◌⊎◌, ℕ, ℤ, List, true, false, Option, Some, None, option_map, Result, Ok, Err, IfSome, refl, ap, sym, ◌∙◌, inl, inr}
 use Rattle.std.specs.Option.{is_some}
 use Rattle.pb_wire.specs.brpc_model.specs.Meta as meta
 use Rattle.rpc_meta.specs.declared.fault.MetaFault.{MetaFault}
@@ -76,11 +76,3 @@ built g request response c s whole there e f p q w =
     moved : (is_some g.request ≡ true) ⊎ (is_some g.response ≡ true) → (is_some request ≡ true) ⊎ (is_some response ≡ true)
     moved (inl h) = inl (request_there g.request request h e)
     moved (inr h) = inr (response_there g.response response h f)
-
--- ## What is there stays there under a function
-
-pub is_some-map : {A B : Type 0} (f : A → B) (o : Option A) → is_some (option_map f o) ≡ is_some o
-is_some-map f o = search rules
-
-pub some_from : {A B : Type 0} (f : A → B) (o : Option A) (none : Bool) → is_some o ≡ not none → none ≡ false → is_some (option_map f o) ≡ true
-some_from f o none e h = is_some-map f o ∙ e ∙ ap not h

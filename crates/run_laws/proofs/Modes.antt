@@ -32,7 +32,6 @@ use Rattle.sock_words.specs.Words.{at_word, at_word_slot, at_word_first, at_word
 use Rattle.sock_words.specs.declared.outcome.Outcome.TheVariants.{NotBegun, Joined}
 use Rattle.sock_message.specs.Asked.{Asked, frame_of}
 use Rattle.seat_programs.specs.Asides.{Found, FreeId, PutCall, StoreAt, Taking, Bytes, Nothing, Closed, id_slot, id_first, call_id}
-use Rattle.seat_programs.specs.Asides as taking
 use Rattle.seat_programs.specs.Heads.{Head, Exit, Retry, Sought, Version, Reading, Ended, Posts, Unlocks, Decides, Locks, Joins, Opens, Reads, Discards, Posting, WasGone, WasStale, WasCrowded, WasQueued, HasLocked, Unlocking, IsOpen, HasNext, Deciding, HasEnded, Locking, NotThere}
 use Rattle.seat_programs.specs.Heads.{GoesOn as OpenAgain, Has as HasLock}
 use Rattle.seat_programs.specs.Posts.{WHOLE, packed, advance_of, is_first, is_stale, is_full, is_sought, judged, post, post_with, posted, popped, ends_call, end_id, decide, decided, unlocked, locking}

@@ -24,8 +24,8 @@ call_op ns all x (Call call) op is e = (asked_of all x.number call, sym (some_is
 call_op ns all x other op is e = let k : false ≡ true = is in absurd (cc)
 
 -- what an `expire` of a script asks for is a call
-pub script_parts : (bytes : List ℕ) (script : List Item) → script_of bytes ≡ Ok script → (outcomes : List (Option Outcome)) → AreOfCalls (all_tasks script) outcomes
-script_parts bytes script reads outcomes c d t u is op also =
+pub expire_calls : (bytes : List ℕ) (script : List Item) → script_of bytes ≡ Ok script → (outcomes : List (Option Outcome)) → AreOfCalls (all_tasks script) outcomes
+expire_calls bytes script reads outcomes c d t u is op also =
     let v = task_is script outcomes c t is in let w = task_is script outcomes d u also in
     let m = expire_asks (numbered script) (names script) (numbers_at script t.number v.operation) v.operation.item u.number (v.asks ∙ ap Some op) in
     let P : Item → Type 0 = λ x. Has script x in

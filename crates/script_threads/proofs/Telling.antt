@@ -33,7 +33,7 @@ use Rattle.script_parts.specs.call_whys.specs.sock_deeds.proofs.Places.{map_appe
 use Rattle.script_parts.specs.call_whys.specs.sock_deeds.proofs.Flats.{append_first}
 use Rattle.script_parts.specs.Seats.{IdSeat}
 use Rattle.script_parts.proofs.Clients.{balanced}
-use Rattle.script_parts.proofs.Expiring.{script_parts}
+use Rattle.script_parts.proofs.Expiring.{expire_calls}
 use Rattle.script_parts.proofs.Ids as numbers
 use Rattle.script_parts.proofs.Shown.{view_of, flat_mapped}
 use Rattle.script_parts.proofs.Sockets.{map_twice}
@@ -83,7 +83,7 @@ module _ (P : Type 0) {O I : Type 0} (g : Ghosts O) (out : O → OutState) (inn 
   -- ## What is told
 
   pub of_calls : AreOfCalls all outcomes
-  of_calls = subst (λ (l : List (List Task)). AreOfCalls l outcomes) (sym r.left.tasks) (script_parts bytes script reads outcomes)
+  of_calls = subst (λ (l : List (List Task)). AreOfCalls l outcomes) (sym r.left.tasks) (expire_calls bytes script reads outcomes)
 
   pub told_once : ToldOnce q.slots ((r.ended ++ r.read) ++ r.last ∷ [])
   told_once = subst (λ (t : List Told). ToldOnce q.slots ((r.ended ++ r.read) ++ t ∷ [])) (sym r.rest.told_is)

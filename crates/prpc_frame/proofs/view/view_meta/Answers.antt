@@ -1,11 +1,18 @@
-use Rattle.std.proofs.Common.{option_map, sym, ◌∙◌, inl, inr, w32}
+use Rattle.std.proofs.Common.{◌≡◌, Bool, true, false, not, Option, option_map, ap, sym, ◌∙◌, inl, inr, rules, w32}
+use Rattle.std.specs.Option.{is_some}
 use Rattle.std.proofs.lemmas.Int.{to_z-of_z}
 use Rattle.rpc_meta.specs.Parts.{gathered_of, names_of, outcome_of}
 use Rattle.rpc_meta.proofs.Merging.{meta_is_read}
-use Rattle.rpc_meta.proofs.Building.{built, some_from}
+use Rattle.rpc_meta.proofs.Building.{built}
 use Rattle.prpc_frame.specs.View.{request_viewed, response_viewed}
 use Rattle.prpc_frame.proofs.view.view_meta.Goals as goal
 use Rattle.prpc_frame.proofs.view.view_meta.Goals.{else-is_none-via-then-is_none+else-is_none-2, else-is_none-via-else-is_none}
+
+is_some-map : {A B : Type 0} (f : A → B) (o : Option A) → is_some (option_map f o) ≡ is_some o
+is_some-map f o = search rules
+
+some_from : {A B : Type 0} (f : A → B) (o : Option A) (none : Bool) → is_some o ≡ not none → none ≡ false → is_some (option_map f o) ≡ true
+some_from f o none e h = is_some-map f o ∙ e ∙ ap not h
 
 pub returns : goal.returns
 returns c =

@@ -1,12 +1,16 @@
-use Rattle.std.proofs.Common.{option_map, ◌∙◌, inl, inr, w32}
+use Rattle.std.proofs.Common.{◌≡◌, Bool, true, false, not, Option, option_map, ap, ◌∙◌, inl, inr, rules, w32}
+use Rattle.std.specs.Option.{is_some}
 use Rattle.std.proofs.lemmas.Result.{err_from_is_err_and}
 use Rattle.std.proofs.lemmas.Int.{to_z-of_z}
 use Rattle.rpc_meta.specs.Meaning.{request_of, response_of}
 use Rattle.rpc_meta.specs.Parts.{gathered_of, names_of, outcome_of}
 use Rattle.rpc_meta.proofs.Merging.{meta_is_read}
-use Rattle.rpc_meta.proofs.Building.{neither, fails, built, is_some-map, some_from}
+use Rattle.rpc_meta.proofs.Building.{neither, fails, built}
 use Rattle.rpc_meta.proofs.meta.RpcMeta.read.Goals as goal
 use Rattle.rpc_meta.proofs.meta.RpcMeta.read.Goals.{else-is_none-via-then-is_none+else-is_none-2, else-is_none-via-else-is_none}
+
+is_some-map : {A B : Type 0} (f : A → B) (o : Option A) → is_some (option_map f o) ≡ is_some o
+is_some-map f o = search rules
 
 pub returns-then-is_none-2 : goal.returns-then-is_none-2
 returns-then-is_none-2 c =
@@ -17,6 +21,9 @@ pub returns-in_err-request : goal.returns-in_err-request
 returns-in_err-request c =
     let p = err_from_is_err_and c.from_residual-in_err-request.result c.from_residual-in_err-request.ensures.1 in
     rw (p.1, p.2) (fails c.in_err-request.field-0.0 (gathered_of c.in_ok-parts.parts) _ c.in_err-request.ensures (meta_is_read c.args.bytes.now (gathered_of c.in_ok-parts.parts) c.in_ok-parts.ensures))
+
+some_from : {A B : Type 0} (f : A → B) (o : Option A) (none : Bool) → is_some o ≡ not none → none ≡ false → is_some (option_map f o) ≡ true
+some_from f o none e h = is_some-map f o ∙ e ∙ ap not h
 
 pub returns : goal.returns
 returns c =
