@@ -37,7 +37,7 @@ module _ (q : id_plan.Plan) where
     pub begun : HasBegun q o id v
 
   stays : (o : ℕ) (xs : List Task) (n : ℕ) (v w : View Asked) → Grows (call_index q o) n v w → BegunIn o xs v → BegunIn o xs w
-  stays o xs n v w grows b = record { place = b.place; task = b.task; there = b.there; asked = b.asked; is_call = b.is_call; operation = b.operation; id = b.id; begun = begun_later (call_index q o) n o b.id v w grows b.begun }
+  stays o xs n v w grows b = record { place = b.place; task = b.task; there = b.there; asked = b.asked; is_call = b.is_call; operation = b.operation; id = b.id; begun = begun_later q (call_index q o) n o b.id v w grows b.begun }
 
   module _ {O : Type 0} (state : O → OutState) (p : Plan) where
     module _ {g : Ghosts O} (o : ℕ) where
@@ -49,7 +49,7 @@ module _ (q : id_plan.Plan) where
         where
           begins : BeginsCall q o state p x.op m.ready t.has → total (own_at (call_index q o)) m.ready.calls.view.kept ≡ 0 → BegunIn o xs t.has.calls.view
           begins b zero_ = dite (ℕ_discrete b.asked.operation o)
-              (λ e. record { place = n; task = x; there = at; asked = b.asked; is_call = b.is_call; operation = e; id = b.id; begun = subst (λ (y : ℕ). HasBegun q y b.id t.has.calls.view) e (made_begun b.asked b.id (both_of m.ready) (both_of t.has) b.called) })
+              (λ e. record { place = n; task = x; there = at; asked = b.asked; is_call = b.is_call; operation = e; id = b.id; begun = subst (λ (y : ℕ). HasBegun q y b.id t.has.calls.view) e (made_begun q state p b.asked b.id (both_of m.ready) (both_of t.has) b.called) })
               (λ ne. absurd (let a = (begun_by q o state p b.asked b.id (both_of m.ready) (both_of t.has) b.called).grows.own in let c = only-else o b.asked.operation ne in omega (arith, some_, zero_, a, c)))
 
           by : Moves q o 0 m.ready.calls t.has.calls ⊎ BeginsCall q o state p x.op m.ready t.has → total (own_at (call_index q o)) m.ready.calls.view.kept ≡ 0 → BegunIn o xs t.has.calls.view

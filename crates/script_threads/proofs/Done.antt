@@ -13,7 +13,6 @@ use Rattle.brpc_model.specs.Link.{LinkEnd}
 use Rattle.brpc_model.specs.Operations.{link_names, link_shapes}
 use Rattle.brpc_model.specs.PlaceWords.{IsReportOf, HasEachOutcome}
 use Rattle.brpc_model.specs.Report.{LinkLine}
-use Rattle.brpc_model.specs.Run.{Run, nothing_late}
 use Rattle.brpc_model.specs.Script.{script_of}
 use Rattle.brpc_model.specs.Served.{given_for}
 use Rattle.sock_message.specs.Asked.{Asked}
@@ -35,16 +34,13 @@ use Rattle.script_parts.specs.callless_fits.proofs.Each.{told_each}
 use Rattle.script_parts.specs.callless_fits.proofs.Sends.{ToldRun}
 use Rattle.script_parts.specs.call_whys.specs.sock_deeds.specs.Told.{fixed_by, IsOfSockets}
 use Rattle.script_parts.specs.report_fits.proofs.Lists.{within}
+use Rattle.script_threads.specs.Served.{run_of}
 use Rattle.script_threads.specs.Told.{IsThreadsRun, IsThreadsText}
 use Rattle.script_threads.proofs.CallKinds.{text_kinds}
 use Rattle.script_threads.proofs.Reports.{text_of}
 use Rattle.script_threads.proofs.Small.{text_small}
 
 module _ {script : List Item} {text : List ℕ} {ends : List LinkEnd} (is : IsThreadsText script text ends) where
-  -- the run that the text reports
-  abbrev pub run : Run
-  run = record { script = script; report = is.reported.report.report; ends = ends; late = nothing_late; story = record { fails = is.sockets.fails; gave = is.answered.gave; last = is.attempts.last } }
-
   -- each link with the server gave the replies to all that it took
   abbrev pub GivesAll : Type 0
   GivesAll = (k : ℕ) (shape : Shape) (line : LinkLine) → slice_get (link_shapes script) k ≡ Some shape → IsTrue shape.serve → slice_get is.reported.report.report.links k ≡ Some line → is.answered.gave k ≡ given_for shape line.took
@@ -114,7 +110,7 @@ module _ (bytes : List ℕ) (script : List Item) (reads : script_of bytes ≡ Ok
 
   module _ (small : ShowSmallIds is.outcomes) (tell : TellBytes script ends) (last : GivesLast is) where
     -- without `end` none gave an end that no `send` names
-    goes_on : (k : ℕ) (shape : Shape) → slice_get (link_shapes script) k ≡ Some shape → IsTrue shape.serve → IsUnsent (run is) k → shape.end ≡ None → (e : LinkEnd) → slice_get ends k ≡ Some e → e.gave_end ≡ true → ⊥
+    goes_on : (k : ℕ) (shape : Shape) → slice_get (link_shapes script) k ≡ Some shape → IsTrue shape.serve → IsUnsent (run_of is) k → shape.end ≡ None → (e : LinkEnd) → slice_get ends k ≡ Some e → e.gave_end ≡ true → ⊥
     goes_on k shape opened serves unsent endless e at ended = by e.took refl (tell k e shape at opened serves).0 (is.sockets.ends_told.each k e at).took
       where
         low : k < length (link_names script)
@@ -126,7 +122,7 @@ module _ (bytes : List ℕ) (script : List Item) (reads : script_of bytes ≡ Ok
             (λ more. last k e shape took at opened serves same ended more ∙ ap (λ (t : List ℕ). given_for shape (t ++ more)) home)
 
     module _ (gives : GivesAll is) where
-      owes : (k : ℕ) (shape : Shape) (line : LinkLine) → slice_get (link_shapes script) k ≡ Some shape → IsTrue shape.serve → slice_get is.reported.report.report.links k ≡ Some line → IsUnsent (run is) k → OwesReplies (run is) k shape
+      owes : (k : ℕ) (shape : Shape) (line : LinkLine) → slice_get (link_shapes script) k ≡ Some shape → IsTrue shape.serve → slice_get is.reported.report.report.links k ≡ Some line → IsUnsent (run_of is) k → OwesReplies (run_of is) k shape
       owes k shape line opened serves at unsent = record {
         faultless = no_fault bytes script reads is.outcomes is.places text is.reported.took ends fixed is.answered.gave is.sockets.orders is.sockets.core is.sockets.words is.sockets.tells.are_orders is.sockets.ends_told is.attempts is.on_calls.versions is.reported.report is.reported.told small tell
             k shape line opened serves at (gives k shape line opened serves at) unsent;
@@ -144,13 +140,13 @@ module _ (bytes : List ℕ) (script : List Item) (reads : script_of bytes ≡ Ok
         goes_on = goes_on k shape opened serves unsent;
       }
 
-      well : GivesWell (run is)
+      well : GivesWell (run_of is)
       well k shape opened serves unsent =
           let low = slice_get_within (link_shapes script) k shape opened in let many = shapes_many script in let lines = is.reported.report.told.line_each in
           let line = within is.reported.report.report.links k (omega (arith, low, many, lines)) in owes k shape line.0 opened serves line.1 unsent
 
     -- where each link with the server gave less than is read at most
-    pub complete_beside : (IsUntroubled script ends → GivesAll is) → GaveFew script ends → Completeness (run is)
+    pub complete_beside : (IsUntroubled script ends → GivesAll is) → GaveFew script ends → Completeness (run_of is)
     complete_beside gives few untroubled = complete known (well (gives untroubled)) few untroubled
 
 -- so it is of each run whose links were served and read beside its clients
@@ -158,5 +154,5 @@ module _ (P : Type 0) {O I : Type 0} (out : O → OutState) (inn : I → InState
   abbrev its_text : IsThreadsText script text links
   its_text = text_of P out inn g script text links r bytes reads
 
-  pub text_complete : TellBytes script links → GivesLast its_text → (IsUntroubled script links → GivesAll its_text) → GaveFew script links → Completeness (run its_text)
+  pub text_complete : TellBytes script links → GivesLast its_text → (IsUntroubled script links → GivesAll its_text) → GaveFew script links → Completeness (run_of its_text)
   text_complete tell last gives few = complete_beside bytes script reads text links its_text (text_kinds P out inn g script text links r bytes reads) (text_small P g out inn bytes script reads text links r) tell last gives few

@@ -15,7 +15,8 @@ offered_for spec took = if spec.serve then flat_map frame_bytes (first_of spec.e
 abbrev pub WasReadOut : LinkEnd → Type 0
 WasReadOut e = (e.gave_end ≡ true) ⊎ (e.closed ≡ Some true)
 
--- Then it gave that for all that the link took, as far as it tells both; and where it answered its end, also for all that might follow. However its reading ended, it gave the front of that for a front of what the link took.
+-- Then it gave that for all that the link took, as far as it tells both; and where it answered its end, also for all
+-- that might follow. However its reading ended, it gave a front of what is offered for a front of what the link took.
 pub record GaveOffer (spec : LinkSpec) (e : LinkEnd) : Type 0 where
   pub all : (took gave : List ℕ) → e.took ≡ Some took → e.gave ≡ Some gave → WasReadOut e → gave ≡ offered_for spec took
   pub last : (took gave : List ℕ) → e.took ≡ Some took → e.gave ≡ Some gave → e.gave_end ≡ true → (more : List ℕ) → gave ≡ offered_for spec (took ++ more)
