@@ -1,17 +1,34 @@
 use io_buf::{BlockPool, CutFault, IoBuf, NoMemory};
 use std::alloc::Global;
 
-/// A message is copied into a buffer, shared, cut in two, dropped, and given back.
-fn pass(alloc: Global, pool: &mut BlockPool, message: &[u8]) -> Result<u64, CutFault> {
+/// The message in a buffer.
+fn filled(alloc: Global, pool: &mut BlockPool, message: &[u8]) -> Result<IoBuf, NoMemory> {
     let mut buf = IoBuf::new(alloc);
     buf.append_bytes(pool, message)?;
-    let copy = buf.share()?;
-    let front = buf.cut_front(message.len() / 2)?;
+    Ok(buf)
+}
+
+/// Cuts a front and gives it back: how many bytes it had.
+fn cut(buf: &mut IoBuf, pool: &mut BlockPool, size: usize) -> Result<u64, CutFault> {
+    let front = buf.cut_front(size)?;
     let passed = front.len() as u64;
     front.recycle(pool);
+    Ok(passed)
+}
+
+/// Drops what is left, and gives the buffer back.
+fn empty(mut buf: IoBuf, pool: &mut BlockPool) {
     let rest = buf.len();
     buf.pop_front(rest);
     buf.recycle(pool);
+}
+
+/// A message is copied into a buffer, shared, cut in two, dropped, and given back.
+fn pass(alloc: Global, pool: &mut BlockPool, message: &[u8]) -> Result<u64, CutFault> {
+    let mut buf = filled(alloc, pool, message)?;
+    let copy = buf.share()?;
+    let passed = cut(&mut buf, pool, message.len() / 2)?;
+    empty(buf, pool);
     copy.recycle(pool);
     Ok(passed)
 }

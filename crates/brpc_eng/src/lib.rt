@@ -16,6 +16,3 @@ mod streams;
 mod threads;
 
 pub use engine::brpc;
-
-#[cfg(test)]
-mod tests;

@@ -2,6 +2,7 @@ ghost use Rattle.std.specs.Prelude.{◌≡◌, length, IfOk};
 
 use io_block::KEPT_BLOCKS;
 use io_buf::{BlockPool, CutFault, IoBuf, NoMemory};
+use std::alloc::Global;
 use std::test::Fail;
 
 // A pool that keeps two blocks.
@@ -35,14 +36,32 @@ fn has(buf: &IoBuf, bytes: &[u8]) -> bool {
     &*room == bytes
 }
 
+// A buffer with these bytes.
+fn buf_of(alloc: Global, pool: &mut BlockPool, bytes: &[u8]) -> Result<IoBuf, NoMemory> {
+    let mut buf = IoBuf::new(alloc);
+    buf.append_bytes(pool, bytes)?;
+    Ok(buf)
+}
+
+// Whether two of the bytes "abc" are cut from the front.
+fn are_two_cut(buf: &mut IoBuf) -> bool {
+    match buf.cut_front(2) {
+        Ok(front) => has(&front, b"ab") && has(buf, b"c"),
+        Err(_) => false,
+    }
+}
+
+// Whether a buffer of one byte refuses to have two cut.
+fn is_short(buf: &mut IoBuf) -> bool {
+    matches!(buf.cut_front(2), Err(CutFault::Short { have: 1 }))
+}
+
 #[test]
 fn cuts(rt: HostRuntime) -> Result<(), Fail> {
     let mut pool = BlockPool::new(rt.alloc());
-    let mut buf = IoBuf::new(rt.alloc());
-    buf.append_bytes(&mut pool, b"abc")?;
-    let front = buf.cut_front(2)?;
-    assert!(rt; has(&front, b"ab") && has(&buf, b"c"));
-    assert!(rt; matches!(buf.cut_front(2), Err(CutFault::Short { have: 1 })));
+    let mut buf = buf_of(rt.alloc(), &mut pool, b"abc")?;
+    assert!(rt; are_two_cut(&mut buf));
+    assert!(rt; is_short(&mut buf));
     assert!(rt; has(&buf, b"c"));
     Ok(())
 }
@@ -66,21 +85,30 @@ fn a_copy_is_shortened_alone(rt: HostRuntime) -> Result<(), Fail> {
     Ok(())
 }
 
+// Whether two small messages lie in the one block that the pool lacks, and the second one is there without the first.
+fn share_a_block(alloc: Global, pool: &mut BlockPool) -> Result<bool, NoMemory> {
+    let first = buf_of(alloc, pool, b"abc")?;
+    let second = buf_of(alloc, pool, b"def")?;
+    let are_there = has(&first, b"abc") && has(&second, b"def") && pool.kept() == 1;
+    first.recycle(pool);
+    let is_left = has(&second, b"def");
+    second.recycle(pool);
+    Ok(are_there && is_left)
+}
+
+// Whether a whole message takes no block but one that the pool has.
+fn takes_no_other(alloc: Global, pool: &mut BlockPool) -> Result<bool, NoMemory> {
+    let bytes = Vec::from_elem(alloc, b'a', 8_192)?;
+    let whole = buf_of(alloc, pool, bytes.as_slice())?;
+    Ok(whole.refs() == 1 && pool.kept() == 1)
+}
+
+// Behind the small messages nothing refers to their block any more.
 #[test]
 fn small_messages_lie_in_one_block(rt: HostRuntime) -> Result<(), Fail> {
     let mut pool = two_blocks(&rt)?;
-    let mut first = IoBuf::new(rt.alloc());
-    first.append_bytes(&mut pool, b"abc")?;
-    let mut second = IoBuf::new(rt.alloc());
-    second.append_bytes(&mut pool, b"def")?;
-    assert!(rt; has(&first, b"abc") && has(&second, b"def") && pool.kept() == 1);
-    first.recycle(&mut pool);
-    assert!(rt; has(&second, b"def"));
-    second.recycle(&mut pool);
-    // Nothing refers to the block any more, so a whole message takes no other.
-    let mut whole = IoBuf::new(rt.alloc());
-    whole.append_bytes(&mut pool, [b'a'; 8_192].as_slice())?;
-    assert!(rt; whole.refs() == 1 && pool.kept() == 1);
+    assert!(rt; share_a_block(rt.alloc(), &mut pool)?);
+    assert!(rt; takes_no_other(rt.alloc(), &mut pool)?);
     Ok(())
 }
 

@@ -1,95 +1,71 @@
+//! What a row asks of the top call, and what that answers.
 ghost use Rattle.std.specs.Prelude.{◌≡◌, []};
 
 use brpc_eng::brpc;
 use sock_io::{Linker, MemSink, MemSource, OpenGate};
-use std::alloc::Global;
+use std::alloc::{AllocError, Global};
+use std::str;
 use std::sync::Wait;
-use std::test::Fail;
 use std::thread::Threads;
 
-/// The calls of the program's streams that fail, counted from 1 (0: none), and how much the sink takes.
-#[derive(Clone, Copy)]
-pub struct Streams {
+/// What a row states: the calls that fail, counted from 1 (0: none), of its streams and of its links, how much the sink takes, the
+/// words and the input.
+#[derive(Drop)]
+pub struct Asked {
     pub read: u64,
     pub write: u64,
     pub room: usize,
+    pub open: u32,
+    pub put: u32,
+    pub words: Vec<String>,
+    pub input: Vec<u8>,
 }
 
-/// None fails.
-pub const CALM: Streams = Streams {
-    read: 0,
-    write: 0,
-    room: 1024,
-};
-
-/// The status of a command over this input, these streams and these links, and what it wrote.
-pub fn answered_by<R: Threads + Wait + Sync + Alloc<A = Global>, L: Linker>(
-    rt: &R,
-    words: &[String],
-    input: &[u8],
-    streams: Streams,
-    links: &mut L,
-) -> Result<(u8, Vec<u8>), Fail>
-    requires asked { L.asked links.old ≡ [] }
-    requires back { L.back links.old ≡ [] }
-    requires accepted { L.accepted links.old ≡ 0 }
-    requires done { L.done links.old ≡ [] }
-{
-    let alloc = rt.alloc();
-    let mut source = MemSource::new(input.to_vec(alloc)?, vec![in alloc; streams.read]?);
-    let mut out = MemSink::new(alloc, streams.room, vec![in alloc; streams.write]?)
-        .ok()
-        .ok_or("no memory")?;
-    let status = brpc(rt, alloc, words, &mut source, &mut out, links, &OpenGate);
-    Ok((status, out.bytes().to_vec(alloc)?))
+/// The status of a command, and what it wrote.
+#[derive(Drop)]
+pub struct Answer {
+    pub status: u8,
+    pub written: Vec<u8>,
 }
 
-/// The status of a command over this input and these links, and what it wrote.
+/// The answer to it over these links.
 pub fn answered<R: Threads + Wait + Sync + Alloc<A = Global>, L: Linker>(
     rt: &R,
-    words: &[String],
-    input: &str,
+    asked: Asked,
     links: &mut L,
-) -> Result<(u8, Vec<u8>), Fail>
-    requires asked { L.asked links.old ≡ [] }
-    requires back { L.back links.old ≡ [] }
-    requires accepted { L.accepted links.old ≡ 0 }
-    requires done { L.done links.old ≡ [] }
-{
-    answered_by(rt, words, input.as_bytes(), CALM, links)
-}
-
-/// The status of `replay` over these links, and what it wrote.
-pub fn replayed<R: Threads + Wait + Sync + Alloc<A = Global>, L: Linker>(
-    rt: &R,
-    script: &str,
-    links: &mut L,
-) -> Result<(u8, Vec<u8>), Fail>
+) -> Result<Answer, AllocError>
     requires asked { L.asked links.old ≡ [] }
     requires back { L.back links.old ≡ [] }
     requires accepted { L.accepted links.old ≡ 0 }
     requires done { L.done links.old ≡ [] }
 {
     let alloc = rt.alloc();
-    let words = vec![in alloc; String::from_str(alloc, "replay")?]?;
-    answered(rt, &words, script, links)
+    let reads = vec![in alloc; asked.read]?;
+    let writes = vec![in alloc; asked.write]?;
+    let mut source = MemSource::new(asked.input, reads);
+    let Ok(mut out) = MemSink::new(alloc, asked.room, writes) else {
+        return Err(AllocError);
+    };
+    let words = asked.words.as_slice();
+    let status = brpc(rt, alloc, words, &mut source, &mut out, links, &OpenGate);
+    let written = Vec::from_slice(alloc, out.bytes())?;
+    Ok(Answer { status, written })
 }
 
-/// The status of `serve` for one connection over these links, and what it wrote.
-pub fn served<R: Threads + Wait + Sync + Alloc<A = Global>, L: Linker>(
-    rt: &R,
-    links: &mut L,
-) -> Result<(u8, Vec<u8>), Fail>
-    requires asked { L.asked links.old ≡ [] }
-    requires back { L.back links.old ≡ [] }
-    requires accepted { L.accepted links.old ≡ 0 }
-    requires done { L.done links.old ≡ [] }
-{
-    let alloc = rt.alloc();
-    let words = vec![in alloc;
-        String::from_str(alloc, "serve")?,
-        String::from_str(alloc, "1")?,
-        String::from_str(alloc, "1")?,
-    ]?;
-    answered(rt, &words, "", links)
+/// The status, and behind it what was written, `|` for the end of a line.
+pub fn shown(alloc: Global, answer: &Answer) -> Result<String, AllocError> {
+    let status = answer.status;
+    let mut said = format!(in alloc; "{status}|")?;
+    match str::from_utf8(answer.written.as_slice()) {
+        Ok(text) => push_lines(&mut said, text)?,
+        Err(_) => said.push_str("no text")?,
+    }
+    Ok(said)
+}
+
+fn push_lines(said: &mut String, text: &str) -> Result<(), AllocError> {
+    for letter in text.chars() {
+        said.push(if letter == '\n' { '|' } else { letter })?;
+    }
+    Ok(())
 }

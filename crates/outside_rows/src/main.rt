@@ -1,22 +1,20 @@
-//! Rows of the top call: each command with what it writes, and an outside that isn't kind, links whose other ends give bytes that
-//! nobody would send, and outside calls that fail in turn, step by step and on threads; and scripts on threads, over links whose
-//! other ends move by themselves. There is nothing here but tests.
+//! Rows of the top call: it answers each line of its standard input by the links that the line's first word names, and writes
+//! other lines as they are. What it has to answer stands in the file `stdout`. The rows are each command, an outside that isn't
+//! kind, links whose other ends give bytes that nobody would send, and outside calls that fail in turn, step by step and on
+//! threads, over links whose other ends move by themselves.
 #![tactic(auto)]
 
-#[cfg(test)]
 mod answer;
-#[cfg(test)]
-mod failing;
-#[cfg(test)]
-mod giving;
-#[cfg(test)]
 mod noting;
-#[cfg(test)]
-mod running;
-#[cfg(test)]
-mod serving;
-#[cfg(test)]
-mod streams;
+mod over;
+mod rows;
 
-// A program, since rt takes no sum of one; what it would do is in the tests.
-fn main() {}
+use std::io;
+
+fn main(rt: HostRuntime) -> io::Result<()> {
+    for row in rt.lines(rt.alloc()) {
+        let said = rows::said(&rt, row?.as_str())?;
+        println!(rt; "{said}")?;
+    }
+    Ok(())
+}

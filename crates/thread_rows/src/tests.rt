@@ -184,7 +184,7 @@ fn crowd_is_whole<R: Threads + Wait + Sync + Alloc<A = Global>>(
 
 #[test]
 fn messages_of_eight_clients_leave_whole_and_in_order(rt: HostRuntime) {
-    assert_eq!(&rt; crowd_is_whole(&rt, rt.alloc()), Ok(true));
+    assert!(&rt; matches!(crowd_is_whole(&rt, rt.alloc()), Ok(true)));
 }
 
 // Both messages of client 2 are behind that of client 1, whose put lasts until client 2 comes to the second one.
@@ -208,5 +208,5 @@ fn sends_beside_a_put<R: Threads + Wait + Sync + Alloc<A = Global>>(
 
 #[test]
 fn a_send_returns_while_another_client_puts(rt: HostRuntime) {
-    assert_eq!(&rt; sends_beside_a_put(&rt, rt.alloc()), Ok(true));
+    assert!(&rt; matches!(sends_beside_a_put(&rt, rt.alloc()), Ok(true)));
 }
