@@ -2,7 +2,6 @@ ghost use Rattle.std.specs.Prelude.{◌≡◌};
 
 use ring_link::{RingIn, RingOut, RingPeer, open_ring};
 use sock_io::{Ends, In, LinkSpec, Mode, Out, Peer, Put, Served, Take};
-use std::alloc::Global;
 use std::sync::Wait;
 use std::test::Fail;
 use std::thread;
@@ -27,59 +26,23 @@ fn asked() -> LinkSpec
     }
 }
 
-// What becomes of one put, of one take and of one step of the other end. What these calls promise is of no use to a row.
-fn put_of(out: &mut RingOut, piece: &[u8]) -> Put {
-    if piece.is_empty() {
-        return Put::Failed;
-    }
-    out.put(piece)
-}
-
-fn take_of(inn: &mut RingIn, room: &mut [u8; 64]) -> Take {
-    inn.take(room)
-}
-
-fn step_of(peer: &mut RingPeer) -> Option<Served> {
-    peer.serve().ok()
-}
-
-type Link = Ends<RingOut, RingIn, RingPeer>;
-
-// Whether the request is taken, and served in two steps.
-fn is_served(ends: &mut Link) -> bool {
-    step_of(&mut ends.peer) == Some(Served::Waiting)
-        && put_of(&mut ends.out, REQUEST) == Put::Took(30)
-        && step_of(&mut ends.peer) == Some(Served::Moved)
-        && step_of(&mut ends.peer) == Some(Served::Moved)
-}
-
-// Whether the other end is done in two steps once nothing more is put.
-fn is_done(ends: &mut Link, room: &mut [u8; 64]) -> bool {
-    put_of(&mut ends.out, REQUEST) == Put::Failed
-        && step_of(&mut ends.peer) == Some(Served::Moved)
-        && take_of(&mut ends.inn, room) == Take::Empty
-        && step_of(&mut ends.peer) == Some(Served::Done)
-        && take_of(&mut ends.inn, room) == Take::Closed
-}
-
-fn finish(out: &mut RingOut) {
-    out.finish();
-}
-
-fn opened(alloc: Global, link: u16) -> Option<Link> {
-    open_ring(alloc, &asked(), link).ok()
-}
-
 #[test]
 fn a_request_is_answered(rt: HostRuntime) -> Result<(), Fail> {
-    let mut ends = opened(rt.alloc(), 3).ok_or("memory")?;
+    let mut ends = open_ring(rt.alloc(), &asked(), 3).ok().ok_or("memory")?;
     let mut room = [0; 64];
-    assert!(rt; take_of(&mut ends.inn, &mut room) == Take::Empty);
-    assert!(rt; is_served(&mut ends));
-    assert!(rt; take_of(&mut ends.inn, &mut room) == Take::Took(20));
+    assert!(rt; ends.inn.take(&mut room) == Take::Empty);
+    assert!(rt; ends.peer.serve().ok() == Some(Served::Waiting));
+    assert!(rt; ends.out.put(REQUEST) == Put::Took(30));
+    assert!(rt; ends.peer.serve().ok() == Some(Served::Moved));
+    assert!(rt; ends.peer.serve().ok() == Some(Served::Moved));
+    assert!(rt; ends.inn.take(&mut room) == Take::Took(20));
     assert!(rt; room.starts_with(REPLY));
-    finish(&mut ends.out);
-    assert!(rt; is_done(&mut ends, &mut room));
+    ends.out.finish();
+    assert!(rt; ends.out.put(REQUEST) == Put::Failed);
+    assert!(rt; ends.peer.serve().ok() == Some(Served::Moved));
+    assert!(rt; ends.inn.take(&mut room) == Take::Empty);
+    assert!(rt; ends.peer.serve().ok() == Some(Served::Done));
+    assert!(rt; ends.inn.take(&mut room) == Take::Closed);
     Ok(())
 }
 
@@ -141,7 +104,11 @@ fn serve_all<R: Wait>(rt: &R, peer: RingPeer) {
 }
 
 // One thread calls, and another serves.
-fn call_across<R: Threads + Wait + Sync>(rt: &R, ends: Link, calls: u32) -> usize {
+fn call_across<R: Threads + Wait + Sync>(
+    rt: &R,
+    ends: Ends<RingOut, RingIn, RingPeer>,
+    calls: u32,
+) -> usize {
     let Ends { out, inn, peer } = ends;
     let (_, count) = thread::join(
         rt,
@@ -153,7 +120,7 @@ fn call_across<R: Threads + Wait + Sync>(rt: &R, ends: Link, calls: u32) -> usiz
 
 #[test]
 fn one_thread_calls_and_another_serves(rt: HostRuntime) -> Result<(), Fail> {
-    let ends = opened(rt.alloc(), 0).ok_or("memory")?;
+    let ends = open_ring(rt.alloc(), &asked(), 0).ok().ok_or("memory")?;
     assert!(rt; call_across(&rt, ends, 3_000) == 60_000);
     Ok(())
 }

@@ -38,22 +38,6 @@ fn free_port<N: Net<Stream = TcpStream, Listener = TcpListener>>(net: &N) -> io:
     Ok(port)
 }
 
-// What becomes of one put and of one take. What these calls promise is of no use to a row.
-fn put_of(out: &mut TcpHalf, piece: &[u8]) -> Put {
-    if piece.is_empty() {
-        return Put::Failed;
-    }
-    out.put(piece)
-}
-
-fn take_of(inn: &mut TcpIn, room: &mut [u8; 64]) -> Take {
-    inn.take(room)
-}
-
-fn finish(out: &mut TcpHalf) {
-    out.finish();
-}
-
 // Accepts a connection, takes a message and its end, and then replies.
 fn hear<N: Net<Stream = TcpStream, Listener = TcpListener>>(
     net: &N,
@@ -63,10 +47,10 @@ fn hear<N: Net<Stream = TcpStream, Listener = TcpListener>>(
     let mut links = TcpLinker::new(net, alloc);
     let (mut out, mut inn) = links.accept(port).ok()?;
     let mut room = [0; 64];
-    let message = take_of(&mut inn, &mut room);
-    let end = take_of(&mut inn, &mut [0; 64]);
-    let reply = put_of(&mut out, b"reply");
-    finish(&mut out);
+    let message = inn.take(&mut room);
+    let end = inn.take(&mut [0; 8]);
+    let reply = out.put(b"reply");
+    out.finish();
     links.done(out, inn);
     Some((room.starts_with(b"message"), message, end, reply))
 }
@@ -82,8 +66,8 @@ fn say<N: Net<Stream = TcpStream, Listener = TcpListener>>(
     let mut room = [0; 64];
     let message = ends.out.put(b"message");
     ends.out.finish();
-    let reply = take_of(&mut ends.inn, &mut room);
-    let end = take_of(&mut ends.inn, &mut [0; 64]);
+    let reply = ends.inn.take(&mut room);
+    let end = ends.inn.take(&mut [0; 8]);
     links.back(0, ends);
     Some((room.starts_with(b"reply"), message, reply, end))
 }
@@ -146,26 +130,21 @@ fn accept_fails_where_another_one_listens(rt: HostRuntime) -> Result<(), Fail> {
     Ok(())
 }
 
-// Whether a message is put, and the link fails from then on once its other end goes away with bytes that it didn't read.
-fn fails_once_lost(out: &mut TcpHalf, inn: &mut TcpIn, listener: &TcpListener) -> io::Result<bool> {
-    let is_put = put_of(out, b"message") == Put::Took(7);
-    let (far, _) = listener.accept()?;
-    far.peek(&mut [0; 8])?;
-    drop(far);
-    let mut room = [0; 64];
-    let is_lost = take_of(inn, &mut room) == Take::Failed;
-    let is_lost_still = take_of(inn, &mut room) == Take::Failed;
-    Ok(is_put && is_lost && is_lost_still && put_of(out, b"message") == Put::Failed)
-}
-
-// It is not ended.
+// The other end goes away with bytes that it didn't read. The link fails then and from then on, and is not ended.
 #[test]
 fn lost_connection_fails(rt: HostRuntime) -> Result<(), Fail> {
     let (listener, port) = listen(&rt)?;
     let mut links = TcpLinker::new(&rt, rt.alloc());
     let mut ends = links.open(&asked(Mode::Tcp(port))).ok().ok_or("memory")?;
-    assert!(rt; fails_once_lost(&mut ends.out, &mut ends.inn, &listener)?);
-    finish(&mut ends.out);
+    assert!(rt; ends.out.put(b"message") == Put::Took(7));
+    let (far, _) = listener.accept()?;
+    let mut room = [0; 8];
+    far.peek(&mut room)?;
+    drop(far);
+    assert!(rt; ends.inn.take(&mut room) == Take::Failed);
+    assert!(rt; ends.inn.take(&mut room) == Take::Failed);
+    assert!(rt; ends.out.put(b"message") == Put::Failed);
+    ends.out.finish();
     Ok(())
 }
 
