@@ -4,8 +4,6 @@ use Rattle.std.proofs.lemmas.List.{set-get_or, map-set}
 use Rattle.sock_words.specs.declared.kind.Kind.TheVariants.{C1, I1}
 use Rattle.sock_words.specs.declared.socket_id.SocketId.{SocketId}
 use Rattle.sock_model.specs.Layout.{request_index}
-use Rattle.seat_programs.specs.declared.task.Sizes.{Sizes}
-use Rattle.seat_programs.specs.Asides as asides
 use Rattle.seat_programs.specs.Programs.{Program}
 use Rattle.seat_programs.specs.Attempts.{begin_call, claim_id}
 use Rattle.seat_programs.specs.Sends.{accept}

@@ -1,9 +1,7 @@
-use Rattle.std.proofs.Common.{refl, arith, ap, ◌+◌, ◌∙◌, sym}
-use Rattle.seat_states.specs.declared.point.CallStep.TheVariants as begins
+use Rattle.std.proofs.Common.{refl, arith, ap, ◌∙◌, sym}
 use Rattle.seat_states.specs.declared.point.SendStep.TheVariants as sends
 use Rattle.seat_states.specs.declared.point.Point.TheVariants as points
-use Rattle.client_seats.specs.Seats.{seat_data}
-use Rattle.sock_core.proofs.Passing.{seat_at, passed_request, passed_slot, passed_along}
+use Rattle.sock_core.proofs.Passing.{passed_request, passed_slot, passed_along}
 use Rattle.sock_core.proofs.tables.Tables.pass.Goals.{in-Send-default-Claim+else-not-passes_request, in-Call-ClaimId+else-not-passes_slot, in-Send+in-Look-1, in-Call+in-LoadName-1, in-Rest-1}
 use Rattle.sock_core.proofs.tables.Tables.pass.Goals as goal
 
