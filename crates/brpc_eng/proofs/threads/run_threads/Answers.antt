@@ -5,7 +5,7 @@ use Rattle.brpc_eng.proofs.threads.run_threads.Goals as goal
 
 pub threads_and_report-requires-clause-short : goal.threads_and_report-requires-clause-short
 threads_and_report-requires-clause-short g c κs within =
-    (c.deref.result.now, (c.in-Ok-read_script.ensures.script, read_few _ _ c.in-Ok.ensures.came.0 c.deref.result.now c.in-Ok.bytes c.in-Ok.ensures.came.1 c.deref.ensures.value))
+    (c.deref.result.now, c.in-Ok-read_script.ensures.script, read_few _ _ c.in-Ok.ensures.came.0 c.deref.result.now c.in-Ok.bytes c.in-Ok.ensures.came.1 c.deref.ensures.value)
 
 pub threads_and_report-requires-clause-pieces : goal.threads_and_report-requires-clause-pieces
 threads_and_report-requires-clause-pieces g c κs within = has_pieces c.deref.result.now _ c.in-Ok-read_script.ensures.script

@@ -11,5 +11,5 @@ returns-clause-opened g c =
     run_opened c.args.script.now c.run_on_threads-ran.result _ _ _ c.run_mode-mode.result (run_mode c.args.port) c.run_mode-mode.ensures
     c.run_on_threads-ran.ensures.asked c.run_on_threads-ran.ensures.front c.run_on_threads-ran.ensures.given_back c.run_on_threads-ran.ensures.numbered c.tell_run.ensures
 
-pub run_on_threads-requires-clause-script : goal.run_on_threads-requires-clause-script
-run_on_threads-requires-clause-script g c = (c.requires.short.0, c.requires.short.1.0)
+pub run_on_threads-ran-requires-clause-script : goal.run_on_threads-ran-requires-clause-script
+run_on_threads-ran-requires-clause-script g c = (c.requires.short.0, c.requires.short.1)
