@@ -12,4 +12,4 @@ returns-clause-opened g c =
     c.run_on_threads-ran.ensures.asked c.run_on_threads-ran.ensures.front c.run_on_threads-ran.ensures.given_back c.run_on_threads-ran.ensures.numbered c.tell_run.ensures
 
 pub run_on_threads-ran-requires-clause-script : goal.run_on_threads-ran-requires-clause-script
-run_on_threads-ran-requires-clause-script g c = (c.requires.short.0, c.requires.short.1)
+run_on_threads-ran-requires-clause-script g c κs within = (c.requires.short.0, c.requires.short.1)
