@@ -1,11 +1,14 @@
 -- Which step of a reader comes next by its point, and how it goes on behind one that finds a call or bytes.
-use Rattle.std.proofs.Common.{◌≡◌, refl, ℕ, ◌+◌, ◌≤◌, Bool, true, false, if◌then◌else◌, Option, Some, ap, sym, ◌∙◌, subst, arith}
+use Rattle.std.proofs.Common.{◌≡◌, refl, ℕ, ◌+◌, ◌≤◌, Bool, true, false, if◌then◌else◌, List, [], Option, Some, ap, sym, ◌∙◌, subst, arith}
+use Rattle.sock_words.specs.declared.outcome.Outcome.{Outcome}
 use Rattle.corr_core.specs.Word.{parts, code_of}
 use Rattle.sock_message.specs.Asked.{Asked}
 use Rattle.id_points.specs.Ids.{id_of}
 use Rattle.seat_programs.specs.Calls as calls
 use Rattle.seat_programs.specs.Asides as asides
-use Rattle.seat_programs.specs.Asides.{Step, Taking, PutCall, id_slot}
+use Rattle.seat_programs.specs.Asides.{Step, Taking, Nothing, PutCall, id_slot}
+use Rattle.seat_programs.specs.Beside.{at_last}
+use Rattle.seat_programs.specs.Cores.{resolved, still_waiting, next_step, said}
 use Rattle.seat_programs.specs.Heads.{HasEnded, Unlocks}
 use Rattle.seat_programs.specs.Posts.{ends_call, end_id, unlocked}
 use Rattle.seat_programs.specs.Programs.{Program, Aside, Round}
@@ -22,6 +25,8 @@ use Rattle.reader_points.specs.declared.point.ReadPoint.{ReadPoint}
 use Rattle.reader_points.specs.declared.point.ReadPoint.TheVariants as points
 use Rattle.reader_points.specs.Points.{Context, point_program, error_in, ended_call, room_at, GoesByWord, TakesBytes, TakesCall}
 use Rattle.reader_points.specs.Steps.{after_taking, taken_behind}
+use Rattle.reader_seats.specs.GoesOn.{GoesOn}
+use Rattle.reader_seats.specs.Readers.{ReaderData, around, reader_program}
 use Rattle.seat_states.specs.Steps.{First, OfCall, OfAside, first_of, first_in}
 use Rattle.sock_core.proofs.FirstSteps.{IsBare, bare_first, step_is}
 use Rattle.sock_core.proofs.TableAsides.{FindsWord}
@@ -139,3 +144,14 @@ behind_take a p k n e = let x = step_is (point_program a p) (OfAside (asides.Tak
   is = x.1;
   behind = taking_first (point_program a p) k n x.0 (round_bytes a p (reads_bytes a p k n e).0) x.1;
 }
+
+-- where nothing came it takes again
+still_taking : (a : Context) (p : ReadPoint) → TakesBytes p → (next_step (resolved [] (after_taking (point_program a p) Nothing)) ≡ point_program a p) × (still_waiting [] (after_taking (point_program a p) Nothing) ≡ []) × ((os : List (Option Outcome)) → said (resolved [] (after_taking (point_program a p) Nothing)) os ≡ os)
+still_taking a (points.Take r) takes = (refl, refl, λ os. refl)
+still_taking a (points.Discard link total) takes = (refl, refl, λ os. refl)
+still_taking a _ takes = absurd takes
+
+pub takes_again : (calls : List ℕ) (reader : ReaderData) (ending : Bool) (os : List (Option Outcome)) → TakesBytes reader.point → ending ≡ false → GoesOn calls (after_taking (reader_program calls reader) (at_last ending Nothing)) reader os os
+takes_again calls reader ending os takes off =
+    let s = still_taking (around calls reader) reader.point takes in
+    subst (λ (b : Bool). GoesOn calls (after_taking (reader_program calls reader) (at_last b Nothing)) reader os os) (sym off) (record { program = sym s.0; told = sym (s.2 os); waiting = s.1 })

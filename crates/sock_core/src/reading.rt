@@ -118,6 +118,11 @@ impl<O: Out, I: In, P: Peer> Table<O, I, P> {
         let ends = &mut self.ends[usize::from(link)];
         links.settle(ends)?;
         let answer = take_into(&mut ends.inn, &mut self.room, count as usize);
+        match answer {
+            // Nothing came, so that the reader stays where it is.
+            Take::Empty if !self.ending => return Ok(Tick::Waits(On::In(link))),
+            _ => {}
+        }
         let Ok(()) = reader.follow_take(
             &mut self.pool,
             &self.calls,

@@ -1,16 +1,21 @@
-use Rattle.std.proofs.Common.{◌≡◌, refl, arith, ap, ◌∙◌, length, take, subst, ℕ, List}
+use Rattle.std.proofs.Common.{◌≡◌, refl, arith, ap, sym, ◌∙◌, length, take, subst, ℕ, Bool, true, false, List}
 use Rattle.std.proofs.Math.Seq.{map-set_same}
 use Rattle.std.proofs.lemmas.List.{length-take}
+use Rattle.sock_io.specs.declared.link.Take.TheVariants as takes
 use Rattle.sock_io.specs.Link.{end_of}
 use Rattle.reader_points.specs.declared.point.ReadStep.TheVariants as steps
 use Rattle.call_points.specs.declared.aside.Aside.TheVariants as variants
 use Rattle.reader_points.specs.Steps.{after_taking}
+use Rattle.seat_programs.specs.Asides.{Nothing}
 use Rattle.seat_programs.specs.Beside.{at_last}
+use Rattle.seat_programs.specs.Ticks.{OfTake, is_nothing}
 use Rattle.reader_seats.specs.Readers.{around, reader_program}
 use Rattle.reader_seats.specs.GoesOn.{GoesOn, taking_of}
+use Rattle.sock_core.specs.declared.machine.On.TheVariants as on
+use Rattle.sock_core.specs.declared.machine.Tick.TheVariants.{Waits}
 use Rattle.sock_core.proofs.Stepping.{written}
 use Rattle.sock_core.proofs.TableCuts.{cut_halves, cut_take, cut_along, on_err}
-use Rattle.sock_core.proofs.TableReads.{reads_bytes, few_room}
+use Rattle.sock_core.proofs.TableReads.{reads_bytes, few_room, takes_again}
 use Rattle.sock_core.proofs.TableReadings.{next_along, told_along, goes_as, take_told}
 use Rattle.sock_core.proofs.TableTakes.{taken_from}
 use Rattle.sock_core.proofs.table.Table.read_bytes.Goals as goal
@@ -24,8 +29,8 @@ returns-in_err-settle-clause-err g c =
     (map-set_same (λ e. end_of (g.O.Out.state e.out) (g.I.In.state e.inn)) c.self.inside.ends.items c.from-2.result _ c.index_mut-ends.result.now (ap (λ e. end_of (g.O.Out.state e.out) (g.I.In.state e.inn)) e))
     refl))
 
-pub returns-in_default-clause-err : goal.returns-in_default-clause-err
-returns-in_default-clause-err g c =
+pub returns-in_default-follow_take-clause-err : goal.returns-in_default-follow_take-clause-err
+returns-in_default-follow_take-clause-err g c =
     let reader = c.args.reader.now in
     let next = next_along reader (steps.Aside (variants.TakeBytes c.args.link c.args.count)) c.self.view_is c.requires.next in
     let room = take c.args.count c.take_into-answer.new.room in
@@ -62,3 +67,21 @@ returns-clause-ok g c i =
     told_along c.self.view_is (take_told i reader c.follow_take.new.self c.args.link c.args.count (taking_of room answer) c.take_tick.result (record { plan = refl; id_plan = refl; calls = refl; ending = refl; letters = refl; nexts = refl }) next from goes refl refl refl
     (map-set_same (λ e. g.O.Out.state e.out) c.self.inside.ends.items c.from-2.result _ c.index_mut-ends.result.now (c.in_ok-settle.ensures.out ∙ ap (λ e. g.O.Out.state e.out) c.index_mut-ends.ensures.value))
     (c.take_tick.ensures.waits room) (c.take_tick.ensures.moved room))
+
+pub returns-in-Empty-clause-ok : goal.returns-in-Empty-clause-ok
+returns-in-Empty-clause-ok g c i =
+    let reader = c.args.reader.now in
+    let next = next_along reader (steps.Aside (variants.TakeBytes c.args.link c.args.count)) c.self.view_is c.requires.next in
+    let room = take c.args.count c.take_into-answer.new.room in
+    let few = few_room reader.point in
+    let takes_bytes = reads_bytes (around c.self.inside.calls.items reader) reader.point c.args.link c.args.count next in
+    let is = takes_bytes.1 in
+    let long = length-take c.args.count c.take_into-answer.new.room in
+    let kept = c.take_into-answer.auto.room in
+    let inside = c.if-from-len.false in
+    let off : c.self.inside.ending ≡ false = c.if-not-self.true in
+    let from = taken_from (λ e. g.O.Out.state e.out) (λ e. g.I.In.state e.inn) _ _ c.self.inside.ends.items c.from-2.result c.args.link c.args.count c.index_mut-ends.result.now c.settle.new.ends _ c.from-2.ensures (omega (arith, inside, c.from.ensures, c.len.ensures, c.self.inside.ends.ok)) c.index_mut-ends.ensures.value refl refl refl room takes.Empty
+    (omega (arith, few, is, long, kept, c.deref_mut.ensures.len, c.self.invariant.1)) c.in_ok-settle.ensures.out c.in_ok-settle.ensures.inn c.in_ok-settle.ensures.settled refl c.in-Empty.ensures refl refl in
+    told_along c.self.view_is (take_told i reader reader c.args.link c.args.count Nothing (Waits (on.In c.args.link)) (record { plan = refl; id_plan = refl; calls = refl; ending = refl; letters = refl; nexts = refl }) next from (takes_again c.self.inside.calls.items reader c.self.inside.ending _ takes_bytes.0 off) refl refl refl
+    (map-set_same (λ e. g.O.Out.state e.out) c.self.inside.ends.items c.from-2.result _ c.index_mut-ends.result.now (c.in_ok-settle.ensures.out ∙ ap (λ e. g.O.Out.state e.out) c.index_mut-ends.ensures.value))
+    (λ e. refl) (λ e. let h : true ≡ false = ap (λ (b : Bool). is_nothing b (OfTake Nothing)) (sym off) ∙ e in cc))
