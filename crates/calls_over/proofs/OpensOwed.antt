@@ -47,7 +47,7 @@ use Rattle.owed_calls.specs.Owing.{Free, Owing, InList, Among, DutyTo, with_dead
 use Rattle.owed_calls.specs.Sound.{at_of, IsOpen, Owed, by_seat, by_retry, by_reader, retry_tokens, SoundOwing}
 use Rattle.owed_calls.proofs.Beginning.{owing_begins}
 use Rattle.owed_calls.proofs.EndsStill.{view_of}
-use Rattle.owed_calls.proofs.Known.{run_keeps}
+use Rattle.owed_calls.proofs.Known.{run_keeps, opens_apart}
 use Rattle.owed_calls.proofs.Owed.{tasks_own, opened_seats}
 use Rattle.owed_calls.proofs.OwingRuns.{Reaches, id_is, run_owing, reach_back}
 use Rattle.owed_calls.proofs.Saying.{says_along}
@@ -56,7 +56,7 @@ use Rattle.owed_calls.proofs.WordsGiven.{Named, names_others, beginning_named, r
 use Rattle.served_fits.specs.call_causes.proofs.Handled.{Sit}
 use Rattle.served_fits.specs.call_causes.proofs.HandledSteps.{State, waiting, reading, seeking, taking, ending_, freeing, over}
 use Rattle.served_fits.specs.call_causes.proofs.HandledStates.{After}
-use Rattle.served_fits.specs.send_causes.proofs.Early.{start, go, fitting, known, opens_apart, clients_take_none}
+use Rattle.served_fits.specs.send_causes.proofs.Early.{start, go, fitting, known, clients_take_none}
 use Rattle.served_fits.specs.send_causes.proofs.Takeless.{NoTakes}
 use Rattle.calls_over.proofs.Handled.{reads_before}
 use Rattle.served_fits.specs.send_causes.proofs.Standing.{Stands, resting, joining, opening, discarding, stands}

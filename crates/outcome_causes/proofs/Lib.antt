@@ -26,6 +26,7 @@ pub mod Final
 pub mod Lives
 pub mod Fails
 pub mod Whys
+pub mod Accepted
 pub mod Delivered
 pub mod Ordered
 pub mod Senders

@@ -195,13 +195,13 @@ asks_ready _ k next e = absurd (cc)
 abbrev pub AreSpoken : List (List Task) → Calls → Type 0
 AreSpoken clients a = (n : ℕ) (asked : Asked) → call_at (get_elem? a.homes n) ≡ some asked → IsSpoken clients asked.operation
 
-home_is : (x : Option (Option (std.Option Asked))) (asked : Asked) → call_at x ≡ some asked → x ≡ some (some (std.Some asked))
+pub home_is : (x : Option (Option (std.Option Asked))) (asked : Asked) → call_at x ≡ some asked → x ≡ some (some (std.Some asked))
 home_is none asked e = absurd (some-ne-none asked (sym e))
 home_is (some none) asked e = absurd (some-ne-none asked (sym e))
 home_is (some (some std.None)) asked e = absurd (some-ne-none asked (sym e))
 home_is (some (some (std.Some a))) asked e = ap (λ (z : Asked). some (some (std.Some z))) (some-injective a asked e)
 
-one_asked : (a b : Asked) → some (std.Some a) ≡ some (std.Some b) → a ≡ b
+pub one_asked : (a b : Asked) → some (std.Some a) ≡ some (std.Some b) → a ≡ b
 one_asked a b e = cc
 
 abbrev none_asked : std.Option Asked

@@ -1,13 +1,11 @@
 -- In a run a socket that was closed before the ending is that of a link whose reading ended early.
-use Rattle.std.proofs.Common.{◌≡◌, ℕ, zero, suc, ◌+◌, ◌-◌, ◌<◌, ◌≤◌, ◌==◌, ◌⊎◌, Bool, true, false, cond, List, [], ◌∷◌, ◌++◌, length, length-append, length-set, map, filter, replicate, get_or, set, inl, inr, ⊎_elim, refl, sym, ap, ◌∙◌, subst, arith}
+use Rattle.std.proofs.Common.{◌≡◌, ℕ, zero, suc, ◌+◌, ◌-◌, ◌<◌, ◌≤◌, ◌==◌, ◌⊎◌, true, false, List, [], ◌∷◌, ◌++◌, length, length-append, length-set, map, filter, replicate, get_or, set, inl, inr, ⊎_elim, refl, sym, ap, ◌∙◌, subst, arith}
 use Rattle.std.proofs.lemmas.Bool.{true≢false}
 use Rattle.std.proofs.lemmas.List.{length-map}
 use Rattle.std.proofs.lemmas.List.Concat.{flat_map-append}
-use Rattle.std.specs.Prelude.{Contains, slice_get, Some, None}
+use Rattle.std.specs.Prelude.{Contains, slice_get}
 use Rattle.std.specs.List.{AllByRecursion}
-use mathlib.Core.Logic.{dite}
 use mathlib.Core.Option.{Option, none, some, some-injective, some-ne-none}
-use native.Mathlib.Decide.{ℕ_discrete, dec_le}
 use lib.ListN.{get_elem?}
 use Rattle.atomic_table.proofs.Lists.{at_set, set_else}
 use Rattle.sock_words.specs.declared.plain.Plan.{Plan}
@@ -15,11 +13,9 @@ use Rattle.sock_model.specs.declared.view.View.{View}
 use Rattle.sock_model.specs.Layout.{open_index}
 use Rattle.sock_model.specs.Seats.{newcomer, below}
 use Rattle.brpc_model.specs.Causes.{HasFault, reading_limit}
-use Rattle.brpc_model.specs.Items.{Item, is_open}
+use Rattle.brpc_model.specs.Items.{Item}
 use Rattle.brpc_model.specs.Operations.{Turn, operations, link_names}
-use Rattle.brpc_model.specs.Order.{EachBefore}
-use Rattle.report_fits.proofs.Lists.{Has, some_is, before_from, before_at, before_filter_map}
-use Rattle.report_fits.proofs.Numbering.{is_numbered}
+use Rattle.report_fits.proofs.Lists.{Has}
 use Rattle.seat_programs.specs.declared.task.Op.{Op}
 use Rattle.seat_programs.specs.declared.task.Op.TheVariants as ops
 use Rattle.seat_programs.specs.declared.task.Task.{Task}
@@ -33,7 +29,7 @@ use Rattle.seat_programs.specs.Readers.{LIMIT, reader}
 use Rattle.seat_programs.specs.Heads.{Retry}
 use Rattle.seat_programs.specs.Clients.{operation, client_from, ending_of}
 use Rattle.seat_programs.specs.Cores.{Core, SeatState, word_of, found_at, resolved, next_step, still_waiting, waiting_at}
-use Rattle.seat_programs.specs.Tasks.{Numbered, numbered, opens, calls, plan_of, id_plan_of}
+use Rattle.seat_programs.specs.Tasks.{opens, calls, plan_of, id_plan_of}
 use Rattle.seat_programs.specs.Ticks.{Answer, Unasked, Moment, quiet, tick_with, ticked}
 use Rattle.seat_programs.specs.Scripts.{sizes_of, programs, readers_from, all_programs, all_tasks, opened, set_up, played, IsRunWithCalls}
 use Rattle.seat_programs.specs.Told.{IsOpen}
@@ -55,13 +51,12 @@ use Rattle.call_causes.specs.programs_allowed.specs.Openings.{links_of_all, with
 use Rattle.call_causes.specs.programs_allowed.proofs.Retrying.{retries_go}
 use Rattle.call_causes.specs.joint_runs.proofs.Runs.{AreMade, first_views, begins, are_fitting_in, joint_runs}
 use Rattle.call_causes.specs.owed_calls.proofs.EndsStill.{run_ending}
-use Rattle.call_causes.specs.owed_calls.proofs.Known.{known_of}
+use Rattle.call_causes.specs.owed_calls.proofs.Known.{known_of, opens_apart}
 use Rattle.call_causes.specs.owed_calls.proofs.Owed.{IsKnown, tasks_own, opened_seats}
-use Rattle.call_causes.specs.owed_calls.proofs.OpensStored.{place_at}
 use Rattle.call_causes.specs.owed_calls.proofs.WordsGiven.{Named, names_others, beginning_named, run_named}
 use Rattle.run_theorems.specs.Heard.{as_taken, bytes_found, taken_link, taken_at, taken_in, heard_takes, given_by}
 use Rattle.run_theorems.proofs.HeardRuns.{taken_append}
-use Rattle.send_causes.proofs.Faults.{Faults, fault_stays}
+use Rattle.call_causes.proofs.Streams.{faults_more}
 use Rattle.send_causes.proofs.Closers.{Ends}
 use Rattle.send_causes.proofs.ReaderRuns.{Keeps, founds, keeps_same, keeps_along, closes_along}
 use Rattle.send_causes.proofs.Takeless.{NoTakes, TakesNone, client_takes, ending_takes, takes_next}
@@ -71,11 +66,11 @@ use Rattle.call_causes.specs.programs_allowed.proofs.Fresh.{opening_fresh}
 
 -- by these takes: the link gave its end, or a frame with a fault, or as much as is read of it, or it failed
 abbrev pub EndedBy : List Taking → Type 0
-EndedBy h = In AtEnd h ⊎ (Faults 0 (given_by h) ⊎ ((LIMIT ≤ length (given_by h)) ⊎ In Broken h))
+EndedBy h = In AtEnd h ⊎ (HasFault (given_by h) ⊎ ((LIMIT ≤ length (given_by h)) ⊎ In Broken h))
 
 pub ended_more : (h later : List Taking) → EndedBy h → EndedBy (h ++ later)
 ended_more h later (inl m) = inl (in_left h later AtEnd m)
-ended_more h later (inr (inl f)) = inr (inl (subst (Faults 0) (sym (flat_map-append bytes_found h later)) (fault_stays 0 (given_by h) (given_by later) f)))
+ended_more h later (inr (inl f)) = inr (inl (subst HasFault (sym (flat_map-append bytes_found h later)) (faults_more (given_by h) (given_by later) f)))
 ended_more h later (inr (inr (inl l))) = inr (inr (inl (let e : length (given_by (h ++ later)) ≡ length (given_by h) + length (given_by later) = ap length (flat_map-append bytes_found h later) ∙ length-append (given_by h) (given_by later) in omega (arith, e, l))))
 ended_more h later (inr (inr (inr m))) = inr (inr (inr (in_left h later Broken m)))
 
@@ -232,27 +227,7 @@ founds_heard p calls os in_os Odd Lasts ends (m ∷ ms) c k e = ap (λ b. map (a
 
 -- ## A run
 
--- no operation is the `open` of two links
-pub opens_apart : (script : List Item) (k l o : ℕ) → get_elem? (opens script) k ≡ some o → get_elem? (opens script) l ≡ some o → k ≡ l
-opens_apart script k l o at_k at_l = dite (ℕ_discrete k l) (λ e. e)
-    (λ far. dite (dec_le (suc k) l) (λ less. absurd (let z = before k l (omega (arith, less)) at_k at_l in omega (arith, z))) (λ more. absurd (let z = before l k (omega (arith, far, more)) at_l at_k in omega (arith, z))))
-  where
-    numbers : EachBefore (λ (x y : Numbered). x.number < y.number) (numbered script)
-    numbers = before_from (λ (x y : Numbered). x.number < y.number) (numbered script) (λ i j x y less at_x at_y. let a = is_numbered 0 0 (operations script) i x at_x in let b = is_numbered 0 0 (operations script) j y at_y in
-        let m = a.number in let n = b.number in omega (arith, less, m, n))
-
-    of_open : (x : Numbered) (v : ℕ) (b : Bool) → cond b (Some x.number) None ≡ Some v → x.number ≡ v
-    of_open x v true e = some_is x.number v e
-    of_open x v false e = absurd (let z : None ≡ Some v = e in cc)
-
-    increasing : EachBefore (λ (m n : ℕ). m < n) (opens script)
-    increasing = before_filter_map (λ (x y : Numbered). x.number < y.number) (λ (m n : ℕ). m < n) (λ (x : Numbered). cond (is_open x.op.item) (Some x.number) None)
-        (λ x y v w less e f. let a = of_open x v (is_open x.op.item) e in let b = of_open y w (is_open y.op.item) f in omega (arith, less, a, b)) (numbered script) numbers
-
-    before : (i j : ℕ) → i < j → get_elem? (opens script) i ≡ some o → get_elem? (opens script) j ≡ some o → o < o
-    before i j less at_i at_j = before_at (λ (m n : ℕ). m < n) (opens script) increasing i j o o less (place_at (opens script) i o at_i) (place_at (opens script) j o at_j)
-
--- nor has one taken anything
+-- a view has taken nothing yet
 pub first_fresh : (script : List Item) (i : ℕ) (v : View) → get_elem? (first_views script) i ≡ some v → v.lists ≡ [] ∷ []
 first_fresh script = opening_fresh (plan_of script) (all_seats (all_tasks script) (length (opens script)))
 

@@ -5,7 +5,6 @@ pub mod Runs
 pub mod Apart
 pub mod Whole
 pub mod Labelled
-pub mod Faults
 pub mod Takeless
 pub mod ReaderParts
 pub mod Closers
