@@ -56,10 +56,6 @@ module _ (script : List Item) (turns : List Turn) (core : Core) (is : IsRunWithC
   abbrev pub GivesLast : Type 0
   GivesLast = (k : ℕ) (shape : Shape) → slice_get (link_shapes script) k ≡ Some shape → IsTrue shape.serve → Contains (heard_takes is k) AtEnd → (more : List ℕ) → given core k ≡ given_for shape (took_in_all k ++ more)
 
-  -- and a link without it gave nothing
-  abbrev pub GivesNothing : Type 0
-  GivesNothing = (k : ℕ) (shape : Shape) → slice_get (link_shapes script) k ≡ Some shape → shape.serve ≡ false → given core k ≡ []
-
   -- ## Calls
 
   -- link k has the server, and no `send` is to a name of its socket

@@ -155,7 +155,7 @@ module _ (bytes : List ℕ) (script : List Item) (reads : script_of bytes ≡ Ok
       up : (a b c : ℕ) → a ≤ b → b ≤ c → a ≤ c
       up a b c p q = omega (arith, p, q)
 
-  -- where there are requests for all attempts, a front of what the server gives for a front of that is less than is read at most
+  -- with requests for all attempts, a front of what the server gives for a front of that is less than is read at most
   pub front_few : length bytes ≤ 1048576 → attempts script ≤ requests script → (k : ℕ) → k < (plan_of script).links → (shape : Shape) (fed left given_ rest : List ℕ) → took_of k ≡ fed ++ left → given_ ++ rest ≡ given_for shape fed → length given_ < LIMIT
   front_few short enough k low shape fed left given_ rest begins front =
       let limits = keeps_limits bytes script reads in let most = limits.requests in
