@@ -35,14 +35,14 @@ use Rattle.outcome_causes.proofs.Lifted.{task_up}
 use Rattle.outcome_causes.proofs.Members.{in_contains, contains_in}
 use Rattle.outcome_causes.proofs.Plain.{in_left, in_right, in_both}
 use Rattle.owed_calls.specs.joint_runs.proofs.Runs.{first_views}
-use Rattle.served_fits.specs.run_theorems.specs.Heard.{heard_takes, given_by}
-use Rattle.served_fits.specs.run_theorems.proofs.Gave.{gave_heard}
-use Rattle.served_fits.specs.run_theorems.proofs.Lengths.{ended_length}
-use Rattle.served_fits.specs.call_causes.specs.Lists.{given}
-use Rattle.served_fits.specs.call_causes.specs.Scenes.{LeadsTo}
+use Rattle.served_fits.specs.Below.run_theorems.specs.Heard.{heard_takes, given_by}
+use Rattle.served_fits.specs.Below.run_theorems.proofs.Gave.{gave_heard}
+use Rattle.served_fits.specs.Below.run_theorems.proofs.Lengths.{ended_length}
+use Rattle.served_fits.specs.Below.call_causes.specs.Lists.{given}
+use Rattle.served_fits.specs.Below.call_causes.specs.Scenes.{LeadsTo}
 use Rattle.served_fits.specs.send_causes.proofs.AttemptedStored.{played_leads}
 use Rattle.served_fits.specs.send_causes.proofs.Early.{start, go, fitting, closed_early, first_fresh}
-use Rattle.served_fits.specs.call_causes.proofs.Streams.{faults_more}
+use Rattle.served_fits.specs.Below.call_causes.proofs.Streams.{faults_more}
 use Rattle.served_fits.specs.send_causes.proofs.Sends.{owed, lost_so}
 use Rattle.outcome_causes.proofs.Scripts.{run_tells, failed_early}
 use Rattle.served_fits.specs.served_runs.specs.Served.{IsForCalls}
