@@ -16,7 +16,6 @@ use Rattle.sock_model.specs.Layout.{open_index}
 use Rattle.brpc_model.specs.Items.{Item}
 use Rattle.brpc_model.specs.Frame.{Frame}
 use Rattle.brpc_model.specs.Operations.{Turn, clients}
-use Rattle.corr_core.specs.declared.marks.Plan.{Plan as IdPlan}
 use Rattle.report_fits.proofs.Reading.{InRange}
 use Rattle.report_fits.proofs.Targets.{AreThere}
 use Rattle.seat_programs.specs.Asides.{TakeBytes, Closed, id_slot, id_first}
@@ -61,6 +60,7 @@ use Rattle.served_fits.specs.send_causes.proofs.Takeless.{NoTakes}
 use Rattle.calls_over.proofs.Handled.{reads_before}
 use Rattle.served_fits.specs.send_causes.proofs.Standing.{Stands, resting, joining, opening, discarding, stands}
 use Rattle.served_fits.specs.send_causes.proofs.Standing as still
+use Rattle.served_fits.specs.send_causes.proofs.Grounds.{setting, stages}
 
 -- ## A reader keeps no retry
 
@@ -93,17 +93,7 @@ quiet_closes p c (suc n) = ((λ seat at. quiet_at p c (goes.first_of seat.progra
 -- ## What each seat owes
 
 module _ (script : List Item) (made : AreMade script) (turns : List Turn) (core : Core) (is : IsRunWithCalls script turns core) (closes : ClosesInRun script turns core is) where
-  abbrev p : Plan
-  p = plan_of script
-
-  abbrev q : IdPlan
-  q = id_plan_of script
-
-  abbrev os : List ℕ
-  os = opens script
-
-  abbrev vs : List View
-  vs = first_views script
+  open setting script use {p, q, os, vs}
 
   abbrev m₁ : List Moment
   m₁ = replicate is.setup (quiet 0)
@@ -111,8 +101,7 @@ module _ (script : List Item) (made : AreMade script) (turns : List Turn) (core 
   abbrev m₂ : List Moment
   m₂ = is.scheduled ++ is.later
 
-  abbrev rested : Core
-  rested = played script is.setup (is.scheduled ++ is.later)
+  open stages script turns core is use {rested}
 
   abbrev v₁ : List View
   v₁ = views_along (plan_of script) (opened script) (first_views script) (replicate is.setup (quiet 0))

@@ -11,7 +11,6 @@ use Rattle.brpc_model.specs.Script.{script_of}
 use Rattle.report_fits.proofs.Reading.{InRange}
 use Rattle.report_fits.proofs.Targets.{AreThere}
 use Rattle.sock_words.specs.Words.{socket_id, socket_id_slot, socket_id_version}
-use Rattle.sock_words.specs.declared.plain.Plan.{Plan}
 use Rattle.sock_model.specs.declared.view.View.{View}
 use Rattle.sock_model.specs.Layout.{open_index}
 use Rattle.corr_core.specs.Word.{error_of, code_of, attempt_of}
@@ -23,8 +22,8 @@ use Rattle.seat_programs.specs.Cores.{Core, SeatState}
 use Rattle.seat_programs.specs.Programs.{Rest, NO_SOCKET}
 use Rattle.seat_programs.specs.Readers.{reader}
 use Rattle.seat_programs.specs.Tasks.{opens, calls, plan_of}
-use Rattle.seat_programs.specs.Scripts.{all_tasks, IsRunWithCalls}
-use Rattle.seat_programs.specs.ToldCalls.{Order, Fixed, IsSent, Gave, IsResponse, IsPlaced, StandsOn}
+use Rattle.seat_programs.specs.Scripts.{IsRunWithCalls}
+use Rattle.seat_programs.specs.ToldCalls.{IsSent, Gave, IsResponse, IsPlaced, StandsOn}
 use Rattle.sock_runs.specs.Sound.{first_step}
 use Rattle.sock_runs.proofs.Along.{place_inside}
 use Rattle.sock_runs.proofs.Whole.{IsListed, views_closed, views_ended, closed_sound, recorded_closed}
@@ -37,7 +36,7 @@ use Rattle.call_causes.specs.owed_calls.specs.Lives.{ClosesInRun}
 use Rattle.call_causes.specs.Lists.{given, early_of_run, closed_of_run, silent_of_run}
 use Rattle.call_causes.specs.Posts.{Post}
 use Rattle.send_causes.specs.PostCauses.{PostCause, OfEnd}
-use Rattle.send_causes.proofs.Assembled.{last_in_run, fixed_in_run, orders_in_run}
+use Rattle.send_causes.proofs.Assembled.{last_in_run}
 use Rattle.send_causes.proofs.Closers.{Calm, IsOver}
 use Rattle.send_causes.proofs.DropCauses.{may_be_on, stands_on}
 use Rattle.send_causes.proofs.DropEndsCauses.{own_link, cause_of_drop}
@@ -48,6 +47,7 @@ use Rattle.send_causes.proofs.Readings.{State}
 use Rattle.send_causes.proofs.ReaderRuns.{Keeps, keeps_along}
 use Rattle.send_causes.proofs.Runs.{AreLabelledIn}
 use Rattle.send_causes.proofs.Sends.{orders_are}
+use Rattle.send_causes.proofs.Laws.{laws}
 
 module _ (script : List Item) (made : AreMade script) (turns : List Turn) (core : Core) (is : IsRunWithCalls script turns core) (closes : ClosesInRun script turns core is) (ids : ℕ → ℕ) (labelled : AreLabelledIn ids script turns core is) where
   abbrev views : List View
@@ -101,17 +101,7 @@ module _ (script : List Item) (made : AreMade script) (turns : List Turn) (core 
   ended_of_link bytes reads j h k given_ = let o = reading_over j h k given_ in ⊎_elim (λ a. a.1) (λ b. absurd (let e = b.0 in omega (arith, e))) (ended_so script made turns core is bytes reads k o.0 1014 (inl (refl, o.1)))
 
   module _ (there : AreThere script) (range : AllByRecursion InRange script) (bytes : List ℕ) (reads : script_of bytes ≡ Ok script) where
-    abbrev p : Plan
-    p = plan_of script
-
-    abbrev clients : List (List Task)
-    clients = all_tasks script
-
-    abbrev fixed : Fixed
-    fixed = fixed_in_run script made there range bytes reads turns core is closes
-
-    abbrev orders : ℕ → Order
-    orders = orders_in_run script made there range bytes reads turns core is closes
+    open laws script made there range bytes reads turns core is closes use {p, clients, fixed, orders}
 
     -- the dropped attempt isn't placed
     not_placed : (x : Post) (d : DropOf script made turns core is closes ids labelled x) → IsPlaced p clients core.outcomes fixed (given core) orders d.task.number (attempt_of x.error) → ⊥

@@ -12,11 +12,13 @@ pub mod Readings
 pub mod SeatTicks
 pub mod ReaderRuns
 pub mod Early
+pub mod Grounds
 pub mod Places
 pub mod Rests
 pub mod Standing
 pub mod Dropped
 pub mod Sends
+pub mod ToldEnd
 pub mod Plain
 pub mod Lists
 pub mod Firsts
@@ -31,6 +33,7 @@ pub mod LatePlaces
 pub mod LateDropped
 pub mod ByPosts
 pub mod Assembled
+pub mod Laws
 pub mod DropPlaces
 pub mod DropCodes
 pub mod DropWords

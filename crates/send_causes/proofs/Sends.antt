@@ -31,9 +31,8 @@ use Rattle.seat_programs.specs.ToldCalls.{Accepted, Order, Fixed, AreOrders, IsS
 use Rattle.sock_runs.specs.Sound.{state}
 use Rattle.sock_runs.proofs.Along.{seat_rests}
 use Rattle.sock_runs.proofs.Bounded.{IsBounded}
-use Rattle.sock_runs.proofs.LinkTicks.{RetriesGo}
 use Rattle.sock_runs.proofs.Quiets.{run_seats, run_rests}
-use Rattle.sock_runs.proofs.Whole.{Begins, AreFittingIn, IsOwed, IsListed, closing_of, views_played, views_closed, views_ended, end_answered, played_sound, closing_sound, closed_sound, ended_sound, rested_ahead, rested_idle, closed_ahead, recorded_closed}
+use Rattle.sock_runs.proofs.Whole.{IsOwed, IsListed, closing_of, views_played, views_closed, views_ended, end_answered, played_sound, closing_sound, closed_sound, ended_sound, rested_ahead, rested_idle, closed_ahead, recorded_closed}
 use Rattle.outcome_causes.specs.Explains.{is_plain, plain_tasks}
 use Rattle.outcome_causes.specs.Facts.{shown_in, broken_of_run, closed_before_ending, late_links_of_run, late_of_run, is_said_late, numbers_of, CallsFoundNone, ToldPlain, ToldSends}
 use Rattle.outcome_causes.specs.Losses.{closed_at, lost_in}
@@ -53,11 +52,12 @@ use Rattle.call_causes.specs.owed_calls.specs.Lives.{ClosesInRun}
 use Rattle.call_causes.specs.owed_calls.proofs.Known.{run_owed_of}
 use Rattle.send_causes.specs.Sent.{IsAttempt}
 use Rattle.send_causes.proofs.Dropped.{ending_begins, ending_places, resting_places, failed_before}
-use Rattle.send_causes.proofs.Early.{start, go, fitting, known, Any, ends_anyhow, closed_keeps, first_fresh}
+use Rattle.send_causes.proofs.Early.{known, Any, ends_anyhow, closed_keeps, first_fresh}
 use Rattle.send_causes.proofs.Labelled.{ids_of_run, run_labelled}
 use Rattle.send_causes.proofs.Rests.{clients_rest}
 use Rattle.send_causes.proofs.Runs.{AreLabelledIn}
 use Rattle.send_causes.proofs.Whole.{run_orders, run_sent}
+use Rattle.send_causes.proofs.Grounds.{setting, grounds}
 use Rattle.report_fits.proofs.Lists.{all_map}
 
 before_map : {A : Type 0} (P Q : A → A → Type 0) → ((x y : A) → P x y → Q x y) → (xs : List A) → EachBefore P xs → EachBefore Q xs
@@ -83,23 +83,12 @@ pub opening_bare : (script : List Item) (i : ℕ) (v : View) → get_elem? (firs
 opening_bare script i v at = (opening_claims (plan_of script) (all_seats (all_tasks script) (length (opens script))) i v at, first_fresh script i v at)
 
 module _ (script : List Item) (made : AreMade script) (turns : List Turn) (core : Core) (is : IsRunWithCalls script turns core) (closes : ClosesInRun script turns core is) where
-  abbrev p : Plan
-  p = plan_of script
+  open setting script use {p, vs}
 
   abbrev are : AreTasks (plan_of script) (all_tasks script)
   are = made.are
 
-  abbrev vs : List View
-  vs = first_views script
-
-  abbrev begins : Begins script (first_views script)
-  begins = start script made turns core is
-
-  abbrev goes : RetriesGo (plan_of script)
-  goes = go script made turns core is
-
-  abbrev fits : AreFittingIn script turns core is
-  fits = fitting script made turns core is
+  open grounds script made turns core is use {begins, goes, fits}
 
   pub narrow : (id_plan_of script).slots ≤ 65536
   narrow = let k = known script made turns core is in k.narrow
