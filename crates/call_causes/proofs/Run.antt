@@ -42,6 +42,7 @@ use Rattle.call_causes.proofs.Attempts.{in_behind, in_front}
 use Rattle.call_causes.proofs.Chains.{KeepsFew}
 use Rattle.call_causes.proofs.Ticks.{other_there, keeps_few, on_homes, told_story, story_lasts}
 use Rattle.call_causes.proofs.Allowing.{allows}
+use Rattle.call_causes.proofs.RunTicks.{parts}
 use Rattle.call_causes.proofs.Opening.{Begins, first_decided}
 
 times_append : (o : ℕ) (xs ys : List ℕ) → times o (xs ++ ys) ≡ times o xs + times o ys
@@ -169,43 +170,13 @@ module _ (script : List Item) (made : AreMade script) (gives : ℕ → List ℕ)
   Tale decided posted shown c = (s : (ps : List Post) × (ns : List ℕ) × HasStory (plan_of script) (id_plan_of script) (all_tasks script) gives ps ns c × ((x : Post) → In x ps → In x posted) × ((o : ℕ) → times o ns ≡ times o shown)) × ((d : Decision) → In d s.2.scene.decisions → In d decided)
 
   -- the calls whose attempts the ticks of each part of the run advance
-  abbrev pub in_setup : List ℕ
-  in_setup = shows_in advanced_at (plan_of script) (opened script) (replicate is.setup (quiet 0))
-
-  abbrev pub in_clients : List ℕ
-  in_clients = shows_in advanced_at (plan_of script) (set_up script is.setup) (is.scheduled ++ is.later)
-
-  abbrev pub in_closing : List ℕ
-  in_closing = shows_in advanced_at (plan_of script) (ending script (played script is.setup (is.scheduled ++ is.later))) (replicate is.last (quiet 0))
-
-  abbrev in_final : List ℕ
-  in_final = shows_in advanced_at (plan_of script) is.ended is.final
+  open parts advanced_at is use {setup as in_setup, clients as in_clients, closing as in_closing, final as in_final}
 
   -- and the errors that ids take in them
-  abbrev pub posts_in_setup : List Post
-  posts_in_setup = shows_in posted_at (plan_of script) (opened script) (replicate is.setup (quiet 0))
-
-  abbrev pub posts_in_clients : List Post
-  posts_in_clients = shows_in posted_at (plan_of script) (set_up script is.setup) (is.scheduled ++ is.later)
-
-  abbrev pub posts_in_closing : List Post
-  posts_in_closing = shows_in posted_at (plan_of script) (ending script (played script is.setup (is.scheduled ++ is.later))) (replicate is.last (quiet 0))
-
-  abbrev posts_in_final : List Post
-  posts_in_final = shows_in posted_at (plan_of script) is.ended is.final
+  open parts posted_at is use {setup as posts_in_setup, clients as posts_in_clients, closing as posts_in_closing, final as posts_in_final}
 
   -- and on which seats decide
-  abbrev decided_in_setup : List Decision
-  decided_in_setup = shows_in decided_at (plan_of script) (opened script) (replicate is.setup (quiet 0))
-
-  abbrev decided_in_clients : List Decision
-  decided_in_clients = shows_in decided_at (plan_of script) (set_up script is.setup) (is.scheduled ++ is.later)
-
-  abbrev decided_in_closing : List Decision
-  decided_in_closing = shows_in decided_at (plan_of script) (ending script (played script is.setup (is.scheduled ++ is.later))) (replicate is.last (quiet 0))
-
-  abbrev decided_in_final : List Decision
-  decided_in_final = shows_in decided_at (plan_of script) is.ended is.final
+  open parts decided_at is use {setup as decided_in_setup, clients as decided_in_clients, closing as decided_in_closing, final as decided_in_final}
 
   abbrev pub small : (id_plan_of script).slots ≤ 65536
   small = narrow (plan_of script) (id_plan_of script) (all_tasks script) (calls script) (opens script) made

@@ -44,7 +44,7 @@ use Rattle.call_causes.specs.Lists.{shows_in}
 use Rattle.id_runs.proofs.Opening.{unused}
 use Rattle.send_causes.specs.Counts.{AreLabelled}
 use Rattle.send_causes.specs.EndedCalls.{Load, loaded_at, loads_of_run, Store, stored_at, stores_of_run}
-use Rattle.send_causes.proofs.RunTicks.{in_setup, in_clients, in_closing}
+use Rattle.call_causes.proofs.RunTicks.{in_setup, in_clients, in_closing}
 use Rattle.send_causes.proofs.Runs.{AreLabelledIn, IsCallOf, behind_ids, asked_by, none_home}
 use Rattle.send_causes.proofs.EndedTrails.{Trail, lost, Follows}
 use Rattle.send_causes.proofs.EndedPrograms.{client_goes, ending_goes, reader_goes}

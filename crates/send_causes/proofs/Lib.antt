@@ -65,7 +65,6 @@ pub mod EndedWhole
 pub mod EndedTrails
 pub mod EndedPrograms
 pub mod EndedNames
-pub mod RunTicks
 pub mod EndedNamed
 pub mod EndedLives
 pub mod EndedAttempts

@@ -30,7 +30,7 @@ use Rattle.call_causes.proofs.Numbered.{AreNumbered}
 use Rattle.call_causes.proofs.Opening.{Begins}
 use Rattle.call_causes.proofs.Run as runs
 use Rattle.call_causes.proofs.Scripts.{are_numbered, have_slots, begins}
-use Rattle.send_causes.proofs.RunTicks.{in_setup, in_clients, in_closing}
+use Rattle.call_causes.proofs.RunTicks.{in_setup, in_clients, in_closing}
 use Rattle.send_causes.proofs.Rests.{many}
 use Rattle.send_causes.proofs.Sends.{narrow}
 use Rattle.send_causes.proofs.OwnDecisionsPrograms.{ending_goes}
