@@ -34,6 +34,7 @@ pub mod Opening
 pub mod Allowing
 pub mod Leading
 pub mod RunTicks
+pub mod RunFacts
 pub mod Run
 pub mod End
 pub mod Whys

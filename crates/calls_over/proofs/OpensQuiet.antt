@@ -40,7 +40,7 @@ use Rattle.served_fits.specs.Below.run_theorems.proofs.Gave.{gave_heard}
 use Rattle.served_fits.specs.Below.run_theorems.proofs.Lengths.{ended_length}
 use Rattle.served_fits.specs.Below.call_causes.specs.Lists.{given}
 use Rattle.served_fits.specs.Below.call_causes.specs.Scenes.{LeadsTo}
-use Rattle.served_fits.specs.send_causes.proofs.AttemptedStored.{played_leads}
+use Rattle.served_fits.specs.Below.call_causes.proofs.RunFacts.{own_leads, leadings}
 use Rattle.served_fits.specs.send_causes.proofs.Early.{start, go, fitting, closed_early, first_fresh}
 use Rattle.served_fits.specs.Below.call_causes.proofs.Streams.{faults_more}
 use Rattle.served_fits.specs.send_causes.proofs.Sends.{owed, lost_so}
@@ -172,7 +172,7 @@ module _ (calm : CalmRun) where
       held = played_holds script (are_made calm) turns core is offers k o at server.0 server.1
 
       leads : LeadsTo (plan_of script) (id_plan_of script) (all_tasks script) (given core) (played script is.setup (is.scheduled ++ is.later))
-      leads = played_leads script (are_made calm) (targets calm) (range calm) turns core is
+      leads = let l = leadings script turns core is (given core) (own_leads script core) in l.played_leads
 
       by_fault : HasFault (given (played script is.setup (is.scheduled ++ is.later)) k) → ⊥
       by_fault fault = let m = leads k in no_fault k low (subst HasFault m.1 (faults_more (given (played script is.setup (is.scheduled ++ is.later)) k) m.0 fault))
