@@ -21,6 +21,7 @@ use Rattle.id_runs.specs.Goes.{IdGoesOn}
 use Rattle.id_runs.proofs.Opening.{all_go}
 use Rattle.owed_calls.specs.joint_runs.proofs.Runs.{AreMade}
 use Rattle.owed_calls.specs.joint_runs.proofs.Starts.{narrow}
+use Rattle.call_causes.specs.Lists.{given}
 use Rattle.call_causes.specs.Scenes.{LeadsTo}
 use Rattle.call_causes.proofs.Leading.{run_leads}
 use Rattle.call_causes.proofs.Chains.{KeepsFew}
