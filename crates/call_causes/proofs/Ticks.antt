@@ -1,7 +1,7 @@
 -- A tick of any seat goes on with the story of the calls.
 use Rattle.std.proofs.Common.{◌≡◌, ◌≢◌, ℕ, zero, suc, ◌<◌, ◌≤◌, ◌⊎◌, inl, inr, ⊎_elim, List, [], ◌∷◌, ◌++◌, length, length-set, get_or, get_or-set_same, set, slice_get, None, Some, refl, sym, ap, ◌∙◌, subst, arith}
 use Rattle.std.specs.List.{AllByRecursion}
-use mathlib.Core.Option.{Option, none, some, some-injective, some-ne-none}
+use mathlib.Core.Option.{Option, none, some, some-ne-none}
 use lib.ListN.{get_elem?}
 use Rattle.atomic_table.proofs.Lists.{at_set}
 use Rattle.sock_words.specs.declared.plain.Plan.{Plan}
@@ -9,10 +9,10 @@ use Rattle.sock_io.specs.declared.link.Put.{Put}
 use Rattle.sock_io.specs.declared.link.Ready.{Ready}
 use Rattle.sock_model.specs.declared.chain.Heading.{Heading}
 use Rattle.sock_model.specs.declared.home.Home.{Home}
-use Rattle.sock_model.specs.declared.home.Home.TheVariants.{Empty, Link, Message}
+use Rattle.sock_model.specs.declared.home.Home.TheVariants.{Message}
 use Rattle.sock_model.specs.Layout.{name_index, all_words}
 use Rattle.sock_model.specs.Messages.{Letter}
-use Rattle.sock_model.specs.Reads.{letter_of, shown, message, link_home}
+use Rattle.sock_model.specs.Reads.{shown, message, link_home}
 use Rattle.corr_core.specs.declared.marks.Plan.{Plan as IdPlan}
 use Rattle.seat_programs.specs.declared.task.Op.TheVariants as ops
 use Rattle.seat_programs.specs.declared.task.Task.{Task}
@@ -33,6 +33,7 @@ use Rattle.id_runs.specs.Goes as goes
 use Rattle.id_runs.proofs.Loops.{ids_round}
 use Rattle.id_runs.proofs.Programs.{block_goes}
 use Rattle.id_runs.proofs.Owners.{steps_on}
+use Rattle.owed_calls.proofs.OwingTicks.{message_there}
 use Rattle.call_causes.specs.Lists.{advances_by, advanced_with, advanced_at}
 use Rattle.call_causes.specs.Posts.{Post, posts_by, posted_with, posted_at}
 use Rattle.call_causes.specs.Decided.{Decision, decision_in, decided_at}
@@ -63,14 +64,6 @@ other_there [] m i a e at = absurd (some-ne-none a (sym at))
 other_there (x ∷ xs) [] i a e at = absurd (omega (arith, e))
 other_there (x ∷ xs) (y ∷ ys) zero a e at = (y, refl)
 other_there (x ∷ xs) (y ∷ ys) (suc i) a e at = other_there xs ys i a (omega (arith, e)) at
-
--- an end of the other list is none of this
-message_there : (x : Option (Option Home)) (letter : Letter) → letter_of (shown (λ (home : Home). home) x) ≡ some letter → x ≡ some (some (Message letter.0 letter.1))
-message_there none letter e = absurd (some-ne-none letter (sym e))
-message_there (some none) letter e = absurd (some-ne-none letter (sym e))
-message_there (some (some Empty)) letter e = absurd (some-ne-none letter (sym e))
-message_there (some (some (Link k took next done))) letter e = absurd (some-ne-none letter (sym e))
-message_there (some (some (Message l cs))) letter e = ap (λ (z : Letter). some (some (Message z.0 z.1))) (some-injective (l, cs) letter e)
 
 -- the retries that wait stay behind a step aside
 waiting_same : (step : Step) (found : Found step) (a : Calls) → (calls_after step found a).waiting ≡ a.waiting

@@ -57,7 +57,7 @@ beside (x ∷ xs) (y ∷ ys) zero a e at = (y, refl)
 beside (x ∷ xs) (y ∷ ys) (suc j) a e at = beside xs ys j a (omega (arith, e)) at
 
 -- a home that shows a message has it
-message_there : (x : Option (Option Home)) (letter : Letter) → letter_of (shown (λ (home : Home). home) x) ≡ some letter → x ≡ some (some (Message letter.0 letter.1))
+pub message_there : (x : Option (Option Home)) (letter : Letter) → letter_of (shown (λ (home : Home). home) x) ≡ some letter → x ≡ some (some (Message letter.0 letter.1))
 message_there none letter e = absurd (some-ne-none letter (sym e))
 message_there (some none) letter e = absurd (some-ne-none letter (sym e))
 message_there (some (some Empty)) letter e = absurd (some-ne-none letter (sym e))
