@@ -1,5 +1,5 @@
 -- In a whole run each response of link k that an id might have to which the link's reader posted an error stands among the soon ones.
-use Rattle.std.proofs.Common.{◌≡◌, ℕ, zero, suc, ◌+◌, ◌<◌, ◌≤◌, ◌⊎◌, inl, inr, ⊎_elim, true, List, [], ◌∷◌, ◌++◌, length, replicate, slice_get, Some, append_assoc, get_or, refl, sym, ◌∙◌, subst, arith}
+use Rattle.std.proofs.Common.{◌≡◌, ℕ, zero, suc, ◌+◌, ◌<◌, ◌≤◌, ◌⊎◌, ⊎_elim, true, List, [], ◌∷◌, ◌++◌, length, replicate, slice_get, Some, append_assoc, get_or, refl, sym, ◌∙◌, subst, arith}
 use Rattle.std.specs.List.{AllByRecursion}
 use Rattle.std.proofs.lemmas.List.{length-map}
 use mathlib.Core.Option.{some, some-injective, some-ne-none}
@@ -32,7 +32,7 @@ use Rattle.owed_calls.specs.joint_runs.proofs.Both.{BothSound}
 use Rattle.owed_calls.specs.joint_runs.proofs.Runs.{AreMade, first_views, joint_runs}
 use Rattle.owed_calls.specs.report_fits.proofs.Reading.{InRange}
 use Rattle.owed_calls.specs.report_fits.proofs.Targets.{AreThere}
-use Rattle.call_causes.specs.Lists.{given, soon_at, shows_in, shows_in_run, soon_of_run}
+use Rattle.call_causes.specs.Lists.{advanced_at, given, soon_at, shows_in, shows_in_run, soon_of_run}
 use Rattle.call_causes.specs.Posts.{Post, posted_at}
 use Rattle.call_causes.specs.Decided.{posted_by, Decision, decided_by, posted_behind, late_in}
 use Rattle.call_causes.specs.Scenes.{Scene, In, LeadsTo}
@@ -63,11 +63,6 @@ empty_at zero k = refl
 empty_at (suc n) zero = refl
 empty_at (suc n) (suc k) = empty_at n k
 
-in_two : {A : Type 0} (x : A) (xs ys : List A) → In x (xs ++ ys) → In x xs ⊎ In x ys
-in_two x [] ys there = inr there
-in_two x (z ∷ xs) ys (inl same) = inl (inl same)
-in_two x (z ∷ xs) ys (inr there) = ⊎_elim (λ a. inl (inr a)) (λ a. inr a) (in_two x xs ys there)
-
 module _ (script : List Item) (made : AreMade script) (there : AreThere script) (range : AllByRecursion InRange script) (turns : List Turn) (core : Core) (is : IsRunWithCalls script turns core) where
   leads : LeadsTo (plan_of script) (id_plan_of script) (all_tasks script) (given core) core
   leads = own_leads script core
@@ -91,14 +86,14 @@ module _ (script : List Item) (made : AreMade script) (there : AreThere script) 
   abbrev closing : Core
   closing = ending script (played script is.setup (is.scheduled ++ is.later))
 
-  known_setup : AreKnown (plan_of script) (id_plan_of script) (opened script) (in_setup is)
+  pub known_setup : AreKnown (plan_of script) (id_plan_of script) (opened script) (in_setup is)
   known_setup = let s = runs.sound_run script made (given core) (are_numbered script made there range (given core)) (have_slots script made there range (given core)) (begins script made there range (given core)) turns core is leads in
       setup_known (plan_of script) (id_plan_of script) (all_tasks script) (given core) (are_numbered script made there range (given core)) (have_slots script made there range (given core)) (runs.small script made (given core) (are_numbered script made there range (given core)) (have_slots script made there range (given core)) (begins script made there range (given core)) turns core is leads)
       is.setup [] [] (opened script) (first_views script) s.setup
       set_up_leads
       (let t = runs.first_tale script made (given core) (are_numbered script made there range (given core)) (have_slots script made there range (given core)) (begins script made there range (given core)) turns core is leads in t.0)
 
-  known_clients : AreKnown (plan_of script) (id_plan_of script) (set_up script is.setup) (in_clients is)
+  pub known_clients : AreKnown (plan_of script) (id_plan_of script) (set_up script is.setup) (in_clients is)
   known_clients = let s = runs.sound_run script made (given core) (are_numbered script made there range (given core)) (have_slots script made there range (given core)) (begins script made there range (given core)) turns core is leads in
       played_known (plan_of script) (id_plan_of script) (all_tasks script) (given core) (are_numbered script made there range (given core)) (have_slots script made there range (given core)) (runs.small script made (given core) (are_numbered script made there range (given core)) (have_slots script made there range (given core)) (begins script made there range (given core)) turns core is leads)
       (is.scheduled ++ is.later) posts_in_setup
@@ -165,7 +160,7 @@ module _ (script : List Item) (made : AreMade script) (there : AreThere script) 
 
     -- ## Its reader
 
-    many : length (calls script) ≡ (id_plan_of script).slots
+    abbrev many : length (calls script) ≡ (id_plan_of script).slots
     many = made.slots
 
     abbrev Reading : List (ℕ × ℕ) → Core → Type 0
@@ -184,8 +179,12 @@ module _ (script : List Item) (made : AreMade script) (there : AreThere script) 
     reads_set_up : Reading soon_setup (set_up script is.setup)
     reads_set_up = reads_on [] (opened script) (in_setup is) known_setup reads_first
 
+    -- what it has handled where the ending begins
+    pub reads_played : Reading (soon_setup ++ soon_clients) (played script is.setup (is.scheduled ++ is.later))
+    reads_played = reads_on soon_setup (set_up script is.setup) (in_clients is) known_clients reads_set_up
+
     reads_closing : Reading (soon_setup ++ soon_clients) closing
-    reads_closing = begins_ending (State k (id_plan_of script).slots (calls script) o many) (soon_setup ++ soon_clients) (played script is.setup (is.scheduled ++ is.later)) (reads_on soon_setup (set_up script is.setup) (in_clients is) known_clients reads_set_up)
+    reads_closing = begins_ending (State k (id_plan_of script).slots (calls script) o many) (soon_setup ++ soon_clients) (played script is.setup (is.scheduled ++ is.later)) reads_played
 
     reads_ended : Reading ((soon_setup ++ soon_clients) ++ soon_closing) is.ended
     reads_ended = subst (Reading ((soon_setup ++ soon_clients) ++ soon_closing)) (sym is.is_ended) (reads_on (soon_setup ++ soon_clients) closing (in_closing is) known_closing reads_closing)
@@ -225,8 +224,8 @@ module _ (script : List Item) (made : AreMade script) (there : AreThere script) 
 
       in_the_end : In x (shows_in_run script turns core is show) → Ended
       in_the_end there = ⊎_elim by_setup
-          (λ l. ⊎_elim by_clients (λ l. ⊎_elim by_closing by_final (in_two x shown_closing shown_final l)) (in_two x shown_clients (shown_closing ++ shown_final) l))
-          (in_two x shown_setup (shown_clients ++ (shown_closing ++ shown_final)) there)
+          (λ l. ⊎_elim by_clients (λ l. ⊎_elim by_closing by_final (runs.in_either x shown_closing shown_final l)) (runs.in_either x shown_clients (shown_closing ++ shown_final) l))
+          (runs.in_either x shown_setup (shown_clients ++ (shown_closing ++ shown_final)) there)
 
     seat_there : (seat : SeatState) × (get_elem? core.seats (32 + k) ≡ some seat)
     seat_there = at_some core.seats (32 + k) (let seats = made.seats in let low = inside (opens script) k at in

@@ -1,4 +1,5 @@
 pub mod Words
+pub mod Beginnings
 pub mod Views
 pub mod Ticks
 pub mod Runs
