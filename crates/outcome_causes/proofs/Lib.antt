@@ -18,6 +18,7 @@ pub mod Tasks
 pub mod Events
 pub mod Cases
 pub mod AtWork
+pub mod HomeCalls
 pub mod Ticks
 pub mod Begin
 pub mod Runs

@@ -11,7 +11,6 @@ use Rattle.atomic_table.proofs.Lists.{at_set, set_else}
 use Rattle.sock_words.specs.declared.plain.Plan.{Plan}
 use Rattle.sock_model.specs.declared.view.View.{View}
 use Rattle.sock_model.specs.Layout.{open_index}
-use Rattle.sock_model.specs.Seats.{newcomer, below}
 use Rattle.brpc_model.specs.Causes.{HasFault, reading_limit}
 use Rattle.brpc_model.specs.Items.{Item}
 use Rattle.brpc_model.specs.Operations.{Turn, operations, link_names}
@@ -47,7 +46,7 @@ use Rattle.outcome_causes.specs.Stories.{In}
 use Rattle.outcome_causes.proofs.Members.{in_contains}
 use Rattle.outcome_causes.proofs.Plain.{in_left, in_right, in_both}
 use Rattle.call_causes.specs.programs_allowed.proofs.Beginning as clients_begin
-use Rattle.call_causes.specs.programs_allowed.specs.Openings.{links_of_all, without_passes, client_view, opening_views, all_seats}
+use Rattle.call_causes.specs.programs_allowed.specs.Openings.{all_seats}
 use Rattle.call_causes.specs.programs_allowed.proofs.Retrying.{retries_go}
 use Rattle.call_causes.specs.joint_runs.proofs.Runs.{AreMade, first_views, begins, are_fitting_in, joint_runs}
 use Rattle.call_causes.specs.owed_calls.proofs.EndsStill.{run_ending}
@@ -60,7 +59,7 @@ use Rattle.call_causes.proofs.Streams.{faults_more}
 use Rattle.send_causes.proofs.Closers.{Ends}
 use Rattle.send_causes.proofs.ReaderRuns.{Keeps, founds, keeps_same, keeps_along, closes_along}
 use Rattle.send_causes.proofs.Takeless.{NoTakes, TakesNone, client_takes, ending_takes, takes_next}
-use Rattle.call_causes.specs.programs_allowed.proofs.Fresh.{opening_fresh}
+use Rattle.call_causes.specs.programs_allowed.proofs.Fresh.{opening_fresh, opening_rights}
 
 -- ## How a reading ends early
 
@@ -94,17 +93,6 @@ pub ends_anyhow : (n id : ℕ) → Ends n id Any (Unit {0})
 ends_anyhow n id = record { most = λ h l. tt; fault = λ h f. tt; at_end = λ h. tt; broken = λ h. tt; no_more = λ e h. tt }
 
 -- ## How a run begins
-
--- no seat has a right
-views_bare : (p : Plan) (clients : List (List Task)) (i : ℕ) (v : View) → get_elem? (map (client_view p) clients) i ≡ some v → v.rights ≡ []
-views_bare p [] i v e = absurd (some-ne-none v (sym e))
-views_bare p (ts ∷ clients) zero v e = subst (λ (u : View). u.rights ≡ []) (some-injective (client_view p ts) v e) refl
-views_bare p (ts ∷ clients) (suc i) v e = views_bare p clients i v e
-
-pub opening_rights : (p : Plan) (clients : List (List Task)) (i : ℕ) (v : View) → get_elem? (opening_views p clients) i ≡ some v → v.rights ≡ []
-opening_rights p [] i v e = absurd (some-ne-none v (sym e))
-opening_rights p (ts ∷ clients) zero v e = subst (λ (u : View). u.rights ≡ []) (some-injective (newcomer p (without_passes (links_of_all clients) (below p.links)) (511 - length clients)) v e) refl
-opening_rights p (ts ∷ clients) (suc i) v e = views_bare p clients i v e
 
 -- before the readers stand the clients, and seats with nothing to do
 pub before_readers : (xs : List Program) (n : ℕ) (rs : List Program) (j : ℕ) (x : Program) → j < length xs + n → get_elem? (xs ++ (replicate n Rest ++ rs)) j ≡ some x → (get_elem? xs j ≡ some x) ⊎ (x ≡ Rest)

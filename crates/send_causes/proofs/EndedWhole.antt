@@ -34,8 +34,9 @@ use Rattle.run_theorems.proofs.Gave.{gave_heard}
 use Rattle.run_theorems.proofs.HeardRuns.{taken_append}
 use Rattle.call_causes.specs.Lists.{Take, takes_at, given, shows_in, takes_of_run, is_last, is_closed, is_no_more, found_so, is_fault, early_of_run}
 use Rattle.call_causes.specs.Posts.{Post, posted_at, posts_of_run}
+use Rattle.call_causes.specs.programs_allowed.proofs.Fresh.{opening_rights}
 use Rattle.send_causes.specs.EndedCalls.{Load, loaded_at, reader_posts_at, client_posts_at, loads_of_run, reader_posts_of_run, client_posts_of_run, EndedSo, IsEndPost}
-use Rattle.send_causes.proofs.Early.{EndedBy, Any, ends_anyhow, opening_rights, start, go, fitting, known, begins_at, opened_takes}
+use Rattle.send_causes.proofs.Early.{EndedBy, Any, ends_anyhow, start, go, fitting, known, begins_at, opened_takes}
 use Rattle.send_causes.proofs.EndedReads.{WasOver, Tells, reader_tells}
 use Rattle.send_causes.proofs.EndedRuns.{Keeping, finds, Seen, AllTold, IsPostOf, more_post, told_along, finds_taken, finds_give, quiet_finds}
 use Rattle.send_causes.proofs.ReaderRuns.{keeps_along}

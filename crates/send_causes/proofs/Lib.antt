@@ -1,4 +1,5 @@
 pub mod Words
+pub mod SeatFacts
 pub mod Beginnings
 pub mod Views
 pub mod Ticks

@@ -22,7 +22,7 @@ use Rattle.outcome_causes.specs.Stories.{In}
 use Rattle.outcome_causes.proofs.Members.{all_in, all_of}
 use Rattle.outcome_causes.proofs.Messages.{in_of_at}
 use Rattle.send_causes.proofs.Beginnings.{all_begin}
-use Rattle.send_causes.proofs.Ticks.{none_asked}
+use Rattle.outcome_causes.proofs.HomeCalls.{none_asked}
 use Rattle.seat_programs.specs.declared.task.Sizes.{Sizes}
 use Rattle.seat_programs.specs.declared.task.Task.{Task}
 use Rattle.seat_programs.specs.Programs.{Program, Say, Sent, Keep, Retries}

@@ -1,17 +1,16 @@
 -- What a whole run tells of each `open`, `send`, `hold`, `drop` and `fail`, and of the links: in runs with calls all but three things, in runs without calls all.
-use Rattle.std.proofs.Common.{◌≡◌, ◌≢◌, ℕ, zero, suc, ◌-◌, ◌*◌, ◌<◌, ◌≤◌, ◌⊎◌, true, List, [], ◌∷◌, ◌++◌, length, length-set, map, flat_map, replicate, get_or, inl, inr, ⊎_elim, refl, sym, ap, ◌∙◌, subst, arith}
+use Rattle.std.proofs.Common.{◌≡◌, ◌≢◌, ℕ, ◌-◌, ◌*◌, ◌<◌, ◌≤◌, ◌⊎◌, true, List, [], ◌∷◌, ◌++◌, length, length-set, flat_map, replicate, get_or, inl, inr, ⊎_elim, refl, sym, ap, ◌∙◌, subst, arith}
 use Rattle.std.proofs.lemmas.Bool.{true≢false}
 use Rattle.std.specs.Prelude.{Contains, Option, None}
 use Rattle.std.specs.List.{AllByRecursion}
 use mathlib.Core.Logic.{dite}
-use mathlib.Core.Option.{none, some, some-injective, some-ne-none}
+use mathlib.Core.Option.{none, some}
 use native.Mathlib.Decide.{ℕ_discrete}
 use lib.ListN.{get_elem?}
 use Rattle.atomic_table.proofs.Lists.{set_else}
 use Rattle.sock_words.specs.declared.plain.Plan.{Plan}
 use Rattle.sock_model.specs.declared.view.View.{View}
 use Rattle.sock_model.specs.Layout.{place_index}
-use Rattle.sock_model.specs.Seats.{newcomer, below}
 use Rattle.sock_model.specs.Links.{Failed}
 use Rattle.brpc_model.specs.Items.{Item}
 use Rattle.brpc_model.specs.Operations.{Turn}
@@ -45,7 +44,8 @@ use Rattle.outcome_causes.proofs.Lifted.{filtered_in, task_down, why_lifted, tol
 use Rattle.outcome_causes.proofs.Plain.{in_left, in_right, in_both, in_numbers, in_all}
 pub use Rattle.outcome_causes.proofs.Plain.{lost_so}
 use Rattle.outcome_causes.proofs.Scripts.{lost_of_run, lost_before, late, orders, run_tells, failed_early}
-use Rattle.call_causes.specs.programs_allowed.specs.Openings.{links_of_all, without_passes, client_view, opening_views, all_seats}
+use Rattle.call_causes.specs.programs_allowed.proofs.Fresh.{opening_claims}
+use Rattle.call_causes.specs.programs_allowed.specs.Openings.{all_seats}
 use Rattle.call_causes.specs.joint_runs.proofs.Both.{AreBounded}
 use Rattle.call_causes.specs.joint_runs.proofs.Runs.{AreMade, first_views, joint_runs, joint_bounded}
 use Rattle.call_causes.specs.owed_calls.specs.Lives.{ClosesInRun}
@@ -67,17 +67,6 @@ before_map P Q f (x ∷ xs) a = (all_map (P x) (Q x) (f x) xs a.0, before_map P 
 first_bounded : (p : Plan) (most : ℕ) (ms : List Moment) (c : Core) (vs : List View) → AreBounded p most c vs ms → IsBounded p most c vs
 first_bounded p most [] c vs b = b
 first_bounded p most (m ∷ ms) c vs b = b.0
-
--- no seat has a claim as a run begins
-clients_claim : (p : Plan) (clients : List (List Task)) (i : ℕ) (v : View) → get_elem? (map (client_view p) clients) i ≡ some v → v.claims ≡ []
-clients_claim p [] i v e = absurd (some-ne-none v (sym e))
-clients_claim p (ts ∷ clients) zero v e = subst (λ (u : View). u.claims ≡ []) (some-injective (client_view p ts) v e) refl
-clients_claim p (ts ∷ clients) (suc i) v e = clients_claim p clients i v e
-
-pub opening_claims : (p : Plan) (clients : List (List Task)) (i : ℕ) (v : View) → get_elem? (opening_views p clients) i ≡ some v → v.claims ≡ []
-opening_claims p [] i v e = absurd (some-ne-none v (sym e))
-opening_claims p (ts ∷ clients) zero v e = subst (λ (u : View). u.claims ≡ []) (some-injective (newcomer p (without_passes (links_of_all clients) (below p.links)) (511 - length clients)) v e) refl
-opening_claims p (ts ∷ clients) (suc i) v e = clients_claim p clients i v e
 
 pub opening_bare : (script : List Item) (i : ℕ) (v : View) → get_elem? (first_views script) i ≡ some v → (v.claims ≡ []) × (v.lists ≡ [] ∷ [])
 opening_bare script i v at = (opening_claims (plan_of script) (all_seats (all_tasks script) (length (opens script))) i v at, first_fresh script i v at)
