@@ -1,5 +1,5 @@
 -- Frames stay where more bytes come, and behind a rest those follow that begin with it.
-use Rattle.std.proofs.Common.{◌≡◌, ℕ, zero, suc, ◌+◌, ◌-◌, ◌<◌, ◌≤◌, not, ◌&&◌, Bool, true, false, cond, eqb, nat_lt, ltb-false, List, [], ◌∷◌, ◌++◌, length, take, drop, slice_get, Some, None, Result, Ok, Err, ℤ, pos, negsuc, refl, sym, ap, ◌∙◌, subst, arith, length-drop, drop-drop}
+use Rattle.std.proofs.Common.{append_assoc, ◌≡◌, ℕ, zero, suc, ◌+◌, ◌-◌, ◌<◌, ◌≤◌, not, ◌&&◌, Bool, true, false, cond, eqb, nat_lt, ltb-false, List, [], ◌∷◌, ◌++◌, length, take, drop, slice_get, Some, None, Result, Ok, Err, ℤ, pos, negsuc, refl, sym, ap, ◌∙◌, subst, arith, length-drop, drop-drop}
 use lib.Seq.{drop-append-le}
 use Rattle.brpc_model.specs.Meta.{Meta, MetaFault, read_meta}
 use Rattle.brpc_model.specs.Frame.{Frame, FrameFault, BadMagic, TooBig, MetaOver, Judged, NoneYet, Faulty, Begins, high_first, matching, body_limit, with_attachment, body_judged, judged}
@@ -150,6 +150,10 @@ faults_behind (suc n) at xs ys r room is x = by_judged (judged xs) refl is
         faulty_anywhere (suc (length (xs ++ ys))) 0 at (xs ++ ys) (subst (λ l. IsFaulty (stream_from 0 (l ++ ys)).ending) (ap (λ m. drop m xs) all) x)
     by_judged (Faulty fault) e is again = absurd (let w : Fault at fault ≡ Rest r = is in cc)
     by_judged (Begins g body) e is again = subst IsFaulty (sym (begins_ends at xs ys g body e)) (again body g e is)
+
+-- where a fault behind a rest is one of the whole, it is so with more bytes
+pub tied_more : (rest whole bytes more : List ℕ) → ((ys : List ℕ) → HasFault (rest ++ ys) → HasFault (whole ++ ys)) → HasFault ((rest ++ bytes) ++ more) → HasFault ((whole ++ bytes) ++ more)
+tied_more rest whole bytes more tied f = subst HasFault (sym (append_assoc whole bytes more)) (tied (bytes ++ more) (subst HasFault (append_assoc rest bytes more) f))
 
 pub faults_follow : (xs ys : List ℕ) (r : ℕ) → (stream xs).ending ≡ Rest r → HasFault (last_of r xs ++ ys) → HasFault (xs ++ ys)
 faults_follow xs ys r is x = faults_behind (suc (length xs)) 0 xs ys r (omega arith) is x

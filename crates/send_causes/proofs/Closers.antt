@@ -1,5 +1,5 @@
 -- A reader sets its socket failed only where the reading of its link ended, with the code of that end; it exchanges no head, and takes bytes of its own link alone.
-use Rattle.std.proofs.Common.{◌≡◌, ℕ, ◌+◌, ◌%◌, ◌≤◌, ◌==◌, ◌&&◌, ◌⊎◌, inl, inr, nat_lt, ltb-false, Bool, true, false, cond, List, [], ◌∷◌, ◌++◌, length, length-append, append-nil, append_assoc, refl, sym, ap, ◌∙◌, subst, arith}
+use Rattle.std.proofs.Common.{◌≡◌, ℕ, ◌+◌, ◌%◌, ◌≤◌, ◌==◌, ◌&&◌, ◌⊎◌, inl, inr, nat_lt, ltb-false, Bool, true, false, cond, List, [], ◌∷◌, ◌++◌, length, length-append, append-nil, refl, sym, ap, ◌∙◌, subst, arith}
 use Rattle.std.proofs.lemmas.Bool.{true≢false}
 use Rattle.std.proofs.lemmas.List.Concat.{flat_map-append}
 use Rattle.std.specs.Prelude.{Some, None}
@@ -22,7 +22,7 @@ use Rattle.outcome_causes.proofs.Plain.{in_left, in_right}
 use Rattle.run_theorems.specs.Heard.{bytes_found, given_by}
 use Rattle.send_causes.proofs.ReaderParts.{is_freeing, is_of_id, is_loop, ReadsOn, PostsOn, release_on, unlocks_on, end_id_on, unlocked_on, locks_on, joins_on, responses_on, posts_on, post_each_on}
 use Rattle.brpc_model.specs.Causes.{HasFault}
-use Rattle.call_causes.proofs.Streams.{faults_more, faults_follow}
+use Rattle.call_causes.proofs.Streams.{faults_more, faults_follow, tied_more}
 
 -- ## What takes gave
 
@@ -184,8 +184,7 @@ module _ (k id : ℕ) (Odd : List Taking → Type 0) (Lasts : Type 0) where
 
       -- a fault of the rest with what came is one of all that came
       all_tied : (bytes more : List ℕ) → HasFault ((r.rest ++ bytes) ++ more) → HasFault (given_by (h ++ Bytes bytes ∷ []) ++ more)
-      all_tied bytes more f = subst (λ l. HasFault (l ++ more)) (sym (gave_more h bytes))
-          (subst HasFault (sym (append_assoc (given_by h) bytes more)) (at.tied (bytes ++ more) (subst HasFault (append_assoc r.rest bytes more) f)))
+      all_tied bytes more f = subst (λ l. HasFault (l ++ more)) (sym (gave_more h bytes)) (tied_more r.rest (given_by h) bytes more at.tied f)
 
       abbrev with_rest : List ℕ → List Frame → ℕ → Reading
       with_rest bytes kept n = record { ids = r.ids; link = r.link; id = r.id; rest = last_of n (r.rest ++ bytes); total = r.total + length bytes; kept = kept }

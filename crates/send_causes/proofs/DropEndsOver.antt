@@ -60,19 +60,13 @@ module _ (script : List Item) (made : AreMade script) (turns : List Turn) (core 
       (closed_sound script made.are (first_views script) (start script made turns core is) (go script made turns core is) turns core is (fitting script made turns core is)) is.answered_again (let f = fitting script made turns core is in f.of_final)
       (recorded_closed script made.are (first_views script) (start script made turns core is) (go script made turns core is) turns core is (fitting script made turns core is)) (λ e. tt) (closed_keeps script made turns core is))
 
-  -- the reading of a link that a life was given has ended
-  pub reading_over : (j h k : ℕ) → WasGiven (ends script made turns core is closes ids labelled).events j h k → (k < (plan_of script).links) × IsOver (h₄ script made turns core is k)
-  reading_over j h k given_ = by (given_opened script made turns core is closes ids labelled j h k given_)
+  -- the life that a link was given is that of the link's own `open`
+  pub opened_link : (j h k : ℕ) → WasGiven (ends script made turns core is closes ids labelled).events j h k → (o : IsOpened script made turns core is closes ids labelled j h) × (j < 4294967296) × (o.link ≡ k)
+  opened_link j h k given_ = by (given_opened script made turns core is closes ids labelled j h k given_)
     where
-      by : IsOpened script made turns core is closes ids labelled j h → (k < (plan_of script).links) × IsOver (h₄ script made turns core is k)
-      by o = subst (λ n. (n < (plan_of script).links) × IsOver (h₄ script made turns core is n)) same (
-        (let many = (let k = known script made turns core is in k.as_many) in omega (arith, place, many)),
-        of_seat (at_there core.seats (32 + o.link) (let k = end_keeps in let many = k.many in omega (arith, place, many))),
-      )
+      by : (o : IsOpened script made turns core is closes ids labelled j h) → (o : IsOpened script made turns core is closes ids labelled j h) × (j < 4294967296) × (o.link ≡ k)
+      by o = (o, few, same)
         where
-          place : o.link < length (opens script)
-          place = place_inside (opens script) o.link o.operation o.at
-
           few : j < 4294967296
           few = let s = o.inside in let m = made.limits in let l = m.slots in omega (arith, s, l)
 
@@ -81,6 +75,19 @@ module _ (script : List Item) (made : AreMade script) (turns : List Turn) (core 
 
           same : o.link ≡ k
           same = own_link script made turns core is closes ids labelled o.link o.operation (socket_id h j) j h k o.at o.word socket (let z : j ≡ socket_id_slot (h * 4294967296 + j) = omega (arith, few) in z) (let z : h ≡ socket_id_version (h * 4294967296 + j) = omega (arith, few) in z) given_
+
+  -- the reading of a link that a life was given has ended
+  pub reading_over : (j h k : ℕ) → WasGiven (ends script made turns core is closes ids labelled).events j h k → (k < (plan_of script).links) × IsOver (h₄ script made turns core is k)
+  reading_over j h k given_ = let x = opened_link j h k given_ in by x.0 x.2
+    where
+      by : (o : IsOpened script made turns core is closes ids labelled j h) → o.link ≡ k → (k < (plan_of script).links) × IsOver (h₄ script made turns core is k)
+      by o same = subst (λ n. (n < (plan_of script).links) × IsOver (h₄ script made turns core is n)) same (
+        (let many = (let k = known script made turns core is in k.as_many) in omega (arith, place, many)),
+        of_seat (at_there core.seats (32 + o.link) (let k = end_keeps in let many = k.many in omega (arith, place, many))),
+      )
+        where
+          place : o.link < length (opens script)
+          place = place_inside (opens script) o.link o.operation o.at
 
           of_seat : (seat : SeatState) × (get_elem? core.seats (32 + o.link) ≡ some seat) → IsOver (h₄ script made turns core is o.link)
           of_seat (seat, at) = let v = at_there views (32 + o.link) (let k = end_keeps in let many = k.many in let e = (end_sound script made turns core is closes ids labelled).each in omega (arith, place, many, e)) in

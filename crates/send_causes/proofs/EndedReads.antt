@@ -1,5 +1,5 @@
 -- A reader posts errors only behind the end of its reading, and for at words that it loaded which name its link.
-use Rattle.std.proofs.Common.{◌≡◌, ◌≢◌, ℕ, ◌+◌, ◌-◌, ◌%◌, ◌==◌, ◌&&◌, ◌⊎◌, inl, inr, not, nat_lt, ltb-false, eqb-true, eq-eqb, Bool, true, false, cond, List, [], ◌∷◌, ◌++◌, length, length-append, append-nil, append_assoc, refl, sym, ap, ◌∙◌, subst, arith}
+use Rattle.std.proofs.Common.{◌≡◌, ◌≢◌, ℕ, ◌+◌, ◌-◌, ◌%◌, ◌==◌, ◌&&◌, ◌⊎◌, inl, inr, not, nat_lt, ltb-false, eqb-true, eq-eqb, Bool, true, false, cond, List, [], ◌∷◌, ◌++◌, length, length-append, append-nil, refl, sym, ap, ◌∙◌, subst, arith}
 use Rattle.std.proofs.lemmas.Bool.{true≢false}
 use Rattle.std.proofs.lemmas.List.Concat.{flat_map-append}
 use Rattle.std.specs.Prelude.{Some, None}
@@ -22,7 +22,7 @@ use Rattle.outcome_causes.proofs.Plain.{in_left}
 use Rattle.run_theorems.specs.Heard.{bytes_found, given_by}
 use Rattle.send_causes.proofs.ReaderParts.{is_of_id, is_loop, ReadsOn, release_on, unlocks_on, end_id_on, unlocked_on, locks_on, joins_on, responses_on, posted_last_on}
 use Rattle.brpc_model.specs.Causes.{HasFault}
-use Rattle.call_causes.proofs.Streams.{faults_more, faults_follow}
+use Rattle.call_causes.proofs.Streams.{faults_more, faults_follow, tied_more}
 use Rattle.send_causes.proofs.Closers.{gave_more, gave_none, last_in}
 use Rattle.send_causes.proofs.Early.{EndedBy, ended_more}
 
@@ -180,8 +180,7 @@ module _ (k : ℕ) (At : ℕ → ℕ → Type 0) where
 
     -- a fault of the rest with what came is one of all that came
     all_tied : (bytes more : List ℕ) → HasFault ((r.rest ++ bytes) ++ more) → HasFault (given_by (h ++ Bytes bytes ∷ []) ++ more)
-    all_tied bytes more f = subst (λ l. HasFault (l ++ more)) (sym (gave_more h bytes))
-        (subst HasFault (sym (append_assoc (given_by h) bytes more)) (at.tied (bytes ++ more) (subst HasFault (append_assoc r.rest bytes more) f)))
+    all_tied bytes more f = subst (λ l. HasFault (l ++ more)) (sym (gave_more h bytes)) (tied_more r.rest (given_by h) bytes more at.tied f)
 
     abbrev with_rest : List ℕ → List Frame → ℕ → Reading
     with_rest bytes kept n = record { ids = r.ids; link = r.link; id = r.id; rest = last_of n (r.rest ++ bytes); total = r.total + length bytes; kept = kept }

@@ -28,7 +28,7 @@ use Rattle.call_causes.specs.joint_runs.proofs.Runs.{AreMade, first_views}
 use Rattle.call_causes.specs.owed_calls.specs.Lives.{ClosesInRun}
 use Rattle.send_causes.specs.Counts.{of_entry, of_view}
 use Rattle.send_causes.specs.Refused.{RunWouldOwn}
-use Rattle.send_causes.proofs.Apart.{of_call_fits}
+use Rattle.send_causes.proofs.Apart.{heading_one, of_call_fits}
 use Rattle.send_causes.proofs.Beside.{fixed_of_run, gave_of_run, orders_here}
 use Rattle.send_causes.proofs.Early.{start, go, fitting}
 use Rattle.send_causes.proofs.Runs.{AreLabelledIn, IsCallOf, Lawful_, end_law}
@@ -36,7 +36,6 @@ use Rattle.send_causes.proofs.ToldEnd.{told_end}
 use Rattle.send_causes.proofs.Sends.{narrow, opening_bare}
 use Rattle.send_causes.proofs.DropWhole.{get_same}
 use Rattle.send_causes.proofs.RefusedWhole.{IsGone}
-use Rattle.send_causes.proofs.DropPlaces.{heading_one}
 
 module _ (script : List Item) (made : AreMade script) (turns : List Turn) (core : Core) (is : IsRunWithCalls script turns core) (closes : ClosesInRun script turns core is) (ids : ℕ → ℕ) (labelled : AreLabelledIn ids script turns core is) (would : RunWouldOwn ids script turns core is) where
   abbrev vs : List View

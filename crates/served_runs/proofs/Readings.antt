@@ -1,5 +1,5 @@
 -- Where the reader of a link comes to rest its reading is over: a take found its end, or what it gave ends the reading.
-use Rattle.std.proofs.Common.{◌≡◌, ℕ, ◌+◌, ◌%◌, ◌≤◌, ◌==◌, ◌&&◌, ◌||◌, ◌⊎◌, inl, inr, nat_lt, ltb-false, Bool, true, false, cond, List, [], ◌∷◌, ◌++◌, length, length-append, append-nil, append_assoc, refl, sym, ap, ◌∙◌, subst, arith}
+use Rattle.std.proofs.Common.{◌≡◌, ℕ, ◌+◌, ◌%◌, ◌≤◌, ◌==◌, ◌&&◌, ◌||◌, ◌⊎◌, inl, inr, nat_lt, ltb-false, Bool, true, false, cond, List, [], ◌∷◌, ◌++◌, length, length-append, append-nil, refl, sym, ap, ◌∙◌, subst, arith}
 use Rattle.std.proofs.lemmas.Bool.{true≢false}
 use Rattle.std.specs.Prelude.{Some, None}
 use Rattle.sock_words.specs.Words.{socket_id_version, socket_id_slot, vref_version}
@@ -18,7 +18,7 @@ use Rattle.sock_runs.specs.Sound.{first_step}
 use Rattle.send_causes.specs.Below.run_theorems.specs.Heard.{bytes_found}
 use Rattle.send_causes.proofs.ReaderParts.{is_of_id, is_loop, ReadsOn, PostsOn, release_on, unlocks_on, end_id_on, unlocked_on, locks_on, joins_on, responses_on, posts_on, post_each_on}
 use Rattle.brpc_model.specs.Causes.{HasFault}
-use Rattle.send_causes.specs.Below.call_causes.proofs.Streams.{faults_more, faults_follow}
+use Rattle.send_causes.specs.Below.call_causes.proofs.Streams.{faults_more, faults_follow, tied_more}
 
 -- ## How a reading ends
 
@@ -137,7 +137,7 @@ module _ (k : ℕ) where
 
     -- a fault of the rest with what came is one of all that came
     all_tied : (bytes more : List ℕ) → HasFault ((r.rest ++ bytes) ++ more) → HasFault ((g ++ bytes) ++ more)
-    all_tied bytes more f = subst HasFault (sym (append_assoc g bytes more)) (at.tied (bytes ++ more) (subst HasFault (append_assoc r.rest bytes more) f))
+    all_tied bytes more f = tied_more r.rest g bytes more at.tied f
 
     abbrev with_rest : List ℕ → List Frame → ℕ → Reading
     with_rest bytes kept n = record { ids = r.ids; link = r.link; id = r.id; rest = last_of n (r.rest ++ bytes); total = r.total + length bytes; kept = kept }
