@@ -86,19 +86,7 @@ module _ (script : List Item) (made : AreMade script) (turns : List Turn) (core 
   many_seats = ap (λ (d : Core). length d.seats) is.is_end ∙ (run_seats (plan_of script) is.ended is.final ∙ (ap (λ (d : Core). length d.seats) is.is_ended ∙ many_closed))
 
   pub run_facts : RunFacts
-  run_facts = record {
-    length_is = length_is;
-    few_tries = few_tries;
-    opened_ahead = opened_ahead;
-    set_up_ahead = set_up_ahead;
-    played_ahead = played_ahead;
-    ending_ahead = ending_ahead;
-    ended_ahead = ended_ahead;
-    end_ahead = end_ahead;
-    many_played = many_played;
-    many_closed = many_closed;
-    many_seats = many_seats;
-  }
+  run_facts = record { length_is = length_is; few_tries = few_tries; opened_ahead = opened_ahead; set_up_ahead = set_up_ahead; played_ahead = played_ahead; ending_ahead = ending_ahead; ended_ahead = ended_ahead; end_ahead = end_ahead; many_played = many_played; many_closed = many_closed; many_seats = many_seats }
 
 -- the bytes that the links of the run gave lead to those that they gave in the end
 module _ (script : List Item) (turns : List Turn) (core : Core) (is : IsRunWithCalls script turns core) (gives : ℕ → List ℕ) (leads : LeadsTo (plan_of script) (id_plan_of script) (all_tasks script) gives core) where
@@ -136,15 +124,7 @@ module _ (script : List Item) (turns : List Turn) (core : Core) (is : IsRunWithC
   opened_leads = run_leads (plan_of script) (id_plan_of script) (all_tasks script) gives (replicate is.setup (quiet 0)) (opened script) set_up_leads
 
   pub leadings : Leadings
-  leadings = record {
-    ended_leads = ended_leads;
-    told_leads = told_leads;
-    closed_leads = closed_leads;
-    ending_leads = ending_leads;
-    played_leads = played_leads;
-    set_up_leads = set_up_leads;
-    opened_leads = opened_leads;
-  }
+  leadings = record { ended_leads = ended_leads; told_leads = told_leads; closed_leads = closed_leads; ending_leads = ending_leads; played_leads = played_leads; set_up_leads = set_up_leads; opened_leads = opened_leads }
 
 pub own_leads : (script : List Item) (core : Core) → LeadsTo (plan_of script) (id_plan_of script) (all_tasks script) (given core) core
 own_leads script core k = ([], append-nil (given core k))

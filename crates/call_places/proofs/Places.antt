@@ -131,6 +131,15 @@ module _ {O : Type 0} {g : Ghosts O} {state : O → OutState} {readers : List (L
   abbrev pub all : List (Client g state p (ids_of p slots))
   all = record { thread = run.ran.main; first = 0; is = run.ran.main_is } ∷ clients_from state p (ids_of p slots) (opened_names run.ran.main.ended.outcomes.items (openings setup)) (opens_of setup) run.ran.others run.ran.others_are
 
+  -- what the proofs on a run speak of: the plan of its ids, the tasks of its clients with the setup's, and the clients
+  pub record Crew : Type 0 where
+    pub q : id_plan.Plan
+    pub every : List (List Task)
+    pub crew : List (Client g state p q)
+
+  abbrev pub crew_of : Crew
+  crew_of = record { q = ids_of p slots; every = setup ∷ clients; crew = all }
+
   pub all_are : {B : Type 0} (f : Thread g → B) → map (λ (c : Client g state p (ids_of p slots)). f c.thread) all ≡ map f (run.ran.main ∷ run.ran.others)
   all_are f = ap (λ l. f run.ran.main ∷ l) (threads_are state p (ids_of p slots) f (opened_names run.ran.main.ended.outcomes.items (openings setup)) (opens_of setup) run.ran.others run.ran.others_are)
 

@@ -318,20 +318,7 @@ module _ (script : List Item) (made : AreMade script) (turns : List Turn) (core 
           by (joining i next e inside waits_) = let r : OwesOn lives_there u (Round (Joins i) next) = subst (OwesOn lives_there u) e g in absurd (subst (InList o) r.0.1 left)
           by (opening x next e z) = let same : x ≡ own.0 = waits_own p (calls script) (32 + k) k own.0 (in_script k own.0 own.1) rested seat.0 seat.1 (readers₂ k own.0 own.1) x next e in
               let word_is = (id_is (get_or rested.words (open_index p own.0) 0) s own.2).0 in let zero_ : get_or rested.words (open_index p own.0) 0 ≡ 0 = ap (λ m. get_or rested.words (open_index p m) 0) (sym same) ∙ z in absurd (let z : ⊥ = omega (arith, word_is, zero_) in z)
-          by (still.reading r next e) = let x = reads_so k own.0 own.1 seat.0 seat.1 r next e in record {
-            operation = o;
-            low = inside;
-            link = k;
-            word = word;
-            opening_ = own.0;
-            opens_it = own.1;
-            seat = seat.0;
-            seat_there = seat.1;
-            reads = x.0;
-            next = read (calls script);
-            program = x.1;
-            of_link = x.2;
-          }
+          by (still.reading r next e) = let x = reads_so k own.0 own.1 seat.0 seat.1 r next e in record { operation = o; low = inside; link = k; word = word; opening_ = own.0; opens_it = own.1; seat = seat.0; seat_there = seat.1; reads = x.0; next = read (calls script); program = x.1; of_link = x.2 }
           by (discarding l total next e) = absurd (none_thrown k own.0 own.1 seat.0 seat.1 l total next e)
 
       -- so it is with each open id

@@ -19,7 +19,7 @@ use Rattle.seat_programs.specs.declared.task.Op.{Op}
 use Rattle.seat_programs.specs.declared.task.Op.TheVariants as ops
 use Rattle.seat_programs.specs.declared.task.Task.{Task}
 use Rattle.seat_programs.specs.Told.{AreTasks, Became}
-use Rattle.seat_programs.specs.ToldCalls.{Fixed, Order, IsUnordered, WhyLost, WasFailing, RunEnding, WasUnopened}
+use Rattle.seat_programs.specs.ToldCalls.{IsUnordered, WhyLost, WasFailing, RunEnding, WasUnopened}
 use Rattle.corr_core.specs.Law.{total, is_attempt, is_ended}
 use Rattle.corr_core.specs.declared.marks.Kept.{Kept}
 use Rattle.corr_core.specs.declared.marks.Note.TheVariants.{Made}
@@ -44,7 +44,7 @@ use Rattle.attempts_told.specs.call_whys.specs.expire_told.specs.call_places.pro
 use Rattle.attempts_told.specs.call_whys.specs.expire_told.specs.call_places.proofs.Own.{deed_of}
 use Rattle.attempts_told.specs.call_whys.specs.expire_told.specs.call_places.proofs.Ids.{IsIdOf}
 use Rattle.attempts_told.specs.call_whys.specs.expire_told.specs.call_places.proofs.Clients.{Client, total_map, view_of, tasks_of, deeds_of}
-use Rattle.attempts_told.specs.call_whys.specs.expire_told.specs.call_places.proofs.Places.{all as all_clients, views_are, noted_among, may_make}
+use Rattle.attempts_told.specs.call_whys.specs.expire_told.specs.call_places.proofs.Places.{all as all_clients, views_are, noted_among, may_make, crew_of}
 use Rattle.attempts_told.specs.call_whys.specs.expire_told.specs.call_told.specs.Least.{is_made_for}
 use Rattle.attempts_told.specs.call_whys.specs.expire_told.specs.call_told.proofs.Lists.{all_at}
 use Rattle.attempts_told.specs.call_whys.specs.expire_told.specs.call_deeds.specs.Retried.{all_asked}
@@ -54,9 +54,8 @@ use Rattle.attempts_told.specs.call_whys.specs.expire_told.specs.Below.report_fi
 use Rattle.attempts_told.specs.call_whys.specs.expire_told.specs.Said.{AreSaid}
 use Rattle.attempts_told.specs.call_whys.specs.expire_told.specs.Below.sock_deeds.specs.Runs.{IsOperation, seat_of, DeedRun}
 use Rattle.attempts_told.specs.call_whys.specs.expire_told.specs.Below.sock_deeds.proofs.Accepting.{log}
-use Rattle.attempts_told.specs.call_whys.specs.expire_told.specs.Below.sock_deeds.proofs.Orders.{orders}
 use Rattle.attempts_told.specs.call_whys.specs.expire_told.specs.Below.sock_deeds.proofs.Tasks.{same_task}
-use Rattle.attempts_told.specs.call_whys.specs.expire_told.specs.Below.sock_deeds.proofs.Whole.{fixed, log_accepted}
+use Rattle.attempts_told.specs.call_whys.specs.expire_told.specs.Below.sock_deeds.proofs.Whole.{log_accepted, laws_of}
 use Rattle.attempts_told.specs.Attempts.{last_attempt}
 use Rattle.attempts_told.proofs.Last.{IsReached, one_reached, none_further}
 use Rattle.attempts_told.proofs.RetriedLast.{WentFor, last_went}
@@ -158,23 +157,12 @@ module _ {O : Type 0} {g : Ghosts O} {state : O → OutState} {readers : List (L
     -- what the seats did at the table of sockets
     (drun : DeedRun g state p (setup ∷ clients) outcomes places vrefs outs) (seats : map seat_of drun.seats ≡ map (λ (x : Thread g). x.ended.seat) (run.ran.main ∷ run.ran.others)) (logged : log drun ≡ run.closed.ordered.log)
     (differ : PlacesDiffer (log drun)) (gave : ℕ → List ℕ) where
-  abbrev q : id_plan.Plan
-  q = ids_of p slots
-
-  abbrev every : List (List Task)
-  every = setup ∷ clients
-
-  abbrev crew : List (Client g state p q)
-  crew = all_clients run
+  open crew_of run use {q, every, crew}
 
   abbrev last : ℕ → ℕ
   last = last_attempt notes
 
-  abbrev fixed_here : Fixed
-  fixed_here = fixed drun differ gave
-
-  abbrev orders_here : ℕ → Order
-  orders_here = orders drun differ
+  open laws_of drun differ gave use {fixed_here, orders_here}
 
   abbrev LeftHere : ℕ → ℕ → Asked → ℕ → Type 0
   LeftHere client o asked n = LeftAt p every outcomes fixed_here gave orders_here client o asked n

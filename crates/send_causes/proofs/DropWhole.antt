@@ -130,15 +130,7 @@ module _ (script : List Item) (are : AreTasks (plan_of script) (all_tasks script
 
   pub over_scene : (s : SceneOf (set_up script is.setup) views_set) × (s.events ≡ setup_goes.after.events)
   over_scene = let t = setup_goes.after in let o = set_up_over (plan_of script) (told_tasks_of script) seats (set_up script is.setup) views_set (record { events = t.events; lost = t.lost; sound = t.sound; story = t.story }) is.is_set_up in (
-    record {
-      events = o.0.events;
-      lost = o.0.lost;
-      sound = o.0.sound;
-      story = o.0.story;
-      trials = t.trials;
-      labels = t.labels;
-      codes = subst (CodesLaw (told_tasks_of script) (plan_of script) (set_up script is.setup) views_set) (sym o.1) t.codes;
-    },
+    record { events = o.0.events; lost = o.0.lost; sound = o.0.sound; story = o.0.story; trials = t.trials; labels = t.labels; codes = subst (CodesLaw (told_tasks_of script) (plan_of script) (set_up script is.setup) views_set) (sym o.1) t.codes },
     o.1,
   )
 

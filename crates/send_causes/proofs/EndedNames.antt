@@ -382,22 +382,7 @@ module _ (p : Plan) (q : IdPlan) (narrow : q.slots ≤ 65536) (is_call : Asked �
           (λ far. at_one (ids.at_index c.calls.plan o) w n (λ e. far (omega (arith, e))) low some_)
         where
           now : StoredFor is_call seen fs o w
-          now = for_up is_call seen es fs up o w record {
-            asked = own.asked;
-            called = own.called;
-            operation = own.operation;
-            id = own.id;
-            attempt = own.attempt;
-            link = own.link;
-            socket = own.socket;
-            word = own.word;
-            slot = subst (HasSlot is_call seen es) own.knows true_here.4;
-            small = own.small;
-            few = own.few;
-            named = (subst (AllByRecursion (IsNamed is_call seen es)) own.name true_here.0).0;
-            given = true_here.2 (name_of own.asked own.attempt) own.socket own.link own.name own.linked;
-            stored = shown;
-          }
+          now = for_up is_call seen es fs up o w record { asked = own.asked; called = own.called; operation = own.operation; id = own.id; attempt = own.attempt; link = own.link; socket = own.socket; word = own.word; slot = subst (HasSlot is_call seen es) own.knows true_here.4; small = own.small; few = own.few; named = (subst (AllByRecursion (IsNamed is_call seen es)) own.name true_here.0).0; given = true_here.2 (name_of own.asked own.attempt) own.socket own.link own.name own.linked; stored = shown }
 
       pub ats_behind : (step : Step) (after : Program) (found : Found step) (x : Trail) → MayId p q u step → IsShown step → GoesAside is_call t step after found x → AtsFor is_call seen fs (calls_after step found c.calls)
       ats_behind (ClaimId k) after found x may shown g = at_else (ids.tag_index k) 1 (λ o _. λ e. omega (arith, e))

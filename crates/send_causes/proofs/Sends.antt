@@ -221,15 +221,4 @@ module _ (script : List Item) (made : AreMade script) (turns : List Turn) (core 
 
         -- all that is told of a run but what is on calls
         pub run_sends : ToldSends (plan_of script) (all_tasks script) core.outcomes fixed gave orders_of_run last core
-        run_sends = let t = told_plain (λ c t u asked n it iu seeks became less op. absurd (no_call c u asked iu op)) in record {
-          are_orders = orders_are;
-          told = t.told;
-          are = t.are;
-          once = t.once;
-          lives = t.lives;
-          why = t.why;
-          again = λ c t asked it op. absurd (no_call c t asked it op);
-          sent = sends_are;
-          own_order = in_order;
-          dropped = drops;
-        }
+        run_sends = let t = told_plain (λ c t u asked n it iu seeks became less op. absurd (no_call c u asked iu op)) in record { are_orders = orders_are; told = t.told; are = t.are; once = t.once; lives = t.lives; why = t.why; again = λ c t asked it op. absurd (no_call c t asked it op); sent = sends_are; own_order = in_order; dropped = drops }

@@ -76,18 +76,7 @@ module _ (bytes : List ℕ) (script : List Item) (reads : script_of bytes ≡ Ok
 
   module _ (late : (k : ℕ) → Contains (late_links_of_run script turns core is) k → Contains fixed.late_links k) (shown : AreShown script turns core is fixed ends) where
     served : (k : ℕ) (shape : Shape) → model.IsServedLink reported k shape → IsServed script turns core is k shape
-    served k shape s = let b = s.lived in let life = made_at b.0 b.1 b.2 k b.3 in let (e, has, numbered, (unfailed, faultless, few)) = s.read in record {
-      opened = s.opened;
-      serves = s.serves;
-      name = life.name;
-      slot = life.slot;
-      version = life.version;
-      lived = life.life;
-      in_time = λ born. s.in_time (late k born);
-      whole = λ failed. let f = shown.1 k e has numbered failed in let z : ⊥ = omega (arith, f, unfailed) in z;
-      faultless = faultless;
-      few = let l = end_of k e has numbered in omega (arith, l, few);
-    }
+    served k shape s = let b = s.lived in let life = made_at b.0 b.1 b.2 k b.3 in let (e, has, numbered, (unfailed, faultless, few)) = s.read in record { opened = s.opened; serves = s.serves; name = life.name; slot = life.slot; version = life.version; lived = life.life; in_time = λ born. s.in_time (late k born); whole = λ failed. let f = shown.1 k e has numbered failed in let z : ⊥ = omega (arith, f, unfailed) in z; faultless = faultless; few = let l = end_of k e has numbered in omega (arith, l, few) }
 
     -- what is reported that it took is what it took, where the links tell it
     line_took : TellTook script ends → (k : ℕ) (shape : Shape) (line : LinkLine) → slice_get report.links k ≡ Some line → model.IsServedLink reported k shape → line.took ≡ took_in_all script turns core is k

@@ -24,7 +24,7 @@ use Rattle.seat_programs.specs.declared.task.Op.TheVariants as ops
 use Rattle.seat_programs.specs.declared.task.Task.{Task}
 use Rattle.seat_programs.specs.Cores.{Core}
 use Rattle.seat_programs.specs.Told.{IsTask, Became, IsOpen}
-use Rattle.seat_programs.specs.ToldCalls.{Fixed, StandsOn, FoundNone, FoundFailed, MayFail, IsFailing, Why, all_accepted}
+use Rattle.seat_programs.specs.ToldCalls.{Fixed, Order, StandsOn, FoundNone, FoundFailed, MayFail, IsFailing, Why, all_accepted}
 use Rattle.outcome_causes.proofs.Accepted as accepted
 use Rattle.outcome_causes.proofs.Tasks.{setup_opens}
 use Rattle.rpc_client.specs.Failing.{FailedBy as FailedAs}
@@ -51,6 +51,14 @@ use Rattle.sock_deeds.proofs.Tasks.{Does, asks_of, same_task, one_outcome, fits,
 module _ {O : Type 0} {g : Ghosts O} {state : O → OutState} {p : Plan} {clients : List (List Task)} {outcomes : List (Option Outcome)} {places : List PlaceWord} {vrefs : List Vref} {outs : List O} (run : DeedRun g state p clients outcomes places vrefs outs) (differ : PlacesDiffer (log run)) (gave : ℕ → List ℕ) where
   abbrev pub fixed : Fixed
   fixed = fixed_by (broken run) (early run) (all_fails run)
+
+  -- with the orders of the links
+  pub record Laws : Type 0 where
+    pub fixed_here : Fixed
+    pub orders_here : ℕ → Order
+
+  abbrev pub laws_of : Laws
+  laws_of = record { fixed_here = fixed; orders_here = orders run differ }
 
   -- ## Lives that were failed
 
