@@ -92,13 +92,7 @@ send_entry : {O : Type 0} {g : Ghosts O} (state : O → OutState) (p : Plan) (q 
     → (e : Entry) × (get_elem? (acted_entries state p q number op by s t a) 0 ≡ some e) × (e.heading.place ≡ 8 * number + 0) × (e.link < p.links)
 send_entry state p q number n bytes (ops.Send m bs) is None untold s t a = let x = a.0.delivered.accepted in (x.entry, refl, ap (λ (h : Heading). h.place) x.heading_is, x.inside)
 send_entry state p q number n bytes (ops.Send m bs) is (Some by) untold s t a = absurd (cc)
-send_entry state p q number n bytes (ops.Open m k) is by untold s t a = absurd (cc)
-send_entry state p q number n bytes (ops.Call asked) is by untold s t a = absurd (cc)
-send_entry state p q number n bytes (ops.Expire of) is by untold s t a = absurd (cc)
-send_entry state p q number n bytes (ops.Join of) is by untold s t a = absurd (cc)
-send_entry state p q number n bytes (ops.Hold m) is by untold s t a = absurd (cc)
-send_entry state p q number n bytes (ops.Drop m) is by untold s t a = absurd (cc)
-send_entry state p q number n bytes (ops.Fail m code) is by untold s t a = absurd (cc)
+send_entry state p q number n bytes _ is by untold s t a = absurd (cc)
 
 -- ## The clients of a run
 

@@ -97,13 +97,7 @@ module _ {O : Type 0} (state : O → OutState) (p : Plan) (q : id_plan.Plan) whe
   acted_low : {g : Ghosts O} (number : ℕ) (op : Op) (by : Option Outcome) (s t : Stand g) (a : Acted state p q number op by s t) (link : ℕ) → acted_link state p q number op by s t a ≡ Some link → link < p.links
   acted_low number (ops.Call asked) None s t a link is = attempt_low a.1.socket _ a.1.at (both_of t) a.1.attempted link is
   acted_low number (ops.Call asked) (Some by) s t a link is = absurd (none-some link is)
-  acted_low number (ops.Open n k) by s t a link is = absurd (none-some link is)
-  acted_low number (ops.Send n bytes) by s t a link is = absurd (none-some link is)
-  acted_low number (ops.Expire of) by s t a link is = absurd (none-some link is)
-  acted_low number (ops.Join of) by s t a link is = absurd (none-some link is)
-  acted_low number (ops.Hold n) by s t a link is = absurd (none-some link is)
-  acted_low number (ops.Drop n) by s t a link is = absurd (none-some link is)
-  acted_low number (ops.Fail n code) by s t a link is = absurd (none-some link is)
+  acted_low number _ by s t a link is = absurd (none-some link is)
 
   -- where none was, its socket was gone, or there was none
   attempt_nowhere : (socket : SocketId) (msg : Letter) (s t : Both) (a : AttemptedBy state p q socket msg s t) → attempt_link state p q socket msg s t a ≡ None → attempt_missed state p q socket msg s t a ≡ Some EFAILEDSOCKET
@@ -118,13 +112,7 @@ module _ {O : Type 0} (state : O → OutState) (p : Plan) (q : id_plan.Plan) whe
   acted_nowhere : {g : Ghosts O} (number : ℕ) (op : Op) (by : Option Outcome) (s t : Stand g) (a : Acted state p q number op by s t) (asked : Asked) → op ≡ ops.Call asked → by ≡ None → acted_link state p q number op by s t a ≡ None → acted_missed state p q number op by s t a ≡ Some EFAILEDSOCKET
   acted_nowhere number (ops.Call own) None s t a asked op tried is = attempt_nowhere a.1.socket _ a.1.at (both_of t) a.1.attempted is
   acted_nowhere number (ops.Call own) (Some by) s t a asked op tried is = absurd (none-some by (sym tried))
-  acted_nowhere number (ops.Open n k) by s t a asked op tried is = absurd (cc)
-  acted_nowhere number (ops.Send n bytes) by s t a asked op tried is = absurd (cc)
-  acted_nowhere number (ops.Expire of) by s t a asked op tried is = absurd (cc)
-  acted_nowhere number (ops.Join of) by s t a asked op tried is = absurd (cc)
-  acted_nowhere number (ops.Hold n) by s t a asked op tried is = absurd (cc)
-  acted_nowhere number (ops.Drop n) by s t a asked op tried is = absurd (cc)
-  acted_nowhere number (ops.Fail n code) by s t a asked op tried is = absurd (cc)
+  acted_nowhere number _ by s t a asked op tried is = absurd (cc)
 
 module _ {O : Type 0} {g : Ghosts O} {state : O → OutState} {p : Plan} {q : id_plan.Plan} where
   deed_low : (d : Deed g state p q) (link : ℕ) → link_in d ≡ Some link → link < p.links

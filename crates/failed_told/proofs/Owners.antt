@@ -98,12 +98,7 @@ module _ {O : Type 0} {g : Ghosts O} {state : O → OutState} {readers : List (L
       let b = a.1 in of_call asked a.0 0 zero-le e (attempt_head state p q b.socket _ b.at (both_of t) b.attempted m e h)
       (first_id run tasks may notes kept words closing noted asked.operation a.0 made.0 (let x = among (slot_of a.0) (is_made_for (version_of a.0) asked.operation) in let y = made.1 in omega (arith, x, y)))
   acted_owned v among number (ops.Call asked) (Some by) s t a made m e h = absurd (none_there m e h)
-  acted_owned v among number (ops.Open n k) by s t a made m e h = absurd (none_there m e h)
-  acted_owned v among number (ops.Expire of) by s t a made m e h = absurd (none_there m e h)
-  acted_owned v among number (ops.Join of) by s t a made m e h = absurd (none_there m e h)
-  acted_owned v among number (ops.Hold n) by s t a made m e h = absurd (none_there m e h)
-  acted_owned v among number (ops.Drop n) by s t a made m e h = absurd (none_there m e h)
-  acted_owned v among number (ops.Fail n code) by s t a made m e h = absurd (none_there m e h)
+  acted_owned v among number _ by s t a made m e h = absurd (none_there m e h)
 
   deed_owned : (c : ℕ) (x : Client g state p q) → get_elem? crew c ≡ some x → (i : ℕ) (d : Deed g state p q) → get_elem? (deeds_of x) i ≡ some d → (m : ℕ) (e : Entry) → get_elem? (entries_of d) m ≡ some e → Owned e
   deed_owned c x at i (operates y by s t a) there m e h =

@@ -23,7 +23,7 @@ use Rattle.corr_core.specs.declared.marks.View.{View}
 use Rattle.id_rule.specs.Lawful.{call_index, notes_of}
 use Rattle.sock_message.specs.Asked.{Asked}
 use Rattle.corr_id.specs.declared.posts.Posted.{Posted}
-use Rattle.corr_id.specs.declared.posts.Posted.TheVariants.{Locked as HasLock, Queued as IsQueued, Gone, Stale, Crowded}
+use Rattle.corr_id.specs.declared.posts.Posted.TheVariants.{Locked as HasLock, Crowded}
 use Rattle.corr_id.specs.Calls.{slot_of, is_saw}
 use Rattle.corr_id.specs.Closing.{Closing}
 use Rattle.attempts_told.specs.call_whys.specs.expire_told.specs.Below.rpc_client.specs.declared.acting.Told.{Told}
@@ -107,9 +107,7 @@ module _ {O : Type 0} {g : Ghosts O} {state : O → OutState} {readers : List (L
 
     by_answer : (answer : Posted Asked) → outcome.Crowded a b ≡ outcome_by answer → PostedAs slots answer (found_id q of h.id m.done.made.ready.calls) h.id ERPCTIMEDOUT None m.done.after.has.calls → PostedHere a × PostedHere b
     by_answer (HasLock k) e x = absurd (cc)
-    by_answer IsQueued e x = absurd (cc)
-    by_answer (Gone found) e x = absurd (cc)
-    by_answer (Stale current) e x = absurd (cc)
+    by_answer _ e x = absurd (cc)
     by_answer (Crowded first second) e x =
         let same = same_codes a b first second e in let word = x.post.1.0 in let was = x.post.1.1 in
         let saw = seen word x.view m.done.made.ready.calls.books x.handled was.0 in let taken : 0 < (parts word).state = (let s = was.2 in omega (arith, s)) in

@@ -24,7 +24,7 @@ use Rattle.seat_programs.specs.Told.{AreTasks}
 use Rattle.corr_core.specs.Law.{total, is_attempt}
 use Rattle.corr_core.specs.declared.marks.Kept.{Kept}
 use Rattle.corr_core.specs.declared.marks.Note.{Note}
-use Rattle.corr_core.specs.declared.marks.Note.TheVariants.{Tried, Made, Ended, Locker, Queued, Attempt, Saw}
+use Rattle.corr_core.specs.declared.marks.Note.TheVariants.{Made}
 use Rattle.corr_core.specs.declared.marks.Noted.{Noted}
 use Rattle.corr_core.specs.declared.marks.Plan as id_plan
 use Rattle.corr_core.specs.declared.marks.View.{View}
@@ -103,12 +103,7 @@ module _ {O : Type 0} (state : O → OutState) (p : Plan) (q : id_plan.Plan) whe
   acted_at number (ops.Send n bytes) (Some by) s t a m e h = absurd (none_there m e h)
   acted_at number (ops.Call asked) None s t a m e h = let z = only-at e.heading.place (8 * asked.operation + 0) (sym (attempt_at a.1.socket _ a.1.at (both_of t) a.1.attempted m e h)) in omega (arith, z)
   acted_at number (ops.Call asked) (Some by) s t a m e h = absurd (none_there m e h)
-  acted_at number (ops.Open n k) by s t a m e h = absurd (none_there m e h)
-  acted_at number (ops.Expire of) by s t a m e h = absurd (none_there m e h)
-  acted_at number (ops.Join of) by s t a m e h = absurd (none_there m e h)
-  acted_at number (ops.Hold n) by s t a m e h = absurd (none_there m e h)
-  acted_at number (ops.Drop n) by s t a m e h = absurd (none_there m e h)
-  acted_at number (ops.Fail n code) by s t a m e h = absurd (none_there m e h)
+  acted_at number _ by s t a m e h = absurd (none_there m e h)
 
   -- of an attempt that came to nothing there is none
   module _ (code : ℕ) where
@@ -142,13 +137,7 @@ module _ {O : Type 0} (state : O → OutState) (p : Plan) (q : id_plan.Plan) whe
       asks = λ other e. sym (call_operation asked other e);
     }
     acted_first v number (ops.Call asked) (Some by) s t a is made = absurd (none-some code is)
-    acted_first v number (ops.Open n k) by s t a is made = absurd (none-some code is)
-    acted_first v number (ops.Send n bytes) by s t a is made = absurd (none-some code is)
-    acted_first v number (ops.Expire of) by s t a is made = absurd (none-some code is)
-    acted_first v number (ops.Join of) by s t a is made = absurd (none-some code is)
-    acted_first v number (ops.Hold n) by s t a is made = absurd (none-some code is)
-    acted_first v number (ops.Drop n) by s t a is made = absurd (none-some code is)
-    acted_first v number (ops.Fail n c) by s t a is made = absurd (none-some code is)
+    acted_first v number _ by s t a is made = absurd (none-some code is)
 
 label_place : (l number : ℕ) (asked : Asked) → 0 < label_in l number (ops.Call asked) → l ≡ 8 * asked.operation + 0
 label_place l number asked h = dite (ℕ_discrete (8 * asked.operation + 0) l) (λ e. sym e) (λ ne. absurd (let z = only-else l (8 * asked.operation + 0) ne in omega (arith, z, h)))
@@ -165,12 +154,7 @@ pub made_note : (f o : ℕ) (n : Note Asked) → 0 < is_made_for f o n → (r : 
 made_note f o (Made g r asked) h = dite (ℕ_discrete g f)
     (λ e. dite (ℕ_discrete asked.operation o) (λ d. (r, asked, ap (λ (y : ℕ). Made y r asked) e, d)) (λ n. absurd (let a = pair-else f o g asked.operation n in omega (arith, a, h))))
     (λ n. absurd (let a = pair-else_first f o g asked.operation n in omega (arith, a, h)))
-made_note f o Tried h = absurd (omega (arith, h))
-made_note f o (Ended g y) h = absurd (omega (arith, h))
-made_note f o (Locker g c) h = absurd (omega (arith, h))
-made_note f o (Queued g e) h = absurd (omega (arith, h))
-made_note f o (Attempt g m) h = absurd (omega (arith, h))
-made_note f o (Saw w) h = absurd (omega (arith, h))
+made_note f o _ h = absurd (omega (arith, h))
 
 -- ## The run
 

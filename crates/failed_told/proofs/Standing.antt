@@ -147,13 +147,7 @@ module _ {O : Type 0} (state : O → OutState) (p : Plan) (q : id_plan.Plan) whe
       let b = a.1 in let own_over = attempt_over (name_of own 0) link b.socket (letter_for own a.0 0 zero-le) s.me.0 b.at (both_of t) b.made_for.found b.attempted is in
       subst (λ (n : ℕ). IsOver p n link t.me.0 (attempt_entries state p q b.socket (letter_for own a.0 0 zero-le) b.at (both_of t) b.attempted)) (same_name own asked 0 op) own_over
   acted_over link number (ops.Call own) (Some by) s t a is asked op = absurd (none-some link is)
-  acted_over link number (ops.Open n k) by s t a is asked op = absurd (none-some link is)
-  acted_over link number (ops.Send n bytes) by s t a is asked op = absurd (none-some link is)
-  acted_over link number (ops.Expire of) by s t a is asked op = absurd (none-some link is)
-  acted_over link number (ops.Join of) by s t a is asked op = absurd (none-some link is)
-  acted_over link number (ops.Hold n) by s t a is asked op = absurd (none-some link is)
-  acted_over link number (ops.Drop n) by s t a is asked op = absurd (none-some link is)
-  acted_over link number (ops.Fail n code) by s t a is asked op = absurd (none-some link is)
+  acted_over link number _ by s t a is asked op = absurd (none-some link is)
 
 deed_over : {O : Type 0} {g : Ghosts O} {state : O → OutState} {p : Plan} {q : id_plan.Plan} (d : Deed g state p q) (link : ℕ) → link_in d ≡ Some link → (asked : Asked) → IsAskedIn d asked → IsOver p (name_of asked (attempt_of d)) link (socks_behind d) (entries_of d)
 deed_over {state = state} {p = p} {q = q} (operates x by s t a) link is asked op = acted_over state p q link x.number x.op by s t a is asked op

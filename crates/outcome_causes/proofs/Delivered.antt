@@ -47,7 +47,7 @@ count_up_length (suc n) = omega (arith, length-append (count_up n) (n ∷ []), c
 
 module _ {links requests : ℕ} {m : Memory} {t : Tokens} {log : List Entry} {freed places : ℕ → ℕ} (s : Chains links requests m t log freed places) where
   -- a request whose word isn't 0 and that nobody claims was used
-  used_once : (q : ℕ) → q < requests → m.request q ≢ 0 → t.claims q ≡ [] → 1 ≤ length (uses q log)
+  pub used_once : (q : ℕ) → q < requests → m.request q ≢ 0 → t.claims q ≡ [] → 1 ≤ length (uses q log)
   used_once q ql some_ none_ = let u = s.in_use q ql in
       let long : length (uses q log) ≡ u.times = sym (length-map (uses q log) (λ (e : Entry). e.generation)) ∙ (ap length u.each_once ∙ count_up_length u.times) in
       elim u.phase [

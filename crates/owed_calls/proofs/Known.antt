@@ -104,7 +104,7 @@ quiet_at : (p : Plan) (c : Core) (program : Program) → ClosesAt p c Unasked pr
 quiet_at p c (Aside (TakeBytes k room) next) = λ e. absurd (some-ne-none Closed (sym e))
 quiet_at p c program = tt
 
-quiet_closes : (p : Plan) (c : Core) (n : ℕ) → ClosesInTime p c (replicate n (quiet 0))
+pub quiet_closes : (p : Plan) (c : Core) (n : ℕ) → ClosesInTime p c (replicate n (quiet 0))
 quiet_closes p c zero = tt
 quiet_closes p c (suc n) = ((λ seat at. quiet_at p c (goes.first_of seat.program)), quiet_closes p (ticked p c (quiet 0)) n)
 

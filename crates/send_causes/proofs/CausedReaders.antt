@@ -31,7 +31,7 @@ use Rattle.send_causes.proofs.Early.{Any, ends_anyhow, start, go, fitting, known
 use Rattle.send_causes.proofs.EndedReads.{MayPost, post_more}
 use Rattle.send_causes.proofs.EndedRuns.{Keeping, finds, Seen, AllTold, told_along}
 use Rattle.send_causes.proofs.EndedTicks.{told_posts}
-use Rattle.call_causes.proofs.RunTicks.{in_setup, in_clients, in_closing}
+use Rattle.call_causes.proofs.RunTicks.{in_setup, in_clients, in_closing, parts}
 use Rattle.send_causes.proofs.EndedWhole.{opened_keeps, opened_told, h₁, h₂, h₃, h₄, setup_part, set_up_keeps, closing_keeps, closing_told, closed_keeps, closed_told, ended_so}
 use Rattle.send_causes.proofs.ReaderRuns.{keeps_along}
 use Rattle.send_causes.proofs.Readings.{found_by}
@@ -89,17 +89,7 @@ module _ (script : List Item) (made : AreMade script) (turns : List Turn) (core 
     more : (h later : ℕ → List Taking) → Here h → Here (λ n. h n ++ later n)
     more h later y = may_more (plan_of script) (calls script) (opens script) in_script (loads_of_run script turns core is) k (h k) (later k) x y
 
-    abbrev l₁ : List Load
-    l₁ = shows_in loaded_at (plan_of script) (opened script) (in_setup is)
-
-    abbrev l₂ : List Load
-    l₂ = shows_in loaded_at (plan_of script) (set_up script is.setup) (in_clients is)
-
-    abbrev l₃ : List Load
-    l₃ = shows_in loaded_at (plan_of script) (closing_of script turns core is) (in_closing is)
-
-    abbrev l₄ : List Load
-    l₄ = shows_in loaded_at (plan_of script) is.ended is.final
+    open parts loaded_at is use {setup as l₁, clients as l₂, closing as l₃, final as l₄}
 
     from_final : In x (shows_in (posted_by (32 + k)) (plan_of script) is.ended is.final) → Here (h₄ script made turns core is)
     from_final there = seat_may (plan_of script) (calls script) (opens script) in_script (loads_of_run script turns core is) k (IsListed script) (go script made turns core is) is.final is.ended (views_closed script turns core is (first_views script)) (h₃ script made turns core is)

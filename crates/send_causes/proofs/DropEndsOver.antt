@@ -61,11 +61,11 @@ module _ (script : List Item) (made : AreMade script) (turns : List Turn) (core 
       (recorded_closed script made.are (first_views script) (start script made turns core is) (go script made turns core is) turns core is (fitting script made turns core is)) (λ e. tt) (closed_keeps script made turns core is))
 
   -- the life that a link was given is that of the link's own `open`
-  pub opened_link : (j h k : ℕ) → WasGiven (ends script made turns core is closes ids labelled).events j h k → (o : IsOpened script made turns core is closes ids labelled j h) × (j < 4294967296) × (o.link ≡ k)
+  pub opened_link : (j h k : ℕ) → WasGiven (ends script made turns core is closes ids labelled).events j h k → (o : IsOpened script made turns core is closes ids labelled j h) × (j < 4294967296) × (get_or core.words (open_index (plan_of script) o.operation) 0 ≢ NO_SOCKET) × (o.link ≡ k)
   opened_link j h k given_ = by (given_opened script made turns core is closes ids labelled j h k given_)
     where
-      by : (o : IsOpened script made turns core is closes ids labelled j h) → (o : IsOpened script made turns core is closes ids labelled j h) × (j < 4294967296) × (o.link ≡ k)
-      by o = (o, few, same)
+      by : (o : IsOpened script made turns core is closes ids labelled j h) → (o : IsOpened script made turns core is closes ids labelled j h) × (j < 4294967296) × (get_or core.words (open_index (plan_of script) o.operation) 0 ≢ NO_SOCKET) × (o.link ≡ k)
+      by o = (o, few, socket, same)
         where
           few : j < 4294967296
           few = let s = o.inside in let m = made.limits in let l = m.slots in omega (arith, s, l)
@@ -78,10 +78,10 @@ module _ (script : List Item) (made : AreMade script) (turns : List Turn) (core 
 
   -- the reading of a link that a life was given has ended
   pub reading_over : (j h k : ℕ) → WasGiven (ends script made turns core is closes ids labelled).events j h k → (k < (plan_of script).links) × IsOver (h₄ script made turns core is k)
-  reading_over j h k given_ = let x = opened_link j h k given_ in by x.0 x.2
+  reading_over j h k given_ = let x = opened_link j h k given_ in by x.0 x.1 x.2 x.3
     where
-      by : (o : IsOpened script made turns core is closes ids labelled j h) → o.link ≡ k → (k < (plan_of script).links) × IsOver (h₄ script made turns core is k)
-      by o same = subst (λ n. (n < (plan_of script).links) × IsOver (h₄ script made turns core is n)) same (
+      by : (o : IsOpened script made turns core is closes ids labelled j h) → j < 4294967296 → get_or core.words (open_index (plan_of script) o.operation) 0 ≢ NO_SOCKET → o.link ≡ k → (k < (plan_of script).links) × IsOver (h₄ script made turns core is k)
+      by o few socket same = subst (λ n. (n < (plan_of script).links) × IsOver (h₄ script made turns core is n)) same (
         (let many = (let k = known script made turns core is in k.as_many) in omega (arith, place, many)),
         of_seat (at_there core.seats (32 + o.link) (let k = end_keeps in let many = k.many in omega (arith, place, many))),
       )

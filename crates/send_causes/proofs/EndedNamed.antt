@@ -44,7 +44,7 @@ use Rattle.id_runs.proofs.Opening.{unused}
 use Rattle.send_causes.proofs.Beginnings.{all_begin}
 use Rattle.send_causes.specs.Counts.{AreLabelled}
 use Rattle.send_causes.specs.EndedCalls.{Load, loaded_at, loads_of_run, Store, stored_at, stores_of_run}
-use Rattle.call_causes.proofs.RunTicks.{in_setup, in_clients, in_closing}
+use Rattle.call_causes.proofs.RunTicks.{in_setup, in_clients, in_closing, parts}
 use Rattle.send_causes.proofs.Runs.{AreLabelledIn, IsCallOf, behind_ids, asked_by, none_home}
 use Rattle.send_causes.proofs.EndedTrails.{Trail, lost, Follows}
 use Rattle.send_causes.proofs.EndedPrograms.{client_goes, ending_goes, reader_goes}
@@ -138,17 +138,7 @@ module _ (script : List Item) (are : AreTasks (plan_of script) (all_tasks script
   abbrev After : Bool → List Event → Core → List View → List Moment → Type 0
   After over before c ws ms = Behind (plan_of script) (id_plan_of script) narrow (IsCallOf script) (stores_of_run script turns core is) (told_tasks_of script) tasks_are ids over before c ws ms
 
-  abbrev s₁ : List Store
-  s₁ = shows_in stored_at (plan_of script) (opened script) (in_setup is)
-
-  abbrev s₂ : List Store
-  s₂ = shows_in stored_at (plan_of script) (set_up script is.setup) (in_clients is)
-
-  abbrev s₃ : List Store
-  s₃ = shows_in stored_at (plan_of script) (closing_of script turns core is) (in_closing is)
-
-  abbrev s₄ : List Store
-  s₄ = shows_in stored_at (plan_of script) is.ended is.final
+  open parts stored_at is use {setup as s₁, clients as s₂, closing as s₃, final as s₄}
 
   abbrev first : Keeps false (opened script) vs
   first = record {

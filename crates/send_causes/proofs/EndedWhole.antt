@@ -35,7 +35,7 @@ use Rattle.run_theorems.proofs.HeardRuns.{taken_append}
 use Rattle.call_causes.specs.Lists.{Take, takes_at, given, shows_in, takes_of_run, is_last, is_closed, is_no_more, found_so, is_fault, early_of_run}
 use Rattle.call_causes.specs.Posts.{Post, posted_at, posts_of_run}
 use Rattle.call_causes.specs.programs_allowed.proofs.Fresh.{opening_rights}
-use Rattle.send_causes.specs.EndedCalls.{Load, loaded_at, reader_posts_at, client_posts_at, loads_of_run, reader_posts_of_run, client_posts_of_run, EndedSo, IsEndPost}
+use Rattle.send_causes.specs.EndedCalls.{loaded_at, reader_posts_at, client_posts_at, loads_of_run, reader_posts_of_run, client_posts_of_run, EndedSo, IsEndPost}
 use Rattle.send_causes.proofs.Early.{EndedBy, Any, ends_anyhow, start, go, fitting, known, begins_at, opened_takes}
 use Rattle.send_causes.proofs.EndedReads.{WasOver, Tells, reader_tells}
 use Rattle.send_causes.proofs.EndedRuns.{Keeping, finds, Seen, AllTold, IsPostOf, more_post, told_along, finds_taken, finds_give, quiet_finds}
@@ -82,17 +82,7 @@ module _ (script : List Item) (made : AreMade script) (turns : List Turn) (core 
   h₄ n = h₃ n ++ F is.ended is.final n
 
   -- what the parts load
-  abbrev l₁ : List Load
-  l₁ = shows_in loaded_at (plan_of script) (opened script) (in_setup is)
-
-  abbrev l₂ : List Load
-  l₂ = shows_in loaded_at (plan_of script) (set_up script is.setup) (in_clients is)
-
-  abbrev l₃ : List Load
-  l₃ = shows_in loaded_at (plan_of script) (closing_of script turns core is) (in_closing is)
-
-  abbrev l₄ : List Load
-  l₄ = shows_in loaded_at (plan_of script) is.ended is.final
+  open parts loaded_at is use {setup as l₁, clients as l₂, closing as l₃, final as l₄}
 
   -- ## What is said of the parts
 

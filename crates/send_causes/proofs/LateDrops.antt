@@ -35,6 +35,7 @@ use Rattle.send_causes.specs.Refused.{Deed, DidStep, DidRound, DidInRun, DidEarl
 use Rattle.send_causes.proofs.AttemptedStored.{ids_at}
 use Rattle.send_causes.proofs.Beside.{fixed_of_run}
 use Rattle.send_causes.proofs.DropCauses.{fail_range}
+use Rattle.send_causes.proofs.DropEndsCauses.{own_link}
 use Rattle.send_causes.proofs.DropEndsOver.{opened_link}
 use Rattle.send_causes.proofs.DropOfRun.{ends, DropOf, IsDroppedOn, story_given, dropped_of_run}
 use Rattle.send_causes.proofs.DropRuns.{IsCalls}
@@ -66,7 +67,7 @@ module _ (script : List Item) (made : AreMade script) (there : AreThere script) 
 
   opened_by : (j h k : ℕ) → Given j h k → OpenedBy j h k
   opened_by j h k given_ = let x = opened_link script made turns core is closes ids labelled j h k given_ in let o = x.0 in
-      record { operation = o.operation; at = subst (λ n. get_elem? (opens script) n ≡ some o.operation) x.2 o.at; word = o.word; few = x.1 }
+      record { operation = o.operation; at = subst (λ n. get_elem? (opens script) n ≡ some o.operation) x.3 o.at; word = o.word; few = x.1 }
 
   -- a link has one life
   one_life : (j h i g k : ℕ) → Given j h k → Given i g k → (j ≡ i) × (h ≡ g)

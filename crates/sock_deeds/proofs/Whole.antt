@@ -161,19 +161,13 @@ module _ {O : Type 0} {g : Ghosts O} {state : O → OutState} {p : Plan} {client
         let e = d.1 ∙ ap (fails n number code) (one_outcome run number d.0 o d.2 became) in
         why_fail a number n code o (fits run a.c record { number = number; op = ops.Fail n code } is).1.0 (is_client a.c number (ops.Fail n code) is (λ h. h)) is became e (as_did a (fails n number code o) e).0
     why_op a number (ops.Drop n) o is became on d = why_drop a number n o (d.1 ∙ ap (drops n number) (one_outcome run number d.0 o d.2 became))
-    why_op a number (ops.Call asked) o is became on d = elim on [ ]
-    why_op a number (ops.Expire t) o is became on d = elim on [ ]
-    why_op a number (ops.Join t) o is became on d = elim on [ ]
+    why_op a number _ o is became on d = elim on [ ]
 
     on_sockets : (op : Op) → IsOfSockets op → IsOnSockets op
-    on_sockets (ops.Open n k) on = tt
-    on_sockets (ops.Send n bytes) on = tt
-    on_sockets (ops.Hold n) on = tt
-    on_sockets (ops.Drop n) on = tt
-    on_sockets (ops.Fail n code) on = tt
     on_sockets (ops.Call asked) on = elim on [ ]
     on_sockets (ops.Expire t) on = elim on [ ]
     on_sockets (ops.Join t) on = elim on [ ]
+    on_sockets _ on = tt
 
     why : (c : ℕ) (t : Task) (o : Outcome) → IsTask clients outcomes c t → Became clients outcomes t.number o → IsOfSockets t.op → WhyHere c t.number t.op o
     why c t o is became on =
