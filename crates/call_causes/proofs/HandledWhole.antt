@@ -68,7 +68,6 @@ module _ (script : List Item) (made : AreMade script) (there : AreThere script) 
   leads = own_leads script core
 
   open run_facts script made turns core is use {set_up_ahead, ended_ahead, many_seats}
-
   open leadings script turns core is (given core) leads use {set_up_leads, played_leads, closed_leads}
 
   numbered : AreNumbered (plan_of script) (id_plan_of script) (all_tasks script) (given core)
@@ -80,7 +79,6 @@ module _ (script : List Item) (made : AreMade script) (there : AreThere script) 
   -- ## The ticks of each part
 
   open parts posted_at is use {setup as posts_in_setup}
-
   open parts advanced_at is use {setup as advanced_in_setup}
 
   abbrev closing : Core

@@ -167,10 +167,8 @@ module _ (script : List Item) (made : AreMade script) (gives : ℕ → List ℕ)
 
   -- the calls whose attempts the ticks of each part of the run advance
   open parts advanced_at is use {setup as in_setup, clients as in_clients, closing as in_closing, final as in_final}
-
   -- and the errors that ids take in them
   open parts posted_at is use {setup as posts_in_setup, clients as posts_in_clients, closing as posts_in_closing, final as posts_in_final}
-
   -- and on which seats decide
   open parts decided_at is use {setup as decided_in_setup, clients as decided_in_clients, closing as decided_in_closing, final as decided_in_final}
 
@@ -184,7 +182,6 @@ module _ (script : List Item) (made : AreMade script) (gives : ℕ → List ℕ)
   all = all_programs (programs (sizes_of (plan_of script) (id_plan_of script)) (all_tasks script)) (readers_from (calls script) 0 (opens script))
 
   open run_facts script made turns core is use {length_is, few_tries, set_up_ahead, played_ahead, ended_ahead, many_played, many_closed}
-
   open leadings script turns core is gives leads use {told_leads, closed_leads, ending_leads, played_leads, set_up_leads, opened_leads}
 
   abbrev pub views_set_up : List View

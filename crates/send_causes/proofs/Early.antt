@@ -1,5 +1,5 @@
 -- In a run a socket that was closed before the ending is that of a link whose reading ended early.
-use Rattle.std.proofs.Common.{◌≡◌, ℕ, zero, suc, ◌+◌, ◌-◌, ◌<◌, ◌≤◌, ◌==◌, ◌⊎◌, true, false, List, [], ◌∷◌, ◌++◌, length, length-append, length-set, map, filter, replicate, get_or, set, inl, inr, ⊎_elim, refl, sym, ap, ◌∙◌, subst, arith}
+use Rattle.std.proofs.Common.{Bool, ◌≡◌, ℕ, zero, suc, ◌+◌, ◌-◌, ◌<◌, ◌≤◌, ◌==◌, ◌⊎◌, true, false, List, [], ◌∷◌, ◌++◌, length, length-append, length-set, map, filter, replicate, get_or, set, inl, inr, ⊎_elim, refl, sym, ap, ◌∙◌, subst, arith}
 use Rattle.std.proofs.lemmas.Bool.{true≢false}
 use Rattle.std.proofs.lemmas.List.{length-map}
 use Rattle.std.proofs.lemmas.List.Concat.{flat_map-append}
@@ -19,7 +19,7 @@ use Rattle.seat_programs.specs.declared.task.Op.{Op}
 use Rattle.seat_programs.specs.declared.task.Op.TheVariants as ops
 use Rattle.seat_programs.specs.declared.task.Task.{Task}
 use Rattle.seat_programs.specs.declared.task.Sizes.{Sizes}
-use Rattle.seat_programs.specs.Asides.{Taking, Bytes, Nothing, NoMore, AtEnd, Closed, Broken}
+use Rattle.seat_programs.specs.Asides.{Taking, AtEnd, Broken}
 use Rattle.seat_programs.specs.Beside.{at_last}
 use Rattle.seat_programs.specs.Calls.{Call, SetOdd}
 use Rattle.seat_programs.specs.Drops.{call_in}
@@ -183,27 +183,23 @@ none_closed_in p (suc n) c o x m = ⊎_elim (λ a. none_closed c o x a) (λ a. n
 
 -- ## What was found is what was answered
 
-quiet_founds : (p : Plan) (calls os : List ℕ) (in_os : (k o : ℕ) → get_elem? os k ≡ some o → o < p.operations) (Odd : List Taking → Type 0) (Lasts : Type 0) (ends : (n id : ℕ) → Ends n id Odd Lasts) (c : Core) (n k : ℕ) → founds p calls os in_os Odd Lasts ends c (replicate n (quiet 0)) k ≡ []
-quiet_founds p calls os in_os Odd Lasts ends c zero k = refl
-quiet_founds p calls os in_os Odd Lasts ends c (suc n) k = ap (λ l. l ++ founds p calls os in_os Odd Lasts ends (ticked p c (quiet 0)) (replicate n (quiet 0)) k) (by_seat (get_elem? c.seats 0)) ∙ quiet_founds p calls os in_os Odd Lasts ends (ticked p c (quiet 0)) n k
+-- a seat that is asked nothing takes nothing
+pub none_taken : (ending : Bool) (k : ℕ) (s : Option SeatState) → map (at_last ending) (as_taken (elim s as (λ o. List Answer) [ none ↦ [] | some s ↦ map (λ (k : ℕ). Unasked) (filter (λ j. j == k) (taken_link s.program)) ])) ≡ []
+none_taken ending k none = refl
+none_taken ending k (some s) = ap (map (at_last ending)) (none_answered (filter (λ j. j == k) (taken_link s.program)))
   where
     none_answered : (ks : List ℕ) → as_taken (map (λ (k : ℕ). Unasked) ks) ≡ []
     none_answered [] = refl
     none_answered (x ∷ ks) = none_answered ks
 
-    by_seat : (s : Option SeatState) → map (at_last c.calls.ending) (as_taken (elim s as (λ o. List Answer) [ none ↦ [] | some s ↦ map (λ (k : ℕ). Unasked) (filter (λ j. j == k) (taken_link s.program)) ])) ≡ []
-    by_seat none = refl
-    by_seat (some s) = ap (map (at_last c.calls.ending)) (none_answered (filter (λ j. j == k) (taken_link s.program)))
+quiet_founds : (p : Plan) (calls os : List ℕ) (in_os : (k o : ℕ) → get_elem? os k ≡ some o → o < p.operations) (Odd : List Taking → Type 0) (Lasts : Type 0) (ends : (n id : ℕ) → Ends n id Odd Lasts) (c : Core) (n k : ℕ) → founds p calls os in_os Odd Lasts ends c (replicate n (quiet 0)) k ≡ []
+quiet_founds p calls os in_os Odd Lasts ends c zero k = refl
+quiet_founds p calls os in_os Odd Lasts ends c (suc n) k = ap (λ l. l ++ founds p calls os in_os Odd Lasts ends (ticked p c (quiet 0)) (replicate n (quiet 0)) k) (none_taken c.calls.ending k (get_elem? c.seats 0)) ∙ quiet_founds p calls os in_os Odd Lasts ends (ticked p c (quiet 0)) n k
 
 -- before the ending nothing is made of an answer
 as_it_is : (ts : List Taking) → map (at_last false) ts ≡ ts
 as_it_is [] = refl
-as_it_is (Bytes bytes ∷ ts) = ap (λ l. Bytes bytes ∷ l) (as_it_is ts)
-as_it_is (Nothing ∷ ts) = ap (λ l. Nothing ∷ l) (as_it_is ts)
-as_it_is (NoMore ∷ ts) = ap (λ l. NoMore ∷ l) (as_it_is ts)
-as_it_is (AtEnd ∷ ts) = ap (λ l. AtEnd ∷ l) (as_it_is ts)
-as_it_is (Closed ∷ ts) = ap (λ l. Closed ∷ l) (as_it_is ts)
-as_it_is (Broken ∷ ts) = ap (λ l. Broken ∷ l) (as_it_is ts)
+as_it_is (t ∷ ts) = ap (λ l. t ∷ l) (as_it_is ts)
 
 founds_heard : (p : Plan) (calls os : List ℕ) (in_os : (k o : ℕ) → get_elem? os k ≡ some o → o < p.operations) (Odd : List Taking → Type 0) (Lasts : Type 0) (ends : (n id : ℕ) → Ends n id Odd Lasts) (ms : List Moment) (c : Core) (k : ℕ) → c.calls.ending ≡ false
     → founds p calls os in_os Odd Lasts ends c ms k ≡ as_taken (taken_in p c ms k)
