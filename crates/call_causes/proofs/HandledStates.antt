@@ -199,16 +199,10 @@ after_next F kept ws (Do call next) a = a
 after_next F kept ws (Say o outcome next) a = after_next F kept ws next a
 after_next F kept ws (Sent o next) a = after_next F kept ws next a
 after_next F kept ws Rest a = a
-after_next F kept ws (TakeMessage q next) a = absurd a
-after_next F kept ws (TakeHome l next) a = absurd a
-after_next F kept ws (PutHome l n after) a = absurd a
-after_next F kept ws (PutBytes l asked bytes next) a = absurd a
-after_next F kept ws (AskReady l next) a = absurd a
-after_next F kept ws (Write w after) a = absurd a
 after_next F kept ws (Aside step next) a = a
 after_next F kept ws (Round head next) a = a
 after_next F kept ws (Keep r next) a = after_next F kept (ws ++ r ∷ []) next a
-after_next F kept ws (Retries requests after) a = absurd a
+after_next F kept ws _ a = absurd a
 
 posting_map : (F G : Type 0) (kept : List Frame) → (F → G) → (step : Step) (next : Found step → Program) → Posting' F kept step next → Posting' G kept step next
 posting_map F G kept on (PostId i from e) next x = x
