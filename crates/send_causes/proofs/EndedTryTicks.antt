@@ -288,15 +288,7 @@ module _ (p : Plan) (q : IdPlan) (narrow : q.slots ≤ 65536) (is_call : Asked �
         stored : End ((record { operation = o; word = w }) ∷ done) (with_seat i (next found) seat.hand c.words c.homes (record c { calls = calls_after (StoreAt o w) found c.calls }))
         stored = let l = b.behind in (
           b.trials,
-          record {
-            once = l.once;
-            made = l.made;
-            calls = l.calls;
-            each = l.each;
-            programs = l.programs;
-            gone = λ y there. ⊎_elim (λ e. subst (IsGone is_call ids q d b.trials) (sym e) now) (λ m. l.gone y m) there;
-            single = single_now;
-          },
+          record { once = l.once; made = l.made; calls = l.calls; each = l.each; programs = l.programs; gone = λ y there. ⊎_elim (λ e. subst (IsGone is_call ids q d b.trials) (sym e) now) (λ m. l.gone y m) there; single = single_now },
         )
 
       -- each step aside

@@ -183,16 +183,7 @@ module _ (p : Plan) (q : IdPlan) (narrow : q.slots ≤ 65536) (is_call : Asked �
   nothing : After c vs
   nothing = (
     ss,
-    record {
-      once = law.once;
-      made = law.made;
-      each = law.each;
-      later = law.later;
-      trials = law.trials;
-      did = λ j s at. all_map (Did j) (Then j) (λ d x. inl x) s.deeds (law.did j s at);
-      due = law.due;
-      programs = law.programs;
-    },
+    record { once = law.once; made = law.made; each = law.each; later = law.later; trials = law.trials; did = λ j s at. all_map (Did j) (Then j) (λ d x. inl x) s.deeds (law.did j s at); due = law.due; programs = law.programs },
     λ id n x. x,
   )
 
