@@ -106,13 +106,13 @@ module _ (is_call : Asked → Type 0) (seen : List Store) (es : List Event) wher
     pub called : is_call asked
     pub operation : asked.operation ≡ o
     pub id : ℕ
-    pub slot : id_slot id < 65536
     pub attempt : ℕ
-    pub few : attempt ≤ 6
     pub link : ℕ
-    pub small : link < 65535
-    pub word : w ≡ at_word (id_first id) (id_slot id) link attempt
     pub socket : ℕ
+    pub word : w ≡ at_word (id_first id) (id_slot id) link attempt
+    pub slot : id_slot id < 65536
+    pub small : link < 65535
+    pub few : attempt ≤ 6
     pub named : IsNamed (name_of asked attempt, socket)
     pub given : WasGiven es (socket_id_slot socket) (socket_id_version socket) link
     pub stored : IsStored (o, w)
