@@ -1,5 +1,5 @@
 -- C1, M1, C7 and C3: a request is claimed, filled and made ready, and the next word of its entry is connected.
-use Rattle.std.proofs.Common.{◌≡◌, ◌≢◌, ℕ, ◌+◌, ◌*◌, ◌<◌, eqb, not, cond, Bool, true, false, eq-eqb, ne_eqb, eqb-true, List, [], ◌∷◌, length, get_or, set, inl, sym, refl, ap, ◌∙◌, subst, arith}
+use Rattle.std.proofs.Common.{◌≡◌, ℕ, ◌+◌, ◌*◌, ◌<◌, eqb, cond, true, false, eq-eqb, ne_eqb, List, [], ◌∷◌, length, get_or, set, inl, sym, refl, ap, ◌∙◌, subst, arith}
 use Rattle.std.specs.List.{filter, flat_map}
 use mathlib.Core.Option.{Option, some}
 use lib.ListN.{get_elem?}
