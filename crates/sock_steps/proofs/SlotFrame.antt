@@ -59,22 +59,21 @@ pub again : {S : Type 0} (shows : S → Home) (p : Plan) {s : State S View} (o :
     → Delivered p.links (8 * p.operations) (λ l. get_or t.words (place_index p l) 0) (link_home shows p t.homes) (Failed p t) (tokens t.views) o.log o.places o.kept
     → ((id n : ℕ) (u : View) (h : Hand) → get_elem? t.views id ≡ some u → get_elem? u.hands n ≡ some h → HasTaken (on h.link o.log) (o.places h.link) (o.kept h.link) h.took h.next)
     → LinkHomes shows p t slot → Lawful shows p t
-again shows p o t slot references in_slots held chains authors messages delivered carried homes = record {
-  slot = slot;
-  log = o.log;
-  freed = o.freed;
-  places = o.places;
-  kept = o.kept;
-  fits = o.fits;
-  references = references;
-  in_slots = in_slots;
-  held = held;
-  chains = chains;
-  authors = authors;
-  messages = messages;
-  delivered = delivered;
-  carried = carried;
-  homes = homes;
+again shows p o t slot references in_slots held chains authors messages delivered carried homes = record { slot = slot; log = o.log; freed = o.freed; places = o.places; kept = o.kept; fits = o.fits; references = references; in_slots = in_slots; held = held; chains = chains; authors = authors; messages = messages; delivered = delivered; carried = carried; homes = homes }
+
+-- where the links are, where no link moves and no right changes hands
+pub homes_again : {S : Type 0} (shows : S → Home) (p : Plan) {s : State S View} (o : Lawful shows p s) (ws : List ℕ) (vs : List View) → ((k : ℕ) → (tokens vs).rights k ≡ (tokens s.views).rights k)
+    → ((k : ℕ) → total (waits_of k) vs ≤ total (waits_of k) s.views) → ((k : ℕ) → total (hands_of k) vs ≡ total (hands_of k) s.views)
+    → ((id k : ℕ) (u : View) → get_elem? vs id ≡ some u → 0 < hands_of k u → Unborn shows p record { words = ws; homes = s.homes; views = vs } k ⊎ Recycles shows p record { words = ws; homes = s.homes; views = vs } u k)
+    → LinkHomes shows p record { words = ws; homes = s.homes; views = vs } o.slot
+homes_again shows p o ws vs rights waits handed hand_of = record {
+  own = o.homes.own;
+  idle = λ k j kl sk h. o.homes.idle k j kl sk (sym (rights k) ∙ h);
+  busy = λ k r kl h. o.homes.busy k r kl (sym (rights k) ∙ h);
+  waiting = λ k h. o.homes.waiting k (omega (arith, waits k));
+  outside = λ k kl e. ⊎_elim (λ y. inl y) (λ y. inr (omega (arith, handed k))) (o.homes.outside k kl e);
+  hands = λ k h. let a = o.homes.hands k (omega (arith, handed k)) in let b = a.1 in (a.0, omega (arith, waits k));
+  hand_of = hand_of;
 }
 
 module _ {S : Type 0} (shows : S → Home) (p : Plan) (s : State S View) (o : Lawful shows p s) (id : ℕ) (v w : View) (here : get_elem? s.views id ≡ some v) (ws : List ℕ) (same : SameChain v w) where
@@ -120,19 +119,12 @@ module _ {S : Type 0} (shows : S → Home) (p : Plan) (s : State S View) (o : La
     }
 
     homes_stay : ((j x : ℕ) → marks_of (is_recycled x) j v ≤ marks_of (is_recycled x) j w) ⊎ ((k : ℕ) → hands_of k w ≡ 0) → LinkHomes shows p t o.slot
-    homes_stay hands = record {
-      own = o.homes.own;
-      idle = λ k j kl sk h. o.homes.idle k j kl sk (sym (rights_stay k) ∙ h);
-      busy = λ k r kl h. o.homes.busy k r kl (sym (rights_stay k) ∙ h);
-      waiting = λ k h. o.homes.waiting k (omega (arith, waiters_less k));
-      outside = λ k kl sk. ⊎_elim (λ y. inl y) (λ y. inr (omega (arith, handlers_stay k))) (o.homes.outside k kl sk);
-      hands = λ k h. let a = o.homes.hands k (omega (arith, handlers_stay k)) in let b = a.1 in (a.0, omega (arith, waiters_less k));
-      hand_of = λ j k u g h. ⊎_elim
-          (λ y. let hv : 0 < hands_of k v = omega (arith, ap (hands_of k) y.1, ap (total (carries k)) same.hands) in
-          ⊎_elim (λ more. carry u (λ a x. let q = ap (λ (z : View). marks_of (is_recycled x) a z) y.1 in omega (arith, more a x)) (o.homes.hand_of id k v here hv))
-          (λ none_. absurd (omega (arith, none_ k, ap (hands_of k) y.1))) hands)
-          (λ y. carry u (λ a x. omega arith) (o.homes.hand_of j k u y.1 h)) (at_set s.views id j w u g);
-    }
+    homes_stay hands = homes_again shows p o ws (set s.views id w) (λ k. rights_stay k) (λ k. waiters_less k) (λ k. handlers_stay k)
+        (λ j k u g h. ⊎_elim
+        (λ y. let hv : 0 < hands_of k v = omega (arith, ap (hands_of k) y.1, ap (total (carries k)) same.hands) in
+        ⊎_elim (λ more. carry u (λ a x. let q = ap (λ (z : View). marks_of (is_recycled x) a z) y.1 in omega (arith, more a x)) (o.homes.hand_of id k v here hv))
+        (λ none_. absurd (omega (arith, none_ k, ap (hands_of k) y.1))) hands)
+        (λ y. carry u (λ a x. omega arith) (o.homes.hand_of j k u y.1 h)) (at_set s.views id j w u g))
       where
         carry : {k : ℕ} {v' : View} (u : View) → ((a x : ℕ) → marks_of (is_recycled x) a v' ≤ marks_of (is_recycled x) a u) → Unborn shows p s k ⊎ Recycles shows p s v' k → Unborn shows p t k ⊎ Recycles shows p t u k
         carry {k} {v'} u more (inl a) = inl (λ j h g. a j h (given_from p s id v w here ws s.homes st j h k g))
