@@ -12,14 +12,14 @@ use Rattle.sock_words.specs.declared.socket_id.SocketId.{SocketId}
 use Rattle.sock_words.specs.declared.outcome.Outcome.{Outcome}
 use Rattle.sock_words.specs.declared.outcome.Outcome.TheVariants as outcome
 use Rattle.sock_model.specs.declared.view.View as sock_view
-use Rattle.call_whys.specs.call_told.specs.call_run.specs.sock_rule.specs.declared.homes.Letter.{Letter}
-use Rattle.call_whys.specs.call_told.specs.call_run.specs.sock_table.specs.declared.refs.SockRef.{SockRef}
-use Rattle.call_whys.specs.call_told.specs.call_run.specs.call_table.specs.Errors.{is_final}
-use Rattle.call_whys.specs.call_told.specs.call_run.specs.call_table.specs.declared.errors.Decision.TheVariants as decisions
+use Rattle.call_whys.specs.call_told.specs.Below.call_run.specs.sock_rule.specs.declared.homes.Letter.{Letter}
+use Rattle.call_whys.specs.call_told.specs.Below.call_run.specs.sock_table.specs.declared.refs.SockRef.{SockRef}
+use Rattle.call_whys.specs.call_told.specs.Below.call_run.specs.rpc_reader.specs.call_table.specs.Errors.{is_final}
+use Rattle.call_whys.specs.call_told.specs.Below.call_run.specs.rpc_reader.specs.call_table.specs.declared.errors.Decision.TheVariants as decisions
 use Rattle.seat_programs.specs.declared.task.Op.{Op}
 use Rattle.seat_programs.specs.declared.task.Op.TheVariants as ops
 use Rattle.seat_programs.specs.declared.task.Task.{Task}
-use Rattle.call_whys.specs.call_told.specs.call_run.specs.write_chain.specs.declared.right.Undelivered.{Undelivered}
+use Rattle.call_whys.specs.call_told.specs.Below.call_run.specs.call_client.specs.write_chain.specs.declared.right.Undelivered.{Undelivered}
 use Rattle.corr_core.specs.Word.{Parts, parts}
 use Rattle.corr_core.specs.Law.{total, pair, is_attempt}
 use Rattle.corr_core.specs.declared.marks.Note.{Note}
@@ -39,24 +39,24 @@ use Rattle.corr_id.specs.declared.unlocks.Unlocked.TheVariants.{Open, Next}
 use Rattle.corr_id.specs.Calls.{Did, Quiet, GotLock, Became, Found, one, is_saw, advance_note, slot_of, version_of, error_in}
 use Rattle.corr_id.specs.Posts.{PostOk}
 use Rattle.corr_id.specs.Unlocks.{UnlockOk}
-use Rattle.call_whys.specs.call_told.specs.call_run.specs.call_errors.specs.declared.retries.Retry.{Retry}
-use Rattle.call_whys.specs.call_told.specs.call_run.specs.call_errors.specs.Books.{CallStand, stand_of}
-use Rattle.call_whys.specs.call_told.specs.call_run.specs.call_errors.specs.Locking.{GotBy}
-use Rattle.call_whys.specs.call_told.specs.call_run.specs.call_errors.specs.Handling.{is_whole, decision, Advanced, Decided}
-use Rattle.call_whys.specs.call_told.specs.call_run.specs.call_errors.specs.Handling as handling
-use Rattle.call_whys.specs.call_told.specs.call_run.specs.call_errors.specs.Posting.{Handled, PostedBy}
-use Rattle.call_whys.specs.call_told.specs.call_run.specs.call_errors.specs.Asking.{found_id, TimedOut, ExpiredBy, JoinedBy}
-use Rattle.call_whys.specs.call_told.specs.call_run.specs.call_writes.specs.Draining.{ToldDrop, of_send, of_call, DroppedAll, Drained}
-use Rattle.call_whys.specs.call_told.specs.call_run.specs.call_writes.specs.Draining as draining
-use Rattle.call_whys.specs.call_told.specs.call_run.specs.call_writes.specs.Sending.{DeliveredCalling, SentCalling}
-use Rattle.call_whys.specs.call_told.specs.call_run.specs.call_attempts.specs.Both.{Both}
-use Rattle.call_whys.specs.call_told.specs.call_run.specs.call_attempts.specs.Attempting.{code_for, DeliveredBy, went_out, came_back, AttemptedBy, nowhere, over_link}
-use Rattle.call_whys.specs.call_told.specs.call_run.specs.call_attempts.specs.Calling.{MadeFor}
-use Rattle.call_whys.specs.call_told.specs.call_run.specs.call_attempts.specs.Retrying.{without_oldest, WentTo, stray, unopened, to_socket, RetriedBy, had_ended, overtaken, went_again, Retried, none_yet, one_more}
-use Rattle.call_whys.specs.call_told.specs.call_run.specs.call_client.specs.Acting.{Stand, stand, both_of, letter_of, Acted}
-use Rattle.call_whys.specs.call_told.specs.call_run.specs.call_client.specs.Running.{Course, Ran, begins}
-use Rattle.call_whys.specs.call_told.specs.call_run.specs.call_client.proofs.Telling.{quiet_total, did_total, none_of_one}
-use Rattle.call_whys.specs.call_told.specs.call_run.specs.Threads.{Thread, IsThread}
+use Rattle.call_whys.specs.call_told.specs.Below.call_run.specs.call_client.specs.call_errors.specs.declared.retries.Retry.{Retry}
+use Rattle.call_whys.specs.call_told.specs.Below.call_run.specs.call_client.specs.call_errors.specs.Books.{CallStand, stand_of}
+use Rattle.call_whys.specs.call_told.specs.Below.call_run.specs.call_client.specs.call_errors.specs.Locking.{GotBy}
+use Rattle.call_whys.specs.call_told.specs.Below.call_run.specs.call_client.specs.call_errors.specs.Handling.{is_whole, decision, Advanced, Decided}
+use Rattle.call_whys.specs.call_told.specs.Below.call_run.specs.call_client.specs.call_errors.specs.Handling as handling
+use Rattle.call_whys.specs.call_told.specs.Below.call_run.specs.call_client.specs.call_errors.specs.Posting.{Handled, PostedBy}
+use Rattle.call_whys.specs.call_told.specs.Below.call_run.specs.call_client.specs.call_errors.specs.Asking.{found_id, TimedOut, ExpiredBy, JoinedBy}
+use Rattle.call_whys.specs.call_told.specs.Below.call_run.specs.call_client.specs.call_writes.specs.Draining.{ToldDrop, of_send, of_call, DroppedAll, Drained}
+use Rattle.call_whys.specs.call_told.specs.Below.call_run.specs.call_client.specs.call_writes.specs.Draining as draining
+use Rattle.call_whys.specs.call_told.specs.Below.call_run.specs.call_client.specs.call_writes.specs.Sending.{DeliveredCalling, SentCalling}
+use Rattle.call_whys.specs.call_told.specs.Below.call_run.specs.call_client.specs.call_attempts.specs.Both.{Both}
+use Rattle.call_whys.specs.call_told.specs.Below.call_run.specs.call_client.specs.call_attempts.specs.Attempting.{code_for, DeliveredBy, went_out, came_back, AttemptedBy, nowhere, over_link}
+use Rattle.call_whys.specs.call_told.specs.Below.call_run.specs.call_client.specs.call_attempts.specs.Calling.{MadeFor}
+use Rattle.call_whys.specs.call_told.specs.Below.call_run.specs.call_client.specs.call_attempts.specs.Retrying.{without_oldest, WentTo, stray, unopened, to_socket, RetriedBy, had_ended, overtaken, went_again, Retried, none_yet, one_more}
+use Rattle.call_whys.specs.call_told.specs.Below.call_run.specs.call_client.specs.Acting.{Stand, stand, both_of, letter_of, Acted}
+use Rattle.call_whys.specs.call_told.specs.Below.call_run.specs.call_client.specs.Running.{Course, Ran, begins}
+use Rattle.call_whys.specs.call_told.specs.Below.call_run.specs.call_client.proofs.Telling.{quiet_total, did_total, none_of_one}
+use Rattle.call_whys.specs.call_told.specs.Below.call_run.specs.Threads.{Thread, IsThread}
 use Rattle.call_whys.specs.call_told.proofs.Noting.{became_did}
 use Rattle.call_whys.specs.call_told.specs.call_places.proofs.Still.{advances, attempt_silent, advance_there}
 use Rattle.call_whys.specs.call_told.specs.call_places.proofs.Own.{came, end_is}

@@ -20,16 +20,16 @@ use Rattle.sock_message.specs.Asked.{Asked}
 use Rattle.corr_id.specs.declared.posts.Posted.{Posted}
 use Rattle.corr_id.specs.declared.posts.Posted.TheVariants.{Locked as HasLock, Queued as IsQueued, Gone, Stale, Crowded}
 use Rattle.corr_id.specs.Calls.{slot_of}
-use Rattle.call_whys.specs.call_told.specs.call_run.specs.prpc_frame.specs.Meaning.{frame_of}
-use Rattle.call_whys.specs.call_told.specs.call_run.specs.prpc_frame.specs.declared.frame.Frame.{Frame}
-use Rattle.call_whys.specs.call_told.specs.call_run.specs.call_table.specs.Responses.{ending_of}
-use Rattle.call_whys.specs.call_told.specs.call_run.specs.rpc_reader.specs.Books.{Books, EndedAs, id_of}
-use Rattle.call_whys.specs.call_told.specs.call_run.specs.rpc_reader.specs.Met.{slot_in, is_asked, is_for, MetIf, FramesMet}
-use Rattle.call_whys.specs.call_told.specs.call_run.specs.rpc_reader.specs.Posting.{LostBy, LockLost, PostedTo, PostedIf, PostedAt, PostedAll, call_at, attempt_at}
-use Rattle.call_whys.specs.call_told.specs.call_run.specs.rpc_reader.specs.Reading.{code_of}
-use Rattle.call_whys.specs.call_told.specs.call_run.specs.rpc_reader.specs.Resting.{HadEnded, EndedLast, OneEnded, RestEnded}
-use Rattle.call_whys.specs.call_told.specs.call_run.specs.rpc_reader.specs.Running.{ReadLink, ReadIf}
-use Rattle.call_whys.specs.call_told.specs.call_run.specs.Readers.{LinkReader, nothing_read, IsReader}
+use Rattle.call_whys.specs.call_told.specs.Below.call_run.specs.rpc_reader.specs.prpc_frame.specs.Meaning.{frame_of}
+use Rattle.call_whys.specs.call_told.specs.Below.call_run.specs.rpc_reader.specs.prpc_frame.specs.declared.frame.Frame.{Frame}
+use Rattle.call_whys.specs.call_told.specs.Below.call_run.specs.rpc_reader.specs.call_table.specs.Responses.{ending_of}
+use Rattle.call_whys.specs.call_told.specs.Below.call_run.specs.rpc_reader.specs.Books.{Books, EndedAs, id_of}
+use Rattle.call_whys.specs.call_told.specs.Below.call_run.specs.rpc_reader.specs.Met.{slot_in, is_asked, is_for, MetIf, FramesMet}
+use Rattle.call_whys.specs.call_told.specs.Below.call_run.specs.rpc_reader.specs.Posting.{LostBy, LockLost, PostedTo, PostedIf, PostedAt, PostedAll, call_at, attempt_at}
+use Rattle.call_whys.specs.call_told.specs.Below.call_run.specs.rpc_reader.specs.Reading.{code_of}
+use Rattle.call_whys.specs.call_told.specs.Below.call_run.specs.rpc_reader.specs.Resting.{HadEnded, EndedLast, OneEnded, RestEnded}
+use Rattle.call_whys.specs.call_told.specs.Below.call_run.specs.rpc_reader.specs.Running.{ReadLink, ReadIf}
+use Rattle.call_whys.specs.call_told.specs.Below.call_run.specs.Readers.{LinkReader, nothing_read, IsReader}
 use Rattle.call_whys.specs.call_told.specs.call_places.proofs.Still.{advances}
 use Rattle.call_whys.specs.call_told.proofs.Readers.{AllRead, link_read}
 use Rattle.attempts_told.proofs.Bounds.{Unmoved, unmoved_then, unmoved_noted, unmoved_quiet, unmoved_got, unmoved_ended, unmoved_post}

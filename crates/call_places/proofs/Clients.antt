@@ -20,8 +20,8 @@ use Rattle.corr_core.proofs.Notes.{only-else, only_le, pair-at, total_some}
 use Rattle.id_rule.specs.Lawful.{notes_of}
 use Rattle.sock_message.specs.Asked.{Asked}
 use Rattle.corr_id.specs.Calls.{slot_of, version_of}
-use Rattle.call_run.specs.call_errors.specs.declared.retries.Retry.{Retry}
-use Rattle.call_run.specs.call_attempts.specs.Retrying.{had_ended, overtaken, went_again}
+use Rattle.call_run.specs.call_client.specs.call_errors.specs.declared.retries.Retry.{Retry}
+use Rattle.call_run.specs.call_client.specs.call_attempts.specs.Retrying.{had_ended, overtaken, went_again}
 use Rattle.call_run.specs.call_client.specs.Running.{MayMakeAll}
 use Rattle.call_run.specs.Threads.{Thread, IsThread}
 use Rattle.call_places.specs.Counted.{makes, HaveNotesOf}

@@ -26,12 +26,12 @@ use Rattle.sock_message.specs.Asked.{Asked}
 use Rattle.corr_id.specs.declared.calls.IdLock.{IdLock}
 use Rattle.corr_id.specs.Calls.{Found, one, is_event, is_saw, slot_of, version_of}
 use Rattle.corr_id.proofs.Seats.{total_append}
-use Rattle.call_run.specs.call_errors.specs.declared.retries.Retry.{Retry}
-use Rattle.call_run.specs.call_errors.specs.Books.{Books, CallStand, stand_of}
-use Rattle.call_run.specs.call_errors.specs.Locking.{GotBy}
-use Rattle.call_run.specs.call_attempts.specs.Both.{Both}
-use Rattle.call_run.specs.call_attempts.specs.Calling.{MadeFor}
-use Rattle.call_run.specs.call_attempts.specs.Retrying.{without_oldest, RetriedBy, had_ended, overtaken, went_again, Retried, none_yet, one_more}
+use Rattle.call_run.specs.call_client.specs.call_errors.specs.declared.retries.Retry.{Retry}
+use Rattle.call_run.specs.call_client.specs.call_errors.specs.Books.{Books, CallStand, stand_of}
+use Rattle.call_run.specs.call_client.specs.call_errors.specs.Locking.{GotBy}
+use Rattle.call_run.specs.call_client.specs.call_attempts.specs.Both.{Both}
+use Rattle.call_run.specs.call_client.specs.call_attempts.specs.Calling.{MadeFor}
+use Rattle.call_run.specs.call_client.specs.call_attempts.specs.Retrying.{without_oldest, RetriedBy, had_ended, overtaken, went_again, Retried, none_yet, one_more}
 use Rattle.call_run.specs.call_client.specs.Acting.{Stand, stand, both_of, letter_of, Acted}
 use Rattle.call_run.specs.call_client.specs.Running.{Course, Ran, begins}
 use Rattle.call_run.specs.call_client.proofs.Telling.{did_total}

@@ -20,7 +20,7 @@ use Rattle.sock_message.specs.Asked.{Asked}
 use Rattle.corr_id.specs.declared.calls.IdLock.{IdLock}
 use Rattle.corr_id.specs.Calls.{is_saw, slot_of, version_of}
 use Rattle.corr_id.specs.Closing.{Closing}
-use Rattle.call_run.specs.call_errors.specs.Locking.{GotBy}
+use Rattle.call_run.specs.call_client.specs.call_errors.specs.Locking.{GotBy}
 use Rattle.call_places.specs.Counted.{makes}
 use Rattle.call_places.proofs.Weights.{term, two_terms, noted_at}
 use Rattle.call_places.proofs.Still.{advances}

@@ -16,10 +16,10 @@ use Rattle.seat_programs.specs.declared.task.Task.{Task}
 use Rattle.corr_core.specs.Law.{total, only}
 use Rattle.corr_core.specs.declared.marks.Plan as id_plan
 use Rattle.corr_core.proofs.Notes.{only-at, only-else, total_mono}
-use Rattle.call_run.specs.call_errors.specs.declared.retries.Retry.{Retry}
-use Rattle.call_run.specs.call_attempts.specs.Both.{Both}
-use Rattle.call_run.specs.call_attempts.specs.Attempting.{DeliveredBy, went_out, came_back, AttemptedBy, nowhere, over_link}
-use Rattle.call_run.specs.call_attempts.specs.Retrying.{WentTo, stray, unopened, to_socket, RetriedBy, had_ended, overtaken, went_again}
+use Rattle.call_run.specs.call_client.specs.call_errors.specs.declared.retries.Retry.{Retry}
+use Rattle.call_run.specs.call_client.specs.call_attempts.specs.Both.{Both}
+use Rattle.call_run.specs.call_client.specs.call_attempts.specs.Attempting.{DeliveredBy, went_out, came_back, AttemptedBy, nowhere, over_link}
+use Rattle.call_run.specs.call_client.specs.call_attempts.specs.Retrying.{WentTo, stray, unopened, to_socket, RetriedBy, had_ended, overtaken, went_again}
 use Rattle.call_run.specs.call_client.specs.Acting.{Stand, both_of, Acted}
 use Rattle.call_run.specs.Threads.{Thread, IsThread}
 use Rattle.call_places.specs.Deeds.{Deed, operates, retries, deeds, delivered_entries, attempt_entries, went_entries, retry_entries, acted_entries, entries_of, own_entries}

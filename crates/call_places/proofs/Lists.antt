@@ -22,13 +22,13 @@ use Rattle.sock_deeds.specs.rpc_client.specs.Running.{GaveFirst}
 use Rattle.sock_deeds.specs.rpc_client.proofs.Delivering.{came_lists}
 use Rattle.sock_deeds.specs.rpc_client.proofs.Finding.{set_others}
 use Rattle.call_run.specs.rpc_reader.specs.Failing as reader
-use Rattle.call_run.specs.call_errors.specs.declared.retries.Retry.{Retry}
-use Rattle.call_run.specs.call_errors.specs.Books.{CallStand}
-use Rattle.call_run.specs.call_writes.specs.Sending.{SeenCalling, SentWithCalling, SentCalling}
-use Rattle.call_run.specs.call_writes.proofs.Drains.{drained_same}
-use Rattle.call_run.specs.call_attempts.specs.Both.{Both}
-use Rattle.call_run.specs.call_attempts.specs.Attempting.{DeliveredBy, went_out, came_back, AttemptedBy, nowhere, over_link}
-use Rattle.call_run.specs.call_attempts.specs.Retrying.{WentTo, stray, unopened, to_socket, RetriedBy, had_ended, overtaken, went_again}
+use Rattle.call_run.specs.call_client.specs.call_errors.specs.declared.retries.Retry.{Retry}
+use Rattle.call_run.specs.call_client.specs.call_errors.specs.Books.{CallStand}
+use Rattle.call_run.specs.call_client.specs.call_writes.specs.Sending.{SeenCalling, SentWithCalling, SentCalling}
+use Rattle.call_run.specs.call_client.specs.call_writes.proofs.Drains.{drained_same}
+use Rattle.call_run.specs.call_client.specs.call_attempts.specs.Both.{Both}
+use Rattle.call_run.specs.call_client.specs.call_attempts.specs.Attempting.{DeliveredBy, went_out, came_back, AttemptedBy, nowhere, over_link}
+use Rattle.call_run.specs.call_client.specs.call_attempts.specs.Retrying.{WentTo, stray, unopened, to_socket, RetriedBy, had_ended, overtaken, went_again}
 use Rattle.call_run.specs.call_client.specs.Acting.{Stand, both_of, letter_of, Acted}
 use Rattle.call_run.specs.Ending.{FailedIf, EndedEach}
 use Rattle.call_run.specs.Threads.{FoundEach}

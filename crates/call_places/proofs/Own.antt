@@ -18,8 +18,8 @@ use Rattle.seat_programs.specs.declared.task.Task.{Task}
 use Rattle.corr_core.specs.declared.marks.Plan as id_plan
 use Rattle.sock_deeds.specs.rpc_client.specs.declared.acting.Told.{Told}
 use Rattle.sock_deeds.specs.rpc_client.specs.Running.{telling}
-use Rattle.call_run.specs.call_attempts.specs.Both.{Both}
-use Rattle.call_run.specs.call_attempts.specs.Retrying.{without_oldest, Retried, none_yet, one_more}
+use Rattle.call_run.specs.call_client.specs.call_attempts.specs.Both.{Both}
+use Rattle.call_run.specs.call_client.specs.call_attempts.specs.Retrying.{without_oldest, Retried, none_yet, one_more}
 use Rattle.call_run.specs.call_client.specs.Acting.{Stand, stand, both_of, Acted}
 use Rattle.call_run.specs.call_client.specs.Running.{Course, Ran, begins, LeftAll}
 use Rattle.call_run.specs.Threads.{Thread, IsThread}

@@ -22,9 +22,9 @@ use Rattle.corr_id.specs.declared.posts.Posted.TheVariants.{Locked as HasLock, Q
 use Rattle.corr_id.specs.Calls.{slot_of, version_of, error_in, one, Quiet, Did, GotLock}
 use Rattle.corr_id.specs.Posts.{PostOk}
 use Rattle.corr_id.proofs.Doing.{became_grows}
-use Rattle.call_run.specs.prpc_frame.specs.Meaning.{frame_of}
-use Rattle.call_run.specs.prpc_frame.specs.declared.frame.Frame.{Frame}
-use Rattle.call_run.specs.call_table.specs.Responses.{ending_of}
+use Rattle.call_run.specs.rpc_reader.specs.prpc_frame.specs.Meaning.{frame_of}
+use Rattle.call_run.specs.rpc_reader.specs.prpc_frame.specs.declared.frame.Frame.{Frame}
+use Rattle.call_run.specs.rpc_reader.specs.call_table.specs.Responses.{ending_of}
 use Rattle.call_run.specs.rpc_reader.specs.Books.{Books, EndedAs, id_of}
 use Rattle.call_run.specs.rpc_reader.specs.Met.{slot_in, is_asked, is_for, MetIf, FramesMet}
 use Rattle.call_run.specs.rpc_reader.specs.Posting.{LostBy, LockLost, PostedTo, PostedIf, PostedAt, PostedAll, call_at, attempt_at}

@@ -12,7 +12,7 @@ use Rattle.sock_words.specs.declared.outcome.Outcome.TheVariants as outcome
 use Rattle.sock_model.specs.declared.view.View as sock_view
 use Rattle.call_run.specs.sock_rule.specs.declared.homes.Letter.{Letter}
 use Rattle.call_run.specs.sock_table.specs.declared.refs.SockRef.{SockRef}
-use Rattle.call_run.specs.write_chain.specs.declared.right.Undelivered.{Undelivered}
+use Rattle.call_run.specs.call_client.specs.write_chain.specs.declared.right.Undelivered.{Undelivered}
 use Rattle.corr_core.specs.Word.{Parts, parts}
 use Rattle.corr_core.specs.Law.{total, only, pair, is_attempt}
 use Rattle.corr_core.specs.declared.marks.Note.{Note}
@@ -34,19 +34,19 @@ use Rattle.corr_id.specs.Posts.{PostOk}
 use Rattle.corr_id.specs.Unlocks.{UnlockOk}
 use Rattle.corr_id.proofs.Seats.{total_append}
 use Rattle.corr_id.proofs.Doing.{became_grows}
-use Rattle.call_run.specs.call_errors.specs.declared.retries.Retry.{Retry}
-use Rattle.call_run.specs.call_errors.specs.Books.{Books, CallStand, starving, keeping, Tells, told, lost}
-use Rattle.call_run.specs.call_errors.specs.Locking.{GotBy}
-use Rattle.call_run.specs.call_errors.specs.Ending.{EndedWith, failed}
-use Rattle.call_run.specs.call_errors.specs.Handling.{Advanced, IsNext, Decided, ends, starves, waits, goes_on}
-use Rattle.call_run.specs.call_errors.specs.Posting.{Handled, PostedBy}
-use Rattle.call_run.specs.call_errors.specs.Asking.{found_id, TimedOut, ExpiredBy, JoinedBy}
-use Rattle.call_run.specs.call_writes.specs.Draining.{ToldDrop, of_send, of_call, DroppedAll, Drained}
-use Rattle.call_run.specs.call_writes.specs.Draining as draining
-use Rattle.call_run.specs.call_writes.specs.Sending.{DeliveredCalling, SentCalling}
-use Rattle.call_run.specs.call_attempts.specs.Both.{Both}
-use Rattle.call_run.specs.call_attempts.specs.Attempting.{code_for, DeliveredBy, went_out, came_back, AttemptedBy, nowhere, over_link}
-use Rattle.call_run.specs.call_attempts.specs.Retrying.{WentTo, stray, unopened, to_socket, RetriedBy, had_ended, overtaken, went_again}
+use Rattle.call_run.specs.call_client.specs.call_errors.specs.declared.retries.Retry.{Retry}
+use Rattle.call_run.specs.call_client.specs.call_errors.specs.Books.{Books, CallStand, starving, keeping, Tells, told, lost}
+use Rattle.call_run.specs.call_client.specs.call_errors.specs.Locking.{GotBy}
+use Rattle.call_run.specs.call_client.specs.call_errors.specs.Ending.{EndedWith, failed}
+use Rattle.call_run.specs.call_client.specs.call_errors.specs.Handling.{Advanced, IsNext, Decided, ends, starves, waits, goes_on}
+use Rattle.call_run.specs.call_client.specs.call_errors.specs.Posting.{Handled, PostedBy}
+use Rattle.call_run.specs.call_client.specs.call_errors.specs.Asking.{found_id, TimedOut, ExpiredBy, JoinedBy}
+use Rattle.call_run.specs.call_client.specs.call_writes.specs.Draining.{ToldDrop, of_send, of_call, DroppedAll, Drained}
+use Rattle.call_run.specs.call_client.specs.call_writes.specs.Draining as draining
+use Rattle.call_run.specs.call_client.specs.call_writes.specs.Sending.{DeliveredCalling, SentCalling}
+use Rattle.call_run.specs.call_client.specs.call_attempts.specs.Both.{Both}
+use Rattle.call_run.specs.call_client.specs.call_attempts.specs.Attempting.{code_for, DeliveredBy, went_out, came_back, AttemptedBy, nowhere, over_link}
+use Rattle.call_run.specs.call_client.specs.call_attempts.specs.Retrying.{WentTo, stray, unopened, to_socket, RetriedBy, had_ended, overtaken, went_again}
 use Rattle.call_run.specs.call_client.proofs.Telling.{did_total}
 use Rattle.call_places.specs.Counted.{makes_for, makes}
 use Rattle.call_places.proofs.Weights.{quiet_all, did_all, became_all}
@@ -311,7 +311,7 @@ module _ {O : Type 0} (state : O → OutState) (p : Plan) (q : id_plan.Plan) whe
   lock_still version k s t e g = got_still s t (ap (λ (b : Books). b.retries) e) k.slot g.word (parts k.word.0) k.content g.got
 
   -- behind the lock of a retry
-  pub again_still : (r : Retry) (k : IdLock Asked) (u t : Both) → Rattle.call_run.specs.call_attempts.specs.Retrying.WentAgain state p q r k u t → Still u.calls t.calls
+  pub again_still : (r : Retry) (k : IdLock Asked) (u t : Both) → Rattle.call_run.specs.call_client.specs.call_attempts.specs.Retrying.WentAgain state p q r k u t → Still u.calls t.calls
   again_still r k u t w = let x : CallStand = record { view = w.view; books = u.calls.books } in
       still_then u.calls x t.calls (unlocked_still k Open u.calls x refl w.unlocked) (went_still _ _ (record { socks = u.socks; calls = x }) t w.went)
 

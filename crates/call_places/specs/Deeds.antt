@@ -11,10 +11,10 @@ use Rattle.seat_programs.specs.declared.task.Op.{Op}
 use Rattle.seat_programs.specs.declared.task.Op.TheVariants as ops
 use Rattle.seat_programs.specs.declared.task.Task.{Task}
 use Rattle.corr_core.specs.declared.marks.Plan as id_plan
-use Rattle.call_run.specs.call_errors.specs.declared.retries.Retry.{Retry}
-use Rattle.call_run.specs.call_attempts.specs.Both.{Both}
-use Rattle.call_run.specs.call_attempts.specs.Attempting.{DeliveredBy, went_out, came_back, AttemptedBy, nowhere, over_link}
-use Rattle.call_run.specs.call_attempts.specs.Retrying.{without_oldest, WentTo, stray, unopened, to_socket, RetriedBy, had_ended, overtaken, went_again, Retried, none_yet, one_more}
+use Rattle.call_run.specs.call_client.specs.call_errors.specs.declared.retries.Retry.{Retry}
+use Rattle.call_run.specs.call_client.specs.call_attempts.specs.Both.{Both}
+use Rattle.call_run.specs.call_client.specs.call_attempts.specs.Attempting.{DeliveredBy, went_out, came_back, AttemptedBy, nowhere, over_link}
+use Rattle.call_run.specs.call_client.specs.call_attempts.specs.Retrying.{without_oldest, WentTo, stray, unopened, to_socket, RetriedBy, had_ended, overtaken, went_again, Retried, none_yet, one_more}
 use Rattle.call_run.specs.call_client.specs.Acting.{Stand, stand, both_of, Acted}
 use Rattle.call_run.specs.call_client.specs.Running.{Course, Ran, begins}
 use Rattle.call_run.specs.Threads.{Thread, IsThread}

@@ -1,16 +1,3 @@
 pub mod Deeds
 pub mod Counted
-pub use Rattle.call_run.specs.call_attempts
-pub use Rattle.call_run.specs.call_client
-pub use Rattle.call_run.specs.call_errors
-pub use Rattle.call_run
-pub use Rattle.call_run.specs.call_table
-pub use Rattle.call_run.specs.call_writes
-pub use Rattle.sock_deeds.specs.report_fits
-pub use Rattle.sock_deeds.specs.rpc_client
-pub use Rattle.call_run.specs.rpc_reader
-pub use Rattle.sock_deeds.specs.outcome_causes
-pub use Rattle.sock_deeds
-pub use Rattle.call_run.specs.sock_rule
-pub use Rattle.call_run.specs.sock_table
-pub use Rattle.call_run.specs.write_chain
+pub mod Below

@@ -5,15 +5,9 @@ pub mod Working
 pub mod Hired
 pub mod Crew
 pub mod Links
-pub use Rattle.call_client.specs.call_attempts
 pub use Rattle.call_client
-pub use Rattle.call_client.specs.call_errors
-pub use Rattle.rpc_reader.specs.call_table
-pub use Rattle.call_client.specs.call_writes
-pub use Rattle.rpc_reader.specs.prpc_frame
 pub use Rattle.rpc_reader
 pub use Rattle.sock_open
 pub use Rattle.sock_rule
 pub use Rattle.sock_table
-pub use Rattle.call_client.specs.write_chain
 pub use Rattle.link_crew

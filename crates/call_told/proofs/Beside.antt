@@ -25,15 +25,15 @@ use Rattle.id_rule.specs.Lawful.{call_index, notes_of}
 use Rattle.corr_id.specs.Closing.{Closing}
 use Rattle.corr_id.proofs.Seats.{notes_append, total_append}
 use Rattle.sock_message.specs.Asked.{Asked}
-use Rattle.call_deeds.specs.rpc_client.specs.declared.acting.Told.{Told}
-use Rattle.call_deeds.specs.rpc_reader.specs.Books.{Books}
-use Rattle.call_deeds.specs.rpc_reader.specs.Resting.{RestEnded}
-use Rattle.call_deeds.specs.call_run.specs.Readers.{LinkReader, nothing_read, IsReader, AreReaders}
+use Rattle.call_deeds.specs.Below.rpc_client.specs.declared.acting.Told.{Told}
+use Rattle.call_deeds.specs.Below.rpc_reader.specs.Books.{Books}
+use Rattle.call_deeds.specs.Below.rpc_reader.specs.Resting.{RestEnded}
+use Rattle.call_deeds.specs.Below.call_run.specs.Readers.{LinkReader, nothing_read, IsReader, AreReaders}
 use Rattle.call_deeds.specs.call_places.specs.Counted.{makes, HaveNotesOf}
 use Rattle.call_deeds.specs.call_places.proofs.Clients.{total_map}
 use Rattle.call_deeds.specs.call_places.proofs.Reader.{MadeNone, rest_none}
 use Rattle.call_deeds.specs.call_places.proofs.Weights.{flat_total}
-use Rattle.call_deeds.specs.sock_deeds.proofs.Flats.{append_first}
+use Rattle.call_deeds.specs.Below.sock_deeds.proofs.Flats.{append_first}
 use Rattle.call_told.specs.Answers.{AreGiven, at_end, ToldFrom, TellsFrom, HaveAnswers, IsGiver, AreAnsweredBy}
 use Rattle.call_told.specs.Once.{ToldOnce}
 use Rattle.call_told.specs.Least.{HasBegun, IsEndTold}

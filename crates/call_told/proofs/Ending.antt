@@ -18,13 +18,13 @@ use Rattle.corr_id.specs.Posts.{PostOk}
 use Rattle.sock_message.specs.Asked.{Asked}
 use Rattle.prpc_frame.specs.Meaning.{frame_of}
 use Rattle.prpc_frame.specs.declared.frame.Frame.{Frame}
-use Rattle.call_deeds.specs.call_table.specs.Responses.{ending_of, is_early}
-use Rattle.call_deeds.specs.rpc_client.specs.declared.acting.Told.{Told}
-use Rattle.call_deeds.specs.rpc_reader.specs.Books.{Books, EndedAs, ToldBy, id_of}
-use Rattle.call_deeds.specs.rpc_reader.specs.Met.{has_response, slot_in, version_in, is_asked, is_for, AnsweredBy, LackedBy, KeptIf, MetIf, FrameMet, FramesMet}
-use Rattle.call_deeds.specs.rpc_reader.specs.Posting.{LostBy, LockLost, PostedTo, MetKept, PostedIf, PostedAt, PostedAll, call_at, attempt_at}
-use Rattle.call_deeds.specs.rpc_reader.specs.Resting.{HadEnded, EndedLast, OneEnded, RestEnded}
-use Rattle.call_deeds.specs.rpc_reader.proofs.Frames.{asked_responds}
+use Rattle.call_deeds.specs.Below.call_table.specs.Responses.{ending_of, is_early}
+use Rattle.call_deeds.specs.Below.rpc_client.specs.declared.acting.Told.{Told}
+use Rattle.call_deeds.specs.Below.rpc_reader.specs.Books.{Books, EndedAs, ToldBy, id_of}
+use Rattle.call_deeds.specs.Below.rpc_reader.specs.Met.{has_response, slot_in, version_in, is_asked, is_for, AnsweredBy, LackedBy, KeptIf, MetIf, FrameMet, FramesMet}
+use Rattle.call_deeds.specs.Below.rpc_reader.specs.Posting.{LostBy, LockLost, PostedTo, MetKept, PostedIf, PostedAt, PostedAll, call_at, attempt_at}
+use Rattle.call_deeds.specs.Below.rpc_reader.specs.Resting.{HadEnded, EndedLast, OneEnded, RestEnded}
+use Rattle.call_deeds.specs.Below.rpc_reader.proofs.Frames.{asked_responds}
 use Rattle.call_told.specs.Answers.{IsGiven, AreGiven, IsLossCode, EndedBy, by_code, by_response, ToldFrom, TellsFrom}
 use Rattle.call_told.proofs.Lists.{all_both, all_but, all_at, all_then, elem_or}
 use Rattle.call_told.proofs.Noting.{Later, later_same, later_then, quiet_later, got_later, end_later, post_later, later_in, told_in, has_ended}

@@ -12,9 +12,9 @@ use Rattle.corr_core.specs.Law.{total}
 use Rattle.corr_core.specs.declared.marks.Plan as ids
 use Rattle.corr_core.specs.declared.marks.View.{View}
 use Rattle.sock_message.specs.Asked.{Asked}
-use Rattle.call_deeds.specs.rpc_reader.specs.Books.{Books}
-use Rattle.call_deeds.specs.rpc_reader.specs.Running.{ReadToEnd, ReadLink, ReadIf}
-use Rattle.call_deeds.specs.call_run.specs.Readers.{LinkReader, nothing_read, IsReader, AreReaders}
+use Rattle.call_deeds.specs.Below.rpc_reader.specs.Books.{Books}
+use Rattle.call_deeds.specs.Below.rpc_reader.specs.Running.{ReadToEnd, ReadLink, ReadIf}
+use Rattle.call_deeds.specs.Below.call_run.specs.Readers.{LinkReader, nothing_read, IsReader, AreReaders}
 use Rattle.call_deeds.specs.call_places.proofs.Reader.{MadeNone, none_noted, link_none}
 use Rattle.call_told.specs.Answers.{IsGiven, TellsFrom}
 use Rattle.call_told.proofs.Lists.{some_same, all_then}

@@ -1,15 +1,5 @@
-pub use Rattle.expire_told.specs.call_attempts
-pub use Rattle.expire_told.specs.call_client
+pub use Rattle.expire_told.specs.Below
 pub use Rattle.expire_told.specs.call_deeds
-pub use Rattle.expire_told.specs.call_errors
 pub use Rattle.expire_told.specs.call_places
-pub use Rattle.expire_told.specs.call_run
 pub use Rattle.expire_told.specs.call_told
-pub use Rattle.expire_told.specs.call_writes
 pub use Rattle.expire_told
-pub use Rattle.expire_told.specs.rpc_client
-pub use Rattle.expire_told.specs.outcome_causes
-pub use Rattle.expire_told.specs.sock_deeds
-pub use Rattle.expire_told.specs.sock_rule
-pub use Rattle.expire_told.specs.sock_table
-pub use Rattle.expire_told.specs.write_chain

@@ -16,19 +16,19 @@ use Rattle.seat_programs.specs.Ticks.{Moment, quiet}
 use Rattle.seat_programs.specs.Tasks.{opens, calls, plan_of, id_plan_of}
 use Rattle.seat_programs.specs.Scripts.{sizes_of, programs, all_tasks, opened, set_up, played, IsRunWithCalls}
 use Rattle.sock_runs.proofs.OpensStay.{readers_begin}
-use Rattle.served_fits.specs.programs_allowed.proofs.Beginning as clients_begin
+use Rattle.served_fits.specs.Below.programs_allowed.proofs.Beginning as clients_begin
 use Rattle.owed_calls.specs.joint_runs.proofs.Runs.{AreMade, first_views}
 use Rattle.report_fits.proofs.Reading.{InRange}
 use Rattle.report_fits.proofs.Targets.{AreThere}
-use Rattle.served_fits.specs.call_causes.specs.Lists.{given, soon_at, shows_in}
-use Rattle.served_fits.specs.call_causes.specs.Scenes.{In, LeadsTo}
-use Rattle.served_fits.specs.call_causes.proofs.Scripts.{are_numbered, have_slots, begins}
-use Rattle.served_fits.specs.call_causes.proofs.Run as runs
-use Rattle.served_fits.specs.call_causes.proofs.Handled.{word_of, frames_in, all_at, IsResp, Done, Over, Frozen}
-use Rattle.served_fits.specs.call_causes.proofs.HandledSteps.{State, waiting, reading, seeking, taking, ending_, freeing, over}
-use Rattle.served_fits.specs.call_causes.proofs.HandledStates.{After}
-use Rattle.served_fits.specs.call_causes.proofs.HandledTicks.{sit}
-use Rattle.served_fits.specs.call_causes.proofs.HandledRuns.{AreKnown, setup_known, played_known, Reads', reads_along}
+use Rattle.served_fits.specs.Below.call_causes.specs.Lists.{given, soon_at, shows_in}
+use Rattle.served_fits.specs.Below.call_causes.specs.Scenes.{In, LeadsTo}
+use Rattle.served_fits.specs.Below.call_causes.proofs.Scripts.{are_numbered, have_slots, begins}
+use Rattle.served_fits.specs.Below.call_causes.proofs.Run as runs
+use Rattle.served_fits.specs.Below.call_causes.proofs.Handled.{word_of, frames_in, all_at, IsResp, Done, Over, Frozen}
+use Rattle.served_fits.specs.Below.call_causes.proofs.HandledSteps.{State, waiting, reading, seeking, taking, ending_, freeing, over}
+use Rattle.served_fits.specs.Below.call_causes.proofs.HandledStates.{After}
+use Rattle.served_fits.specs.Below.call_causes.proofs.HandledTicks.{sit}
+use Rattle.served_fits.specs.Below.call_causes.proofs.HandledRuns.{AreKnown, setup_known, played_known, Reads', reads_along}
 use Rattle.served_fits.specs.served_runs.proofs.Replies.{empty_at}
 
 each_at : {A : Type 0} (P : A → Type 0) (xs : List A) → AllByRecursion P xs → (i : ℕ) (x : A) → get_elem? xs i ≡ some x → P x

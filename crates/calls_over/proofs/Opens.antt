@@ -38,10 +38,10 @@ use Rattle.owed_calls.specs.joint_runs.proofs.Runs.{AreMade, first_views}
 use Rattle.owed_calls.specs.Lives.{ClosesInRun}
 use Rattle.owed_calls.specs.Sound.{id_word_of, at_of, IsOpen}
 use Rattle.owed_calls.proofs.Known.{run_all_rest}
-use Rattle.served_fits.specs.run_theorems.proofs.Lengths.{ended_length}
-use Rattle.served_fits.specs.run_theorems.proofs.Starts.{made}
-use Rattle.served_fits.specs.call_causes.specs.Lists.{given, shows_in, times, advanced_at, attempts_of_run}
-use Rattle.served_fits.specs.call_causes.proofs.Posted.{run_few_attempts}
+use Rattle.served_fits.specs.Below.run_theorems.proofs.Lengths.{ended_length}
+use Rattle.served_fits.specs.Below.run_theorems.proofs.Starts.{made}
+use Rattle.served_fits.specs.Below.call_causes.specs.Lists.{given, shows_in, times, advanced_at, attempts_of_run}
+use Rattle.served_fits.specs.Below.call_causes.proofs.Posted.{run_few_attempts}
 use Rattle.served_fits.specs.send_causes.proofs.Assembled.{fixed_in_run}
 use Rattle.served_fits.specs.send_causes.proofs.AttemptedRuns.{Counted, played_counted, times_append}
 use Rattle.served_fits.specs.send_causes.proofs.DropWhole.{get_same}

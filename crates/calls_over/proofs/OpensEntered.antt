@@ -26,7 +26,7 @@ use Rattle.outcome_causes.proofs.Members.{in_contains}
 use Rattle.outcome_causes.proofs.Plain.{in_both, in_left, in_right}
 use Rattle.owed_calls.specs.joint_runs.proofs.Runs.{AreMade, first_views}
 use Rattle.owed_calls.specs.Lives.{ClosesInRun}
-use Rattle.served_fits.specs.call_causes.specs.Lists.{shows_in}
+use Rattle.served_fits.specs.Below.call_causes.specs.Lists.{shows_in}
 use Rattle.served_fits.specs.send_causes.specs.EndedCalls.{Store, stored_at, stores_of_run}
 use Rattle.served_fits.specs.send_causes.proofs.ClosedLost.{setup_fates, played_fates, early_ended}
 use Rattle.served_fits.specs.send_causes.proofs.ClosedLostTicks.{AreTaken, Ended, word_link, word_attempt}

@@ -23,7 +23,7 @@ use Rattle.outcome_causes.proofs.Openings.{are_seats, all_explained}
 use Rattle.outcome_causes.proofs.Runs.{IsStoried, set_up_over}
 use Rattle.outcome_causes.proofs.Scripts.{own_from}
 use Rattle.id_rule.specs.Lawful.{at_index}
-use Rattle.served_fits.specs.call_causes.specs.Lists.{shows_in}
+use Rattle.served_fits.specs.Below.call_causes.specs.Lists.{shows_in}
 use Rattle.served_fits.specs.send_causes.specs.EndedCalls.{Store, stored_at}
 use Rattle.served_fits.specs.send_causes.proofs.Runs.{AreLabelledIn, IsCallOf, asked_by}
 use Rattle.served_fits.specs.send_causes.proofs.EndedTrails.{lost}

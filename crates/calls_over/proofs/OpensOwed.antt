@@ -38,7 +38,7 @@ use Rattle.sock_runs.proofs.Quiets.{run_seats}
 use Rattle.sock_runs.proofs.ReaderSeats.{AtReader, run_reader, waits_own}
 use Rattle.sock_runs.proofs.Records.{next_stores}
 use Rattle.sock_runs.proofs.Whole.{IsListed, views_played, set_up_answered, set_up_sound, played_sound, recorded_opened, recorded_set_up}
-use Rattle.served_fits.specs.programs_allowed.proofs.Beginning as clients_begin
+use Rattle.served_fits.specs.Below.programs_allowed.proofs.Beginning as clients_begin
 use Rattle.id_runs.specs.Goes as goes
 use Rattle.owed_calls.specs.joint_runs.proofs.Runs.{AreMade, first_views, joint_runs}
 use Rattle.owed_calls.specs.Lives.{id_of, life_of, AreSaying, ClosesAt, ClosesInTime, ClosesInRun}
@@ -53,9 +53,9 @@ use Rattle.owed_calls.proofs.OwingRuns.{Reaches, id_is, run_owing, reach_back}
 use Rattle.owed_calls.proofs.Saying.{says_along}
 use Rattle.owed_calls.proofs.WholeOwing.{links_stand}
 use Rattle.owed_calls.proofs.WordsGiven.{Named, names_others, beginning_named, run_named}
-use Rattle.served_fits.specs.call_causes.proofs.Handled.{Sit}
-use Rattle.served_fits.specs.call_causes.proofs.HandledSteps.{State, waiting, reading, seeking, taking, ending_, freeing, over}
-use Rattle.served_fits.specs.call_causes.proofs.HandledStates.{After}
+use Rattle.served_fits.specs.Below.call_causes.proofs.Handled.{Sit}
+use Rattle.served_fits.specs.Below.call_causes.proofs.HandledSteps.{State, waiting, reading, seeking, taking, ending_, freeing, over}
+use Rattle.served_fits.specs.Below.call_causes.proofs.HandledStates.{After}
 use Rattle.served_fits.specs.send_causes.proofs.Early.{start, go, fitting, known, opens_apart, clients_take_none}
 use Rattle.served_fits.specs.send_causes.proofs.Takeless.{NoTakes}
 use Rattle.calls_over.proofs.Handled.{reads_before}

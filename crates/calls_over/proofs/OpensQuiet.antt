@@ -45,12 +45,12 @@ use Rattle.outcome_causes.proofs.Members.{in_contains, contains_in}
 use Rattle.outcome_causes.proofs.Plain.{in_left, in_right, in_both}
 use Rattle.owed_calls.specs.joint_runs.proofs.Runs.{AreMade, first_views}
 use Rattle.owed_calls.specs.Lives.{ClosesInRun}
-use Rattle.served_fits.specs.run_theorems.specs.Heard.{heard_takes, given_by}
-use Rattle.served_fits.specs.run_theorems.proofs.Gave.{gave_heard}
-use Rattle.served_fits.specs.run_theorems.proofs.Lengths.{ended_length}
-use Rattle.served_fits.specs.run_theorems.proofs.Starts.{made}
-use Rattle.served_fits.specs.call_causes.specs.Lists.{given}
-use Rattle.served_fits.specs.call_causes.specs.Scenes.{LeadsTo}
+use Rattle.served_fits.specs.Below.run_theorems.specs.Heard.{heard_takes, given_by}
+use Rattle.served_fits.specs.Below.run_theorems.proofs.Gave.{gave_heard}
+use Rattle.served_fits.specs.Below.run_theorems.proofs.Lengths.{ended_length}
+use Rattle.served_fits.specs.Below.run_theorems.proofs.Starts.{made}
+use Rattle.served_fits.specs.Below.call_causes.specs.Lists.{given}
+use Rattle.served_fits.specs.Below.call_causes.specs.Scenes.{LeadsTo}
 use Rattle.served_fits.specs.send_causes.proofs.AttemptedStored.{played_leads}
 use Rattle.served_fits.specs.send_causes.proofs.Early.{start, go, fitting, closed_early, first_fresh}
 use Rattle.served_fits.specs.send_causes.proofs.Faults.{Faults, fault_stays}

@@ -34,8 +34,8 @@ use Rattle.outcome_causes.proofs.Delivered.{accepted_of}
 use Rattle.owed_calls.specs.joint_runs.proofs.Runs.{AreMade, first_views}
 use Rattle.owed_calls.specs.Lives.{ClosesInRun}
 use Rattle.owed_calls.proofs.OpensStored.{at_place}
-use Rattle.served_fits.specs.run_theorems.proofs.Starts.{made}
-use Rattle.served_fits.specs.call_causes.specs.Lists.{given}
+use Rattle.served_fits.specs.Below.run_theorems.proofs.Starts.{made}
+use Rattle.served_fits.specs.Below.call_causes.specs.Lists.{given}
 use Rattle.served_fits.specs.send_causes.proofs.AllTold.{told_of_run}
 use Rattle.served_fits.specs.send_causes.proofs.Assembled.{fixed_in_run}
 use Rattle.served_fits.specs.send_causes.proofs.DropWhole.{get_same}

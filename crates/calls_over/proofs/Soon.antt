@@ -37,10 +37,10 @@ use Rattle.seat_programs.specs.ToldCalls.{Order, Fixed, ToldCalls}
 use Rattle.seat_programs.specs.Scripts.{Reports, all_tasks, IsRunWithCalls}
 use Rattle.owed_calls.specs.Lives.{ClosesInRun}
 use Rattle.owed_calls.specs.Sound.{id_word_of}
-use Rattle.served_fits.specs.run_theorems.proofs.Lengths.{ended_length}
-use Rattle.served_fits.specs.run_theorems.proofs.Starts.{made}
-use Rattle.served_fits.specs.call_causes.specs.Lists.{given}
-use Rattle.served_fits.specs.call_causes.proofs.Handled.{IsResp}
+use Rattle.served_fits.specs.Below.run_theorems.proofs.Lengths.{ended_length}
+use Rattle.served_fits.specs.Below.run_theorems.proofs.Starts.{made}
+use Rattle.served_fits.specs.Below.call_causes.specs.Lists.{given}
+use Rattle.served_fits.specs.Below.call_causes.proofs.Handled.{IsResp}
 use Rattle.served_fits.specs.served_runs.specs.Offered.{OffersInRun}
 use Rattle.served_fits.specs.served_runs.proofs.Frames.{IsPiece, reply_is}
 use Rattle.served_fits.specs.served_calls.proofs.Frames.{SaysReply, piece_has, reply_to, reply_says}

@@ -22,11 +22,11 @@ use Rattle.seat_programs.specs.Cores.{Core}
 use Rattle.sock_runs.specs.Sound.{Sound}
 use Rattle.id_runs.specs.Held.{IdView}
 use Rattle.id_runs.specs.Goes.{SoundIds}
-use Rattle.served_fits.specs.label_runs.specs.Labels.{Trial}
+use Rattle.served_fits.specs.Below.label_runs.specs.Labels.{Trial}
 use Rattle.owed_calls.specs.Sound.{id_word_of}
 use Rattle.owed_calls.proofs.EndsStill as still
-use Rattle.served_fits.specs.call_causes.proofs.Handled.{bound}
-use Rattle.served_fits.specs.call_causes.proofs.Streams.{frames_stay}
+use Rattle.served_fits.specs.Below.call_causes.proofs.Handled.{bound}
+use Rattle.served_fits.specs.Below.call_causes.proofs.Streams.{frames_stay}
 use Rattle.served_fits.specs.send_causes.specs.Counts.{pair_of, of_heading, of_entry, of_view, times_of, IsOfCall, EntryFits, LabelLaw}
 use Rattle.served_fits.specs.served_runs.proofs.Frames.{IsPiece, piece_frames, IsSmall, request_is}
 use Rattle.calls_over.proofs.SoonLists.{Stood, log_stood}

@@ -29,7 +29,7 @@ use Rattle.outcome_causes.proofs.Members.{all_in}
 use Rattle.outcome_causes.proofs.Tasks.{fits_of}
 use Rattle.owed_calls.specs.joint_runs.proofs.Runs.{AreMade, first_views, joint_runs}
 use Rattle.owed_calls.specs.Lives.{ClosesInRun, InHand}
-use Rattle.served_fits.specs.call_causes.specs.Scenes.{In}
+use Rattle.served_fits.specs.Below.call_causes.specs.Scenes.{In}
 use Rattle.served_fits.specs.send_causes.proofs.Early.{start, go, fitting}
 use Rattle.served_fits.specs.send_causes.proofs.Labelled.{ids_of_run}
 use Rattle.served_fits.specs.send_causes.proofs.Runs.{IsCallOf, programs_go, begins_labels, asked_by}
@@ -41,7 +41,7 @@ use Rattle.served_fits.specs.served_runs.proofs.Runs.{quiet_offered}
 use Rattle.served_fits.specs.served_runs.proofs.Served.{shapes_many}
 use Rattle.calls_over.proofs.Handled.{known_setup, known_clients, soon_setup, soon_clients}
 use Rattle.calls_over.proofs.SoonPieces.{IsLow, NonePlain}
-use Rattle.served_fits.specs.call_causes.proofs.Run.{in_either as in_two}
+use Rattle.served_fits.specs.Below.call_causes.proofs.Run.{in_either as in_two}
 use Rattle.calls_over.proofs.SoonTicks.{Stands', plain_before, run_stands, quiet_soon, none_soon}
 use Rattle.calls_over.proofs.SoonUnsent.{plain_played}
 use Rattle.served_fits.specs.served_runs.proofs.Replies.{empty_at, gave_long, empty_long}

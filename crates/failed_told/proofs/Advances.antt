@@ -23,11 +23,11 @@ use Rattle.corr_id.specs.Posts.{IsTimely}
 use Rattle.corr_id.specs.declared.calls.IdLock.{IdLock}
 use Rattle.call_table.specs.Errors.{is_final}
 use Rattle.call_table.specs.declared.errors.Decision.TheVariants as decisions
-use Rattle.attempts_told.specs.call_whys.specs.expire_told.specs.rpc_client.specs.declared.acting.Told.{Told}
-use Rattle.attempts_told.specs.call_whys.specs.expire_told.specs.call_errors.specs.Locking.{id_in}
-use Rattle.attempts_told.specs.call_whys.specs.expire_told.specs.call_errors.specs.Handling.{is_whole, decision}
-use Rattle.attempts_told.specs.call_whys.specs.expire_told.specs.call_run.specs.Readers.{LinkReader}
-use Rattle.attempts_told.specs.call_whys.specs.expire_told.specs.call_run.specs.Threads.{RanWith, ids_of}
+use Rattle.attempts_told.specs.call_whys.specs.expire_told.specs.Below.rpc_client.specs.declared.acting.Told.{Told}
+use Rattle.attempts_told.specs.call_whys.specs.expire_told.specs.Below.call_errors.specs.Locking.{id_in}
+use Rattle.attempts_told.specs.call_whys.specs.expire_told.specs.Below.call_errors.specs.Handling.{is_whole, decision}
+use Rattle.attempts_told.specs.call_whys.specs.expire_told.specs.Below.call_run.specs.Readers.{LinkReader}
+use Rattle.attempts_told.specs.call_whys.specs.expire_told.specs.Below.call_run.specs.Threads.{RanWith, ids_of}
 use Rattle.attempts_told.specs.call_whys.specs.expire_told.specs.call_places.specs.Counted.{HaveNotesOf}
 use Rattle.attempts_told.specs.call_whys.specs.expire_told.specs.call_places.specs.Deeds.{Deed}
 use Rattle.attempts_told.specs.call_whys.specs.expire_told.specs.call_places.proofs.Clients.{Client, view_of, tasks_of, deeds_of}

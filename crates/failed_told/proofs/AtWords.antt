@@ -16,8 +16,8 @@ use Rattle.sock_words.specs.declared.outcome.Outcome.TheVariants as outcome
 use Rattle.sock_words.specs.declared.plain.Plan.{Plan}
 use Rattle.sock_words.specs.declared.socket_id.SocketId.{SocketId}
 use Rattle.sock_model.specs.declared.view.View as sock_view
-use Rattle.attempts_told.specs.call_whys.specs.expire_told.specs.sock_rule.specs.declared.homes.Letter.{Letter}
-use Rattle.attempts_told.specs.call_whys.specs.expire_told.specs.sock_table.specs.declared.refs.SockRef.{SockRef}
+use Rattle.attempts_told.specs.call_whys.specs.expire_told.specs.Below.sock_rule.specs.declared.homes.Letter.{Letter}
+use Rattle.attempts_told.specs.call_whys.specs.expire_told.specs.Below.sock_table.specs.declared.refs.SockRef.{SockRef}
 use Rattle.seat_programs.specs.declared.task.Op.{Op}
 use Rattle.seat_programs.specs.declared.task.Op.TheVariants as ops
 use Rattle.seat_programs.specs.declared.task.Task.{Task}
@@ -34,32 +34,32 @@ use Rattle.corr_id.specs.declared.posts.Posted.{Posted}
 use Rattle.corr_id.specs.declared.posts.Posted.TheVariants.{Locked as HasLock, Queued as IsQueued, Gone, Stale, Crowded}
 use Rattle.corr_id.specs.Calls.{slot_of, version_of, one}
 use Rattle.corr_id.specs.Posts.{PostOk}
-use Rattle.attempts_told.specs.call_whys.specs.expire_told.specs.write_chain.specs.declared.right.Undelivered.{Undelivered}
-use Rattle.attempts_told.specs.call_whys.specs.expire_told.specs.call_errors.specs.declared.retries.Retry.{Retry}
-use Rattle.attempts_told.specs.call_whys.specs.expire_told.specs.call_errors.specs.Books.{CallStand, stand_of}
-use Rattle.attempts_told.specs.call_whys.specs.expire_told.specs.call_errors.specs.Handling.{Decided}
-use Rattle.attempts_told.specs.call_whys.specs.expire_told.specs.call_errors.specs.Handling as handling
-use Rattle.attempts_told.specs.call_whys.specs.expire_told.specs.call_errors.specs.Posting.{Handled, PostedBy}
-use Rattle.attempts_told.specs.call_whys.specs.expire_told.specs.call_errors.specs.Asking.{found_id, TimedOut, ExpiredBy, JoinedBy}
-use Rattle.attempts_told.specs.call_whys.specs.expire_told.specs.call_writes.specs.Draining.{ToldDrop, of_send, of_call, DroppedAll, Drained}
-use Rattle.attempts_told.specs.call_whys.specs.expire_told.specs.call_writes.specs.Draining as draining
-use Rattle.attempts_told.specs.call_whys.specs.expire_told.specs.call_writes.specs.Sending.{DeliveredCalling, SentCalling}
-use Rattle.attempts_told.specs.call_whys.specs.expire_told.specs.call_attempts.specs.Both.{Both}
-use Rattle.attempts_told.specs.call_whys.specs.expire_told.specs.call_attempts.specs.Attempting.{code_for, DeliveredBy, went_out, came_back, AttemptedBy, nowhere, over_link}
-use Rattle.attempts_told.specs.call_whys.specs.expire_told.specs.call_attempts.specs.Letters.{letter_for}
-use Rattle.attempts_told.specs.call_whys.specs.expire_told.specs.call_attempts.specs.Retrying.{without_oldest, WentTo, stray, unopened, to_socket, RetriedBy, had_ended, overtaken, went_again, Retried, none_yet, one_more}
-use Rattle.attempts_told.specs.call_whys.specs.expire_told.specs.call_client.specs.Acting.{Stand, stand, both_of, letter_of, Acted}
-use Rattle.attempts_told.specs.call_whys.specs.expire_told.specs.call_client.specs.Running.{Course, Ran, begins}
-use Rattle.attempts_told.specs.call_whys.specs.expire_told.specs.call_run.specs.Threads.{Thread, IsThread}
+use Rattle.attempts_told.specs.call_whys.specs.expire_told.specs.Below.write_chain.specs.declared.right.Undelivered.{Undelivered}
+use Rattle.attempts_told.specs.call_whys.specs.expire_told.specs.Below.call_errors.specs.declared.retries.Retry.{Retry}
+use Rattle.attempts_told.specs.call_whys.specs.expire_told.specs.Below.call_errors.specs.Books.{CallStand, stand_of}
+use Rattle.attempts_told.specs.call_whys.specs.expire_told.specs.Below.call_errors.specs.Handling.{Decided}
+use Rattle.attempts_told.specs.call_whys.specs.expire_told.specs.Below.call_errors.specs.Handling as handling
+use Rattle.attempts_told.specs.call_whys.specs.expire_told.specs.Below.call_errors.specs.Posting.{Handled, PostedBy}
+use Rattle.attempts_told.specs.call_whys.specs.expire_told.specs.Below.call_errors.specs.Asking.{found_id, TimedOut, ExpiredBy, JoinedBy}
+use Rattle.attempts_told.specs.call_whys.specs.expire_told.specs.Below.call_writes.specs.Draining.{ToldDrop, of_send, of_call, DroppedAll, Drained}
+use Rattle.attempts_told.specs.call_whys.specs.expire_told.specs.Below.call_writes.specs.Draining as draining
+use Rattle.attempts_told.specs.call_whys.specs.expire_told.specs.Below.call_writes.specs.Sending.{DeliveredCalling, SentCalling}
+use Rattle.attempts_told.specs.call_whys.specs.expire_told.specs.Below.call_attempts.specs.Both.{Both}
+use Rattle.attempts_told.specs.call_whys.specs.expire_told.specs.Below.call_attempts.specs.Attempting.{code_for, DeliveredBy, went_out, came_back, AttemptedBy, nowhere, over_link}
+use Rattle.attempts_told.specs.call_whys.specs.expire_told.specs.Below.call_attempts.specs.Letters.{letter_for}
+use Rattle.attempts_told.specs.call_whys.specs.expire_told.specs.Below.call_attempts.specs.Retrying.{without_oldest, WentTo, stray, unopened, to_socket, RetriedBy, had_ended, overtaken, went_again, Retried, none_yet, one_more}
+use Rattle.attempts_told.specs.call_whys.specs.expire_told.specs.Below.call_client.specs.Acting.{Stand, stand, both_of, letter_of, Acted}
+use Rattle.attempts_told.specs.call_whys.specs.expire_told.specs.Below.call_client.specs.Running.{Course, Ran, begins}
+use Rattle.attempts_told.specs.call_whys.specs.expire_told.specs.Below.call_run.specs.Threads.{Thread, IsThread}
 use Rattle.attempts_told.specs.call_whys.specs.expire_told.specs.call_places.specs.Deeds.{Deed, operates, retries, retries_of, ran_deeds, deeds}
 use Rattle.attempts_told.specs.call_whys.specs.expire_told.specs.call_places.proofs.Still.{attempted_still, retried_still}
 use Rattle.attempts_told.specs.call_whys.specs.expire_told.specs.call_places.proofs.Counts.{Grows, acted_might}
-use Rattle.attempts_told.specs.call_whys.specs.expire_told.specs.call_client.proofs.Telling.{did_total}
+use Rattle.attempts_told.specs.call_whys.specs.expire_told.specs.Below.call_client.proofs.Telling.{did_total}
 use Rattle.attempts_told.specs.call_whys.specs.expire_told.specs.call_told.specs.Least.{is_made_for}
 use Rattle.attempts_told.specs.call_whys.specs.expire_told.specs.call_told.proofs.Ends.{made_silent, counted_here}
 use Rattle.attempts_told.specs.call_whys.specs.expire_told.specs.call_told.proofs.Runs.{none_left}
 use Rattle.attempts_told.specs.call_whys.specs.expire_told.proofs.Making.{word_is as kept_word}
-use Rattle.attempts_told.specs.call_whys.specs.expire_told.specs.sock_deeds.proofs.Flats.{append_first, append_later}
+use Rattle.attempts_told.specs.call_whys.specs.expire_told.specs.Below.sock_deeds.proofs.Flats.{append_first, append_later}
 use Rattle.failed_told.specs.Missed.{acted_id, id_of, attempt_of}
 use Rattle.failed_told.proofs.Losses.{IsAskedIn}
 

@@ -17,9 +17,9 @@ use Rattle.sock_words.specs.declared.vref.Vref.{Vref}
 use Rattle.sock_model.specs.declared.view.View as sock_view
 use Rattle.sock_model.specs.Layout.{request_index}
 use Rattle.sock_model.specs.Weights.{is_known, is_saw}
-use Rattle.attempts_told.specs.call_whys.specs.expire_told.specs.sock_rule.specs.Closing.{PlacesDiffer}
-use Rattle.attempts_told.specs.call_whys.specs.expire_told.specs.sock_rule.specs.declared.homes.SockHome.{SockHome}
-use Rattle.attempts_told.specs.call_whys.specs.expire_told.specs.sock_table.specs.Named.{HasSeen, Found}
+use Rattle.attempts_told.specs.call_whys.specs.expire_told.specs.Below.sock_rule.specs.Closing.{PlacesDiffer}
+use Rattle.attempts_told.specs.call_whys.specs.expire_told.specs.Below.sock_rule.specs.declared.homes.SockHome.{SockHome}
+use Rattle.attempts_told.specs.call_whys.specs.expire_told.specs.Below.sock_table.specs.Named.{HasSeen, Found}
 use Rattle.seat_programs.specs.declared.task.Op.{Op}
 use Rattle.seat_programs.specs.declared.task.Op.TheVariants as ops
 use Rattle.seat_programs.specs.declared.task.Task.{Task}
@@ -37,10 +37,10 @@ use Rattle.id_rule.specs.Lawful.{notes_of}
 use Rattle.sock_message.specs.Asked.{Asked, name_of}
 use Rattle.corr_id.specs.Calls.{slot_of}
 use Rattle.corr_id.specs.Closing.{Closing}
-use Rattle.attempts_told.specs.call_whys.specs.expire_told.specs.rpc_client.specs.declared.acting.Told.{Told}
-use Rattle.attempts_told.specs.call_whys.specs.expire_told.specs.call_attempts.specs.Retrying.{IsStray}
-use Rattle.attempts_told.specs.call_whys.specs.expire_told.specs.call_run.specs.Readers.{LinkReader}
-use Rattle.attempts_told.specs.call_whys.specs.expire_told.specs.call_run.specs.Threads.{Thread, RanWith, MayRunAll, ids_of}
+use Rattle.attempts_told.specs.call_whys.specs.expire_told.specs.Below.rpc_client.specs.declared.acting.Told.{Told}
+use Rattle.attempts_told.specs.call_whys.specs.expire_told.specs.Below.call_attempts.specs.Retrying.{IsStray}
+use Rattle.attempts_told.specs.call_whys.specs.expire_told.specs.Below.call_run.specs.Readers.{LinkReader}
+use Rattle.attempts_told.specs.call_whys.specs.expire_told.specs.Below.call_run.specs.Threads.{Thread, RanWith, MayRunAll, ids_of}
 use Rattle.attempts_told.specs.call_whys.specs.expire_told.specs.call_places.specs.Counted.{HaveNotesOf}
 use Rattle.attempts_told.specs.call_whys.specs.expire_told.specs.call_places.specs.Deeds.{Deed}
 use Rattle.attempts_told.specs.call_whys.specs.expire_told.specs.call_places.proofs.Weights.{two_terms}
@@ -48,20 +48,20 @@ use Rattle.attempts_told.specs.call_whys.specs.expire_told.specs.call_places.pro
 use Rattle.attempts_told.specs.call_whys.specs.expire_told.specs.call_places.proofs.Clients.{Client, view_of, deeds_of}
 use Rattle.attempts_told.specs.call_whys.specs.expire_told.specs.call_places.proofs.Places.{all as all_clients, all_are}
 use Rattle.attempts_told.specs.call_whys.specs.expire_told.specs.call_told.proofs.Lists.{all_at}
-use Rattle.attempts_told.specs.call_whys.specs.expire_told.specs.sock_deeds.specs.Deeds as socks
-use Rattle.attempts_told.specs.call_whys.specs.expire_told.specs.sock_deeds.specs.Runs.{IsOperation, Seated, seat_of, DeedRun}
-use Rattle.attempts_told.specs.call_whys.specs.expire_told.specs.sock_deeds.proofs.Accepting.{log}
-use Rattle.attempts_told.specs.call_whys.specs.expire_told.specs.sock_deeds.proofs.Acts.{Act, after, has_marks, has_seen}
-use Rattle.attempts_told.specs.call_whys.specs.expire_told.specs.sock_deeds.proofs.Failing.{WhyFailed, by_name, by_link, by_reader, life_failed}
-use Rattle.attempts_told.specs.call_whys.specs.expire_told.specs.sock_deeds.proofs.Lives.{MadeHere, found_made}
-use Rattle.attempts_told.specs.call_whys.specs.expire_told.specs.sock_deeds.proofs.Orders.{orders, entry_on}
-use Rattle.attempts_told.specs.call_whys.specs.expire_told.specs.sock_deeds.proofs.Tasks.{fits}
-use Rattle.attempts_told.specs.call_whys.specs.expire_told.specs.sock_deeds.proofs.Whole.{fixed}
+use Rattle.attempts_told.specs.call_whys.specs.expire_told.specs.Below.sock_deeds.specs.Deeds as socks
+use Rattle.attempts_told.specs.call_whys.specs.expire_told.specs.Below.sock_deeds.specs.Runs.{IsOperation, Seated, seat_of, DeedRun}
+use Rattle.attempts_told.specs.call_whys.specs.expire_told.specs.Below.sock_deeds.proofs.Accepting.{log}
+use Rattle.attempts_told.specs.call_whys.specs.expire_told.specs.Below.sock_deeds.proofs.Acts.{Act, after, has_marks, has_seen}
+use Rattle.attempts_told.specs.call_whys.specs.expire_told.specs.Below.sock_deeds.proofs.Failing.{WhyFailed, by_name, by_link, by_reader, life_failed}
+use Rattle.attempts_told.specs.call_whys.specs.expire_told.specs.Below.sock_deeds.proofs.Lives.{MadeHere, found_made}
+use Rattle.attempts_told.specs.call_whys.specs.expire_told.specs.Below.sock_deeds.proofs.Orders.{orders, entry_on}
+use Rattle.attempts_told.specs.call_whys.specs.expire_told.specs.Below.sock_deeds.proofs.Tasks.{fits}
+use Rattle.attempts_told.specs.call_whys.specs.expire_told.specs.Below.sock_deeds.proofs.Whole.{fixed}
 use Rattle.failed_told.specs.Missed.{missed_in, id_of, IsBacked, attempt_of, socks_behind}
 use Rattle.failed_told.proofs.Losses.{SawDead, SawFull, dead_later, full_later, WhyMissed, was_dead, was_full, was_unopened, was_stray}
 use Rattle.failed_told.proofs.Reaching.{Reaches, deeds_reach}
 use Rattle.failed_told.proofs.Single.{IsNothing, not_accepted}
-use Rattle.attempts_told.specs.call_whys.specs.expire_told.specs.sock_deeds.proofs.Places.{map_back, map_there}
+use Rattle.attempts_told.specs.call_whys.specs.expire_told.specs.Below.sock_deeds.proofs.Places.{map_back, map_there}
 
 -- ## Of notes and operations
 

@@ -13,8 +13,8 @@ use Rattle.sock_words.specs.declared.plain.Plan.{Plan}
 use Rattle.sock_words.specs.declared.place_word.PlaceWord.{PlaceWord}
 use Rattle.sock_words.specs.declared.socket_id.SocketId.{SocketId}
 use Rattle.sock_words.specs.declared.vref.Vref.{Vref}
-use Rattle.attempts_told.specs.call_whys.specs.expire_told.specs.sock_rule.specs.Closing.{PlacesDiffer}
-use Rattle.attempts_told.specs.call_whys.specs.expire_told.specs.sock_rule.specs.declared.homes.Letter.{Letter}
+use Rattle.attempts_told.specs.call_whys.specs.expire_told.specs.Below.sock_rule.specs.Closing.{PlacesDiffer}
+use Rattle.attempts_told.specs.call_whys.specs.expire_told.specs.Below.sock_rule.specs.declared.homes.Letter.{Letter}
 use Rattle.seat_programs.specs.declared.task.Op.{Op}
 use Rattle.seat_programs.specs.declared.task.Op.TheVariants as ops
 use Rattle.seat_programs.specs.declared.task.Task.{Task}
@@ -31,13 +31,13 @@ use Rattle.id_rule.specs.Lawful.{notes_of}
 use Rattle.sock_message.specs.Asked.{Asked, name_of}
 use Rattle.corr_id.specs.Calls.{FoundUpTo, slot_of, version_of}
 use Rattle.corr_id.specs.Closing.{Closing}
-use Rattle.attempts_told.specs.call_whys.specs.expire_told.specs.rpc_client.specs.declared.acting.Told.{Told}
-use Rattle.attempts_told.specs.call_whys.specs.expire_told.specs.call_attempts.specs.Both.{Both}
-use Rattle.attempts_told.specs.call_whys.specs.expire_told.specs.call_attempts.specs.Attempting.{AttemptedBy, nowhere, over_link}
-use Rattle.attempts_told.specs.call_whys.specs.expire_told.specs.call_attempts.specs.Retrying.{WentTo, stray, unopened, to_socket, had_ended, overtaken, went_again}
-use Rattle.attempts_told.specs.call_whys.specs.expire_told.specs.call_client.specs.Acting.{Stand, both_of, Acted}
-use Rattle.attempts_told.specs.call_whys.specs.expire_told.specs.call_run.specs.Readers.{LinkReader}
-use Rattle.attempts_told.specs.call_whys.specs.expire_told.specs.call_run.specs.Threads.{Thread, RanWith, MayRunAll, ids_of}
+use Rattle.attempts_told.specs.call_whys.specs.expire_told.specs.Below.rpc_client.specs.declared.acting.Told.{Told}
+use Rattle.attempts_told.specs.call_whys.specs.expire_told.specs.Below.call_attempts.specs.Both.{Both}
+use Rattle.attempts_told.specs.call_whys.specs.expire_told.specs.Below.call_attempts.specs.Attempting.{AttemptedBy, nowhere, over_link}
+use Rattle.attempts_told.specs.call_whys.specs.expire_told.specs.Below.call_attempts.specs.Retrying.{WentTo, stray, unopened, to_socket, had_ended, overtaken, went_again}
+use Rattle.attempts_told.specs.call_whys.specs.expire_told.specs.Below.call_client.specs.Acting.{Stand, both_of, Acted}
+use Rattle.attempts_told.specs.call_whys.specs.expire_told.specs.Below.call_run.specs.Readers.{LinkReader}
+use Rattle.attempts_told.specs.call_whys.specs.expire_told.specs.Below.call_run.specs.Threads.{Thread, RanWith, MayRunAll, ids_of}
 use Rattle.attempts_told.specs.call_whys.specs.expire_told.specs.call_places.specs.Counted.{makes, HaveNotesOf}
 use Rattle.attempts_told.specs.call_whys.specs.expire_told.specs.call_places.specs.Deeds.{Deed, operates, retries}
 use Rattle.attempts_told.specs.call_whys.specs.expire_told.specs.call_places.proofs.Still.{advances}
@@ -50,13 +50,13 @@ use Rattle.attempts_told.specs.call_whys.specs.expire_told.specs.call_told.proof
 use Rattle.attempts_told.specs.call_whys.specs.expire_told.specs.call_deeds.specs.Retried.{all_asked}
 use Rattle.attempts_told.specs.call_whys.specs.expire_told.specs.call_deeds.proofs.Ran.{AreLater}
 use Rattle.attempts_told.specs.call_whys.specs.expire_told.specs.call_deeds.proofs.Told.{task_at}
-use Rattle.attempts_told.specs.call_whys.specs.expire_told.specs.report_fits.proofs.Lists.{has_from, has_none}
+use Rattle.attempts_told.specs.call_whys.specs.expire_told.specs.Below.report_fits.proofs.Lists.{has_from, has_none}
 use Rattle.attempts_told.specs.call_whys.specs.expire_told.specs.Said.{AreSaid}
-use Rattle.attempts_told.specs.call_whys.specs.expire_told.specs.sock_deeds.specs.Runs.{IsOperation, seat_of, DeedRun}
-use Rattle.attempts_told.specs.call_whys.specs.expire_told.specs.sock_deeds.proofs.Accepting.{log}
-use Rattle.attempts_told.specs.call_whys.specs.expire_told.specs.sock_deeds.proofs.Orders.{orders}
-use Rattle.attempts_told.specs.call_whys.specs.expire_told.specs.sock_deeds.proofs.Tasks.{same_task}
-use Rattle.attempts_told.specs.call_whys.specs.expire_told.specs.sock_deeds.proofs.Whole.{fixed, log_accepted}
+use Rattle.attempts_told.specs.call_whys.specs.expire_told.specs.Below.sock_deeds.specs.Runs.{IsOperation, seat_of, DeedRun}
+use Rattle.attempts_told.specs.call_whys.specs.expire_told.specs.Below.sock_deeds.proofs.Accepting.{log}
+use Rattle.attempts_told.specs.call_whys.specs.expire_told.specs.Below.sock_deeds.proofs.Orders.{orders}
+use Rattle.attempts_told.specs.call_whys.specs.expire_told.specs.Below.sock_deeds.proofs.Tasks.{same_task}
+use Rattle.attempts_told.specs.call_whys.specs.expire_told.specs.Below.sock_deeds.proofs.Whole.{fixed, log_accepted}
 use Rattle.attempts_told.specs.Attempts.{last_attempt}
 use Rattle.attempts_told.proofs.Last.{IsReached, one_reached, none_further}
 use Rattle.attempts_told.proofs.RetriedLast.{WentFor, last_went}
@@ -75,7 +75,7 @@ use Rattle.failed_told.proofs.Premises.{asked_so as asked_here}
 use Rattle.failed_told.proofs.Single.{laws, IsAttemptOf, at_first, again_id, again_attempt, first_id}
 use Rattle.failed_told.proofs.Standing.{may_be_on, lost_on}
 use Rattle.failed_told.proofs.Unopened.{unopened_why}
-use Rattle.attempts_told.specs.call_whys.specs.expire_told.specs.sock_deeds.proofs.Places.{map_back}
+use Rattle.attempts_told.specs.call_whys.specs.expire_told.specs.Below.sock_deeds.proofs.Places.{map_back}
 
 -- ## Of deeds
 

@@ -17,8 +17,8 @@ use Rattle.sock_words.specs.declared.socket_id.SocketId.{SocketId}
 use Rattle.sock_words.specs.declared.outcome.Outcome.{Outcome}
 use Rattle.sock_words.specs.declared.outcome.Outcome.TheVariants as outcome
 use Rattle.sock_model.specs.declared.view.View as sock_view
-use Rattle.attempts_told.specs.call_whys.specs.expire_told.specs.sock_rule.specs.declared.homes.Letter.{Letter}
-use Rattle.attempts_told.specs.call_whys.specs.expire_told.specs.sock_table.specs.declared.refs.SockRef.{SockRef}
+use Rattle.attempts_told.specs.call_whys.specs.expire_told.specs.Below.sock_rule.specs.declared.homes.Letter.{Letter}
+use Rattle.attempts_told.specs.call_whys.specs.expire_told.specs.Below.sock_table.specs.declared.refs.SockRef.{SockRef}
 use Rattle.seat_programs.specs.declared.task.Op.{Op}
 use Rattle.seat_programs.specs.declared.task.Op.TheVariants as ops
 use Rattle.seat_programs.specs.declared.task.Task.{Task}
@@ -40,38 +40,38 @@ use Rattle.corr_id.specs.Calls.{is_saw, slot_of, version_of, error_in, one, Did,
 use Rattle.corr_id.specs.Posts.{PostOk}
 use Rattle.corr_id.specs.Unlocks.{UnlockOk}
 use Rattle.corr_id.specs.declared.unlocks.Unlocked.TheVariants as unlocked
-use Rattle.attempts_told.specs.call_whys.specs.expire_told.specs.call_errors.specs.declared.retries.Retry.{Retry}
-use Rattle.attempts_told.specs.call_whys.specs.expire_told.specs.call_errors.specs.Books.{Books, CallStand, stand_of, starving, keeping, Tells, told, lost}
-use Rattle.attempts_told.specs.call_whys.specs.expire_told.specs.call_errors.specs.Ending.{EndedWith, failed}
-use Rattle.attempts_told.specs.call_whys.specs.expire_told.specs.call_errors.specs.Handling.{Decided, decision}
-use Rattle.attempts_told.specs.call_whys.specs.expire_told.specs.call_errors.specs.Handling as handling
-use Rattle.attempts_told.specs.call_whys.specs.expire_told.specs.call_errors.specs.Posting.{Handled, PostedBy}
-use Rattle.attempts_told.specs.call_whys.specs.expire_told.specs.call_errors.specs.Asking.{found_id, outcome_by, TimedOut, ExpiredBy, JoinedBy}
-use Rattle.attempts_told.specs.call_whys.specs.expire_told.specs.call_writes.specs.Draining.{ToldDrop, of_send, of_call, DroppedOne, DroppedAll, Drained}
-use Rattle.attempts_told.specs.call_whys.specs.expire_told.specs.call_writes.specs.Draining as draining
-use Rattle.attempts_told.specs.call_whys.specs.expire_told.specs.call_writes.specs.Sending.{DeliveredCalling, SentCalling}
-use Rattle.attempts_told.specs.call_whys.specs.expire_told.specs.call_attempts.specs.declared.calling.Called.TheVariants as called
-use Rattle.attempts_told.specs.call_whys.specs.expire_told.specs.call_attempts.specs.Both.{Both}
-use Rattle.attempts_told.specs.call_whys.specs.expire_told.specs.call_attempts.specs.Attempting.{code_for, DeliveredBy, went_out, came_back, AttemptedBy, nowhere, over_link}
-use Rattle.attempts_told.specs.call_whys.specs.expire_told.specs.call_attempts.specs.Calling.{CalledBy}
-use Rattle.attempts_told.specs.call_whys.specs.expire_told.specs.call_attempts.specs.Retrying.{without_oldest, WentTo, stray, unopened, to_socket, Locked, RetriedBy, had_ended, overtaken, went_again, Retried, none_yet, one_more}
-use Rattle.attempts_told.specs.call_whys.specs.expire_told.specs.call_client.specs.declared.caller.Caller.{Caller}
-use Rattle.attempts_told.specs.call_whys.specs.expire_told.specs.call_client.specs.Acting.{Stand, stand, both_of, letter_of, Acted}
-use Rattle.attempts_told.specs.call_whys.specs.expire_told.specs.call_client.specs.Running.{Course, Ran, begins, RunBy}
-use Rattle.attempts_told.specs.call_whys.specs.expire_told.specs.rpc_client.specs.declared.acting.Told.{Told}
+use Rattle.attempts_told.specs.call_whys.specs.expire_told.specs.Below.call_errors.specs.declared.retries.Retry.{Retry}
+use Rattle.attempts_told.specs.call_whys.specs.expire_told.specs.Below.call_errors.specs.Books.{Books, CallStand, stand_of, starving, keeping, Tells, told, lost}
+use Rattle.attempts_told.specs.call_whys.specs.expire_told.specs.Below.call_errors.specs.Ending.{EndedWith, failed}
+use Rattle.attempts_told.specs.call_whys.specs.expire_told.specs.Below.call_errors.specs.Handling.{Decided, decision}
+use Rattle.attempts_told.specs.call_whys.specs.expire_told.specs.Below.call_errors.specs.Handling as handling
+use Rattle.attempts_told.specs.call_whys.specs.expire_told.specs.Below.call_errors.specs.Posting.{Handled, PostedBy}
+use Rattle.attempts_told.specs.call_whys.specs.expire_told.specs.Below.call_errors.specs.Asking.{found_id, outcome_by, TimedOut, ExpiredBy, JoinedBy}
+use Rattle.attempts_told.specs.call_whys.specs.expire_told.specs.Below.call_writes.specs.Draining.{ToldDrop, of_send, of_call, DroppedOne, DroppedAll, Drained}
+use Rattle.attempts_told.specs.call_whys.specs.expire_told.specs.Below.call_writes.specs.Draining as draining
+use Rattle.attempts_told.specs.call_whys.specs.expire_told.specs.Below.call_writes.specs.Sending.{DeliveredCalling, SentCalling}
+use Rattle.attempts_told.specs.call_whys.specs.expire_told.specs.Below.call_attempts.specs.declared.calling.Called.TheVariants as called
+use Rattle.attempts_told.specs.call_whys.specs.expire_told.specs.Below.call_attempts.specs.Both.{Both}
+use Rattle.attempts_told.specs.call_whys.specs.expire_told.specs.Below.call_attempts.specs.Attempting.{code_for, DeliveredBy, went_out, came_back, AttemptedBy, nowhere, over_link}
+use Rattle.attempts_told.specs.call_whys.specs.expire_told.specs.Below.call_attempts.specs.Calling.{CalledBy}
+use Rattle.attempts_told.specs.call_whys.specs.expire_told.specs.Below.call_attempts.specs.Retrying.{without_oldest, WentTo, stray, unopened, to_socket, Locked, RetriedBy, had_ended, overtaken, went_again, Retried, none_yet, one_more}
+use Rattle.attempts_told.specs.call_whys.specs.expire_told.specs.Below.call_client.specs.declared.caller.Caller.{Caller}
+use Rattle.attempts_told.specs.call_whys.specs.expire_told.specs.Below.call_client.specs.Acting.{Stand, stand, both_of, letter_of, Acted}
+use Rattle.attempts_told.specs.call_whys.specs.expire_told.specs.Below.call_client.specs.Running.{Course, Ran, begins, RunBy}
+use Rattle.attempts_told.specs.call_whys.specs.expire_told.specs.Below.rpc_client.specs.declared.acting.Told.{Told}
 use Rattle.attempts_told.specs.call_whys.specs.expire_told.specs.call_places.specs.Deeds.{Deed, operates, retries, retries_of, ran_deeds}
 use Rattle.attempts_told.specs.call_whys.specs.expire_told.specs.call_places.proofs.Still.{attempt_silent}
-use Rattle.attempts_told.specs.call_whys.specs.expire_told.specs.call_client.proofs.Telling.{did_total, none_of_one}
+use Rattle.attempts_told.specs.call_whys.specs.expire_told.specs.Below.call_client.proofs.Telling.{did_total, none_of_one}
 use Rattle.attempts_told.specs.call_whys.specs.expire_told.specs.call_told.specs.Least.{is_made_for, is_locked_for}
 use Rattle.attempts_told.specs.call_whys.specs.expire_told.specs.call_told.proofs.Ends.{made_silent, counted_here, HasLocked, got_locked}
 use Rattle.attempts_told.specs.call_whys.specs.expire_told.specs.call_told.proofs.Lists.{all_both, all_then}
 use Rattle.attempts_told.specs.call_whys.specs.expire_told.specs.call_told.proofs.Resting.{is_word}
 use Rattle.attempts_told.specs.call_whys.specs.expire_told.specs.call_told.proofs.Runs.{none_left}
-use Rattle.attempts_told.specs.call_whys.specs.expire_told.specs.sock_deeds.proofs.Flats.{append_first, append_later}
-use Rattle.attempts_told.specs.call_whys.specs.expire_told.specs.sock_deeds.proofs.Growing.{stays, returned_grew}
-use Rattle.attempts_told.specs.call_whys.specs.expire_told.specs.rpc_client.specs.Running.{telling}
+use Rattle.attempts_told.specs.call_whys.specs.expire_told.specs.Below.sock_deeds.proofs.Flats.{append_first, append_later}
+use Rattle.attempts_told.specs.call_whys.specs.expire_told.specs.Below.sock_deeds.proofs.Growing.{stays, returned_grew}
+use Rattle.attempts_told.specs.call_whys.specs.expire_told.specs.Below.rpc_client.specs.Running.{telling}
 use Rattle.call_table.specs.declared.errors.Decision.TheVariants as decisions
-use Rattle.attempts_told.specs.call_whys.specs.expire_told.specs.call_errors.specs.Locking.{id_in}
+use Rattle.attempts_told.specs.call_whys.specs.expire_told.specs.Below.call_errors.specs.Locking.{id_in}
 use Rattle.failed_told.specs.Reasons.{Counts, StillHas, IsBehind, WasDropped, Reason, timed_out, missed, dropped, QueuedFor, AdvancedFor, Origin, posted_so, handed_out, IsSeen, Cause, IsCaused}
 use Rattle.failed_told.specs.Missed.{delivery_missed, attempt_missed, went_missed, retry_missed, acted_missed, acted_id, IsMadeBy, IsBacked, socks_behind}
 use Rattle.failed_told.proofs.Keeping.{still_as, still_then, wrote_still, drop_still}

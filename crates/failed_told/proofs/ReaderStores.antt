@@ -25,28 +25,28 @@ use Rattle.sock_model.specs.Marks.{about, at}
 use Rattle.sock_model.specs.Seats.{newcomer}
 use Rattle.sock_model.specs.SlotRows.{marks_of}
 use Rattle.sock_model.specs.Weights.{is_stored, pair, total}
-use Rattle.attempts_told.specs.call_whys.specs.expire_told.specs.sock_rule.specs.slot_steps.proofs.Numbers.{pair_is}
-use Rattle.attempts_told.specs.call_whys.specs.expire_told.specs.sock_rule.specs.slot_steps.proofs.Sums.{about-here, about-other}
-use Rattle.attempts_told.specs.call_whys.specs.expire_told.specs.sock_rule.specs.Becoming.{Became}
-use Rattle.attempts_told.specs.call_whys.specs.expire_told.specs.sock_rule.specs.declared.homes.SockHome.{SockHome}
+use Rattle.attempts_told.specs.call_whys.specs.expire_told.specs.Below.sock_rule.specs.slot_steps.proofs.Numbers.{pair_is}
+use Rattle.attempts_told.specs.call_whys.specs.expire_told.specs.Below.sock_rule.specs.slot_steps.proofs.Sums.{about-here, about-other}
+use Rattle.attempts_told.specs.call_whys.specs.expire_told.specs.Below.sock_rule.specs.Becoming.{Became}
+use Rattle.attempts_told.specs.call_whys.specs.expire_told.specs.Below.sock_rule.specs.declared.homes.SockHome.{SockHome}
 use Rattle.seat_programs.specs.declared.task.Op.TheVariants as ops
 use Rattle.seat_programs.specs.declared.task.Task.{Task}
-use Rattle.attempts_told.specs.call_whys.specs.expire_told.specs.sock_table.specs.Answers.{Held, GoneFrom}
-use Rattle.attempts_told.specs.call_whys.specs.expire_told.specs.sock_table.specs.Refs.{EndedBy, retired}
+use Rattle.attempts_told.specs.call_whys.specs.expire_told.specs.Below.sock_table.specs.Answers.{Held, GoneFrom}
+use Rattle.attempts_told.specs.call_whys.specs.expire_told.specs.Below.sock_table.specs.Refs.{EndedBy, retired}
 use Rattle.corr_core.specs.declared.marks.Plan.{Plan}
-use Rattle.attempts_told.specs.call_whys.specs.expire_told.specs.rpc_client.specs.Failing.{SetBy}
-use Rattle.attempts_told.specs.call_whys.specs.expire_told.specs.rpc_client.specs.Sending.{Returned}
-use Rattle.attempts_told.specs.call_whys.specs.expire_told.specs.call_deeds.specs.rpc_reader.specs.Books.{Books}
-use Rattle.attempts_told.specs.call_whys.specs.expire_told.specs.call_deeds.specs.rpc_reader.specs.Failing.{OpenedBy, SetOnce}
-use Rattle.attempts_told.specs.call_whys.specs.expire_told.specs.call_deeds.specs.rpc_reader.specs.Reading as reading
-use Rattle.attempts_told.specs.call_whys.specs.expire_told.specs.call_deeds.specs.rpc_reader.specs.Running.{fails, FailedIf, ReadIf}
-use Rattle.attempts_told.specs.call_whys.specs.expire_told.specs.call_run.specs.Readers.{LinkReader, nothing_read, IsReader}
-use Rattle.attempts_told.specs.call_whys.specs.expire_told.specs.sock_deeds.specs.Runs.{IsOperation, seat_of, sits_of, DeedRun}
-use Rattle.attempts_told.specs.call_whys.specs.expire_told.specs.sock_deeds.proofs.Growing.{HasFound}
-use Rattle.attempts_told.specs.call_whys.specs.expire_told.specs.sock_deeds.proofs.Tasks.{same_task}
-use Rattle.attempts_told.specs.call_whys.specs.expire_told.specs.sock_deeds.proofs.DropCodes.{StoredByReader, first_found}
+use Rattle.attempts_told.specs.call_whys.specs.expire_told.specs.Below.rpc_client.specs.Failing.{SetBy}
+use Rattle.attempts_told.specs.call_whys.specs.expire_told.specs.Below.rpc_client.specs.Sending.{Returned}
+use Rattle.attempts_told.specs.call_whys.specs.expire_told.specs.call_deeds.specs.Below.rpc_reader.specs.Books.{Books}
+use Rattle.attempts_told.specs.call_whys.specs.expire_told.specs.call_deeds.specs.Below.rpc_reader.specs.Failing.{OpenedBy, SetOnce}
+use Rattle.attempts_told.specs.call_whys.specs.expire_told.specs.call_deeds.specs.Below.rpc_reader.specs.Reading as reading
+use Rattle.attempts_told.specs.call_whys.specs.expire_told.specs.call_deeds.specs.Below.rpc_reader.specs.Running.{fails, FailedIf, ReadIf}
+use Rattle.attempts_told.specs.call_whys.specs.expire_told.specs.Below.call_run.specs.Readers.{LinkReader, nothing_read, IsReader}
+use Rattle.attempts_told.specs.call_whys.specs.expire_told.specs.Below.sock_deeds.specs.Runs.{IsOperation, seat_of, sits_of, DeedRun}
+use Rattle.attempts_told.specs.call_whys.specs.expire_told.specs.Below.sock_deeds.proofs.Growing.{HasFound}
+use Rattle.attempts_told.specs.call_whys.specs.expire_told.specs.Below.sock_deeds.proofs.Tasks.{same_task}
+use Rattle.attempts_told.specs.call_whys.specs.expire_told.specs.Below.sock_deeds.proofs.DropCodes.{StoredByReader, first_found}
 use Rattle.failed_told.proofs.Ends.{EndedIf, ReadEnded}
-use Rattle.attempts_told.specs.call_whys.specs.expire_told.specs.sock_deeds.proofs.Places.{map_back, map_there}
+use Rattle.attempts_told.specs.call_whys.specs.expire_told.specs.Below.sock_deeds.proofs.Places.{map_back, map_there}
 
 -- ## Notes that are no codes
 

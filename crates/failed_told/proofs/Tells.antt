@@ -19,15 +19,15 @@ use Rattle.corr_id.specs.declared.posts.Posted.{Posted}
 use Rattle.corr_id.specs.declared.posts.Posted.TheVariants.{Locked as HasLock, Queued as IsQueued, Gone, Stale, Crowded}
 use Rattle.corr_id.specs.Calls.{is_saw, slot_of, Found, GotLock}
 use Rattle.corr_id.specs.Posts.{IsTimely, PostOk}
-use Rattle.attempts_told.specs.call_whys.specs.expire_told.specs.call_run.specs.prpc_frame.specs.Meaning.{frame_of}
-use Rattle.attempts_told.specs.call_whys.specs.expire_told.specs.call_run.specs.prpc_frame.specs.declared.frame.Frame.{Frame}
+use Rattle.attempts_told.specs.call_whys.specs.expire_told.specs.Below.call_run.specs.rpc_reader.specs.prpc_frame.specs.Meaning.{frame_of}
+use Rattle.attempts_told.specs.call_whys.specs.expire_told.specs.Below.call_run.specs.rpc_reader.specs.prpc_frame.specs.declared.frame.Frame.{Frame}
 use Rattle.call_table.specs.Responses.{ending_of, is_early}
-use Rattle.attempts_told.specs.call_whys.specs.expire_told.specs.rpc_client.specs.declared.acting.Told.{Told}
-use Rattle.attempts_told.specs.call_whys.specs.expire_told.specs.call_deeds.specs.rpc_reader.specs.Books.{Books, EndedAs, ToldBy, id_of}
-use Rattle.attempts_told.specs.call_whys.specs.expire_told.specs.call_deeds.specs.rpc_reader.specs.Met.{has_response, slot_in, version_in, is_asked, is_for, AnsweredBy, LackedBy, KeptIf, MetIf, FrameMet, FramesMet}
-use Rattle.attempts_told.specs.call_whys.specs.expire_told.specs.call_deeds.specs.rpc_reader.specs.Posting.{LostBy, LockLost, PostedTo, MetKept, PostedIf, PostedAt, PostedAll, call_at, attempt_at}
-use Rattle.attempts_told.specs.call_whys.specs.expire_told.specs.call_deeds.specs.rpc_reader.specs.Resting.{HadEnded, EndedLast, OneEnded, RestEnded}
-use Rattle.attempts_told.specs.call_whys.specs.expire_told.specs.call_deeds.specs.rpc_reader.proofs.Frames.{asked_responds}
+use Rattle.attempts_told.specs.call_whys.specs.expire_told.specs.Below.rpc_client.specs.declared.acting.Told.{Told}
+use Rattle.attempts_told.specs.call_whys.specs.expire_told.specs.call_deeds.specs.Below.rpc_reader.specs.Books.{Books, EndedAs, ToldBy, id_of}
+use Rattle.attempts_told.specs.call_whys.specs.expire_told.specs.call_deeds.specs.Below.rpc_reader.specs.Met.{has_response, slot_in, version_in, is_asked, is_for, AnsweredBy, LackedBy, KeptIf, MetIf, FrameMet, FramesMet}
+use Rattle.attempts_told.specs.call_whys.specs.expire_told.specs.call_deeds.specs.Below.rpc_reader.specs.Posting.{LostBy, LockLost, PostedTo, MetKept, PostedIf, PostedAt, PostedAll, call_at, attempt_at}
+use Rattle.attempts_told.specs.call_whys.specs.expire_told.specs.call_deeds.specs.Below.rpc_reader.specs.Resting.{HadEnded, EndedLast, OneEnded, RestEnded}
+use Rattle.attempts_told.specs.call_whys.specs.expire_told.specs.call_deeds.specs.Below.rpc_reader.proofs.Frames.{asked_responds}
 use Rattle.attempts_told.specs.call_whys.specs.expire_told.specs.call_told.specs.Answers.{IsGiven, AreGiven, IsGivenResponse}
 use Rattle.attempts_told.specs.call_whys.specs.expire_told.specs.call_told.specs.Least.{is_locked_for}
 use Rattle.attempts_told.specs.call_whys.specs.expire_told.specs.call_told.proofs.Ends.{HasLocked, got_locked}

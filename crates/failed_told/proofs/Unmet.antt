@@ -20,14 +20,14 @@ use Rattle.corr_core.specs.declared.marks.View.{View}
 use Rattle.id_rule.specs.Lawful.{notes_of}
 use Rattle.corr_id.specs.Closing.{Closing}
 use Rattle.sock_message.specs.Asked.{Asked}
-use Rattle.attempts_told.specs.call_whys.specs.expire_told.specs.call_run.specs.prpc_frame.specs.declared.frame.Frame.{Frame}
-use Rattle.attempts_told.specs.call_whys.specs.expire_told.specs.rpc_client.specs.declared.acting.Told.{Told}
-use Rattle.attempts_told.specs.call_whys.specs.expire_told.specs.call_deeds.specs.rpc_reader.specs.Books.{Books}
-use Rattle.attempts_told.specs.call_whys.specs.expire_told.specs.call_deeds.specs.rpc_reader.specs.Met.{is_asked}
-use Rattle.attempts_told.specs.call_whys.specs.expire_told.specs.call_deeds.specs.rpc_reader.specs.Reading as reading
-use Rattle.attempts_told.specs.call_whys.specs.expire_told.specs.call_deeds.specs.rpc_reader.specs.Running.{ReadLink, ReadIf}
-use Rattle.attempts_told.specs.call_whys.specs.expire_told.specs.call_run.specs.Readers.{LinkReader, nothing_read, IsReader}
-use Rattle.attempts_told.specs.call_whys.specs.expire_told.specs.call_deeds.specs.rpc_reader.specs.Resting.{RestEnded}
+use Rattle.attempts_told.specs.call_whys.specs.expire_told.specs.Below.call_run.specs.rpc_reader.specs.prpc_frame.specs.declared.frame.Frame.{Frame}
+use Rattle.attempts_told.specs.call_whys.specs.expire_told.specs.Below.rpc_client.specs.declared.acting.Told.{Told}
+use Rattle.attempts_told.specs.call_whys.specs.expire_told.specs.call_deeds.specs.Below.rpc_reader.specs.Books.{Books}
+use Rattle.attempts_told.specs.call_whys.specs.expire_told.specs.call_deeds.specs.Below.rpc_reader.specs.Met.{is_asked}
+use Rattle.attempts_told.specs.call_whys.specs.expire_told.specs.call_deeds.specs.Below.rpc_reader.specs.Reading as reading
+use Rattle.attempts_told.specs.call_whys.specs.expire_told.specs.call_deeds.specs.Below.rpc_reader.specs.Running.{ReadLink, ReadIf}
+use Rattle.attempts_told.specs.call_whys.specs.expire_told.specs.Below.call_run.specs.Readers.{LinkReader, nothing_read, IsReader}
+use Rattle.attempts_told.specs.call_whys.specs.expire_told.specs.call_deeds.specs.Below.rpc_reader.specs.Resting.{RestEnded}
 use Rattle.attempts_told.specs.call_whys.specs.expire_told.specs.call_told.proofs.MetFrames.{Responds, end_unanswered, wait_unanswered}
 use Rattle.attempts_told.specs.call_whys.specs.expire_told.specs.call_told.proofs.Readers.{AllRead, link_read, if_bytes, reader_gave, readers_gave}
 use Rattle.attempts_told.specs.call_whys.specs.expire_told.specs.call_told.proofs.Responses.{NotesGrow, met_in}

@@ -16,7 +16,7 @@ use Rattle.sock_words.specs.declared.place_word.PlaceWord.{PlaceWord}
 use Rattle.sock_words.specs.declared.vref.Vref.{Vref}
 use Rattle.sock_model.specs.declared.view.View as sock_view
 use Rattle.sock_model.specs.Layout.{name_index}
-use Rattle.attempts_told.specs.call_whys.specs.expire_told.specs.sock_table.specs.Named.{Found}
+use Rattle.attempts_told.specs.call_whys.specs.expire_told.specs.Below.sock_table.specs.Named.{Found}
 use Rattle.seat_programs.specs.declared.task.Op.{Op}
 use Rattle.seat_programs.specs.declared.task.Op.TheVariants as ops
 use Rattle.seat_programs.specs.declared.task.Task.{Task}
@@ -35,14 +35,14 @@ use Rattle.sock_message.specs.Asked.{Asked, name_of}
 use Rattle.corr_id.specs.declared.calls.IdLock.{IdLock}
 use Rattle.corr_id.specs.Calls.{is_saw, slot_of, version_of}
 use Rattle.corr_id.specs.Closing.{Closing}
-use Rattle.attempts_told.specs.call_whys.specs.expire_told.specs.rpc_client.specs.declared.acting.Told.{Told}
-use Rattle.attempts_told.specs.call_whys.specs.expire_told.specs.call_errors.specs.declared.retries.Retry.{Retry}
-use Rattle.attempts_told.specs.call_whys.specs.expire_told.specs.call_attempts.specs.Both.{Both}
-use Rattle.attempts_told.specs.call_whys.specs.expire_told.specs.call_attempts.specs.Calling.{BegunAs}
-use Rattle.attempts_told.specs.call_whys.specs.expire_told.specs.call_attempts.specs.Retrying.{Locked, WentAgain, had_ended, overtaken, went_again}
-use Rattle.attempts_told.specs.call_whys.specs.expire_told.specs.call_client.specs.Acting.{Stand, both_of, Acted}
-use Rattle.attempts_told.specs.call_whys.specs.expire_told.specs.call_run.specs.Readers.{LinkReader}
-use Rattle.attempts_told.specs.call_whys.specs.expire_told.specs.call_run.specs.Threads.{Thread, RanWith, MayRunAll, ids_of, opens_of, opened_names, openings}
+use Rattle.attempts_told.specs.call_whys.specs.expire_told.specs.Below.rpc_client.specs.declared.acting.Told.{Told}
+use Rattle.attempts_told.specs.call_whys.specs.expire_told.specs.Below.call_errors.specs.declared.retries.Retry.{Retry}
+use Rattle.attempts_told.specs.call_whys.specs.expire_told.specs.Below.call_attempts.specs.Both.{Both}
+use Rattle.attempts_told.specs.call_whys.specs.expire_told.specs.Below.call_attempts.specs.Calling.{BegunAs}
+use Rattle.attempts_told.specs.call_whys.specs.expire_told.specs.Below.call_attempts.specs.Retrying.{Locked, WentAgain, had_ended, overtaken, went_again}
+use Rattle.attempts_told.specs.call_whys.specs.expire_told.specs.Below.call_client.specs.Acting.{Stand, both_of, Acted}
+use Rattle.attempts_told.specs.call_whys.specs.expire_told.specs.Below.call_run.specs.Readers.{LinkReader}
+use Rattle.attempts_told.specs.call_whys.specs.expire_told.specs.Below.call_run.specs.Threads.{Thread, RanWith, MayRunAll, ids_of, opens_of, opened_names, openings}
 use Rattle.attempts_told.specs.call_whys.specs.expire_told.specs.call_places.specs.Counted.{makes, HaveNotesOf}
 use Rattle.attempts_told.specs.call_whys.specs.expire_told.specs.call_places.specs.Deeds.{Deed, operates, retries}
 use Rattle.attempts_told.specs.call_whys.specs.expire_told.specs.call_places.proofs.Still.{again_still}
@@ -55,11 +55,11 @@ use Rattle.attempts_told.specs.call_whys.specs.expire_told.specs.call_told.proof
 use Rattle.attempts_told.specs.call_whys.specs.expire_told.specs.call_deeds.proofs.Ran.{Result}
 use Rattle.attempts_told.specs.call_whys.specs.expire_told.specs.call_deeds.proofs.Runs.{opened_there, names_there, same_task}
 use Rattle.attempts_told.specs.call_whys.specs.expire_told.specs.call_deeds.proofs.Told.{all_results, told_by, task_at, result_of, said_at, open_said}
-use Rattle.attempts_told.specs.call_whys.specs.expire_told.specs.outcome_causes.proofs.Seats.{Less}
-use Rattle.attempts_told.specs.call_whys.specs.expire_told.specs.outcome_causes.proofs.Tasks.{sorted_of}
-use Rattle.attempts_told.specs.call_whys.specs.expire_told.specs.sock_deeds.specs.Runs.{IsOperation}
-use Rattle.attempts_told.specs.call_whys.specs.expire_told.specs.sock_deeds.proofs.Names.{SeenBy}
-use Rattle.attempts_told.specs.call_whys.specs.expire_told.specs.sock_deeds.proofs.Places.{place_low, map_back, map_there}
+use Rattle.attempts_told.specs.call_whys.specs.expire_told.specs.Below.outcome_causes.proofs.Seats.{Less}
+use Rattle.attempts_told.specs.call_whys.specs.expire_told.specs.Below.outcome_causes.proofs.Tasks.{sorted_of}
+use Rattle.attempts_told.specs.call_whys.specs.expire_told.specs.Below.sock_deeds.specs.Runs.{IsOperation}
+use Rattle.attempts_told.specs.call_whys.specs.expire_told.specs.Below.sock_deeds.proofs.Names.{SeenBy}
+use Rattle.attempts_told.specs.call_whys.specs.expire_told.specs.Below.sock_deeds.proofs.Places.{place_low, map_back, map_there}
 use Rattle.attempts_told.specs.call_whys.specs.expire_told.specs.Said.{AreSaid}
 use Rattle.attempts_told.specs.call_whys.specs.expire_told.specs.call_told.proofs.Coming.{made_begun as begun_made}
 use Rattle.failed_told.specs.Missed.{missed_in, attempt_of, socks_behind}

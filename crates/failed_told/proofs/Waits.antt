@@ -17,11 +17,11 @@ use Rattle.corr_id.specs.declared.posts.Posted.{Posted}
 use Rattle.corr_id.specs.declared.posts.Posted.TheVariants.{Locked as HasLock, Queued as IsQueued, Gone, Stale, Crowded}
 use Rattle.corr_id.specs.Calls.{is_saw, slot_of, version_of, error_in, one, Found, HasId}
 use Rattle.corr_id.specs.Posts.{PostOk}
-use Rattle.attempts_told.specs.call_whys.specs.expire_told.specs.call_run.specs.prpc_frame.specs.declared.frame.Frame.{Frame}
-use Rattle.attempts_told.specs.call_whys.specs.expire_told.specs.call_client.proofs.Telling.{did_total}
-use Rattle.attempts_told.specs.call_whys.specs.expire_told.specs.call_deeds.specs.rpc_reader.specs.Books.{Books}
-use Rattle.attempts_told.specs.call_whys.specs.expire_told.specs.call_deeds.specs.rpc_reader.specs.Met.{is_asked, is_for}
-use Rattle.attempts_told.specs.call_whys.specs.expire_told.specs.call_deeds.specs.rpc_reader.specs.Posting.{KeptNone, PostedIf, PostedAt, PostedAll, call_at, attempt_at}
+use Rattle.attempts_told.specs.call_whys.specs.expire_told.specs.Below.call_run.specs.rpc_reader.specs.prpc_frame.specs.declared.frame.Frame.{Frame}
+use Rattle.attempts_told.specs.call_whys.specs.expire_told.specs.Below.call_client.proofs.Telling.{did_total}
+use Rattle.attempts_told.specs.call_whys.specs.expire_told.specs.call_deeds.specs.Below.rpc_reader.specs.Books.{Books}
+use Rattle.attempts_told.specs.call_whys.specs.expire_told.specs.call_deeds.specs.Below.rpc_reader.specs.Met.{is_asked, is_for}
+use Rattle.attempts_told.specs.call_whys.specs.expire_told.specs.call_deeds.specs.Below.rpc_reader.specs.Posting.{KeptNone, PostedIf, PostedAt, PostedAll, call_at, attempt_at}
 use Rattle.attempts_told.specs.call_whys.specs.expire_told.specs.call_told.proofs.Responses.{HasEnded, ended_still, goes_view, same_notes, posted_goes, all_goes, queued_met}
 use Rattle.attempts_told.specs.call_whys.specs.expire_told.specs.call_told.proofs.Unanswered.{AllMet, all_met}
 use Rattle.failed_told.proofs.Posts.{books_stay, again_stays, posted_stays}

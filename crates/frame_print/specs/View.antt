@@ -3,12 +3,12 @@ use Rattle.std.specs.Prelude.{ℕ, List}
 use Rattle.brpc_model.specs.Frame.{Frame}
 use Rattle.prpc_frame.specs.View.{viewed}
 use Rattle.frame_print.specs.declared.view.BytesView.{BytesView}
-use Rattle.frame_print.specs.declared.view.BytesView.TheVariants.{Piece, Blocks}
+use Rattle.frame_print.specs.declared.view.BytesView.TheVariants.{Slice, Blocks}
 use Rattle.frame_print.specs.declared.view.FrameView.{FrameView}
 
 -- the bytes
 abbrev pub bytes_viewed : BytesView → List ℕ
-bytes_viewed (Piece bytes) = bytes.now
+bytes_viewed (Slice bytes) = bytes.now
 bytes_viewed (Blocks buf) = buf.now.items
 
 -- the frame

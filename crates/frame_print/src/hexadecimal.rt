@@ -31,7 +31,7 @@ pub fn print_bytes<K: Sink>(out: &mut K, bytes: BytesView) -> Result<(), Failed>
     ensures { Writes (K.contents out.old) (K.contents out.new) (K.faults out.old) (K.faults out.new) (hex_text (bytes_viewed bytes.entry)) result }
 {
     match bytes {
-        BytesView::Piece(bytes) => print_hex(out, bytes),
+        BytesView::Slice(bytes) => print_hex(out, bytes),
         BytesView::Blocks(buf) => print_buffer(out, buf),
     }
 }

@@ -10,7 +10,7 @@ use prpc_frame::{Frame, FrontFrame, MetaView};
 #[derive(Clone, Copy)]
 pub enum BytesView<'a> {
     /// In one piece.
-    Piece(&'a [u8]),
+    Slice(&'a [u8]),
     /// In blocks.
     Blocks(&'a IoBuf),
 }
@@ -21,7 +21,7 @@ impl BytesView<'_> {
         ensures { result ≡ length (bytes_viewed self.entry) }
     {
         match self {
-            BytesView::Piece(bytes) => bytes.len(),
+            BytesView::Slice(bytes) => bytes.len(),
             BytesView::Blocks(buf) => buf.len(),
         }
     }
@@ -59,7 +59,7 @@ pub fn front_view(frame: FrontFrame<'_>) -> FrameView<'_>
 {
     FrameView {
         meta: frame.meta,
-        payload: BytesView::Piece(frame.payload),
-        attachment: BytesView::Piece(frame.attachment),
+        payload: BytesView::Slice(frame.payload),
+        attachment: BytesView::Slice(frame.attachment),
     }
 }

@@ -31,7 +31,7 @@ use Rattle.sock_runs.proofs.LinkTicks.{RetriesGo, link_there}
 use Rattle.sock_runs.proofs.Passes.{goes_round}
 use Rattle.sock_runs.proofs.Rounds.{begins_round}
 use Rattle.sock_runs.proofs.Ticks.{sound_ticks}
-use Rattle.served_runs.specs.owed_calls.specs.Lives.{InHand}
+use Rattle.served_runs.specs.Below.owed_calls.specs.Lives.{InHand}
 use Rattle.served_runs.specs.Offered.{Lies}
 
 -- ## How many

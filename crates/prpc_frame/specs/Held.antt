@@ -2,7 +2,7 @@
 use Rattle.std.specs.Prelude.{ℕ, Bool, false, if◌then◌else◌, List, [], ◌++◌, length, refl}
 use Rattle.std.specs.Coded.{Coded, code_by, coded×, coded_list, coded_ℕ, coded_bool}
 
--- the bytes that were fed and stand in no frame that it gave, and whether it has answered their fault
+-- the bytes that were fed and neither given in a frame nor let go, and whether it has answered their fault
 pub record Held : Type 0 where
   pub bytes : List ℕ
   pub told : Bool

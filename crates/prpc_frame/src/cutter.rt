@@ -18,7 +18,7 @@ use std::alloc::Global;
 use std::marker::Model;
 
 /// Cuts frames out of a stream that is fed to it in any pieces (brpc's baidu_std.md). Contracts see
-/// the bytes that were fed and not yet given, and whether it has answered their fault.
+/// the bytes that were fed and neither given nor let go, and whether it has answered their fault.
 #[derive(Drop)]
 pub struct Cutter {
     held: IoBuf,
@@ -56,7 +56,7 @@ impl Cutter {
         }
     }
 
-    /// How many bytes it holds: those that were fed and stand in no frame that it gave, which are
+    /// How many bytes it holds: those that were fed and neither given in a frame nor let go, which are
     /// those of the rest where `next` answers `None`; and 0 once `next` has answered a frame's fault.
     pub fn held(&self) -> usize
         ensures { result ≡ held_count self.now }
@@ -107,7 +107,7 @@ impl Cutter {
     }
 
     /// The frame at the front, where all of it lies in one piece: it is neither copied nor shared, and stays until
-    /// `skip` lets it go. `None` says nothing of the bytes.
+    /// `skip` lets it go. `None` says nothing of the bytes, and may always be answered.
     #[inline(always)]
     pub fn front(&self) -> Option<FrontFrame<'_>>
         ensures exact { IfSome result (λ frame. LiesInFront self.now frame) }
@@ -117,7 +117,7 @@ impl Cutter {
         read_front(first_bytes(&self.held))
     }
 
-    /// Lets the first bytes go, so many.
+    /// Lets the first bytes go, so many: those of the frame at the front, where `front` showed one.
     #[inline(always)]
     pub fn skip(&mut self, size: usize)
         requires { size ≤ held_count self.old }

@@ -10,7 +10,7 @@ use pb_wire::{Field, Fields, Value, WireFault};
 
 /// Gathers the parts of the meta that these bytes are: at once where they are spelled as most are, else field by field.
 #[inline(always)]
-pub fn gather(bytes: &[u8]) -> Result<MetaParts<'_>, WireFault>
+pub fn gather_parts(bytes: &[u8]) -> Result<MetaParts<'_>, WireFault>
     ensures { parts_read result ≡ gathered_after nothing bytes.now }
 {
     match gather_straight(bytes) {

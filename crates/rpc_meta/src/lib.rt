@@ -17,7 +17,7 @@ mod write;
 
 pub use fault::MetaFault;
 pub use front::{FRONT_BYTES, Front};
-pub use gather::gather as gather_parts;
+pub use gather::gather_parts;
 pub use meta::{MetaBytes, RequestMeta, ResponseMeta, RpcMeta};
 pub use parts::{MetaParts, RequestParts, ResponseParts};
 pub use read::low_signed;

@@ -8,25 +8,35 @@ use pb_wire::{Field, Value};
 /// The last occurrences of a request's fields, so far.
 #[derive(Clone, Copy)]
 pub struct RequestParts<'a> {
+    /// The service's name, where it came.
     pub service: Option<&'a [u8]>,
+    /// The method's name, where it came.
     pub method: Option<&'a [u8]>,
+    /// An id for logs, where it came.
     pub log_id: Option<u64>,
 }
 
 /// The last occurrences of a response's fields, so far; none is 0 or empty.
 #[derive(Clone, Copy)]
 pub struct ResponseParts<'a> {
+    /// The error code, as its varint.
     pub code: u64,
+    /// The error's text.
     pub text: &'a [u8],
 }
 
 /// The parts of a meta, so far; occurrences of a request are merged, and so are those of a response.
 #[derive(Clone, Copy)]
 pub struct MetaParts<'a> {
+    /// The request, where one came.
     pub request: Option<RequestParts<'a>>,
+    /// The response, where one came.
     pub response: Option<ResponseParts<'a>>,
+    /// How the payload is compressed, as its varint.
     pub compress_type: u64,
+    /// The correlation id.
     pub correlation_id: u64,
+    /// The attachment's size, as its varint.
     pub attachment_size: u64,
 }
 

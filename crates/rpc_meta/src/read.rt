@@ -5,7 +5,7 @@ ghost use Rattle.rpc_meta.specs.Meaning.{response_of};
 ghost use Rattle.rpc_meta.specs.Parts.{names_of, outcome_of};
 
 use crate::fault::MetaFault;
-use crate::gather::gather;
+use crate::gather::gather_parts;
 use crate::meta::{MetaBytes, RequestMeta, ResponseMeta, RpcMeta};
 use crate::parts::{RequestParts, ResponseParts};
 use std::alloc::{AllocError, Global};
@@ -21,7 +21,7 @@ impl RpcMeta {
     pub fn read(alloc: Global, bytes: &[u8]) -> Result<RpcMeta, MetaFault>
         ensures { IfSome (answer result) (λ read. read ≡ read_meta bytes.now) }
     {
-        let parts = gather(bytes)?;
+        let parts = gather_parts(bytes)?;
         if parts.request.is_none() && parts.response.is_none() {
             return Err(MetaFault::Neither);
         }

@@ -74,7 +74,8 @@ pub record MetKept (slots w : ℕ) (b b' : Books) : Type 0 where
   pub there : get_elem? b.early place ≡ some frame
   pub met : FrameMet slots frame (record b { view = seen; early = remove b.early place }) b'
 
--- so the call that an at word names was seen to: by a response that was kept of it, or by the code
+-- what became of the call that an at word names: the first response that was kept of it is met again; where none was,
+-- or its id has ended, the post of the code is answered
 abbrev pub MetOrPosted : ℕ → ℕ → ℕ → Books → Books → Type 0
 MetOrPosted slots code w b b' = MetKept slots w b b' ⊎ PostedLast slots code w b b'
 

@@ -120,7 +120,7 @@ fn post_last<R: Wait>(rt: &R, ids: &IdTable<Call>, calls: &mut AnswerSeat, code:
     requires seat { IsOpen ids.now.table.shared.table_id calls.old.seat }
     requires code { (0 < code) × (code < 4096) }
     ensures rest { Rests calls.old.seat calls.new.seat }
-    ensures seen { MetOrPosted ids.now.plan.slots code word.0 (books calls.old) (books calls.new) }
+    ensures met_or_posted { MetOrPosted ids.now.plan.slots code word.0 (books calls.old) (books calls.new) }
 {
     let found = IdWord::from_word(ids.word(&mut calls.seat, id_at(word)));
     if lacks_id(found, word.first()) {

@@ -24,7 +24,7 @@ use Rattle.id_rule.specs.Lawful.{call_index}
 use Rattle.sock_message.specs.Asked.{Asked}
 use Rattle.report_fits.proofs.Lists.{all_map, all_at as all_there}
 use Rattle.rpc_client.specs.declared.acting.Told.{Told}
-use Rattle.calls_done.specs.call_whys.specs.call_errors.specs.Books.{Books}
+use Rattle.calls_done.specs.call_whys.specs.Below.call_errors.specs.Books.{Books}
 use Rattle.call_run.specs.Threads.{opens_of, openings, opened_names, Thread, IsThread, AreThreads, AllRan}
 use Rattle.calls_done.specs.call_whys.specs.call_told.proofs.Coming.{HasCome, run_come}
 use Rattle.calls_done.specs.call_whys.specs.call_told.proofs.Ends.{IsEndOf, AreEnds, IsEndIn, AreEndsIn}

@@ -12,14 +12,14 @@ use Rattle.seat_programs.specs.Scripts.{IsRunWithCalls, all_tasks, is_callless, 
 use Rattle.seat_programs.specs.Tasks.{Numbered, calls, id_plan_of, numbered}
 use Rattle.sock_runs.proofs.Along.{seat_rests}
 use Rattle.sock_runs.proofs.Whole.{rested_ahead}
-use Rattle.send_causes.specs.joint_runs.proofs.Runs.{first_views}
+use Rattle.send_causes.specs.Below.joint_runs.proofs.Runs.{first_views}
 use Rattle.report_fits.proofs.Callless.{not_later}
 use Rattle.report_fits.proofs.Lists.{Has, has_first, filter_map_has}
 use Rattle.report_fits.proofs.Numbering.{are_from, is_numbered}
 use Rattle.report_fits.proofs.TaskLemmas.{tasks_length}
 use Rattle.send_causes.proofs.Early.{start, go, fitting}
 use Rattle.send_causes.proofs.Rests as rests
-use Rattle.send_causes.specs.run_theorems.proofs.Starts.{made}
+use Rattle.send_causes.specs.Below.run_theorems.proofs.Starts.{made}
 use Rattle.script_run.proofs.Silent.{IsMute, MuteAt}
 
 -- ## No calls, and no id slot

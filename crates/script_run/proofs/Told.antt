@@ -24,13 +24,13 @@ use Rattle.send_causes.proofs.AllTold.{told_of_run, told_last}
 use Rattle.send_causes.proofs.Assembled.{fixed_in_run}
 use Rattle.run_laws.specs.programs_allowed.specs.Openings.{all_seats}
 use Rattle.run_laws.specs.programs_allowed.proofs.Fresh.{opening_fresh}
-use Rattle.send_causes.specs.joint_runs.proofs.Runs.{first_views}
-use Rattle.send_causes.specs.owed_calls.specs.Lives.{ClosesInRun}
+use Rattle.send_causes.specs.Below.joint_runs.proofs.Runs.{first_views}
+use Rattle.send_causes.specs.Below.owed_calls.specs.Lives.{ClosesInRun}
 use Rattle.report_fits.proofs.Lists.{Has, has_from, has_none}
 use Rattle.report_fits.proofs.Reading.{InRange}
 use Rattle.report_fits.proofs.Sizes.{is_counted}
 use Rattle.report_fits.proofs.Targets.{AreThere, are_there}
-use Rattle.send_causes.specs.run_theorems.proofs.Starts.{made}
+use Rattle.send_causes.specs.Below.run_theorems.proofs.Starts.{made}
 use Rattle.script_run.specs.Causes.{HasCauses, gave_in, lost_before}
 use Rattle.script_run.proofs.Callless.{plain_task, no_call, all_told}
 use Rattle.script_run.proofs.Idle.{no_calls, no_slot, clients_rest}

@@ -19,12 +19,12 @@ use Rattle.seat_programs.specs.Tasks.{plan_of, id_plan_of, opens, calls}
 use Rattle.report_fits.specs.Ends.{AreEndsOf, AreTold}
 use Rattle.run_laws.specs.Laws.{KeepsLaws}
 use Rattle.sock_io.specs.Link.{OutState, InState}
-use Rattle.send_causes.specs.owed_calls.specs.Lives.{ClosesInRun}
+use Rattle.send_causes.specs.Below.owed_calls.specs.Lives.{ClosesInRun}
 use Rattle.sock_core.specs.Links.{Taken, Given, Agrees, AgreesGave, TellClosing, IsOffering}
 use Rattle.sock_core.specs.Machines.{MachineState, core_with}
-use Rattle.send_causes.specs.run_theorems.specs.Heard.{as_told, as_taken, take_answers, heard_of, taken_of, heard_takes}
-use Rattle.send_causes.specs.run_theorems.specs.OfferedRuns.{OffersInRun}
-use Rattle.send_causes.specs.run_theorems.specs.Over.{IsAllOver}
+use Rattle.send_causes.specs.Below.run_theorems.specs.Heard.{as_told, as_taken, take_answers, heard_of, taken_of, heard_takes}
+use Rattle.send_causes.specs.Below.run_theorems.specs.OfferedRuns.{OffersInRun}
+use Rattle.send_causes.specs.Below.run_theorems.specs.Over.{IsAllOver}
 use Rattle.sock_core.specs.Runs.{ShowFaults, LinksTell, TakesTell, ShowsTaking, ShowTakings, Follows, Made}
 use Rattle.sock_core.specs.Driving.{FirstRests}
 use Rattle.script_run.specs.Causes.{HasCauses, DropsTold, broken_of, gave_in}

@@ -36,14 +36,6 @@ is_later other = false
 abbrev pub is_callless : List Item → Bool
 is_callless script = not (list_any is_later script)
 
-abbrev pub is_send_item : Item → Bool
-is_send_item (Send name bytes) = true
-is_send_item other = false
-
--- the script sends a message
-abbrev pub has_send : List Item → Bool
-has_send script = list_any is_send_item script
-
 -- ## How a run begins
 
 -- a slot's words: it is free, at the first version, without references

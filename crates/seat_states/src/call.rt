@@ -77,13 +77,14 @@ pub enum Call {
     DropPlace(u32, u16, u32),
 }
 
-/// Where the word of a request stands, its next word, and a place word.
-fn request_place(plan: &Plan, request: u16) -> usize
+/// Where the word of a request stands among the words of the table.
+pub fn request_place(plan: &Plan, request: u16) -> usize
     ensures { result ≡ request_index plan.now request }
 {
     6 * plan.slots as usize + plan.names as usize + plan.operations as usize + request as usize
 }
 
+/// Where its next word stands.
 fn next_place(plan: &Plan, request: u16) -> usize
     ensures { result ≡ next_index plan.now request }
 {

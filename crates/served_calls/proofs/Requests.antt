@@ -20,11 +20,11 @@ use Rattle.seat_programs.specs.Tasks.{plan_of}
 use Rattle.seat_programs.specs.Told.{AskedFits, OpFits, TaskFits, IsTask, Became, Made}
 use Rattle.seat_programs.specs.ToldCalls.{Accepted, Order, Fixed, ToldCalls, IsTaken, IsSent, OfSend, OfCall, StandsAt, bytes_of}
 use Rattle.seat_programs.specs.Scripts.{all_tasks, IsRunWithCalls}
-use Rattle.served_runs.specs.outcome_causes.proofs.Members.{contains_in}
-use Rattle.served_runs.specs.outcome_causes.proofs.Tasks.{one_task}
-use Rattle.served_runs.specs.joint_runs.proofs.Runs.{AreMade}
-use Rattle.served_runs.specs.call_causes.specs.Lists.{given}
-use Rattle.served_runs.specs.call_causes.proofs.Streams.{frames_stay}
+use Rattle.served_runs.specs.Below.outcome_causes.proofs.Members.{contains_in}
+use Rattle.served_runs.specs.Below.outcome_causes.proofs.Tasks.{one_task}
+use Rattle.served_runs.specs.Below.joint_runs.proofs.Runs.{AreMade}
+use Rattle.served_runs.specs.Below.call_causes.specs.Lists.{given}
+use Rattle.served_runs.specs.Below.call_causes.proofs.Streams.{frames_stay}
 use Rattle.served_runs.specs.Served.{took_in_all}
 use Rattle.served_runs.proofs.Frames.{IsPiece, piece_frames, pieces_end, IsSmall, request_is, reply_is}
 use Rattle.served_runs.proofs.Own.{cut_more}

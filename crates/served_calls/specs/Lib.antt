@@ -1,10 +1,3 @@
 pub mod Quiet
-pub use Rattle.served_runs.specs.call_causes
-pub use Rattle.served_runs.specs.programs_allowed
-pub use Rattle.served_runs.specs.id_runs
-pub use Rattle.served_runs.specs.joint_runs
-pub use Rattle.served_runs.specs.label_runs
-pub use Rattle.served_runs.specs.owed_calls
+pub use Rattle.served_runs.specs.Below
 pub use Rattle.served_runs
-pub use Rattle.served_runs.specs.outcome_causes
-pub use Rattle.served_runs.specs.run_theorems

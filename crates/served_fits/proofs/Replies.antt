@@ -30,11 +30,11 @@ use Rattle.seat_programs.specs.Tasks.{name_number, plan_of}
 use Rattle.seat_programs.specs.Told.{Made}
 use Rattle.seat_programs.specs.ToldCalls.{Order, Fixed, ToldCalls}
 use Rattle.seat_programs.specs.Scripts.{Reports, all_tasks, IsRunWithCalls}
-use Rattle.served_calls.specs.outcome_causes.specs.Facts.{late_links_of_run}
-use Rattle.served_calls.specs.owed_calls.specs.Lives.{ClosesInRun}
-use Rattle.served_calls.specs.run_theorems.proofs.Lengths.{ended_length}
-use Rattle.served_calls.specs.run_theorems.proofs.Starts.{made}
-use Rattle.served_calls.specs.call_causes.specs.Lists.{given}
+use Rattle.served_calls.specs.Below.outcome_causes.specs.Facts.{late_links_of_run}
+use Rattle.served_calls.specs.Below.owed_calls.specs.Lives.{ClosesInRun}
+use Rattle.served_calls.specs.Below.run_theorems.proofs.Lengths.{ended_length}
+use Rattle.served_calls.specs.Below.run_theorems.proofs.Starts.{made}
+use Rattle.served_calls.specs.Below.call_causes.specs.Lists.{given}
 use Rattle.served_calls.specs.served_runs.specs.Offered.{OffersInRun}
 use Rattle.served_calls.specs.served_runs.specs.Served.{IsServed, took_in_all}
 use Rattle.served_calls.specs.served_runs.proofs.Model.{link_own_replies}

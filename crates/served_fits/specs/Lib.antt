@@ -1,9 +1,6 @@
 pub mod Shown
-pub use Rattle.served_calls.specs.call_causes
-pub use Rattle.served_calls.specs.programs_allowed
-pub use Rattle.served_calls.specs.label_runs
+pub use Rattle.served_calls.specs.Below
 pub use Rattle.calm_runs.specs.send_causes
 pub use Rattle.served_calls
 pub use Rattle.served_calls.specs.served_runs
 pub use Rattle.served_sizes
-pub use Rattle.served_calls.specs.run_theorems

@@ -27,8 +27,8 @@ use Rattle.sock_runs.proofs.HandTicks.{taking}
 use Rattle.sock_runs.proofs.LinkTicks.{RetriesGo, link_there, has_link, link_put_there}
 use Rattle.sock_runs.proofs.Passes.{goes_round}
 use Rattle.sock_runs.proofs.Rounds.{begins_round}
-use Rattle.send_causes.specs.owed_calls.specs.Lives.{InHand}
-use Rattle.send_causes.specs.owed_calls.proofs.EndsStill.{view_of}
+use Rattle.send_causes.specs.Below.owed_calls.specs.Lives.{InHand}
+use Rattle.send_causes.specs.Below.owed_calls.proofs.EndsStill.{view_of}
 use Rattle.served_runs.specs.Offered.{Lies, IsDone}
 
 -- ## In hand

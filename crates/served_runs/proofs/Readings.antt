@@ -3,7 +3,7 @@ use Rattle.std.proofs.Common.{◌≡◌, ℕ, ◌+◌, ◌%◌, ◌≤◌, ◌==
 use Rattle.std.proofs.lemmas.Bool.{true≢false}
 use Rattle.std.specs.Prelude.{Some, None}
 use Rattle.sock_words.specs.Words.{socket_id_version, socket_id_slot, vref_version}
-use Rattle.send_causes.specs.sock_steps.proofs.Quiet.{either_way}
+use Rattle.send_causes.specs.Below.sock_steps.proofs.Quiet.{either_way}
 use Rattle.corr_core.specs.Word.{parts, code_of}
 use Rattle.brpc_model.specs.Frame.{Frame}
 use Rattle.brpc_model.specs.Stream as streams
@@ -15,7 +15,7 @@ use Rattle.seat_programs.specs.Readers.{LIMIT, last_of, ended_by, read_on, took,
 use Rattle.seat_programs.specs.Rounds.{round}
 use Rattle.seat_programs.specs.Cores.{resolved, next_step}
 use Rattle.sock_runs.specs.Sound.{first_step}
-use Rattle.send_causes.specs.run_theorems.specs.Heard.{bytes_found}
+use Rattle.send_causes.specs.Below.run_theorems.specs.Heard.{bytes_found}
 use Rattle.send_causes.proofs.ReaderParts.{is_of_id, is_loop, ReadsOn, PostsOn, release_on, unlocks_on, end_id_on, unlocked_on, locks_on, joins_on, responses_on, posts_on, post_each_on}
 use Rattle.send_causes.proofs.Faults.{Faults, fault_stays, fault_follows}
 

@@ -1,11 +1,4 @@
 pub mod Offered
 pub mod Served
-pub use Rattle.send_causes.specs.call_causes
-pub use Rattle.send_causes.specs.programs_allowed
-pub use Rattle.send_causes.specs.id_runs
-pub use Rattle.send_causes.specs.joint_runs
-pub use Rattle.send_causes.specs.label_runs
-pub use Rattle.send_causes.specs.owed_calls
+pub use Rattle.send_causes.specs.Below
 pub use Rattle.send_causes
-pub use Rattle.send_causes.specs.outcome_causes
-pub use Rattle.send_causes.specs.run_theorems

@@ -18,9 +18,9 @@ use Rattle.seat_programs.specs.Cores.{Core}
 use Rattle.seat_programs.specs.Tasks.{plan_of}
 use Rattle.seat_programs.specs.Told.{IsTask, Became, Made}
 use Rattle.seat_programs.specs.Scripts.{all_tasks, took_at_home, IsRunWithCalls}
-use Rattle.send_causes.specs.outcome_causes.specs.Facts.{late_links_of_run}
-use Rattle.send_causes.specs.run_theorems.specs.Heard.{heard_takes}
-use Rattle.send_causes.specs.call_causes.specs.Lists.{given, attempts_of_run}
+use Rattle.send_causes.specs.Below.outcome_causes.specs.Facts.{late_links_of_run}
+use Rattle.send_causes.specs.Below.run_theorems.specs.Heard.{heard_takes}
+use Rattle.send_causes.specs.Below.call_causes.specs.Lists.{given, attempts_of_run}
 
 -- the request of a call under a correlation id
 abbrev pub request_with : Asked → ℕ → Frame
@@ -55,10 +55,6 @@ module _ (script : List Item) (turns : List Turn) (core : Core) (is : IsRunWithC
   -- one that gave its end gave all that belongs to what it took, and to whatever it might take besides
   abbrev pub GivesLast : Type 0
   GivesLast = (k : ℕ) (shape : Shape) → slice_get (link_shapes script) k ≡ Some shape → IsTrue shape.serve → Contains (heard_takes is k) AtEnd → (more : List ℕ) → given core k ≡ given_for shape (took_in_all k ++ more)
-
-  -- and a link without it gave nothing
-  abbrev pub GivesNothing : Type 0
-  GivesNothing = (k : ℕ) (shape : Shape) → slice_get (link_shapes script) k ≡ Some shape → shape.serve ≡ false → given core k ≡ []
 
   -- ## Calls
 

@@ -31,9 +31,9 @@ use Rattle.seat_programs.specs.Tasks.{numbered, plan_of}
 use Rattle.seat_programs.specs.Told.{IsTask}
 use Rattle.seat_programs.specs.ToldCalls.{Accepted, Order, Fixed, AreOrders, ToldCalls, IsTaken, IsSent, OfSend, OfCall, label, bytes_of}
 use Rattle.seat_programs.specs.Scripts.{all_tasks, took_at_home, IsRunWithCalls}
-use Rattle.served_runs.specs.owed_calls.specs.Lives.{ClosesInRun}
-use Rattle.served_runs.specs.run_theorems.proofs.Starts.{made}
-use Rattle.served_runs.specs.call_causes.specs.Lists.{given}
+use Rattle.served_runs.specs.Below.owed_calls.specs.Lives.{ClosesInRun}
+use Rattle.served_runs.specs.Below.run_theorems.proofs.Starts.{made}
+use Rattle.served_runs.specs.Below.call_causes.specs.Lists.{given}
 use Rattle.served_runs.specs.Offered.{OffersInRun}
 use Rattle.served_runs.specs.Served.{took_in_all}
 use Rattle.served_runs.proofs.Served.{gives_front}
@@ -155,7 +155,7 @@ module _ (bytes : List ℕ) (script : List Item) (reads : script_of bytes ≡ Ok
       up : (a b c : ℕ) → a ≤ b → b ≤ c → a ≤ c
       up a b c p q = omega (arith, p, q)
 
-  -- where there are requests for all attempts, a front of what the server gives for a front of that is less than is read at most
+  -- with requests for all attempts, a front of what the server gives for a front of that is less than is read at most
   pub front_few : length bytes ≤ 1048576 → attempts script ≤ requests script → (k : ℕ) → k < (plan_of script).links → (shape : Shape) (fed left given_ rest : List ℕ) → took_of k ≡ fed ++ left → given_ ++ rest ≡ given_for shape fed → length given_ < LIMIT
   front_few short enough k low shape fed left given_ rest begins front =
       let limits = keeps_limits bytes script reads in let most = limits.requests in

@@ -7,7 +7,7 @@ ghost use Rattle.sock_runs.specs.Sound.{AllowsWord};
 ghost use Rattle.seat_states.specs.Steps.{step_of};
 ghost use Rattle.sock_core.specs.Steps.{IsOfLinks, OutsAfter, holders_after};
 
-use seat_states::Call;
+use seat_states::{Call, request_place};
 use sock_io::{Ends, In, Out, Peer};
 use sock_words::Plan;
 
@@ -26,13 +26,6 @@ pub fn step_word(plan: &Plan, words: &mut [u64], call: Call) -> u64
         }
         None => 0,
     }
-}
-
-/// Where the word of a request stands.
-fn request_place(plan: &Plan, request: u16) -> usize
-    ensures { result ≡ request_index plan.now request }
-{
-    6 * plan.slots as usize + plan.names as usize + plan.operations as usize + request as usize
 }
 
 /// Whether the word of a request is there, and says that it is taken.

@@ -108,7 +108,8 @@ module _ {O : Type 0} {g : Ghosts O} {state : O → OutState} {p : Plan} {client
     pub is : IsOperation clients outcomes client number (ops.Fail n c)
     pub became : Became clients outcomes number outcome.Failed
 
-  -- the reader of this link, whose reading ended early, set a life failed that it had found by its `open`, and noted that it stored this code
+  -- the reader of this link, whose reading ended early, set a life failed that it had found by its `open`, and noted
+  -- that it stored this code
   pub record StoredByReader (k c : ℕ) : Type 0 where
     pub place : ℕ
     pub reader : ReaderSeat g state p clients outcomes

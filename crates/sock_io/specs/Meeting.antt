@@ -36,7 +36,7 @@ OffersFound out peer inn None (Some o) = IsFound out peer inn o
 abbrev pub FindsAll : PeerState → InState → InState → Type 0
 FindsAll peer old new = old.way ≢ [] → peer.starved ≡ false → (old.gave_end ≡ true) ⊎ (old.closed ≡ Some true) → new.offer ≢ None
 
--- a link that took and gave these bytes gave the front of what its other end gives for the bytes of the link that it was fed
+-- a link that took and gave these bytes gave a front of what its other end gives for a front of what it took
 pub record IsFront (peer : PeerState) (took gave : List ℕ) : Type 0 where
   pub offer : Offer
   pub serve : offer.serve ≡ peer.serve
@@ -46,11 +46,11 @@ pub record IsFront (peer : PeerState) (took gave : List ℕ) : Type 0 where
   pub rest : List ℕ
   pub offered : gave ++ rest ≡ offered_by offer offer.fed
 
--- so does one over a way that is known, whatever its reading half answered, unless memory was wanting for the other end
+-- so does one over a known way, whatever its reading half answered, unless memory was wanting for the other end
 abbrev pub GaveFront : OutState → PeerState → InState → Type 0
 GaveFront out peer inn = inn.way ≢ [] → peer.starved ≡ false → (took gave : List ℕ) → out.took ≡ Some took → inn.gave_bytes ≡ Some gave → IsFront peer took gave
 
--- of the reading half nothing changes but what its other end offers
+-- of the reading half nothing changes but what its other end offers; and what the link gave is known to be a front
 pub record MeetStep (out : OutState) (peer : PeerState) (old new : InState) : Type 0 where
   pub same : new ≡ record old { offer = new.offer }
   pub offer : OffersFound out peer old old.offer new.offer

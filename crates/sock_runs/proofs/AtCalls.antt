@@ -8,7 +8,8 @@ use Rattle.seat_programs.specs.Asides.{Found}
 use Rattle.seat_programs.specs.Heads.{Head, Exit}
 use Rattle.seat_programs.specs.Programs.{Program, Do, Say, Sent, Rest, TakeMessage, TakeHome, PutHome, PutBytes, AskReady, Write, Aside, Round, Keep, Retries}
 
--- what holds of a program at its end; what is asked of a step, by what is known before it and by what holds behind it; and what is asked of a loop
+-- what holds of a program at its end; what is asked of a step, by what is known before it and by what holds behind
+-- it; and what is asked of a loop
 module _ {S : Type 0} (rest : Type 0) (calls : S → Call → (ℕ → Program) → (S → ℕ → Type 0) → Type 0) (loops : (head : Head) → (Exit head → Type 0) → Type 0) where
   abbrev pub AtCalls : S → Program → Type 0
   AtCalls s (Do call next) = calls s call next (λ t found. AtCalls t (next found))

@@ -12,8 +12,8 @@ use Rattle.rpc_reader.proofs.posting.post_last.Goals as goal
 pub returns-then-lacks_id-clause-rest : goal.returns-then-lacks_id-clause-rest
 returns-then-lacks_id-clause-rest g c = rests_quiet c.args.calls.now.seat c.word.new.seat c.requires.seat.free c.word.ensures.seat c.word.ensures.quiet
 
-pub returns-then-lacks_id-clause-seen : goal.returns-then-lacks_id-clause-seen
-returns-then-lacks_id-clause-seen g c = let id = c.id_at.result in
+pub returns-then-lacks_id-clause-met_or_posted : goal.returns-then-lacks_id-clause-met_or_posted
+returns-then-lacks_id-clause-met_or_posted g c = let id = c.id_at.result in
     gone_last c.args.ids.now.plan.slots c.args.code c.args.word.0 id c.word.result (books c.args.calls.now) c.word.new.seat.me.0 c.id_at.ensures.id c.word.ensures.quiet c.word.ensures.found c.word.ensures.no_slot
     (subst (λ (y : ℕ). LacksId (parts y) (version_of id)) c.from_word-found.ensures (subst (λ (v : ℕ). LacksId (parts c.from_word-found.result.0) v) (c.first.ensures ∙ sym c.id_at.ensures.of_parts.1) (c.lacks_id.ensures.lacks c.if-lacks_id.true)))
 
@@ -23,8 +23,8 @@ meet-requires g c = open_still c.args.ids.now.table.shared.table_id c.args.calls
 pub returns-in-Some-clause-rest : goal.returns-in-Some-clause-rest
 returns-in-Some-clause-rest g c = rests_then c.args.calls.now.seat c.word.new.seat c.meet.new.calls.seat (rests_quiet c.args.calls.now.seat c.word.new.seat c.requires.seat.free c.word.ensures.seat c.word.ensures.quiet) c.meet.ensures.rest
 
-pub returns-in-Some-clause-seen : goal.returns-in-Some-clause-seen
-returns-in-Some-clause-seen g c = let id = c.id_at.result in let w = c.args.word.0 in let b : Books = books c.args.calls.now in let frame = c.remove-frame.result in
+pub returns-in-Some-clause-met_or_posted : goal.returns-in-Some-clause-met_or_posted
+returns-in-Some-clause-met_or_posted g c = let id = c.id_at.result in let w = c.args.word.0 in let b : Books = books c.args.calls.now in let frame = c.remove-frame.result in
     let has : HasId (parts c.word.result) (version_of id) = subst (λ (y : ℕ). HasId (parts y) (version_of id)) c.from_word-found.ensures (subst (λ (v : ℕ). HasId (parts c.from_word-found.result.0) v) (c.first.ensures ∙ sym c.id_at.ensures.of_parts.1) (c.lacks_id.ensures.has c.if-lacks_id.false)) in
     let first : Some c.in-Some.at ≡ kept_at w c.word.result b.early = sym c.in-Some.is ∙ c.first_for.ensures ∙ kept_is c.slot.result (slot_of (call_at w)) c.from_word-found.result.0 c.word.result c.as_slice.result.now b.early (c.slot.ensures ∙ sym c.id_at.ensures.of_parts.0 ∙ ap slot_of c.id_at.ensures.id) c.from_word-found.ensures c.as_slice.ensures.value in
     met_kept c.args.ids.now.plan.slots c.args.code w c.word.result c.in-Some.at b (books c.meet.new.calls) c.word.new.seat.me.0 frame c.word.ensures.quiet (found_of c.args.ids.now.plan.slots w id c.word.result c.word.new.seat.me.0 c.id_at.ensures.id c.word.ensures.found c.word.ensures.no_slot has) first c.remove-frame.ensures.value
@@ -36,5 +36,5 @@ post_code-requires-clause-seat g c = open_still c.args.ids.now.table.shared.tabl
 pub returns-in-None-clause-rest : goal.returns-in-None-clause-rest
 returns-in-None-clause-rest g c = rests_then c.args.calls.now.seat c.word.new.seat c.post_code.new.calls.seat (rests_quiet c.args.calls.now.seat c.word.new.seat c.requires.seat.free c.word.ensures.seat c.word.ensures.quiet) c.post_code.ensures.rest
 
-pub returns-in-None-clause-seen : goal.returns-in-None-clause-seen
-returns-in-None-clause-seen g c = last_after c.args.ids.now.plan.slots c.args.code c.args.word.0 (books c.args.calls.now) (books c.post_code.new.calls) c.word.new.seat.me.0 c.word.ensures.quiet c.post_code.ensures.posted
+pub returns-in-None-clause-met_or_posted : goal.returns-in-None-clause-met_or_posted
+returns-in-None-clause-met_or_posted g c = last_after c.args.ids.now.plan.slots c.args.code c.args.word.0 (books c.args.calls.now) (books c.post_code.new.calls) c.word.new.seat.me.0 c.word.ensures.quiet c.post_code.ensures.posted
