@@ -17,7 +17,7 @@ use Rattle.seat_programs.specs.corr_core.specs.Law.{LAST}
 use Rattle.seat_programs.specs.id_rule.specs.Lawful.{id_index}
 use Rattle.seat_programs.specs.sock_message.specs.Asked.{Asked}
 use Rattle.seat_programs.specs.Calls.{LoadOpen}
-use Rattle.seat_programs.specs.Asides.{Step, Found, PutCall, LoadIdWord, LockId, PostId, UnlockId, EndId, FreeId, TakeBytes, Taking, Bytes, Nothing, NoMore, AtEnd, Closed, Broken, id_slot, id_first}
+use Rattle.seat_programs.specs.Asides.{Step, Found, PutCall, LoadIdWord, LockId, PostId, UnlockId, EndId, FreeId, TakeBytes, Taking, Bytes, Nothing, NoMore, id_slot, id_first}
 use Rattle.seat_programs.specs.Heads.{Head, Exit, Sought, Reading, Posts, Unlocks, Decides, Locks, Joins, Opens, Reads, Discards, Posting, WasQueued, HasLocked, Unlocking, Deciding, HasEnded, Locking, Has, Ended}
 use Rattle.seat_programs.specs.Beside.{found_in, at_last, taking_in}
 use Rattle.seat_programs.specs.Posts.{packed, judged, popped, locking, advance_of, ends_call, end_id, unlocked, is_sought, is_first}
@@ -45,6 +45,7 @@ use Rattle.sock_runs.proofs.AsideMoves.{IsLate, any_moves}
 -- what a take finds, where it doesn't wait
 moved : (ending : Bool) (t : Taking) → is_nothing ending (OfTake t) ≡ false → at_last ending t ≢ Nothing
 moved false Nothing off e = absurd (true≢false off)
+moved true Nothing off e = cc
 moved true _ off e = cc
 moved false _ off e = cc
 

@@ -34,9 +34,9 @@ moves_right other = false
 
 -- whether a step is one of whoever sends or writes
 abbrev pub is_sending : Call → Bool
-is_sending (ClaimRequest id q) = true
-is_sending (PutMessage q heading bytes) = true
 is_sending (Unconnect q) = true
+is_sending (PutMessage q heading bytes) = true
+is_sending (ClaimRequest id q) = true
 is_sending (Connect q before) = true
 is_sending (FindLink i h) = true
 is_sending (LoadCode i h) = true
