@@ -265,11 +265,8 @@ module _ (has : ℕ → ℕ) (left : ℕ → Bool) where
       by_exit (NotThere x) most h f l = (after (NotThere x)).goes most h Other
 
   sought_is : (sought : Sought) (found : ℕ) → is_sought sought (parts found) ≡ true → IsOfSought sought (Some found)
-  sought_is (First x) found e = eqb-true (parts found).first x (first_true ((parts found).first == x) (not ((parts found).state == 0)) e)
+  sought_is (First x) found e = eqb-true (parts found).first x (and_left ((parts found).first == x) (not ((parts found).state == 0)) e)
     where
-      first_true : (a b : Bool) → (a && b) ≡ true → a ≡ true
-      first_true true b e = refl
-      first_true false b e = e
   sought_is (Version v) found e = tt
 
   none_sought : (sought : Sought) → IsOfSought sought None

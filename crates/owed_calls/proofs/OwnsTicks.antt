@@ -286,18 +286,12 @@ module _ (p : Plan) (q : IdPlan) (narrow : q.slots ≤ 65536) (calls : List ℕ)
     others_else : (j : ℕ) → j ≢ i → others j ≡ left j
     others_else j far = ap (λ b. cond b (but asked.operation (left i)) (left j)) (ne_eqb j i far)
 
-    first_true : (x y : Bool) → (x && y) ≡ true → x ≡ true
-    first_true true y e = refl
-    first_true false y e = e
 
-    second_true : (x y : Bool) → (x && y) ≡ true → y ≡ true
-    second_true true y e = e
-    second_true false y e = absurd (true≢false (sym e))
 
     left_still : (j x : ℕ) → others j x ≡ true → (left j x ≡ true) × (j ≡ i → x ≢ asked.operation)
     left_still j x e = dite (ℕ_discrete j i)
         (λ same. let l : but asked.operation (left i) x ≡ true = sym (ap (λ (f : ℕ → Bool). f x) others_here) ∙ ap (λ k. others k x) (sym same) ∙ e in
-        (ap (λ k. left k x) same ∙ first_true (left i x) (not (x == asked.operation)) l, λ _ z. true≢false (sym (second_true (left i x) (not (x == asked.operation)) l) ∙ ap not (eq-eqb x asked.operation z))))
+        (ap (λ k. left k x) same ∙ and_left (left i x) (not (x == asked.operation)) l, λ _ z. true≢false (sym (and_right (left i x) (not (x == asked.operation)) l) ∙ ap not (eq-eqb x asked.operation z))))
         (λ far. (sym (ap (λ (f : ℕ → Bool). f x) (others_else j far)) ∙ e, λ same. absurd (far same)))
 
     not_made : (j x : ℕ) → others j x ≡ true → x ≢ asked.operation
