@@ -21,6 +21,7 @@ use Rattle.seat_programs.specs.Posts.{packed, advance_of, is_first, is_sought, i
 use Rattle.seat_programs.specs.Readers.{LIMIT, ending_of, slot_in, version_in, has_response, is_early, answer, answered, responses, last_of, ended_by, read_on, took, room_of, discarded, opens_round}
 use Rattle.seat_programs.specs.Rounds.{round}
 use Rattle.owed_calls.specs.Owns.{Behind, Other, HasClaimed, HasPut, HasLock, HasTaken, Grows, IsIdOf, MayOwn, taken_behind, behind, IsOfSought, AtOwn, LeavesLock, behind_head, Owns}
+use Rattle.joint_runs.specs.id_runs.proofs.Loops.{and_left}
 
 -- ## More calls with ids
 

@@ -46,6 +46,7 @@ use Rattle.owed_calls.proofs.OwnsLoops.{grows_same, owns_any, owns_round}
 use Rattle.owed_calls.proofs.OwnsSends.{block_goes}
 use Rattle.owed_calls.proofs.OwnsCalls.{CallsOwn, is_calling, calls_in, client_goes, reader_goes, ending_goes}
 use Rattle.owed_calls.proofs.OwnsTicks.{own_at, resolved_owns, true_of, true_on, on_sockets, owns_ticks}
+use Rattle.joint_runs.specs.id_runs.proofs.Loops.{and_left}
 
 -- ## Along ticks
 

@@ -48,6 +48,7 @@ use Rattle.owed_calls.proofs.OwnsLoops.{later, grows_same, id_grows, owns_grows,
 use Rattle.owed_calls.proofs.OwnsSends.{block_goes}
 use Rattle.owed_calls.proofs.OwnsCalls.{retry_goes}
 use Rattle.owed_calls.proofs.OwnsSteps.{one_seat, free_tag, home_inside, word_inside, Then, Keeps, Acts, step_keeps, acts_token}
+use Rattle.joint_runs.specs.id_runs.proofs.Loops.{and_left, and_right}
 
 -- ## Behind what is said
 
