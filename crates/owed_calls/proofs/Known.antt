@@ -16,7 +16,7 @@ use Rattle.brpc_model.specs.Operations.{Turn, operations, clients, link_names}
 use Rattle.sock_model.specs.declared.view.View.{View}
 use Rattle.corr_core.specs.declared.marks.Plan.{Plan as IdPlan}
 use Rattle.seat_programs.specs.Asides.{TakeBytes, Closed}
-use Rattle.seat_programs.specs.Programs.{Program, Do, Rest, Aside}
+use Rattle.seat_programs.specs.Programs.{Program, Rest, Aside}
 use Rattle.seat_programs.specs.Tasks.{Numbered, numbered, opens, calls, plan_of, id_plan_of}
 use Rattle.seat_programs.specs.Clients.{client_from, ending_of}
 use Rattle.seat_programs.specs.Cores.{Core, SeatState, resolved, next_step, waiting_at}
@@ -28,9 +28,7 @@ use Rattle.joint_runs.specs.sock_runs.specs.Sound.{AllRest, views_along}
 use Rattle.joint_runs.specs.sock_runs.proofs.LinkTicks.{RetriesGo}
 use Rattle.joint_runs.specs.sock_runs.proofs.Along.{seat_rests, place_inside}
 use Rattle.joint_runs.specs.sock_runs.proofs.Quiets.{run_seats, run_rests}
-use Rattle.joint_runs.specs.sock_runs.proofs.Records.{stores}
 use Rattle.joint_runs.specs.sock_runs.proofs.ThroughCalls.{through_next}
-use Rattle.seat_programs.specs.Calls.{Call, StoreOpen}
 use Rattle.joint_runs.specs.id_runs.specs.Goes as goes
 use Rattle.joint_runs.specs.sock_runs.proofs.WillStore.{WillStore, IsToStore, will_passes, will_follow, will_client, run_stores, rested_stored}
 use Rattle.joint_runs.specs.sock_runs.proofs.LinksOpening.{OpensLink}

@@ -267,7 +267,6 @@ module _ (has : ℕ → ℕ) (left : ℕ → Bool) where
 
   sought_is : (sought : Sought) (found : ℕ) → is_sought sought (parts found) ≡ true → IsOfSought sought (Some found)
   sought_is (First x) found e = eqb-true (parts found).first x (and_left ((parts found).first == x) (not ((parts found).state == 0)) e)
-    where
   sought_is (Version v) found e = tt
 
   none_sought : (sought : Sought) → IsOfSought sought None

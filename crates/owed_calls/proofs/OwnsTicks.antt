@@ -1,5 +1,5 @@
 -- A tick of any seat keeps which id the call of each operation has, and that at words and homes are of those.
-use Rattle.std.proofs.Common.{◌≡◌, ◌≢◌, ℕ, ◌+◌, ◌*◌, ◌<◌, ◌≤◌, ⊎_elim, ◌==◌, ◌&&◌, not, Bool, true, false, cond, eq-eqb, eqb-true, ne_eqb, List, [], ◌∷◌, ◌++◌, get_or, set, get_or-set_other, get_or-set_same, refl, sym, ap, ◌∙◌, subst, arith}
+use Rattle.std.proofs.Common.{◌≡◌, ◌≢◌, ℕ, ◌+◌, ◌*◌, ◌<◌, ◌≤◌, ⊎_elim, ◌==◌, not, Bool, true, false, cond, eq-eqb, eqb-true, ne_eqb, List, [], ◌∷◌, ◌++◌, get_or, set, get_or-set_other, get_or-set_same, refl, sym, ap, ◌∙◌, subst, arith}
 use Rattle.std.proofs.lemmas.Bool.{true≢false}
 use Rattle.std.specs.Prelude as std
 use Rattle.std.specs.List.{AllByRecursion}
@@ -286,8 +286,6 @@ module _ (p : Plan) (q : IdPlan) (narrow : q.slots ≤ 65536) (calls : List ℕ)
 
     others_else : (j : ℕ) → j ≢ i → others j ≡ left j
     others_else j far = ap (λ b. cond b (but asked.operation (left i)) (left j)) (ne_eqb j i far)
-
-
 
     left_still : (j x : ℕ) → others j x ≡ true → (left j x ≡ true) × (j ≡ i → x ≢ asked.operation)
     left_still j x e = dite (ℕ_discrete j i)
