@@ -89,6 +89,10 @@ module _ {K : Type 0} (lost : K) (unlocked_behind : ℕ → ℕ → Bool → K �
     pub unmoved : (t : K) (i w : ℕ) → unlocked_behind i w false t ≡ t
     pub locking : (exit : Locking) (t : K) → Stays lost t (locked_behind exit t)
 
+pub first_as : (x y : ℕ) → x ≡ y → (exit : Unlocking) → LeavesUnlock x exit → LeavesUnlock y exit
+first_as x y e (HasNext w error) l = l ∙ e
+first_as x y e (IsOpen w) l = tt
+
 module _ {K : Type 0} {lost : K} {unlocked_behind : ℕ → ℕ → Bool → K → K} {locked_behind : Locking → K → K} {is_call : Asked → Type 0} {G : K → Program → Type 0} (g : Tracks lost unlocked_behind locked_behind is_call G) where
   pub way : (t : K) (b : Bool) (x y : Program) → (b ≡ true → G t x) → (b ≡ false → G t y) → G t (cond b x y)
   way t true x y f h = f refl
@@ -154,10 +158,6 @@ module _ {K : Type 0} {lost : K} {unlocked_behind : ℕ → ℕ → Bool → K �
 
   word_after : (from : ℕ) (advance : Bool) → (parts from).attempt + advance_of advance ≤ 6 → parts (packed (unlocked_word (parts from) (advance_of advance))) ≡ unlocked_word (parts from) (advance_of advance)
   word_after from advance low = parts_packed (unlocked_word (parts from) (advance_of advance)) (state_fits (eqb (parts from).oldest 0)) (omega arith) (omega arith) (omega (arith, low)) (omega arith) (omega arith)
-
-  first_as : (x y : ℕ) → x ≡ y → (exit : Unlocking) → LeavesUnlock x exit → LeavesUnlock y exit
-  first_as x y e (HasNext w error) l = l ∙ e
-  first_as x y e (IsOpen w) l = tt
 
   module _ (t : K) (i from : ℕ) (advance : Bool) (k : Unlocking → Program) (goes : (exit : Unlocking) → LeavesLabel (Unlocks i from advance) exit → G (unlocked_behind i from advance t) (k exit)) where
     abbrev after : ℕ

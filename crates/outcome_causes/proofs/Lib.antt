@@ -18,6 +18,7 @@ pub mod Tasks
 pub mod Events
 pub mod Cases
 pub mod AtWork
+pub mod HomeCalls
 pub mod Ticks
 pub mod Begin
 pub mod Runs
@@ -26,6 +27,7 @@ pub mod Final
 pub mod Lives
 pub mod Fails
 pub mod Whys
+pub mod Accepted
 pub mod Delivered
 pub mod Ordered
 pub mod Senders

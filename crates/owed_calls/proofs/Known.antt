@@ -70,7 +70,7 @@ known_of script made = record {
 }
 
 -- no operation is the `open` of two links
-opens_apart : (script : List Item) (k l o : ℕ) → get_elem? (opens script) k ≡ some o → get_elem? (opens script) l ≡ some o → k ≡ l
+pub opens_apart : (script : List Item) (k l o : ℕ) → get_elem? (opens script) k ≡ some o → get_elem? (opens script) l ≡ some o → k ≡ l
 opens_apart script k l o at_k at_l = dite (ℕ_discrete k l) (λ e. e)
     (λ far. dite (dec_le (suc k) l) (λ less. absurd (let z = before k l (omega (arith, less)) at_k at_l in omega (arith, z))) (λ more. absurd (let z = before l k (omega (arith, far, more)) at_l at_k in omega (arith, z))))
   where
@@ -101,7 +101,7 @@ quiet_at : (p : Plan) (c : Core) (program : Program) → ClosesAt p c Unasked pr
 quiet_at p c (Aside (TakeBytes k room) next) = λ e. absurd (some-ne-none Closed (sym e))
 quiet_at p c program = tt
 
-quiet_closes : (p : Plan) (c : Core) (n : ℕ) → ClosesInTime p c (replicate n (quiet 0))
+pub quiet_closes : (p : Plan) (c : Core) (n : ℕ) → ClosesInTime p c (replicate n (quiet 0))
 quiet_closes p c zero = tt
 quiet_closes p c (suc n) = ((λ seat at. quiet_at p c (goes.first_of seat.program)), quiet_closes p (ticked p c (quiet 0)) n)
 

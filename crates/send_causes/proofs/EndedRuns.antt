@@ -8,7 +8,7 @@ use lib.ListN.{get_elem?}
 use Rattle.chain_steps.proofs.Lists.{at_some}
 use Rattle.sock_words.specs.declared.plain.Plan.{Plan}
 use Rattle.sock_model.specs.declared.view.View.{View}
-use Rattle.seat_programs.specs.Asides.{Taking, Bytes, Nothing, NoMore, AtEnd, Closed, Broken}
+use Rattle.seat_programs.specs.Asides.{Taking, Bytes}
 use Rattle.seat_programs.specs.Beside.{at_last, taking_in}
 use Rattle.seat_programs.specs.Cores.{Core, SeatState}
 use Rattle.seat_programs.specs.Ticks.{Answer, Unasked, OfPut, OfReady, OfTake, Moment, AreAnswered, quiet, taken, ticked, run}
@@ -24,7 +24,7 @@ use Rattle.run_theorems.proofs.HeardRuns.{taken_append}
 use Rattle.call_causes.specs.Lists.{Take, takes_by, takes_at, shows_in}
 use Rattle.call_causes.specs.Posts.{Post, posted_with, posted_at}
 use Rattle.send_causes.specs.EndedCalls.{Load, loaded_at, reader_posts_at}
-use Rattle.send_causes.proofs.Early.{Any, ends_anyhow}
+use Rattle.send_causes.proofs.Early.{none_taken, Any, ends_anyhow}
 use Rattle.send_causes.proofs.EndedReads.{MayPost, post_more}
 use Rattle.send_causes.proofs.EndedTicks.{HasTold, LoadsSo, told_ticks, told_posts}
 use Rattle.send_causes.proofs.ReaderRuns.{Keeps, founds, keeps_same, keeps_along}
@@ -145,17 +145,9 @@ module _ (p : Plan) (calls os : List ℕ) (in_os : (k o : ℕ) → get_elem? os 
     where
       by : (b : Bool) (t : Taking) → given_by (map (at_last b) ts) ≡ given_by ts → given_by (map (at_last b) (t ∷ ts)) ≡ given_by (t ∷ ts)
       by true (Bytes bytes) e = ap (λ l. bytes ++ l) e
-      by true Nothing e = e
-      by true NoMore e = e
-      by true AtEnd e = e
-      by true Closed e = e
-      by true Broken e = e
       by false (Bytes bytes) e = ap (λ l. bytes ++ l) e
-      by false Nothing e = e
-      by false NoMore e = e
-      by false AtEnd e = e
-      by false Closed e = e
-      by false Broken e = e
+      by true other e = e
+      by false other e = e
 
   pub finds_give : (ms : List Moment) (c : Core) (n : ℕ) → given_by (finds c ms n) ≡ given_by (as_taken (taken_in p c ms n))
   finds_give [] c n = refl
@@ -166,12 +158,4 @@ module _ (p : Plan) (calls os : List ℕ) (in_os : (k o : ℕ) → get_elem? os 
   -- nothing in ticks that ask no link
   pub quiet_finds : (k : ℕ) (c : Core) (n : ℕ) → finds c (replicate k (quiet 0)) n ≡ []
   quiet_finds zero c n = refl
-  quiet_finds (suc k) c n = ap (λ l. l ++ finds (ticked p c (quiet 0)) (replicate k (quiet 0)) n) (by_seat (get_elem? c.seats 0)) ∙ quiet_finds k (ticked p c (quiet 0)) n
-    where
-      none_answered : (ks : List ℕ) → as_taken (map (λ (k : ℕ). Unasked) ks) ≡ []
-      none_answered [] = refl
-      none_answered (x ∷ ks) = none_answered ks
-
-      by_seat : (s : Option SeatState) → map (at_last c.calls.ending) (as_taken (elim s as (λ o. List Answer) [ none ↦ [] | some s ↦ map (λ (j : ℕ). Unasked) (filter (λ j. j == n) (taken_link s.program)) ])) ≡ []
-      by_seat none = refl
-      by_seat (some s) = ap (map (at_last c.calls.ending)) (none_answered (filter (λ j. j == n) (taken_link s.program)))
+  quiet_finds (suc k) c n = ap (λ l. l ++ finds (ticked p c (quiet 0)) (replicate k (quiet 0)) n) (none_taken c.calls.ending n (get_elem? c.seats 0)) ∙ quiet_finds k (ticked p c (quiet 0)) n
