@@ -57,7 +57,6 @@ use Rattle.served_fits.specs.served_sizes.proofs.Few as sizes
 use Rattle.calls_over.proofs.OpensEntered.{rested_sound}
 use Rattle.calls_over.proofs.OpensOwed.{NoneThrown}
 use Rattle.calls_over.proofs.Soon.{named_shape, no_end, no_stray}
-
 use Rattle.calls_over.proofs.OpensGiven.{CalmRun, are_made, targets, range}
 
 module _ (calm : CalmRun) where

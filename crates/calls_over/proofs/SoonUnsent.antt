@@ -49,7 +49,6 @@ stood_there vs e s made one = record { view = s.view; here = s.here; made = made
 module _ (script : List Item) (made : AreMade script) (turns : List Turn) (core : Core) (is : IsRunWithCalls script turns core) (closes : ClosesInRun script turns core is) (k : ℕ)
     (unsent : (client : ℕ) (t : Task) (name slot version : ℕ) (bytes : List ℕ) → IsTask (all_tasks script) core.outcomes client t → t.op ≡ ops.Send name bytes → Made (all_tasks script) core.outcomes name k slot version → ⊥) where
   open setting script use {vs}
-
   open grounds script made turns core is use {begins, goes, fits}
 
   abbrev owes : IsOwed script turns core is

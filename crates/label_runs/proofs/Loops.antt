@@ -21,22 +21,12 @@ use Rattle.seat_programs.specs.Rounds.{round}
 use Rattle.seat_programs.specs.Sends.{heading_of}
 use Rattle.seat_programs.specs.Writings.{Writing}
 use Rattle.label_runs.specs.Labels.{FindsLabel, AtLabel, LeavesLabel, LeavesUnlock, IsSoughtWord}
+pub use Rattle.id_runs.proofs.Loops.{not_true, not_equal, and_left}
 
 -- ## Numbers
 
 pub id_back : (id : ℕ) → call_id (id_slot id) (id_first id) ≡ id
 id_back id = omega arith
-
-pub not_true : (b : Bool) → not b ≡ false → b ≡ true
-not_true true e = refl
-not_true false e = cc
-
-pub not_equal : (a b : ℕ) → eqb a b ≡ false → a ≢ b
-not_equal a b e same = let z : true ≡ false = sym (eq-eqb a b same) ∙ e in cc
-
-pub and_left : (a b : Bool) → (a && b) ≡ true → a ≡ true
-and_left true b e = refl
-and_left false b e = e
 
 -- the word of an id that was found open, once it is locked
 pub locked_parts : (w e : ℕ) → (parts w).state ≡ 1 → parts (packed (posted_word (parts w) e)) ≡ locked_word (parts w)

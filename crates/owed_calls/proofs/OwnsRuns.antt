@@ -17,7 +17,7 @@ use Rattle.seat_programs.specs.declared.task.Op.{Op}
 use Rattle.seat_programs.specs.declared.task.Op.TheVariants as ops
 use Rattle.seat_programs.specs.declared.task.Task.{Task}
 use Rattle.seat_programs.specs.Asides.{StoreAt}
-use Rattle.seat_programs.specs.Programs.{Program, Do, Say, Sent, Rest, TakeMessage, TakeHome, PutHome, PutBytes, AskReady, Write, Aside, Round, Keep, Retries}
+use Rattle.seat_programs.specs.Programs.{Program, Rest, Write, Aside, Round}
 use Rattle.seat_programs.specs.Tasks.{Numbered, numbered, calls, opens, tasks, plan_of, id_plan_of}
 use Rattle.seat_programs.specs.Clients.{client_from, ending_of}
 use Rattle.seat_programs.specs.Readers.{reader}
@@ -46,6 +46,7 @@ use Rattle.owed_calls.proofs.OwnsLoops.{grows_same, owns_any, owns_round}
 use Rattle.owed_calls.proofs.OwnsSends.{block_goes}
 use Rattle.owed_calls.proofs.OwnsCalls.{CallsOwn, is_calling, calls_in, client_goes, reader_goes, ending_goes}
 use Rattle.owed_calls.proofs.OwnsTicks.{own_at, resolved_owns, true_of, true_on, on_sockets, owns_ticks}
+use Rattle.joint_runs.specs.id_runs.proofs.Loops.{and_left}
 
 -- ## Along ticks
 
@@ -53,34 +54,12 @@ use Rattle.owed_calls.proofs.OwnsTicks.{own_at, resolved_owns, true_of, true_on,
 owns_first : (has : ℕ → ℕ) (mine : ℕ → Bool) (b : Behind) (program : Program) → Owns has mine b program → (d : Behind) × Owns has mine d (goes.first_of program)
 owns_first has mine b (Write w after) g = (Other, (block_goes has mine w after (record { goes = λ more h d. owns_any more mine d after (g more h) })).goes has (grows_same has) Other)
 owns_first has mine b (Round head next) g = (b, owns_round has mine b head next g)
-owns_first has mine b (Do call next) g = (b, g)
-owns_first has mine b (Say o outcome next) g = (b, g)
-owns_first has mine b (Sent o next) g = (b, g)
-owns_first has mine b Rest g = (b, g)
-owns_first has mine b (TakeMessage r next) g = (b, g)
-owns_first has mine b (TakeHome k next) g = (b, g)
-owns_first has mine b (PutHome k n after) g = (b, g)
-owns_first has mine b (PutBytes k asked bytes next) g = (b, g)
-owns_first has mine b (AskReady k next) g = (b, g)
-owns_first has mine b (Aside step next) g = (b, g)
-owns_first has mine b (Keep r next) g = (b, g)
-owns_first has mine b (Retries requests after) g = (b, g)
+owns_first has mine b _ g = (b, g)
 
 ids_first : (p : Plan) (q : IdPlan) → q.slots ≤ 65536 → (u : IdView) (program : Program) → IdGoesOn p q u program → IdGoesOn p q u (goes.first_of program)
 ids_first p q narrow u (Write w after) g = idprograms.block_goes p q narrow u w after g
 ids_first p q narrow u (Round head next) g = ids_round p q u head next g
-ids_first p q narrow u (Do call next) g = g
-ids_first p q narrow u (Say o outcome next) g = g
-ids_first p q narrow u (Sent o next) g = g
-ids_first p q narrow u Rest g = g
-ids_first p q narrow u (TakeMessage r next) g = g
-ids_first p q narrow u (TakeHome k next) g = g
-ids_first p q narrow u (PutHome k n after) g = g
-ids_first p q narrow u (PutBytes k asked bytes next) g = g
-ids_first p q narrow u (AskReady k next) g = g
-ids_first p q narrow u (Aside step next) g = g
-ids_first p q narrow u (Keep r next) g = g
-ids_first p q narrow u (Retries requests after) g = g
+ids_first p q narrow u _ g = g
 
 module _ (p : Plan) (q : IdPlan) (narrow : q.slots ≤ 65536) (calls : List ℕ) where
   -- whoever stores an at word stores one of the id that it named
@@ -127,12 +106,8 @@ in_list (x ∷ xs) o (suc i) e = inr (in_list xs o i e)
 called_by : (ts : List Task) (o : ℕ) → calls_in ts o ≡ true → (t : Task) × Has ts t × (is_calling t.op ≡ true) × (t.number ≡ o)
 called_by [] o there = absurd (true≢false (sym there))
 called_by (t ∷ ts) o there = or_cases (is_calling t.op && (t.number == o)) (calls_in ts o) ((x : Task) × Has (t ∷ ts) x × (is_calling x.op ≡ true) × (x.number ≡ o))
-    (λ here. (t, (0, refl), first_true (is_calling t.op) (t.number == o) here, eqb-true t.number o (second_true (is_calling t.op) (t.number == o) here)))
+    (λ here. (t, (0, refl), and_left (is_calling t.op) (t.number == o) here, eqb-true t.number o (second_true (is_calling t.op) (t.number == o) here)))
     (λ more. let w = called_by ts o more in (w.0, has_later t ts w.0 w.1, w.2, w.3)) there
-  where
-    first_true : (a b : Bool) → (a && b) ≡ true → a ≡ true
-    first_true true b e = refl
-    first_true false b e = e
 
 module _ (script : List Item) where
   own_call : (c : ℕ) (t : Task) → IsTaskOf script c t → CallsOwn t.number t.op

@@ -12,30 +12,16 @@ use Rattle.joint_runs.specs.id_runs.proofs.Keeps.{parts_packed}
 use Rattle.owed_calls.specs.Owing.{Duty, Free, Trying, Linked, Looking, Telling, Owing, Among, IsOpenAt, with_duty, freed, with_known, with_error, unlocked_by, KnowsError, FindsUnlock}
 use Rattle.owed_calls.specs.Owing as owing
 use Rattle.owed_calls.specs.Owes.{Further, PostsOwn, IsDue, MayDecide, MayAdvance, AtOwe, LeavesUnlocks, LeavesPosts, OwesOn}
+pub use Rattle.joint_runs.specs.id_runs.proofs.Loops.{not_true, not_equal, and_left, and_right}
 
 -- ## Numbers and truth values
 
 pub id_back : (id : ℕ) → call_id (id_slot id) (id_first id) ≡ id
 id_back id = omega arith
 
-pub not_true : (b : Bool) → not b ≡ false → b ≡ true
-not_true true e = refl
-not_true false e = cc
-
 pub not_false : (b : Bool) → not b ≡ true → b ≡ false
 not_false true e = cc
 not_false false e = refl
-
-pub not_equal : (a b : ℕ) → eqb a b ≡ false → a ≢ b
-not_equal a b e same = let z : true ≡ false = sym (eq-eqb a b same) ∙ e in cc
-
-pub and_left : (a b : Bool) → (a && b) ≡ true → a ≡ true
-and_left true b e = refl
-and_left false b e = e
-
-pub and_right : (a b : Bool) → (a && b) ≡ true → b ≡ true
-and_right true b e = e
-and_right false b e = cc
 
 pub both_true : (a b : Bool) → a ≡ true → b ≡ true → (a && b) ≡ true
 both_true true true x y = refl
@@ -248,10 +234,7 @@ module _ (life : ℕ → Option ℕ) where
   -- what follows a post
   pub posted_goes : (u : Owing) (id e : ℕ) (next : Program) → u.keeps ≡ true → KnowsError u id e → ((v : Owing) → Further (freed u) v → OwesOn life v next) → (exit : Posting) (v : Owing) → LeavesPosts life id e exit u v → OwesOn life v (posted id e next exit)
   posted_goes u id e next keeps knows goes (HasLocked w) v l = subst (λ x. OwesOn life x (decide id w e (decided id next))) (sym l.0) (decided_on (freed u) id w e next tt (knows, l.2, l.1) (inl keeps) goes)
-  posted_goes u id e next keeps knows goes WasGone v l = subst (λ x. OwesOn life x next) (sym l) (goes (freed u) (same_further (freed u)))
-  posted_goes u id e next keeps knows goes WasStale v l = subst (λ x. OwesOn life x next) (sym l) (goes (freed u) (same_further (freed u)))
-  posted_goes u id e next keeps knows goes (WasCrowded a b) v l = subst (λ x. OwesOn life x next) (sym l) (goes (freed u) (same_further (freed u)))
-  posted_goes u id e next keeps knows goes WasQueued v l = subst (λ x. OwesOn life x next) (sym l) (goes (freed u) (same_further (freed u)))
+  posted_goes u id e next keeps knows goes _ v l = subst (λ x. OwesOn life x next) (sym l) (goes (freed u) (same_further (freed u)))
 
   pub post_goes : (u : Owing) (id c n : ℕ) (next : Program) → n < 8 → u.keeps ≡ true → PostsOwn id (error_of c n) u.duty → Among id n u.knows → ((v : Owing) → Further (freed u) v → OwesOn life v next) → OwesOn life u (post id c n next)
   post_goes u id c n next few keeps own knows goes = let e : ℕ = error_of c n in let is : n ≡ attempt_of (error_of c n) = omega (arith, few) in let k : KnowsError u id (error_of c n) = inr (subst (λ m. Among id m u.knows) is knows) in

@@ -41,7 +41,6 @@ use Rattle.report_fits.proofs.Lists.{all_map}
 module _ (script : List Item) (made : AreMade script) (there : AreThere script) (range : AllByRecursion InRange script) (turns : List Turn) (core : Core) (is : IsRunWithCalls script turns core) (closes : ClosesInRun script turns core is)
     (ids : ℕ → ℕ) (labelled : AreLabelledIn ids script turns core is) where
   open setting script use {vs}
-
   open grounds script made turns core is use {begins, goes, fits}
 
   -- the call of an operation is its task's

@@ -90,7 +90,6 @@ module _ (script : List Item) (made : AreMade script) (there : AreThere script) 
     (ids : ℕ → ℕ) (labelled : AreLabelledIn ids script turns core is) (rising : AreRisingIn ids script turns core is) (stored : AreStored ids script core)
     (named : (k : ℕ) → k < (plan_of script).links → AllByRecursion (λ (a : Accepted). IsSpoken (told_tasks_of script) a.operation → IsNamedOn script core k a) (orders_of_run script made turns core is closes k).accepted) where
   open setting script use {p, vs}
-
   open grounds script made turns core is use {begins, goes, fits}
 
   abbrev owes : IsOwed script turns core is

@@ -249,7 +249,6 @@ module _ (script : List Item) (made : AreMade script) (there : AreThere script) 
   Goes c ms = Ahead (plan_of script) (id_plan_of script) (all_tasks script) (given core) numbered slots small (IsCallOf script) c ms
 
   open run_facts script made turns core is use {length_is, few_tries, set_up_ahead, played_ahead, ended_ahead, many_played, many_closed}
-
   open leadings script turns core is (given core) (own_leads script core) use {ended_leads, told_leads, closed_leads, ending_leads, played_leads, set_up_leads, opened_leads}
 
   first : Has (opened script)

@@ -92,7 +92,6 @@ module _ (ids : ℕ → ℕ) (p : Plan) (q : IdPlan) where
 
 module _ (script : List Item) (made : AreMade script) (turns : List Turn) (core : Core) (is : IsRunWithCalls script turns core) (closes : ClosesInRun script turns core is) (ids : ℕ → ℕ) (labelled : AreLabelledIn ids script turns core is) where
   open setting script use {vs}
-
   open grounds script made turns core is use {begins, goes, fits}
 
   pub own_store : (x : Store) → In x (stores_of_run script turns core is) → IsOwn ids (plan_of script) (id_plan_of script) x

@@ -276,7 +276,6 @@ module _ (script : List Item) (made : AreMade script) (turns : List Turn) (core 
       split ms c a = ticks_split ms c x a
 
       open parts client_posts_at is use {setup as c₁, clients as c₂, closing as c₃, final as c₄}
-
       open parts reader_posts_at is use {setup as r₁, clients as r₂, closing as r₃, final as r₄}
 
       first_ : In x c₁ ⊎ In x r₁ → In x (client_posts_of_run script turns core is) ⊎ In x (reader_posts_of_run script turns core is)

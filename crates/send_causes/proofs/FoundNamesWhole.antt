@@ -94,7 +94,6 @@ module _ (script : List Item) (made : AreMade script) (there : AreThere script) 
   q = id_plan_of script
 
   open run_facts script made turns core is use {set_up_ahead, played_ahead, ended_ahead, many_played, many_closed, many_seats}
-
   open leadings script turns core is (given core) (own_leads script core) use {told_leads, closed_leads, ending_leads, played_leads}
 
   abbrev Later_ : Scene → Core → Type 0

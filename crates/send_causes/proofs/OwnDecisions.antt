@@ -60,11 +60,8 @@ module _ (script : List Item) (made : AreMade script) (there : AreThere script) 
   -- ## The ticks of each part
 
   open parts posted_at is use {setup as posts_in_setup, clients as posts_in_clients, closing as posts_in_closing}
-
   open parts advanced_at is use {setup as advanced_in_setup, clients as advanced_in_clients, closing as advanced_in_closing}
-
   open run_facts script made turns core is use {set_up_ahead, ended_ahead}
-
   open leadings script turns core is (given core) leads use {set_up_leads, played_leads, closed_leads}
 
   queued_setup : AllQueued (id_plan_of script) (plan_of script) [] (opened script) (in_setup is)
