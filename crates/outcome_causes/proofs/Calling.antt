@@ -139,21 +139,15 @@ module _ (slots requests : ℕ) (calls : ℕ → Type 0) (done : List Done) (tod
     more_broken : (h : Holder) (bs : List ℕ) (tr : List Entry) → IsOn h bs tr → IsOn h (h.link ∷ bs) tr
     more_broken h bs tr a = record { within = λ k m. inr (a.within k m); on = a.on }
 
-    put_goes : (h : Holder) (now : ℕ) (heading : Heading) (left : List ℕ) (taken : ℕ) (bs : List ℕ) (tr : List Entry) → IsOn h bs tr → (answer : Put) → Goes (broken_put h.link answer bs) tr (put_answered h now heading left taken after answer)
-    put_goes = puts_on.put_goes Goes IsOn after again placed_goes failed_goes more_broken
-
-    ready_goes : (h : Holder) (now : ℕ) (heading : Heading) (left : List ℕ) (taken : ℕ) (bs : List ℕ) (tr : List Entry) → IsOn h bs tr → (answer : Ready) → Goes (broken_ready h.link answer bs) tr (ready_answered h now heading left taken after answer)
-    ready_goes = puts_on.ready_goes Goes IsOn after again placed_goes failed_goes more_broken
-
     block_goes : (w : Writing) (bs : List ℕ) (tr : List Entry) → IsOn (holder_of w) bs tr → Goes bs tr (block w after)
     block_goes (Puts h now heading left taken asked) bs tr a = (
       tt,
       λ found. let one : List Entry = step (LookWord h.id) found ∷ tr in let b : IsOn h bs one = more_on h bs tr (LookWord h.id) found refl a in
           split (eqb (vref_version found % 2) 0) (PutBytes h.link asked _ (put_answered h now heading left taken after)) (dropped h now heading after) (Goes bs one)
-          (λ answer. put_goes h now heading left taken bs one b answer)
+          (λ answer. puts_on.put_goes Goes IsOn after again placed_goes failed_goes more_broken h now heading left taken bs one b answer)
           (dropped_goes h bs now heading one b),
     )
-    block_goes (Waits h now heading left taken) bs tr a = λ answer. ready_goes h now heading left taken bs tr a answer
+    block_goes (Waits h now heading left taken) bs tr a = λ answer. puts_on.ready_goes Goes IsOn after again placed_goes failed_goes more_broken h now heading left taken bs tr a answer
     block_goes (Empties h) bs tr a = (
       tt,
       λ found. let e : Call = EmptyHead (socket_id_slot h.id) h.last in let one : List Entry = step e found ∷ tr in let b : IsOn h bs one = more_on h bs tr e found refl a in
@@ -180,7 +174,7 @@ module _ (slots requests : ℕ) (calls : ℕ → Type 0) (done : List Done) (tod
       tt,
       λ found. let one : List Entry = step (LookWord h.id) found ∷ tr in let b : IsOn h bs one = more_on h bs tr (LookWord h.id) found refl a in
           split (eqb (vref_version found % 2) 0) (PutBytes h.link false _ (put_answered h now heading bytes 0 after)) (Write (Puts h now heading bytes 0 false) after) (Goes bs one)
-          (λ answer. put_goes h now heading bytes 0 bs one b answer)
+          (λ answer. puts_on.put_goes Goes IsOn after again placed_goes failed_goes more_broken h now heading bytes 0 bs one b answer)
           (again (Puts h now heading bytes 0 false) bs one b),
     )
 

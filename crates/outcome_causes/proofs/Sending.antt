@@ -162,9 +162,6 @@ module _ (slots requests : ℕ) (calls : ℕ → Type 0) (done : List Done) (t :
     put_goes : (h : Holder) (now : ℕ) (heading : Heading) (left : List ℕ) (taken : ℕ) (bs : List ℕ) (tr : List Entry) → IsAt h bs tr → (answer : Put) → Goes (broken_put h.link answer bs) tr (put_answered h now heading left taken after answer)
     put_goes = puts_on.put_goes Goes IsAt after again placed_goes failed_goes more_broken
 
-    ready_goes : (h : Holder) (now : ℕ) (heading : Heading) (left : List ℕ) (taken : ℕ) (bs : List ℕ) (tr : List Entry) → IsAt h bs tr → (answer : Ready) → Goes (broken_ready h.link answer bs) tr (ready_answered h now heading left taken after answer)
-    ready_goes = puts_on.ready_goes Goes IsAt after again placed_goes failed_goes more_broken
-
     block_goes : (w : Writing) (bs : List ℕ) (tr : List Entry) → IsAt (holder_of w) bs tr → Goes bs tr (block w after)
     block_goes (Puts h now heading left taken asked) bs tr a = (
       a.writer.holds,
@@ -173,7 +170,7 @@ module _ (slots requests : ℕ) (calls : ℕ → Type 0) (done : List Done) (t :
           (λ answer. put_goes h now heading left taken bs one b answer)
           (dropped_goes h bs now heading one b),
     )
-    block_goes (Waits h now heading left taken) bs tr a = λ answer. ready_goes h now heading left taken bs tr a answer
+    block_goes (Waits h now heading left taken) bs tr a = λ answer. puts_on.ready_goes Goes IsAt after again placed_goes failed_goes more_broken h now heading left taken bs tr a answer
     block_goes (Empties h) bs tr a = (
       tt,
       λ found. let e : Call = EmptyHead (socket_id_slot h.id) h.last in let one : List Entry = step e found ∷ tr in let b : IsAt h bs one = mute_at h bs tr e found tt refl a in
