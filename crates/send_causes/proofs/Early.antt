@@ -184,7 +184,7 @@ none_closed_in p (suc n) c o x m = ⊎_elim (λ a. none_closed c o x a) (λ a. n
 -- ## What was found is what was answered
 
 -- a seat that is asked nothing takes nothing
-pub none_taken : (ending : Bool) (k : ℕ) (s : Option SeatState) → map (at_last ending) (as_taken (elim s as (λ o. List Answer) [ none ↦ [] | some s ↦ map (λ (k : ℕ). Unasked) (filter (λ j. j == k) (taken_link s.program)) ])) ≡ []
+none_taken : (ending : Bool) (k : ℕ) (s : Option SeatState) → map (at_last ending) (as_taken (elim s as (λ o. List Answer) [ none ↦ [] | some s ↦ map (λ (k : ℕ). Unasked) (filter (λ j. j == k) (taken_link s.program)) ])) ≡ []
 none_taken ending k none = refl
 none_taken ending k (some s) = ap (map (at_last ending)) (none_answered (filter (λ j. j == k) (taken_link s.program)))
   where
@@ -192,7 +192,7 @@ none_taken ending k (some s) = ap (map (at_last ending)) (none_answered (filter 
     none_answered [] = refl
     none_answered (x ∷ ks) = none_answered ks
 
-quiet_founds : (p : Plan) (calls os : List ℕ) (in_os : (k o : ℕ) → get_elem? os k ≡ some o → o < p.operations) (Odd : List Taking → Type 0) (Lasts : Type 0) (ends : (n id : ℕ) → Ends n id Odd Lasts) (c : Core) (n k : ℕ) → founds p calls os in_os Odd Lasts ends c (replicate n (quiet 0)) k ≡ []
+pub quiet_founds : (p : Plan) (calls os : List ℕ) (in_os : (k o : ℕ) → get_elem? os k ≡ some o → o < p.operations) (Odd : List Taking → Type 0) (Lasts : Type 0) (ends : (n id : ℕ) → Ends n id Odd Lasts) (c : Core) (n k : ℕ) → founds p calls os in_os Odd Lasts ends c (replicate n (quiet 0)) k ≡ []
 quiet_founds p calls os in_os Odd Lasts ends c zero k = refl
 quiet_founds p calls os in_os Odd Lasts ends c (suc n) k = ap (λ l. l ++ founds p calls os in_os Odd Lasts ends (ticked p c (quiet 0)) (replicate n (quiet 0)) k) (none_taken c.calls.ending k (get_elem? c.seats 0)) ∙ quiet_founds p calls os in_os Odd Lasts ends (ticked p c (quiet 0)) n k
 

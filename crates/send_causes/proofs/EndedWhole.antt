@@ -36,9 +36,9 @@ use Rattle.call_causes.specs.Lists.{Take, takes_at, given, shows_in, takes_of_ru
 use Rattle.call_causes.specs.Posts.{Post, posted_at, posts_of_run}
 use Rattle.call_causes.specs.programs_allowed.proofs.Fresh.{opening_rights}
 use Rattle.send_causes.specs.EndedCalls.{loaded_at, reader_posts_at, client_posts_at, loads_of_run, reader_posts_of_run, client_posts_of_run, EndedSo, IsEndPost}
-use Rattle.send_causes.proofs.Early.{EndedBy, Any, ends_anyhow, start, go, fitting, known, begins_at, opened_takes}
+use Rattle.send_causes.proofs.Early.{EndedBy, Any, ends_anyhow, start, go, fitting, known, begins_at, opened_takes, quiet_founds}
 use Rattle.send_causes.proofs.EndedReads.{WasOver, Tells, reader_tells}
-use Rattle.send_causes.proofs.EndedRuns.{Keeping, finds, Seen, AllTold, IsPostOf, more_post, told_along, finds_taken, finds_give, quiet_finds}
+use Rattle.send_causes.proofs.EndedRuns.{Keeping, finds, Seen, AllTold, IsPostOf, more_post, told_along, finds_taken, finds_give}
 use Rattle.send_causes.proofs.ReaderRuns.{keeps_along}
 use Rattle.send_causes.proofs.Lists.{any_in, in_range}
 use Rattle.send_causes.proofs.Takeless.{NoTakes, ending_takes, takes_next}
@@ -181,8 +181,8 @@ module _ (script : List Item) (made : AreMade script) (turns : List Turn) (core 
 
   -- the bytes are those that the link gave
   all_given : (n : ℕ) → given_by (h₄ n) ≡ given_by (heard_takes is n)
-  all_given n = ap (λ l. given_by (((l ++ F (set_up script is.setup) (in_clients is) n) ++ F (closing_of script turns core is) (in_closing is) n) ++ F is.ended is.final n)) (quiet_finds (plan_of script) (calls script) (opens script) (let k = known script made turns core is in k.in_script) is.setup (opened script) n)
-      ∙ (ap (λ l. given_by ((F (set_up script is.setup) (in_clients is) n ++ l) ++ F is.ended is.final n)) (quiet_finds (plan_of script) (calls script) (opens script) (let k = known script made turns core is in k.in_script) is.last (closing_of script turns core is) n)
+  all_given n = ap (λ l. given_by (((l ++ F (set_up script is.setup) (in_clients is) n) ++ F (closing_of script turns core is) (in_closing is) n) ++ F is.ended is.final n)) (quiet_founds (plan_of script) (calls script) (opens script) (let k = known script made turns core is in k.in_script) Any (Unit {0}) ends_anyhow (opened script) is.setup n)
+      ∙ (ap (λ l. given_by ((F (set_up script is.setup) (in_clients is) n ++ l) ++ F is.ended is.final n)) (quiet_founds (plan_of script) (calls script) (opens script) (let k = known script made turns core is in k.in_script) Any (Unit {0}) ends_anyhow (closing_of script turns core is) is.last n)
       ∙ (ap (λ l. given_by (l ++ F is.ended is.final n)) (append-nil (F (set_up script is.setup) (in_clients is) n))
       ∙ (flat_map-append bytes_found (F (set_up script is.setup) (in_clients is) n) (F is.ended is.final n)
       ∙ (ap (λ l. l ++ given_by (F is.ended is.final n)) (finds_give (plan_of script) (calls script) (opens script) (let k = known script made turns core is in k.in_script) (in_clients is) (set_up script is.setup) n)
