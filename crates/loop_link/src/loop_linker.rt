@@ -59,12 +59,6 @@ impl Linker for LoopLinker {
 
     type P = NoPeer;
 
-    ghost always_ready = { λ _. true };
-
-    ghost tells_in = { λ _. false };
-
-    ghost faults = { λ l. l.faults };
-
     ghost asked = { λ l. l.asked };
 
     ghost accepted = { λ l. l.accepted };
@@ -72,6 +66,12 @@ impl Linker for LoopLinker {
     ghost back = { λ l. l.back };
 
     ghost done = { λ l. l.done };
+
+    ghost faults = { λ l. l.faults };
+
+    ghost always_ready = { λ _. true };
+
+    ghost tells_in = { λ _. false };
 
     fn open(&mut self, spec: &LinkSpec) -> Result<Link, OpenFault>
         requires piece { 0 < spec.now.piece }
@@ -93,13 +93,6 @@ impl Linker for LoopLinker {
             inn: LoopIn::new(self.alloc, spec.serve, spec.end),
             peer: NoPeer,
         })
-    }
-
-    fn back(&mut self, _link: u16, ends: Link)
-        requires { length self.old.back < length self.old.asked }
-        ensures { self.new ≡ record self.old { back = self.old.back ++ end_of (shaped_out ends.out) (loop_in ends.inn) ∷ [] } }
-    {
-        self.links.back(ends);
     }
 
     fn settle(&mut self, ends: &mut Link) -> Result<(), NoMemory>
@@ -137,5 +130,12 @@ impl Linker for LoopLinker {
         ensures { self.new ≡ record self.old { done = self.old.done ++ connection_of (shaped_out out) (loop_in inn) ∷ [] } }
     {
         self.links.done(out, inn);
+    }
+
+    fn back(&mut self, _link: u16, ends: Link)
+        requires { length self.old.back < length self.old.asked }
+        ensures { self.new ≡ record self.old { back = self.old.back ++ end_of (shaped_out ends.out) (loop_in ends.inn) ∷ [] } }
+    {
+        self.links.back(ends);
     }
 }

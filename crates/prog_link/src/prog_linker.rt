@@ -174,8 +174,6 @@ impl<N: Net<Stream = TcpStream, Listener = TcpListener> + Drop> Linker for ProgL
 
     ghost asked = { λ l. l.asked };
 
-    ghost tells_in = { tells_in_mode };
-
     ghost accepted = { λ l. l.accepted };
 
     ghost back = { λ l. l.back };
@@ -185,6 +183,8 @@ impl<N: Net<Stream = TcpStream, Listener = TcpListener> + Drop> Linker for ProgL
     ghost faults = { λ l. l.faults };
 
     ghost always_ready = { λ _. true };
+
+    ghost tells_in = { tells_in_mode };
 
     fn open(&mut self, spec: &LinkSpec) -> Result<Link, OpenFault>
         requires piece { 0 < spec.now.piece }
@@ -210,13 +210,6 @@ impl<N: Net<Stream = TcpStream, Listener = TcpListener> + Drop> Linker for ProgL
                 Err(fault)
             }
         }
-    }
-
-    fn back(&mut self, _link: u16, ends: Link)
-        requires { length self.old.back < length self.old.asked }
-        ensures { self.new ≡ record self.old { back = self.old.back ++ end_of (prog_out ends.out) (prog_in ends.inn) ∷ [] } }
-    {
-        self.notes.back(ends);
     }
 
     fn settle(&mut self, ends: &mut Link) -> Result<(), NoMemory> {
@@ -252,5 +245,12 @@ impl<N: Net<Stream = TcpStream, Listener = TcpListener> + Drop> Linker for ProgL
         ensures { self.new ≡ record self.old { done = self.old.done ++ connection_of (prog_out out) (prog_in inn) ∷ [] } }
     {
         self.notes.done(out, inn);
+    }
+
+    fn back(&mut self, _link: u16, ends: Link)
+        requires { length self.old.back < length self.old.asked }
+        ensures { self.new ≡ record self.old { back = self.old.back ++ end_of (prog_out ends.out) (prog_in ends.inn) ∷ [] } }
+    {
+        self.notes.back(ends);
     }
 }

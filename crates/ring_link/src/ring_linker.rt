@@ -75,15 +75,15 @@ impl<R: AllocGlobal + Drop> Linker for RingLinker<R> {
 
     ghost accepted = { λ l. l.accepted };
 
-    ghost always_ready = { λ _. false };
-
-    ghost tells_in = { λ _. true };
-
-    ghost faults = { λ _. 0 };
-
     ghost back = { λ l. l.back };
 
     ghost done = { λ l. l.done };
+
+    ghost faults = { λ _. 0 };
+
+    ghost always_ready = { λ _. false };
+
+    ghost tells_in = { λ _. true };
 
     fn open(&mut self, spec: &LinkSpec) -> Result<Link, OpenFault>
         requires piece { 0 < spec.now.piece }
@@ -109,13 +109,6 @@ impl<R: AllocGlobal + Drop> Linker for RingLinker<R> {
             }
             Err(_) => Err(OpenFault::NoMemory),
         }
-    }
-
-    fn back(&mut self, _link: u16, ends: Link)
-        requires { length self.old.back < length self.old.asked }
-        ensures { self.new ≡ record self.old { back = self.old.back ++ end_of (shaped_out ends.out) (ring_in ends.inn) ∷ [] } }
-    {
-        self.notes.back(ends);
     }
 
     fn settle(&mut self, _ends: &mut Link) -> Result<(), NoMemory>
@@ -162,5 +155,12 @@ impl<R: AllocGlobal + Drop> Linker for RingLinker<R> {
         ensures { self.new ≡ record self.old { done = self.old.done ++ connection_of (shaped_out out) (ring_in inn) ∷ [] } }
     {
         self.notes.done(out, inn);
+    }
+
+    fn back(&mut self, _link: u16, ends: Link)
+        requires { length self.old.back < length self.old.asked }
+        ensures { self.new ≡ record self.old { back = self.old.back ++ end_of (shaped_out ends.out) (ring_in ends.inn) ∷ [] } }
+    {
+        self.notes.back(ends);
     }
 }
