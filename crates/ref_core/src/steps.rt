@@ -90,8 +90,8 @@ pub fn recycle(found: u64, from: Vref) -> Step
     if found == from.word() {
         Step {
             found,
-            won: true,
             next: found + ODD,
+            won: true,
         }
     } else {
         Step {

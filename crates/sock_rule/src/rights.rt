@@ -36,8 +36,8 @@ impl<O: Out> RuleTable<O> {
         ensures way { (O.state result.out).way ≡ way_at self.now.ways.list link }
         ensures known { 0 < faults_of link seat.old.me.0 → 0 < (O.state result.out).faults }
     {
-        let said = self.said();
         let word = 6 * at as usize + 2;
+        let said = self.said();
         self.table
             .shared
             .compare_exchange_with::<TakeOwn>(seat, word, 0, 0, &said);
