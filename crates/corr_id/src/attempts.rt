@@ -26,12 +26,12 @@ impl<C> IdTable<C> {
         ensures of_range { IfOk result (λ k. ((parts k.word.0).first < version_of version) × (version_of version < (parts k.word.0).first + (parts k.word.0).range)) }
         ensures gone { IfErr result (λ e. Quiet seat.old.me.0 seat.new.me.0 × (((self.now.plan.slots ≤ slot_of version) × (e.found ≡ 0)) ⊎ (Found (slot_of version) e.found seat.new.me.0 × LacksAttempt (parts e.found) (version_of version)))) }
     {
-        let own = version % 4_294_967_296;
         let slot = version / 4_294_967_296;
         if slot >= self.plan.slots as u64 {
             return Err(IdGone { found: 0 });
         }
         let at = slot as u16;
+        let own = version % 4_294_967_296;
         'looks: for _ in rt.forever() {
             let found = self.load_id_word(seat, at);
             let word = IdWord::from_word(found);
@@ -41,9 +41,8 @@ impl<C> IdTable<C> {
             if word.state() != IdWord::OPEN {
                 continue;
             }
-            match self.try_lock(seat, at, found) {
-                Ok(lock) => return Ok(lock),
-                Err(_) => continue,
+            if let Ok(lock) = self.try_lock(seat, at, found) {
+                return Ok(lock);
             }
         }
         unreachable!()
