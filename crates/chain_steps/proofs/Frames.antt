@@ -56,16 +56,7 @@ module _ (m m' : Memory) (t t' : Tokens) where
   -- the right stays: what is left to show is its stage, and where the entries point
   pub held_again : (c : List Entry) (freed places : ℕ) (r : Right) (h : Held m t c freed places r) → InStage m' t' c h.counts freed places r.stage
       → ((i : ℕ) (e : Entry) → freed ≤ i → get_elem? c i ≡ some e → Points c h.counts i e (m'.next e.request) (t'.loose e.request)) → Held m' t' c freed places r
-  held_again c freed places r h stage points = record {
-    counts = h.counts;
-    some_noted = h.some_noted;
-    fits = h.fits;
-    turned_is = h.turned_is;
-    noted_is = h.noted_is;
-    last_is = h.last_is;
-    stage_is = stage;
-    points = points;
-  }
+  held_again c freed places r h stage points = record { counts = h.counts; some_noted = h.some_noted; fits = h.fits; turned_is = h.turned_is; noted_is = h.noted_is; last_is = h.last_is; stage_is = stage; points = points }
 
   pub held_frame : (c : List Entry) (freed places : ℕ) (r : Right) → Agree c freed → Held m t c freed places r → Held m' t' c freed places r
   held_frame c freed places r a h = held_again c freed places r h (stage_frame c h.counts freed places r.stage (λ i e late g still. a i e late g) h.stage_is)

@@ -223,9 +223,10 @@ module _ (first : ℕ) (l : SlotFacts) (law : SlotLaw first (live l) l) (j : ℕ
       keeps_steady (l.nref - 1) w (λ f n. let d = rest f n.0 n.1 (n.2 l.version) in omega (arith, by f)) (omega (arith, by is_ref)) (let a = law.few j m here in omega arith)
       (λ p. omega (arith, by is_tried, rest is_tried refl z refl)) (λ h p. law.held h (omega (arith, by (is_hold h), holds h))) (λ v p. law.saw v (omega (arith, by (is_saw v), rest (is_saw v) refl z refl)))
       (λ p q. dite (ℕ_discrete l.nref 1) (λ e. omega (arith, zero_ p e, term_le (total (is_zero l.version)) l.marks j m here, by (is_zero l.version))) (λ n. absurd (omega arith)))
-      (λ h p. law.known h (omega (arith, by (is_known h), rest (is_known h) refl z refl))) (λ h c p. law.told h c (omega (arith, by (is_told h c), rest (is_told h c) refl z refl))) (λ h k p. law.met h k (omega (arith, by (is_met h k), rest (is_met h k) refl z refl)))
-      ((λ h. omega (arith, (law.codes j m here).0 h, rest (is_failer h) refl z refl, rest (is_coding h) refl z refl, rest (is_coded h) refl z refl)),
-      (λ h p. absurd (omega (arith, rest (is_coding h) refl z refl, total_mono (is_coding h) is_any_coding (coding_le h) m))))
+      (λ h p. law.known h (omega (arith, by (is_known h), rest (is_known h) refl z refl))) (λ h c p. law.told h c (omega (arith, by (is_told h c), rest (is_told h c) refl z refl))) (λ h k p. law.met h k (omega (arith, by (is_met h k), rest (is_met h k) refl z refl))) (
+        (λ h. omega (arith, (law.codes j m here).0 h, rest (is_failer h) refl z refl, rest (is_coding h) refl z refl, rest (is_coded h) refl z refl)),
+        (λ h p. absurd (omega (arith, rest (is_coding h) refl z refl, total_mono (is_coding h) is_any_coding (coding_le h) m))),
+      )
 
   -- g is the weight of references of one kind
   pub keeps_sub : (g : Mark → ℕ) → ((x : Mark) → 0 < g x → IsRef x) → 0 < total g m → total is_any_coding m ≡ 0
@@ -478,4 +479,3 @@ module _ (first : ℕ) (l : SlotFacts) (law : SlotLaw first (live l) l) (j : ℕ
       (λ p q. omega (arith, by (is_zero l.version), rest (is_zero l.version), only-else l.version x (λ e. missed (sym e) q), law.zero_noted p q))
       (λ h p. law.known h (omega (arith, by (is_known h), rest (is_known h)))) (λ h c p. law.told h c (omega (arith, by (is_told h c), rest (is_told h c)))) (λ h k p. law.met h k (omega (arith, by (is_met h k), rest (is_met h k))))
       (codes_as w (λ h. omega (arith, rest (is_failer h))) (λ h. omega (arith, rest (is_coding h))) (λ h. omega (arith, rest (is_coded h))) (λ h. omega (arith, rest (is_hold h))) (λ v. omega (arith, rest (is_saw v))))
-
