@@ -47,7 +47,8 @@ use Rattle.seat_programs.specs.Drops.{call_in, Makes}
 use Rattle.seat_programs.specs.Told.{AreTasks, TaskFits}
 use Rattle.sock_runs.specs.Rows.{row, hand_at, took_message, link_away, link_home_again, took_bytes}
 use Rattle.sock_runs.specs.May.{May}
-use Rattle.sock_runs.specs.Sound.{state, Sound, first_step, views_after}
+use Rattle.sock_runs.specs.Sound.{state, Sound, first_step, views_after, is_begun}
+use Rattle.sock_runs.proofs.Along.{begins}
 use Rattle.sock_runs.proofs.Cases.{with_rights, right_rights, put_rights}
 use Rattle.outcome_causes.specs.Stories.{Entry, Event, In, trace_of, told_of, stored_by, last_name, adds, marked}
 use Rattle.outcome_causes.proofs.HomeCalls.{AreCalls, PutsAsked, calls_behind}
@@ -145,14 +146,16 @@ get_of (z ∷ zs) [] i x l e = absurd (omega arith)
 get_of (z ∷ zs) (y ∷ ys) zero x l e = (y, refl)
 get_of (z ∷ zs) (y ∷ ys) (suc i) x l e = get_of zs ys i x (omega arith) e
 
+ready_of : (q : Program) → is_begun q ≡ true → IsReady q
+ready_of (Say o outcome more) e = true≢false (sym e)
+ready_of (Sent o more) e = true≢false (sym e)
+ready_of (Keep r more) e = true≢false (sym e)
+ready_of (Retries n after) e = true≢false (sym e)
+ready_of _ e = tt
+
 -- retries that wait come first, and else what follows
 pub come_ready : (ws : List Retry) (q : Program) → IsReady (next_step (resolved ws q))
-come_ready ws (Say o outcome more) = come_ready ws more
-come_ready ws (Sent o more) = come_ready ws more
-come_ready ws (Keep r more) = come_ready (ws ++ r ∷ []) more
-come_ready [] (Retries n after) = come_ready [] after
-come_ready (r ∷ ws) (Retries n after) = tt
-come_ready ws _ = tt
+come_ready ws q = ready_of (next_step (resolved ws q)) (begins ws q)
 
 -- what a program explains, its first step does
 first_explains : (slots requests : ℕ) (calls : ℕ → Type 0) (w : Way) (broken : List ℕ) (done : List Done) (trace : List Entry) (todo : List Task) (program : Program) → ExplainsBy slots requests calls w broken done trace todo program → ExplainsBy slots requests calls w broken done trace todo (first_step program)
