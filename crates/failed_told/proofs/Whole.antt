@@ -18,7 +18,6 @@ use Rattle.corr_core.specs.Law.{total}
 use Rattle.corr_core.specs.Word.{parts, code_of}
 use Rattle.corr_core.specs.declared.marks.Kept.{Kept}
 use Rattle.corr_core.specs.declared.marks.Noted.{Noted}
-use Rattle.corr_core.specs.declared.marks.Plan as id_plan
 use Rattle.corr_core.specs.declared.marks.View.{View}
 use Rattle.sock_message.specs.Asked.{Asked}
 use Rattle.corr_id.specs.Calls.{slot_of}
@@ -29,7 +28,7 @@ use Rattle.attempts_told.specs.call_whys.specs.expire_told.specs.Below.call_run.
 use Rattle.attempts_told.specs.call_whys.specs.expire_told.specs.call_places.specs.Counted.{HaveNotesOf}
 use Rattle.attempts_told.specs.call_whys.specs.expire_told.specs.call_places.specs.Deeds.{Deed}
 use Rattle.attempts_told.specs.call_whys.specs.expire_told.specs.call_places.proofs.Clients.{Client, view_of, tasks_of, deeds_of}
-use Rattle.attempts_told.specs.call_whys.specs.expire_told.specs.call_places.proofs.Places.{all as all_clients}
+use Rattle.attempts_told.specs.call_whys.specs.expire_told.specs.call_places.proofs.Places.{all as all_clients, crew_of}
 use Rattle.attempts_told.specs.call_whys.specs.expire_told.specs.Said.{AreSaid, HaveKeptOf}
 use Rattle.attempts_told.specs.call_whys.specs.expire_told.specs.Below.sock_deeds.specs.Runs.{IsOperation, seat_of, DeedRun}
 use Rattle.attempts_told.specs.call_whys.specs.expire_told.specs.Below.sock_deeds.proofs.Accepting.{log}
@@ -57,11 +56,7 @@ module _ {O : Type 0} {g : Ghosts O} {state : O → OutState} {readers : List (L
     -- whatever was asked by a call of which an attempt was made is a task
     (asked_so : (c : ℕ) (x : Client g state p (ids_of p slots)) → get_elem? (all_clients run) c ≡ some x → (i : ℕ) (d : Deed g state p (ids_of p slots)) → get_elem? (deeds_of x) i ≡ some d → (asked : Asked) → IsAskedIn d asked
     → (client : ℕ) × IsOperation (setup ∷ clients) outcomes client asked.operation (ops.Call asked)) where
-  abbrev q : id_plan.Plan
-  q = ids_of p slots
-
-  abbrev every : List (List Task)
-  every = setup ∷ clients
+  open crew_of run use {q, every}
 
   module _ (c : ℕ) (x : Client g state p q) (at : get_elem? (all_clients run) c ≡ some x) (one : Told) (e : IsCaused state p q (tasks_of x) (Says run outcomes said_own) (deeds_of x) (view_of x) one) where
     abbrev MissedHere : Type 0
@@ -95,14 +90,4 @@ module _ {O : Type 0} {g : Ghosts O} {state : O → OutState} {readers : List (L
         let range : w.asked.range ≡ last.asked.range = same_range w.asked last.asked (ap (λ (t : Task). t.op) task.1) in
         let two = last.last in let n = l.attempt_is in
         let free : IsUnordered p every outcomes (fixed drun differ gave) gave (orders drun differ) e.lock.content.operation (attempt_of l.deed) = subst (λ (o : ℕ). IsUnordered p every outcomes (fixed drun differ gave) gave (orders drun differ) o (attempt_of l.deed)) its none_.1 in
-        record {
-          client = is.0;
-          asked = w.asked;
-          task = is.1;
-          number = number;
-          asks = w.is;
-          free = free;
-          last = omega (arith, two, range, n);
-          low = subst (λ (o : ℕ). attempt_of l.deed ≤ last_attempt notes o) its (made_low run tasks may notes kept words closing noted none_.0.operation (id_of l.deed) (attempt_of l.deed) none_.0.id l.place l.client l.in_crew l.index l.deed l.there none_.0.attempt);
-          why = fallen run tasks may notes kept words closing noted outcomes drun seats logged differ gave all_there l.place l.client l.in_crew l.index l.deed l.there e.code l.missed l.backed is.0 e.lock.content.operation w.asked (id_of l.deed) is.1 free (omega (arith, two, range, n)) w.why;
-        }
+        record { client = is.0; asked = w.asked; task = is.1; number = number; asks = w.is; free = free; last = omega (arith, two, range, n); low = subst (λ (o : ℕ). attempt_of l.deed ≤ last_attempt notes o) its (made_low run tasks may notes kept words closing noted none_.0.operation (id_of l.deed) (attempt_of l.deed) none_.0.id l.place l.client l.in_crew l.index l.deed l.there none_.0.attempt); why = fallen run tasks may notes kept words closing noted outcomes drun seats logged differ gave all_there l.place l.client l.in_crew l.index l.deed l.there e.code l.missed l.backed is.0 e.lock.content.operation w.asked (id_of l.deed) is.1 free (omega (arith, two, range, n)) w.why }

@@ -100,14 +100,11 @@ quiet n (returns id) b e = (refl, refl)
 
 -- and one that is an operation changes what its task does
 alike : (clients : List (List Task)) (outcomes : List (Option Outcome)) (n number : ℕ) (op : Op) (d : Did) (b : Bool) → Does clients outcomes number op d → (does_well n d b ≡ goes_well n op b) × (hand_behind n d b ≡ in_hand_behind n op b)
-alike clients outcomes n number (ops.Open m k) d b e = (ap (λ x. does_well n x b) e.1, ap (λ x. hand_behind n x b) e.1)
 alike clients outcomes n number (ops.Send m bytes) d b e = (ap (λ x. does_well n x b) e.2, ap (λ x. hand_behind n x b) e.2)
 alike clients outcomes n number (ops.Call asked) d b e = (ap (λ x. does_well n x b) e.2, ap (λ x. hand_behind n x b) e.2)
-alike clients outcomes n number (ops.Hold m) d b e = (ap (λ x. does_well n x b) e.1, ap (λ x. hand_behind n x b) e.1)
-alike clients outcomes n number (ops.Drop m) d b e = (ap (λ x. does_well n x b) e.1, ap (λ x. hand_behind n x b) e.1)
-alike clients outcomes n number (ops.Fail m code) d b e = (ap (λ x. does_well n x b) e.1, ap (λ x. hand_behind n x b) e.1)
 alike clients outcomes n number (ops.Expire o) d b e = elim e [ ]
 alike clients outcomes n number (ops.Join o) d b e = elim e [ ]
+alike clients outcomes n number _ d b e = (ap (λ x. does_well n x b) e.1, ap (λ x. hand_behind n x b) e.1)
 
 both_true : (a b : Bool) → a ≡ true → b ≡ true → (a && b) ≡ true
 both_true true b e f = f
