@@ -57,7 +57,29 @@ module _ (bytes : List ℕ) (script : List Item) (reads : script_of bytes ≡ Ok
     all_given = record { run = known_of bytes script reads last_core fixed gave orders long told_of_sockets; report = reported.report; took = took; ends = ends; reports = reports; told = told; given = ends_still ends given }
 
     abbrev told_run : ToldRun
-    told_run = record { bytes = bytes; script = script; reads = reads; outcomes = outcomes; broken = broken; early = early; fails = fails; gave = gave; orders = orders; core = core; long = long; tells = tells; last = told_of_sockets.last; few = λ client t asked is op. (told_of_sockets.again client t asked is op).0; sent = told_of_sockets.sent; opens = λ client t slot version k is became. of_sockets script callless outcomes client t is; took = took; report = reported.report; told = reports; ends = ends; given = given }
+    told_run = record {
+      bytes = bytes;
+      script = script;
+      reads = reads;
+      outcomes = outcomes;
+      broken = broken;
+      early = early;
+      fails = fails;
+      gave = gave;
+      orders = orders;
+      core = core;
+      long = long;
+      tells = tells;
+      last = told_of_sockets.last;
+      few = λ client t asked is op. (told_of_sockets.again client t asked is op).0;
+      sent = told_of_sockets.sent;
+      opens = λ client t slot version k is became. of_sockets script callless outcomes client t is;
+      took = took;
+      report = reported.report;
+      told = reports;
+      ends = ends;
+      given = given;
+    }
 
     abbrev run : Run
     run = record { script = script; report = reported.report; ends = ends; late = nothing_late; story = record { fails = fails; gave = gave; last = told_of_sockets.last } }

@@ -129,7 +129,19 @@ module _ {O : Type 0} {g : Ghosts O} {state : O → OutState} {p : Plan} {client
   fail_for a l = subst (IsFor clients outcomes a.c) l.did_is (is_for run a)
 
   pub as_fail : (a : Act run) (l : FailedLife a) → IsFail clients outcomes (l.number, l.link)
-  as_fail a l = let w = fail_for a l in record { client = a.c; task = record { number = l.number; op = ops.Fail l.name l.code }; is = w.0; numbered = refl; name = l.name; code = l.code; op = refl; became = w.1; slot = socket_id_slot l.tried.sock.id.0; version = socket_id_version l.tried.sock.id.0; life = l.made }
+  as_fail a l = let w = fail_for a l in record {
+    client = a.c;
+    task = record { number = l.number; op = ops.Fail l.name l.code };
+    is = w.0;
+    numbered = refl;
+    name = l.name;
+    code = l.code;
+    op = refl;
+    became = w.1;
+    slot = socket_id_slot l.tried.sock.id.0;
+    version = socket_id_version l.tried.sock.id.0;
+    life = l.made;
+  }
 
   pub number_of_fail : (a : Act run) (l : FailedLife a) → own_number (did_of run a) ≡ Some l.number
   number_of_fail a l = ap own_number l.did_is
