@@ -110,7 +110,18 @@ module _ (slots : ℕ) (Given : Frame → Type 0) (asked : (f : Frame) → Given
   }
 
   end_still : (v w : View Asked) → NotesGrow v w → (x : Told) → CodeEnd v x → CodeEnd w x
-  end_still v w grows x e id is = let h = e id is in record { slot = h.slot; inside = h.inside; w = h.w; low = h.low; id_is = h.id_is; word = h.word; found = (let a = grows h.slot (is_saw h.word) in let b = h.found in omega (arith, a, b)); was_open = h.was_open; word_is = h.word_is; alone = λ f given of. twice_still f h.slot h.w.first v w grows (h.alone f given of) }
+  end_still v w grows x e id is = let h = e id is in record {
+    slot = h.slot;
+    inside = h.inside;
+    w = h.w;
+    low = h.low;
+    id_is = h.id_is;
+    word = h.word;
+    found = (let a = grows h.slot (is_saw h.word) in let b = h.found in omega (arith, a, b));
+    was_open = h.was_open;
+    word_is = h.word_is;
+    alone = λ f given of. twice_still f h.slot h.w.first v w grows (h.alone f given of);
+  }
 
   -- what is told more
   pub record TellsEnds (b b' : Books) : Type 0 where

@@ -293,7 +293,18 @@ module _ {O : Type 0} {g : Ghosts O} (state : O → OutState) (p : Plan) (q : id
           let Q : ℕ → ℕ → Type 0 = StoredAmong (d ∷ []) t.calls.view in
           let x : Both = record { socks = u.socks; calls = record { view = w.view; books = u.calls.books } } in
           for_then q Q s.calls.view w.view t.calls.view (for_none q Q s.calls.view w.view (none_by s.calls.view w.view (w.unlocked.4.kept ∙ l.got.got.did.kept)))
-          (went_for q state p Q _ (letter_for k.content r.id r.attempt r.low) x t w.went (λ link is small. one_deed d t.calls.view k.content.operation (at_word (version_of r.id) (slot_of r.id) link r.attempt) (record { asked = k.content; is = refl; operation = refl; link = link; link_is = is; link_low = small; word_is = refl; low = (let a = l.got.to_last in let b = k.fits.low in let c = k.fits.range_high in omega (arith, a, b, c)); inside = (let a = l.got.inside in let b = l.got.slot_is in omega (arith, a, b)); made = tt })))
+          (went_for q state p Q _ (letter_for k.content r.id r.attempt r.low) x t w.went (λ link is small. one_deed d t.calls.view k.content.operation (at_word (version_of r.id) (slot_of r.id) link r.attempt) (record {
+            asked = k.content;
+            is = refl;
+            operation = refl;
+            link = link;
+            link_is = is;
+            link_low = small;
+            word_is = refl;
+            low = (let a = l.got.to_last in let b = k.fits.low in let c = k.fits.range_high in omega (arith, a, b, c));
+            inside = (let a = l.got.inside in let b = l.got.slot_is in omega (arith, a, b));
+            made = tt;
+          })))
 
   -- what a call that began stored
   acted_for : (number : ℕ) (op : Op) (by : Option Outcome) (s t : Stand g) (a : Acted state p q number op by s t) (Q : ℕ → ℕ → Type 0)
@@ -324,7 +335,18 @@ module _ {O : Type 0} {g : Ghosts O} (state : O → OutState) (p : Plan) (q : id
   operation_stores x by s t a =
       let d : Deed g state p q = operates x by s t a in record {
         grows = (acted_might state p q x.number x.op by s t a).grows;
-        own = acted_for x.number x.op by s t a (StoredAmong (d ∷ []) t.calls.view) (λ asked link op is small low inside made. one_deed d t.calls.view asked.operation _ (record { asked = asked; is = op; operation = refl; link = link; link_is = is; link_low = small; word_is = refl; low = low; inside = inside; made = made }));
+        own = acted_for x.number x.op by s t a (StoredAmong (d ∷ []) t.calls.view) (λ asked link op is small low inside made. one_deed d t.calls.view asked.operation _ (record {
+          asked = asked;
+          is = op;
+          operation = refl;
+          link = link;
+          link_is = is;
+          link_low = small;
+          word_is = refl;
+          low = low;
+          inside = inside;
+          made = made;
+        }));
       }
 
   retried_stores : (s t : Both) (h : Retried state p q s t) → Stores (retries_of {g = g} state p q s t h) s.calls t.calls

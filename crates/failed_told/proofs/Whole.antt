@@ -90,4 +90,14 @@ module _ {O : Type 0} {g : Ghosts O} {state : O → OutState} {readers : List (L
         let range : w.asked.range ≡ last.asked.range = same_range w.asked last.asked (ap (λ (t : Task). t.op) task.1) in
         let two = last.last in let n = l.attempt_is in
         let free : IsUnordered p every outcomes (fixed drun differ gave) gave (orders drun differ) e.lock.content.operation (attempt_of l.deed) = subst (λ (o : ℕ). IsUnordered p every outcomes (fixed drun differ gave) gave (orders drun differ) o (attempt_of l.deed)) its none_.1 in
-        record { client = is.0; asked = w.asked; task = is.1; number = number; asks = w.is; free = free; last = omega (arith, two, range, n); low = subst (λ (o : ℕ). attempt_of l.deed ≤ last_attempt notes o) its (made_low run tasks may notes kept words closing noted none_.0.operation (id_of l.deed) (attempt_of l.deed) none_.0.id l.place l.client l.in_crew l.index l.deed l.there none_.0.attempt); why = fallen run tasks may notes kept words closing noted outcomes drun seats logged differ gave all_there l.place l.client l.in_crew l.index l.deed l.there e.code l.missed l.backed is.0 e.lock.content.operation w.asked (id_of l.deed) is.1 free (omega (arith, two, range, n)) w.why }
+        record {
+          client = is.0;
+          asked = w.asked;
+          task = is.1;
+          number = number;
+          asks = w.is;
+          free = free;
+          last = omega (arith, two, range, n);
+          low = subst (λ (o : ℕ). attempt_of l.deed ≤ last_attempt notes o) its (made_low run tasks may notes kept words closing noted none_.0.operation (id_of l.deed) (attempt_of l.deed) none_.0.id l.place l.client l.in_crew l.index l.deed l.there none_.0.attempt);
+          why = fallen run tasks may notes kept words closing noted outcomes drun seats logged differ gave all_there l.place l.client l.in_crew l.index l.deed l.there e.code l.missed l.backed is.0 e.lock.content.operation w.asked (id_of l.deed) is.1 free (omega (arith, two, range, n)) w.why;
+        }
