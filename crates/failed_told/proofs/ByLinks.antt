@@ -107,7 +107,6 @@ module _ {O : Type 0} {g : Ghosts O} {state : O → OutState} {readers : List (L
     -- the link that this word names gave no response of the id that the word names
     (Alone : ℕ → Type 0) where
   open crew_of run use {q, every}
-
   open laws_of drun differ gave use {fixed_here, orders_here}
 
   -- a word of an operation's attempts was found, and the reading of the link that it names ended with the code

@@ -133,7 +133,6 @@ module _ {O : Type 0} {g : Ghosts O} {state : O → OutState} {readers : List (L
     -- the codes that a `fail` may have in a script
     (bounds : (client number name code : ℕ) → IsOperation (setup ∷ clients) outcomes client number (ops.Fail name code) → (1500 ≤ code) × (code ≤ 1999)) where
   open crew_of run use {q, every, crew}
-
   open laws_of drun differ gave use {fixed_here, orders_here}
 
   -- why the message of attempt n of this call was dropped with this code

@@ -99,7 +99,6 @@ module _ {O : Type 0} {g : Ghosts O} {state : O → OutState} {readers : List (L
     (few : (client : ℕ) (t : Task) (asked : Asked) → IsTask (setup ∷ clients) outcomes client t → t.op ≡ ops.Call asked → last_attempt notes t.number + 2 ≤ asked.range)
     (dropped_why : TellsDrops run notes outcomes drun differ gave) where
   open crew_of run use {q, every}
-
   open laws_of drun differ gave use {fixed_here, orders_here}
 
   -- an attempt that a link accepted is none behind the last one

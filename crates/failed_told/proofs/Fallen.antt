@@ -146,7 +146,6 @@ module _ {O : Type 0} {g : Ghosts O} {state : O → OutState} {readers : List (L
     -- the links accepted all messages of the log
     (all_there : length (log drun) ≤ all_accepted p.links (orders drun differ)) where
   open crew_of run use {q, every, crew}
-
   open laws_of drun differ gave use {fixed_here}
 
   -- the seat of a client

@@ -88,7 +88,6 @@ module _ {O : Type 0} {g : Ghosts O} {state : O → OutState} {readers : List (L
     (asked_so : (c : ℕ) (x : Client g state p (ids_of p slots)) → get_elem? (all_clients run) c ≡ some x → (i : ℕ) (d : Deed g state p (ids_of p slots)) → get_elem? (deeds_of x) i ≡ some d → (asked : Asked) → IsAskedIn d asked
     → (client : ℕ) × IsOperation (setup ∷ clients) outcomes client asked.operation (ops.Call asked)) where
   open crew_of run use {q, every, crew}
-
   open laws_of drun differ gave use {fixed_here, orders_here}
 
   abbrev IsAttempt : ℕ → ℕ → ℕ → Deed g state p q → Type 0

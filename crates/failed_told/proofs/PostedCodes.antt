@@ -69,7 +69,6 @@ module _ {O : Type 0} {g : Ghosts O} {state : O → OutState} {readers : List (L
     (all_there : length (log drun) ≤ all_accepted p.links (orders drun differ)) (few : p.operations ≤ 65536) (few_links : p.links ≤ 65536)
     (bounds : (client number name code : ℕ) → IsOperation (setup ∷ clients) outcomes client number (ops.Fail name code) → (1500 ≤ code) × (code ≤ 1999)) where
   open crew_of run use {q, every}
-
   open laws_of drun differ gave use {fixed_here, orders_here}
 
   abbrev PostedHere : ℕ → Type 0

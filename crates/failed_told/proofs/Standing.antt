@@ -163,7 +163,6 @@ module _ {O : Type 0} {g : Ghosts O} {state : O → OutState} {readers : List (L
     (drun : DeedRun g state p (setup ∷ clients) outcomes places vrefs outs) (seats : map seat_of drun.seats ≡ map (λ (x : Thread g). x.ended.seat) (run.ran.main ∷ run.ran.others)) (logged : log drun ≡ run.closed.ordered.log) (differ : PlacesDiffer (log drun)) (gave : ℕ → List ℕ)
     (all_there : length (log drun) ≤ all_accepted p.links (orders drun differ)) where
   open crew_of run use {q, every, crew}
-
   open laws_of drun differ gave use {fixed_here, orders_here}
 
   module _ (c : ℕ) (x : Client g state p q) (at : get_elem? crew c ≡ some x) (i : ℕ) (d : Deed g state p q) (there : get_elem? (deeds_of x) i ≡ some d) where
