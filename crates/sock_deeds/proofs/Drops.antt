@@ -86,17 +86,9 @@ does_well n other b = true
 
 -- a deed that is no operation changes nothing
 quiet : (n : ℕ) (d : Did) (b : Bool) → own_number d ≡ None → (does_well n d b ≡ true) × (hand_behind n d b ≡ b)
-quiet n (opens name number link by) b e = (refl, refl)
-quiet n (sends name number attempt msg by) b e = (refl, refl)
 quiet n (holds name number by) b e = absurd (none-some number (sym e))
 quiet n (drops name number by) b e = absurd (none-some number (sym e))
-quiet n (fails name number code by) b e = (refl, refl)
-quiet n (waits name) b e = (refl, refl)
-quiet n (looks number x) b e = (refl, refl)
-quiet n (takes id) b e = (refl, refl)
-quiet n (misses id found) b e = (refl, refl)
-quiet n (sets id code by) b e = (refl, refl)
-quiet n (returns id) b e = (refl, refl)
+quiet n _ b e = (refl, refl)
 
 -- and one that is an operation changes what its task does
 alike : (clients : List (List Task)) (outcomes : List (Option Outcome)) (n number : ℕ) (op : Op) (d : Did) (b : Bool) → Does clients outcomes number op d → (does_well n d b ≡ goes_well n op b) × (hand_behind n d b ≡ in_hand_behind n op b)

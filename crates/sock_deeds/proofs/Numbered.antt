@@ -46,13 +46,7 @@ few_numbers t = by_op t.op
   where
     by_op : (op : Op) → length (number_at t.number op) ≤ 1
     by_op (ops.Expire o) = omega arith
-    by_op (ops.Join o) = omega arith
-    by_op (ops.Open n k) = omega arith
-    by_op (ops.Send n bytes) = omega arith
-    by_op (ops.Call asked) = omega arith
-    by_op (ops.Hold n) = omega arith
-    by_op (ops.Drop n) = omega arith
-    by_op (ops.Fail n code) = omega arith
+    by_op _ = omega arith
 
 listed_is : (o : Option ℕ) (j m : ℕ) → get_elem? (listed o) j ≡ some m → o ≡ Some m
 listed_is None j m e = absurd (some-ne-none m (sym e))
