@@ -50,13 +50,7 @@ call_at p q (x ∷ xs) passes zero t m e = subst (λ (y : Task). IsOwnCall y.num
   where
     own : (op : Op) → Needs p q x.number op passes → IsOwnCall x.number op
     own (ops.Call asked) needs = needs.1
-    own (ops.Open n k) needs = tt
-    own (ops.Send n bytes) needs = tt
-    own (ops.Expire o) needs = tt
-    own (ops.Join o) needs = tt
-    own (ops.Hold n) needs = tt
-    own (ops.Drop n) needs = tt
-    own (ops.Fail n code) needs = tt
+    own _ needs = tt
 
 module _ {O : Type 0} {g : Ghosts O} (state : O → OutState) (p : Plan) (q : id_plan.Plan) where
   same_passes : (first : ℕ) (s t : Stand g) → t.passes ≡ s.passes → LinksDown first s.passes → LinksDown (first + 0) t.passes

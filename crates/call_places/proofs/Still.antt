@@ -104,13 +104,8 @@ pub makes_silent : (o : ℕ) (n : Noted Asked) → is_event n.note ≡ false →
 makes_silent o n e = by n.note e
   where
     by : (x : Note Asked) → is_event x ≡ false → makes_for o x ≡ 0
-    by Tried e = refl
     by (Made f r c) e = let k : true ≡ false = e in cc
-    by (Ended g y) e = refl
-    by (Locker g c) e = refl
-    by (Queued g d) e = refl
-    by (Attempt g m) e = refl
-    by (Saw w) e = refl
+    by _ e = refl
 
 pub attempt_silent : (f n : ℕ) (x : Note Asked) → is_event x ≡ false → is_attempt f n x ≡ 0
 attempt_silent f n (Attempt g m) e = let k : true ≡ false = e in cc

@@ -105,7 +105,4 @@ module _ (q : id_plan.Plan) where
             found = found;
             ended = once_more k ERPCTIMEDOUT s u t h.id p.post.0 p.post.2 (g.1.did.grows k.slot (is_ended (parts k.word.0).first)) end;
           }
-      by IsQueued e p = absurd (cc)
-      by (Gone f) e p = absurd (cc)
-      by (Stale f) e p = absurd (cc)
-      by (Crowded f g) e p = absurd (cc)
+      by _ e p = absurd (cc)
