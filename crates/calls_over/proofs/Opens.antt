@@ -104,7 +104,7 @@ module _ (calm : CalmRun) where
       since_clients y = times y (shows_in advanced_at (plan_of script) (opened script) (replicate is.setup (quiet 0))) + times y (shows_in advanced_at (plan_of script) (set_up script is.setup) (is.scheduled ++ is.later))
 
       counted : Counted (plan_of script) (id_plan_of script) (narrow script (are_made calm) turns core is closes) (IsCallOf script) (ids_at script core) (single_at script (are_made calm) (targets calm) (range calm) turns core is closes) since_clients rested (views_played script turns core is (first_views script))
-      counted = played_counted script ((are_made calm) calm).are (first_views script) (start script (are_made calm) turns core is) (go script (are_made calm) turns core is) turns core is (fitting script (are_made calm) turns core is) (narrow script (are_made calm) turns core is closes)
+      counted = played_counted script (are_made calm).are (first_views script) (start script (are_made calm) turns core is) (go script (are_made calm) turns core is) turns core is (fitting script (are_made calm) turns core is) (narrow script (are_made calm) turns core is closes)
           (opening_bare script)
           (ids_at script core) (single_at script (are_made calm) (targets calm) (range calm) turns core is closes) labelled (stored_run script (are_made calm) (targets calm) (range calm) turns core is (run_all_rest script (are_made calm) turns core is closes)).1
 

@@ -124,12 +124,12 @@ module _ (calm : CalmRun) where
   pub unfailed : (k : ℕ) → Failed (plan_of script) (state (played script is.setup (is.scheduled ++ is.later)) (views_played script turns core is (first_views script))) k → ⊥
   unfailed k failed = ⊎_elim (λ lost. by_lost (contains_in _ k lost))
       (λ at_fail.
-      let tale = run_tells script ((are_made calm) calm).are (first_views script) (start script (are_made calm) turns core is) (first_fresh script) (go script (are_made calm) turns core is) turns core is (fitting script (are_made calm) turns core is) (owed script (are_made calm) turns core is closes) in
+      let tale = run_tells script (are_made calm).are (first_views script) (start script (are_made calm) turns core is) (first_fresh script) (go script (are_made calm) turns core is) turns core is (fitting script (are_made calm) turns core is) (owed script (are_made calm) turns core is closes) in
       let t = tale.tells in let f : IsFail (told_tasks_of script) core.outcomes (at_fail.0, k) = all_at (IsFail (told_tasks_of script) core.outcomes) t.fails (at_fail.0, k) t.are (has_from t.fails (at_fail.0, k) at_fail.1) in
       let it = task_up (all_tasks script) (length (opens script)) core.outcomes f.client f.task f.is in
       let w = task_is script core.outcomes f.client f.task it in let m = fail_asks (numbered script) (names script) (numbers_at script f.task.number w.operation) w.operation.item f.name f.code (w.asks ∙ ap Some f.op) in
       untroubled.no_fail m.0 f.code (contains_from script (Fail m.0 f.code) (known.in_script all_given.run f.task.number w.operation w.there (Fail m.0 f.code) m.1)))
-      (failed_early script ((are_made calm) calm).are (first_views script) (start script (are_made calm) turns core is) (first_fresh script) (go script (are_made calm) turns core is) turns core is (fitting script (are_made calm) turns core is) (owed script (are_made calm) turns core is closes) k failed)
+      (failed_early script (are_made calm).are (first_views script) (start script (are_made calm) turns core is) (first_fresh script) (go script (are_made calm) turns core is) turns core is (fitting script (are_made calm) turns core is) (owed script (are_made calm) turns core is closes) k failed)
     where
       low : k < length (link_names script)
       low = let o = (rested_sound script (are_made calm) turns core is).lawful in o.in_slots.small failed.slot failed.version k failed.life
