@@ -1,8 +1,8 @@
 //! What a row asks.
 use crate::answer::Asked;
 use crate::over::{
-    back_of_rings, back_of_sinks, both, over_connection, over_given, over_loops, over_rings,
-    over_sinks,
+    back_of_rings, back_of_sinks, both, over_connection, over_crowd, over_given, over_held,
+    over_loops, over_rings, over_sinks,
 };
 use std::alloc::{AllocError, Global};
 use std::sync::Wait;
@@ -28,6 +28,8 @@ pub fn said<R: Threads + Wait + Sync + Alloc<A = Global>>(
         "bytes" => over_sinks(rt, asked_in(alloc, "frames", bytes_of(alloc, rest))?),
         "given" => given_said(rt, rest),
         "connection" => connection_said(rt, rest),
+        "crowd" => over_crowd(rt, asked_by(alloc, rest)?),
+        "held" => over_held(rt, asked_by(alloc, rest)?),
         _ => String::from_str(alloc, row),
     }
 }
@@ -50,7 +52,7 @@ fn words_of(alloc: Global, text: &str) -> Result<Vec<String>, AllocError> {
 }
 
 /// These words over this input, with room for all, where nothing fails.
-fn asked_in(alloc: Global, words: &str, input: Vec<u8>) -> Result<Asked, AllocError> {
+pub fn asked_in(alloc: Global, words: &str, input: Vec<u8>) -> Result<Asked, AllocError> {
     let words = words_of(alloc, words)?;
     Ok(Asked {
         read: 0,

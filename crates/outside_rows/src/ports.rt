@@ -1,20 +1,18 @@
-use crate::answer::{Answer, answered, words_of};
+//! A server and a client of the top call beside each other, over TCP on 127.0.0.1.
+use crate::answer::{Answer, answered, shown};
+use crate::rows::asked_in;
 use net_link::TcpLinker;
 use prog_link::ProgLinker;
-use std::alloc::Global;
+use sock_io::OpenGate;
+use std::alloc::{AllocError, Global};
 use std::io;
 use std::net::{Ipv4Addr, Net, SocketAddr, TcpListener, TcpStream};
 use std::sync::Wait;
-use std::test::Fail;
 use std::thread::{self, Threads};
 use std::time::{Clock, Duration};
 
 /// A client that calls a server.
-const SCRIPT: &str = "open a serve\nclient\ncall a Echo.Echo 6869\n";
-
-/// The report of its run.
-const REPORT: &str =
-    "0.1 open 0 0 0\n1.1 call 1 answered 6869 -\nlink 0 a accepted 1 placed 1 took 30 5052504300000012000000100a0c0a044563686f12044563686f20026869\norder 0 1.1.0\nend\n";
+const SCRIPT: &[u8] = b"open a serve\nclient\ncall a Echo.Echo 6869\n";
 
 /// The status where a link could not be opened: nobody listens at the port yet, or it is taken.
 const NO_LINK: u8 = 8;
@@ -46,8 +44,9 @@ fn serve_one<
     R: Threads + Wait + Sync + Alloc<A = Global> + Net<Stream = TcpStream, Listener = TcpListener>,
 >(rt: &R, port: u16) -> Option<Answer> {
     let alloc = rt.alloc();
-    let words = words_of(alloc, "serve", port, Some(1)).ok()?;
-    answered(rt, &words, "", &mut TcpLinker::new(rt, alloc))
+    let words = format!(in alloc; "serve {port} 1").ok()?;
+    let asked = asked_in(alloc, words.as_str(), Vec::new(alloc)).ok()?;
+    answered(rt, asked, &mut TcpLinker::new(rt, alloc), &OpenGate).ok()
 }
 
 /// What `run PORT` answers.
@@ -55,8 +54,10 @@ fn run_once<
     R: Threads + Wait + Sync + Alloc<A = Global> + Net<Stream = TcpStream, Listener = TcpListener>,
 >(rt: &R, port: u16) -> Option<Answer> {
     let alloc = rt.alloc();
-    let words = words_of(alloc, "run", port, None).ok()?;
-    answered(rt, &words, SCRIPT, &mut ProgLinker::new(rt, alloc))
+    let words = format!(in alloc; "run {port}").ok()?;
+    let script = Vec::from_slice(alloc, SCRIPT).ok()?;
+    let asked = asked_in(alloc, words.as_str(), script).ok()?;
+    answered(rt, asked, &mut ProgLinker::new(rt, alloc), &OpenGate).ok()
 }
 
 /// The same, as soon as somebody listens.
@@ -102,10 +103,20 @@ fn both_at_once<
     None
 }
 
-#[test]
-fn a_call_over_tcp_is_answered_by_a_server_beside_it(rt: HostRuntime) -> Result<(), Fail> {
-    let Beside { server, client } = both_at_once(&rt).ok_or("no port or no memory")?;
-    assert!(rt; client.is(0, REPORT));
-    assert!(rt; server.is(0, "served 1 frames 1\n"));
-    Ok(())
+/// What both answer, the client to a script with one call.
+pub fn over_ports<
+    R: Threads
+        + Wait
+        + Sync
+        + Clock
+        + Alloc<A = Global>
+        + Net<Stream = TcpStream, Listener = TcpListener>,
+>(rt: &R) -> Result<String, AllocError> {
+    let alloc = rt.alloc();
+    let Some(Beside { server, client }) = both_at_once(rt) else {
+        return String::from_str(alloc, "no port or no memory");
+    };
+    let server = shown(alloc, &server)?;
+    let client = shown(alloc, &client)?;
+    format!(in alloc; "server {server} client {client}")
 }

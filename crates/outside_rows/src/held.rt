@@ -114,6 +114,8 @@ impl<R: AllocGlobal + Drop> HeldLinker<R> {
     pub fn new(rt: R, alloc: Global, flags: Shared) -> Self
         ensures asked { result.inner.asked ≡ [] }
         ensures back { result.inner.back ≡ [] }
+        ensures accepted { result.inner.accepted ≡ 0 }
+        ensures done { result.inner.done ≡ [] }
     {
         HeldLinker {
             inner: RingLinker::new(rt),
