@@ -1,5 +1,5 @@
 //! Numbers and fields.
-use pb_wire::{Fields, read_varint, varint_size, write_varint};
+use pb_wire::{Field, Fields, WireFault, read_varint, varint_size, write_varint};
 use std::alloc::{AllocError, Global};
 
 /// The varint in front.
@@ -32,18 +32,32 @@ pub fn within_said(alloc: Global, bytes: &[u8]) -> Result<String, AllocError> {
     each_said(alloc, Fields::within(bytes, 2, 6))
 }
 
+/// The next field. Nothing more is said of it, so that the loop over it is proved soon.
+fn next_of(fields: &mut Fields<'_>) -> Result<Option<Field>, WireFault> {
+    fields.next()
+}
+
+/// A fault, and what is answered behind it.
+fn fault_said(
+    alloc: Global,
+    fault: WireFault,
+    fields: &mut Fields<'_>,
+) -> Result<String, AllocError> {
+    let again = next_of(fields);
+    format!(in alloc; "{fault:?} {again:?}")
+}
+
 fn each_said(alloc: Global, mut fields: Fields<'_>) -> Result<String, AllocError> {
     let mut said = String::new(alloc);
     for _ in 0..100u8 {
-        match fields.next() {
+        match next_of(&mut fields) {
             Ok(Some(field)) => said.push_str(format!(in alloc; "{field:?} ")?.as_str())?,
             Ok(None) => {
                 said.push_str("end")?;
                 return Ok(said);
             }
             Err(fault) => {
-                let again = fields.next();
-                said.push_str(format!(in alloc; "{fault:?} {again:?}")?.as_str())?;
+                said.push_str(fault_said(alloc, fault, &mut fields)?.as_str())?;
                 return Ok(said);
             }
         }

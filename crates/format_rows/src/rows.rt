@@ -1,4 +1,5 @@
 //! What a row asks.
+use crate::bytes::said_of;
 use crate::expanded::{expanded, number};
 use crate::reports::{report, summary, untold};
 use crate::scripts::{drawn_seats, fault_or_count, large, printed, sizes, small};
@@ -20,7 +21,7 @@ pub fn answer(alloc: Global, row: &str) -> Result<String, AllocError> {
         "report" => report(alloc, expanded(alloc, rest)?.as_str()),
         "untold" => untold(alloc, expanded(alloc, rest)?.as_str()),
         "summary" => summary(alloc, expanded(alloc, rest)?.as_str()),
-        _ => String::from_str(alloc, row),
+        _ => said_of(alloc, row, word, rest),
     }
 }
 

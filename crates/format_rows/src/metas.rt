@@ -1,5 +1,5 @@
 //! Metas.
-use rpc_meta::{FRONT_BYTES, Front, RequestMeta, ResponseMeta, RpcMeta};
+use rpc_meta::{FRONT_BYTES, Front, MetaFault, RequestMeta, ResponseMeta, RpcMeta};
 use std::alloc::{AllocError, Global};
 
 /// Bytes in hexadecimal, `-` for none.
@@ -55,22 +55,38 @@ fn is_spelled_so(meta: &RpcMeta, bytes: &[u8]) -> bool {
     front.as_slice() == bytes
 }
 
+/// How it is written.
+fn written(alloc: Global, meta: &RpcMeta) -> Result<Vec<u8>, AllocError> {
+    let mut out = Vec::new(alloc);
+    match meta.write_to(&mut out) {
+        Ok(()) => Ok(out),
+        Err(_) => Err(AllocError),
+    }
+}
+
+/// Whether it tells that it takes so many bytes.
+fn has_size(meta: &RpcMeta, size: usize) -> bool {
+    meta.spelled_size() == Some(size)
+}
+
 /// What is read, whether it is written and spelled in place as it was, and whether the size told is that of what is written.
 fn read_said(alloc: Global, meta: &RpcMeta, bytes: &[u8]) -> Result<String, AllocError> {
     let text = meta_text(alloc, meta)?;
-    let mut out = Vec::new(alloc);
-    if meta.write_to(&mut out).is_err() {
-        return Err(AllocError);
-    }
+    let out = written(alloc, meta)?;
     let is_written = out.as_slice() == bytes;
-    let is_size = meta.spelled_size() == Some(out.len());
+    let is_size = has_size(meta, out.len());
     let is_spelled = is_spelled_so(meta, bytes);
     format!(in alloc; "{text}; written so {is_written}, spelled so {is_spelled}, size {is_size}")
 }
 
+/// What stands in the bytes.
+fn meta_of(alloc: Global, bytes: &[u8]) -> Result<RpcMeta, MetaFault> {
+    RpcMeta::read(alloc, bytes)
+}
+
 /// A meta of these bytes, or what is wrong.
 pub fn meta_said(alloc: Global, bytes: &[u8]) -> Result<String, AllocError> {
-    match RpcMeta::read(alloc, bytes) {
+    match meta_of(alloc, bytes) {
         Ok(meta) => read_said(alloc, &meta, bytes),
         Err(fault) => format!(in alloc; "{fault:?}"),
     }

@@ -1,4 +1,4 @@
-//! What a row asks.
+//! What a row asks of bytes.
 use crate::frames::{cut, fed_again, printed, served};
 use crate::metas::meta_said;
 use crate::wires::{fields_said, varint_said, within_said, written};
@@ -12,11 +12,8 @@ fn bytes_of(alloc: Global, digits: &str) -> Vec<u8> {
     }
 }
 
-/// What the call says that the row's first word names, or the row itself.
-pub fn answer(alloc: Global, row: &str) -> Result<String, AllocError> {
-    let Some((word, rest)) = row.split_once(" ") else {
-        return String::from_str(alloc, row);
-    };
+/// What the call says that the word names, or the row itself.
+pub fn said_of(alloc: Global, row: &str, word: &str, rest: &str) -> Result<String, AllocError> {
     match word {
         "varint" => varint_said(alloc, bytes_of(alloc, rest).as_slice()),
         "number" => written(alloc, rest.parse::<u64>().unwrap_or(0)),
@@ -24,7 +21,7 @@ pub fn answer(alloc: Global, row: &str) -> Result<String, AllocError> {
         "within" => within_said(alloc, bytes_of(alloc, rest).as_slice()),
         "meta" => meta_said(alloc, bytes_of(alloc, rest).as_slice()),
         "again" => fed_again(alloc, bytes_of(alloc, rest).as_slice()),
-        "print" => printed(alloc, bytes_of(alloc, rest), 200),
+        "stream" => printed(alloc, bytes_of(alloc, rest), 200),
         "full" => printed(alloc, bytes_of(alloc, rest), 0),
         _ => pieces_said(alloc, row, word, rest),
     }
