@@ -17,6 +17,7 @@ use Rattle.sock_message.specs.Asked.{Asked, name_of}
 use Rattle.seat_programs.specs.declared.task.Op.{Op}
 use Rattle.seat_programs.specs.declared.task.Op.TheVariants as ops
 use Rattle.seat_programs.specs.declared.task.Task.{Task}
+pub use Rattle.seat_programs.specs.ToldCalls.{SeeksName}
 use Rattle.seat_programs.specs.Posts.{WHOLE, is_final}
 use Rattle.seat_programs.specs.Cores.{Core}
 use Rattle.call_causes.specs.Lists.{given, times}
@@ -94,14 +95,6 @@ HasCode code frame = (frame.meta.compress_type ≡ pos 0) × (r : ResponseMeta) 
 abbrev pub IsOpened : Outcome → Type 0
 IsOpened (Opened slot version k) = Unit {0}
 IsOpened other = ⊥
-
--- the task looks for a socket of name n
-abbrev pub SeeksName : ℕ → Op → Type 0
-SeeksName n (ops.Fail m code) = m ≡ n
-SeeksName n (ops.Hold m) = m ≡ n
-SeeksName n (ops.Send m bytes) = m ≡ n
-SeeksName n (ops.Call asked) = name_of asked 0 ≡ n
-SeeksName n other = ⊥
 
 -- in a run in which the links give these bytes in the end
 module _ (p : Plan) (q : IdPlan) (clients : List (List Task)) (gives : ℕ → List ℕ) where

@@ -1,29 +1,8 @@
 -- How long the meta of a call's request is at most.
-use Rattle.std.proofs.Common.{ℕ, ◌+◌, ◌*◌, ◌/◌, ◌%◌, ◌<◌, ◌≤◌, suc, zero, Bool, true, false, pos, negsuc, ◌-◌, ◌^◌, List, [], ◌∷◌, ◌++◌, length, Some, None, arith, length-append}
-use Rattle.std.specs.Prelude.{nat_lt, if◌then◌else◌, ℤ}
-use Rattle.sock_message.specs.brpc_model.specs.Wire.{varint_up_to, varint_bytes}
+use Rattle.std.proofs.Common.{ℕ, ◌+◌, ◌<◌, ◌≤◌, suc, zero, pos, negsuc, ◌-◌, ◌^◌, List, [], ◌++◌, length, Some, None, arith, length-append}
+use Rattle.std.specs.Prelude.{ℤ}
 use Rattle.sock_message.specs.brpc_model.specs.Spelling.{number_field, bytes_field, where_not_0, meta_bytes}
-
-varint_size : (most n : ℕ) → length (varint_up_to most n) ≤ most
-varint_size zero n = omega arith
-varint_size (suc most) n = by (nat_lt n 128) (varint_size most (n / 128))
-  where
-    by : (b : Bool) → length (varint_up_to most (n / 128)) ≤ most → length (if b then n ∷ [] else (n % 128 + 128) ∷ varint_up_to most (n / 128)) ≤ suc most
-    by true h = omega arith
-    by false h = omega arith
-
-number_size : (number n : ℕ) → length (number_field number n) ≤ 20
-number_size number n = omega (arith, length-append (varint_bytes (number * 8)) (varint_bytes n), varint_size 10 (number * 8), varint_size 10 n)
-
-bytes_size : (number : ℕ) (bytes : List ℕ) → length (bytes_field number bytes) ≤ 20 + length bytes
-bytes_size number bytes =
-    omega (
-      arith,
-      length-append (varint_bytes (number * 8 + 2) ++ varint_bytes (length bytes)) bytes,
-      length-append (varint_bytes (number * 8 + 2)) (varint_bytes (length bytes)),
-      varint_size 10 (number * 8 + 2),
-      varint_size 10 (length bytes),
-    )
+use Rattle.prpc_frame.proofs.Sizes.{number_size, bytes_size}
 
 size_part : (number : ℕ) (n : ℤ) → length (where_not_0 number n) ≤ 20
 size_part number (pos zero) = omega arith

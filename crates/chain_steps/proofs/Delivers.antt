@@ -45,6 +45,30 @@ taken_snoc c x n took h t = record {
 pub taken_whole : (c : List Entry) (n : ℕ) (took : List ℕ) → took ≡ whole c n → Taken c n took
 taken_whole c n took e = record { part = []; took_is = e ∙ sym (append-nil (whole c n)); of_next = inl refl }
 
+-- a link is at home as it was, or with what it took; one that was failed stays so
+delivers_on : {links labels : ℕ} {place : ℕ → ℕ} {home : ℕ → Option (List ℕ × ℕ)} {Failed : ℕ → Type 0} {t : Tokens} {log : List Entry} {places kept : ℕ → ℕ} → Delivered links labels place home Failed t log places kept
+    → (home' : ℕ → Option (List ℕ × ℕ)) → ((k : ℕ) (took : List ℕ) (next : ℕ) → k < links → home' k ≡ some (took, next) → (home k ≡ some (took, next)) ⊎ HasTaken (on k log) (places k) (kept k) took next)
+    → (Failed' : ℕ → Type 0) → ((k : ℕ) → k < links → Failed k → Failed' k) → Delivered links labels place home' Failed' t log places kept
+delivers_on s home' from Failed' mono = record {
+  kept_fits = s.kept_fits;
+  shown = s.shown;
+  failed = λ k kl h. mono k kl (s.failed k kl h);
+  clean = s.clean;
+  sent = s.sent;
+  sent_whole = s.sent_whole;
+  counted = s.counted;
+  at_home = λ k took next kl h. ⊎_elim (λ y. s.at_home k took next kl y) (λ y. y) (from k took next kl h);
+}
+
+pub delivers_home : {links labels : ℕ} {place : ℕ → ℕ} {home : ℕ → Option (List ℕ × ℕ)} {Failed : ℕ → Type 0} {t : Tokens} {log : List Entry} {places kept : ℕ → ℕ} → Delivered links labels place home Failed t log places kept
+    → (home' : ℕ → Option (List ℕ × ℕ)) → ((k : ℕ) (took : List ℕ) (next : ℕ) → k < links → home' k ≡ some (took, next) → (home k ≡ some (took, next)) ⊎ HasTaken (on k log) (places k) (kept k) took next)
+    → Delivered links labels place home' Failed t log places kept
+delivers_home {Failed = Failed} s home' from = delivers_on s home' from Failed (λ k kl h. h)
+
+pub delivers_failed : {links labels : ℕ} {place : ℕ → ℕ} {home : ℕ → Option (List ℕ × ℕ)} {Failed : ℕ → Type 0} {t : Tokens} {log : List Entry} {places kept : ℕ → ℕ} → Delivered links labels place home Failed t log places kept
+    → (Failed' : ℕ → Type 0) → ((k : ℕ) → k < links → Failed k → Failed' k) → Delivered links labels place home Failed' t log places kept
+delivers_failed {home = home} s Failed' mono = delivers_on s home (λ k took next kl h. inl h) Failed' mono
+
 module _ {links labels : ℕ} {place : ℕ → ℕ} {home : ℕ → Option (List ℕ × ℕ)} {Failed : ℕ → Type 0} {t : Tokens} {log : List Entry} {places kept : ℕ → ℕ} (s : Delivered links labels place home Failed t log places kept) where
   -- C2: the entry e is accepted by link k; r is the right that may come
   pub delivers_more : (t' : Tokens) (k : ℕ) (e : Entry) → e.link ≡ k → ((j : ℕ) → j < links → places j ≤ length (on j log))
@@ -208,43 +232,5 @@ module _ {links labels : ℕ} {place : ℕ → ℕ} {home : ℕ → Option (List
   -- L1 and L2: a link goes out, or comes home with what its right has sent
   pub moves_link : (home' : ℕ → Option (List ℕ × ℕ)) → ((j : ℕ) (took : List ℕ) (next : ℕ) → j < links → home' j ≡ some (took, next) → (home j ≡ some (took, next)) ⊎ ((r : Right) × (t.rights j ≡ r ∷ []) × (took ≡ r.sent) × (next ≡ r.places)))
       → Delivered links labels place home' Failed t log places kept
-  moves_link home' from = record {
-    kept_fits = s.kept_fits;
-    shown = s.shown;
-    failed = s.failed;
-    clean = s.clean;
-    sent = s.sent;
-    sent_whole = s.sent_whole;
-    counted = s.counted;
-    at_home = λ j took next jl h. ⊎_elim (λ z. s.at_home j took next jl z)
-        (λ z. (subst (Taken (on j log) (kept j)) (sym z.2) (s.sent j z.0 jl z.1), (λ q. z.2 ∙ s.sent_whole j z.0 jl z.1 q), z.3 ∙ s.counted j z.0 jl z.1)) (from j took next jl h);
-  }
-
--- a link that was failed stays so
-pub delivers_failed : {links labels : ℕ} {place : ℕ → ℕ} {home : ℕ → Option (List ℕ × ℕ)} {Failed : ℕ → Type 0} {t : Tokens} {log : List Entry} {places kept : ℕ → ℕ} → Delivered links labels place home Failed t log places kept
-    → (Failed' : ℕ → Type 0) → ((k : ℕ) → k < links → Failed k → Failed' k) → Delivered links labels place home Failed' t log places kept
-delivers_failed s Failed' mono = record {
-  kept_fits = s.kept_fits;
-  shown = s.shown;
-  failed = λ k kl h. mono k kl (s.failed k kl h);
-  clean = s.clean;
-  sent = s.sent;
-  sent_whole = s.sent_whole;
-  counted = s.counted;
-  at_home = s.at_home;
-}
-
--- a link is at home as it was, or with what it took
-pub delivers_home : {links labels : ℕ} {place : ℕ → ℕ} {home : ℕ → Option (List ℕ × ℕ)} {Failed : ℕ → Type 0} {t : Tokens} {log : List Entry} {places kept : ℕ → ℕ} → Delivered links labels place home Failed t log places kept
-    → (home' : ℕ → Option (List ℕ × ℕ)) → ((k : ℕ) (took : List ℕ) (next : ℕ) → k < links → home' k ≡ some (took, next) → (home k ≡ some (took, next)) ⊎ HasTaken (on k log) (places k) (kept k) took next)
-    → Delivered links labels place home' Failed t log places kept
-delivers_home s home' from = record {
-  kept_fits = s.kept_fits;
-  shown = s.shown;
-  failed = s.failed;
-  clean = s.clean;
-  sent = s.sent;
-  sent_whole = s.sent_whole;
-  counted = s.counted;
-  at_home = λ k took next kl h. ⊎_elim (λ y. s.at_home k took next kl y) (λ y. y) (from k took next kl h);
-}
+  moves_link home' from = delivers_home s home' (λ j took next jl h. ⊎_elim (λ z. inl z)
+      (λ z. inr (subst (Taken (on j log) (kept j)) (sym z.2) (s.sent j z.0 jl z.1), (λ q. z.2 ∙ s.sent_whole j z.0 jl z.1 q), z.3 ∙ s.counted j z.0 jl z.1)) (from j took next jl h))

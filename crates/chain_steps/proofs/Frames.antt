@@ -53,17 +53,14 @@ module _ (m m' : Memory) (t t' : Tokens) where
   pub points_frame : (c : List Entry) (n : Counts) (i : ℕ) (e : Entry) (x x' : ℕ) (l l' : List Loose) → x' ≡ x → l' ≡ l → Points c n i e x l → Points c n i e x' l'
   points_frame c n i e x x' l l' p q h = subst (λ y. Points c n i e y l') (sym p) (subst (λ z. Points c n i e x z) (sym q) h)
 
+  -- the right stays: what is left to show is its stage, and where the entries point
+  pub held_again : (c : List Entry) (freed places : ℕ) (r : Right) (h : Held m t c freed places r) → InStage m' t' c h.counts freed places r.stage
+      → ((i : ℕ) (e : Entry) → freed ≤ i → get_elem? c i ≡ some e → Points c h.counts i e (m'.next e.request) (t'.loose e.request)) → Held m' t' c freed places r
+  held_again c freed places r h stage points = record { counts = h.counts; some_noted = h.some_noted; fits = h.fits; turned_is = h.turned_is; noted_is = h.noted_is; last_is = h.last_is; stage_is = stage; points = points }
+
   pub held_frame : (c : List Entry) (freed places : ℕ) (r : Right) → Agree c freed → Held m t c freed places r → Held m' t' c freed places r
-  held_frame c freed places r a h = record {
-    counts = h.counts;
-    some_noted = h.some_noted;
-    fits = h.fits;
-    turned_is = h.turned_is;
-    noted_is = h.noted_is;
-    last_is = h.last_is;
-    stage_is = stage_frame c h.counts freed places r.stage (λ i e late g still. a i e late g) h.stage_is;
-    points = λ i e late g. let s = a i e late g in points_frame c h.counts i e (m.next e.request) (m'.next e.request) (t.loose e.request) (t'.loose e.request) s.0 s.1 (h.points i e late g);
-  }
+  held_frame c freed places r a h = held_again c freed places r h (stage_frame c h.counts freed places r.stage (λ i e late g still. a i e late g) h.stage_is)
+      (λ i e late g. let s = a i e late g in points_frame c h.counts i e (m.next e.request) (m'.next e.request) (t.loose e.request) (t'.loose e.request) s.0 s.1 (h.points i e late g))
 
   pub standing_frame : (k : ℕ) (c : List Entry) (freed places : ℕ) → m'.head k ≡ m.head k → t'.rights k ≡ t.rights k → Agree c freed → Standing m t k c freed places → Standing m' t' k c freed places
   standing_frame k c freed places hd rt a (absent h r f p) = absent (hd ∙ h) (rt ∙ r) f p

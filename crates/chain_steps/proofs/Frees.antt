@@ -99,14 +99,13 @@ module _ {links requests : ℕ} {m : Memory} {t : Tokens} {log : List Entry} {fr
         let apart : i ≢ freed k = λ z. ne (ap (λ (y : Entry). y.request) (some-injective d it.0 (sym g ∙ ((λ w. get_elem? (on (same w) log) (z w)) ∙ it.1)))) in omega arith)
         (λ far. let a = fr.else j (in_size s j i d g).0 far in omega arith)
 
-    -- C8
-    pub frees : (r' : Right) → r'.last ≡ r.last → r'.turned ≡ r.turned → r'.noted ≡ r.noted → r'.stage ≡ b → generation_of now < 140737488355327 → Same links m.head m'.head → Same requests m.next m'.next → Changed requests m.request m'.request (slot_of now) (2 * (generation_of now + 1))
-        → Changed links t.rights t'.rights k (r' ∷ []) → Same requests t.claims t'.claims → Same requests t.loose t'.loose
+    -- the right goes on; the words of other requests stay, and the request itself is what `used` says of it
+    passes : (r' : Right) → r'.last ≡ r.last → r'.turned ≡ r.turned → r'.noted ≡ r.noted → r'.stage ≡ b → Same links m.head m'.head → Same requests m.next m'.next
+        → ((q : ℕ) → q < requests → q ≢ it.0.request → m'.request q ≡ m.request q)
+        → Changed links t.rights t'.rights k (r' ∷ []) → Same requests t.claims t'.claims → Same requests t.loose t'.loose → InUse m' t' log freed' it.0.request
         → Chains links requests m' t' log freed' places
-    frees r' last' turned' noted' stage' small hd nx rq rt cl lo =
+    passes r' last' turned' noted' stage' hd nx words rt cl lo used =
         let c = on k log in let n = held.counts in let f = held.fits in
-        let els : (j i : ℕ) (d : Entry) → freed' j ≤ i → get_elem? (on j log) i ≡ some d → m'.request d.request ≡ m.request d.request =
-        λ j i d late g. rq.else d.request (in_size s j i d g).1 (λ z. (later j i d late g).1 (z ∙ slot)) in
         let new : Held m' t' c (suc (freed k)) (places k) r' = record {
           counts = n;
           some_noted = held.some_noted;
@@ -125,23 +124,29 @@ module _ {links requests : ℕ} {m : Memory} {t : Tokens} {log : List Entry} {fr
               (subst (λ q. Standing m' t' k c q (places k)) (sym fr.here) (busy r' (hd k kl ∙ (held_of s k r kl has).0) rt.here new)))
               (λ ne. subst (λ q. Standing m' t' j (on j log) q (places j)) (sym (fr.else j jl ne))
               (standing_frame m m' t t' j (on j log) (freed j) (places j) (hd j jl) (rt.else j jl ne) (λ i d late g. let z = in_size s j i d g in (nx d.request z.1, lo d.request z.1)) (s.standing j jl)));
-          live = λ j i d late g. let w = s.live j i d (later j i d late g).0 g in (els j i d late g ∙ w.0, cl d.request (in_size s j i d g).1 ∙ w.1);
-          in_use = λ q ql. dite (ℕ_discrete q it.0.request)
-              (λ same. subst (λ y. InUse m' t' log freed' y) (sym same)
-              (let u = s.in_use it.0.request size.1 in let v = free_word u (let a = its_generation in omega arith) in record {
-                generation = suc u.generation;
-                times = u.times;
-                small = (let a = its_generation in let z = v.3 in omega arith);
-                each_once = u.each_once;
-                phase = free_phase record {
-                  word = ap m'.request (sym slot) ∙ (rq.here ∙ (let a = its_generation in let z = v.3 in omega arith));
-                  used = v.0 ∙ ap suc (sym v.3);
-                  unclaimed = cl it.0.request size.1 ∙ v.2;
-                  still = lo it.0.request size.1 ∙ v.1;
-                };
-              }))
-              (λ ne. in_use_frame m m' t t' log log freed freed' q (λ y z. nx q ql) (rq.else q ql (λ z. ne (z ∙ slot))) (cl q ql) (λ z. lo q ql ∙ z) refl
+          live = λ j i d late g. let before = later j i d late g in let w = s.live j i d before.0 g in let size_of = (in_size s j i d g).1 in (words d.request size_of before.1 ∙ w.0, cl d.request size_of ∙ w.1);
+          in_use = λ q ql. dite (ℕ_discrete q it.0.request) (λ same. subst (λ y. InUse m' t' log freed' y) (sym same) used)
+              (λ ne. in_use_frame m m' t t' log log freed freed' q (λ y z. nx q ql) (words q ql ne) (cl q ql) (λ z. lo q ql ∙ z) refl
               (λ j i d late g is. (keeps j i d late g (λ z. ne (sym is ∙ z)), g)) (s.in_use q ql));
+        }
+
+    -- C8
+    pub frees : (r' : Right) → r'.last ≡ r.last → r'.turned ≡ r.turned → r'.noted ≡ r.noted → r'.stage ≡ b → generation_of now < 140737488355327 → Same links m.head m'.head → Same requests m.next m'.next → Changed requests m.request m'.request (slot_of now) (2 * (generation_of now + 1))
+        → Changed links t.rights t'.rights k (r' ∷ []) → Same requests t.claims t'.claims → Same requests t.loose t'.loose
+        → Chains links requests m' t' log freed' places
+    frees r' last' turned' noted' stage' small hd nx rq rt cl lo =
+        let u = s.in_use it.0.request size.1 in let v = free_word u (let a = its_generation in omega arith) in
+        passes r' last' turned' noted' stage' hd nx (λ q ql ne. rq.else q ql (λ z. ne (z ∙ slot))) rt cl lo record {
+          generation = suc u.generation;
+          times = u.times;
+          small = (let a = its_generation in let z = v.3 in omega arith);
+          each_once = u.each_once;
+          phase = free_phase record {
+            word = ap m'.request (sym slot) ∙ (rq.here ∙ (let a = its_generation in let z = v.3 in omega arith));
+            used = v.0 ∙ ap suc (sym v.3);
+            unclaimed = cl it.0.request size.1 ∙ v.2;
+            still = lo it.0.request size.1 ∙ v.1;
+          };
         }
 
     -- the same where the generation is the last one: the request stays taken for good, and no word changes
@@ -149,12 +154,9 @@ module _ {links requests : ℕ} {m : Memory} {t : Tokens} {log : List Entry} {fr
         → Changed links t.rights t'.rights k (r' ∷ []) → Same requests t.claims t'.claims → Same requests t.loose t'.loose
         → Chains links requests m' t' log freed' places
     retires r' last' turned' noted' stage' last hd nx rq rt cl lo =
-        let c = on k log in let n = held.counts in let f = held.fits in
-        let els : (j i : ℕ) (d : Entry) → freed' j ≤ i → get_elem? (on j log) i ≡ some d → m'.request d.request ≡ m.request d.request =
-        λ j i d late g. rq d.request (in_size s j i d g).1 in
         let u = s.in_use it.0.request size.1 in let w = s.live k (freed k) it.0 (omega arith) it.1 in
         let loose : t.loose it.0.request ≡ [] = ((held.points (freed k) it.0 (omega arith) it.1).written fits.noted).0 in
-        let retired : InUse m' t' log freed' it.0.request = record {
+        passes r' last' turned' noted' stage' hd nx (λ q ql ne. rq q ql) rt cl lo record {
           generation = u.generation;
           times = u.times;
           small = u.small;
@@ -171,27 +173,4 @@ module _ {links requests : ℕ} {m : Memory} {t : Tokens} {log : List Entry} {fr
             }
             | retired_phase v ↦ retired_phase record { word = rq it.0.request size.1 ∙ v.word; used = v.used; unclaimed = cl it.0.request size.1 ∙ v.unclaimed; still = lo it.0.request size.1 ∙ v.still; last = v.last }
           ];
-        } in
-        let new : Held m' t' c (suc (freed k)) (places k) r' = record {
-          counts = n;
-          some_noted = held.some_noted;
-          fits = (fits.noted, f.1, f.2, f.3);
-          turned_is = held.turned_is ∙ ap (λ y. n.left + y) (sym turned');
-          noted_is = held.noted_is ∙ sym noted';
-          last_is = held.last_is ∙ sym last';
-          stage_is = subst (InStage m' t' c n (suc (freed k)) (places k)) (sym stage') (after_free m m' t t' c n (freed k) (places k) r.last now r.stage b leads (on_distinct s k) (omega arith) held.last_is held.stage_is);
-          points = λ i d late g. let z = in_size s k i d g in points_frame m m' t t' c n i d (m.next d.request) (m'.next d.request) (t.loose d.request) (t'.loose d.request) (nx d.request z.1) (lo d.request z.1) (held.points i d (omega arith) g);
-        } in record {
-          chained = s.chained;
-          differ = s.differ;
-          sized = s.sized;
-          standing = λ j jl. dite (ℕ_discrete j k)
-              (λ same. subst (λ q. Standing m' t' q (on q log) (freed' q) (places q)) (sym same)
-              (subst (λ q. Standing m' t' k c q (places k)) (sym fr.here) (busy r' (hd k kl ∙ (held_of s k r kl has).0) rt.here new)))
-              (λ ne. subst (λ q. Standing m' t' j (on j log) q (places j)) (sym (fr.else j jl ne))
-              (standing_frame m m' t t' j (on j log) (freed j) (places j) (hd j jl) (rt.else j jl ne) (λ i d late g. let z = in_size s j i d g in (nx d.request z.1, lo d.request z.1)) (s.standing j jl)));
-          live = λ j i d late g. let w = s.live j i d (later j i d late g).0 g in (els j i d late g ∙ w.0, cl d.request (in_size s j i d g).1 ∙ w.1);
-          in_use = λ q ql. dite (ℕ_discrete q it.0.request)
-              (λ same. subst (λ y. InUse m' t' log freed' y) (sym same) retired)
-              (λ ne. in_use_frame m m' t t' log log freed freed' q (λ y z. nx q ql) (rq q ql) (cl q ql) (λ z. lo q ql ∙ z) refl (λ j i d late g is. (keeps j i d late g (λ z. ne (sym is ∙ z)), g)) (s.in_use q ql));
         }

@@ -15,7 +15,7 @@ use Rattle.sock_model.specs.Writing.{Counts, Connected, loose_of, Waits, Points,
 use Rattle.sock_model.specs.Requests.{UsedRequest, free_phase, claimed_phase, used_phase, retired_phase, InUse}
 use Rattle.sock_model.specs.Chains.{Chains}
 use Rattle.chain_steps.proofs.Lists.{nth_some, nth_same}
-use Rattle.chain_steps.proofs.Frames.{Same, Changed, one_token, no_token, in_size, on_distinct, live_same, stage_frame, standing_frame, in_use_frame, points_frame}
+use Rattle.chain_steps.proofs.Frames.{Same, Changed, one_token, no_token, in_size, on_distinct, live_same, stage_frame, standing_frame, in_use_frame, points_frame, held_again}
 use Rattle.chain_steps.proofs.Claims.{used_word}
 use Rattle.chain_steps.proofs.Heads.{slot_is, held_of}
 
@@ -33,18 +33,11 @@ module _ (m m' : Memory) (t t' : Tokens) where
   held_connect : (c : List Entry) (freed places q : ℕ) (y : Loose) (r : Right) → t.loose q ≡ y ∷ [] → m'.next q ≡ y.before → t'.loose q ≡ []
       → ((i : ℕ) (e : Entry) → freed ≤ i → get_elem? c i ≡ some e → e.request ≢ q → (m'.next e.request ≡ m.next e.request) × (t'.loose e.request ≡ t.loose e.request))
       → Held m t c freed places r → Held m' t' c freed places r
-  held_connect c freed places q y r is nx lo others h = record {
-    counts = h.counts;
-    some_noted = h.some_noted;
-    fits = h.fits;
-    turned_is = h.turned_is;
-    noted_is = h.noted_is;
-    last_is = h.last_is;
-    stage_is = stage_frame m m' t t' c h.counts freed places r.stage (λ i e late g still. others i e late g (λ z. no_token (t.loose q) y is (ap t.loose (sym z) ∙ still))) h.stage_is;
-    points = λ i e late g. dite (ℕ_discrete e.request q)
-        (λ z. points_connect c h.counts i e (m.next e.request) (m'.next e.request) (t.loose e.request) (t'.loose e.request) y (ap t.loose z ∙ is) (ap m'.next z ∙ nx) (ap t'.loose z ∙ lo) (h.points i e late g))
-        (λ z. let a = others i e late g z in points_frame m m' t t' c h.counts i e (m.next e.request) (m'.next e.request) (t.loose e.request) (t'.loose e.request) a.0 a.1 (h.points i e late g));
-  }
+  held_connect c freed places q y r is nx lo others h = held_again m m' t t' c freed places r h
+      (stage_frame m m' t t' c h.counts freed places r.stage (λ i e late g still. others i e late g (λ z. no_token (t.loose q) y is (ap t.loose (sym z) ∙ still))) h.stage_is)
+      (λ i e late g. dite (ℕ_discrete e.request q)
+      (λ z. points_connect c h.counts i e (m.next e.request) (m'.next e.request) (t.loose e.request) (t'.loose e.request) y (ap t.loose z ∙ is) (ap m'.next z ∙ nx) (ap t'.loose z ∙ lo) (h.points i e late g))
+      (λ z. let a = others i e late g z in points_frame m m' t t' c h.counts i e (m.next e.request) (m'.next e.request) (t.loose e.request) (t'.loose e.request) a.0 a.1 (h.points i e late g)))
 
 module _ {links requests : ℕ} {m : Memory} {t : Tokens} {log : List Entry} {freed places : ℕ → ℕ} (s : Chains links requests m t log freed places) where
   -- the request of a loose entry is used by it

@@ -14,7 +14,7 @@ use Rattle.id_rule.specs.Plays.{with_hand, Longer, popped_view, advanced_view}
 use Rattle.seat_programs.specs.brpc_model.specs.Frame.{Frame}
 use Rattle.seat_programs.specs.brpc_model.specs.Stream as streams
 use Rattle.seat_programs.specs.sock_message.specs.Asked.{Asked}
-use Rattle.seat_programs.specs.Asides.{PutCall, FreeId, Taking, Bytes, Nothing, NoMore, AtEnd, Closed, Broken, id_slot, id_first, call_id}
+use Rattle.seat_programs.specs.Asides.{PutCall, FreeId, Taking, Bytes, Nothing, Closed, id_slot, id_first, call_id}
 use Rattle.seat_programs.specs.Heads.{Head, Exit, Retry, Sought, First, Version, Reading, Posts, Unlocks, Decides, Locks, Joins, Opens, Reads, Discards, Posting, WasGone, WasStale, WasCrowded, WasQueued, HasLocked, Unlocking, IsOpen, HasNext, Deciding, HasEnded, GoesOn, Locking, NotThere, Has, Ended as Over}
 use Rattle.seat_programs.specs.Programs.{Program, Say, Aside, Round}
 use Rattle.seat_programs.specs.Posts.{packed, advance_of, is_first, is_sought, is_stale, is_full, judged, posted, post_with, post, popped, end_id, ends_call, decide, decided, unlocked, locking}
@@ -84,7 +84,7 @@ module _ (p : Plan) (q : IdPlan) where
   both_ways true u v x y f g = f refl
   both_ways false u v x y f g = g refl
 
-not_true : (b : Bool) → not b ≡ false → b ≡ true
+pub not_true : (b : Bool) → not b ≡ false → b ≡ true
 not_true true e = refl
 not_true false e = cc
 
@@ -92,11 +92,11 @@ not_zero : (n : ℕ) → not (eqb n 0) ≡ true → 0 < n
 not_zero zero e = let z : false ≡ true = e in cc
 not_zero (suc n) e = omega arith
 
-and_left : (a b : Bool) → (a && b) ≡ true → a ≡ true
+pub and_left : (a b : Bool) → (a && b) ≡ true → a ≡ true
 and_left true b e = refl
 and_left false b e = e
 
-and_right : (a b : Bool) → (a && b) ≡ true → b ≡ true
+pub and_right : (a b : Bool) → (a && b) ≡ true → b ≡ true
 and_right true b e = e
 and_right false b e = cc
 
@@ -227,10 +227,7 @@ module _ (p : Plan) (q : IdPlan) where
       decided_goes : (id : ℕ) (next : Program) → ((v : IdView) → IsFree v → Goes v next) → (exit : Deciding) (v : IdView) → IsFree v → Goes v (decided id next exit)
       decided_goes id next goes (HasEnded o code) v free = goes v free
       decided_goes id next goes GoesOn v free = goes v free
-  posted_goes id e next inside goes WasGone v free = goes v free
-  posted_goes id e next inside goes WasStale v free = goes v free
-  posted_goes id e next inside goes (WasCrowded a b) v free = goes v free
-  posted_goes id e next inside goes WasQueued v free = goes v free
+  posted_goes id e next inside goes _ v free = goes v free
 
   pub post_with_goes : (u : IdView) (id e : ℕ) (k : Posting → Program) → IsFree u → id_slot id < q.slots → IsError e → ((exit : Posting) (v : IdView) → LeavesPost (id_slot id) exit v → Goes v (k exit)) → Goes u (post_with id e k)
   post_with_goes u id e k free inside error goes = (inside, λ found c f. judged_goes (with_note (id_slot id) (Saw found) u) id e found k free inside error f goes)
@@ -339,18 +336,13 @@ module _ (p : Plan) (q : IdPlan) where
   took_goes u r k free all goes (Bytes bytes) = let s = streams.stream (r.rest ++ bytes) in let r' : List Frame → Reading = λ kept. record { ids = r.ids; link = r.link; id = r.id; rest = r.rest; total = r.total + length bytes; kept = kept } in
       responses_goes r.ids all u s.frames r.kept (λ kept. read_on (r' kept) (r.rest ++ bytes) s.ending k) free (λ kept v free'. read_goes v (r' kept) (r.rest ++ bytes) s.ending k free' all goes)
   took_goes u r k free all goes Nothing = ((free, all), goes)
-  took_goes u r k free all goes NoMore = goes (how_ended 1014 false false r) u (free, (omega arith, omega arith))
-  took_goes u r k free all goes AtEnd = goes (how_ended 1014 false false r) u (free, (omega arith, omega arith))
   took_goes u r k free all goes Closed = goes (how_ended 1014 true false r) u (free, (omega arith, omega arith))
-  took_goes u r k free all goes Broken = goes (how_ended 1014 false false r) u (free, (omega arith, omega arith))
+  took_goes u r k free all goes _ = goes (how_ended 1014 false false r) u (free, (omega arith, omega arith))
 
   discarded_goes : (u : IdView) (l total : ℕ) (k : ℕ → Program) → IsFree u → ((exit : ℕ) (v : IdView) → IsFree v → Goes v (k exit)) → (t : Taking) → Goes u (discarded l total k t)
   discarded_goes u l total k free goes (Bytes bytes) = way p q u (nat_lt (total + length bytes) LIMIT) (Round (Discards l (total + length bytes)) k) (k (total + length bytes)) (λ _. (free, goes)) (λ _. goes (total + length bytes) u free)
   discarded_goes u l total k free goes Nothing = (free, goes)
-  discarded_goes u l total k free goes NoMore = goes total u free
-  discarded_goes u l total k free goes AtEnd = goes total u free
-  discarded_goes u l total k free goes Closed = goes total u free
-  discarded_goes u l total k free goes Broken = goes total u free
+  discarded_goes u l total k free goes _ = goes total u free
 
   -- one round of each loop
   pub ids_round : (u : IdView) (head : Head) (k : Exit head → Program) → Goes u (Round head k) → Goes u (round head k)

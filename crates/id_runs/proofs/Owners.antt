@@ -144,7 +144,4 @@ module _ (p : Plan) where
   codes_fit q (ReverseNext r value) may ws fit = behind ws (next_index p r) value (omega arith) fit
   codes_fit q (StorePlace l k n) may ws fit = behind ws (place_index p l) (word_after (StorePlace l k n) (found_at ws (word_of p (StorePlace l k n)))) (omega arith) fit
   codes_fit q (DropPlace l k n) may ws fit = behind ws (place_index p l) (word_after (DropPlace l k n) (found_at ws (word_of p (DropPlace l k n)))) (omega arith) fit
-  codes_fit q (TakeLink k) may ws fit = fit
-  codes_fit q (FinishLink k) may ws fit = fit
-  codes_fit q (PutLink k) may ws fit = fit
-  codes_fit q (PutMessage r heading bytes) may ws fit = fit
+  codes_fit q _ may ws fit = fit

@@ -8,7 +8,7 @@ use Rattle.corr_core.specs.declared.marks.Plan.{Plan as IdPlan}
 use Rattle.seat_programs.specs.brpc_model.specs.Frame.{Frame}
 use Rattle.id_rule.specs.Lawful.{at_index as at_place, with_kept}
 use Rattle.seat_programs.specs.Asides.{call_id, id_slot, id_first}
-use Rattle.seat_programs.specs.Heads.{Reads, Discards, Posting, WasGone, WasStale, WasCrowded, WasQueued, HasLocked, Deciding, HasEnded, GoesOn, Ended}
+use Rattle.seat_programs.specs.Heads.{Reads, Discards, Posting, HasLocked, Deciding, HasEnded, GoesOn, Ended}
 use Rattle.seat_programs.specs.Programs.{Program, Rest, Round, NO_SOCKET, address, release, set_failed}
 use Rattle.seat_programs.specs.Posts.{post_with, decided}
 use Rattle.seat_programs.specs.Readers.{LIMIT, slot_in, kept_for, ends_with, posted_last, post_each, thrown_away, read, reader}
@@ -40,10 +40,7 @@ module _ (p : Plan) (q : IdPlan) (narrow : q.slots ≤ 65536) where
 
   posted_last_goes : (id e : ℕ) (kept : List Frame) (next : Program) → id_slot id < q.slots → Follows next → (exit : Posting) (v : IdView) → LeavesPost (id_slot id) exit v → Goes v (posted_last id e kept next exit)
   posted_last_goes id e kept next inside goes (HasLocked word) v l = kept_ends id e word (parts word).range kept next v inside l goes
-  posted_last_goes id e kept next inside goes WasGone v free = goes v free
-  posted_last_goes id e kept next inside goes WasStale v free = goes v free
-  posted_last_goes id e kept next inside goes (WasCrowded a b) v free = goes v free
-  posted_last_goes id e kept next inside goes WasQueued v free = goes v free
+  posted_last_goes id e kept next inside goes _ v free = goes v free
 
   post_each_goes : (os : List ℕ) → AllByRecursion (λ o. o < q.operations) os → (k code : ℕ) → IsCode code → (kept : List Frame) (next : Program) → Follows next → Follows (post_each os k code kept next)
   post_each_goes [] all k code is kept next goes u free = goes u free

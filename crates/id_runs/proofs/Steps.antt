@@ -37,30 +37,21 @@ module _ (p : Plan) (q : IdPlan) (a : Calls) (plan : a.plan ≡ q) (us : List Id
   by_found : (step : Step) (n : Found step) (found : Found step) → some n ≡ some found → Kept step n → Kept step found
   by_found step n found e kept = subst (Kept step) (some-injective n found e) kept
 
+  -- a word of an operation, by the plan that the calls have
+  store_kept : (index : IdPlan → ℕ → ℕ) (o w : ℕ) (row : IdView) → Lawful q (id_state (record a { words = set a.words (index q o) w }) (set us k row)) → Lawful q (id_state (record a { words = set a.words (index a.plan o) w }) (set us k row))
+  store_kept index o w row kept = subst (λ (r : IdPlan). Lawful q (id_state (record a { words = set a.words (index r o) w }) (set us k row))) (sym plan) kept
+
+  load_kept : (index : IdPlan → ℕ → ℕ) (o : ℕ) → Lawful q (id_state a (set us k (Rattle.id_rule.specs.Plays.found_view (index q o) (get_or a.words (index q o) 0) u))) → Lawful q (id_state a (set us k (Rattle.id_rule.specs.Plays.found_view (index q o) (get_or a.words (index a.plan o) 0) u)))
+  load_kept index o kept = subst (λ (r : IdPlan). Lawful q (id_state a (set us k (Rattle.id_rule.specs.Plays.found_view (index q o) (get_or a.words (index r o) 0) u)))) (sym plan) kept
+
   pub keeps_ids : (step : Step) (t : Option Taking) (found : Found step) → found_in step a t ≡ some found → MayId p q u step → Kept step found
   keeps_ids (ClaimId i) t found e may = by_found (ClaimId i) (get_or a.words (tag_index i) 0) found e (no_call, steps.claims p q a us law k u at real i may)
   keeps_ids (PutCall i asked) t found e may = by_found (PutCall i asked) (get_or a.words (tag_index i) 0) found e (no_call, steps.puts p q a us law k u at real i may.0 asked may.1)
   keeps_ids (MakeId i range) t found e may = by_found (MakeId i range) (get_or a.words (id_index i) 0) found e (no_call, steps.makes_id p q a us law k u at real i may.0 range may.1.0 may.1.1 may.1.2 may.2 may.3)
-  keeps_ids (StoreCall o id) t found e may = (
-    no_call,
-    subst (λ (r : IdPlan). Lawful q (id_state (record a { words = set a.words (call_index r o) id }) (set us k (id_row q (StoreCall o id) found no_call u)))) (sym plan)
-        (steps.stores p q a us law k u at real (call_index q o) id (let z = may.0 in omega arith) (let z = may.0 in omega arith) may.1),
-  )
-  keeps_ids (LoadCall o) t found e may = by_found (LoadCall o) (get_or a.words (call_index a.plan o) 0) found e (
-    no_call,
-    subst (λ (r : IdPlan). Lawful q (id_state a (set us k (Rattle.id_rule.specs.Plays.found_view (call_index q o) (get_or a.words (call_index r o) 0) u)))) (sym plan)
-        (steps.finds p q a us law k u at real (call_index q o) (omega (arith, may)) (omega (arith, may))),
-  )
-  keeps_ids (StoreAt o w) t found e may = (
-    no_call,
-    subst (λ (r : IdPlan). Lawful q (id_state (record a { words = set a.words (at_index r o) w }) (set us k (id_row q (StoreAt o w) found no_call u)))) (sym plan)
-        (steps.stores p q a us law k u at real (at_index q o) w (let z = may.0 in omega arith) (let z = may.0 in omega arith) may.1),
-  )
-  keeps_ids (LoadAt o) t found e may = by_found (LoadAt o) (get_or a.words (at_index a.plan o) 0) found e (
-    no_call,
-    subst (λ (r : IdPlan). Lawful q (id_state a (set us k (Rattle.id_rule.specs.Plays.found_view (at_index q o) (get_or a.words (at_index r o) 0) u)))) (sym plan)
-        (steps.finds p q a us law k u at real (at_index q o) (omega (arith, may)) (omega (arith, may))),
-  )
+  keeps_ids (StoreCall o id) t found e may = (no_call, store_kept call_index o id (id_row q (StoreCall o id) found no_call u) (steps.stores p q a us law k u at real (call_index q o) id (let z = may.0 in omega arith) (let z = may.0 in omega arith) may.1))
+  keeps_ids (LoadCall o) t found e may = by_found (LoadCall o) (get_or a.words (call_index a.plan o) 0) found e (no_call, load_kept call_index o (steps.finds p q a us law k u at real (call_index q o) (omega (arith, may)) (omega (arith, may))))
+  keeps_ids (StoreAt o w) t found e may = (no_call, store_kept at_index o w (id_row q (StoreAt o w) found no_call u) (steps.stores p q a us law k u at real (at_index q o) w (let z = may.0 in omega arith) (let z = may.0 in omega arith) may.1))
+  keeps_ids (LoadAt o) t found e may = by_found (LoadAt o) (get_or a.words (at_index a.plan o) 0) found e (no_call, load_kept at_index o (steps.finds p q a us law k u at real (at_index q o) (omega (arith, may)) (omega (arith, may))))
   keeps_ids (LoadIdWord i) t found e may = by_found (LoadIdWord i) (get_or a.words (id_index i) 0) found e (no_call, steps.sees p q a us law k u at real i may)
   keeps_ids (LockId i from) t found e may = by_found (LockId i from) (get_or a.words (id_index i) 0) found e (steps.locks p q a us law k u at real i may.0 from may.1)
   keeps_ids (PostId i from e₁) t found e may = by_found (PostId i from e₁) (get_or a.words (id_index i) 0) found e (steps.posts p q a us law k u at real i may.0 from e₁ may.1 may.2 may.3)
@@ -124,22 +115,16 @@ module _ (p : Plan) (q : IdPlan) (a : Calls) (plan : a.plan ≡ q) (us : List Id
   called (some (some (Some b))) asked e = ap (λ z. some (some (Some z))) (some-injective b asked e)
 
   pub finds_ids : StoredFit q a → ((i : ℕ) (asked : Asked) → get_elem? a.homes i ≡ some (some (Some asked)) → AskedFits p asked) → (step : Step) (t : Option Taking) (found : Found step) → found_in step a t ≡ some found → MayId p q u step → FindsId p q u step found
-  finds_ids stored fits (ClaimId i) t found e may = tt
-  finds_ids stored fits (PutCall i asked) t found e may = tt
   finds_ids stored fits (MakeId i range) t found e may = subst (λ n. (1 ≤ (parts n).first) × ((parts n).first ≤ 67108856)) (some-injective (get_or a.words (id_index i) 0) found e) ((law.slots i may.0).first_some, (law.slots i may.0).first_low)
-  finds_ids stored fits (StoreCall o id) t found e may = tt
   finds_ids stored fits (LoadCall o) t found e may = subst (λ n. n ≢ 0 → CallFits q n) (some-injective (get_or a.words (call_index a.plan o) 0) found e) (subst (λ (r : IdPlan). get_or a.words (call_index r o) 0 ≢ 0 → CallFits q (get_or a.words (call_index r o) 0)) (sym plan) (stored.0 o may))
-  finds_ids stored fits (StoreAt o w) t found e may = tt
   finds_ids stored fits (LoadAt o) t found e may = subst (λ n. n ≢ 0 → AtFits q n) (some-injective (get_or a.words (at_index a.plan o) 0) found e) (subst (λ (r : IdPlan). get_or a.words (at_index r o) 0 ≢ 0 → AtFits q (get_or a.words (at_index r o) 0)) (sym plan) (stored.1 o may))
   finds_ids stored fits (LoadIdWord i) t found e may = subst IsIdWord (some-injective (get_or a.words (id_index i) 0) found e) (room_there i may, state_there i may, second_there i may)
   finds_ids stored fits (LockId i from) t found e may = subst IsIdWord (some-injective (get_or a.words (id_index i) 0) found e) (room_there i may.0, state_there i may.0, second_there i may.0)
   finds_ids stored fits (PostId i from e₁) t found e may = subst IsIdWord (some-injective (get_or a.words (id_index i) 0) found e) (room_there i may.0, state_there i may.0, second_there i may.0)
   finds_ids stored fits (UnlockId i from advance) t found e may = λ f rg att x y c has. subst (λ n. Longer f rg att (parts n).oldest (parts n).second (parts n)) (some-injective (get_or a.words (id_index i) 0) found e) (longer_there i may.0 f rg att x y c has)
-  finds_ids stored fits (EndId i) t found e may = tt
-  finds_ids stored fits (FreeId i) t found e may = tt
   finds_ids stored fits (TakeCall i) t found e may = let there = called (get_elem? a.homes i) found e in (
     fits i found there,
     λ f rg att x y c has.
         let same : some (Some c) ≡ some (Some found) = some-injective (some (Some c)) (some (Some found)) (sym (home_there i may.0 f rg att x y c has) ∙ there) in let z : Some c ≡ Some found = some-injective (Some c) (Some found) same in cc,
   )
-  finds_ids stored fits (TakeBytes l room) t found e may = tt
+  finds_ids stored fits _ t found e may = tt

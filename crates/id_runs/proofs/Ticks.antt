@@ -63,11 +63,8 @@ row_share q (MakeId i range) found c u = by_token_share (tokens_in i u) (made_by
     made_share (Claimed seen hands.Out) = refl
     made_share (Locked f rg att d o s h) = refl
     made_share Leaving = refl
-row_share q (StoreCall o id) found c u = refl
 row_share q (LoadCall o) found c u = cond_share (eqb found 0) u u (Rattle.id_rule.specs.Lawful.with_kept (Rattle.id_rule.specs.Lawful.call_index q o) false found u) refl refl
-row_share q (StoreAt o w) found c u = refl
 row_share q (LoadAt o) found c u = cond_share (eqb found 0) u u (Rattle.id_rule.specs.Lawful.with_kept (Rattle.id_rule.specs.Lawful.at_index q o) false found u) refl refl
-row_share q (LoadIdWord i) found c u = refl
 row_share q (LockId i from) found c u = cond_share (eqb found from) u (locked_by i found c u) (with_note i (Saw found) u) refl refl
 row_share q (PostId i from e) found c u = cond_share (eqb found from) u (cond (eqb (parts from).state 1) (locked_by i found c u) (with_note i (Queued (parts found).first e) u)) (with_note i (Saw found) u)
     (cond_share (eqb (parts from).state 1) u (locked_by i found c u) (with_note i (Queued (parts found).first e) u) refl refl) refl
@@ -86,9 +83,16 @@ row_share q (EndId i) found c u = by_token_share (tokens_in i u) (ended_by i fou
     ended_share (Locked f rg att d o s h) = cond_share (leb ((parts found).first + (parts found).range) LAST) u (with_token i Leaving u) (no_token i u) refl refl
     ended_share (Claimed seen h) = refl
     ended_share Leaving = refl
-row_share q (FreeId i) found c u = refl
 row_share q (TakeCall i) found c u = by_token_share (tokens_in i u) (λ t. with_token i (with_hand t hands.Empty) u) u (λ t. refl)
-row_share q (TakeBytes k room) found c u = refl
+row_share q _ found c u = refl
+
+-- a home that shows a message has it
+pub message_there : (x : Option (Option Home)) (letter : Letter) → letter_of (shown (λ (home : Home). home) x) ≡ some letter → x ≡ some (some (Message letter.0 letter.1))
+message_there none letter e = absurd (some-ne-none letter (sym e))
+message_there (some none) letter e = absurd (some-ne-none letter (sym e))
+message_there (some (some Empty)) letter e = absurd (some-ne-none letter (sym e))
+message_there (some (some (Link k took next done))) letter e = absurd (some-ne-none letter (sym e))
+message_there (some (some (Message l cs))) letter e = ap (λ (z : Letter). some (some (Message z.0 z.1))) (some-injective (l, cs) letter e)
 
 -- ## Retries that wait
 
@@ -110,16 +114,7 @@ module _ (p : Plan) (q : IdPlan) (narrow : q.slots ≤ 65536) (same : q.operatio
   resolved_goes u ws (Keep r next) all g = resolved_goes u (ws ++ r ∷ []) next (all_more (FitsRetryId q) ws r all g.0) g.1
   resolved_goes u [] (Retries requests after) all g = resolved_goes u [] after tt (g.1 u g.0)
   resolved_goes u (r ∷ ws) (Retries requests after) all g = retry_goes p q narrow same u requests r (Retries requests after) g.0 all.0 (λ v free. (free, g.1))
-  resolved_goes u ws (Do call next) all g = g
-  resolved_goes u ws Rest all g = g
-  resolved_goes u ws (TakeMessage r next) all g = g
-  resolved_goes u ws (TakeHome k next) all g = g
-  resolved_goes u ws (PutHome k n after) all g = g
-  resolved_goes u ws (PutBytes k asked bytes next) all g = g
-  resolved_goes u ws (AskReady k next) all g = g
-  resolved_goes u ws (Write w after) all g = g
-  resolved_goes u ws (Aside step next) all g = g
-  resolved_goes u ws (Round head next) all g = g
+  resolved_goes u ws _ all g = g
 
   pub still_fit : (u : IdView) (ws : List Retry) (program : Program) → AllByRecursion (FitsRetryId q) ws → IdGoesOn p q u program → AllByRecursion (FitsRetryId q) (still_waiting ws program)
   still_fit u ws (Say o outcome next) all g = still_fit u ws next all g
@@ -127,16 +122,7 @@ module _ (p : Plan) (q : IdPlan) (narrow : q.slots ≤ 65536) (same : q.operatio
   still_fit u ws (Keep r next) all g = still_fit u (ws ++ r ∷ []) next (all_more (FitsRetryId q) ws r all g.0) g.1
   still_fit u [] (Retries requests after) all g = still_fit u [] after tt (g.1 u g.0)
   still_fit u (r ∷ ws) (Retries requests after) all g = all.1
-  still_fit u ws (Do call next) all g = all
-  still_fit u ws Rest all g = all
-  still_fit u ws (TakeMessage r next) all g = all
-  still_fit u ws (TakeHome k next) all g = all
-  still_fit u ws (PutHome k n after) all g = all
-  still_fit u ws (PutBytes k asked bytes next) all g = all
-  still_fit u ws (AskReady k next) all g = all
-  still_fit u ws (Write w after) all g = all
-  still_fit u ws (Aside step next) all g = all
-  still_fit u ws (Round head next) all g = all
+  still_fit u ws _ all g = all
 
   -- ## All seats
 
@@ -184,18 +170,7 @@ module _ (p : Plan) (q : IdPlan) (narrow : q.slots ≤ 65536) (same : q.operatio
     calls_homes (TakeCall k) found may j asked e = ⊎_elim (λ x. let z : None ≡ Some asked = some-injective None (Some asked) x.1 in cc) (λ x. sound.homes j asked x.1) (at_set c.calls.homes k j (some None) (some (Some asked)) e)
     calls_homes (TakeBytes l room) (Bytes bytes) may j asked e = sound.homes j asked e
     calls_homes (TakeBytes l room) _ may j asked e = sound.homes j asked e
-    calls_homes (ClaimId k) found may j asked e = sound.homes j asked e
-    calls_homes (MakeId k range) found may j asked e = sound.homes j asked e
-    calls_homes (StoreCall o id) found may j asked e = sound.homes j asked e
-    calls_homes (LoadCall o) found may j asked e = sound.homes j asked e
-    calls_homes (StoreAt o w) found may j asked e = sound.homes j asked e
-    calls_homes (LoadAt o) found may j asked e = sound.homes j asked e
-    calls_homes (LoadIdWord k) found may j asked e = sound.homes j asked e
-    calls_homes (LockId k from) found may j asked e = sound.homes j asked e
-    calls_homes (PostId k from e₁) found may j asked e = sound.homes j asked e
-    calls_homes (UnlockId k from advance) found may j asked e = sound.homes j asked e
-    calls_homes (EndId k) found may j asked e = sound.homes j asked e
-    calls_homes (FreeId k) found may j asked e = sound.homes j asked e
+    calls_homes _ found may j asked e = sound.homes j asked e
 
     -- a word below those of the calls changes none of them
     low_stored : (x w : ℕ) → x < 2 * q.slots → StoredFit q (record c.calls { words = set c.calls.words x w })
@@ -225,39 +200,22 @@ module _ (p : Plan) (q : IdPlan) (narrow : q.slots ≤ 65536) (same : q.operatio
 
     calls_stored : (step : Step) (found : Found step) → MayId p q u step → StoredFit q (calls_after step found c.calls)
     calls_stored (ClaimId k) found may = low_stored (tag_index k) 1 (omega (arith, may))
-    calls_stored (PutCall k b) found may = (sound.called, sound.placed)
     calls_stored (MakeId k range) found may = let inside = may.0 in low_stored (id_index k) (packed (made_word (parts found).first range)) (omega (arith, inside))
     calls_stored (StoreCall o id) found may = subst (λ (r : IdPlan). StoredFit q (record c.calls { words = set c.calls.words (call_index r o) id })) (sym sound.plan) (call_stored o id may.0 may.2)
-    calls_stored (LoadCall o) found may = (sound.called, sound.placed)
     calls_stored (StoreAt o w) found may = subst (λ (r : IdPlan). StoredFit q (record c.calls { words = set c.calls.words (at_index r o) w })) (sym sound.plan) (at_stored o w may.0 may.2)
-    calls_stored (LoadAt o) found may = (sound.called, sound.placed)
-    calls_stored (LoadIdWord k) found may = (sound.called, sound.placed)
     calls_stored (LockId k from) found may = let inside = may.0 in low_stored (id_index k) (cond (eqb found from) (packed (posted_word (parts from) 0)) found) (omega (arith, inside))
     calls_stored (PostId k from e) found may = let inside = may.0 in low_stored (id_index k) (cond (eqb found from) (packed (posted_word (parts from) e)) found) (omega (arith, inside))
     calls_stored (UnlockId k from advance) found may = let inside = may.0 in low_stored (id_index k) (cond (eqb found from) (packed (unlocked_word (parts from) (advance_of advance))) found) (omega (arith, inside))
     calls_stored (EndId k) found may = let inside = may.0 in low_stored (id_index k) (packed (free_word ((parts found).first + (parts found).range))) (omega (arith, inside))
     calls_stored (FreeId k) found may = let inside = may.0 in low_stored (tag_index k) 0 (omega (arith, inside))
-    calls_stored (TakeCall k) found may = (sound.called, sound.placed)
     calls_stored (TakeBytes l room) (Bytes bytes) may = (sound.called, sound.placed)
     calls_stored (TakeBytes l room) _ may = (sound.called, sound.placed)
+    calls_stored _ found may = (sound.called, sound.placed)
 
     calls_plan : (step : Step) (found : Found step) → ((calls_after step found c.calls).plan ≡ c.calls.plan) × ((calls_after step found c.calls).waiting ≡ c.calls.waiting)
     calls_plan (TakeBytes l room) (Bytes bytes) = (refl, refl)
     calls_plan (TakeBytes l room) _ = (refl, refl)
-    calls_plan (PutCall k b) found = (refl, refl)
-    calls_plan (TakeCall k) found = (refl, refl)
-    calls_plan (ClaimId k) found = (refl, refl)
-    calls_plan (MakeId k range) found = (refl, refl)
-    calls_plan (StoreCall o id) found = (refl, refl)
-    calls_plan (LoadCall o) found = (refl, refl)
-    calls_plan (StoreAt o w) found = (refl, refl)
-    calls_plan (LoadAt o) found = (refl, refl)
-    calls_plan (LoadIdWord k) found = (refl, refl)
-    calls_plan (LockId k from) found = (refl, refl)
-    calls_plan (PostId k from e₁) found = (refl, refl)
-    calls_plan (UnlockId k from advance) found = (refl, refl)
-    calls_plan (EndId k) found = (refl, refl)
-    calls_plan (FreeId k) found = (refl, refl)
+    calls_plan _ found = (refl, refl)
 
     on_ids : (step : Step) (next : Found step → Program) (t : Option Taking) → IdGoesOn p q u (Aside step next) → (x : Option (Found step)) → found_in step c.calls t ≡ x → After (with_found p i seat c step x next)
     on_ids step next t go none is = before
@@ -266,13 +224,6 @@ module _ (p : Plan) (q : IdPlan) (narrow : q.slots ≤ 65536) (same : q.operatio
       reseats (calls_after step found c.calls) (next found) seat.hand c.words c.homes (id_row q step found r.0 u) held sound.codes sound.owners (k.0 ∙ sound.plan) k.1 r.1 (row_share q step found r.0 u) (calls_homes step found go.0) (calls_stored step found go.0)
           (go.1 found r.0 (finds_ids p q c.calls sound.plan us sound.rule i u at_view (sound.real i u at_view) (sound.called, sound.placed) sound.homes step t found is go.0)),
     )
-
-    message_there : (x : Option (Option Home)) (letter : Letter) → letter_of (shown (λ (home : Home). home) x) ≡ some letter → x ≡ some (some (Message letter.0 letter.1))
-    message_there none letter e = absurd (some-ne-none letter (sym e))
-    message_there (some none) letter e = absurd (some-ne-none letter (sym e))
-    message_there (some (some Empty)) letter e = absurd (some-ne-none letter (sym e))
-    message_there (some (some (Link k took next done))) letter e = absurd (some-ne-none letter (sym e))
-    message_there (some (some (Message l cs))) letter e = ap (λ (z : Letter). some (some (Message z.0 z.1))) (some-injective (l, cs) letter e)
 
     by_letter : (r : ℕ) (next : Heading → List ℕ → Program) → IdGoesOn p q u (TakeMessage r next) → (x : Option Letter) → message (λ (h : Home). h) c.homes r ≡ x → After (with_message p i seat c r x (λ letter. next letter.0 letter.1))
     by_letter r next go none is = before
@@ -285,15 +236,11 @@ module _ (p : Plan) (q : IdPlan) (narrow : q.slots ≤ 65536) (same : q.operatio
 
     by_put : (bytes : List ℕ) (next : Put → Program) → ((answer : Put) → IdGoesOn p q u (next answer)) → (answer : Answer) → After (with_put p i seat c bytes answer next)
     by_put bytes next go (OfPut answer) = on_sockets (next answer) (onto_first (fed bytes answer) seat.hand) c.words c.homes (onto_fits q (fed bytes answer) (fed_fits q bytes answer) seat.hand held) sound.codes sound.owners (go answer)
-    by_put bytes next go Unasked = before
-    by_put bytes next go (OfReady r) = before
-    by_put bytes next go (OfTake t) = before
+    by_put bytes next go _ = before
 
     by_ready : (next : Ready → Program) → ((answer : Ready) → IdGoesOn p q u (next answer)) → (answer : Answer) → After (with_ready p i seat c answer next)
     by_ready next go (OfReady answer) = on_sockets (next answer) seat.hand c.words c.homes held sound.codes sound.owners (go answer)
-    by_ready next go Unasked = before
-    by_ready next go (OfPut a) = before
-    by_ready next go (OfTake t) = before
+    by_ready next go _ = before
 
     first_step : (answer : Answer) (program : Program) → IdGoesOn p q u program → FitsFirst p c program → After (step_with p i seat c answer program)
     first_step answer (Do call next) go fits = let found : ℕ = found_at c.words (word_of p call) in let may = steps_on p q u call next go in
@@ -306,13 +253,7 @@ module _ (p : Plan) (q : IdPlan) (narrow : q.slots ≤ 65536) (same : q.operatio
     first_step answer (PutBytes k asked bytes next) go fits = by_put bytes next go answer
     first_step answer (AskReady k next) go fits = by_ready next go answer
     first_step answer (Aside step next) go fits = on_ids step next (taken answer) go (found_in step c.calls (taken answer)) refl
-    first_step answer (Say o outcome next) go fits = before
-    first_step answer (Sent o next) go fits = before
-    first_step answer Rest go fits = before
-    first_step answer (Write w after) go fits = before
-    first_step answer (Round head next) go fits = before
-    first_step answer (Keep r next) go fits = before
-    first_step answer (Retries requests after) go fits = before
+    first_step answer _ go fits = before
 
     any_step : (answer : Answer) (program : Program) → IdGoesOn p q u program → FitsFirst p c (goes.first_of program) → After (tick_with p i seat c answer program)
     any_step answer (Write w after) go fits = first_step answer (block w after) (block_goes p q narrow u w after go) fits
@@ -324,11 +265,7 @@ module _ (p : Plan) (q : IdPlan) (narrow : q.slots ≤ 65536) (same : q.operatio
     any_step answer (PutBytes k asked bytes next) go fits = first_step answer (PutBytes k asked bytes next) go fits
     any_step answer (AskReady k next) go fits = first_step answer (AskReady k next) go fits
     any_step answer (Aside step next) go fits = first_step answer (Aside step next) go fits
-    any_step answer (Say o outcome next) go fits = before
-    any_step answer (Sent o next) go fits = before
-    any_step answer Rest go fits = before
-    any_step answer (Keep r next) go fits = before
-    any_step answer (Retries requests after) go fits = before
+    any_step answer _ go fits = before
 
   -- of two lists of one length each place of one is a place of the other
   beside : {A B : Type 0} (l : List A) (m : List B) (i : ℕ) (a : A) → length m ≡ length l → get_elem? l i ≡ some a → get_elem? m i ≡ none → ⊥

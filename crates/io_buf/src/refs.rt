@@ -138,9 +138,24 @@ impl Refs {
         mem::replace(&mut self.first, None)
     }
 
-    /// Gives each reference up, from the last to the first.
+    /// Gives each reference up, from the last to the first. Of two that aren't the last ones to their
+    /// blocks each is dropped where it lies, since moving it costs time.
     #[inline(always)]
-    pub(crate) fn recycle(self, pool: &mut BlockPool)
+    pub(crate) fn recycle(mut self, pool: &mut BlockPool)
+        ensures { pool.old ≤ pool.new }
+    {
+        if self.rest.is_empty() && !is_last(&self.second) {
+            self.second = None;
+            if !is_last(&self.first) {
+                return;
+            }
+        }
+        self.recycle_each(pool);
+    }
+
+    // Gives each reference up, from the last to the first.
+    #[inline(never)]
+    fn recycle_each(self, pool: &mut BlockPool)
         ensures { pool.old ≤ pool.new }
     {
         let Refs {
@@ -179,6 +194,15 @@ fn recycle_rest(mut rest: VecDeque<Bytes>, pool: &mut BlockPool)
 {
     while let Some(piece) = rest.pop_back() {
         pool.recycle(piece);
+    }
+}
+
+// Whether this is the last reference to a block.
+#[inline(always)]
+fn is_last(held: &Option<Bytes>) -> bool {
+    match held {
+        Some(piece) => piece.is_unique(),
+        None => false,
     }
 }
 

@@ -5,9 +5,9 @@ use lib.ListN.{get_elem?}
 use Rattle.sock_words.specs.declared.plain.Plan.{Plan}
 use Rattle.sock_model.specs.declared.view.View.{View}
 use Rattle.programs_allowed.specs.corr_core.specs.declared.marks.Plan.{Plan as IdPlan}
-use Rattle.programs_allowed.specs.seat_programs.specs.Asides.{Step, Found, ClaimId, PutCall, MakeId, StoreCall, LoadCall, StoreAt, LoadAt, LoadIdWord, LockId, PostId, UnlockId, EndId, FreeId, TakeCall, TakeBytes}
+use Rattle.programs_allowed.specs.seat_programs.specs.Asides.{Step, Found, MakeId, LoadIdWord, LockId, PostId, UnlockId, EndId, TakeCall, TakeBytes}
 use Rattle.programs_allowed.specs.seat_programs.specs.Calls.{Call, FindLink, LoadCode}
-use Rattle.programs_allowed.specs.seat_programs.specs.Programs.{Program, Do, Say, Sent, Rest, TakeMessage, TakeHome, PutHome, PutBytes, AskReady, Write, Aside, Round, Keep, Retries}
+use Rattle.programs_allowed.specs.seat_programs.specs.Programs.{Program, Do, Write, Aside, Round}
 use Rattle.programs_allowed.specs.seat_programs.specs.Cores.{Core, word_of, found_at}
 use Rattle.programs_allowed.specs.seat_programs.specs.Beside.{found_in, call_at, at_last}
 use Rattle.programs_allowed.specs.seat_programs.specs.Sends.{block}
@@ -36,16 +36,7 @@ fits_found p q u (LoadIdWord i) found may f = λ some_. let r = f.0 some_ in ome
 fits_found p q u (LockId i from) found may f = λ some_. let r = f.0 some_ in omega (arith, r)
 fits_found p q u (PostId i from e) found may f = λ some_. let r = f.0 some_ in omega (arith, r)
 fits_found p q u (UnlockId i from advance) found may f = let m = may.1 in let longer = f m.0 m.1 m.2 m.3 m.4 m.5 m.6 in let a = longer.range_is in let b = longer.attempt_is in let room = m.8 in omega (arith, a, b, room)
-fits_found p q u (ClaimId i) found may f = tt
-fits_found p q u (PutCall i asked) found may f = tt
-fits_found p q u (MakeId i range) found may f = tt
-fits_found p q u (StoreCall o id) found may f = tt
-fits_found p q u (LoadCall o) found may f = tt
-fits_found p q u (StoreAt o w) found may f = tt
-fits_found p q u (LoadAt o) found may f = tt
-fits_found p q u (EndId i) found may f = tt
-fits_found p q u (FreeId i) found may f = tt
-fits_found p q u (TakeBytes k room) found may f = tt
+fits_found p q u _ found may f = tt
 
 -- each seat has its view
 view_at : {A B : Type 0} (l : List A) (n : List B) (i : ℕ) (a : A) → length n ≡ length l → get_elem? l i ≡ some a → (b : B) × (get_elem? n i ≡ some b)
@@ -60,34 +51,11 @@ module _ (p : Plan) (q : IdPlan) (narrow : q.slots ≤ 65536) (c : Core) (us : L
   goes_first : (u : IdView) (program : Program) → IdGoesOn p q u program → IdGoesOn p q u (first_step program)
   goes_first u (Write w after) g = block_goes p q narrow u w after g
   goes_first u (Round head next) g = ids_round p q u head next g
-  goes_first u (Do call next) g = g
-  goes_first u (Say o outcome next) g = g
-  goes_first u (Sent o next) g = g
-  goes_first u Rest g = g
-  goes_first u (TakeMessage r next) g = g
-  goes_first u (TakeHome k next) g = g
-  goes_first u (PutHome k n after) g = g
-  goes_first u (PutBytes k asked bytes next) g = g
-  goes_first u (AskReady k next) g = g
-  goes_first u (Aside step next) g = g
-  goes_first u (Keep r next) g = g
-  goes_first u (Retries requests after) g = g
+  goes_first u _ g = g
 
   beside : (u : IdView) → get_elem? us m.seat ≡ some u → (program : Program) → IdGoesOn p q u program → FitsBeside p c m.answer program
   beside u at (Aside step next) g = λ found is. fits_found p q u step found g.0 (finds_ids p q c.calls ids.plan us ids.rule m.seat u at (ids.real m.seat u at) (ids.called, ids.placed) ids.homes step (taken m.answer) found is g.0)
-  beside u at (Do call next) g = tt
-  beside u at (Say o outcome next) g = tt
-  beside u at (Sent o next) g = tt
-  beside u at Rest g = tt
-  beside u at (TakeMessage r next) g = tt
-  beside u at (TakeHome k next) g = tt
-  beside u at (PutHome k n after) g = tt
-  beside u at (PutBytes k asked bytes next) g = tt
-  beside u at (AskReady k next) g = tt
-  beside u at (Write w after) g = tt
-  beside u at (Round head next) g = tt
-  beside u at (Keep r next) g = tt
-  beside u at (Retries requests after) g = tt
+  beside u at _ g = tt
 
   -- what steps aside find is as the table of the sockets relies on
   pub is_fitting : IsFitting p c m
@@ -110,35 +78,11 @@ module _ (p : Plan) (q : IdPlan) (narrow : q.slots ≤ 65536) (c : Core) (us : L
   finds_some : (u : IdView) → get_elem? us m.seat ≡ some u → (step : Step) (next : Found step → Program) → MayId p q u step → IsAnswer (Aside step next) m.answer → (found : Found step) × (found_in step c.calls (taken m.answer) ≡ some found)
   finds_some u at (TakeCall i) next may a = let t = call_there p q c.calls ids.plan us ids.rule m.seat u at (ids.real m.seat u at) i may.0 may.1 in (t.0, ap call_at t.1)
   finds_some u at (TakeBytes k room) next may a = (at_last c.calls.ending a.0, ap (λ (x : Answer). found_in (TakeBytes k room) c.calls (taken x)) a.1)
-  finds_some u at (ClaimId i) next may a = (_, refl)
-  finds_some u at (PutCall i asked) next may a = (_, refl)
-  finds_some u at (MakeId i range) next may a = (_, refl)
-  finds_some u at (StoreCall o id) next may a = (_, refl)
-  finds_some u at (LoadCall o) next may a = (_, refl)
-  finds_some u at (StoreAt o w) next may a = (_, refl)
-  finds_some u at (LoadAt o) next may a = (_, refl)
-  finds_some u at (LoadIdWord i) next may a = (_, refl)
-  finds_some u at (LockId i from) next may a = (_, refl)
-  finds_some u at (PostId i from e) next may a = (_, refl)
-  finds_some u at (UnlockId i from advance) next may a = (_, refl)
-  finds_some u at (EndId i) next may a = (_, refl)
-  finds_some u at (FreeId i) next may a = (_, refl)
+  finds_some u at _ next may a = (_, refl)
 
   counted : (u : IdView) → get_elem? us m.seat ≡ some u → (program : Program) → IdGoesOn p q u program → IsAnswer program m.answer → IsCountedAt c m.answer program
   counted u at (Aside step next) g a = (finds_some u at step next g.0 a, counted_step u step g.0)
-  counted u at (Do call next) g a = tt
-  counted u at (Say o outcome next) g a = tt
-  counted u at (Sent o next) g a = tt
-  counted u at Rest g a = tt
-  counted u at (TakeMessage r next) g a = tt
-  counted u at (TakeHome k next) g a = tt
-  counted u at (PutHome k n after) g a = tt
-  counted u at (PutBytes k asked bytes next) g a = tt
-  counted u at (AskReady k next) g a = tt
-  counted u at (Write w after) g a = tt
-  counted u at (Round head next) g a = tt
-  counted u at (Keep r next) g a = tt
-  counted u at (Retries requests after) g a = tt
+  counted u at _ g a = tt
 
   -- each step aside finds something, and what it is to change it may change
   pub is_counted : IsAnswered c m → IsCounted c m

@@ -22,7 +22,7 @@ use Rattle.seat_programs.specs.Programs.{Program, Do, TakeMessage, TakeHome, Put
 use Rattle.seat_programs.specs.Rounds.{round}
 use Rattle.seat_programs.specs.Cores.{Core, SeatState, word_of, found_at}
 use Rattle.seat_programs.specs.Sends.{block}
-use Rattle.seat_programs.specs.Ticks.{Answer, Unasked, OfPut, OfReady, OfTake, Moment, AreAnswered, ticked}
+use Rattle.seat_programs.specs.Ticks.{Answer, OfPut, Moment, AreAnswered, ticked}
 use Rattle.sock_runs.specs.Rows.{row, hand_at, is_id, found_id, took_message, link_away, link_home_again, took_bytes}
 use Rattle.sock_runs.specs.May.{May}
 use Rattle.sock_runs.specs.GoesOn.{GoesOn}
@@ -89,9 +89,7 @@ module _ (p : Plan) (c : Core) (views : List View) (sound : Sound p c views) (m 
 
   of_put : (v : View) → get_elem? views m.seat ≡ some v → (answer : Answer) → Becomes (plain views) Nothing (plain (views_with_put p m.seat c views v answer))
   of_put v here (OfPut answer) = moved v (took_bytes answer v) here (put_rights v answer)
-  of_put v here Unasked = (tt, refl)
-  of_put v here (OfReady answer) = (tt, refl)
-  of_put v here (OfTake answer) = (tt, refl)
+  of_put v here _ = (tt, refl)
 
   of_first : (program : Program) (v : View) → get_elem? views m.seat ≡ some v → GoesOn p v program → Becomes (plain views) (next_event p m.seat program c.words v) (plain (views_with p m.seat c views v m.answer program))
   of_first (Do call next) v here goes = each_step (λ (home : Home). home) p (state c views) sound.lawful m.seat v here call (hand_at p c.words c.homes call) goes.0

@@ -111,11 +111,7 @@ pub record Stands (before after : Plain) : Type 0 where
 
 changed_stands : (q : Plain) (event : Event) → Stands q (changed event q)
 changed_stands q Nothing = record { births = λ l. omega arith; fails = λ l. omega arith; ends = λ l. omega arith }
-changed_stands q (Birth x) = record { births = λ l. omega arith; fails = λ l. omega arith; ends = λ l. omega arith }
-changed_stands q (Hold x seat) = record { births = λ l. omega arith; fails = λ l. omega arith; ends = λ l. omega arith }
-changed_stands q (Drop x seat) = record { births = λ l. omega arith; fails = λ l. omega arith; ends = λ l. omega arith }
-changed_stands q (Fail x seat) = record { births = λ l. omega arith; fails = λ l. omega arith; ends = λ l. omega arith }
-changed_stands q (End x) = record { births = λ l. omega arith; fails = λ l. omega arith; ends = λ l. omega arith }
+changed_stands q _ = record { births = λ l. omega arith; fails = λ l. omega arith; ends = λ l. omega arith }
 
 pub event_stands : (q : Plain) (event : Event) (after : Plain) → Becomes q event after → Stands q after
 event_stands q event after b = subst (Stands q) (sym b.1) (changed_stands q event)

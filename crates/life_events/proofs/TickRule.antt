@@ -22,14 +22,14 @@ use Rattle.sock_model.specs.Messages.{Letter}
 use Rattle.sock_model.specs.Reads.{message, link_home}
 use Rattle.sock_model.specs.Lawful.{Lawful}
 use Rattle.sock_model.specs.Rule.{Lasting, Rule}
-use Rattle.seat_programs.specs.Calls.{Call, ClaimSlot, CreateLife, AddRef, SubRef, SetOdd, Recycle, FreeSlot, StoreLink, LoadLink, ResetHead, ClearCode, StoreCode, StoreName, LoadName, StoreOpen, LoadOpen, TakeLink, FinishLink, PutLink, LookWord, FindLink, LoadCode, ClaimRequest, PutMessage, Unconnect, SwapHead, Connect, EmptyHead, ReadNext, ReverseNext, FreeRequest, StorePlace, DropPlace}
+use Rattle.seat_programs.specs.Calls.{Call, ClaimSlot, CreateLife, AddRef, SubRef, SetOdd, Recycle, FreeSlot, StoreLink, LoadLink, ResetHead, ClearCode, StoreCode, StoreName, LoadName, StoreOpen, LoadOpen, LookWord, FindLink, LoadCode, ClaimRequest, Unconnect, SwapHead, Connect, EmptyHead, ReadNext, ReverseNext, FreeRequest, StorePlace, DropPlace}
 use Rattle.seat_programs.specs.Programs.{Program, Do, TakeMessage, TakeHome, PutHome, PutBytes, AskReady, Write, Aside, Round}
 use Rattle.seat_programs.specs.Asides.{Step, Found}
 use Rattle.seat_programs.specs.Beside.{found_in}
 use Rattle.seat_programs.specs.Rounds.{round}
 use Rattle.seat_programs.specs.Sends.{block}
 use Rattle.seat_programs.specs.Cores.{Core, SeatState, word_of, word_after, words_after, homes_after, found_at, lies_at, first_of, others_of, link_place, with_seat}
-use Rattle.seat_programs.specs.Ticks.{Answer, Unasked, OfPut, OfReady, OfTake, Moment, fed, with_places, onto_first, taken, with_message, with_link, with_put, with_ready, with_found, step_with, tick_with, ticked}
+use Rattle.seat_programs.specs.Ticks.{Answer, OfPut, OfReady, Moment, fed, with_places, onto_first, taken, with_message, with_link, with_put, with_ready, with_found, step_with, tick_with, ticked}
 use Rattle.sock_runs.specs.Rows.{row, hand_at, by_claim, exchanged, took_message, link_away, link_home_again, took_bytes}
 use Rattle.sock_runs.specs.May.{May}
 use Rattle.sock_runs.specs.GoesOn.{GoesOn}
@@ -77,9 +77,6 @@ module _ (p : Plan) (ws : List ℕ) (sized : length ws ≡ all_words p) where
   call_lasts v (LoadName n) may = load_lasts (name_index p n)
   call_lasts v (StoreOpen o w) may = lasts_set p ws sized (open_index p o) w (λ l. ⊎_elim (λ e z. absurd (omega arith)) (λ a. positive w a.0) may.1)
   call_lasts v (LoadOpen o) may = load_lasts (open_index p o)
-  call_lasts v (TakeLink k) may = lasts_all p ws
-  call_lasts v (FinishLink k) may = lasts_all p ws
-  call_lasts v (PutLink k) may = lasts_all p ws
   call_lasts v (LookWord id) may = load_lasts (ref_index (socket_id_slot id))
   call_lasts v (FindLink i h) may = load_lasts (link_index i)
   call_lasts v (LoadCode i h) may = load_lasts (code_index i)
@@ -87,7 +84,6 @@ module _ (p : Plan) (ws : List ℕ) (sized : length ws ≡ all_words p) where
       lasts_set p ws sized (request_index p q) (word_after (ClaimRequest id q) found) (λ l. dite (ℕ_discrete (found % 2) 0)
       (λ even z. let is : cond (found % 2 == 0) (found + 1) found ≡ found + 1 = ap (λ b. cond b (found + 1) found) (eq-eqb (found % 2) 0 even) in absurd (omega (arith, z, is)))
       (λ odd z. let is : cond (found % 2 == 0) (found + 1) found ≡ found = ap (λ b. cond b (found + 1) found) (ne_eqb (found % 2) 0 odd) in odd (omega (arith, z, is))))
-  call_lasts v (PutMessage q heading bytes) may = lasts_all p ws
   call_lasts v (Unconnect q) may = high_lasts (next_index p q) (word_after (Unconnect q) 0) (omega arith)
   call_lasts v (SwapHead i own) may = let a = may.0 in slot_lasts (head_index i) own (omega arith)
   call_lasts v (Connect q before) may = high_lasts (next_index p q) before (omega arith)
@@ -97,6 +93,7 @@ module _ (p : Plan) (ws : List ℕ) (sized : length ws ≡ all_words p) where
   call_lasts v (FreeRequest q g) may = lasts_set p ws sized (request_index p q) (2 * (g + 1)) (λ l z. absurd (omega arith))
   call_lasts v (StorePlace l k n) may = high_lasts (place_index p l) (place_value false k n) (omega arith)
   call_lasts v (DropPlace l k n) may = high_lasts (place_index p l) (place_value true k n) (omega arith)
+  call_lasts v _ may = lasts_all p ws
 
 -- so no tick does: a name and an `open` keep having an id, and a request that was claimed once is never as new again
 module _ (p : Plan) (c : Core) (views : List View) (sound : Sound p c views) (m : Moment) where
@@ -114,15 +111,11 @@ module _ (p : Plan) (c : Core) (views : List View) (sound : Sound p c views) (m 
 
   put_lasts : (seat : SeatState) (bytes : List ℕ) (answer : Answer) (next : Put → Program) → Lasts p c.words (with_put p m.seat seat c bytes answer next).words
   put_lasts seat bytes (OfPut answer) next = lasts_all p c.words
-  put_lasts seat bytes Unasked next = lasts_all p c.words
-  put_lasts seat bytes (OfReady answer) next = lasts_all p c.words
-  put_lasts seat bytes (OfTake answer) next = lasts_all p c.words
+  put_lasts seat bytes _ next = lasts_all p c.words
 
   ready_lasts : (seat : SeatState) (answer : Answer) (next : Ready → Program) → Lasts p c.words (with_ready p m.seat seat c answer next).words
   ready_lasts seat (OfReady answer) next = lasts_all p c.words
-  ready_lasts seat Unasked next = lasts_all p c.words
-  ready_lasts seat (OfPut answer) next = lasts_all p c.words
-  ready_lasts seat (OfTake answer) next = lasts_all p c.words
+  ready_lasts seat _ next = lasts_all p c.words
 
   aside_lasts : (seat : SeatState) (step : Step) (x : Option (Found step)) (next : Found step → Program) → Lasts p c.words (with_found p m.seat seat c step x next).words
   aside_lasts seat step none next = lasts_all p c.words
@@ -200,15 +193,11 @@ module _ (p : Plan) (c : Core) (views : List View) (sound : Sound p c views) (al
 
   of_put : (seat : SeatState) (v : View) → get_elem? views i ≡ some v → (bytes : List ℕ) (answer : Answer) (next : Put → Program) → Kept (with_put p i seat c bytes answer next) (views_with_put p i c views v answer)
   of_put seat v here bytes (OfPut answer) next law = moved v (took_bytes answer v) (next answer) (onto_first (fed bytes answer) seat.hand) c.homes here (put_rights v answer) law
-  of_put seat v here bytes Unasked next law = (r, all)
-  of_put seat v here bytes (OfReady answer) next law = (r, all)
-  of_put seat v here bytes (OfTake answer) next law = (r, all)
+  of_put seat v here bytes _ next law = (r, all)
 
   of_ready : (seat : SeatState) (answer : Answer) (next : Ready → Program) → Kept (with_ready p i seat c answer next) views
   of_ready seat (OfReady answer) next law = (r, all)
-  of_ready seat Unasked next law = (r, all)
-  of_ready seat (OfPut answer) next law = (r, all)
-  of_ready seat (OfTake answer) next law = (r, all)
+  of_ready seat _ next law = (r, all)
 
   of_aside : (seat : SeatState) (step : Step) (x : Option (Found step)) (next : Found step → Program) → Kept (with_found p i seat c step x next) views
   of_aside seat step none next law = (r, all)

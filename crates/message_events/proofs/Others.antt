@@ -2,7 +2,7 @@
 use Rattle.std.proofs.Common.{◌≡◌, ◌≢◌, ℕ, suc, ◌+◌, ◌-◌, ◌*◌, ◌%◌, ◌<◌, ◌==◌, ◌⊎◌, ⊎_elim, eqb, eqb-true, Bool, true, false, List, [], ◌∷◌, set, refl, sym, ap, ◌∙◌, subst, arith}
 use Rattle.std.proofs.lemmas.Bool.{true≢false}
 use Rattle.std.specs.List.{filter, flat_map}
-use Rattle.std.specs.Prelude.{slice_index}
+use Rattle.std.specs.Prelude.{slice_index, not}
 use mathlib.Core.Option.{Option, some}
 use lib.ListN.{get_elem?}
 use Rattle.sock_words.specs.Words.{socket_id_version, socket_id_slot}
@@ -34,7 +34,7 @@ use Rattle.seat_programs.specs.Cores.{Core, homes_after}
 use Rattle.sock_runs.specs.Rows.{row, is_id, found_id, new_claim, filled_claim, ready_claim}
 use Rattle.sock_runs.specs.May.{May}
 use Rattle.sock_runs.specs.Sound.{state}
-use Rattle.sock_runs.proofs.Leaves.{claim_way}
+use Rattle.sock_runs.proofs.Leaves.{moves_right, claim_way}
 use Rattle.message_events.specs.Messages.{IsOrder, MayCome, Claim, Free}
 use Rattle.message_events.specs.Standing.{hands_on, by_home, by_rights, stand, messages}
 
@@ -69,15 +69,7 @@ module _ (p : Plan) (c c' : Core) (views : List View) (i : ℕ) (v : View) (at :
 abbrev pub leaves_links : Call → Bool
 leaves_links (TakeLink k) = false
 leaves_links (PutLink k) = false
-leaves_links (LookWord id) = false
-leaves_links (SwapHead i own) = false
-leaves_links (EmptyHead i last) = false
-leaves_links (ReadNext q) = false
-leaves_links (ReverseNext q value) = false
-leaves_links (FreeRequest q g) = false
-leaves_links (StorePlace l k n) = false
-leaves_links (DropPlace l k n) = false
-leaves_links other = true
+leaves_links other = not (moves_right other)
 
 module _ (p : Plan) (v : View) (found : ℕ) (hand : Hand) where
   abbrev Same : View → Type 0

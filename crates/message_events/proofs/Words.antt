@@ -9,7 +9,7 @@ use Rattle.sock_words.specs.Words.{socket_id_slot}
 use Rattle.sock_words.specs.declared.plain.Plan.{Plan}
 use Rattle.sock_model.specs.declared.view.View.{View}
 use Rattle.sock_model.specs.Layout.{tag_index, ref_index, link_index, head_index, code_index, name_index, open_index, request_index, next_index, place_index, all_words}
-use Rattle.seat_programs.specs.Calls.{Call, ClaimSlot, CreateLife, AddRef, SubRef, SetOdd, Recycle, FreeSlot, StoreLink, LoadLink, ResetHead, ClearCode, StoreCode, StoreName, LoadName, StoreOpen, LoadOpen, TakeLink, FinishLink, PutLink, LookWord, FindLink, LoadCode, ClaimRequest, PutMessage, Unconnect, SwapHead, Connect, EmptyHead, ReadNext, ReverseNext, FreeRequest, StorePlace, DropPlace}
+use Rattle.seat_programs.specs.Calls.{Call, ClaimSlot, CreateLife, AddRef, SubRef, SetOdd, Recycle, FreeSlot, StoreLink, LoadLink, ResetHead, ClearCode, StoreCode, StoreName, LoadName, StoreOpen, LoadOpen, LookWord, FindLink, LoadCode, ClaimRequest, Unconnect, SwapHead, Connect, EmptyHead, ReadNext, ReverseNext, FreeRequest, StorePlace, DropPlace}
 use Rattle.seat_programs.specs.Cores.{word_of, word_after, words_after}
 use Rattle.sock_runs.specs.May.{May}
 
@@ -52,13 +52,9 @@ module _ (p : Plan) (ws : List ℕ) (r : ℕ) (inside : r < p.requests) where
   requests_after v (LoadName n) found may is = elsewhere (name_index p n) (word_after (LoadName n) found) (λ e. omega (arith, e, may))
   requests_after v (StoreOpen n w) found may is = let low = may.0 in elsewhere (open_index p n) (word_after (StoreOpen n w) found) (λ e. omega (arith, e, low))
   requests_after v (LoadOpen n) found may is = elsewhere (open_index p n) (word_after (LoadOpen n) found) (λ e. omega (arith, e, may))
-  requests_after v (TakeLink k) found may is = refl
-  requests_after v (FinishLink k) found may is = refl
-  requests_after v (PutLink k) found may is = refl
   requests_after v (LookWord id) found may is = of_slot (socket_id_slot id) (ref_index (socket_id_slot id)) (word_after (LookWord id) found) may.0 (omega arith)
   requests_after v (FindLink i h) found may is = of_slot i (link_index i) (word_after (FindLink i h) found) may.0 (omega arith)
   requests_after v (LoadCode i h) found may is = of_slot i (code_index i) (word_after (LoadCode i h) found) may.0 (omega arith)
-  requests_after v (PutMessage q heading bytes) found may is = refl
   requests_after v (Unconnect q) found may is = behind (next_index p q) (word_after (Unconnect q) found) (omega arith)
   requests_after v (SwapHead i own) found may is = of_slot i (head_index i) (word_after (SwapHead i own) found) may.0 (omega arith)
   requests_after v (Connect q before) found may is = behind (next_index p q) (word_after (Connect q before) found) (omega arith)
@@ -69,6 +65,7 @@ module _ (p : Plan) (ws : List ℕ) (r : ℕ) (inside : r < p.requests) where
   requests_after v (DropPlace l k n) found may is = behind (place_index p l) (word_after (DropPlace l k n) found) (omega arith)
   requests_after v (ClaimRequest id q) found may is = absurd (true≢false is)
   requests_after v (FreeRequest q g) found may is = absurd (true≢false is)
+  requests_after v _ found may is = refl
 
 -- a step that makes this of the word of request q
 module _ (p : Plan) (ws : List ℕ) (long : length ws ≡ all_words p) (q : ℕ) (inside : q < p.requests) where

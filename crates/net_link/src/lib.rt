@@ -1,7 +1,6 @@
 //! Links over TCP, between this process and another one on the same machine.
 #![tactic(auto)]
 
-mod counts;
 mod moving;
 mod streams;
 mod tcp_half;

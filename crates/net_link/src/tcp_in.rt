@@ -2,10 +2,9 @@ ghost use Rattle.std.specs.Prelude.{◌≡◌, ◌≢◌, ◌++◌, ◌∷◌, �
 ghost use Rattle.sock_io.specs.Link.{TakeStep, given_of, of_take};
 ghost use Rattle.net_link.specs.Halves.{new_in, tcp_in};
 
-use crate::counts::risen;
 use crate::moving::read_some;
 use ghosts::Ghosts;
-use sock_io::{In, Take};
+use sock_io::{In, Take, risen};
 use std::marker::Model;
 use std::net::TcpStream;
 

@@ -1,29 +1,22 @@
 ghost use Rattle.std.specs.Prelude.{◌≡◌, ◌+◌, ◌≤◌, ◌<◌, ◌∷◌, ◌++◌, true, false, [], length, IfOk, IsErrOf, OnErr, Ok};
 ghost use Rattle.sock_io.specs.Causes.{Rose};
-ghost use Rattle.sock_io.specs.Giving.{shape_asked};
 ghost use Rattle.sock_io.specs.Link.{connection_of, end_of};
+ghost use Rattle.sock_io.specs.Linker.{shape_asked};
 ghost use Rattle.net_link.specs.Halves.{new_in, new_out, tcp_in};
 ghost use Rattle.net_link.specs.Linker.{is_tcp, new_half};
 ghost use Rattle.net_link.specs.Writing.{tcp_half};
 
-use crate::counts::risen;
 use crate::streams::{accept, connect};
 use crate::tcp_half::TcpHalf;
 use crate::tcp_in::TcpIn;
-use ghosts::Ghosts;
-use sock_io::{Ends, LinkSpec, Linker, Mode, NoMemory, NoPeer, OpenFault, Shape, Shaped};
+use sock_io::{
+    Ends, LinkSpec, Linker, Mode, NoMemory, NoPeer, NotedLinks, OpenFault, Shape, Shaped, risen,
+};
 use std::alloc::Global;
 use std::marker::Model;
 use std::net::{Net, TcpListener, TcpStream};
 
 type Link = Ends<TcpHalf, TcpIn, NoPeer>;
-
-/// The halves of a connection, as it was given back.
-#[derive(Drop)]
-struct Connection {
-    out: TcpHalf,
-    inn: TcpIn,
-}
 
 /// Links over TCP to a port of 127.0.0.1, and connections that are accepted at one. What is at the other end is another
 /// process's, so that of a link that is asked for its server and its end aren't used.
@@ -42,24 +35,19 @@ pub struct TcpLinker<N: Net<Stream = TcpStream, Listener = TcpListener> + Drop> 
     opened: u16,
     accepted: u16,
     faults: u64,
-    /// What was asked of each link, and what was given back, for the proofs.
-    asked: Ghosts<LinkSpec>,
-    links: Ghosts<Link>,
-    connections: Ghosts<Connection>,
+    /// What was asked of each link, and what was given back.
+    notes: NotedLinks<TcpHalf, TcpIn, NoPeer>,
 }
 
 impl<N: Net<Stream = TcpStream, Listener = TcpListener> + Drop> Model for TcpLinker<N> {
-    ghost use Rattle.std.specs.Prelude.{◌≡◌, length, map};
-    ghost use Rattle.sock_io.specs.Link.{connection_of, end_of};
-    ghost use Rattle.net_link.specs.Halves.{tcp_in};
+    ghost use Rattle.std.specs.Prelude.{◌≡◌, length};
     ghost use Rattle.net_link.specs.Linker.{TcpLinkerState};
-    ghost use Rattle.net_link.specs.Writing.{tcp_half};
 
     ghost Value = { TcpLinkerState };
 
-    ghost view = { λ l. record { asked = l.asked.list; accepted = l.accepted; back = map (λ e. end_of (tcp_half e.out) (tcp_in e.inn)) l.links.list; done = map (λ c. connection_of (tcp_half c.out) (tcp_in c.inn)) l.connections.list; faults = l.faults } };
+    ghost view = { λ l. record { asked = l.notes.asked; accepted = l.accepted; back = l.notes.back; done = l.notes.done; faults = l.faults } };
 
-    ghost invariant = { λ l. length l.asked.list ≡ l.opened };
+    ghost invariant = { λ l. length l.notes.asked ≡ l.opened };
 }
 
 impl<N: Net<Stream = TcpStream, Listener = TcpListener> + Drop> TcpLinker<N> {
@@ -74,9 +62,7 @@ impl<N: Net<Stream = TcpStream, Listener = TcpListener> + Drop> TcpLinker<N> {
             opened: 0,
             accepted: 0,
             faults: 0,
-            asked: Ghosts::of(&0u8),
-            links: Ghosts::of(&0u8),
-            connections: Ghosts::of(&0u8),
+            notes: NotedLinks::new(),
         }
     }
 
@@ -97,9 +83,7 @@ impl<N: Net<Stream = TcpStream, Listener = TcpListener> + Drop> TcpLinker<N> {
         ensures { self.new ≡ record self.old { asked = self.old.asked ++ spec.now ∷ [] } }
     {
         self.opened += 1;
-        let before: Ghosts<LinkSpec> = Ghosts::of(&self.asked);
-        let with = (before, *spec);
-        self.asked = Ghosts::of(&with);
+        self.notes.ask(spec);
     }
 }
 
@@ -144,12 +128,7 @@ impl<N: Net<Stream = TcpStream, Listener = TcpListener> + Drop> Linker for TcpLi
             Ok(halves) => halves,
             Err(_) => return Err(self.fault()),
         };
-        let shape = Shape {
-            piece: spec.piece,
-            again: spec.again,
-            fail: spec.fail,
-        };
-        match Shaped::new(self.alloc, out, shape) {
+        match Shaped::new(self.alloc, out, Shape::asked(spec)) {
             Ok(out) => {
                 self.note(spec);
                 Ok(Ends {
@@ -196,17 +175,13 @@ impl<N: Net<Stream = TcpStream, Listener = TcpListener> + Drop> Linker for TcpLi
         requires { length self.old.done < self.old.accepted }
         ensures { self.new ≡ record self.old { done = self.old.done ++ connection_of (tcp_half out) (tcp_in inn) ∷ [] } }
     {
-        let before: Ghosts<Connection> = Ghosts::of(&self.connections);
-        let with = (before, Connection { out, inn });
-        self.connections = Ghosts::of(&with);
+        self.notes.done(out, inn);
     }
 
     fn back(&mut self, _link: u16, ends: Link)
         requires { length self.old.back < length self.old.asked }
         ensures { self.new ≡ record self.old { back = self.old.back ++ end_of (tcp_half ends.out) (tcp_in ends.inn) ∷ [] } }
     {
-        let before: Ghosts<Link> = Ghosts::of(&self.links);
-        let with = (before, ends);
-        self.links = Ghosts::of(&with);
+        self.notes.back(ends);
     }
 }

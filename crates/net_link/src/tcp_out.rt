@@ -2,9 +2,8 @@ ghost use Rattle.std.specs.Prelude.{◌≡◌, ◌<◌, true, length};
 ghost use Rattle.sock_io.specs.Link.{FinishStep, PutStep, ReadyStep};
 ghost use Rattle.net_link.specs.Halves.{new_out, tcp_out};
 
-use crate::counts::risen;
 use crate::moving::write_some;
-use sock_io::{Out, Put, Ready};
+use sock_io::{Out, Put, Ready, risen};
 use std::marker::Model;
 use std::net::{Shutdown, TcpStream};
 

@@ -22,6 +22,9 @@ use Rattle.outcome_causes.proofs.Tests.{split}
 -- a weight of no mark but Tried, Born, Linked and Failer
 pub record IsNote (f : Mark → ℕ) : Type 0 where
   pub claimed : (a k : ℕ) → f (Claimed a k) ≡ 0
+  pub stored : (h c : ℕ) → f (Stored h c) ≡ 0
+  pub told : (h c : ℕ) → f (Told h c) ≡ 0
+  pub met : (h k : ℕ) → f (Met h k) ≡ 0
   pub recycling : (w : ℕ) → f (Recycling w) ≡ 0
   pub hold : (h : ℕ) → f (Hold h) ≡ 0
   pub probe : f Probe ≡ 0
@@ -29,10 +32,7 @@ pub record IsNote (f : Mark → ℕ) : Type 0 where
   pub coding : (h : ℕ) → f (Coding h) ≡ 0
   pub known : (h : ℕ) → f (Known h) ≡ 0
   pub saw : (w : ℕ) → f (Saw w) ≡ 0
-  pub stored : (h c : ℕ) → f (Stored h c) ≡ 0
-  pub told : (h c : ℕ) → f (Told h c) ≡ 0
   pub freer : (h : ℕ) → f (Freer h) ≡ 0
-  pub met : (h k : ℕ) → f (Met h k) ≡ 0
 
 pub born_note : (h : ℕ) → IsNote (is_born h)
 born_note h = record { claimed = λ a k. refl; recycling = λ w. refl; hold = λ g. refl; probe = refl; zeros = λ w. refl; coding = λ g. refl; known = λ g. refl; saw = λ w. refl; stored = λ g c. refl; told = λ g c. refl; freer = λ g. refl; met = λ g k. refl }

@@ -27,7 +27,7 @@ use Rattle.seat_programs.specs.Ticks.{Moment, quiet, ticked, broken_in}
 use Rattle.seat_programs.specs.Tasks.{plan_of}
 use Rattle.seat_programs.specs.Told.{IsTask, Became, Made, IsFail}
 use Rattle.seat_programs.specs.Scripts.{all_tasks, opened, ending, set_up, played, IsRunWithCalls}
-use Rattle.seat_programs.specs.ToldCalls.{Order, Fixed, AreOrders, StandsOn, Why, WhyAgain, IsSent, InOwnOrder, IsFailing}
+use Rattle.seat_programs.specs.ToldCalls.{Order, Fixed, SeeksName, AreOrders, StandsOn, Why, WhyAgain, IsSent, InOwnOrder, IsFailing}
 use Rattle.outcome_causes.specs.Explains.{is_plain, plain_tasks}
 use Rattle.outcome_causes.specs.Losses.{closed_at}
 
@@ -124,11 +124,7 @@ module _ (script : List Item) (turns : List Turn) (end_ : Core) (is : IsRunWithC
 
 -- the first name that an operation looks for
 abbrev pub Seeks : ℕ → Op → Type 0
-Seeks n (ops.Fail m code) = m ≡ n
-Seeks n (ops.Hold m) = m ≡ n
-Seeks n (ops.Send m bytes) = m ≡ n
-Seeks n (ops.Call asked) = name_of asked 0 ≡ n
-Seeks n other = ⊥
+Seeks = SeeksName
 
 -- where an operation found a name without a socket, a call of the same client before it found so too
 abbrev pub CallsFoundNone : List (List Task) → List (Option Outcome) → Type 0

@@ -15,7 +15,7 @@ use Rattle.seat_programs.specs.Heads.{Head, Exit, Sought, First, Version, Locks,
 use Rattle.seat_programs.specs.Programs.{Program, Rest, Round}
 use Rattle.seat_programs.specs.Posts.{is_first, is_sought}
 use Rattle.seat_programs.specs.Cores.{Core, SeatState}
-use Rattle.seat_programs.specs.Ticks.{Answer, Unasked, OfPut, OfReady, OfTake, waits_in, is_nothing}
+use Rattle.seat_programs.specs.Ticks.{Answer, OfTake, waits_in, is_nothing}
 use Rattle.joint_runs.specs.id_runs.specs.Held.{IdView, id_state}
 use Rattle.joint_runs.specs.id_runs.specs.Goes.{IdGoesOn, SoundIds}
 use Rattle.owed_calls.specs.Owing.{Free, Owing, InList, DutyTo, Among}
@@ -66,9 +66,7 @@ never_nothing (OfTake NoMore) e = true≢false (sym e)
 never_nothing (OfTake AtEnd) e = true≢false (sym e)
 never_nothing (OfTake Closed) e = true≢false (sym e)
 never_nothing (OfTake Broken) e = true≢false (sym e)
-never_nothing Unasked e = true≢false (sym e)
-never_nothing (OfPut x) e = true≢false (sym e)
-never_nothing (OfReady x) e = true≢false (sym e)
+never_nothing _ e = true≢false (sym e)
 
 -- where each seat is at rest or waits aside, also before the ending
 module _ (p : Plan) (q : IdPlan) (c : Core) (vs : List IdView) (known : SoundIds p q c vs) (still : (i : ℕ) → i < length c.seats → IsAtRest c i ⊎ WaitsAside p c i) where

@@ -10,7 +10,7 @@ use Rattle.corr_core.specs.declared.marks.Plan.{Plan as IdPlan}
 use Rattle.id_rule.specs.Lawful as ids
 use Rattle.seat_programs.specs.declared.task.Task.{Task}
 use Rattle.seat_programs.specs.Heads.{Retry}
-use Rattle.seat_programs.specs.Programs.{Program, Do, Say, Sent, Rest, TakeMessage, TakeHome, PutHome, PutBytes, AskReady, Write, Aside, Round, Keep, Retries}
+use Rattle.seat_programs.specs.Programs.{Program, Say, Sent, Rest, Keep, Retries}
 use Rattle.seat_programs.specs.Clients.{client_from}
 use Rattle.seat_programs.specs.Readers.{reader}
 use Rattle.seat_programs.specs.Cores.{Core, SeatState, waiting_at, resolved, next_step}
@@ -78,16 +78,7 @@ module _ (life : ℕ → Option ℕ) where
   opens_goes (Sent o next) u free g = opens_goes next u free g
   opens_goes (Keep r next) u free g = let z : Free ≡ Trying r.id r.attempt = sym free ∙ g.0 in absurd cc
   opens_goes (Retries requests after) u free g = opens_goes after (with_keeps g.1 u) free (g.2 u (same_further u))
-  opens_goes (Do call next) u free g = (u.keeps, g)
-  opens_goes Rest u free g = (u.keeps, g)
-  opens_goes (TakeMessage r next) u free g = (u.keeps, g)
-  opens_goes (TakeHome k next) u free g = (u.keeps, g)
-  opens_goes (PutHome k n after) u free g = (u.keeps, g)
-  opens_goes (PutBytes k asked bytes next) u free g = (u.keeps, g)
-  opens_goes (AskReady k next) u free g = (u.keeps, g)
-  opens_goes (Write w after) u free g = (u.keeps, g)
-  opens_goes (Aside step next) u free g = (u.keeps, g)
-  opens_goes (Round head next) u free g = (u.keeps, g)
+  opens_goes _ u free g = (u.keeps, g)
 
   abbrev bare : List ℕ → List ℕ → Owing
   bare link left = record { duty = Free; knows = []; keeps = false; link = link; left = left; dead = false }

@@ -12,7 +12,7 @@ use Rattle.sock_io.specs.declared.link.Ready.{Ready}
 use Rattle.sock_model.specs.declared.home.Home.{Home}
 use Rattle.sock_model.specs.Messages.{Letter}
 use Rattle.sock_model.specs.Reads.{message, link_home}
-use Rattle.seat_programs.specs.Asides.{Step, Found, ClaimId, PutCall, MakeId, StoreCall, LoadCall, StoreAt, LoadAt, LoadIdWord, LockId, PostId, UnlockId, EndId, FreeId, TakeCall, TakeBytes, Taking, Bytes, Nothing, NoMore, AtEnd, Closed, Broken}
+use Rattle.seat_programs.specs.Asides.{Step, Found, TakeBytes, Taking, Bytes}
 use Rattle.seat_programs.specs.Beside.{found_in, calls_after, more_given}
 use Rattle.seat_programs.specs.Calls.{kind_of}
 use Rattle.seat_programs.specs.Asides.{kind_aside}
@@ -20,7 +20,7 @@ use Rattle.seat_programs.specs.Programs.{Program, Do, Say, Sent, Rest, TakeMessa
 use Rattle.seat_programs.specs.Rounds.{round, kind_of_round}
 use Rattle.seat_programs.specs.Sends.{block}
 use Rattle.seat_programs.specs.Cores.{Calls, Core, SeatState}
-use Rattle.seat_programs.specs.Ticks.{Answer, Unasked, OfPut, OfReady, OfTake, Moment, seats_of, taken, with_message, with_link, with_put, with_ready, with_found, step_with, tick_with, ticked, run, waits, IsAlwaysReady}
+use Rattle.seat_programs.specs.Ticks.{Answer, Unasked, Moment, seats_of, taken, with_message, with_link, with_put, with_ready, with_found, step_with, tick_with, ticked, run, waits, IsAlwaysReady}
 use Rattle.seat_programs.specs.Runs.{kind_in, IsAtRest, from_to}
 use Rattle.seat_programs.specs.Scripts.{AreStill}
 use Rattle.joint_runs.specs.sock_runs.proofs.Waiting.{still}
@@ -29,28 +29,11 @@ use Rattle.joint_runs.specs.sock_runs.proofs.Waiting.{still}
 
 given_keeps : (k : ℕ) (t : Taking) (a : Calls) → (more_given k t a).ending ≡ a.ending
 given_keeps k (Bytes bytes) a = refl
-given_keeps k Nothing a = refl
-given_keeps k NoMore a = refl
-given_keeps k AtEnd a = refl
-given_keeps k Closed a = refl
-given_keeps k Broken a = refl
+given_keeps k _ a = refl
 
 after_keeps : (step : Step) (found : Found step) (a : Calls) → (calls_after step found a).ending ≡ a.ending
 after_keeps (TakeBytes k room) found a = given_keeps k found a
-after_keeps (ClaimId i) found a = refl
-after_keeps (PutCall i asked) found a = refl
-after_keeps (MakeId i range) found a = refl
-after_keeps (StoreCall o id) found a = refl
-after_keeps (LoadCall o) found a = refl
-after_keeps (StoreAt o w) found a = refl
-after_keeps (LoadAt o) found a = refl
-after_keeps (LoadIdWord i) found a = refl
-after_keeps (LockId i from) found a = refl
-after_keeps (PostId i from e) found a = refl
-after_keeps (UnlockId i from advance) found a = refl
-after_keeps (EndId i) found a = refl
-after_keeps (FreeId i) found a = refl
-after_keeps (TakeCall i) found a = refl
+after_keeps _ found a = refl
 
 module _ (p : Plan) (c : Core) (i : ℕ) (seat : SeatState) where
   abbrev Same : Core → Type 0
@@ -66,35 +49,23 @@ module _ (p : Plan) (c : Core) (i : ℕ) (seat : SeatState) where
 
   put_keeps : (bytes : List ℕ) (answer : Answer) (next : Put → Program) → Same (with_put p i seat c bytes answer next)
   put_keeps bytes Unasked next = refl
-  put_keeps bytes (OfReady answer) next = refl
-  put_keeps bytes (OfTake answer) next = refl
-  put_keeps bytes (OfPut answer) next = refl
+  put_keeps bytes _ next = refl
 
   ready_keeps : (answer : Answer) (next : Ready → Program) → Same (with_ready p i seat c answer next)
   ready_keeps Unasked next = refl
-  ready_keeps (OfPut answer) next = refl
-  ready_keeps (OfTake answer) next = refl
-  ready_keeps (OfReady answer) next = refl
+  ready_keeps _ next = refl
 
   found_keeps : (step : Step) (x : Option (Found step)) (next : Found step → Program) → Same (with_found p i seat c step x next)
   found_keeps step none next = refl
   found_keeps step (some found) next = after_keeps step found c.calls
 
   step_keeps : (answer : Answer) (program : Program) → Same (step_with p i seat c answer program)
-  step_keeps answer (Do call next) = refl
   step_keeps answer (TakeMessage q next) = message_keeps q (message (λ (home : Home). home) c.homes q) (λ letter. next letter.0 letter.1)
   step_keeps answer (TakeHome k next) = home_keeps k (link_home (λ (home : Home). home) p c.homes k) next
-  step_keeps answer (PutHome k n after) = refl
   step_keeps answer (PutBytes k asked bytes next) = put_keeps bytes answer next
   step_keeps answer (AskReady k next) = ready_keeps answer next
   step_keeps answer (Aside step next) = found_keeps step (found_in step c.calls (taken answer)) next
-  step_keeps answer (Round head next) = refl
-  step_keeps answer (Keep r next) = refl
-  step_keeps answer (Retries requests after) = refl
-  step_keeps answer (Say o outcome next) = refl
-  step_keeps answer (Sent o next) = refl
-  step_keeps answer Rest = refl
-  step_keeps answer (Write w after) = refl
+  step_keeps answer _ = refl
 
   tick_keeps : (answer : Answer) (program : Program) → Same (tick_with p i seat c answer program)
   tick_keeps answer (Write w after) = step_keeps answer (block w after)
@@ -106,11 +77,7 @@ module _ (p : Plan) (c : Core) (i : ℕ) (seat : SeatState) where
   tick_keeps answer (PutBytes k asked bytes next) = step_keeps answer (PutBytes k asked bytes next)
   tick_keeps answer (AskReady k next) = step_keeps answer (AskReady k next)
   tick_keeps answer (Aside step next) = step_keeps answer (Aside step next)
-  tick_keeps answer (Keep r next) = refl
-  tick_keeps answer (Retries requests after) = refl
-  tick_keeps answer (Say o outcome next) = refl
-  tick_keeps answer (Sent o next) = refl
-  tick_keeps answer Rest = refl
+  tick_keeps answer _ = refl
 
 ticked_ending : (p : Plan) (c : Core) (m : Moment) → (ticked p c m).calls.ending ≡ c.calls.ending
 ticked_ending p c m = by_seat (get_elem? c.seats m.seat)
@@ -128,12 +95,6 @@ run_ending p c (m ∷ ms) = run_ending p (ticked p c m) ms ∙ ticked_ending p c
 module _ (p : Plan) (i : ℕ) (seat : SeatState) (c : Core) (answer : Answer) where
   rest_tick : (program : Program) → kind_in program ≡ std.None → tick_with p i seat c answer program ≡ c
   rest_tick (Do call next) e = absurd (none-some (kind_of call) (sym e))
-  rest_tick (TakeMessage q next) e = absurd (none-some _ (sym e))
-  rest_tick (TakeHome k next) e = absurd (none-some _ (sym e))
-  rest_tick (PutHome k n after) e = absurd (none-some _ (sym e))
-  rest_tick (PutBytes k asked bytes next) e = absurd (none-some _ (sym e))
-  rest_tick (AskReady k next) e = absurd (none-some _ (sym e))
-  rest_tick (Write w after) e = absurd (none-some _ (sym e))
   rest_tick (Aside step next) e = absurd (none-some (kind_aside step) (sym e))
   rest_tick (Round head next) e = absurd (none-some (kind_of_round head) (sym e))
   rest_tick (Keep r next) e = refl
@@ -141,6 +102,7 @@ module _ (p : Plan) (i : ℕ) (seat : SeatState) (c : Core) (answer : Answer) wh
   rest_tick (Say o outcome next) e = refl
   rest_tick (Sent o next) e = refl
   rest_tick Rest e = refl
+  rest_tick _ e = absurd (none-some _ (sym e))
 
 -- a tick of a seat that has no step left
 rest_still : (p : Plan) (c : Core) (m : Moment) → IsAtRest c m.seat → ticked p c m ≡ c

@@ -1,5 +1,5 @@
 -- Each exchange on an id word keeps the law.
-use Rattle.std.proofs.Common.{◌≡◌, ◌≢◌, ℕ, zero, suc, ◌+◌, ◌-◌, ◌*◌, ◌/◌, ◌%◌, ◌<◌, ◌≤◌, ◌⊎◌, inl, inr, ⊎_elim, Bool, true, false, cond, eqb, eqb-true, eq-eqb, ne_eqb, List, [], ◌∷◌, ◌++◌, Option, Some, None, length, set, get_or, get_or-set_same, get_or-set_other, refl, sym, ap, ◌∙◌, subst, arith}
+use Rattle.std.proofs.Common.{◌≡◌, ◌≢◌, ℕ, ◌+◌, ◌-◌, ◌*◌, ◌/◌, ◌%◌, ◌<◌, ◌≤◌, ◌⊎◌, inl, inr, ⊎_elim, Bool, true, false, cond, eqb, eq-eqb, ne_eqb, List, [], ◌∷◌, ◌++◌, Option, length, set, get_or, get_or-set_same, get_or-set_other, refl, sym, ap, ◌∙◌, subst, arith}
 use Rattle.std.specs.Prelude as std
 use mathlib.Core.Logic.{dite}
 use native.Mathlib.Decide.{ℕ_discrete}
@@ -12,9 +12,9 @@ use Rattle.id_rule.specs.Lawful as ids
 use Rattle.seat_programs.specs.Asides.{id_slot, id_first}
 use Rattle.seat_programs.specs.Posts.{is_first}
 use Rattle.seat_programs.specs.Cores.{Core, SeatState, Calls, waiting_at}
-use Rattle.owed_calls.specs.Owing.{Duty, Free, Trying, Linked, Looking, Telling, Owing, Among, DutyTo, duty_tokens, freed, Posting, posts_on, leaves, has_ended}
+use Rattle.owed_calls.specs.Owing.{Duty, Free, Looking, Owing, Among, DutyTo, duty_tokens, freed, Posting, posts_on, leaves, has_ended}
 use Rattle.owed_calls.specs.Sound.{id_word_of, at_of, retry_tokens, Past, Token, Distinct, IsAt, IsOpen, ErrorPast, Stored, OwingLaw}
-use Rattle.owed_calls.proofs.Posts.{id_back, was_free, true_false, not_equal}
+use Rattle.owed_calls.proofs.Posts.{true_false}
 use Rattle.owed_calls.proofs.Changes.{past_on}
 use Rattle.owed_calls.proofs.Quiet.{distinct_tail}
 use Rattle.owed_calls.proofs.Words.{Forward, WordStep, worded}
@@ -47,11 +47,8 @@ module _ (q : IdPlan) (life : ℕ → Option ℕ) (calls : List ℕ) (c : Core) 
   Step x v = WordStep q life calls c us i u law at (Calls' x) refl ss os v s (parts x)
 
   pub stored_there : (x : ℕ) (back : (id n : ℕ) → Past us id n → IsAt q (Set x) id n → IsAt q c id n) → (d : Duty) → Stored q calls c us d → Stored q calls (Set x) (set us i u) d
-  stored_there x back Free st = tt
-  stored_there x back (Trying id n) st = tt
-  stored_there x back (Linked id n k) st = tt
   stored_there x back (Looking id n k o) st = (st.0, st.1, past_on q life calls c c us i u u law at (λ j m a. a) id n st.2, λ is. ats_set x o st.0 ∙ st.3 (back id n st.2 is), st.4)
-  stored_there x back (Telling id n) st = tt
+  stored_there x back _ st = tt
 
   -- whoever is at an attempt that is past was so before
   pub back_at : (x : ℕ) → Forward (id_word_of c s) (parts x) → (id n : ℕ) → Past us id n → IsAt q (Set x) id n → IsAt q c id n

@@ -10,7 +10,7 @@ use Rattle.seat_programs.specs.Programs.{Rest}
 use Rattle.seat_programs.specs.Clients.{ending_of}
 use Rattle.seat_programs.specs.Cores.{Core, SeatState, with_seat}
 use Rattle.seat_programs.specs.Scripts.{is_ending}
-use Rattle.owed_calls.specs.Owing.{Duty, Free, Trying, Linked, Looking, Telling, Owing}
+use Rattle.owed_calls.specs.Owing.{Duty, Looking, Owing}
 use Rattle.owed_calls.specs.Owes.{OwesOn}
 use Rattle.owed_calls.specs.Sound.{Owed, by_seat, by_retry, by_reader, Stored, OwingLaw, SoundOwing}
 use Rattle.owed_calls.proofs.Seats.{Few}
@@ -35,11 +35,8 @@ module _ (q : IdPlan) (life : ℕ → Option ℕ) (calls : List ℕ) (c : Core) 
   owed_on id n (by_reader o k s j u low lives word at link left) = by_reader o k s j u low lives word at link left
 
   stored_on : (d : Duty) → Stored q calls c us d → Stored q calls (is_ending c) us d
-  stored_on Free x = tt
-  stored_on (Trying id n) x = tt
-  stored_on (Linked id n k) x = tt
   stored_on (Looking id n k o) x = x
-  stored_on (Telling id n) x = tt
+  stored_on _ x = tt
 
   pub owing_on : SoundOwing q life calls (is_ending c) us
   owing_on = record {

@@ -13,7 +13,7 @@ use Rattle.sock_model.specs.References.{slot_facts}
 use Rattle.corr_core.specs.declared.marks.Plan.{Plan as IdPlan}
 use Rattle.seat_programs.specs.Calls.{Call, SetOdd, FindLink, LoadOpen}
 use Rattle.seat_programs.specs.Asides.{Step, Found, StoreAt, TakeBytes}
-use Rattle.seat_programs.specs.Programs.{Program, Do, Say, Sent, Rest, TakeMessage, TakeHome, PutHome, PutBytes, AskReady, Write, Aside, Round, Keep, Retries, NO_SOCKET}
+use Rattle.seat_programs.specs.Programs.{Program, Do, PutHome, Write, Aside, NO_SOCKET}
 use Rattle.seat_programs.specs.Cores.{Core, SeatState, word_of, found_at}
 use Rattle.seat_programs.specs.Ticks.{Answer, Moment, ticked, run, AreAnswered}
 use Rattle.joint_runs.specs.sock_runs.specs.May.{May}
@@ -51,19 +51,7 @@ at_some (x ∷ xs) (suc k) low = at_some xs k (omega (arith, low))
 
 pub same_first : (program : Program) → goes.first_of program ≡ first_step program
 same_first (Write w after) = refl
-same_first (Round head next) = refl
-same_first (Do call next) = refl
-same_first (Say o outcome next) = refl
-same_first (Sent o next) = refl
-same_first Rest = refl
-same_first (TakeMessage r next) = refl
-same_first (TakeHome k next) = refl
-same_first (PutHome k n after) = refl
-same_first (PutBytes k asked bytes next) = refl
-same_first (AskReady k next) = refl
-same_first (Aside step next) = refl
-same_first (Keep r next) = refl
-same_first (Retries requests after) = refl
+same_first _ = refl
 
 -- a word that names a socket is one more than its id
 pub id_is : (w s : ℕ) → id_of w ≡ Some s → (w ≡ s + 1) × (w ≢ NO_SOCKET)

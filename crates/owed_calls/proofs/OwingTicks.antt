@@ -20,27 +20,26 @@ use Rattle.corr_core.specs.declared.marks.Plan.{Plan as IdPlan}
 use Rattle.id_rule.specs.Lawful as ids
 use Rattle.seat_programs.specs.Calls.{Call, TakeLink, PutLink, PutMessage}
 use Rattle.seat_programs.specs.Asides.{Step, Found, ClaimId, PutCall, MakeId, StoreCall, LoadCall, StoreAt, LoadAt, LoadIdWord, LockId, PostId, UnlockId, EndId, FreeId, TakeCall, TakeBytes, Taking, Bytes, Nothing, NoMore, AtEnd, Closed, Broken, id_slot}
-use Rattle.seat_programs.specs.Programs.{Program, Do, Say, Sent, Rest, TakeMessage, TakeHome, PutHome, PutBytes, AskReady, Write, Aside, Round, Keep, Retries}
+use Rattle.seat_programs.specs.Programs.{Program, Do, TakeMessage, TakeHome, PutHome, PutBytes, AskReady, Write, Aside, Round}
 use Rattle.seat_programs.specs.Posts.{advance_of}
 use Rattle.seat_programs.specs.Sends.{block}
 use Rattle.seat_programs.specs.Rounds.{round}
 use Rattle.seat_programs.specs.Cores.{Calls, Core, SeatState, homes_after, lies_at, first_of, others_of, link_place, waiting_at, with_seat, stepped}
 use Rattle.seat_programs.specs.Beside.{taking_in, at_last, more_given, found_in, calls_after}
-use Rattle.seat_programs.specs.Ticks.{Answer, Unasked, OfPut, OfReady, OfTake, Moment, fed, with_places, onto_first, taken, with_message, with_link, with_put, with_ready, with_found, step_with, tick_with, ticked}
+use Rattle.seat_programs.specs.Ticks.{Answer, OfPut, OfReady, Moment, fed, with_places, onto_first, taken, with_message, with_link, with_put, with_ready, with_found, step_with, tick_with, ticked}
 use Rattle.joint_runs.specs.id_runs.specs.Held.{IdView, MayId}
 use Rattle.joint_runs.specs.id_runs.specs.Goes.{FindsId, IdGoesOn, SoundIds}
 use Rattle.joint_runs.specs.id_runs.specs.Goes as goes
 use Rattle.joint_runs.specs.id_runs.proofs.Steps.{finds_ids}
 use Rattle.joint_runs.specs.id_runs.proofs.Loops.{ids_round}
 use Rattle.joint_runs.specs.id_runs.proofs.Programs as idprograms
-use Rattle.owed_calls.specs.Owing.{Owing, FindsUnlock, MayOwe, Linked, takes, closes, Taken, MayCall, KnowsOwner}
+use Rattle.owed_calls.specs.Owing.{Owing, FindsUnlock, Linked, takes, closes, Taken, MayCall, KnowsOwner}
 use Rattle.owed_calls.specs.Owes.{OwesOn}
-use Rattle.owed_calls.specs.Sound.{id_word_of, at_of, Past, Failed, OwingLaw, SoundOwing}
+use Rattle.owed_calls.specs.Sound.{Past, Failed, OwingLaw, SoundOwing}
 use Rattle.owed_calls.specs.Fits.{CallFits, HoldsNoMessage, StepFits, IsFittingOwing}
 use Rattle.owed_calls.proofs.Quiet.{marked, dead_marks}
 use Rattle.owed_calls.proofs.Seats.{Few}
 use Rattle.owed_calls.proofs.Ticks.{follows, call_ticks}
-use Rattle.owed_calls.proofs.Beside.{Behind}
 use Rattle.owed_calls.proofs.AsideTicks.{look_ticks, lock_ticks, post_ticks, unlock_ticks, end_ticks, make_ticks}
 use Rattle.owed_calls.proofs.AtTicks.{store_ticks, load_ticks}
 use Rattle.owed_calls.proofs.MoveTicks.{same_ticks, out_of_home, message_ticks}
@@ -239,15 +238,11 @@ module _ (p : Plan) (q : IdPlan) (narrow : q.slots ≤ 65536) (same : q.operatio
 
     by_put : (bytes : List ℕ) (next : Put → Program) → ((answer : Put) → OwesOn life u (next answer)) → (answer : Answer) → Owed' (with_put p i seat c bytes answer next)
     by_put bytes next g (OfPut answer) = same_homes (next answer) (onto_first (fed bytes answer) seat.hand) (g answer)
-    by_put bytes next g Unasked = before
-    by_put bytes next g (OfReady r) = before
-    by_put bytes next g (OfTake t) = before
+    by_put bytes next g _ = before
 
     by_ready : (next : Ready → Program) → ((answer : Ready) → OwesOn life u (next answer)) → (answer : Answer) → Owed' (with_ready p i seat c answer next)
     by_ready next g (OfReady answer) = same_homes (next answer) seat.hand (g answer)
-    by_ready next g Unasked = before
-    by_ready next g (OfPut a) = before
-    by_ready next g (OfTake t) = before
+    by_ready next g _ = before
 
     first_step : (answer : Answer) (program : Program) → OwesOn life u program → IdGoesOn p q w program → StepFits p q life calls c seat u answer program → Owed' (step_with p i seat c answer program)
     first_step answer (Do call next) g go fits = on_call call next g fits.0 fits.1
@@ -257,13 +252,7 @@ module _ (p : Plan) (q : IdPlan) (narrow : q.slots ≤ 65536) (same : q.operatio
     first_step answer (PutBytes k asked bytes next) g go fits = by_put bytes next g answer
     first_step answer (AskReady k next) g go fits = by_ready next g answer
     first_step answer (Aside step next) g go fits = on_aside step next answer g go.0 fits (found_in step c.calls (taken answer)) refl
-    first_step answer (Say o outcome next) g go fits = before
-    first_step answer (Sent o next) g go fits = before
-    first_step answer Rest g go fits = before
-    first_step answer (Write x after) g go fits = before
-    first_step answer (Round head next) g go fits = before
-    first_step answer (Keep r next) g go fits = before
-    first_step answer (Retries requests after) g go fits = before
+    first_step answer _ g go fits = before
 
     any_step : (answer : Answer) (program : Program) → OwesOn life u program → IdGoesOn p q w program → StepFits p q life calls c seat u answer (goes.first_of program) → Owed' (tick_with p i seat c answer program)
     any_step answer (Write x after) g go fits = first_step answer (block x after) (block_goes life u x after g) (idprograms.block_goes p q narrow w x after go) fits
@@ -275,11 +264,7 @@ module _ (p : Plan) (q : IdPlan) (narrow : q.slots ≤ 65536) (same : q.operatio
     any_step answer (PutBytes k asked bytes next) g go fits = first_step answer (PutBytes k asked bytes next) g go fits
     any_step answer (AskReady k next) g go fits = first_step answer (AskReady k next) g go fits
     any_step answer (Aside step next) g go fits = first_step answer (Aside step next) g go fits
-    any_step answer (Say o outcome next) g go fits = before
-    any_step answer (Sent o next) g go fits = before
-    any_step answer Rest g go fits = before
-    any_step answer (Keep r next) g go fits = before
-    any_step answer (Retries requests after) g go fits = before
+    any_step answer _ g go fits = before
 
   -- a tick of any seat keeps what is owed
   pub owing_ticks : (c : Core) (us : List Owing) (vs : List IdView) (m : Moment) → SoundOwing q life calls c us → SoundIds p q c vs → IsFittingOwing p q life calls c us m → (us' : List Owing) × SoundOwing q life calls (ticked p c m) us'

@@ -150,10 +150,7 @@ module _ (has : ℕ → ℕ) (mine : ℕ → Bool) where
 
   last_goes : (id e : ℕ) (kept : List Frame) (next : Program) → Goes next → (exit : Posting) → AfterPost has mine (id_slot id) (posted_last id e kept next) exit
   last_goes id e kept next after (HasLocked word) = ends_goes id e word (kept_for id (parts word).range kept) next after
-  last_goes id e kept next after WasGone = after
-  last_goes id e kept next after WasStale = after
-  last_goes id e kept next after (WasCrowded x y) = after
-  last_goes id e kept next after WasQueued = after
+  last_goes id e kept next after _ = after
 
   each_goes : (os : List ℕ) (k c : ℕ) (kept : List Frame) (next : Program) → Goes next → Goes (post_each os k c kept next)
   each_goes [] k c kept next after = after

@@ -13,7 +13,7 @@ use Rattle.brpc_model.specs.Frame.{Frame}
 use Rattle.brpc_model.specs.Stream as streams
 use Rattle.seat_programs.specs.sock_message.specs.Asked.{Asked}
 use Rattle.seat_programs.specs.Calls.{Call, LoadOpen}
-use Rattle.seat_programs.specs.Asides.{Step, Found, ClaimId, PutCall, MakeId, StoreCall, LoadCall, StoreAt, LoadAt, LoadIdWord, LockId, PostId, UnlockId, EndId, FreeId, TakeCall, TakeBytes, Taking, Bytes, Nothing, NoMore, AtEnd, Closed, Broken, call_id, id_slot, id_first}
+use Rattle.seat_programs.specs.Asides.{Step, Found, ClaimId, PutCall, MakeId, StoreCall, LoadCall, StoreAt, LoadAt, LoadIdWord, LockId, PostId, UnlockId, EndId, FreeId, TakeCall, TakeBytes, Taking, Bytes, Nothing, Closed, call_id, id_slot, id_first}
 use Rattle.seat_programs.specs.Heads.{Head, Exit, Retry, Sought, First, Version, Reading, Posts, Unlocks, Decides, Locks, Joins, Opens, Reads, Discards, Posting, WasGone, WasStale, WasCrowded, WasQueued, HasLocked, Unlocking, IsOpen, HasNext, Deciding, HasEnded, GoesOn, Locking, NotThere, Has, Ended}
 use Rattle.seat_programs.specs.Programs.{Program, Do, Say, Sent, Rest, TakeMessage, TakeHome, PutHome, PutBytes, AskReady, Write, Aside, Round, Keep, Retries}
 use Rattle.seat_programs.specs.Writings.{Writing}
@@ -37,28 +37,12 @@ may_grows : (has more : ℕ → ℕ) → Grows has more → (left : ℕ → Bool
 may_grows has more g left b (PutCall i asked) m = ⊎_elim (λ x. inl x) (λ x. inr (x.0, x.1, id_grows has more g asked.operation (call_id i x.0) x.2)) m
 may_grows has more g left b (MakeId i range) m = m
 may_grows has more g left b (StoreAt o w) m = (m.0, m.1, m.2, id_grows has more g o m.0 m.3, m.4, m.5, m.6)
-may_grows has more g left b (ClaimId i) m = tt
-may_grows has more g left b (StoreCall o id) m = tt
-may_grows has more g left b (LoadCall o) m = tt
-may_grows has more g left b (LoadAt o) m = tt
-may_grows has more g left b (LoadIdWord i) m = tt
-may_grows has more g left b (LockId i from) m = tt
-may_grows has more g left b (PostId i from e) m = tt
-may_grows has more g left b (UnlockId i from advance) m = tt
-may_grows has more g left b (EndId i) m = tt
-may_grows has more g left b (FreeId i) m = tt
-may_grows has more g left b (TakeCall i) m = tt
-may_grows has more g left b (TakeBytes k room) m = tt
+may_grows has more g left b _ m = tt
 
 at_grows : (has more : ℕ → ℕ) → Grows has more → (b : Behind) (head : Head) → AtOwn has b head → AtOwn more b head
 at_grows has more g b (Locks i sought w) a = a
 at_grows has more g b (Decides id asked w e) a = (a.0, a.1, id_grows has more g asked.operation (call_id (id_slot id) a.0) a.2)
-at_grows has more g b (Posts id e w) a = tt
-at_grows has more g b (Unlocks i w advance) a = tt
-at_grows has more g b (Joins id) a = tt
-at_grows has more g b (Opens o) a = tt
-at_grows has more g b (Reads r) a = tt
-at_grows has more g b (Discards k total) a = tt
+at_grows has more g b _ a = tt
 
 -- what a program does it does where more calls have ids
 pub owns_grows : (has more : ℕ → ℕ) → Grows has more → (left : ℕ → Bool) (b : Behind) (program : Program) → Owns has left b program → Owns more left b program
@@ -81,16 +65,9 @@ owns_grows has more g left b (Retries requests after) r = owns_grows has more g 
 
 -- what a program does where nothing is known of the seat's latest step it does behind any
 pub owns_any : (has : ℕ → ℕ) (left : ℕ → Bool) (b : Behind) (program : Program) → Owns has left Other program → Owns has left b program
-owns_any has left b (Do call next) r = r
 owns_any has left b (Say o outcome next) r = owns_any has left b next r
 owns_any has left b (Sent o next) r = owns_any has left b next r
 owns_any has left b Rest r = tt
-owns_any has left b (TakeMessage q next) r = r
-owns_any has left b (TakeHome k next) r = r
-owns_any has left b (PutHome k n after) r = r
-owns_any has left b (PutBytes k asked bytes next) r = r
-owns_any has left b (AskReady k next) r = r
-owns_any has left b (Write w after) r = r
 owns_any has left b (Aside (PutCall i asked) next) r = absurd (⊎_elim (λ e. let z : Other ≡ HasClaimed i = e in cc) (λ x. let z : Other ≡ HasTaken i x.0 = x.1 in cc) r.0)
 owns_any has left b (Aside (MakeId i range) next) r = absurd (let m = r.0 in let z : Other ≡ HasPut i m.0 = m.1 in cc)
 owns_any has left b (Aside (TakeCall i) next) r = (tt, λ found more g f. owns_any more left (taken_behind i b) (next found) (r.1 found more g (λ x e. absurd (let z : Other ≡ HasLock i x = e in cc))))
@@ -115,7 +92,7 @@ owns_any has left b (Round (Opens o) next) r = r
 owns_any has left b (Round (Reads x) next) r = r
 owns_any has left b (Round (Discards k total) next) r = r
 owns_any has left b (Keep q next) r = (r.0, owns_any has left b next r.1)
-owns_any has left b (Retries requests after) r = r
+owns_any has left b _ r = r
 
 module _ (has : ℕ → ℕ) (left : ℕ → Bool) where
   -- from now on, whatever the seat's latest step was; and behind a lock of this slot
@@ -169,17 +146,11 @@ module _ (has : ℕ → ℕ) (left : ℕ → Bool) where
   aside (MakeId i range) p next r = absurd p
   aside (StoreAt o w) p next r = absurd p
   aside (ClaimId i) p next r = record { goes = λ more g b. (tt, λ found most h _. (r found).goes most (grows_on has more most g h) (behind (ClaimId i) found b)) }
-  aside (StoreCall o id) p next r = record { goes = λ more g b. (tt, λ found most h _. (r found).goes most (grows_on has more most g h) Other) }
-  aside (LoadCall o) p next r = record { goes = λ more g b. (tt, λ found most h _. (r found).goes most (grows_on has more most g h) Other) }
-  aside (LoadAt o) p next r = record { goes = λ more g b. (tt, λ found most h _. (r found).goes most (grows_on has more most g h) Other) }
-  aside (LoadIdWord i) p next r = record { goes = λ more g b. (tt, λ found most h _. (r found).goes most (grows_on has more most g h) Other) }
   aside (LockId i from) p next r = record { goes = λ more g b. (tt, λ found most h _. (r found).goes most (grows_on has more most g h) (behind (LockId i from) found b)) }
   aside (PostId i from e) p next r = record { goes = λ more g b. (tt, λ found most h _. (r found).goes most (grows_on has more most g h) (behind (PostId i from e) found b)) }
   aside (UnlockId i from advance) p next r = record { goes = λ more g b. (tt, λ found most h _. (r found).goes most (grows_on has more most g h) (behind (UnlockId i from advance) found b)) }
-  aside (EndId i) p next r = record { goes = λ more g b. (tt, λ found most h _. (r found).goes most (grows_on has more most g h) Other) }
-  aside (FreeId i) p next r = record { goes = λ more g b. (tt, λ found most h _. (r found).goes most (grows_on has more most g h) Other) }
   aside (TakeCall i) p next r = record { goes = λ more g b. (tt, λ found most h _. (r found).goes most (grows_on has more most g h) (behind (TakeCall i) found b)) }
-  aside (TakeBytes k room) p next r = record { goes = λ more g b. (tt, λ found most h _. (r found).goes most (grows_on has more most g h) Other) }
+  aside _ p next r = record { goes = λ more g b. (tt, λ found most h _. (r found).goes most (grows_on has more most g h) Other) }
 
   pub keep : (r : Retry) (next : Program) → r.attempt < 64 → Later next → Later (Keep r next)
   keep r next few x = record { goes = λ more g b. (few, x.goes more g b) }
@@ -275,10 +246,7 @@ module _ (has : ℕ → ℕ) (left : ℕ → Bool) where
 
   pub posted_goes : (id e : ℕ) (next : Program) → Later next → (exit : Posting) → AfterPost (id_slot id) (posted id e next) exit
   posted_goes id e next after (HasLocked word) = decide_goes id word e (decided id next) (decided_goes id next after)
-  posted_goes id e next after WasGone = after
-  posted_goes id e next after WasStale = after
-  posted_goes id e next after (WasCrowded x y) = after
-  posted_goes id e next after WasQueued = after
+  posted_goes id e next after _ = after
 
   pub post_goes : (id c attempt : ℕ) (next : Program) → Later next → Later (post id c attempt next)
   post_goes id c attempt next after = post_with_goes id (error_of c attempt) (posted id (error_of c attempt) next) (posted_goes id (error_of c attempt) next after)
@@ -371,18 +339,13 @@ module _ (has : ℕ → ℕ) (left : ℕ → Bool) where
       responses_goes r.ids s.frames r.kept (λ kept. read_on (record { ids = r.ids; link = r.link; id = r.id; rest = r.rest; total = r.total + length bytes; kept = kept }) (r.rest ++ bytes) s.ending k)
       (λ kept. read_on_goes (record { ids = r.ids; link = r.link; id = r.id; rest = r.rest; total = r.total + length bytes; kept = kept }) (r.rest ++ bytes) s.ending k after)
   took_goes r k after Nothing = reads_again r k after
-  took_goes r k after NoMore = after (ended_by 1014 false false r)
-  took_goes r k after AtEnd = after (ended_by 1014 false false r)
   took_goes r k after Closed = after (ended_by 1014 true false r)
-  took_goes r k after Broken = after (ended_by 1014 false false r)
+  took_goes r k after _ = after (ended_by 1014 false false r)
 
   discarded_goes : (l total : ℕ) (k : ℕ → Program) → ((x : ℕ) → Later (k x)) → (t : Taking) → Later (discarded l total k t)
   discarded_goes l total k after (Bytes bytes) = either_way (nat_lt (total + length bytes) LIMIT) _ _ Later (discards_again l (total + length bytes) k after) (after (total + length bytes))
   discarded_goes l total k after Nothing = discards_again l total k after
-  discarded_goes l total k after NoMore = after total
-  discarded_goes l total k after AtEnd = after total
-  discarded_goes l total k after Closed = after total
-  discarded_goes l total k after Broken = after total
+  discarded_goes l total k after _ = after total
 
 -- ## One round of each loop
 

@@ -17,7 +17,7 @@ use Rattle.seat_programs.specs.declared.task.Op.{Op}
 use Rattle.seat_programs.specs.declared.task.Op.TheVariants as ops
 use Rattle.seat_programs.specs.declared.task.Task.{Task}
 use Rattle.seat_programs.specs.Asides.{StoreAt}
-use Rattle.seat_programs.specs.Programs.{Program, Do, Say, Sent, Rest, TakeMessage, TakeHome, PutHome, PutBytes, AskReady, Write, Aside, Round, Keep, Retries}
+use Rattle.seat_programs.specs.Programs.{Program, Rest, Write, Aside, Round}
 use Rattle.seat_programs.specs.Tasks.{Numbered, numbered, calls, opens, tasks, plan_of, id_plan_of}
 use Rattle.seat_programs.specs.Clients.{client_from, ending_of}
 use Rattle.seat_programs.specs.Readers.{reader}
@@ -53,34 +53,12 @@ use Rattle.owed_calls.proofs.OwnsTicks.{own_at, resolved_owns, true_of, true_on,
 owns_first : (has : ℕ → ℕ) (mine : ℕ → Bool) (b : Behind) (program : Program) → Owns has mine b program → (d : Behind) × Owns has mine d (goes.first_of program)
 owns_first has mine b (Write w after) g = (Other, (block_goes has mine w after (record { goes = λ more h d. owns_any more mine d after (g more h) })).goes has (grows_same has) Other)
 owns_first has mine b (Round head next) g = (b, owns_round has mine b head next g)
-owns_first has mine b (Do call next) g = (b, g)
-owns_first has mine b (Say o outcome next) g = (b, g)
-owns_first has mine b (Sent o next) g = (b, g)
-owns_first has mine b Rest g = (b, g)
-owns_first has mine b (TakeMessage r next) g = (b, g)
-owns_first has mine b (TakeHome k next) g = (b, g)
-owns_first has mine b (PutHome k n after) g = (b, g)
-owns_first has mine b (PutBytes k asked bytes next) g = (b, g)
-owns_first has mine b (AskReady k next) g = (b, g)
-owns_first has mine b (Aside step next) g = (b, g)
-owns_first has mine b (Keep r next) g = (b, g)
-owns_first has mine b (Retries requests after) g = (b, g)
+owns_first has mine b _ g = (b, g)
 
 ids_first : (p : Plan) (q : IdPlan) → q.slots ≤ 65536 → (u : IdView) (program : Program) → IdGoesOn p q u program → IdGoesOn p q u (goes.first_of program)
 ids_first p q narrow u (Write w after) g = idprograms.block_goes p q narrow u w after g
 ids_first p q narrow u (Round head next) g = ids_round p q u head next g
-ids_first p q narrow u (Do call next) g = g
-ids_first p q narrow u (Say o outcome next) g = g
-ids_first p q narrow u (Sent o next) g = g
-ids_first p q narrow u Rest g = g
-ids_first p q narrow u (TakeMessage r next) g = g
-ids_first p q narrow u (TakeHome k next) g = g
-ids_first p q narrow u (PutHome k n after) g = g
-ids_first p q narrow u (PutBytes k asked bytes next) g = g
-ids_first p q narrow u (AskReady k next) g = g
-ids_first p q narrow u (Aside step next) g = g
-ids_first p q narrow u (Keep r next) g = g
-ids_first p q narrow u (Retries requests after) g = g
+ids_first p q narrow u _ g = g
 
 module _ (p : Plan) (q : IdPlan) (narrow : q.slots ≤ 65536) (calls : List ℕ) where
   -- whoever stores an at word stores one of the id that it named

@@ -19,7 +19,7 @@ use Rattle.corr_core.specs.declared.marks.Token.TheVariants.{Claimed, Locked}
 use Rattle.id_rule.specs.Lawful.{tag_index, id_index, call_index, at_index, local, tokens_in}
 use Rattle.id_rule.proofs.Allowed as allowed
 use Rattle.seat_programs.specs.sock_message.specs.Asked.{Asked}
-use Rattle.seat_programs.specs.Asides.{Step, Found, ClaimId, PutCall, MakeId, StoreCall, LoadCall, StoreAt, LoadAt, LoadIdWord, LockId, PostId, UnlockId, EndId, FreeId, TakeCall, TakeBytes, Taking, Bytes, Nothing, NoMore, AtEnd, Closed, Broken}
+use Rattle.seat_programs.specs.Asides.{Step, Found, ClaimId, PutCall, MakeId, StoreCall, StoreAt, LockId, PostId, UnlockId, EndId, FreeId, TakeCall, TakeBytes, Taking, Bytes}
 use Rattle.seat_programs.specs.Posts.{packed, advance_of}
 use Rattle.seat_programs.specs.Beside.{found_in, calls_after, more_given}
 use Rattle.seat_programs.specs.Cores.{Calls, Core}
@@ -148,11 +148,7 @@ module _ (p : Plan) (q : IdPlan) (c : Core) (ws : List IdView) (ids : SoundIds p
 
   given_same : (k : ℕ) (t : Taking) (n : ℕ) → Keeps (more_given k t c.calls) n
   given_same k (Bytes bytes) n = keeps_by (more_given k (Bytes bytes) c.calls) n refl refl
-  given_same k Nothing n = keeps_by c.calls n refl refl
-  given_same k NoMore n = keeps_by c.calls n refl refl
-  given_same k AtEnd n = keeps_by c.calls n refl refl
-  given_same k Closed n = keeps_by c.calls n refl refl
-  given_same k Broken n = keeps_by c.calls n refl refl
+  given_same k _ n = keeps_by c.calls n refl refl
 
   module _ (u : IdView) where
     pub step_keeps : (step : Step) (t : Option Taking) (found : Found step) → MayId p q u step → FindsId p q u step found → found_in step c.calls t ≡ some found → (n : ℕ) → n < q.slots → Acts step n ⊎ Keeps (calls_after step found c.calls) n
@@ -160,10 +156,7 @@ module _ (p : Plan) (q : IdPlan) (c : Core) (ws : List IdView) (ids : SoundIds p
     step_keeps (PutCall m asked) t found may finds is n inside = dite (ℕ_discrete n m) (λ e. inl e) (λ far. inr (keeps_by (calls_after (PutCall m asked) found c.calls) n refl (set_else c.calls.homes m n (some (std.Some asked)) far)))
     step_keeps (MakeId m range) t found may finds is n inside = dite (ℕ_discrete n m) (λ e. inl e) (λ far. inr (other_word (id_index m) (packed (made_word (parts found).first range)) n (λ e. far (let z : 2 * n + 1 ≡ 2 * m + 1 = e in omega (arith, z)))))
     step_keeps (StoreCall o id) t found may finds is n inside = inr (subst (λ (r : IdPlan). Keeps (record c.calls { words = set c.calls.words (call_index r o) id }) n) (sym ids.plan) (other_word (call_index q o) id n (λ e. let z : 2 * n + 1 ≡ 2 * q.slots + 2 * o = e in omega (arith, z))))
-    step_keeps (LoadCall o) t found may finds is n inside = inr (keeps_by c.calls n refl refl)
     step_keeps (StoreAt o w) t found may finds is n inside = inr (subst (λ (r : IdPlan). Keeps (record c.calls { words = set c.calls.words (at_index r o) w }) n) (sym ids.plan) (other_word (at_index q o) w n (λ e. let z : 2 * n + 1 ≡ 2 * q.slots + 2 * o + 1 = e in omega (arith, z, inside))))
-    step_keeps (LoadAt o) t found may finds is n inside = inr (keeps_by c.calls n refl refl)
-    step_keeps (LoadIdWord m) t found may finds is n inside = inr (keeps_by c.calls n refl refl)
     step_keeps (LockId m from) t found may finds is n inside = inr (exchange m from found (packed (posted_word (parts from) 0)) n inside (some-injective (get_or c.calls.words (id_index m) 0) found is)
         (λ hit. let w = posted_parts from 0 (omega arith) in let two = w.1 in let one = may.1 in (w.0, (λ z. omega (arith, z, two)), (λ z. omega (arith, z, one)))))
     step_keeps (PostId m from e) t found may finds is n inside = inr (exchange m from found (packed (posted_word (parts from) e)) n inside (some-injective (get_or c.calls.words (id_index m) 0) found is)
@@ -175,6 +168,7 @@ module _ (p : Plan) (q : IdPlan) (c : Core) (ws : List IdView) (ids : SoundIds p
     step_keeps (FreeId m) t found may finds is n inside = inr (other_word (tag_index m) 0 n (λ e. let z : 2 * n + 1 ≡ 2 * m = e in omega (arith, z)))
     step_keeps (TakeCall m) t found may finds is n inside = dite (ℕ_discrete n m) (λ e. inl e) (λ far. inr (keeps_by (calls_after (TakeCall m) found c.calls) n refl (set_else c.calls.homes m n (some std.None) far)))
     step_keeps (TakeBytes k room) t found may finds is n inside = inr (given_same k found n)
+    step_keeps _ t found may finds is n inside = inr (keeps_by c.calls n refl refl)
 
     -- whose slot it is
     pub acts_token : (step : Step) → MayId p q u step → (n : ℕ) → Acts step n → (t : Token Asked) × HasOne n t u
@@ -182,14 +176,4 @@ module _ (p : Plan) (q : IdPlan) (c : Core) (ws : List IdView) (ids : SoundIds p
     acts_token (MakeId m range) may n e = let x = may.1 in subst (λ y. (t : Token Asked) × HasOne y t u) (sym e) (Claimed x.0 (Full x.1), x.2)
     acts_token (EndId m) may n e = let x = may.1 in subst (λ y. (t : Token Asked) × HasOne y t u) (sym e) (Locked x.0 x.1 x.2 x.5 x.3 x.4 Empty, x.6)
     acts_token (TakeCall m) may n e = let x = may.1 in subst (λ y. (t : Token Asked) × HasOne y t u) (sym e) (x.0, x.2)
-    acts_token (ClaimId m) may n e = absurd e
-    acts_token (StoreCall o id) may n e = absurd e
-    acts_token (LoadCall o) may n e = absurd e
-    acts_token (StoreAt o w) may n e = absurd e
-    acts_token (LoadAt o) may n e = absurd e
-    acts_token (LoadIdWord m) may n e = absurd e
-    acts_token (LockId m from) may n e = absurd e
-    acts_token (PostId m from x) may n e = absurd e
-    acts_token (UnlockId m from advance) may n e = absurd e
-    acts_token (FreeId m) may n e = absurd e
-    acts_token (TakeBytes k room) may n e = absurd e
+    acts_token _ may n e = absurd e

@@ -25,15 +25,15 @@ use Rattle.seat_programs.specs.sock_message.specs.Asked.{Asked}
 use Rattle.seat_programs.specs.Asides.{Step, Found, ClaimId, PutCall, MakeId, StoreCall, LoadCall, StoreAt, LoadAt, LoadIdWord, LockId, PostId, UnlockId, EndId, FreeId, TakeCall, TakeBytes, Taking, Bytes, Nothing, NoMore, AtEnd, Closed, Broken, call_id, id_slot, id_first}
 use Rattle.joint_runs.specs.sock_steps.proofs.Quiet.{either_way}
 use Rattle.seat_programs.specs.Heads.{Head, Exit, Retry, Posts, Unlocks, Decides, Locks, Joins, Opens, Reads, Discards}
-use Rattle.seat_programs.specs.Programs.{Program, Do, Say, Sent, Rest, TakeMessage, TakeHome, PutHome, PutBytes, AskReady, Write, Aside, Round, Keep, Retries}
+use Rattle.seat_programs.specs.Programs.{Program, Do, Say, Sent, TakeMessage, TakeHome, PutHome, PutBytes, AskReady, Write, Aside, Round, Keep, Retries}
 use Rattle.seat_programs.specs.Posts.{packed, advance_of, ends_call}
 use Rattle.seat_programs.specs.Sends.{block}
 use Rattle.seat_programs.specs.Rounds.{round}
 use Rattle.seat_programs.specs.Beside.{found_in, calls_after, call_at, more_given}
 use Rattle.seat_programs.specs.Cores.{Calls, Core, SeatState, word_of, found_at, resolved, next_step, waiting_at, with_seat}
-use Rattle.seat_programs.specs.Ticks.{Answer, Unasked, OfPut, OfReady, OfTake, Moment, taken, with_message, with_link, with_put, with_ready, with_found, step_with, tick_with, ticked}
+use Rattle.seat_programs.specs.Ticks.{Answer, OfPut, OfReady, Moment, taken, with_message, with_link, with_put, with_ready, with_found, step_with, tick_with, ticked}
 use Rattle.joint_runs.specs.id_runs.specs.Held.{IdView, one, HasOne, MayId}
-use Rattle.joint_runs.specs.id_runs.specs.Goes.{FitsRetryId, FindsId, IsTaken, IdGoesOn, SoundIds, FitsFirst, IsFittingIds}
+use Rattle.joint_runs.specs.id_runs.specs.Goes.{FitsRetryId, FindsId, IdGoesOn, SoundIds, FitsFirst, IsFittingIds}
 use Rattle.joint_runs.specs.id_runs.specs.Goes as goes
 use Rattle.joint_runs.specs.id_runs.proofs.Keeps.{parts_packed}
 use Rattle.joint_runs.specs.id_runs.proofs.Steps.{finds_ids}
@@ -62,16 +62,7 @@ resolved_owns c has mine ws few b (Sent o next) r t = resolved_owns c has mine w
 resolved_owns c has mine ws few b (Keep q next) r t = resolved_owns c has mine (ws ++ q ∷ []) (few_more ws q few r.0) b next r.1 t
 resolved_owns c has mine [] few b (Retries requests after) r t = resolved_owns c has mine [] tt Other after r tt
 resolved_owns c has mine (w ∷ ws) few b (Retries requests after) r t = (Other, (retry_goes has mine requests w.id w.attempt (Retries requests after) few.0 (later has mine (Retries requests after) r)).goes has (grows_same has) Other, tt)
-resolved_owns c has mine ws few b (Do call next) r t = (b, r, t)
-resolved_owns c has mine ws few b Rest r t = (b, r, t)
-resolved_owns c has mine ws few b (TakeMessage q next) r t = (b, r, t)
-resolved_owns c has mine ws few b (TakeHome k next) r t = (b, r, t)
-resolved_owns c has mine ws few b (PutHome k n after) r t = (b, r, t)
-resolved_owns c has mine ws few b (PutBytes k asked bytes next) r t = (b, r, t)
-resolved_owns c has mine ws few b (AskReady k next) r t = (b, r, t)
-resolved_owns c has mine ws few b (Write w after) r t = (b, r, t)
-resolved_owns c has mine ws few b (Aside step next) r t = (b, r, t)
-resolved_owns c has mine ws few b (Round head next) r t = (b, r, t)
+resolved_owns c has mine ws few b _ r t = (b, r, t)
 
 few_of : (q : IdPlan) (ws : List Retry) → AllByRecursion (FitsRetryId q) ws → AllByRecursion (λ (x : Retry). x.attempt < 64) ws
 few_of q [] all = tt
@@ -80,16 +71,12 @@ few_of q (w ∷ ws) all = (let few = all.0.1 in omega (arith, few), few_of q ws 
 -- ## What is true of the latest step
 
 pub true_of : (c : Core) (b : Behind) (program : Program) → IsTrue c b → IsTrueOf c b program
-true_of c Other program t = tt
 true_of c (HasClaimed i) (Aside (PutCall j asked) next) t = λ _. t
-true_of c (HasClaimed i) program t = tt
 true_of c (HasPut i x) (Aside (MakeId j range) next) t = λ _. t
-true_of c (HasPut i x) program t = tt
 true_of c (HasLock i f) (Aside (TakeCall j) next) t = λ _. t
-true_of c (HasLock i f) program t = tt
 true_of c (HasTaken i f) (Aside (PutCall j asked) next) t = λ _. t
 true_of c (HasTaken i f) (Round (Decides id asked w e) next) t = λ _. t
-true_of c (HasTaken i f) program t = tt
+true_of c _ program t = tt
 
 -- what is said of a slot is the same
 pub record Same (c d : Core) (n : ℕ) : Type 0 where
@@ -103,20 +90,16 @@ has_taken i w t e = ap (tokens_of i) e ∙ ap (λ b. cond b (t ∷ []) []) (eq-e
 
 -- and so it stays true of a seat that has the slot
 pub true_on : (p : Plan) (q : IdPlan) (c d : Core) (ws : List IdView) (ids : SoundIds p q c ws) (w : IdView) → ((n : ℕ) → n < q.slots → (t : Token Asked) → HasOne n t w → Same c d n) → (b : Behind) (program : Program) → IdGoesOn p q w program → IsTrueOf c b program → IsTrueOf d b program
-true_on p q c d ws ids w same Other program go t = tt
 true_on p q c d ws ids w same (HasClaimed i) (Aside (PutCall j asked) next) go t = λ e. let h = acts_token p q c ws ids w (PutCall j asked) go.0 j refl in let s = same j go.0.0 h.0 h.1 in subst (λ x. (id_word_of d x).state ≡ 0) (sym e) (s.none_ (subst (λ x. (id_word_of c x).state ≡ 0) e (t e)))
-true_on p q c d ws ids w same (HasClaimed i) program go t = tt
 true_on p q c d ws ids w same (HasPut i x) (Aside (MakeId j range) next) go t = λ e. let h = acts_token p q c ws ids w (MakeId j range) go.0 j refl in let s = same j go.0.0 h.0 h.1 in
     subst (λ y. get_elem? d.calls.homes y ≡ some (some (std.Some x))) (sym e) (s.home ∙ subst (λ y. get_elem? c.calls.homes y ≡ some (some (std.Some x))) e (t e))
-true_on p q c d ws ids w same (HasPut i x) program go t = tt
 true_on p q c d ws ids w same (HasLock i f) (Aside (TakeCall j) next) go t = λ e. let h = acts_token p q c ws ids w (TakeCall j) go.0 j refl in let s = same j go.0.0 h.0 h.1 in
     subst (λ y. ((id_word_of d y).first ≡ f) × ((id_word_of d y).state ≢ 0)) (sym e) (let old = subst (λ y. ((id_word_of c y).first ≡ f) × ((id_word_of c y).state ≢ 0)) e (t e) in (s.first ∙ old.0, s.some_ old.1))
-true_on p q c d ws ids w same (HasLock i f) program go t = tt
 true_on p q c d ws ids w same (HasTaken i f) (Aside (PutCall j asked) next) go t = λ e. let h = acts_token p q c ws ids w (PutCall j asked) go.0 j refl in let s = same j go.0.0 h.0 h.1 in
     subst (λ y. ((id_word_of d y).first ≡ f) × ((id_word_of d y).state ≢ 0)) (sym e) (let old = subst (λ y. ((id_word_of c y).first ≡ f) × ((id_word_of c y).state ≢ 0)) e (t e) in (s.first ∙ old.0, s.some_ old.1))
 true_on p q c d ws ids w same (HasTaken i f) (Round (Decides id asked x e₁) next) go t = λ e. let k = go.0.1 in let s = same (id_slot id) go.0.0 (Locked k.f k.rg k.att asked k.o k.s Empty) (has_taken (id_slot id) w (Locked k.f k.rg k.att asked k.o k.s Empty) k.tokens) in
     subst (λ y. ((id_word_of d y).first ≡ f) × ((id_word_of d y).state ≢ 0)) (sym e) (let old = subst (λ y. ((id_word_of c y).first ≡ f) × ((id_word_of c y).state ≢ 0)) e (t e) in (s.first ∙ old.0, s.some_ old.1))
-true_on p q c d ws ids w same (HasTaken i f) program go t = tt
+true_on p q c d ws ids w same _ program go t = tt
 
 -- ## One seat's tick
 
@@ -148,20 +131,7 @@ module _ (p : Plan) (q : IdPlan) (narrow : q.slots ≤ 65536) (calls : List ℕ)
   waits_same (TakeBytes k room) AtEnd = refl
   waits_same (TakeBytes k room) Closed = refl
   waits_same (TakeBytes k room) Broken = refl
-  waits_same (ClaimId m) found = refl
-  waits_same (PutCall m asked) found = refl
-  waits_same (MakeId m range) found = refl
-  waits_same (StoreCall o id) found = refl
-  waits_same (LoadCall o) found = refl
-  waits_same (StoreAt o w) found = refl
-  waits_same (LoadAt o) found = refl
-  waits_same (LoadIdWord m) found = refl
-  waits_same (LockId m from) found = refl
-  waits_same (PostId m from e) found = refl
-  waits_same (UnlockId m from advance) found = refl
-  waits_same (EndId m) found = refl
-  waits_same (FreeId m) found = refl
-  waits_same (TakeCall m) found = refl
+  waits_same _ found = refl
 
   -- seat i goes on with this program, and the slots that other seats have are as they were
   module _ (a : Calls) (program : Program) (hand : List Home) (words : List ℕ) (homes : List (Option Home)) (waits : a.waiting ≡ c.calls.waiting) where
@@ -500,15 +470,11 @@ module _ (p : Plan) (q : IdPlan) (narrow : q.slots ≤ 65536) (calls : List ℕ)
 
   by_put : (bytes : List ℕ) (next : Put → Program) → ((answer : Put) → Owns has (left i) Other (next answer)) → (answer : Answer) → After (with_put p i seat c bytes answer next)
   by_put bytes next g (OfPut answer) = on_sockets Other (next answer) _ c.words c.homes (g answer) tt
-  by_put bytes next g Unasked = before
-  by_put bytes next g (OfReady r) = before
-  by_put bytes next g (OfTake t) = before
+  by_put bytes next g _ = before
 
   by_ready : (next : Ready → Program) → ((answer : Ready) → Owns has (left i) Other (next answer)) → (answer : Answer) → After (with_ready p i seat c answer next)
   by_ready next g (OfReady answer) = on_sockets Other (next answer) seat.hand c.words c.homes (g answer) tt
-  by_ready next g Unasked = before
-  by_ready next g (OfPut a) = before
-  by_ready next g (OfTake t) = before
+  by_ready next g _ = before
 
   first_step : (answer : Answer) (program : Program) (b : Behind) → Owns has (left i) b program → IsTrueOf c b program → IdGoesOn p q u program → FitsFirst p c program → After (step_with p i seat c answer program)
   first_step answer (Do call next) b g true_ go fits = on_sockets Other (next (found_at c.words (word_of p call))) _ _ _ (g (found_at c.words (word_of p call)) fits has (grows_same has)) tt
@@ -518,13 +484,7 @@ module _ (p : Plan) (q : IdPlan) (narrow : q.slots ≤ 65536) (calls : List ℕ)
   first_step answer (PutBytes k asked bytes next) b g true_ go fits = by_put bytes next (λ x. g x has (grows_same has)) answer
   first_step answer (AskReady k next) b g true_ go fits = by_ready next (λ x. g x has (grows_same has)) answer
   first_step answer (Aside step next) b g true_ go fits = on_aside step next (taken answer) go b g true_ (found_in step c.calls (taken answer)) refl
-  first_step answer (Say o outcome next) b g true_ go fits = before
-  first_step answer (Sent o next) b g true_ go fits = before
-  first_step answer Rest b g true_ go fits = before
-  first_step answer (Write w after) b g true_ go fits = before
-  first_step answer (Round head next) b g true_ go fits = before
-  first_step answer (Keep r next) b g true_ go fits = before
-  first_step answer (Retries requests after) b g true_ go fits = before
+  first_step answer _ b g true_ go fits = before
 
   -- the first step of a round
   round_true : (head : Head) (next : Exit head → Program) (b : Behind) → Owns has (left i) b (Round head next) → IsTrueOf c b (Round head next) → (d : Behind) × Owns has (left i) d (round head next) × IsTrueOf c d (round head next)
@@ -552,11 +512,7 @@ module _ (p : Plan) (q : IdPlan) (narrow : q.slots ≤ 65536) (calls : List ℕ)
   any_step answer (PutBytes k asked bytes next) b g true_ go fits = first_step answer (PutBytes k asked bytes next) b g true_ go fits
   any_step answer (AskReady k next) b g true_ go fits = first_step answer (AskReady k next) b g true_ go fits
   any_step answer (Aside step next) b g true_ go fits = first_step answer (Aside step next) b g true_ go fits
-  any_step answer (Say o outcome next) b g true_ go fits = before
-  any_step answer (Sent o next) b g true_ go fits = before
-  any_step answer Rest b g true_ go fits = before
-  any_step answer (Keep r next) b g true_ go fits = before
-  any_step answer (Retries requests after) b g true_ go fits = before
+  any_step answer _ b g true_ go fits = before
 
 -- a tick of any seat, where the words of the sockets are as they should be
 pub owns_ticks : (p : Plan) (q : IdPlan) → q.slots ≤ 65536 → (calls : List ℕ) (c : Core) (ws : List IdView) → SoundIds p q c ws → (has : ℕ → ℕ) (left : ℕ → ℕ → Bool) → Owned q calls c has left → (m : Moment) → IsFittingIds p c m

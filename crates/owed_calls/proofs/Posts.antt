@@ -248,10 +248,7 @@ module _ (life : ℕ → Option ℕ) where
   -- what follows a post
   pub posted_goes : (u : Owing) (id e : ℕ) (next : Program) → u.keeps ≡ true → KnowsError u id e → ((v : Owing) → Further (freed u) v → OwesOn life v next) → (exit : Posting) (v : Owing) → LeavesPosts life id e exit u v → OwesOn life v (posted id e next exit)
   posted_goes u id e next keeps knows goes (HasLocked w) v l = subst (λ x. OwesOn life x (decide id w e (decided id next))) (sym l.0) (decided_on (freed u) id w e next tt (knows, l.2, l.1) (inl keeps) goes)
-  posted_goes u id e next keeps knows goes WasGone v l = subst (λ x. OwesOn life x next) (sym l) (goes (freed u) (same_further (freed u)))
-  posted_goes u id e next keeps knows goes WasStale v l = subst (λ x. OwesOn life x next) (sym l) (goes (freed u) (same_further (freed u)))
-  posted_goes u id e next keeps knows goes (WasCrowded a b) v l = subst (λ x. OwesOn life x next) (sym l) (goes (freed u) (same_further (freed u)))
-  posted_goes u id e next keeps knows goes WasQueued v l = subst (λ x. OwesOn life x next) (sym l) (goes (freed u) (same_further (freed u)))
+  posted_goes u id e next keeps knows goes _ v l = subst (λ x. OwesOn life x next) (sym l) (goes (freed u) (same_further (freed u)))
 
   pub post_goes : (u : Owing) (id c n : ℕ) (next : Program) → n < 8 → u.keeps ≡ true → PostsOwn id (error_of c n) u.duty → Among id n u.knows → ((v : Owing) → Further (freed u) v → OwesOn life v next) → OwesOn life u (post id c n next)
   post_goes u id c n next few keeps own knows goes = let e : ℕ = error_of c n in let is : n ≡ attempt_of (error_of c n) = omega (arith, few) in let k : KnowsError u id (error_of c n) = inr (subst (λ m. Among id m u.knows) is knows) in

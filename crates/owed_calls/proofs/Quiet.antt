@@ -4,7 +4,7 @@ use Rattle.std.specs.Prelude as std
 use mathlib.Core.Logic.{dite}
 use native.Mathlib.Decide.{ℕ_discrete}
 use mathlib.Core.Option as core
-use mathlib.Core.Option.{none, some, some-ne-none, some-injective}
+use mathlib.Core.Option.{some, some-injective}
 use lib.ListN.{get_elem?}
 use Rattle.sock_words.specs.Words.{socket_id_version, socket_id_slot, vref_version, at_word, at_word_first, at_word_slot, at_word_attempt}
 use Rattle.sock_words.specs.declared.outcome.Outcome.{Outcome}
@@ -58,18 +58,12 @@ module _ (q : IdPlan) (life : ℕ → Option ℕ) (calls : List ℕ) (c : Core) 
       error_still id e p some_ = ⊎_elim (λ w. inl w) (λ a. inr (past_still id (attempt_of e) a)) (p some_)
 
       still_stored : (d : Duty) → Stored q calls c us d → Stored q calls (record { words = ws; homes = hs; seats = ss; outcomes = os; calls = c.calls }) (set us i v) d
-      still_stored Free s = tt
-      still_stored (Trying id n) s = tt
-      still_stored (Linked id n k) s = tt
       still_stored (Looking id n k o) s = (s.0, s.1, past_still id n s.2, s.3, s.4)
-      still_stored (Telling id n) s = tt
+      still_stored _ s = tt
 
       own_stored : (d : Duty) → Stored q calls c (set us i v) d → Stored q calls (record { words = ws; homes = hs; seats = ss; outcomes = os; calls = c.calls }) (set us i v) d
-      own_stored Free s = tt
-      own_stored (Trying id n) s = tt
-      own_stored (Linked id n k) s = tt
       own_stored (Looking id n k o) s = s
-      own_stored (Telling id n) s = tt
+      own_stored _ s = tt
 
       owed_still : (id n : ℕ) → id_slot id < q.slots → IsOpen c id n → Owed q life c us id n → Owed q life (record { words = ws; homes = hs; seats = ss; outcomes = os; calls = c.calls }) (set us i v) id n
       owed_still id n inside is (by_seat j w e d) = dite (ℕ_discrete j i)
@@ -124,11 +118,8 @@ module _ (q : IdPlan) (life : ℕ → Option ℕ) (calls : List ℕ) (c : Core) 
     own_past id n a = (i, u, at, a)
 
     pub stored_with : (v : Owing) → ((id n : ℕ) → Among id n u.knows → Among id n v.knows) → (d : Duty) → Stored q calls c us d → Stored q calls c (set us i v) d
-    stored_with v knows Free s = tt
-    stored_with v knows (Trying id n) s = tt
-    stored_with v knows (Linked id n k) s = tt
     stored_with v knows (Looking id n k o) s = (s.0, s.1, past_on q life calls c c us i u v law at knows id n s.2, s.3, s.4)
-    stored_with v knows (Telling id n) s = tt
+    stored_with v knows _ s = tt
 
     -- nothing but the duty, the knowledge or a flag changes
     abbrev Q : Core

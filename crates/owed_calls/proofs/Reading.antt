@@ -5,7 +5,7 @@ use Rattle.corr_core.specs.Word.{parts, error_of, code_of, attempt_of}
 use Rattle.brpc_model.specs.Frame.{Frame}
 use Rattle.seat_programs.specs.Calls.{AddRef, StoreCode, SubRef}
 use Rattle.seat_programs.specs.Asides.{call_id, id_slot, id_first}
-use Rattle.seat_programs.specs.Heads.{Reads, Discards, Posting, WasGone, WasStale, WasCrowded, WasQueued, HasLocked, Ended}
+use Rattle.seat_programs.specs.Heads.{Reads, Discards, Posting, HasLocked, Ended}
 use Rattle.seat_programs.specs.Programs.{Program, Do, Rest, Round, NO_SOCKET, address, release, set_failed}
 use Rattle.seat_programs.specs.Posts.{post_with, decide, decided, is_final, is_stale}
 use Rattle.seat_programs.specs.Readers.{LIMIT, slot_in, kept_for, ends_with, posted_last, post_each, thrown_away, read, reader}
@@ -53,10 +53,7 @@ module _ (life : ℕ → Option ℕ) where
 
     posted_goes : (kept : List Frame) (u : Owing) → IsPast k os (freed u) → KnowsError u id e → (exit : Posting) (v : Owing) → LeavesPosts life id e exit u v → OwesOn life v (posted_last id e kept next exit)
     posted_goes kept u p knows (HasLocked w) v l = subst (λ x. OwesOn life x (ends_with id e w (kept_for id (parts w).range kept) next)) (sym l.0) (kept_ends w (parts w).range kept (freed u) p knows l.2 l.1)
-    posted_goes kept u p knows WasGone v l = subst (λ x. OwesOn life x next) (sym l) (goes (freed u) p)
-    posted_goes kept u p knows WasStale v l = subst (λ x. OwesOn life x next) (sym l) (goes (freed u) p)
-    posted_goes kept u p knows (WasCrowded a b) v l = subst (λ x. OwesOn life x next) (sym l) (goes (freed u) p)
-    posted_goes kept u p knows WasQueued v l = subst (λ x. OwesOn life x next) (sym l) (goes (freed u) p)
+    posted_goes kept u p knows _ v l = subst (λ x. OwesOn life x next) (sym l) (goes (freed u) p)
 
   each_goes : (k code : ℕ) → is_final code ≡ true → (kept : List Frame) (next : Program) → Later k [] next → (os : List ℕ) → Later k os (post_each os k code kept next)
   each_goes k code final kept next goes [] u p = goes u p

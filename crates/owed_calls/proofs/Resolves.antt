@@ -10,7 +10,7 @@ use Rattle.sock_words.specs.declared.outcome.Outcome.{Outcome}
 use Rattle.corr_core.specs.declared.marks.Plan.{Plan as IdPlan}
 use Rattle.seat_programs.specs.Heads.{Retry}
 use Rattle.seat_programs.specs.Cores.{Core, SeatState, waiting_at}
-use Rattle.owed_calls.specs.Owing.{Duty, Free, Trying, Linked, Looking, Telling, Owing, Among, InList, DutyTo, duty_tokens}
+use Rattle.owed_calls.specs.Owing.{Duty, Looking, Owing, Among, InList, DutyTo, duty_tokens}
 use Rattle.owed_calls.specs.Sound.{id_word_of, at_of, retry_tokens, Owed, by_seat, by_retry, by_reader, Past, tokens_at, Token, Distinct, ErrorPast, Stored, OwingLaw}
 use Rattle.owed_calls.proofs.Changes.{set_at, set_beside}
 
@@ -64,11 +64,8 @@ module _ (q : IdPlan) (life : ℕ → Option ℕ) (calls : List ℕ) (c : Core) 
         (λ b. (t.0, b.1, subst (λ x. Among id n (duty_tokens t.0.duty ++ retry_tokens x)) (else_ j b.0) t.2)) (at_set us i j v t.0 t.1)
 
     stored_to : (d : Duty) → Stored q calls c us d → Stored q calls Waits (set us i v) d
-    stored_to Free x = tt
-    stored_to (Trying id n) x = tt
-    stored_to (Linked id n k) x = tt
     stored_to (Looking id n k o) x = (x.0, x.1, past_to id n x.2, x.3, x.4)
-    stored_to (Telling id n) x = tt
+    stored_to _ x = tt
 
     by_own : (id n : ℕ) → DutyTo id n v.duty ⊎ Among id n (retry_tokens ws) → Owed q life Waits (set us i v) id n
     by_own id n (inl d) = by_seat i v (set_at us i u v at) d

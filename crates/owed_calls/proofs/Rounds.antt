@@ -4,16 +4,16 @@ use Rattle.corr_core.specs.Word.{Parts, parts, locked_word, posted_word}
 use Rattle.brpc_model.specs.Frame.{Frame}
 use Rattle.brpc_model.specs.Stream as streams
 use Rattle.seat_programs.specs.Calls.{LoadOpen}
-use Rattle.seat_programs.specs.Asides.{LockId, Taking, Bytes, Nothing, NoMore, AtEnd, Closed, Broken, id_first, call_id}
+use Rattle.seat_programs.specs.Asides.{LockId, Taking, Bytes, Nothing, Closed, id_first, call_id}
 use Rattle.seat_programs.specs.Heads.{Head, Exit, Sought, Version, Reading, Posts, Unlocks, Decides, Locks, Joins, Opens, Reads, Discards, Locking, NotThere, Has, Ended}
 use Rattle.seat_programs.specs.Programs.{Program, Say, Round, NO_SOCKET}
 use Rattle.seat_programs.specs.Posts.{packed, is_first, is_sought, locking}
 use Rattle.seat_programs.specs.Readers.{answer, answered, responses, read_on, took, discarded, last_of, slot_in, version_in, has_response, ending_of, is_early, ended_by as how_ended, LIMIT}
 use Rattle.seat_programs.specs.Rounds.{round}
-use Rattle.owed_calls.specs.Owing.{Duty, Free, Trying, Linked, Looking, Telling, Owing, Among, freed, with_left, with_dead, FindsOwe, IsLifeOf}
+use Rattle.owed_calls.specs.Owing.{Duty, Free, Trying, Linked, Looking, Telling, Owing, freed, with_left, with_dead, FindsOwe, IsLifeOf}
 use Rattle.owed_calls.specs.Owing as owing
 use Rattle.owed_calls.specs.Owes.{MaySeek, FoundRange, AtOwe, LeavesLocks, LeavesOpens, LeavesOwe, OwesOn}
-use Rattle.owed_calls.proofs.Posts.{was_free, same_further, then_further, free_from, not_true, not_false, and_left, way, pick, end_goes, locked_parts, posts_goes, decides_goes, unlocks_goes}
+use Rattle.owed_calls.proofs.Posts.{was_free, same_further, not_true, not_false, and_left, way, pick, end_goes, locked_parts, posts_goes, decides_goes, unlocks_goes}
 
 module _ (life : ℕ → Option ℕ) where
   -- ## Locks
@@ -126,18 +126,13 @@ module _ (life : ℕ → Option ℕ) where
           (λ _. goes (how_ended 1014 false false x) u (same_further u, l, i, refl))
       by_ending r' bytes (streams.Fault at_ fault) l i = goes (how_ended 2002 false true r') u (same_further u, l, i, refl)
   took_goes u r k at goes Nothing = (u, owing.takes refl, (at, goes))
-  took_goes u r k at goes NoMore = (u, owing.takes refl, goes (how_ended 1014 false false r) u (same_further u, refl, refl, refl))
-  took_goes u r k at goes AtEnd = (u, owing.takes refl, goes (how_ended 1014 false false r) u (same_further u, refl, refl, refl))
   took_goes u r k at goes Closed = (with_dead u, owing.closes refl at.1 refl, goes (how_ended 1014 true false r) (with_dead u) (same_further (with_dead u), refl, refl, refl))
-  took_goes u r k at goes Broken = (u, owing.takes refl, goes (how_ended 1014 false false r) u (same_further u, refl, refl, refl))
+  took_goes u r k at goes _ = (u, owing.takes refl, goes (how_ended 1014 false false r) u (same_further u, refl, refl, refl))
 
   discarded_goes : (u : Owing) (l total : ℕ) (k : ℕ → Program) → ((exit : ℕ) (v : Owing) → v ≡ u → OwesOn life v (k exit)) → (t : Taking) → OwesOn life u (discarded l total k t)
   discarded_goes u l total k goes (Bytes bytes) = way life u (nat_lt (total + length bytes) LIMIT) (Round (Discards l (total + length bytes)) k) (k (total + length bytes)) (λ _. (tt, goes)) (λ _. goes (total + length bytes) u refl)
   discarded_goes u l total k goes Nothing = (tt, goes)
-  discarded_goes u l total k goes NoMore = goes total u refl
-  discarded_goes u l total k goes AtEnd = goes total u refl
-  discarded_goes u l total k goes Closed = goes total u refl
-  discarded_goes u l total k goes Broken = goes total u refl
+  discarded_goes u l total k goes _ = goes total u refl
 
   -- one round of each loop
   pub owes_round : (u : Owing) (head : Head) (k : Exit head → Program) → OwesOn life u (Round head k) → OwesOn life u (round head k)

@@ -8,7 +8,7 @@ use Rattle.sock_model.specs.declared.view.View.{View}
 use Rattle.sock_model.specs.Layout.{open_index}
 use Rattle.corr_core.specs.declared.marks.Plan.{Plan as IdPlan}
 use Rattle.seat_programs.specs.Asides.{Step, Found, StoreAt, TakeBytes, call_id, id_slot}
-use Rattle.seat_programs.specs.Programs.{Program, Do, Say, Sent, Rest, TakeMessage, TakeHome, PutHome, PutBytes, AskReady, Write, Aside, Round, Keep, Retries}
+use Rattle.seat_programs.specs.Programs.{Program, Do, Write, Aside, Round}
 use Rattle.seat_programs.specs.Readers.{reader}
 use Rattle.seat_programs.specs.Cores.{Core, SeatState, waiting_at}
 use Rattle.seat_programs.specs.Ticks.{Answer, Moment, ticked, run, AreAnswered}
@@ -39,18 +39,7 @@ use Rattle.owed_calls.proofs.OwingRuns.{Reaches, id_is, life_is, own_open, same_
 owes_first : (life : ℕ → Option ℕ) (u : Owing) (program : Program) → OwesOn life u program → OwesOn life u (goes.first_of program)
 owes_first life u (Write w after) g = block_goes life u w after g
 owes_first life u (Round head next) g = owes_round life u head next g
-owes_first life u (Do call next) g = g
-owes_first life u (Say o outcome next) g = g
-owes_first life u (Sent o next) g = g
-owes_first life u Rest g = g
-owes_first life u (TakeMessage r next) g = g
-owes_first life u (TakeHome k next) g = g
-owes_first life u (PutHome k n after) g = g
-owes_first life u (PutBytes k asked bytes next) g = g
-owes_first life u (AskReady k next) g = g
-owes_first life u (Aside step next) g = g
-owes_first life u (Keep r next) g = g
-owes_first life u (Retries requests after) g = g
+owes_first life u _ g = g
 
 -- whoever reads a link is past the word of its `open`
 reads_behind : (p : Plan) (calls : List ℕ) (j n o : ℕ) (c : Core) (seat : SeatState) → get_elem? c.seats j ≡ some seat → AtReader p calls j n o c → (step : Step) (next : Found step → Program) → goes.first_of seat.program ≡ Aside step next → get_or c.words (open_index p o) 0 ≢ 0

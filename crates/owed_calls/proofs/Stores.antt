@@ -12,7 +12,7 @@ use Rattle.corr_core.specs.declared.marks.Plan.{Plan as IdPlan}
 use Rattle.id_rule.specs.Lawful as ids
 use Rattle.seat_programs.specs.Asides.{call_id, id_slot, id_first}
 use Rattle.seat_programs.specs.Cores.{Core, SeatState, waiting_at}
-use Rattle.owed_calls.specs.Owing.{Duty, Free, Trying, Linked, Looking, Telling, Owing, Among, InList, DutyTo, duty_tokens, with_duty, with_known, with_left, loaded}
+use Rattle.owed_calls.specs.Owing.{Duty, Free, Linked, Looking, Telling, Owing, Among, InList, DutyTo, duty_tokens, with_duty, with_known, with_left, loaded}
 use Rattle.owed_calls.specs.Sound.{id_word_of, at_of, retry_tokens, Owed, by_seat, by_retry, by_reader, Past, Token, IsAt, IsOpen, ErrorPast, Stored, OwingLaw}
 use Rattle.owed_calls.proofs.Posts.{id_back, not_equal}
 use Rattle.owed_calls.proofs.Changes.{set_at, set_beside, change, past_on, among_left}
@@ -101,9 +101,6 @@ module _ (q : IdPlan) (narrow : q.slots ≤ 65536) (life : ℕ → Option ℕ) (
         (λ ne. by_reader r l t y x lo lives word' (set_beside us i y v x ne e) linked left))
 
     still_stored : (d : Duty) → Stored q calls c us d → Stored q calls Stored' (set us i v) d
-    still_stored Free x = tt
-    still_stored (Trying j m) x = tt
-    still_stored (Linked j m l) x = tt
     still_stored (Looking j m l r) x = (
       x.0,
       x.1,
@@ -112,7 +109,7 @@ module _ (q : IdPlan) (narrow : q.slots ≤ 65536) (life : ℕ → Option ℕ) (
           (λ here. absurd (no_other j m l (still_is j m a) (ap (at_of q c) (sym here) ∙ x.3 (still_is j m a)) x.4)) (λ ne. at_else r ne ∙ x.3 (still_is j m a)),
       x.4,
     )
-    still_stored (Telling j m) x = tt
+    still_stored _ x = tt
 
     pub stores_keep : id_slot id < q.slots → OwingLaw q life calls Stored' (set us i v)
     stores_keep inside = change q life calls c Stored' us i u v law at record {

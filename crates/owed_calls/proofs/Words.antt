@@ -12,7 +12,7 @@ use Rattle.corr_core.specs.declared.marks.Plan.{Plan as IdPlan}
 use Rattle.seat_programs.specs.Asides.{call_id, id_slot, id_first}
 use Rattle.seat_programs.specs.Heads.{Retry}
 use Rattle.seat_programs.specs.Cores.{Core, SeatState, Calls, waiting_at}
-use Rattle.owed_calls.specs.Owing.{Duty, Free, Trying, Linked, Looking, Telling, Owing, Among, InList, DutyTo, duty_tokens}
+use Rattle.owed_calls.specs.Owing.{Duty, Looking, Owing, Among, InList, DutyTo, duty_tokens}
 use Rattle.owed_calls.specs.Sound.{id_word_of, at_of, retry_tokens, Owed, by_seat, by_retry, by_reader, Past, Token, Distinct, HasEnded, IsAt, WasAt, IsOpen, ErrorPast, Stored, OwingLaw}
 use Rattle.owed_calls.proofs.Changes.{set_at, set_beside, change, past_on}
 
@@ -106,11 +106,8 @@ module _ (q : IdPlan) (life : ℕ → Option ℕ) (calls : List ℕ) (c : Core) 
         (m.word (id_slot id) inside)
 
     still_stored : (d : Duty) → Stored q calls c us d → Stored q calls Then (set us i v) d
-    still_stored Free x = tt
-    still_stored (Trying id n) x = tt
-    still_stored (Linked id n k) x = tt
     still_stored (Looking id n k o) x = (x.0, x.1, past_still id n x.2, λ is. m.ats o x.0 ∙ x.3 (back id n x.2 is), x.4)
-    still_stored (Telling id n) x = tt
+    still_stored _ x = tt
 
     pub worded : OwingLaw q life calls Then (set us i v)
     worded = change q life calls c Then us i u v law at record {

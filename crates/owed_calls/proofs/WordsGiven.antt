@@ -219,14 +219,14 @@ same_store o w o' w' f g e = (cc, cc, cc)
 
 module _ (p : Plan) (own : ℕ → ℕ → Type 0) (c : Core) (vs : List View) (i : ℕ) (sized : length c.words ≡ all_words p) (n : Named p own c vs) (seat : SeatState) (v : View) (at_seat : get_elem? c.seats i ≡ some seat) (at_view : get_elem? vs i ≡ some v) where
   module _ (call : Call) (next : ℕ → Program) (is : first_step seat.program ≡ Do call next) (may : May p v call) where
+    abbrev after : Core
+    after = stepped p i seat call next c
+
     abbrev found : ℕ
     found = found_at c.words (word_of p call)
 
     abbrev w : View
     w = row p call (found_at c.words (word_of p call)) (hand_at p c.words c.homes call) v
-
-    abbrev after : Core
-    after = stepped p i seat call next c
 
     abbrev seat' : SeatState
     seat' = record { program = next_step (resolved (waiting_at c.calls.waiting i) (next (found_at c.words (word_of p call)))); hand = hand_after p call c.homes seat.hand }

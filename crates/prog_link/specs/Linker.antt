@@ -5,7 +5,7 @@ use Rattle.sock_io.specs.declared.link.LinkSpec.{LinkSpec}
 use Rattle.sock_io.specs.declared.link.Mode.{Mode}
 use Rattle.sock_io.specs.declared.link.Mode.TheVariants as mode
 use Rattle.sock_io.specs.declared.shape.Shape.{Shape}
-use Rattle.sock_io.specs.Giving.{shape_asked}
+use Rattle.sock_io.specs.Linker.{shape_asked}
 use Rattle.sock_io.specs.Link.{ConnectionEnd, IsFresh, IsNewOffer}
 use Rattle.sock_io.specs.Meeting.{AreEnds, IsAskedPeer}
 use Rattle.sock_io.specs.Peer.{IsNewPeer}

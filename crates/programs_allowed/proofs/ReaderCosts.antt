@@ -6,7 +6,7 @@ use Rattle.sock_model.specs.declared.view.View.{View}
 use Rattle.corr_core.specs.Word.{parts, error_of}
 use Rattle.sock_runs.specs.brpc_model.specs.Frame.{Frame}
 use Rattle.seat_programs.specs.Asides.{LoadAt, call_id, id_first}
-use Rattle.seat_programs.specs.Heads.{Reads, Discards, Posting, WasGone, WasStale, WasCrowded, WasQueued, HasLocked, Deciding, HasEnded, GoesOn, Ended}
+use Rattle.seat_programs.specs.Heads.{Reads, Discards, Posting, HasLocked, Deciding, HasEnded, GoesOn, Ended}
 use Rattle.seat_programs.specs.Programs.{Program, Rest, Aside, Round, NO_SOCKET, address, release, set_failed}
 use Rattle.seat_programs.specs.Posts.{post_with, decided}
 use Rattle.seat_programs.specs.Readers.{LIMIT, kept_for, ends_with, posted_last, post_each, thrown_away, read, reader}
@@ -35,10 +35,7 @@ module _ (p : Plan) where
 
   posted_last_lasts : (v : View) (id e : ℕ) (kept : List Frame) (next : Program) (n : ℕ) → LastsFor p v next n → (exit : Posting) → FitsPosting exit → LastsFor p v (posted_last id e kept next exit) (ERROR + n + 0)
   posted_last_lasts v id e kept next n l (HasLocked word) f = ends_last v id e word (kept_for id (parts word).range kept) next n l
-  posted_last_lasts v id e kept next n l WasGone f = lasts_more p v next n (ERROR + n + 0) (omega arith) l
-  posted_last_lasts v id e kept next n l WasStale f = lasts_more p v next n (ERROR + n + 0) (omega arith) l
-  posted_last_lasts v id e kept next n l (WasCrowded a b) f = lasts_more p v next n (ERROR + n + 0) (omega arith) l
-  posted_last_lasts v id e kept next n l WasQueued f = lasts_more p v next n (ERROR + n + 0) (omega arith) l
+  posted_last_lasts v id e kept next n l _ f = lasts_more p v next n (ERROR + n + 0) (omega arith) l
 
   posts_last : (id e : ℕ) (kept : List Frame) (next : Program) (n : ℕ) → Lasting p next n → Lasting p (post_with id e (posted_last id e kept next)) (POST + n)
   posts_last id e kept next n l v = λ found _.

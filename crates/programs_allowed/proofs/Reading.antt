@@ -7,7 +7,7 @@ use Rattle.sock_model.specs.declared.view.View.{View}
 use Rattle.corr_core.specs.Word.{parts, error_of}
 use Rattle.sock_runs.specs.brpc_model.specs.Frame.{Frame}
 use Rattle.seat_programs.specs.Asides.{call_id, id_first}
-use Rattle.seat_programs.specs.Heads.{Reads, Discards, Posting, WasGone, WasStale, WasCrowded, WasQueued, HasLocked, Ended}
+use Rattle.seat_programs.specs.Heads.{Reads, Discards, Posting, HasLocked, Ended}
 use Rattle.seat_programs.specs.Programs.{Program, Rest, Round, NO_SOCKET, address, release, set_failed}
 use Rattle.seat_programs.specs.Posts.{post_with, decided}
 use Rattle.seat_programs.specs.Readers.{LIMIT, kept_for, ends_with, posted_last, post_each, thrown_away, read, reader}
@@ -29,10 +29,7 @@ module _ (p : Plan) where
 
   posted_last_goes : (v : View) (id e : ℕ) (kept : List Frame) (next : Program) → GoesOn p v next → (exit : Posting) → FitsPosting exit → GoesOn p v (posted_last id e kept next exit)
   posted_last_goes v id e kept next goes (HasLocked word) f = ends_goes v id e word (kept_for id (parts word).range kept) next f goes
-  posted_last_goes v id e kept next goes WasGone f = goes
-  posted_last_goes v id e kept next goes WasStale f = goes
-  posted_last_goes v id e kept next goes (WasCrowded a b) f = goes
-  posted_last_goes v id e kept next goes WasQueued f = goes
+  posted_last_goes v id e kept next goes _ f = goes
 
   post_each_goes : (v : View) (os : List ℕ) (k code : ℕ) (kept : List Frame) (next : Program) → GoesOn p v next → GoesOn p v (post_each os k code kept next)
   post_each_goes v [] k code kept next goes = goes

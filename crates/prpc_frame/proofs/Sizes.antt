@@ -5,7 +5,7 @@ use Rattle.rpc_meta.specs.brpc_model.specs.Wire.{varint_up_to, varint_bytes}
 use Rattle.rpc_meta.specs.brpc_model.specs.Meta.{Meta}
 use Rattle.rpc_meta.specs.brpc_model.specs.Spelling.{number_field, bytes_field, meta_bytes}
 
-varint_size : (most n : ℕ) → length (varint_up_to most n) ≤ most
+pub varint_size : (most n : ℕ) → length (varint_up_to most n) ≤ most
 varint_size zero n = omega arith
 varint_size (suc most) n = by (nat_lt n 128) (varint_size most (n / 128))
   where
@@ -13,10 +13,10 @@ varint_size (suc most) n = by (nat_lt n 128) (varint_size most (n / 128))
     by true h = omega arith
     by false h = omega arith
 
-number_size : (number n : ℕ) → length (number_field number n) ≤ 20
+pub number_size : (number n : ℕ) → length (number_field number n) ≤ 20
 number_size number n = omega (arith, length-append (varint_bytes (number * 8)) (varint_bytes n), varint_size 10 (number * 8), varint_size 10 n)
 
-bytes_size : (number : ℕ) (bytes : List ℕ) → length (bytes_field number bytes) ≤ 20 + length bytes
+pub bytes_size : (number : ℕ) (bytes : List ℕ) → length (bytes_field number bytes) ≤ 20 + length bytes
 bytes_size number bytes =
     omega (
       arith,

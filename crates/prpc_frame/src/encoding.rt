@@ -84,8 +84,28 @@ fn append_front(
         spell_front(&mut front, meta, sizes, behind);
         return frame.append_bytes(pool, front.as_slice());
     }
+    append_long(frame, pool, meta, sizes.all, behind)
+}
+
+// As `append_front`, of a meta of this size, by way of memory.
+#[inline(never)]
+fn append_long(
+    frame: &mut IoBuf,
+    pool: &mut BlockPool,
+    meta: &RpcMeta,
+    size: usize,
+    behind: usize,
+) -> Result<(), NoMemory>
+    requires empty { frame.old.items ≡ [] }
+    requires part { HasPart (meaning meta.now) }
+    requires size { size ≡ length (meta_bytes (meaning meta.now)) }
+    requires small { length (meta_bytes (meaning meta.now)) + behind ≤ body_limit }
+    ensures front { OnOk result (frame.new.items ≡ magic ++ to_be_bytes w32 (length (meta_bytes (meaning meta.now)) + behind) ++ to_be_bytes w32 (length (meta_bytes (meaning meta.now))) ++ meta_bytes (meaning meta.now)) }
+    ensures sizes { OnOk result (frame.new.sizes ≡ block_sizes (12 + length (meta_bytes (meaning meta.now)))) }
+    ensures reads_back { OnOk result (read_meta (meta_bytes (meaning meta.now)) ≡ Ok (meaning meta.now)) }
+{
     let mut front = pool.lend_scratch();
-    spell_long(&mut front, meta, sizes.all, behind)?;
+    spell_long(&mut front, meta, size, behind)?;
     frame.append_bytes(pool, &front)?;
     pool.keep_scratch(front);
     Ok(())

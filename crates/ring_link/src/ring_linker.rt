@@ -1,5 +1,5 @@
 ghost use Rattle.std.specs.Prelude.{◌≡◌, ◌≢◌, ◌+◌, ◌<◌, ◌∷◌, ◌++◌, false, true, None, Ok, [], length, IfOk, IsErrOf, OnErr, OnOk};
-ghost use Rattle.sock_io.specs.Giving.{shape_asked};
+ghost use Rattle.sock_io.specs.Linker.{shape_asked};
 ghost use Rattle.sock_io.specs.Link.{IsFresh, IsSettled, IsUnused, connection_of, end_of};
 ghost use Rattle.sock_io.specs.Meeting.{AreEnds, IsAskedPeer, MeetOut, MeetStep};
 ghost use Rattle.sock_io.specs.Peer.{IsNewPeer, has_ended};

@@ -2,7 +2,7 @@
 use sock_words::Outcome;
 
 /// The outcome of the operation of this number.
-#[derive(Debug, Drop)]
+#[derive(Drop)]
 pub struct Told {
     pub number: u16,
     pub outcome: Outcome,

@@ -7,7 +7,7 @@ use Rattle.rpc_meta.specs.declared.fault.MetaFault.TheVariants.{Wire, NoService,
 use Rattle.rpc_meta.specs.Gathered.{Names, Outcome, Gathered}
 use Rattle.rpc_meta.specs.Answer.{meta_fault, answer, request_from, response_from, meta_with, meta_from}
 
-none_is : {A : Type 0} (o : Option A) → is_some o ≡ false → o ≡ None
+pub none_is : {A : Type 0} (o : Option A) → is_some o ≡ false → o ≡ None
 none_is None e = refl
 none_is (Some a) e = absurd (cc)
 

@@ -6,4 +6,5 @@ pub mod Pieces
 pub mod RoundTrip
 pub mod Counting
 pub mod Varints
+pub mod Few
 mod NextFields

@@ -1,4 +1,4 @@
-ghost use Rattle.std.specs.Prelude.{◌≡◌, ◌+◌, ◌≤◌, ◌++◌, length, IfOk};
+ghost use Rattle.std.specs.Prelude.{◌≡◌, ◌+◌, ◌≤◌, ◌++◌, length, IfOk, IfSome};
 
 use crate::front::{FRONT_BYTES, Front};
 use std::alloc::{AllocError, Global};
@@ -61,6 +61,18 @@ impl MetaBytes {
         } else {
             self.heap.as_slice()
         }
+    }
+
+    /// How many bytes there are, where they take no memory.
+    #[inline(always)]
+    pub(crate) fn here_len(&self) -> Option<usize>
+        ensures { IfSome result (λ n. (n ≡ length self.now) × (n ≤ HERE_BYTES)) }
+    {
+        if !self.heap.is_empty() {
+            return None;
+        }
+        let bytes = &self.here[..self.len as usize];
+        Some(bytes.len())
     }
 
     /// Spells the bytes in place. Few are copied with all that is behind them, which takes one step

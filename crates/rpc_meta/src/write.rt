@@ -36,23 +36,59 @@ impl RpcMeta {
     }
 
     /// How many bytes `write_to` appends, all and of the parts, where that fits.
+    #[inline(always)]
     pub fn sizes(&self) -> Option<MetaSizes>
         ensures { IfSome result (λ s. AreSizes s (meaning self.now)) }
     {
-        let request = asked_size(&self.request)?;
-        let response = answered_size(&self.response)?;
-        let asked = whole_request(&self.request, request)?;
-        let answered = whole_response(&self.response, response)?;
-        let numbers = int_size(3, self.compress_type)
-            + number_size(4, self.correlation_id)
-            + int_size(5, self.attachment_size);
-        let all = asked.checked_add(answered)?.checked_add(numbers)?;
-        Some(MetaSizes {
-            all,
-            request,
-            response,
-        })
+        match few_sizes(self) {
+            Some(sizes) => Some(sizes),
+            None => any_sizes(self),
+        }
     }
+}
+
+/// The sizes of a meta that has a request with few bytes and an id alone, where it is such a one.
+#[inline(always)]
+fn few_sizes(meta: &RpcMeta) -> Option<MetaSizes>
+    ensures { IfSome result (λ s. AreSizes s (meaning meta.now)) }
+{
+    let Some(request) = &meta.request else {
+        return None;
+    };
+    if meta.response.is_some() || request.log_id.is_some() {
+        return None;
+    }
+    if meta.compress_type != 0 || meta.attachment_size != 0 {
+        return None;
+    }
+    let service = request.service.here_len()?;
+    let method = request.method.here_len()?;
+    let request = 4 + service + method;
+    Some(MetaSizes {
+        all: 3 + request + varint_size(meta.correlation_id),
+        request,
+        response: 0,
+    })
+}
+
+/// The sizes of a meta of any kind.
+#[inline(never)]
+fn any_sizes(meta: &RpcMeta) -> Option<MetaSizes>
+    ensures { IfSome result (λ s. AreSizes s (meaning meta.now)) }
+{
+    let request = asked_size(&meta.request)?;
+    let response = answered_size(&meta.response)?;
+    let asked = whole_request(&meta.request, request)?;
+    let answered = whole_response(&meta.response, response)?;
+    let numbers = int_size(3, meta.compress_type)
+        + number_size(4, meta.correlation_id)
+        + int_size(5, meta.attachment_size);
+    let all = asked.checked_add(answered)?.checked_add(numbers)?;
+    Some(MetaSizes {
+        all,
+        request,
+        response,
+    })
 }
 
 /// Appends the meta, or a part of it before a refusal.

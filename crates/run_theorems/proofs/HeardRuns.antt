@@ -181,11 +181,7 @@ IsOfLink other = Unit {0}
 
 of_link : (room : ℕ) (t : Taking) → FitsTake room t → IsOfLink t
 of_link room NoMore h = h
-of_link room (Bytes bytes) h = tt
-of_link room Nothing h = tt
-of_link room AtEnd h = tt
-of_link room Closed h = tt
-of_link room Broken h = tt
+of_link room _ h = tt
 
 -- an answer of a writing half, and one of a reading half
 abbrev IsHalf : Answer → Type 0
@@ -289,12 +285,8 @@ one_text_told script turns a b x y took r s h k same same_taken = let p : Plan =
 -- ## Takings by their answers and their bytes
 
 answer_word : (x : Taking) → IsOfLink x → IsWord answer_of x
-answer_word (Bytes bytes) h = (_, refl)
-answer_word Nothing h = (_, refl)
 answer_word NoMore h = absurd h
-answer_word AtEnd h = (_, refl)
-answer_word Closed h = (_, refl)
-answer_word Broken h = (_, refl)
+answer_word _ h = (_, refl)
 
 as_long : (x y : Taking) → IsOfLink x → IsOfLink y → answer_of x ≡ answer_of y → length (bytes_found x) ≡ length (bytes_found y)
 as_long (Bytes x) (Bytes y) h k e = cc

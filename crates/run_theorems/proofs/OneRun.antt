@@ -11,7 +11,7 @@ use Rattle.brpc_model.specs.Items.{Item}
 use Rattle.brpc_model.specs.Operations.{Turn}
 use Rattle.brpc_model.specs.Report.{Report, report_text}
 use Rattle.brpc_model.proofs.Unique.{only_report}
-use Rattle.seat_programs.specs.Programs.{Program, Do, Say, Sent, Rest, TakeMessage, TakeHome, PutHome, PutBytes, AskReady, Write, Aside, Round, Keep, Retries}
+use Rattle.seat_programs.specs.Programs.{Program, Say, Sent, Rest, Keep, Retries}
 use Rattle.seat_programs.specs.Cores.{Core, SeatState}
 use Rattle.seat_programs.specs.Ticks.{Answer, Moment, quiet, tick_with, ticked, run}
 use Rattle.seat_programs.specs.Runs.{kind_in, IsAtRest, Scheduled}
@@ -38,15 +38,7 @@ rests_at p i seat c a (Sent o next) h = refl
 rests_at p i seat c a Rest h = refl
 rests_at p i seat c a (Keep r next) h = refl
 rests_at p i seat c a (Retries requests after) h = refl
-rests_at p i seat c a (Aside step next) h = absurd (none-some _ (sym h))
-rests_at p i seat c a (Round head next) h = absurd (none-some _ (sym h))
-rests_at p i seat c a (Do call next) h = absurd (none-some _ (sym h))
-rests_at p i seat c a (TakeMessage q next) h = absurd (none-some _ (sym h))
-rests_at p i seat c a (TakeHome k next) h = absurd (none-some _ (sym h))
-rests_at p i seat c a (PutHome k n after) h = absurd (none-some _ (sym h))
-rests_at p i seat c a (PutBytes k asked bytes next) h = absurd (none-some _ (sym h))
-rests_at p i seat c a (AskReady k next) h = absurd (none-some _ (sym h))
-rests_at p i seat c a (Write w after) h = absurd (none-some _ (sym h))
+rests_at p i seat c a _ h = absurd (none-some _ (sym h))
 
 rests_by : (p : Plan) (i : ℕ) (c : Core) (a : Answer) (o : Option SeatState) → elim o as (λ o. std.Option Kind) [ none ↦ None | some seat ↦ kind_in seat.program ] ≡ None →
     elim o as (λ o. Core) [ none ↦ c | some seat ↦ tick_with p i seat c a seat.program ] ≡ c

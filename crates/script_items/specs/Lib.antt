@@ -5,3 +5,4 @@ pub mod Words
 pub mod Parts
 pub mod Options
 pub mod Calls
+pub mod Commands

@@ -19,7 +19,7 @@ pub const BAD_LENGTH: LineFault = LineFault::Kind(6);
 pub const BAD_NAME: LineFault = LineFault::Kind(7);
 
 /// Why a line wasn't read.
-#[derive(Clone, Copy, Debug, PartialEq, Eq)]
+#[derive(Clone, Copy)]
 pub enum LineFault {
     /// The line has a fault of this kind, 1 to 7, and none of a lower one.
     Kind(u8),

@@ -14,7 +14,7 @@ use crate::words::{behind, first_word};
 use std::alloc::Global;
 
 /// A line that has options.
-#[derive(Clone, Copy, Debug, PartialEq, Eq)]
+#[derive(Clone, Copy)]
 pub enum Command {
     Open,
     Call,

@@ -1,9 +1,10 @@
-ghost use Rattle.std.specs.Prelude.{◌≡◌, List, count_by, option_map};
+ghost use Rattle.std.specs.Prelude.{◌≡◌, List, ◌∷◌, count_by, option_map};
 ghost use Rattle.std.specs.List.{list_all};
 ghost use Rattle.brpc_model.specs.Text.{words};
 ghost use Rattle.brpc_model.specs.Items.{Item, is_client, is_open};
 ghost use Rattle.brpc_model.specs.Lines.{item_of, line_item, is_text_byte};
 ghost use Rattle.script_items.specs.Answers.{Answers};
+ghost use Rattle.script_items.specs.Commands.{operation_item, reference_item, turn_item};
 ghost use Rattle.script_items.specs.Meaning.{item};
 ghost use Rattle.script_items.specs.Words.{says_nothing};
 
@@ -28,9 +29,23 @@ fn read_words(alloc: Global, clients: u32, links: u32, line: &[u8]) -> Result<Li
     ensures { (before : List Item) → count_by is_client before ≡ clients → count_by is_open before ≡ links
         → Answers item result (item_of before (words line.now)) }
 {
-    let Some((first, args)) = first_word(line) else {
-        return Err(UNKNOWN_WORD);
-    };
+    match first_word(line) {
+        Some((first, args)) => read_setup(alloc, clients, links, first, args),
+        None => Err(UNKNOWN_WORD),
+    }
+}
+
+/// What the first word and the others say: a line of the setup, or one behind it.
+fn read_setup(
+    alloc: Global,
+    clients: u32,
+    links: u32,
+    first: &[u8],
+    args: &[u8],
+) -> Result<Line, LineFault>
+    ensures { (before : List Item) → count_by is_client before ≡ clients → count_by is_open before ≡ links
+        → Answers item result (item_of before (first.now ∷ words args.now)) }
+{
     if first == b"slots".as_slice() {
         Ok(Line::Slots(read_one_number(args, 1, 31)?))
     } else if first == b"requests".as_slice() {
@@ -39,7 +54,24 @@ fn read_words(alloc: Global, clients: u32, links: u32, line: &[u8]) -> Result<Li
         read_first(args)
     } else if first == b"open".as_slice() {
         read_open(alloc, args)
-    } else if first == b"client".as_slice() {
+    } else {
+        read_operation(alloc, clients, links, first, args)
+    }
+}
+
+/// What they say where the line isn't of the setup: the next client, a send, a call or what is
+/// done with one, or another line.
+fn read_operation(
+    alloc: Global,
+    clients: u32,
+    links: u32,
+    first: &[u8],
+    args: &[u8],
+) -> Result<Line, LineFault>
+    ensures { (before : List Item) → count_by is_client before ≡ clients → count_by is_open before ≡ links
+        → Answers item result (operation_item before first.now (words args.now)) }
+{
+    if first == b"client".as_slice() {
         read_alone(Line::Client, args)
     } else if first == b"send".as_slice() {
         read_send(alloc, args)
@@ -49,13 +81,40 @@ fn read_words(alloc: Global, clients: u32, links: u32, line: &[u8]) -> Result<Li
         Ok(Line::Expire(read_one_target(args)?))
     } else if first == b"join".as_slice() {
         Ok(Line::Join(read_one_target(args)?))
-    } else if first == b"fail".as_slice() {
+    } else {
+        read_reference(alloc, clients, links, first, args)
+    }
+}
+
+/// What they say where the line is neither: a failing, a reference taken or given back, or a line
+/// of the schedule.
+fn read_reference(
+    alloc: Global,
+    clients: u32,
+    links: u32,
+    first: &[u8],
+    args: &[u8],
+) -> Result<Line, LineFault>
+    ensures { (before : List Item) → count_by is_client before ≡ clients → count_by is_open before ≡ links
+        → Answers item result (reference_item before first.now (words args.now)) }
+{
+    if first == b"fail".as_slice() {
         read_fail(alloc, args)
     } else if first == b"hold".as_slice() {
         Ok(Line::Hold(read_one_name(alloc, args)?))
     } else if first == b"drop".as_slice() {
         Ok(Line::Drop(read_one_name(alloc, args)?))
-    } else if first == b"sched".as_slice() {
+    } else {
+        read_turn(clients, links, first, args)
+    }
+}
+
+/// What they say in the schedule.
+fn read_turn(clients: u32, links: u32, first: &[u8], args: &[u8]) -> Result<Line, LineFault>
+    ensures { (before : List Item) → count_by is_client before ≡ clients → count_by is_open before ≡ links
+        → Answers item result (turn_item before first.now (words args.now)) }
+{
+    if first == b"sched".as_slice() {
         read_alone(Line::Sched, args)
     } else if first == b"tick".as_slice() {
         read_tick(clients, links, args)

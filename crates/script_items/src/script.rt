@@ -7,7 +7,7 @@ use std::marker::Model;
 
 /// The lines of a script that say something, in their order. Contracts see the list of what they
 /// say.
-#[derive(Debug, Drop)]
+#[derive(Drop)]
 pub struct Script {
     lines: Vec<Line>,
 }

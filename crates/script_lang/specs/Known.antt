@@ -35,6 +35,16 @@ abbrev pub FaultIs : List Item → Item → Option ℕ → Type 0
 FaultIs before item None = at_its_place before (Some item) ≡ Ok (Some item)
 FaultIs before item (Some kind) = at_its_place before (Some item) ≡ Err kind
 
+-- what one more line says was noted; its names were there before, and the line itself isn't kept yet
+pub record Notes (old new : Reader) (item : Item) : Type 0 where
+  pub count : new.count ≡ old.count + 1
+  pub lines : new.lines ≡ old.lines
+  pub counts : new.counts ≡ counted old.counts item
+  pub names : new.names ≡ old.names
+  pub held : (name : List ℕ) → list_any (bytes_eq name) new.held ≡ held_behind name (list_any (bytes_eq name) old.held) item
+  pub calls : new.calls ≡ rows_behind old.calls item
+  pub uses : new.uses.items ≡ old.uses.items ++ option_to_list (use_of (old.count + 1) item)
+
 -- one more line was kept; its names were there before
 pub record Keeps (old new : Reader) (line : Line) : Type 0 where
   pub count : new.count ≡ old.count + 1
@@ -50,6 +60,12 @@ abbrev pub LineIs : Faulty (List (Option Item)) → Result (Unit {0}) ScriptErro
 LineIs said (Ok done) reader = (more : List (Option Item)) × (said ≡ Ok more) × Knows reader more
 LineIs said (Err (Fault line kind)) reader = said ≡ Err (line, kind)
 LineIs said (Err NoMemory) reader = ⊤
+
+-- how a line that says this behind these is judged
+abbrev pub JudgedIs : List (Option Item) → Item → Result (Unit {0}) ScriptError → Type 0
+JudgedIs said item (Ok done) = at_its_place (items said) (Some item) ≡ Ok (Some item)
+JudgedIs said item (Err (Fault line kind)) = (at_its_place (items said) (Some item) ≡ Err kind) × (line ≡ length said + 1)
+JudgedIs said item (Err NoMemory) = ⊤
 
 -- the answer to a line that says this behind these
 abbrev pub PlaceIs : List (Option Item) → Item → Result (Unit {0}) ScriptError → Reader → Type 0

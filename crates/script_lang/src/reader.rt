@@ -1,9 +1,10 @@
 ghost use Rattle.std.specs.Prelude.{◌≡◌, ◌+◌, ◌^◌, ◌<◌, ◌||◌, false, nat_lt, List, [], length, Option, OnOk};
-ghost use Rattle.brpc_model.specs.Items.{Item};
+ghost use Rattle.brpc_model.specs.Items.{Item, mentioned};
+ghost use Rattle.brpc_model.specs.Places.{with_names};
 ghost use Rattle.brpc_model.specs.Script.{with_line, whole};
 ghost use Rattle.script_items.specs.Meaning.{item};
 ghost use Rattle.script_lang.specs.Counting.{IsWithinLimits, is_one_too_many};
-ghost use Rattle.script_lang.specs.Known.{Knows, Keeps, HasNames, FaultIs, PlaceIs, LineIs, WholeIs};
+ghost use Rattle.script_lang.specs.Known.{Knows, Keeps, Notes, HasNames, FaultIs, JudgedIs, PlaceIs, LineIs, WholeIs};
 
 use crate::calls::CallTable;
 use crate::counts::Counts;
@@ -96,12 +97,29 @@ impl Reader {
         requires limits { IsWithinLimits self.old.counts }
         ensures { (said : List (Option Item)) → Knows self.old said → PlaceIs said (item line) result self.new }
     {
-        self.names.add_mentioned(&line)?;
-        if let Some(kind) = self.fault_of(&line) {
-            return Err(self.fault(kind));
+        match self.judge(&line) {
+            Ok(()) => {}
+            Err(fault) => {
+                drop(line);
+                return Err(fault);
+            }
         }
         self.keep(line)?;
         Ok(())
+    }
+
+    /// Adds the names of a line, and judges it at its place.
+    fn judge(&mut self, line: &Line) -> Result<(), ScriptError>
+        requires { self.old.count + 1 < 2 ^ 32 }
+        ensures names { OnOk result (self.new ≡ record self.old { names = with_names self.old.names (mentioned (item line.now)) }) }
+        ensures room { OnOk result (is_one_too_many self.old.counts (item line.now) ≡ false) }
+        ensures judged { (said : List (Option Item)) → Knows self.old said → JudgedIs said (item line.now) result }
+    {
+        self.names.add_mentioned(line)?;
+        match self.fault_of(line) {
+            Some(kind) => Err(self.fault(kind)),
+            None => Ok(()),
+        }
     }
 
     /// The kind of the fault of a line at this place, where its names are among the names already.
@@ -134,12 +152,29 @@ impl Reader {
         requires room { is_one_too_many self.old.counts (item line) ≡ false }
         ensures { OnOk result (Keeps self.old self.new line) }
     {
-        self.counts = self.counts.with(&line);
-        held::add(&mut self.held, &line)?;
-        self.calls.add(&line)?;
-        self.count += 1;
-        note_use(&mut self.uses, &line, self.count)?;
+        match self.note(&line) {
+            Ok(()) => {}
+            Err(fault) => {
+                drop(line);
+                return Err(fault);
+            }
+        }
         self.lines.push(line)?;
+        Ok(())
+    }
+
+    /// Notes what such a line says.
+    fn note(&mut self, line: &Line) -> Result<(), AllocError>
+        requires count { self.old.count + 1 < 2 ^ 32 }
+        requires limits { IsWithinLimits self.old.counts }
+        requires room { is_one_too_many self.old.counts (item line.now) ≡ false }
+        ensures { OnOk result (Notes self.old self.new (item line.now)) }
+    {
+        self.counts = self.counts.with(line);
+        held::add(&mut self.held, line)?;
+        self.calls.add(line)?;
+        self.count += 1;
+        note_use(&mut self.uses, line, self.count)?;
         Ok(())
     }
 
@@ -148,12 +183,14 @@ impl Reader {
         ensures { (said : List (Option Item)) → Knows self said → WholeIs (whole (Ok said)) result }
     {
         if let Some(line) = first_lost(&self.uses, &self.calls) {
+            drop(self);
             return Err(ScriptError::Fault {
                 line,
                 kind: NO_CALL,
             });
         }
         if let Some(line) = first_hanging(&self.uses, self.counts.unserved) {
+            drop(self);
             return Err(ScriptError::Fault {
                 line,
                 kind: MAY_HANG,

@@ -49,7 +49,6 @@ Found other = ℕ
 -- its kind
 abbrev pub kind_aside : Step → Kind
 kind_aside (ClaimId i) = I1
-kind_aside (PutCall i asked) = K1
 kind_aside (MakeId i range) = I2
 kind_aside (StoreCall o id) = T1
 kind_aside (LoadCall o) = T2
@@ -61,6 +60,7 @@ kind_aside (PostId i from e) = I4
 kind_aside (UnlockId i from advance) = I5
 kind_aside (EndId i) = I6
 kind_aside (FreeId i) = I8
+kind_aside (PutCall i asked) = K1
 kind_aside (TakeCall i) = K2
 kind_aside (TakeBytes k room) = R1
 

@@ -7,7 +7,7 @@ use Rattle.sock_model.specs.sock_words.specs.declared.place_word.PlaceWord.{Plac
 use Rattle.sock_model.specs.declared.home.Home.{Home}
 use Rattle.sock_model.specs.declared.home.Home.TheVariants.{Link}
 use Rattle.sock_model.specs.Layout.{all_words, place_index}
-use Rattle.sock_message.specs.brpc_model.specs.Items.{Item, Send, Call, Expire, Join}
+use Rattle.sock_message.specs.brpc_model.specs.Items.{Item, Call, Expire, Join}
 use Rattle.sock_message.specs.brpc_model.specs.Operations.{Turn, Ticks, clients, link_names}
 use Rattle.sock_message.specs.brpc_model.specs.Drawn.{sim_seats}
 use Rattle.sock_message.specs.brpc_model.specs.Report.{Report}

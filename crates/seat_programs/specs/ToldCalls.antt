@@ -30,17 +30,21 @@ pub record Accepted : Type 0 where
   pub attempt : ℕ
   pub bytes : List ℕ
 
--- the messages of a link in order, and how many of them it took whole
-pub record Order : Type 0 where
-  pub accepted : List Accepted
-  pub placed : ℕ
-
 abbrev pub bytes_of : Accepted → List ℕ
 bytes_of a = a.bytes
 
 -- the number of its place word
 abbrev pub label : Accepted → ℕ
 label a = 8 * a.operation + a.attempt
+
+-- the messages of a link in order, and how many of them it took whole
+pub record Order : Type 0 where
+  pub accepted : List Accepted
+  pub placed : ℕ
+
+-- how many messages all of so many links accepted
+abbrev pub all_accepted : ℕ → (ℕ → Order) → ℕ
+all_accepted links orders = sum_by (λ k. length (orders k).accepted) (from_to 0 links)
 
 -- message a stands at place i of the order of link k
 abbrev pub StandsAt : (ℕ → Order) → ℕ → ℕ → Accepted → Type 0
@@ -51,10 +55,6 @@ pub record IsTaken (o : Order) (took : List ℕ) : Type 0 where
   pub cut : List ℕ
   pub took_is : took ≡ flat_map bytes_of (take o.placed o.accepted) ++ cut
   pub is_cut : IsCut cut (map bytes_of (drop o.placed o.accepted))
-
--- how many messages all of so many links accepted
-abbrev pub all_accepted : ℕ → (ℕ → Order) → ℕ
-all_accepted links orders = sum_by (λ k. length (orders k).accepted) (from_to 0 links)
 
 -- the orders are those that the place words and the links of the core show
 pub record AreOrders (p : Plan) (c : Core) (orders : ℕ → Order) : Type 0 where
@@ -84,16 +84,19 @@ pub record Fixed : Type 0 where
   -- the `fail` operations that were answered `failed`, each with the link of the life that it failed
   pub fails : List (ℕ × ℕ)
 
+-- an operation looks for a socket of name n
+abbrev pub SeeksName : ℕ → Op → Type 0
+SeeksName n (ops.Fail m code) = m ≡ n
+SeeksName n (ops.Hold m) = m ≡ n
+SeeksName n (ops.Send m bytes) = m ≡ n
+SeeksName n (ops.Call asked) = name_of asked 0 ≡ n
+SeeksName n other = ⊥
+
 module _ (p : Plan) (clients : List (List Task)) (outcomes : List (Option Outcome)) (fixed : Fixed) (gave : ℕ → List ℕ) (orders : ℕ → Order) where
   -- ## Names without a socket
 
-  -- the task looks for a socket of name n
   abbrev pub Seeks : ℕ → Op → Type 0
-  Seeks n (ops.Fail m code) = m ≡ n
-  Seeks n (ops.Hold m) = m ≡ n
-  Seeks n (ops.Send m bytes) = m ≡ n
-  Seeks n (ops.Call asked) = name_of asked 0 ≡ n
-  Seeks n other = ⊥
+  Seeks = SeeksName
 
   -- no task of the setup gave the name a socket, and none of this client before operation o gave it one or found one
   pub record FoundNone (c o n : ℕ) : Type 0 where

@@ -11,7 +11,7 @@ use Rattle.sock_model.specs.Marks.{without}
 use Rattle.sock_model.specs.Slots.{SlotFacts, live, Each, KeepsCodes, SlotLaw}
 use Rattle.slot_steps.proofs.Sums.{taken_as, tally_mono, each_set}
 use Rattle.slot_steps.proofs.Numbers.{only-else, only_is, pair_is, pair-at, life_le, pair_le, pair_only, live_is}
-use Rattle.slot_steps.proofs.Slots.{moved, own, few_with, busy_is, alive_le, keeps_notes, stage_is}
+use Rattle.slot_steps.proofs.Slots.{moved, own, few_with, keeps_idle, busy_is, alive_le, keeps_notes, stage_is}
 
 stage_le : (n k : ℕ) (x : Mark) → is_stage n k x ≤ is_claimed x
 stage_le n k (Claimed a b) = pair_le n k a b
@@ -40,50 +40,12 @@ module _ (first : ℕ) (l : SlotFacts) (law : SlotLaw first (live l) l) (j : ℕ
       let parts = busy_is first l law j m here in let once = law.busy_once in let claimed : 0 < tally is_claimed l.marks = omega (arith, rest is_claimed, mine is_claimed) in
       let even = law.busy_even (omega arith) in let le = alive_le first l law j m here in
       let still : lv ≡ 0 = dite (ℕ_discrete lv 0) (λ e. e) (λ n. absurd (omega (arith, (live_is l.tag v (tally is_busy l.marks) (omega arith)).3))) in
-      let no_coding : tally is_any_coding l.marks ≡ 0 = dite (ℕ_discrete (tally is_any_coding l.marks) 0) (λ e. e) (λ n. absurd (omega (arith, law.coding_odd (omega arith)))) in record {
-        counted = omega (arith, by is_ref, rest is_ref, law.counted);
-        few = few_with first l law j m here w (let k = law.few j m here in omega (arith, rest is_ref));
-        tagged = law.tagged;
-        busy_once = omega (arith, by is_busy, rest is_busy);
-        busy_taken = λ p. law.busy_taken (omega arith);
-        busy_even = λ p. even;
-        free_even = law.free_even;
-        free_low = law.free_low;
-        claimed_low = λ p. law.claimed_low claimed;
-        recycled = λ x p. law.recycled x (omega (arith, by (is_recycled x), rest (is_recycled x)));
-        begun = law.begun;
-        top = law.top;
-        taken_by = λ p. omega (arith, by is_claimed, rest is_claimed);
-        held = λ h p. law.held h (omega (arith, by (is_hold h), rest (is_hold h)));
-        saw = λ x p. law.saw x (omega (arith, by (is_saw x), rest (is_saw x)));
-        zero_noted = λ p q. absurd (omega arith);
-        known = λ h p. law.known h (omega (arith, by (is_known h), rest (is_known h)));
-        born = λ h. omega (arith, by (is_born h), rest (is_born h), law.born h);
-        failed = λ h. omega (arith, by (is_failer h), rest (is_failer h), law.failed h);
-        ended = λ h. omega (arith, by (is_freer h), rest (is_freer h), law.ended h);
-        codes = each_set KeepsCodes l.marks j w law.codes (
-          (λ h. omega (arith, (law.codes j m here).0 h, rest (is_failer h), rest (is_coding h), rest (is_coded h))),
-          (λ h p. let t = (law.codes j m here).1 h (omega (arith, rest (is_coding h))) in let t₀ = t.0 in let t₁ = t.1 in (omega (arith, rest (is_hold h)), omega (arith, rest (is_saw (h + 1))))),
-        );
-        coding_once = omega (arith, by is_any_coding, rest is_any_coding);
-        coding_odd = λ p. absurd (omega (arith, by is_any_coding, rest is_any_coding));
-        code_none = λ p. absurd (omega (arith, by is_any_coding, rest is_any_coding));
-        code_is = λ h c p. let q : 0 < tally (is_stored h c) l.marks = omega (arith, by (is_stored h c), rest (is_stored h c)) in let t = law.code_is h c q in (t.0, t.1, λ e. absurd (omega (arith, law.code_even h c q)));
-        code_even = λ h c p. law.code_even h c (omega (arith, by (is_stored h c), rest (is_stored h c)));
-        code_by = λ p q. absurd (omega arith);
-        told = λ h c p. omega (arith, by (is_stored h c), rest (is_stored h c), law.told h c (omega (arith, by (is_told h c), rest (is_told h c))));
-        staged = λ n x p. dite (ℕ_discrete (pair n x b k') 0)
-            (λ e. absurd (omega (arith, by (is_stage n x), rest (is_stage n x), by is_claimed, rest is_claimed, tally_mono (is_stage n x) is_claimed (stage_le n x) (set l.marks j u), moved first l law j m here u (is_stage n x), moved first l law j m here u is_claimed)))
-            (λ ne. let t = pair_is n x b k' (omega arith) in let t₀ = t.0 in ((λ r. is_link (omega arith) ∙ t.1), λ r. is_code (omega arith)));
-        link_low = λ h x p. law.link_low h x (omega (arith, by (is_linked h x), rest (is_linked h x)));
-        link_even = λ h x p. law.link_even h x (omega (arith, by (is_linked h x), rest (is_linked h x)));
-        link_begun = λ h x p. law.link_begun h x (omega (arith, by (is_linked h x), rest (is_linked h x)));
-        met = λ h x p. omega (arith, by (is_linked h x), rest (is_linked h x), law.met h x (omega (arith, by (is_met h x), rest (is_met h x))));
-        link_is = λ h x p q. let r : 0 < tally (is_linked h x) l.marks = omega (arith, by (is_linked h x), rest (is_linked h x)) in absurd (omega (arith, law.link_low h x r, law.link_even h x r, by is_recycling, rest is_recycling));
-        link_live = λ p. absurd (omega arith);
-        link_odd = λ p. absurd (omega arith);
-        link_last = λ p. absurd (omega (arith, by is_recycling, rest is_recycling));
-      }
+      keeps_idle first l law j m here l.tag link' code' w (λ f n. let x = n.0 a k in let y = n.0 b k' in omega (arith, rest f)) still even law.tagged (omega (arith, by is_busy, rest is_busy)) (λ p. law.busy_taken (omega arith)) law.free_low (λ p. law.claimed_low claimed)
+      (λ x p. law.recycled x (omega (arith, by (is_recycled x), rest (is_recycled x)))) (λ p. omega (arith, by is_claimed, rest is_claimed))
+      (λ n x p. dite (ℕ_discrete (pair n x b k') 0)
+      (λ e. absurd (omega (arith, by (is_stage n x), rest (is_stage n x), by is_claimed, rest is_claimed, tally_mono (is_stage n x) is_claimed (stage_le n x) (set l.marks j u), moved first l law j m here u (is_stage n x), moved first l law j m here u is_claimed)))
+      (λ ne. let t = pair_is n x b k' (omega arith) in let t₀ = t.0 in ((λ r. is_link (omega arith) ∙ t.1), λ r. is_code (omega arith))))
+      (λ h x p q. absurd (omega (arith, law.link_low h x p, law.link_even h x p, by is_recycling, rest is_recycling))) (λ p. absurd (omega (arith, by is_recycling, rest is_recycling)))
 
   -- whoever failed the life stores its code
   pub keeps_coded : (h c : ℕ) → 0 < total (is_coding h) m → c ≢ 0 → SlotLaw first (live l) record l { code = c; marks = set l.marks j (Stored h c ∷ Told h c ∷ without (is_coding h) m) }

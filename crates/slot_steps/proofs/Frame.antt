@@ -89,13 +89,17 @@ passes-without k x (p ∷ ps) h = dite (ℕ_discrete p k)
     (λ y. let q = eq-eqb p k y in let same : only x p ≡ only x k = ap (only x) y in simp q (omega arith))
     (λ n. let q = ne_eqb p k n in let ih = passes-without k x ps (omega (arith, only-else k p n)) in simp q (omega arith))
 
-pub uses-taken : (k i : ℕ) (g : Mark → ℕ) (e : Mark) (es : List SlotMark) → ((x : Mark) → 0 < g x → x ≡ e) → 0 < total g (about i es) → total (uses_link k) (without_at i g es) + uses k e ≡ total (uses_link k) es
-uses-taken k i g e [] one h = absurd (omega arith)
-uses-taken k i g e (x ∷ xs) one h = dite (ℕ_discrete x.slot i)
+-- one mark of the kind g about slot i is taken out
+pub mark-taken : (f : Mark → ℕ) (i : ℕ) (g : Mark → ℕ) (e : Mark) (es : List SlotMark) → ((x : Mark) → 0 < g x → x ≡ e) → 0 < total g (about i es) → total (λ (y : SlotMark). f y.mark) (without_at i g es) + f e ≡ total (λ (y : SlotMark). f y.mark) es
+mark-taken f i g e [] one h = absurd (omega arith)
+mark-taken f i g e (x ∷ xs) one h = dite (ℕ_discrete x.slot i)
     (λ y. let q = eq-eqb x.slot i y in let h' : 0 < total g (x.mark ∷ about i xs) = subst (λ b. 0 < total g (cond b (x.mark ∷ about i xs) (about i xs))) q h in dite (ℕ_discrete (g x.mark) 0)
-    (λ y'. let r = eq-eqb (g x.mark) 0 y' in let ih = uses-taken k i g e xs one (omega arith) in simp (q, r) (omega arith))
-    (λ n. let r = ne_eqb (g x.mark) 0 n in let same : uses k x.mark ≡ uses k e = ap (uses k) (one x.mark (omega arith)) in simp (q, r) (omega arith)))
-    (λ n. let q = ne_eqb x.slot i n in let h' : 0 < total g (about i xs) = subst (λ b. 0 < total g (cond b (x.mark ∷ about i xs) (about i xs))) q h in let ih = uses-taken k i g e xs one h' in simp q (omega arith))
+    (λ y'. let r = eq-eqb (g x.mark) 0 y' in let ih = mark-taken f i g e xs one (omega arith) in simp (q, r) (omega arith))
+    (λ n. let r = ne_eqb (g x.mark) 0 n in let same : f x.mark ≡ f e = ap f (one x.mark (omega arith)) in simp (q, r) (omega arith)))
+    (λ n. let q = ne_eqb x.slot i n in let h' : 0 < total g (about i xs) = subst (λ b. 0 < total g (cond b (x.mark ∷ about i xs) (about i xs))) q h in let ih = mark-taken f i g e xs one h' in simp q (omega arith))
+
+pub uses-taken : (k i : ℕ) (g : Mark → ℕ) (e : Mark) (es : List SlotMark) → ((x : Mark) → 0 < g x → x ≡ e) → 0 < total g (about i es) → total (uses_link k) (without_at i g es) + uses k e ≡ total (uses_link k) es
+uses-taken k = mark-taken (uses k)
 
 module _ {S : Type 0} (p : Plan) (s : State S View) (law : References p s) (id : ℕ) (v : View) (here : get_elem? s.views id ≡ some v) (c : List (ℕ × S)) (w : View) (a : Act S) (i : ℕ) (inside : i < p.slots)
     (else_ : (x : ℕ) → x ≢ i → about x w.marks ≡ about x v.marks) (links : (k : ℕ) → uses_of k w ≤ uses_of k v) (still : OnlyMarks v w) where

@@ -61,9 +61,17 @@ z h = refl
 zz : (h k : ℕ) → zero ≡ zero
 zz h k = refl
 
+-- a weight that references, exchanges that are left, and notes of what was found don't have
+abbrev pub IsSteady : (Mark → ℕ) → Type 0
+IsSteady f = (f Probe ≡ 0) × ((h : ℕ) → f (Hold h) ≡ 0) × ((v : ℕ) → f (Zero v) ≡ 0) × (f Tried ≡ 0) × ((v : ℕ) → f (Saw v) ≡ 0) × ((h : ℕ) → f (Known h) ≡ 0) × ((h c : ℕ) → f (Told h c) ≡ 0) × ((h k : ℕ) → f (Met h k) ≡ 0)
+
 -- a weight that notes of what was found taken, seen, known, told or met don't have
 abbrev pub IsNone : (Mark → ℕ) → Type 0
 IsNone f = (f Tried ≡ 0) × ((v : ℕ) → f (Saw v) ≡ 0) × ((h : ℕ) → f (Known h) ≡ 0) × ((h c : ℕ) → f (Told h c) ≡ 0) × ((h k : ℕ) → f (Met h k) ≡ 0)
+
+-- a weight that claims and recyclings don't have
+abbrev pub IsIdle : (Mark → ℕ) → Type 0
+IsIdle f = ((n k : ℕ) → f (Claimed n k) ≡ 0) × ((w : ℕ) → f (Recycling w) ≡ 0)
 
 -- a reference, to a life or only to the word
 abbrev pub IsRef : Mark → Type 0
@@ -116,54 +124,71 @@ module _ (first : ℕ) (l : SlotFacts) (law : SlotLaw first (live l) l) (j : ℕ
   pub alive_le : live l ≤ 1
   alive_le = live_le l.tag l.version (tally is_busy l.marks)
 
+  -- marks that say the same of codes, and no less of what is held and was seen
+  pub codes_as : (w : List Mark) → ((h : ℕ) → total (is_failer h) w ≡ total (is_failer h) m) → ((h : ℕ) → total (is_coding h) w ≡ total (is_coding h) m) → ((h : ℕ) → total (is_coded h) w ≡ total (is_coded h) m)
+      → ((h : ℕ) → total (is_hold h) m ≤ total (is_hold h) w) → ((v : ℕ) → total (is_saw v) m ≤ total (is_saw v) w) → KeepsCodes w
+  codes_as w failer coding coded hold saw = (
+    (λ h. omega (arith, (law.codes j m here).0 h, failer h, coding h, coded h)),
+    (λ h p. let t = (law.codes j m here).1 h (omega (arith, coding h)) in let a = t.0 in let b = t.1 in (omega (arith, hold h), omega (arith, saw (h + 1)))),
+  )
+
+  -- a step that changes how many refer to the slot, and what is noted of that and of what was found
+  keeps_steady : (nref' : ℕ) (w : List Mark) → ((f : Mark → ℕ) → IsSteady f → tally f (set l.marks j w) ≡ tally f l.marks)
+      → nref' ≡ live l + tally is_ref (set l.marks j w) → total is_ref w ≤ 65540 → (0 < l.tag + tally is_tried (set l.marks j w) → 0 < l.tag + tally is_tried l.marks)
+      → ((h : ℕ) → 0 < tally (is_hold h) (set l.marks j w) → (h + 1 ≡ l.version + live l) × (h % 2 ≡ 0)) → ((v : ℕ) → 0 < tally (is_saw v) (set l.marks j w) → v ≤ l.version)
+      → (l.version % 2 ≡ 1 → nref' ≡ 0 → 0 < tally (is_zero l.version) (set l.marks j w)) → ((h : ℕ) → 0 < tally (is_known h) (set l.marks j w) → life first h (l.version + live l) ≡ 1)
+      → ((h c : ℕ) → 0 < tally (is_told h c) (set l.marks j w) → 0 < tally (is_stored h c) l.marks) → ((h k : ℕ) → 0 < tally (is_met h k) (set l.marks j w) → 0 < tally (is_linked h k) l.marks)
+      → KeepsCodes w → SlotLaw first (live l) record l { nref = nref'; marks = set l.marks j w }
+  keeps_steady nref' w same counted few tried held saw zero_noted known told met codes = record {
+    counted = counted;
+    few = few_with w few;
+    tagged = law.tagged;
+    busy_once = omega (arith, same is_busy (refl, z, z, refl, z, z, zz, zz), law.busy_once);
+    busy_taken = λ p. law.busy_taken (omega (arith, same is_busy (refl, z, z, refl, z, z, zz, zz)));
+    busy_even = λ p. law.busy_even (omega (arith, same is_busy (refl, z, z, refl, z, z, zz, zz)));
+    free_even = law.free_even;
+    free_low = law.free_low;
+    claimed_low = λ p. law.claimed_low (omega (arith, same is_claimed (refl, z, z, refl, z, z, zz, zz)));
+    recycled = λ v p. law.recycled v (omega (arith, same (is_recycled v) (refl, z, z, refl, z, z, zz, zz)));
+    begun = law.begun;
+    top = law.top;
+    taken_by = λ p. omega (arith, same is_claimed (refl, z, z, refl, z, z, zz, zz), law.taken_by (tried p));
+    held = held;
+    saw = saw;
+    zero_noted = zero_noted;
+    known = known;
+    born = λ h. omega (arith, same (is_born h) (refl, z, z, refl, z, z, zz, zz), law.born h);
+    failed = λ h. omega (arith, same (is_failer h) (refl, z, z, refl, z, z, zz, zz), law.failed h);
+    ended = λ h. omega (arith, same (is_freer h) (refl, z, z, refl, z, z, zz, zz), law.ended h);
+    codes = each_set KeepsCodes l.marks j w law.codes codes;
+    coding_once = omega (arith, same is_any_coding (refl, z, z, refl, z, z, zz, zz), law.coding_once);
+    coding_odd = λ p. law.coding_odd (omega (arith, same is_any_coding (refl, z, z, refl, z, z, zz, zz)));
+    code_none = λ p. law.code_none (omega (arith, same is_any_coding (refl, z, z, refl, z, z, zz, zz)));
+    code_is = λ h c p. law.code_is h c (omega (arith, same (is_stored h c) (refl, z, z, refl, z, z, zz, zz)));
+    code_even = λ h c p. law.code_even h c (omega (arith, same (is_stored h c) (refl, z, z, refl, z, z, zz, zz)));
+    code_by = λ p q. omega (arith, same (is_stored (l.version - 1) l.code) (refl, z, z, refl, z, z, zz, zz), law.code_by p q);
+    told = λ h c p. omega (arith, same (is_stored h c) (refl, z, z, refl, z, z, zz, zz), told h c p);
+    staged = λ n k p. law.staged n k (omega (arith, same (is_stage n k) (refl, z, z, refl, z, z, zz, zz)));
+    link_low = λ h k p. law.link_low h k (omega (arith, same (is_linked h k) (refl, z, z, refl, z, z, zz, zz)));
+    link_even = λ h k p. law.link_even h k (omega (arith, same (is_linked h k) (refl, z, z, refl, z, z, zz, zz)));
+    link_begun = λ h k p. law.link_begun h k (omega (arith, same (is_linked h k) (refl, z, z, refl, z, z, zz, zz)));
+    met = λ h k p. omega (arith, same (is_linked h k) (refl, z, z, refl, z, z, zz, zz), met h k p);
+    link_is = λ h k p q. law.link_is h k (omega (arith, same (is_linked h k) (refl, z, z, refl, z, z, zz, zz))) (omega (arith, same is_recycling (refl, z, z, refl, z, z, zz, zz)));
+    link_live = λ p. omega (arith, same (is_linked l.version l.link) (refl, z, z, refl, z, z, zz, zz), law.link_live p);
+    link_odd = λ p. omega (arith, same (is_linked (l.version - 1) l.link) (refl, z, z, refl, z, z, zz, zz), law.link_odd p);
+    link_last = λ p. omega (arith, same (is_linked (l.version - 2) l.link) (refl, z, z, refl, z, z, zz, zz), law.link_last (omega (arith, same is_recycling (refl, z, z, refl, z, z, zz, zz))));
+  }
+
   -- a reference of this seat, to a life or only to the word
   add : (e : Mark) → ((f : Mark → ℕ) → f Probe ≡ 0 → ((h : ℕ) → f (Hold h) ≡ 0) → f e ≡ 0) → is_ref e ≡ 1
       → ((h : ℕ) → 0 < is_hold h e → (h + 1 ≡ l.version + live l) × (h % 2 ≡ 0)) → total is_ref m < 65540
       → SlotLaw first (live l) record l { nref = l.nref + 1; marks = set l.marks j (e ∷ Saw l.version ∷ m) }
   add e nil one lives room = let w : List Mark = e ∷ Saw l.version ∷ m in let by = moved w in
-      let same : (f : Mark → ℕ) → f Probe ≡ 0 → ((h : ℕ) → f (Hold h) ≡ 0) → f (Saw l.version) ≡ 0 → tally f (set l.marks j w) ≡ tally f l.marks = λ f a b c. let d = nil f a b in omega (arith, by f) in
-      record {
-        counted = omega (arith, by is_ref, law.counted);
-        few = few_with w (omega arith);
-        tagged = law.tagged;
-        busy_once = omega (arith, same is_busy refl z refl, law.busy_once);
-        busy_taken = λ p. law.busy_taken (omega (arith, same is_busy refl z refl));
-        busy_even = λ p. law.busy_even (omega (arith, same is_busy refl z refl));
-        free_even = law.free_even;
-        free_low = law.free_low;
-        claimed_low = λ p. law.claimed_low (omega (arith, same is_claimed refl z refl));
-        recycled = λ v p. law.recycled v (omega (arith, same (is_recycled v) refl z refl));
-        begun = law.begun;
-        top = law.top;
-        taken_by = λ p. omega (arith, same is_claimed refl z refl, same is_tried refl z refl, law.taken_by);
-        held = λ h p. dite (ℕ_discrete (is_hold h e) 0) (λ n. law.held h (omega (arith, by (is_hold h)))) (λ n. lives h (omega arith));
-        saw = λ v p. dite (ℕ_discrete l.version v) (λ i. omega arith) (λ n. law.saw v (omega (arith, by (is_saw v), nil (is_saw v) refl z, only-else v l.version n)));
-        zero_noted = λ p q. absurd (omega arith);
-        known = λ h p. law.known h (omega (arith, same (is_known h) refl z refl));
-        born = λ h. omega (arith, same (is_born h) refl z refl, law.born h);
-        failed = λ h. omega (arith, same (is_failer h) refl z refl, law.failed h);
-        ended = λ h. omega (arith, same (is_freer h) refl z refl, law.ended h);
-        codes = each_set KeepsCodes l.marks j w law.codes (
-          (λ h. omega (arith, (law.codes j m here).0 h, nil (is_failer h) refl z, nil (is_coding h) refl z, nil (is_coded h) refl z)),
-          (λ h p. let t = (law.codes j m here).1 h (omega (arith, nil (is_coding h) refl z)) in let a = t.0 in let b = t.1 in (omega arith, omega arith)),
-        );
-        coding_once = omega (arith, same is_any_coding refl z refl, law.coding_once);
-        coding_odd = λ p. law.coding_odd (omega (arith, same is_any_coding refl z refl));
-        code_none = λ p. law.code_none (omega (arith, same is_any_coding refl z refl));
-        code_is = λ h c p. law.code_is h c (omega (arith, same (is_stored h c) refl z refl));
-        code_even = λ h c p. law.code_even h c (omega (arith, same (is_stored h c) refl z refl));
-        code_by = λ p q. omega (arith, same (is_stored (l.version - 1) l.code) refl z refl, law.code_by p q);
-        told = λ h c p. omega (arith, same (is_stored h c) refl z refl, law.told h c (omega (arith, same (is_told h c) refl z refl)));
-        staged = λ n k p. law.staged n k (omega (arith, same (is_stage n k) refl z refl));
-        link_low = λ h k p. law.link_low h k (omega (arith, same (is_linked h k) refl z refl));
-        link_even = λ h k p. law.link_even h k (omega (arith, same (is_linked h k) refl z refl));
-        link_begun = λ h k p. law.link_begun h k (omega (arith, same (is_linked h k) refl z refl));
-        met = λ h k p. omega (arith, same (is_linked h k) refl z refl, law.met h k (omega (arith, same (is_met h k) refl z refl)));
-        link_is = λ h k p q. law.link_is h k (omega (arith, same (is_linked h k) refl z refl)) (omega (arith, same is_recycling refl z refl));
-        link_live = λ p. omega (arith, same (is_linked l.version l.link) refl z refl, law.link_live p);
-        link_odd = λ p. omega (arith, same (is_linked (l.version - 1) l.link) refl z refl, law.link_odd p);
-        link_last = λ p. omega (arith, same (is_linked (l.version - 2) l.link) refl z refl, law.link_last (omega (arith, same is_recycling refl z refl)));
-      }
+      keeps_steady (l.nref + 1) w (λ f n. let a = nil f n.0 n.1 in let b = n.4 l.version in omega (arith, by f)) (omega (arith, by is_ref, law.counted)) (omega arith)
+      (λ p. omega (arith, by is_tried, nil is_tried refl z)) (λ h p. dite (ℕ_discrete (is_hold h e) 0) (λ n. law.held h (omega (arith, by (is_hold h)))) (λ n. lives h (omega arith)))
+      (λ v p. dite (ℕ_discrete l.version v) (λ i. omega arith) (λ n. law.saw v (omega (arith, by (is_saw v), nil (is_saw v) refl z, only-else v l.version n)))) (λ p q. absurd (omega arith))
+      (λ h p. law.known h (omega (arith, by (is_known h), nil (is_known h) refl z))) (λ h c p. law.told h c (omega (arith, by (is_told h c), nil (is_told h c) refl z))) (λ h k p. law.met h k (omega (arith, by (is_met h k), nil (is_met h k) refl z)))
+      (codes_as w (λ h. omega (arith, nil (is_failer h) refl z)) (λ h. omega (arith, nil (is_coding h) refl z)) (λ h. omega (arith, nil (is_coded h) refl z)) (λ h. omega arith) (λ v. omega arith))
 
   pub keeps_probe : total is_ref m < 65540 → SlotLaw first (live l) record l { nref = l.nref + 1; marks = set l.marks j (Probe ∷ Saw l.version ∷ m) }
   keeps_probe room = add Probe (λ f a b. a) refl (λ h p. absurd (omega arith)) room
@@ -178,48 +203,10 @@ module _ (first : ℕ) (l : SlotFacts) (law : SlotLaw first (live l) l) (j : ℕ
       → ((v : ℕ) → 0 < tally (is_saw v) (set l.marks j w) → v ≤ l.version) → ((h : ℕ) → 0 < tally (is_known h) (set l.marks j w) → life first h (l.version + live l) ≡ 1)
       → ((h c : ℕ) → 0 < tally (is_told h c) (set l.marks j w) → 0 < tally (is_stored h c) l.marks) → ((h k : ℕ) → 0 < tally (is_met h k) (set l.marks j w) → 0 < tally (is_linked h k) l.marks)
       → SlotLaw first (live l) record l { marks = set l.marks j w }
-  keeps_notes w rest more tried saw known told met = let by = moved w in let same : (f : Mark → ℕ) → IsNone f → tally f (set l.marks j w) ≡ tally f l.marks = λ f n. let d = rest f n in omega (arith, by f) in record {
-    counted = omega (arith, same is_ref (refl, z, z, zz, zz), law.counted);
-    few = few_with w (let a = law.few j m here in omega (arith, rest is_ref (refl, z, z, zz, zz)));
-    tagged = law.tagged;
-    busy_once = omega (arith, same is_busy (refl, z, z, zz, zz), law.busy_once);
-    busy_taken = λ p. law.busy_taken (omega (arith, same is_busy (refl, z, z, zz, zz)));
-    busy_even = λ p. law.busy_even (omega (arith, same is_busy (refl, z, z, zz, zz)));
-    free_even = law.free_even;
-    free_low = law.free_low;
-    claimed_low = λ p. law.claimed_low (omega (arith, same is_claimed (refl, z, z, zz, zz)));
-    recycled = λ v p. law.recycled v (omega (arith, same (is_recycled v) (refl, z, z, zz, zz)));
-    begun = law.begun;
-    top = law.top;
-    taken_by = λ p. omega (arith, same is_claimed (refl, z, z, zz, zz), law.taken_by (tried p));
-    held = λ h p. law.held h (omega (arith, same (is_hold h) (refl, z, z, zz, zz)));
-    saw = saw;
-    zero_noted = λ p q. omega (arith, same (is_zero l.version) (refl, z, z, zz, zz), law.zero_noted p q);
-    known = known;
-    born = λ h. omega (arith, same (is_born h) (refl, z, z, zz, zz), law.born h);
-    failed = λ h. omega (arith, same (is_failer h) (refl, z, z, zz, zz), law.failed h);
-    ended = λ h. omega (arith, same (is_freer h) (refl, z, z, zz, zz), law.ended h);
-    codes = each_set KeepsCodes l.marks j w law.codes (
-      (λ h. omega (arith, (law.codes j m here).0 h, rest (is_failer h) (refl, z, z, zz, zz), rest (is_coding h) (refl, z, z, zz, zz), rest (is_coded h) (refl, z, z, zz, zz))),
-      (λ h p. let t = (law.codes j m here).1 h (omega (arith, rest (is_coding h) (refl, z, z, zz, zz))) in let a = t.0 in let b = t.1 in (omega (arith, rest (is_hold h) (refl, z, z, zz, zz)), omega (arith, more (h + 1)))),
-    );
-    coding_once = omega (arith, same is_any_coding (refl, z, z, zz, zz), law.coding_once);
-    coding_odd = λ p. law.coding_odd (omega (arith, same is_any_coding (refl, z, z, zz, zz)));
-    code_none = λ p. law.code_none (omega (arith, same is_any_coding (refl, z, z, zz, zz)));
-    code_is = λ h c p. law.code_is h c (omega (arith, same (is_stored h c) (refl, z, z, zz, zz)));
-    code_even = λ h c p. law.code_even h c (omega (arith, same (is_stored h c) (refl, z, z, zz, zz)));
-    code_by = λ p q. omega (arith, same (is_stored (l.version - 1) l.code) (refl, z, z, zz, zz), law.code_by p q);
-    told = λ h c p. omega (arith, same (is_stored h c) (refl, z, z, zz, zz), told h c p);
-    staged = λ n k p. law.staged n k (omega (arith, same (is_stage n k) (refl, z, z, zz, zz)));
-    link_low = λ h k p. law.link_low h k (omega (arith, same (is_linked h k) (refl, z, z, zz, zz)));
-    link_even = λ h k p. law.link_even h k (omega (arith, same (is_linked h k) (refl, z, z, zz, zz)));
-    link_begun = λ h k p. law.link_begun h k (omega (arith, same (is_linked h k) (refl, z, z, zz, zz)));
-    met = λ h k p. omega (arith, same (is_linked h k) (refl, z, z, zz, zz), met h k p);
-    link_is = λ h k p q. law.link_is h k (omega (arith, same (is_linked h k) (refl, z, z, zz, zz))) (omega (arith, same is_recycling (refl, z, z, zz, zz)));
-    link_live = λ p. omega (arith, same (is_linked l.version l.link) (refl, z, z, zz, zz), law.link_live p);
-    link_odd = λ p. omega (arith, same (is_linked (l.version - 1) l.link) (refl, z, z, zz, zz), law.link_odd p);
-    link_last = λ p. omega (arith, same (is_linked (l.version - 2) l.link) (refl, z, z, zz, zz), law.link_last (omega (arith, same is_recycling (refl, z, z, zz, zz))));
-  }
+  keeps_notes w rest more tried saw known told met = let by = moved w in let same : (f : Mark → ℕ) → IsNone f → tally f (set l.marks j w) ≡ tally f l.marks = λ f n. let d = rest f n in omega (arith, by f) in
+      keeps_steady l.nref w (λ f n. same f (n.3, n.4, n.5, n.6, n.7)) (omega (arith, same is_ref (refl, z, z, zz, zz), law.counted)) (let a = law.few j m here in omega (arith, rest is_ref (refl, z, z, zz, zz)))
+      tried (λ h p. law.held h (omega (arith, same (is_hold h) (refl, z, z, zz, zz)))) saw (λ p q. omega (arith, same (is_zero l.version) (refl, z, z, zz, zz), law.zero_noted p q)) known told met
+      (codes_as w (λ h. rest (is_failer h) (refl, z, z, zz, zz)) (λ h. rest (is_coding h) (refl, z, z, zz, zz)) (λ h. rest (is_coded h) (refl, z, z, zz, zz)) (λ h. omega (arith, rest (is_hold h) (refl, z, z, zz, zz))) more)
 
   -- a look at the word
   pub keeps_look : SlotLaw first (live l) record l { marks = set l.marks j (Saw l.version ∷ m) }
@@ -233,49 +220,13 @@ module _ (first : ℕ) (l : SlotFacts) (law : SlotLaw first (live l) l) (j : ℕ
       → (l.version % 2 ≡ 1 → l.nref ≡ 1 → 0 < total (is_zero l.version) w) → total is_any_coding m ≡ 0
       → SlotLaw first (live l) record l { nref = l.nref - 1; marks = set l.marks j w }
   sub w refs holds rest zero_ idle = let by = moved w in let still = law.counted in let mine = own is_ref in
-      let same : (f : Mark → ℕ) → f Probe ≡ 0 → ((h : ℕ) → f (Hold h) ≡ 0) → f (Zero l.version) ≡ 0 → tally f (set l.marks j w) ≡ tally f l.marks = λ f a b c. let d = rest f a b c in omega (arith, by f) in
-      record {
-        counted = omega (arith, by is_ref);
-        few = few_with w (let a = law.few j m here in omega arith);
-        tagged = law.tagged;
-        busy_once = omega (arith, same is_busy refl z refl, law.busy_once);
-        busy_taken = λ p. law.busy_taken (omega (arith, same is_busy refl z refl));
-        busy_even = λ p. law.busy_even (omega (arith, same is_busy refl z refl));
-        free_even = law.free_even;
-        free_low = law.free_low;
-        claimed_low = λ p. law.claimed_low (omega (arith, same is_claimed refl z refl));
-        recycled = λ v p. law.recycled v (omega (arith, same (is_recycled v) refl z refl));
-        begun = law.begun;
-        top = law.top;
-        taken_by = λ p. omega (arith, same is_claimed refl z refl, same is_tried refl z refl, law.taken_by);
-        held = λ h p. law.held h (omega (arith, by (is_hold h), holds h));
-        saw = λ v p. law.saw v (omega (arith, same (is_saw v) refl z refl));
-        zero_noted = λ p q. dite (ℕ_discrete l.nref 1) (λ e. omega (arith, zero_ p e, term_le (total (is_zero l.version)) l.marks j m here, by (is_zero l.version))) (λ n. absurd (omega arith));
-        known = λ h p. law.known h (omega (arith, same (is_known h) refl z refl));
-        born = λ h. omega (arith, same (is_born h) refl z refl, law.born h);
-        failed = λ h. omega (arith, same (is_failer h) refl z refl, law.failed h);
-        ended = λ h. omega (arith, same (is_freer h) refl z refl, law.ended h);
-        codes = each_set KeepsCodes l.marks j w law.codes (
-          (λ h. omega (arith, (law.codes j m here).0 h, rest (is_failer h) refl z refl, rest (is_coding h) refl z refl, rest (is_coded h) refl z refl)),
-          (λ h p. absurd (omega (arith, rest (is_coding h) refl z refl, total_mono (is_coding h) is_any_coding (coding_le h) m))),
-        );
-        coding_once = omega (arith, same is_any_coding refl z refl, law.coding_once);
-        coding_odd = λ p. law.coding_odd (omega (arith, same is_any_coding refl z refl));
-        code_none = λ p. law.code_none (omega (arith, same is_any_coding refl z refl));
-        code_is = λ h c p. law.code_is h c (omega (arith, same (is_stored h c) refl z refl));
-        code_even = λ h c p. law.code_even h c (omega (arith, same (is_stored h c) refl z refl));
-        code_by = λ p q. omega (arith, same (is_stored (l.version - 1) l.code) refl z refl, law.code_by p q);
-        told = λ h c p. omega (arith, same (is_stored h c) refl z refl, law.told h c (omega (arith, same (is_told h c) refl z refl)));
-        staged = λ n k p. law.staged n k (omega (arith, same (is_stage n k) refl z refl));
-        link_low = λ h k p. law.link_low h k (omega (arith, same (is_linked h k) refl z refl));
-        link_even = λ h k p. law.link_even h k (omega (arith, same (is_linked h k) refl z refl));
-        link_begun = λ h k p. law.link_begun h k (omega (arith, same (is_linked h k) refl z refl));
-        met = λ h k p. omega (arith, same (is_linked h k) refl z refl, law.met h k (omega (arith, same (is_met h k) refl z refl)));
-        link_is = λ h k p q. law.link_is h k (omega (arith, same (is_linked h k) refl z refl)) (omega (arith, same is_recycling refl z refl));
-        link_live = λ p. omega (arith, same (is_linked l.version l.link) refl z refl, law.link_live p);
-        link_odd = λ p. omega (arith, same (is_linked (l.version - 1) l.link) refl z refl, law.link_odd p);
-        link_last = λ p. omega (arith, same (is_linked (l.version - 2) l.link) refl z refl, law.link_last (omega (arith, same is_recycling refl z refl)));
-      }
+      keeps_steady (l.nref - 1) w (λ f n. let d = rest f n.0 n.1 (n.2 l.version) in omega (arith, by f)) (omega (arith, by is_ref)) (let a = law.few j m here in omega arith)
+      (λ p. omega (arith, by is_tried, rest is_tried refl z refl)) (λ h p. law.held h (omega (arith, by (is_hold h), holds h))) (λ v p. law.saw v (omega (arith, by (is_saw v), rest (is_saw v) refl z refl)))
+      (λ p q. dite (ℕ_discrete l.nref 1) (λ e. omega (arith, zero_ p e, term_le (total (is_zero l.version)) l.marks j m here, by (is_zero l.version))) (λ n. absurd (omega arith)))
+      (λ h p. law.known h (omega (arith, by (is_known h), rest (is_known h) refl z refl))) (λ h c p. law.told h c (omega (arith, by (is_told h c), rest (is_told h c) refl z refl))) (λ h k p. law.met h k (omega (arith, by (is_met h k), rest (is_met h k) refl z refl))) (
+        (λ h. omega (arith, (law.codes j m here).0 h, rest (is_failer h) refl z refl, rest (is_coding h) refl z refl, rest (is_coded h) refl z refl)),
+        (λ h p. absurd (omega (arith, rest (is_coding h) refl z refl, total_mono (is_coding h) is_any_coding (coding_le h) m))),
+      )
 
   -- g is the weight of references of one kind
   pub keeps_sub : (g : Mark → ℕ) → ((x : Mark) → 0 < g x → IsRef x) → 0 < total g m → total is_any_coding m ≡ 0
@@ -372,10 +323,7 @@ module _ (first : ℕ) (l : SlotFacts) (law : SlotLaw first (live l) l) (j : ℕ
         failed = λ g. omega (arith, by (is_failer g), rest (is_failer g), law.failed g, life-odd_more first g v odd);
         ended = λ g. let e : v - 1 + 1 ≡ v = omega arith in let e' : v + 1 - 1 ≡ v = omega arith in
             omega (arith, by (is_freer g), rest (is_freer g), law.ended g, life-more first g (v - 1) (omega arith) (omega arith), ap (life first g) e, ap (life first g) e');
-        codes = each_set KeepsCodes l.marks j w law.codes (
-          (λ g. omega (arith, (law.codes j m here).0 g, rest (is_failer g), rest (is_coding g), rest (is_coded g))),
-          (λ g p. let t = (law.codes j m here).1 g (omega (arith, rest (is_coding g))) in let t₀ = t.0 in let t₁ = t.1 in (omega (arith, rest (is_hold g)), omega (arith, rest (is_saw (g + 1))))),
-        );
+        codes = each_set KeepsCodes l.marks j w law.codes (codes_as w (λ h. omega (arith, rest (is_failer h))) (λ h. omega (arith, rest (is_coding h))) (λ h. omega (arith, rest (is_coded h))) (λ h. omega (arith, rest (is_hold h))) (λ x. omega (arith, rest (is_saw x))));
         coding_once = omega (arith, by is_any_coding, rest is_any_coding, law.coding_once);
         coding_odd = λ p. absurd (let t = coding_held l law (omega (arith, by is_any_coding, rest is_any_coding)) in omega (arith, t.1, unheld t.0));
         code_none = λ p. absurd (let t = coding_held l law (omega (arith, by is_any_coding, rest is_any_coding)) in omega (arith, t.1, unheld t.0));
@@ -394,6 +342,55 @@ module _ (first : ℕ) (l : SlotFacts) (law : SlotLaw first (live l) l) (j : ℕ
         link_last = λ p. let e : v - 1 ≡ v + 1 - 2 = omega arith in subst (λ (x : ℕ). 0 < tally (is_linked x l.link) (set l.marks j w)) e (omega (arith, by (is_linked (v - 1) l.link), rest (is_linked (v - 1) l.link), law.link_odd odd));
       }
 
+  -- a step of whoever claimed or recycled a slot that isn't live: on its tag, its link or its code
+  pub keeps_idle : (tag' link' code' : ℕ) (w : List Mark) → ((f : Mark → ℕ) → IsIdle f → total f w ≡ total f m) → live l ≡ 0 → l.version % 2 ≡ 0 → tag' ≤ 1
+      → tally is_busy (set l.marks j w) ≤ 1 → (0 < tally is_busy (set l.marks j w) → tag' ≡ 1) → (tag' ≡ 0 → l.version ≤ 4294967292) → (0 < tally is_claimed (set l.marks j w) → l.version ≤ 4294967292)
+      → ((x : ℕ) → 0 < tally (is_recycled x) (set l.marks j w) → x ≡ l.version) → (0 < tag' + tally is_tried (set l.marks j w) → 0 < tally is_claimed (set l.marks j w) + live l + (l.version - first))
+      → ((n k : ℕ) → 0 < tally (is_stage n k) (set l.marks j w) → (1 ≤ n → link' ≡ k) × (3 ≤ n → code' ≡ 0)) → ((h k : ℕ) → 0 < tally (is_linked h k) l.marks → l.version ≤ h + 1 + tally is_recycling (set l.marks j w) → link' ≡ k)
+      → (0 < tally is_recycling (set l.marks j w) → 0 < tally (is_linked (l.version - 2) link') l.marks) → SlotLaw first (live l) record l { tag = tag'; link = link'; code = code'; marks = set l.marks j w }
+  keeps_idle tag' link' code' w own_same still even tagged once taken_ low claimed recycled taken_by staged link_is link_last = let by = moved w in
+      let same : (f : Mark → ℕ) → IsIdle f → tally f (set l.marks j w) ≡ tally f l.marks = λ f n. omega (arith, by f, own_same f n) in
+      let none_coding : tally is_any_coding l.marks ≡ 0 = dite (ℕ_discrete (tally is_any_coding l.marks) 0) (λ e. e) (λ n. absurd (omega (arith, law.coding_odd (omega arith)))) in
+      record {
+        counted = omega (arith, same is_ref (zz, z), law.counted);
+        few = few_with w (let k = law.few j m here in omega (arith, own_same is_ref (zz, z)));
+        tagged = tagged;
+        busy_once = once;
+        busy_taken = taken_;
+        busy_even = λ _. even;
+        free_even = λ _. even;
+        free_low = low;
+        claimed_low = claimed;
+        recycled = recycled;
+        begun = law.begun;
+        top = law.top;
+        taken_by = taken_by;
+        held = λ h p. law.held h (omega (arith, same (is_hold h) (zz, z)));
+        saw = λ x p. law.saw x (omega (arith, same (is_saw x) (zz, z)));
+        zero_noted = λ p q. absurd (omega arith);
+        known = λ h p. law.known h (omega (arith, same (is_known h) (zz, z)));
+        born = λ h. omega (arith, same (is_born h) (zz, z), law.born h);
+        failed = λ h. omega (arith, same (is_failer h) (zz, z), law.failed h);
+        ended = λ h. omega (arith, same (is_freer h) (zz, z), law.ended h);
+        codes = each_set KeepsCodes l.marks j w law.codes (codes_as w (λ h. own_same (is_failer h) (zz, z)) (λ h. own_same (is_coding h) (zz, z)) (λ h. own_same (is_coded h) (zz, z)) (λ h. omega (arith, own_same (is_hold h) (zz, z))) (λ x. omega (arith, own_same (is_saw x) (zz, z))));
+        coding_once = omega (arith, same is_any_coding (zz, z));
+        coding_odd = λ p. absurd (omega (arith, same is_any_coding (zz, z)));
+        code_none = λ p. absurd (omega (arith, same is_any_coding (zz, z)));
+        code_is = λ h c p. let q : 0 < tally (is_stored h c) l.marks = omega (arith, same (is_stored h c) (zz, z)) in let t = law.code_is h c q in (t.0, t.1, λ e. absurd (omega (arith, law.code_even h c q)));
+        code_even = λ h c p. law.code_even h c (omega (arith, same (is_stored h c) (zz, z)));
+        code_by = λ p q. absurd (omega arith);
+        told = λ h c p. omega (arith, same (is_stored h c) (zz, z), law.told h c (omega (arith, same (is_told h c) (zz, z))));
+        staged = staged;
+        link_low = λ h k p. law.link_low h k (omega (arith, same (is_linked h k) (zz, z)));
+        link_even = λ h k p. law.link_even h k (omega (arith, same (is_linked h k) (zz, z)));
+        link_begun = λ h k p. law.link_begun h k (omega (arith, same (is_linked h k) (zz, z)));
+        met = λ h k p. omega (arith, same (is_linked h k) (zz, z), law.met h k (omega (arith, same (is_met h k) (zz, z))));
+        link_is = λ h k p. link_is h k (omega (arith, same (is_linked h k) (zz, z)));
+        link_live = λ p. absurd (omega arith);
+        link_odd = λ p. absurd (omega arith);
+        link_last = λ p. omega (arith, same (is_linked (l.version - 2) link') (zz, z), link_last p);
+      }
+
   pub keeps_free : (x : ℕ) → 0 < total (is_recycled x) m → x ≤ 4294967292
       → SlotLaw first (live l) record l { tag = 0; marks = set l.marks j (without is_recycling m) }
   keeps_free x there low = let v : ℕ = l.version in let lv : ℕ = live l in let w : List Mark = without is_recycling m in let by = moved w in
@@ -404,96 +401,20 @@ module _ (first : ℕ) (l : SlotFacts) (law : SlotLaw first (live l) l) (j : ℕ
       let even = law.busy_even (omega arith) in
       let still : lv ≡ 0 = dite (ℕ_discrete lv 0) (λ e. e) (λ n. absurd (omega (arith, (live_is l.tag v (tally is_busy l.marks) (omega arith)).3))) in
       let tag_is = law.busy_taken (omega arith) in
-      record {
-        counted = omega (arith, by is_ref, rest is_ref, law.counted);
-        few = few_with w (let k = law.few j m here in omega (arith, rest is_ref));
-        tagged = omega arith;
-        busy_once = omega (arith, by is_busy, rest is_busy);
-        busy_taken = λ p. absurd (omega (arith, by is_busy, rest is_busy));
-        busy_even = λ p. even;
-        free_even = λ p. even;
-        free_low = λ p. omega arith;
-        claimed_low = λ p. law.claimed_low (omega (arith, by is_claimed, rest is_claimed));
-        recycled = λ y p. law.recycled y (omega (arith, by (is_recycled y), rest (is_recycled y)));
-        begun = law.begun;
-        top = law.top;
-        taken_by = λ p. omega (arith, by is_claimed, rest is_claimed, law.taken_by (omega arith));
-        held = λ g p. law.held g (omega (arith, by (is_hold g), rest (is_hold g)));
-        saw = λ y p. law.saw y (omega (arith, by (is_saw y), rest (is_saw y)));
-        zero_noted = λ p q. absurd (omega arith);
-        known = λ g p. law.known g (omega (arith, by (is_known g), rest (is_known g)));
-        born = λ g. omega (arith, by (is_born g), rest (is_born g), law.born g);
-        failed = λ g. omega (arith, by (is_failer g), rest (is_failer g), law.failed g);
-        ended = λ g. omega (arith, by (is_freer g), rest (is_freer g), law.ended g);
-        codes = each_set KeepsCodes l.marks j w law.codes (
-          (λ g. omega (arith, (law.codes j m here).0 g, rest (is_failer g), rest (is_coding g), rest (is_coded g))),
-          (λ g p. let t = (law.codes j m here).1 g (omega (arith, rest (is_coding g))) in let t₀ = t.0 in let t₁ = t.1 in (omega (arith, rest (is_hold g)), omega (arith, rest (is_saw (g + 1))))),
-        );
-        coding_once = omega (arith, by is_any_coding, rest is_any_coding, law.coding_once);
-        coding_odd = λ p. law.coding_odd (omega (arith, by is_any_coding, rest is_any_coding));
-        code_none = λ p. law.code_none (omega (arith, by is_any_coding, rest is_any_coding));
-        code_is = λ g k p. law.code_is g k (omega (arith, by (is_stored g k), rest (is_stored g k)));
-        code_even = λ g k p. law.code_even g k (omega (arith, by (is_stored g k), rest (is_stored g k)));
-        code_by = λ p q. absurd (omega arith);
-        told = λ g k p. omega (arith, by (is_stored g k), rest (is_stored g k), law.told g k (omega (arith, by (is_told g k), rest (is_told g k))));
-        staged = λ n k p. law.staged n k (omega (arith, by (is_stage n k), rest (is_stage n k)));
-        link_low = λ g k p. law.link_low g k (omega (arith, by (is_linked g k), rest (is_linked g k)));
-        link_even = λ g k p. law.link_even g k (omega (arith, by (is_linked g k), rest (is_linked g k)));
-        link_begun = λ g k p. law.link_begun g k (omega (arith, by (is_linked g k), rest (is_linked g k)));
-        met = λ g k p. omega (arith, by (is_linked g k), rest (is_linked g k), law.met g k (omega (arith, by (is_met g k), rest (is_met g k))));
-        link_is = λ g k p q. law.link_is g k (omega (arith, by (is_linked g k), rest (is_linked g k))) (omega (arith, by is_recycling, rest is_recycling));
-        link_live = λ p. absurd (omega arith);
-        link_odd = λ p. absurd (omega arith);
-        link_last = λ p. absurd (omega (arith, by is_recycling, rest is_recycling));
-      }
+      keeps_idle 0 l.link l.code w (λ f n. let a = n.1 y in omega (arith, rest f)) still even (omega arith) (omega (arith, by is_busy, rest is_busy)) (λ p. absurd (omega (arith, by is_busy, rest is_busy)))
+      (λ p. omega arith) (λ p. law.claimed_low (omega (arith, by is_claimed, rest is_claimed))) (λ y p. law.recycled y (omega (arith, by (is_recycled y), rest (is_recycled y))))
+      (λ p. omega (arith, by is_claimed, rest is_claimed, law.taken_by (omega arith))) (λ n k p. law.staged n k (omega (arith, by (is_stage n k), rest (is_stage n k))))
+      (λ g k p q. law.link_is g k p (omega (arith, by is_recycling, rest is_recycling))) (λ p. absurd (omega (arith, by is_recycling, rest is_recycling)))
 
   pub keeps_claim : l.tag ≡ 0 → SlotLaw first 0 record l { tag = 1; marks = set l.marks j (Claimed 0 0 ∷ m) }
   keeps_claim free = let v : ℕ = l.version in let lv : ℕ = live l in let w : List Mark = Claimed 0 0 ∷ m in let by = moved w in let b = busy_is in
       let none_busy : tally is_busy l.marks ≡ 0 = dite (ℕ_discrete (tally is_busy l.marks) 0) (λ e. e) (λ n. absurd (omega (arith, law.busy_taken (omega arith)))) in
       let still : lv ≡ 0 = dite (ℕ_discrete lv 0) (λ e. e) (λ n. absurd (omega (arith, (live_is l.tag v (tally is_busy l.marks) (omega arith)).0))) in
-      let upto : v + lv ≡ v + 0 = omega arith in
-      record {
-        counted = omega (arith, by is_ref, law.counted);
-        few = few_with w (let k = law.few j m here in omega arith);
-        tagged = omega arith;
-        busy_once = omega (arith, by is_busy);
-        busy_taken = λ p. refl;
-        busy_even = λ p. law.free_even free;
-        free_even = λ p. absurd (omega arith);
-        free_low = λ p. absurd (omega arith);
-        claimed_low = λ p. law.free_low free;
-        recycled = λ x p. law.recycled x (omega (arith, by (is_recycled x)));
-        begun = law.begun;
-        top = law.top;
-        taken_by = λ p. omega (arith, by is_claimed);
-        held = λ g p. let t = law.held g (omega (arith, by (is_hold g))) in let t₀ = t.0 in (omega arith, t.1);
-        saw = λ x p. law.saw x (omega (arith, by (is_saw x)));
-        zero_noted = λ p q. absurd (omega (arith, law.free_even free));
-        known = λ g p. sym (ap (life first g) upto) ∙ law.known g (omega (arith, by (is_known g)));
-        born = λ g. omega (arith, by (is_born g), law.born g, ap (life first g) upto);
-        failed = λ g. omega (arith, by (is_failer g), law.failed g);
-        ended = λ g. omega (arith, by (is_freer g), law.ended g);
-        codes = each_set KeepsCodes l.marks j w law.codes (
-          (λ g. omega (arith, (law.codes j m here).0 g)),
-          (λ g p. let t = (law.codes j m here).1 g (omega arith) in let t₀ = t.0 in let t₁ = t.1 in (omega arith, omega arith)),
-        );
-        coding_once = omega (arith, by is_any_coding, law.coding_once);
-        coding_odd = λ p. law.coding_odd (omega (arith, by is_any_coding));
-        code_none = λ p. law.code_none (omega (arith, by is_any_coding));
-        code_is = λ g k p. law.code_is g k (omega (arith, by (is_stored g k)));
-        code_even = λ g k p. law.code_even g k (omega (arith, by (is_stored g k)));
-        code_by = λ p q. absurd (omega (arith, law.free_even free));
-        told = λ g k p. omega (arith, by (is_stored g k), law.told g k (omega (arith, by (is_told g k))));
-        staged = λ n k p. dite (ℕ_discrete (pair n k 0 0) 0) (λ e. law.staged n k (omega (arith, by (is_stage n k)))) (λ q. let t = (pair_is n k 0 0 (omega arith)).0 in ((λ r. absurd (omega arith)), λ r. absurd (omega arith)));
-        link_low = λ g k p. omega (arith, law.link_low g k (omega (arith, by (is_linked g k))));
-        link_even = λ g k p. law.link_even g k (omega (arith, by (is_linked g k)));
-        link_begun = λ g k p. law.link_begun g k (omega (arith, by (is_linked g k)));
-        met = λ g k p. omega (arith, by (is_linked g k), law.met g k (omega (arith, by (is_met g k))));
-        link_is = λ g k p q. law.link_is g k (omega (arith, by (is_linked g k))) (omega (arith, by is_recycling));
-        link_live = λ p. absurd (omega arith);
-        link_odd = λ p. absurd (omega (arith, law.free_even free));
-        link_last = λ p. absurd (omega (arith, by is_recycling));
-      }
+      subst (λ lives. SlotLaw first lives record l { tag = 1; marks = set l.marks j w }) still
+      (keeps_idle 1 l.link l.code w (λ f n. let a = n.0 0 0 in omega arith) still (law.free_even free) (omega arith) (omega (arith, by is_busy)) (λ p. refl) (λ p. absurd (omega arith)) (λ p. law.free_low free)
+      (λ x p. law.recycled x (omega (arith, by (is_recycled x)))) (λ p. omega (arith, by is_claimed))
+      (λ n k p. dite (ℕ_discrete (pair n k 0 0) 0) (λ e. law.staged n k (omega (arith, by (is_stage n k)))) (λ q. let t = (pair_is n k 0 0 (omega arith)).0 in ((λ r. absurd (omega arith)), λ r. absurd (omega arith))))
+      (λ g k p q. law.link_is g k p (omega (arith, by is_recycling))) (λ p. absurd (omega (arith, by is_recycling))))
 
   pub keeps_tried : l.tag ≡ 1 → SlotLaw first (live l) record l { marks = set l.marks j (Tried ∷ m) }
   keeps_tried is_taken = let by = moved (Tried ∷ m) in keeps_notes (Tried ∷ m) (λ f n. let a = n.0 in omega arith) (λ v. omega arith) (λ p. omega arith) (λ v p. law.saw v (omega (arith, by (is_saw v))))
@@ -530,10 +451,7 @@ module _ (first : ℕ) (l : SlotFacts) (law : SlotLaw first (live l) l) (j : ℕ
         born = λ g. omega (arith, by (is_born g), rest (is_born g), law.born g, life-more first g v begun even, ap (life first g) before);
         failed = λ g. omega (arith, by (is_failer g), rest (is_failer g), law.failed g);
         ended = λ g. omega (arith, by (is_freer g), rest (is_freer g), law.ended g);
-        codes = each_set KeepsCodes l.marks j w law.codes (
-          (λ g. omega (arith, (law.codes j m here).0 g, rest (is_failer g), rest (is_coding g), rest (is_coded g))),
-          (λ g p. let t = (law.codes j m here).1 g (omega (arith, rest (is_coding g))) in let t₀ = t.0 in let t₁ = t.1 in (omega (arith, rest (is_hold g)), omega (arith, rest (is_saw (g + 1))))),
-        );
+        codes = each_set KeepsCodes l.marks j w law.codes (codes_as w (λ h. omega (arith, rest (is_failer h))) (λ h. omega (arith, rest (is_coding h))) (λ h. omega (arith, rest (is_coded h))) (λ h. omega (arith, rest (is_hold h))) (λ x. omega (arith, rest (is_saw x))));
         coding_once = omega (arith, by is_any_coding, rest is_any_coding, law.coding_once);
         coding_odd = λ p. law.coding_odd (omega (arith, by is_any_coding, rest is_any_coding));
         code_none = λ p. s₁;
@@ -555,45 +473,9 @@ module _ (first : ℕ) (l : SlotFacts) (law : SlotLaw first (live l) l) (j : ℕ
   -- an exchange that lost
   pub keeps_lost : (x : ℕ) → 0 < total (is_zero x) m → (l.version ≡ x → l.nref ≢ 0) → SlotLaw first (live l) record l { marks = set l.marks j (without (is_zero x) m) }
   keeps_lost x there missed = let w : List Mark = without (is_zero x) m in let by = moved w in
-      let rest : (f : Mark → ℕ) → total f w + f (Zero x) ≡ total f m = taken_as (is_zero x) (Zero x) m (zero_is x) there in record {
-        counted = omega (arith, by is_ref, rest is_ref, law.counted);
-        few = few_with w (let a = law.few j m here in omega (arith, rest is_ref));
-        tagged = law.tagged;
-        busy_once = omega (arith, by is_busy, rest is_busy, law.busy_once);
-        busy_taken = λ p. law.busy_taken (omega (arith, by is_busy, rest is_busy));
-        busy_even = λ p. law.busy_even (omega (arith, by is_busy, rest is_busy));
-        free_even = law.free_even;
-        free_low = law.free_low;
-        claimed_low = λ p. law.claimed_low (omega (arith, by is_claimed, rest is_claimed));
-        recycled = λ v p. law.recycled v (omega (arith, by (is_recycled v), rest (is_recycled v)));
-        begun = law.begun;
-        top = law.top;
-        taken_by = λ p. omega (arith, by is_claimed, rest is_claimed, by is_tried, rest is_tried, law.taken_by);
-        held = λ h p. law.held h (omega (arith, by (is_hold h), rest (is_hold h)));
-        saw = λ v p. law.saw v (omega (arith, by (is_saw v), rest (is_saw v)));
-        zero_noted = λ p q. omega (arith, by (is_zero l.version), rest (is_zero l.version), only-else l.version x (λ e. missed (sym e) q), law.zero_noted p q);
-        known = λ h p. law.known h (omega (arith, by (is_known h), rest (is_known h)));
-        born = λ h. omega (arith, by (is_born h), rest (is_born h), law.born h);
-        failed = λ h. omega (arith, by (is_failer h), rest (is_failer h), law.failed h);
-        ended = λ h. omega (arith, by (is_freer h), rest (is_freer h), law.ended h);
-        codes = each_set KeepsCodes l.marks j w law.codes (
-          (λ h. omega (arith, (law.codes j m here).0 h, rest (is_failer h), rest (is_coding h), rest (is_coded h))),
-          (λ h p. let t = (law.codes j m here).1 h (omega (arith, rest (is_coding h))) in let a = t.0 in let b = t.1 in (omega (arith, rest (is_hold h)), omega (arith, rest (is_saw (h + 1))))),
-        );
-        coding_once = omega (arith, by is_any_coding, rest is_any_coding, law.coding_once);
-        coding_odd = λ p. law.coding_odd (omega (arith, by is_any_coding, rest is_any_coding));
-        code_none = λ p. law.code_none (omega (arith, by is_any_coding, rest is_any_coding));
-        code_is = λ h c p. law.code_is h c (omega (arith, by (is_stored h c), rest (is_stored h c)));
-        code_even = λ h c p. law.code_even h c (omega (arith, by (is_stored h c), rest (is_stored h c)));
-        code_by = λ p q. omega (arith, by (is_stored (l.version - 1) l.code), rest (is_stored (l.version - 1) l.code), law.code_by p q);
-        told = λ h c p. omega (arith, by (is_stored h c), rest (is_stored h c), law.told h c (omega (arith, by (is_told h c), rest (is_told h c))));
-        staged = λ n k p. law.staged n k (omega (arith, by (is_stage n k), rest (is_stage n k)));
-        link_low = λ h k p. law.link_low h k (omega (arith, by (is_linked h k), rest (is_linked h k)));
-        link_even = λ h k p. law.link_even h k (omega (arith, by (is_linked h k), rest (is_linked h k)));
-        link_begun = λ h k p. law.link_begun h k (omega (arith, by (is_linked h k), rest (is_linked h k)));
-        met = λ h k p. omega (arith, by (is_linked h k), rest (is_linked h k), law.met h k (omega (arith, by (is_met h k), rest (is_met h k))));
-        link_is = λ h k p q. law.link_is h k (omega (arith, by (is_linked h k), rest (is_linked h k))) (omega (arith, by is_recycling, rest is_recycling));
-        link_live = λ p. omega (arith, by (is_linked l.version l.link), rest (is_linked l.version l.link), law.link_live p);
-        link_odd = λ p. omega (arith, by (is_linked (l.version - 1) l.link), rest (is_linked (l.version - 1) l.link), law.link_odd p);
-        link_last = λ p. omega (arith, by (is_linked (l.version - 2) l.link), rest (is_linked (l.version - 2) l.link), law.link_last (omega (arith, by is_recycling, rest is_recycling)));
-      }
+      let rest : (f : Mark → ℕ) → total f w + f (Zero x) ≡ total f m = taken_as (is_zero x) (Zero x) m (zero_is x) there in
+      keeps_steady l.nref w (λ f n. let d = n.2 x in omega (arith, by f, rest f)) (omega (arith, by is_ref, rest is_ref, law.counted)) (let a = law.few j m here in omega (arith, rest is_ref))
+      (λ p. omega (arith, by is_tried, rest is_tried)) (λ h p. law.held h (omega (arith, by (is_hold h), rest (is_hold h)))) (λ v p. law.saw v (omega (arith, by (is_saw v), rest (is_saw v))))
+      (λ p q. omega (arith, by (is_zero l.version), rest (is_zero l.version), only-else l.version x (λ e. missed (sym e) q), law.zero_noted p q))
+      (λ h p. law.known h (omega (arith, by (is_known h), rest (is_known h)))) (λ h c p. law.told h c (omega (arith, by (is_told h c), rest (is_told h c)))) (λ h k p. law.met h k (omega (arith, by (is_met h k), rest (is_met h k))))
+      (codes_as w (λ h. omega (arith, rest (is_failer h))) (λ h. omega (arith, rest (is_coding h))) (λ h. omega (arith, rest (is_coded h))) (λ h. omega (arith, rest (is_hold h))) (λ v. omega (arith, rest (is_saw v))))

@@ -1,6 +1,6 @@
 -- Each step on a link word, a head word or a code word keeps the rule.
 use Rattle.slot_steps.proofs.Clauses.{link_held}
-use Rattle.std.proofs.Common.{◌≡◌, ℕ, ◌+◌, ◌-◌, ◌*◌, ◌/◌, ◌%◌, ◌<◌, ◌≤◌, ◌≢◌, List, [], ◌∷◌, get_or, set, sym, refl, ap, ◌∙◌, subst, ⊎_elim, arith, cond, eq-eqb, ne_eqb, length-set, get_or-set_same, get_or-set_other, ◌⊎◌}
+use Rattle.std.proofs.Common.{◌≡◌, ℕ, ◌+◌, ◌-◌, ◌*◌, ◌/◌, ◌%◌, ◌<◌, ◌≤◌, ◌≢◌, List, [], ◌∷◌, get_or, set, sym, refl, ap, ◌∙◌, subst, ⊎_elim, arith, cond, eq-eqb, ne_eqb, length, length-set, get_or-set_same, get_or-set_other, ◌⊎◌}
 use mathlib.Core.Logic.{dite}
 use mathlib.Core.Option.{some}
 use native.Mathlib.Decide.{ℕ_discrete}
@@ -16,7 +16,7 @@ use Rattle.sock_model.specs.Weights.{life, total, tally, only, is_busy, is_codin
 use Rattle.sock_model.specs.Marks.{about, without, without_at, latest, says, noted}
 use Rattle.sock_model.specs.Layout.{link_index, head_index, code_index, name_index, open_index}
 use Rattle.sock_model.specs.Slots.{SlotFacts, live_by, live, count, SlotLaw}
-use Rattle.sock_model.specs.References.{OnlyMarks, uses_of, slot_facts, References, Names, Stores, sayers, spare}
+use Rattle.sock_model.specs.References.{OnlyMarks, uses_of, slot_facts, NamedWords, References, Names, Stores, sayers, spare}
 use Rattle.sock_model.specs.SlotRows.{linked, staged, coded, told_code, marks_of, met, wrote, met_link}
 use Rattle.slot_steps.proofs.Sums.{total-set, term_le, taken_as, about-here, about-other, tally_mono}
 use Rattle.slot_steps.proofs.Numbers.{life_le, only-same}
@@ -128,60 +128,69 @@ module _ {S : Type 0} (p : Plan) (s : State S View) (law : References p s) (id :
       loaded (link_index i) (code_index i) w (on_word 4 L.code w ms L.link L.code (omega arith) (λ z ne. simp about-other) (λ z. omega arith) refl (simp about-here) (λ g. omega arith) (omega arith) (at_code s id v here c w a i L.code (omega arith))
       (keeps_met p.first L l id mine at_home (x - 2) L.link linked))
 
+  -- a word is stored under a name or at an operation: the slots stay
+  module _ (x val : ℕ) where
+    abbrev W : View
+    W = wrote x val v
+
+    abbrev T : State S View
+    T = stepped s x val id c W a
+
+    named_on : ((z : ℕ) → z < p.slots → slot_facts T z ≡ slot_facts s z) → (word : ℕ) → Names p s word → Names p T word
+    named_on frame word o ne = let r = o ne in (r.0, subst (λ (l : SlotFacts). 0 < count (is_born ((word - 1) / 4294967296)) l) (sym (frame ((word - 1) % 4294967296) r.0)) r.1)
+
+    -- the id of a life that the seat knows names it
+    knows : ((z : ℕ) → z < p.slots → slot_facts T z ≡ slot_facts s z) → (val - 1) % 4294967296 ≡ i → 0 < marks_of (is_known ((val - 1) / 4294967296)) i v → Names p T val
+    knows frame at_i known ne = let h : ℕ = (val - 1) / 4294967296 in
+        let born : 0 < count (is_born h) L = omega (arith, (law.slots i inside).born h, (law.slots i inside).known h (omega (arith, known, term_le (total (is_known h)) L.marks id mine at_home))) in
+        (omega arith, subst (λ (z : ℕ). 0 < count (is_born h) (slot_facts T z)) (sym at_i) (subst (λ (l : SlotFacts). 0 < count (is_born h) l) (sym (frame i inside)) born))
+
+    said : (y : ℕ) → x ≢ y → get_or T.words y 0 ≡ get_or s.words y 0 → Stores s y → Stores T y
+    said y ne e o = subst (λ (z : ℕ). z ≢ 0 → 0 < total (sayers y z) T.views) (sym e)
+        (λ nz. let z : ℕ = get_or s.words y 0 in omega (arith, o nz, total-set (sayers y z) s.views id v W here, noted-else y z record { place = x; word = val } ne v.stores))
+
+    says_this : x < length s.words → Stores T x
+    says_this there = subst (λ (z : ℕ). z ≢ 0 → 0 < total (sayers x z) T.views) (sym (get_or-set_same s.words x val 0 there))
+        (λ nz. omega (arith, total-set (sayers x val) s.views id v W here, term_le (sayers x val) s.views id v here, noted-here record { place = x; word = val } v.stores))
+
+    stores_word : ((z : ℕ) → z < p.slots → slot_facts T z ≡ slot_facts s z) → NamedWords p T → References p T
+    stores_word frame named = record {
+      sized = length-set s.words x val ∙ law.sized;
+      seat_limit = omega (arith, law.seat_limit, length-set s.views id W, total-set spare s.views id v W here);
+      slots = λ z l. subst (λ (y : SlotFacts). SlotLaw p.first (live y) y) (sym (frame z l)) (law.slots z l);
+      links = λ k. omega (arith, total-set (uses_of k) s.views id v W here, law.links k);
+      named = named;
+    }
+
   -- the id of a life that the seat knows is stored under a name
   pub store_name_keeps : (n val : ℕ) → n < p.names → (val - 1) % 4294967296 ≡ i → 0 < marks_of (is_known ((val - 1) / 4294967296)) i v → References p (stepped s (name_index p n) val id c (wrote (name_index p n) val v) a)
-  store_name_keeps n val inside_n at_i known = let x : ℕ = name_index p n in let note : StoredWord = record { place = x; word = val } in let w : View = wrote x val v in let t : State S View = stepped s x val id c w a in let h : ℕ = (val - 1) / 4294967296 in let sized = law.sized in
-      let frame : (z : ℕ) → z < p.slots → slot_facts t z ≡ slot_facts s z = λ z l. apart s id v here c w a x val z (λ e. omega arith) (λ e. omega arith) (λ e. omega arith) (λ e. omega arith) refl in
-      let named : (word : ℕ) → Names p s word → Names p t word = λ word o ne. let r = o ne in (r.0, subst (λ (l : SlotFacts). 0 < count (is_born ((word - 1) / 4294967296)) l) (sym (frame ((word - 1) % 4294967296) r.0)) r.1) in
-      let mine_known = term_le (total (is_known h)) L.marks id mine at_home in
-      let born : 0 < count (is_born h) L = omega (arith, (law.slots i inside).born h, (law.slots i inside).known h (omega arith)) in
-      let this : Names p t val = λ ne. (omega arith, subst (λ (z : ℕ). 0 < count (is_born h) (slot_facts t z)) (sym at_i) (subst (λ (l : SlotFacts). 0 < count (is_born h) l) (sym (frame i inside)) born)) in
-      let said : (y : ℕ) → x ≢ y → get_or t.words y 0 ≡ get_or s.words y 0 → Stores s y → Stores t y = λ y ne e o. subst (λ (z : ℕ). z ≢ 0 → 0 < total (sayers y z) t.views) (sym e)
-      (λ nz. let z : ℕ = get_or s.words y 0 in omega (arith, o nz, total-set (sayers y z) s.views id v w here, noted-else y z note ne v.stores)) in
-      let says_this : Stores t x = subst (λ (z : ℕ). z ≢ 0 → 0 < total (sayers x z) t.views) (sym (get_or-set_same s.words x val 0 (omega arith)))
-      (λ nz. omega (arith, total-set (sayers x val) s.views id v w here, term_le (sayers x val) s.views id v here, noted-here note v.stores)) in record {
-        sized = length-set s.words x val ∙ sized;
-        seat_limit = omega (arith, law.seat_limit, length-set s.views id w, total-set spare s.views id v w here);
-        slots = λ z l. subst (λ (y : SlotFacts). SlotLaw p.first (live y) y) (sym (frame z l)) (law.slots z l);
-        links = λ k. omega (arith, total-set (uses_of k) s.views id v w here, law.links k);
-        named = record {
-          names = λ z l. dite (ℕ_discrete z n)
-              (λ e. let at : get_or (set s.words x val) (name_index p z) 0 ≡ val = ap (λ (y : ℕ). get_or (set s.words x val) (name_index p y) 0) e ∙ get_or-set_same s.words x val 0 (omega arith) in subst (Names p t) (sym at) this)
-              (λ ne. let at = get_or-set_other s.words x (name_index p z) val 0 (λ e. ne (omega arith)) in subst (Names p t) (sym at) (named (get_or s.words (name_index p z) 0) (law.named.names z l)));
-          opens = λ z l. let at = get_or-set_other s.words x (open_index p z) val 0 (λ e. omega arith) in
-              subst (λ (y : ℕ). y ≢ 18446744073709551615 → Names p t y) (sym at) (λ ne. named (get_or s.words (open_index p z) 0) (law.named.opens z l ne));
-          names_by = λ z l. dite (ℕ_discrete z n) (λ e. subst (λ (y : ℕ). Stores t (name_index p y)) (sym e) says_this)
-              (λ ne. said (name_index p z) (λ e. ne (omega arith)) (get_or-set_other s.words x (name_index p z) val 0 (λ e. ne (omega arith))) (law.named.names_by z l));
-          opens_by = λ z l. said (open_index p z) (λ e. omega arith) (get_or-set_other s.words x (open_index p z) val 0 (λ e. omega arith)) (law.named.opens_by z l);
-        };
+  store_name_keeps n val inside_n at_i known = let x : ℕ = name_index p n in let t : State S View = T x val in let sized = law.sized in
+      let frame : (z : ℕ) → z < p.slots → slot_facts t z ≡ slot_facts s z = λ z l. apart s id v here c (W x val) a x val z (λ e. omega arith) (λ e. omega arith) (λ e. omega arith) (λ e. omega arith) refl in
+      stores_word x val frame record {
+        names = λ z l. dite (ℕ_discrete z n)
+            (λ e. let at : get_or (set s.words x val) (name_index p z) 0 ≡ val = ap (λ (y : ℕ). get_or (set s.words x val) (name_index p y) 0) e ∙ get_or-set_same s.words x val 0 (omega arith) in subst (Names p t) (sym at) (knows x val frame at_i known))
+            (λ ne. let at = get_or-set_other s.words x (name_index p z) val 0 (λ e. ne (omega arith)) in subst (Names p t) (sym at) (named_on x val frame (get_or s.words (name_index p z) 0) (law.named.names z l)));
+        opens = λ z l. let at = get_or-set_other s.words x (open_index p z) val 0 (λ e. omega arith) in
+            subst (λ (y : ℕ). y ≢ 18446744073709551615 → Names p t y) (sym at) (λ ne. named_on x val frame (get_or s.words (open_index p z) 0) (law.named.opens z l ne));
+        names_by = λ z l. dite (ℕ_discrete z n) (λ e. subst (λ (y : ℕ). Stores t (name_index p y)) (sym e) (says_this x val (omega arith)))
+            (λ ne. said x val (name_index p z) (λ e. ne (omega arith)) (get_or-set_other s.words x (name_index p z) val 0 (λ e. ne (omega arith))) (law.named.names_by z l));
+        opens_by = λ z l. said x val (open_index p z) (λ e. omega arith) (get_or-set_other s.words x (open_index p z) val 0 (λ e. omega arith)) (law.named.opens_by z l);
       }
 
   -- the same at an operation, where the word may also say that it got no slot
   pub store_open_keeps : (n val : ℕ) → n < p.operations → (val ≡ 18446744073709551615) ⊎ (((val - 1) % 4294967296 ≡ i) × (0 < marks_of (is_known ((val - 1) / 4294967296)) i v))
       → References p (stepped s (open_index p n) val id c (wrote (open_index p n) val v) a)
-  store_open_keeps n val inside_n how = let x : ℕ = open_index p n in let note : StoredWord = record { place = x; word = val } in let w : View = wrote x val v in let t : State S View = stepped s x val id c w a in let h : ℕ = (val - 1) / 4294967296 in let sized = law.sized in
-      let frame : (z : ℕ) → z < p.slots → slot_facts t z ≡ slot_facts s z = λ z l. apart s id v here c w a x val z (λ e. omega arith) (λ e. omega arith) (λ e. omega arith) (λ e. omega arith) refl in
-      let named : (word : ℕ) → Names p s word → Names p t word = λ word o ne. let r = o ne in (r.0, subst (λ (l : SlotFacts). 0 < count (is_born ((word - 1) / 4294967296)) l) (sym (frame ((word - 1) % 4294967296) r.0)) r.1) in
-      let this : val ≢ 18446744073709551615 → Names p t val = λ ne. ⊎_elim (λ e. absurd (ne e)) (λ y nz. let at_i = y.0 in
-      let born : 0 < count (is_born h) L = omega (arith, (law.slots i inside).born h, (law.slots i inside).known h (omega (arith, y.1, term_le (total (is_known h)) L.marks id mine at_home))) in
-      (omega arith, subst (λ (z : ℕ). 0 < count (is_born h) (slot_facts t z)) (sym y.0) (subst (λ (l : SlotFacts). 0 < count (is_born h) l) (sym (frame i inside)) born))) how in
-      let said : (y : ℕ) → x ≢ y → get_or t.words y 0 ≡ get_or s.words y 0 → Stores s y → Stores t y = λ y ne e o. subst (λ (z : ℕ). z ≢ 0 → 0 < total (sayers y z) t.views) (sym e)
-      (λ nz. let z : ℕ = get_or s.words y 0 in omega (arith, o nz, total-set (sayers y z) s.views id v w here, noted-else y z note ne v.stores)) in
-      let says_this : Stores t x = subst (λ (z : ℕ). z ≢ 0 → 0 < total (sayers x z) t.views) (sym (get_or-set_same s.words x val 0 (omega arith)))
-      (λ nz. omega (arith, total-set (sayers x val) s.views id v w here, term_le (sayers x val) s.views id v here, noted-here note v.stores)) in record {
-        sized = length-set s.words x val ∙ sized;
-        seat_limit = omega (arith, law.seat_limit, length-set s.views id w, total-set spare s.views id v w here);
-        slots = λ z l. subst (λ (y : SlotFacts). SlotLaw p.first (live y) y) (sym (frame z l)) (law.slots z l);
-        links = λ k. omega (arith, total-set (uses_of k) s.views id v w here, law.links k);
-        named = record {
-          names = λ z l. let at = get_or-set_other s.words x (name_index p z) val 0 (λ e. omega arith) in subst (Names p t) (sym at) (named (get_or s.words (name_index p z) 0) (law.named.names z l));
-          opens = λ z l. dite (ℕ_discrete z n)
-              (λ e. let at : get_or (set s.words x val) (open_index p z) 0 ≡ val = ap (λ (y : ℕ). get_or (set s.words x val) (open_index p y) 0) e ∙ get_or-set_same s.words x val 0 (omega arith) in
-              subst (λ (y : ℕ). y ≢ 18446744073709551615 → Names p t y) (sym at) this)
-              (λ ne. let at = get_or-set_other s.words x (open_index p z) val 0 (λ e. ne (omega arith)) in
-              subst (λ (y : ℕ). y ≢ 18446744073709551615 → Names p t y) (sym at) (λ nf. named (get_or s.words (open_index p z) 0) (law.named.opens z l nf)));
-          names_by = λ z l. said (name_index p z) (λ e. omega arith) (get_or-set_other s.words x (name_index p z) val 0 (λ e. omega arith)) (law.named.names_by z l);
-          opens_by = λ z l. dite (ℕ_discrete z n) (λ e. subst (λ (y : ℕ). Stores t (open_index p y)) (sym e) says_this)
-              (λ ne. said (open_index p z) (λ e. ne (omega arith)) (get_or-set_other s.words x (open_index p z) val 0 (λ e. ne (omega arith))) (law.named.opens_by z l));
-        };
+  store_open_keeps n val inside_n how = let x : ℕ = open_index p n in let t : State S View = T x val in let sized = law.sized in
+      let frame : (z : ℕ) → z < p.slots → slot_facts t z ≡ slot_facts s z = λ z l. apart s id v here c (W x val) a x val z (λ e. omega arith) (λ e. omega arith) (λ e. omega arith) (λ e. omega arith) refl in
+      let this : val ≢ 18446744073709551615 → Names p t val = λ ne. ⊎_elim (λ e. absurd (ne e)) (λ y. knows x val frame y.0 y.1) how in
+      stores_word x val frame record {
+        names = λ z l. let at = get_or-set_other s.words x (name_index p z) val 0 (λ e. omega arith) in subst (Names p t) (sym at) (named_on x val frame (get_or s.words (name_index p z) 0) (law.named.names z l));
+        opens = λ z l. dite (ℕ_discrete z n)
+            (λ e. let at : get_or (set s.words x val) (open_index p z) 0 ≡ val = ap (λ (y : ℕ). get_or (set s.words x val) (open_index p y) 0) e ∙ get_or-set_same s.words x val 0 (omega arith) in
+            subst (λ (y : ℕ). y ≢ 18446744073709551615 → Names p t y) (sym at) this)
+            (λ ne. let at = get_or-set_other s.words x (open_index p z) val 0 (λ e. ne (omega arith)) in
+            subst (λ (y : ℕ). y ≢ 18446744073709551615 → Names p t y) (sym at) (λ nf. named_on x val frame (get_or s.words (open_index p z) 0) (law.named.opens z l nf)));
+        names_by = λ z l. said x val (name_index p z) (λ e. omega arith) (get_or-set_other s.words x (name_index p z) val 0 (λ e. omega arith)) (law.named.names_by z l);
+        opens_by = λ z l. dite (ℕ_discrete z n) (λ e. subst (λ (y : ℕ). Stores t (open_index p y)) (sym e) (says_this x val (omega arith)))
+            (λ ne. said x val (open_index p z) (λ e. ne (omega arith)) (get_or-set_other s.words x (open_index p z) val 0 (λ e. ne (omega arith))) (law.named.opens_by z l));
       }

@@ -1,8 +1,9 @@
 -- Steps of an other end on worked values, and steps that there aren't.
-use Rattle.std.proofs.Common.{◌≡◌, inl, inr, true, false, [], ◌∷◌, length, Some, None, Ok, Err, refl, ap, arith}
+use Rattle.std.proofs.Common.{◌≡◌, ◌≢◌, inl, inr, Bool, true, false, [], ◌∷◌, length, Some, None, Ok, Err, refl, ap, arith}
+use Rattle.sock_io.specs.declared.ending.Ending.{Ending}
 use Rattle.sock_io.specs.declared.ending.Ending.TheVariants as ending
 use Rattle.sock_io.specs.declared.link.Served.TheVariants as served
-use Rattle.sock_io.specs.Peer.{PeerState, HasMoved, ServeStep}
+use Rattle.sock_io.specs.Peer.{PeerState, Moved, HasMoved, ServeStep}
 
 abbrev fresh : PeerState
 fresh = record { present = true; serve = true; end = None; way_in = []; way_out = []; took = 0; took_bytes = Some []; saw_finish = false; gave = 0; gave_bytes = None; ending = ending.Open; starved = false }
@@ -19,23 +20,27 @@ closed = record { present = true; serve = true; end = None; way_in = []; way_out
 abbrev ended : PeerState
 ended = record { present = true; serve = true; end = None; way_in = []; way_out = []; took = 3; took_bytes = Some (1 ∷ 2 ∷ 3 ∷ []); saw_finish = false; gave = 2; gave_bytes = None; ending = ending.Ended; starved = true }
 
+-- three bytes come in and two go out, and behind them stands this
+came : (last : Ending) (starved : Bool) → last ≢ ending.Closed → Moved fresh (record answered { ending = last; starved = starved })
+came last starved unclosed = (
+  1 ∷ 2 ∷ 3 ∷ [],
+  7 ∷ 8 ∷ [],
+  record {
+    present = refl;
+    asked = (refl, refl);
+    ways = (refl, refl);
+    took = record { count = refl; known = refl };
+    gave = record { count = refl; known = refl };
+    finished = λ e. cc;
+    ended = λ e. absurd (e refl);
+    closed = λ e. absurd (unclosed e);
+    absent = λ e. cc;
+  },
+)
+
 moves_bytes : ServeStep fresh (Ok served.Moved) answered
 moves_bytes = (
-  (
-    1 ∷ 2 ∷ 3 ∷ [],
-    7 ∷ 8 ∷ [],
-    record {
-      present = refl;
-      asked = (refl, refl);
-      ways = (refl, refl);
-      took = record { count = refl; known = refl };
-      gave = record { count = refl; known = refl };
-      finished = λ e. cc;
-      ended = λ e. absurd (e refl);
-      closed = λ e. cc;
-      absent = λ e. cc;
-    },
-  ),
+  came ending.Open false (λ e. cc),
   inl (omega arith),
   refl,
   refl,
@@ -67,21 +72,7 @@ closes = (
 
 gives_its_end : ServeStep fresh (Err record {}) ended
 gives_its_end = (
-  (
-    1 ∷ 2 ∷ 3 ∷ [],
-    7 ∷ 8 ∷ [],
-    record {
-      present = refl;
-      asked = (refl, refl);
-      ways = (refl, refl);
-      took = record { count = refl; known = refl };
-      gave = record { count = refl; known = refl };
-      finished = λ e. cc;
-      ended = λ e. absurd (e refl);
-      closed = λ e. cc;
-      absent = λ e. cc;
-    },
-  ),
+  came ending.Ended true (λ e. cc),
   refl,
   refl,
   refl,

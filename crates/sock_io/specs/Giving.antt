@@ -3,7 +3,6 @@ use Rattle.std.specs.Prelude.{ℕ, ◌&&◌, nat_le, Bool, true, false, if◌the
 use Rattle.brpc_model.specs.Link.{LinkEnd}
 use Rattle.sock_io.specs.declared.ending.Ending.TheVariants as ending
 use Rattle.sock_io.specs.declared.link.LinkSpec.{LinkSpec}
-use Rattle.sock_io.specs.declared.shape.Shape.{Shape}
 use Rattle.sock_io.specs.Link.{InState, ConnectionEnd}
 use Rattle.sock_io.specs.Memory.{MemInState, closing, empty_in, mem_in}
 
@@ -45,7 +44,3 @@ pub record GiveLinkerState : Type 0 where
   pub done : List ConnectionEnd
   pub after : ℕ
   pub bytes : List ℕ
-
--- the shape that is asked for
-abbrev pub shape_asked : LinkSpec → Shape
-shape_asked spec = record { piece = spec.piece; again = spec.again; fail = spec.fail }

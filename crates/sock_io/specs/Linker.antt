@@ -6,21 +6,35 @@ use Rattle.sock_io.specs.declared.shape.Shape.{Shape}
 use Rattle.sock_io.specs.Link.{OutState, ConnectionEnd}
 use Rattle.sock_io.specs.Shape.{ShapedState}
 
--- what was asked of each link that was opened, how many connections were accepted, those given back, the numbers of the `open` calls that fail, the
--- put from which on the links fail where it isn't asked for, how many `open` calls were made, and the count of faults
-pub record SinkLinkerState : Type 0 where
+-- the links of a linker in memory: what was asked of each that was opened, how many connections were accepted, those given back, the numbers of the
+-- `open` calls that fail, how many `open` calls were made, and the count of faults
+pub record MemLinksState : Type 0 where
   pub asked : List LinkSpec
   pub accepted : ℕ
   pub back : List LinkEnd
   pub done : List ConnectionEnd
   pub fail_opens : List ℕ
-  pub fail_put : ℕ
   pub calls : ℕ
   pub faults : ℕ
+
+-- the links of a linker that keeps none: what was asked of each, and the links and connections given back
+pub record NotedLinksState : Type 0 where
+  pub asked : List LinkSpec
+  pub back : List LinkEnd
+  pub done : List ConnectionEnd
+
+-- a linker whose links give nothing: its links, and the put from which on they fail where it isn't asked for
+pub record SinkLinkerState : Type 0 where
+  pub links : MemLinksState
+  pub fail_put : ℕ
 
 -- a writing half in memory that was not used yet
 abbrev pub new_mem_out : ℕ → OutState
 new_mem_out link = record { link = link; took = None; put_bytes = None; way = []; faults = 0; finished = false; clear = true; always_ready = true; again = false; steady = true; whole = true; answers = None }
+
+-- the shape that is asked for
+abbrev pub shape_asked : LinkSpec → Shape
+shape_asked spec = record { piece = spec.piece; again = spec.again; fail = spec.fail }
 
 -- the shape that is asked for: the linker's own failing put stands in where none is
 abbrev pub shape_of : LinkSpec → (fail_put : ℕ) → Shape

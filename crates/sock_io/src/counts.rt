@@ -2,7 +2,7 @@ ghost use Rattle.std.specs.Prelude.{◌≡◌, ◌↔◌, ℕ, ◌≤◌, Contai
 ghost use Rattle.sock_io.specs.Causes.{Rose, next_number};
 
 /// One more fault, or as many as the count holds.
-pub(crate) fn risen(count: u64) -> u64
+pub fn risen(count: u64) -> u64
     ensures later { count ≤ result }
     ensures rose { Rose count result }
 {
@@ -10,7 +10,7 @@ pub(crate) fn risen(count: u64) -> u64
 }
 
 /// The number of the next call, from 1 on.
-pub(crate) fn next_call(calls: u64) -> u64
+pub fn next_call(calls: u64) -> u64
     ensures { result ≡ next_number calls }
 {
     calls.saturating_add(1)
@@ -24,7 +24,7 @@ pub(crate) fn is_listed(numbers: &[u64], number: u64) -> bool
 }
 
 /// The same among numbers of 32 bits.
-pub(crate) fn is_counted(numbers: &[u32], number: u64) -> bool
+pub fn is_counted(numbers: &[u32], number: u64) -> bool
     ensures { IsTrue result ↔ Contains numbers.now number }
 {
     numbers.iter().any(|n| u64::from(*n) == number)

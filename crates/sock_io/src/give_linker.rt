@@ -1,12 +1,13 @@
 ghost use Rattle.std.specs.Prelude.{false, ◌≡◌, ◌+◌, ◌<◌, ◌∷◌, ◌++◌, true, [], length, IfOk, IsErrOf, OnErr, OnOk};
-ghost use Rattle.sock_io.specs.Giving.{before_bytes, bytes_and_end, give_in, settled_in, shape_asked};
+ghost use Rattle.sock_io.specs.Giving.{before_bytes, bytes_and_end, give_in, settled_in};
 ghost use Rattle.sock_io.specs.Link.{SettleStep, connection_of, end_of};
-ghost use Rattle.sock_io.specs.Linker.{new_half, plain_shape};
+ghost use Rattle.sock_io.specs.Linker.{new_half, plain_shape, shape_asked};
 ghost use Rattle.sock_io.specs.Shape.{shaped_out};
 
 use crate::give_in::GiveIn;
 use crate::link::{Ends, LinkSpec, Linker, OpenFault, Out};
 use crate::mem_link::{MemOut, NoPeer};
+use crate::mem_links::MemLinks;
 use crate::shape::Shape;
 use crate::shaped::Shaped;
 use crate::stream::NoMemory;
@@ -14,13 +15,6 @@ use std::alloc::Global;
 use std::marker::Model;
 
 type Link = Ends<Shaped<MemOut>, GiveIn, NoPeer>;
-
-/// The halves of a connection, as it was given back.
-#[derive(Drop)]
-struct Connection {
-    out: Shaped<MemOut>,
-    inn: GiveIn,
-}
 
 /// Links in memory that take everything and give stated bytes, whatever they took: for tests of what becomes of bytes that
 /// nobody would send. A link gives its bytes by the first `settle` behind which it took `after` bytes or more, and closes
@@ -33,23 +27,18 @@ pub struct GiveLinker {
     alloc: Global,
     after: u32,
     bytes: Vec<u8>,
-    asked: Vec<LinkSpec>,
-    accepted: u16,
-    links: Vec<Link>,
-    connections: Vec<Connection>,
+    links: MemLinks<GiveIn>,
 }
 
 impl Model for GiveLinker {
-    ghost use Rattle.std.specs.Prelude.{◌≤◌, map, vec_len, vec_capacity};
-    ghost use Rattle.sock_io.specs.Giving.{GiveLinkerState, give_in};
-    ghost use Rattle.sock_io.specs.Link.{connection_of, end_of};
-    ghost use Rattle.sock_io.specs.Shape.{shaped_out};
+    ghost use Rattle.std.specs.Prelude.{◌≡◌, []};
+    ghost use Rattle.sock_io.specs.Giving.{GiveLinkerState};
 
     ghost Value = { GiveLinkerState };
 
-    ghost view = { λ l. record { asked = l.asked.items; accepted = l.accepted; back = map (λ e. end_of (shaped_out e.out) (give_in e.inn)) l.links.items; done = map (λ c. connection_of (shaped_out c.out) (give_in c.inn)) l.connections.items; after = l.after; bytes = l.bytes.items } };
+    ghost view = { λ l. record { asked = l.links.asked; accepted = l.links.accepted; back = l.links.back; done = l.links.done; after = l.after; bytes = l.bytes.items } };
 
-    ghost invariant = { λ l. (vec_len l.asked ≤ vec_capacity l.links) × (vec_len l.links ≤ vec_len l.asked) × (l.accepted ≤ vec_capacity l.connections) × (vec_len l.connections ≤ l.accepted) };
+    ghost invariant = { λ l. l.links.fail_opens ≡ [] };
 }
 
 impl GiveLinker {
@@ -61,10 +50,7 @@ impl GiveLinker {
             alloc,
             after,
             bytes,
-            asked: Vec::new(alloc),
-            accepted: 0,
-            links: Vec::new(alloc),
-            connections: Vec::new(alloc),
+            links: MemLinks::new(alloc, Vec::new(alloc)),
         }
     }
 }
@@ -99,27 +85,12 @@ impl Linker for GiveLinker {
         ensures refused { OnErr result (self.new ≡ self.old) }
         ensures never { ¬ IsErrOf result OpenFault.Failed }
     {
-        let opened = self.asked.len();
-        let room = opened + 1 - self.links.len();
-        if self.asked.reserve(1).is_err() || self.links.reserve(room).is_err() {
-            return Err(OpenFault::NoMemory);
-        }
-        let shape = Shape {
-            piece: spec.piece,
-            again: spec.again,
-            fail: spec.fail,
-        };
-        match Shaped::new(self.alloc, MemOut::new(opened as u16), shape) {
-            Ok(out) => {
-                self.asked.push_reserved(*spec);
-                Ok(Ends {
-                    out,
-                    inn: GiveIn::new(self.alloc),
-                    peer: NoPeer,
-                })
-            }
-            Err(_) => Err(OpenFault::NoMemory),
-        }
+        let out = self.links.open(spec, Shape::asked(spec))?;
+        Ok(Ends {
+            out,
+            inn: GiveIn::new(self.alloc),
+            peer: NoPeer,
+        })
     }
 
     fn settle(&mut self, ends: &mut Link) -> Result<(), NoMemory>
@@ -147,44 +118,24 @@ impl Linker for GiveLinker {
         ensures refused { OnErr result (self.new ≡ self.old) }
         ensures never { ¬ IsErrOf result OpenFault.Failed }
     {
-        let room = self.accepted as usize + 1 - self.connections.len();
-        if self.connections.reserve(room).is_err() {
-            return Err(OpenFault::NoMemory);
-        }
-        let shape = Shape {
-            piece: u32::MAX,
-            again: 0,
-            fail: 0,
-        };
         let Ok(inn) = GiveIn::ended(self.alloc, &self.bytes) else {
             return Err(OpenFault::NoMemory);
         };
-        match Shaped::new(self.alloc, MemOut::new(0), shape) {
-            Ok(out) => {
-                self.accepted += 1;
-                Ok((out, inn))
-            }
-            Err(_) => Err(OpenFault::NoMemory),
-        }
+        let out = self.links.accept()?;
+        Ok((out, inn))
     }
 
     fn done(&mut self, out: Shaped<MemOut>, inn: GiveIn)
         requires { length self.old.done < self.old.accepted }
         ensures { self.new ≡ record self.old { done = self.old.done ++ connection_of (shaped_out out) (give_in inn) ∷ [] } }
     {
-        match self.connections.push(Connection { out, inn }) {
-            Ok(()) => {}
-            Err(_) => unreachable!(),
-        }
+        self.links.done(out, inn);
     }
 
     fn back(&mut self, _link: u16, ends: Link)
         requires { length self.old.back < length self.old.asked }
         ensures { self.new ≡ record self.old { back = self.old.back ++ end_of (shaped_out ends.out) (give_in ends.inn) ∷ [] } }
     {
-        match self.links.push(ends) {
-            Ok(()) => {}
-            Err(_) => unreachable!(),
-        }
+        self.links.back(ends);
     }
 }

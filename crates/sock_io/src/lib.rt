@@ -8,8 +8,10 @@ mod give_in;
 mod give_linker;
 mod link;
 mod mem_link;
+mod mem_links;
 mod mem_sink;
 mod mem_source;
+mod noted_links;
 mod shape;
 mod shaped;
 mod sink_linker;
@@ -18,6 +20,7 @@ mod stream;
 mod writing;
 
 pub use answered::Answered;
+pub use counts::{is_counted, next_call, risen};
 pub use ending::Ending;
 pub use give_in::GiveIn;
 pub use give_linker::GiveLinker;
@@ -26,8 +29,10 @@ pub use link::{
     Take,
 };
 pub use mem_link::{MemIn, MemOut, NoPeer};
+pub use mem_links::MemLinks;
 pub use mem_sink::MemSink;
 pub use mem_source::MemSource;
+pub use noted_links::{NotedLinks, noted};
 pub use shape::Shape;
 pub use shaped::Shaped;
 pub use sink_linker::SinkLinker;

@@ -36,18 +36,16 @@ impl Out for MemOut {
 
     fn put(&mut self, piece: &[u8]) -> Put {
         if self.finished {
-            Put::Failed
-        } else {
-            Put::Took(piece.len())
+            return Put::Failed;
         }
+        Put::Took(piece.len())
     }
 
     fn ready(&mut self) -> Ready {
         if self.finished {
-            Ready::Failed
-        } else {
-            Ready::Now
+            return Ready::Failed;
         }
+        Ready::Now
     }
 
     fn finish(&mut self) {

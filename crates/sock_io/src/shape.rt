@@ -1,5 +1,8 @@
 ghost use Rattle.std.specs.Prelude.{◌≡◌, ℕ};
+ghost use Rattle.sock_io.specs.Linker.{plain_shape, shape_asked};
 ghost use Rattle.sock_io.specs.Shape.{fails_at, pauses_at};
+
+use crate::link::LinkSpec;
 
 /// How the puts of a link behave. Puts are numbered from 1.
 #[derive(Clone, Copy, Debug, PartialEq, Eq)]
@@ -10,6 +13,30 @@ pub struct Shape {
     pub again: u32,
     /// The put from which on all fail. 0 where it isn't asked for.
     pub fail: u32,
+}
+
+impl Shape {
+    /// The shape that is asked for.
+    pub fn asked(spec: &LinkSpec) -> Self
+        ensures { result ≡ shape_asked spec.now }
+    {
+        Shape {
+            piece: spec.piece,
+            again: spec.again,
+            fail: spec.fail,
+        }
+    }
+
+    /// No shape at all: a piece is never longer.
+    pub fn plain() -> Self
+        ensures { result ≡ plain_shape }
+    {
+        Shape {
+            piece: u32::MAX,
+            again: 0,
+            fail: 0,
+        }
+    }
 }
 
 /// Whether the put of this number fails.

@@ -29,8 +29,13 @@ impl Message {
         ensures { IfOk result (λ m. m ≡ bytes.now) }
     {
         let mut buf = IoBuf::new(alloc);
-        buf.append_bytes(pool, bytes)?;
-        Ok(Message { buf })
+        match buf.append_bytes(pool, bytes) {
+            Ok(()) => Ok(Message { buf }),
+            Err(fault) => {
+                drop(buf);
+                Err(fault)
+            }
+        }
     }
 
     /// How many bytes it has.

@@ -1,5 +1,6 @@
 -- The words and homes of a new table.
 use Rattle.std.proofs.Common.{◌≡◌, ℕ, zero, suc, ◌+◌, ◌*◌, ◌<◌, ◌≤◌, false, List, [], ◌∷◌, ◌++◌, length, length-append, length-set, get_or, map, set, get_or-set_other, get_or-set_same, replicate, refl, sym, ap, ◌∙◌, subst, arith}
+use Rattle.std.proofs.lemmas.List.{length-replicate}
 use mathlib.Core.Logic.{dite}
 use mathlib.Core.Option.{some, some-injective, some-ne-none}
 use native.Mathlib.Decide.{ℕ_discrete}
@@ -24,23 +25,13 @@ pub record Begun (p : Plan) (n : ℕ) (ws : List ℕ) : Type 0 where
   pub refs : (i : ℕ) → i < n → get_or ws (ref_index i) 0 ≡ p.first * 4294967296
   pub zeros : (x : ℕ) → ((i : ℕ) → i < n → ¬ (x ≡ ref_index i)) → get_or ws x 0 ≡ 0
 
-zeros_of : ℕ → List ℕ
-zeros_of n = replicate n 0
-
-zero_at : (n x : ℕ) → get_or (zeros_of n) x 0 ≡ 0
-unfolding zeros_of
+zero_at : (n x : ℕ) → get_or {A = ℕ} (replicate n 0) x 0 ≡ 0
 zero_at zero x = refl
 zero_at (suc n) zero = refl
 zero_at (suc n) (suc x) = zero_at n x
 
-length_zeros : (n : ℕ) → length (zeros_of n) ≡ n
-unfolding zeros_of
-length_zeros zero = refl
-length_zeros (suc n) = ap suc (length_zeros n)
-
 pub none_begun : (p : Plan) (n : ℕ) (ws : List ℕ) → ws ≡ replicate n 0 → n ≡ all_words p → Begun p 0 ws
-unfolding zeros_of
-none_begun p n ws is e = record { sized = ap length is ∙ (length_zeros n ∙ e); refs = λ i il. absurd (omega arith); zeros = λ x h. ap (λ l. get_or l x 0) is ∙ zero_at n x }
+none_begun p n ws is e = record { sized = ap length is ∙ (length-replicate n 0 ∙ e); refs = λ i il. absurd (omega arith); zeros = λ x h. ap (λ l. get_or l x 0) is ∙ zero_at n x }
 
 pub one_begun : (p : Plan) (i word : ℕ) (ws vs : List ℕ) → vs ≡ set ws (ref_index i) word → word ≡ p.first * 4294967296 → i < p.slots → Begun p i ws → Begun p (i + 1) vs
 one_begun p i word ws vs is w il b = let size = b.sized in record {

@@ -9,15 +9,8 @@ use Rattle.sock_model.specs.Weights.{total}
 use Rattle.sock_model.specs.Entries.{on}
 use Rattle.sock_model.specs.Authors.{pick, Authored}
 use Rattle.chain_core.specs.slot_steps.proofs.Sums.{term_le, total_parts}
-use Rattle.chain_core.specs.sock_steps.proofs.Positions.{spread, spread_parts}
+use Rattle.chain_core.specs.sock_steps.proofs.Positions.{spread, spread_parts, spread_has}
 use Rattle.sock_rule.proofs.Closes.{none_of}
-
--- a name that one of the views keeps counts
-spread_has : (names : ℕ → List ℕ) (n : ℕ) (f : ℕ → ℕ) (id i a : ℕ) → id < n → get_elem? (names id) i ≡ some a → f a ≤ spread names n f
-unfolding spread
-spread_has names zero f id i a less e = absurd (omega arith)
-spread_has names (suc n) f zero i a less e = omega (arith, term_le f (names zero) i a e)
-spread_has names (suc n) f (suc id) i a less e = omega (arith, spread_has (λ j. names (suc j)) n f id i a (omega arith) e)
 
 module _ (h : Entry → ℕ) where
   -- what the entry x of author b adds to the weight of author a

@@ -39,11 +39,11 @@ run_sound p go c vs (m ∷ moments) sound answered fitting = run_sound p go (tic
 -- ## Outcomes are said at once
 
 pub begins : (w : List Retry) (program : Program) → is_begun (next_step (resolved w program)) ≡ true
+begins [] (Retries requests after) = begins [] after
+begins (r ∷ w) (Retries requests after) = refl
 begins w (Say _ _ after) = begins w after
 begins w (Sent _ after) = begins w after
 begins w (Keep r after) = begins (w ++ r ∷ []) after
-begins [] (Retries requests after) = begins [] after
-begins (r ∷ w) (Retries requests after) = refl
 begins w _ = refl
 
 -- a seat that has made a step, or that has a new program, is ahead as the others are

@@ -17,7 +17,7 @@ use Rattle.seat_programs.specs.corr_core.specs.Law.{LAST}
 use Rattle.seat_programs.specs.id_rule.specs.Lawful.{id_index}
 use Rattle.seat_programs.specs.sock_message.specs.Asked.{Asked}
 use Rattle.seat_programs.specs.Calls.{LoadOpen}
-use Rattle.seat_programs.specs.Asides.{Step, Found, PutCall, LoadIdWord, LockId, PostId, UnlockId, EndId, FreeId, TakeBytes, Taking, Bytes, Nothing, NoMore, AtEnd, Closed, Broken, id_slot, id_first}
+use Rattle.seat_programs.specs.Asides.{Step, Found, PutCall, LoadIdWord, LockId, PostId, UnlockId, EndId, FreeId, TakeBytes, Taking, Bytes, Nothing, NoMore, id_slot, id_first}
 use Rattle.seat_programs.specs.Heads.{Head, Exit, Sought, Reading, Posts, Unlocks, Decides, Locks, Joins, Opens, Reads, Discards, Posting, WasQueued, HasLocked, Unlocking, Deciding, HasEnded, Locking, Has, Ended}
 use Rattle.seat_programs.specs.Beside.{found_in, at_last, taking_in}
 use Rattle.seat_programs.specs.Posts.{packed, judged, popped, locking, advance_of, ends_call, end_id, unlocked, is_sought, is_first}
@@ -44,31 +44,17 @@ use Rattle.sock_runs.proofs.AsideMoves.{IsLate, any_moves}
 
 -- what a take finds, where it doesn't wait
 moved : (ending : Bool) (t : Taking) → is_nothing ending (OfTake t) ≡ false → at_last ending t ≢ Nothing
-moved true Nothing off e = cc
 moved false Nothing off e = absurd (true≢false off)
-moved true (Bytes bytes) off e = cc
-moved false (Bytes bytes) off e = cc
-moved true NoMore off e = cc
-moved false NoMore off e = cc
-moved true AtEnd off e = cc
-moved false AtEnd off e = cc
-moved true Closed off e = cc
-moved false Closed off e = cc
-moved true Broken off e = cc
-moved false Broken off e = cc
+moved true Nothing off e = cc
+moved true _ off e = cc
+moved false _ off e = cc
 
 fits_last : (ending : Bool) (room : ℕ) (t : Taking) → FitsTake room t → FitsRoom room (at_last ending t)
-fits_last true room Nothing fits = tt
-fits_last false room Nothing fits = tt
+fits_last ending room NoMore fits = absurd fits
 fits_last true room (Bytes bytes) fits = fits
 fits_last false room (Bytes bytes) fits = fits
-fits_last ending room NoMore fits = absurd fits
-fits_last true room AtEnd fits = tt
-fits_last false room AtEnd fits = tt
-fits_last true room Closed fits = tt
-fits_last false room Closed fits = tt
-fits_last true room Broken fits = tt
-fits_last false room Broken fits = tt
+fits_last true room _ fits = tt
+fits_last false room _ fits = tt
 
 -- ## A seat's tick
 

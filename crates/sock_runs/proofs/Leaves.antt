@@ -20,23 +20,27 @@ use Rattle.sock_steps.proofs.Quiet.{either_way}
 use Rattle.seat_programs.specs.Calls.{Call, LookWord, FindLink, LoadCode, ClaimRequest, PutMessage, Unconnect, SwapHead, Connect, EmptyHead, ReadNext, ReverseNext, FreeRequest, StorePlace, DropPlace}
 use Rattle.sock_runs.specs.Rows.{row, by_claim, by_right, new_claim, filled_claim, ready_claim, exchanged, looked_clean, emptied, settled, read_next, turned_next, freed_next, placed_next, dropped_next}
 
+-- whether a step is one on whose word the right of whoever writes goes on
+abbrev pub moves_right : Call → Bool
+moves_right (LookWord id) = true
+moves_right (StorePlace l k n) = true
+moves_right (DropPlace l k n) = true
+moves_right (SwapHead i own) = true
+moves_right (ReadNext q) = true
+moves_right (EmptyHead i last) = true
+moves_right (ReverseNext q value) = true
+moves_right (FreeRequest q g) = true
+moves_right other = false
+
 -- whether a step is one of whoever sends or writes
 abbrev pub is_sending : Call → Bool
-is_sending (LookWord id) = true
+is_sending (Unconnect q) = true
+is_sending (PutMessage q heading bytes) = true
+is_sending (ClaimRequest id q) = true
+is_sending (Connect q before) = true
 is_sending (FindLink i h) = true
 is_sending (LoadCode i h) = true
-is_sending (ClaimRequest id q) = true
-is_sending (PutMessage q heading bytes) = true
-is_sending (Unconnect q) = true
-is_sending (SwapHead i own) = true
-is_sending (Connect q before) = true
-is_sending (EmptyHead i last) = true
-is_sending (ReadNext q) = true
-is_sending (ReverseNext q value) = true
-is_sending (FreeRequest q g) = true
-is_sending (StorePlace l k n) = true
-is_sending (DropPlace l k n) = true
-is_sending other = false
+is_sending other = moves_right other
 
 pub claim_way : (P : View → Type 0) (cs : List Claim) (then_ : Claim → View) (v : View) → P v → ((c : Claim) → P (then_ c)) → P (by_claim cs then_ v)
 claim_way P [] then_ v a b = a

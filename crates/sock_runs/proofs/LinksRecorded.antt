@@ -85,17 +85,17 @@ pub record Linked (p : Plan) (own : ℕ → ℕ → Type 0) (c : Core) (vs : Lis
 module _ (p : Plan) (own : ℕ → ℕ → Type 0) (Q : ℕ → ℕ → Type 0) (c : Core) (vs : List View) (i : ℕ) (sized : length c.words ≡ all_words p) (r : Recorded p Q c vs) (l : Linked p own c vs) (seat : SeatState) (v : View)
     (at_seat : get_elem? c.seats i ≡ some seat) (at_view : get_elem? vs i ≡ some v) where
   module _ (call : Call) (next : ℕ → Program) (is : first_step seat.program ≡ Do call next) (may : May p v call) where
-    abbrev found : ℕ
-    found = found_at c.words (word_of p call)
-
-    abbrev w : View
-    w = row p call (found_at c.words (word_of p call)) (hand_at p c.words c.homes call) v
+    abbrev seat' : SeatState
+    seat' = record { program = next_step (resolved (waiting_at c.calls.waiting i) (next (found_at c.words (word_of p call)))); hand = hand_after p call c.homes seat.hand }
 
     abbrev after : Core
     after = stepped p i seat call next c
 
-    abbrev seat' : SeatState
-    seat' = record { program = next_step (resolved (waiting_at c.calls.waiting i) (next (found_at c.words (word_of p call)))); hand = hand_after p call c.homes seat.hand }
+    abbrev w : View
+    w = row p call (found_at c.words (word_of p call)) (hand_at p c.words c.homes call) v
+
+    abbrev found : ℕ
+    found = found_at c.words (word_of p call)
 
     mine : Gives own (Do call next)
     mine = subst (Gives own) is (through_first (Gives own) (gives_passes own) (gives_opens own) (gives_follow own) seat.program (l.programs i seat at_seat))

@@ -44,15 +44,15 @@ pub record IsOfBirth (f : Mark → ℕ) : Type 0 where
   pub hold : (k : ℕ) → f (Hold k) ≡ 0
   pub probe : f Probe ≡ 0
   pub saw : (w : ℕ) → f (Saw w) ≡ 0
+  pub stored : (h c : ℕ) → f (Stored h c) ≡ 0
   pub zero : (w : ℕ) → f (Zero w) ≡ 0
   pub coding : (k : ℕ) → f (Coding k) ≡ 0
+  pub told : (h c : ℕ) → f (Told h c) ≡ 0
   pub failer : (k : ℕ) → f (Failer k) ≡ 0
   pub recycling : (w : ℕ) → f (Recycling w) ≡ 0
+  pub met : (h k : ℕ) → f (Met h k) ≡ 0
   pub freer : (w : ℕ) → f (Freer w) ≡ 0
   pub known : (k : ℕ) → f (Known k) ≡ 0
-  pub met : (h k : ℕ) → f (Met h k) ≡ 0
-  pub stored : (h c : ℕ) → f (Stored h c) ≡ 0
-  pub told : (h c : ℕ) → f (Told h c) ≡ 0
 
 module _ (p : Plan) (v : View) (found : ℕ) (hand : Hand) where
   module _ (f : Mark → ℕ) (none_ : IsKept f) where

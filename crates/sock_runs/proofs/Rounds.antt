@@ -64,29 +64,22 @@ without_first i g m es some_ = ap (λ b. cond b (cond (eqb (g m) 0) (at i m ∷ 
 abbrev pub OfNoNote : (Mark → ℕ) → Type 0
 OfNoNote f = (m : Mark) → IsNote m → f m ≡ 0
 
+no_note : (f : Mark → ℕ) → ((w : ℕ) → f (Saw w) ≡ 0) → ((h : ℕ) → f (Failer h) ≡ 0) → ((h c : ℕ) → f (Stored h c) ≡ 0) → ((h c : ℕ) → f (Told h c) ≡ 0) → ((h k : ℕ) → f (Met h k) ≡ 0) → OfNoNote f
+no_note f saw failer stored told met (Saw w) n = saw w
+no_note f saw failer stored told met (Failer h) n = failer h
+no_note f saw failer stored told met (Stored h c) n = stored h c
+no_note f saw failer stored told met (Told h c) n = told h c
+no_note f saw failer stored told met (Met h k) n = met h k
+no_note f saw failer stored told met _ n = absurd n
+
 no_ref : OfNoNote is_ref
-no_ref (Saw w) n = refl
-no_ref (Failer h) n = refl
-no_ref (Stored h c) n = refl
-no_ref (Told h c) n = refl
-no_ref (Met h k) n = refl
-no_ref _ n = absurd n
+no_ref = no_note is_ref (λ w. refl) (λ h. refl) (λ h c. refl) (λ h c. refl) (λ h k. refl)
 
 no_probe : OfNoNote is_probe
-no_probe (Saw w) n = refl
-no_probe (Failer h) n = refl
-no_probe (Stored h c) n = refl
-no_probe (Told h c) n = refl
-no_probe (Met h k) n = refl
-no_probe _ n = absurd n
+no_probe = no_note is_probe (λ w. refl) (λ h. refl) (λ h c. refl) (λ h c. refl) (λ h k. refl)
 
 no_coding : OfNoNote is_any_coding
-no_coding (Saw w) n = refl
-no_coding (Failer h) n = refl
-no_coding (Stored h c) n = refl
-no_coding (Told h c) n = refl
-no_coding (Met h k) n = refl
-no_coding _ n = absurd n
+no_coding = no_note is_any_coding (λ w. refl) (λ h. refl) (λ h c. refl) (λ h c. refl) (λ h k. refl)
 
 about_append : (i : ℕ) (f : Mark → ℕ) (es fs : List SlotMark) → total f (about i (es ++ fs)) ≡ total f (about i es) + total f (about i fs)
 about_append i f [] fs = omega arith
@@ -135,20 +128,7 @@ module _ {p : Plan} {v : View} where
   keeps a = record { one = a.one; claims = a.claims; loose = a.loose; hands = a.hands; link = a.link; holds = a.holds; room = a.room; no_probe = a.no_probe; no_coding = a.no_coding }
 
   pub holder : (h : Holder) {r : Right} → Keeps p v h.id h.link r → r.last ≡ h.last → r.places ≡ h.places → r.at_home ≡ false → IsHolder p v h r
-  holder h a last places away = record {
-    one = a.one;
-    claims = a.claims;
-    loose = a.loose;
-    hands = a.hands;
-    link = a.link;
-    last = last;
-    places = places;
-    away = away;
-    holds = a.holds;
-    room = a.room;
-    no_probe = a.no_probe;
-    no_coding = a.no_coding;
-  }
+  holder h a last places away = record { one = a.one; claims = a.claims; loose = a.loose; hands = a.hands; link = a.link; last = last; places = places; away = away; holds = a.holds; room = a.room; no_probe = a.no_probe; no_coding = a.no_coding }
 
   -- with notes more it still does
   pub noted : (new : List SlotMark) {id k : ℕ} {r : Right} → AreNotes new → Keeps p v id k r → Keeps p (with_notes new v) id k r

@@ -80,20 +80,7 @@ module _ {S : Type 0} (rest : Type 0) (calls : S → Call → (ℕ → Program) 
   }
 
   pub at_calls_follow : ((head : Head) (next : Exit head → Program) → A (Round head next) → (exit : Exit head) → A (next exit)) → Follows A
-  at_calls_follow left = record {
-    said = λ o outcome next r. r;
-    sent = λ o next r. r;
-    message = λ q next r. r;
-    home = λ k next r. r;
-    puts_home = λ k n after r. r;
-    put = λ k asked bytes next r. r;
-    ask = λ k next r. r;
-    write = λ w after r. r;
-    aside = λ step next r. r;
-    round = left;
-    keep = λ r next x. x;
-    retries = λ requests after r. r;
-  }
+  at_calls_follow left = record { said = λ o outcome next r. r; sent = λ o next r. r; message = λ q next r. r; home = λ k next r. r; puts_home = λ k n after r. r; put = λ k asked bytes next r. r; ask = λ k next r. r; write = λ w after r. r; aside = λ step next r. r; round = left; keep = λ r next x. x; retries = λ requests after r. r }
 
 -- so is what a program stores, of whatever operations
 pub records_passes : (left : ℕ → Bool) → Passes (Records left)

@@ -35,7 +35,7 @@ use Rattle.seat_programs.specs.id_rule.specs.Lawful.{id_index}
 use Rattle.sock_model.specs.Layout.{open_index}
 use Rattle.seat_programs.specs.Asides.{Taking, Nothing, id_slot}
 use Rattle.seat_programs.specs.Beside.{at_last, more_given}
-use Rattle.seat_programs.specs.Heads.{Head, Exit, Retry, Sought, Locks, Joins, Opens, Reads, Discards, Locking, NotThere}
+use Rattle.seat_programs.specs.Heads.{Head, Exit, Retry, Sought, Locks, Joins, Opens, Reads, Discards, Locking, NotThere, Posts, Unlocks, Decides}
 use Rattle.seat_programs.specs.Posts.{is_sought, locking}
 use Rattle.seat_programs.specs.Readers.{took, discarded}
 use Rattle.seat_programs.specs.Programs.{Program, Do, Say, Sent, TakeMessage, Write, Round, Keep, Retries}
@@ -156,12 +156,10 @@ module _ (p : Plan) (c : Core) (vs : List View) (sound : Sound p c vs) (ahead : 
 
   -- who waits has none of its entries loose
   held_aside : (v : View) (head : Head) (next : Exit head → Program) (answer : Answer) → GoesOn p v (Round head next) → waits_in p c.words c.calls answer head ≡ true → v.loose ≡ []
-  held_aside v (Locks j sought w) next answer goes is = goes.0.1
-  held_aside v (Joins id) next answer goes is = goes.0.1
-  held_aside v (Opens o) next answer goes is = goes.0.1
-  held_aside v (Reads r) next answer goes is = goes.0.1
-  held_aside v (Discards k total) next answer goes is = goes.0.1
-  held_aside v _ next answer goes is = absurd (true≢false (sym is))
+  held_aside v (Posts id e w) next answer goes is = absurd (true≢false (sym is))
+  held_aside v (Unlocks i w advance) next answer goes is = absurd (true≢false (sym is))
+  held_aside v (Decides id asked w e) next answer goes is = absurd (true≢false (sym is))
+  held_aside v _ next answer goes is = goes.0.1
 
   held_loose : (v : View) (program : Program) (answer : Answer) → GoesOn p v program → waits_at p c answer program ≡ true → v.loose ≡ []
   held_loose v (Write w after) answer goes is = goes.0.1.loose

@@ -21,8 +21,8 @@ use Rattle.slot_steps.specs.sock_model.specs.References.{slot_facts}
 use Rattle.slot_steps.specs.sock_model.specs.SlotRows.{marks_of, gave_birth, staged}
 use Rattle.slot_steps.specs.sock_model.specs.Entries.{on}
 use Rattle.slot_steps.specs.sock_model.specs.Memory.{IDLE}
-use Rattle.slot_steps.specs.sock_model.specs.Reads.{rights_on, claims_of, loose_at, head_at, memory, tokens, link_at, link_home, took_of, waits_of, hands_of, message}
-use Rattle.slot_steps.specs.sock_model.specs.Links.{HoldsRights, Given, Lives, Failed, InSlots}
+use Rattle.slot_steps.specs.sock_model.specs.Reads.{rights_on, claims_of, loose_at, head_at, memory, tokens, link_at, link_home, took_of, waits_of, hands_of}
+use Rattle.slot_steps.specs.sock_model.specs.Links.{Given, Lives, InSlots}
 use Rattle.slot_steps.specs.sock_model.specs.Homes.{Unborn, Recycles, LinkHomes}
 use Rattle.slot_steps.specs.sock_model.specs.Lawful.{Lawful}
 use Rattle.slot_steps.proofs.Sums.{total-set, term_le, total_mono, about-here, about-other}
@@ -32,14 +32,11 @@ use Rattle.slot_steps.proofs.Kept.{birth_keeps}
 use Rattle.slot_steps.proofs.Stored.{head_keeps}
 use Rattle.chain_steps.proofs.Frames.{Changed, in_log}
 use Rattle.chain_steps.proofs.Gather.{gather_same}
-use Rattle.chain_steps.proofs.Authored.{keeps_lists}
-use Rattle.chain_steps.proofs.Letters.{messages_frame}
-use Rattle.chain_steps.proofs.Delivers.{delivers_same, delivers_failed}
 use Rattle.chain_steps.proofs.Settles.{comes_in}
 use Rattle.sock_steps.proofs.Quiet.{Less, More, less_add, more_add, less_without, more_without}
 use Rattle.sock_steps.proofs.Steady.{same_chain, waits-taken, staged_steady, staged_else}
 use Rattle.sock_steps.proofs.Places.{counts, own_count, given_more, failed_more, busy_idle, claimed_unborn}
-use Rattle.sock_steps.proofs.SlotFrame.{still_holds, ChainWords, head_is, slot_frame}
+use Rattle.sock_steps.proofs.SlotFrame.{still_holds, ChainWords, head_is, whole_law, slot_frame}
 use Rattle.sock_steps.proofs.SlotSteps.{low_words}
 use Rattle.sock_steps.proofs.Maps.{put, put-here, put-at, put-else, is_none, no_members}
 
@@ -204,26 +201,11 @@ module _ {S : Type 0} (shows : S → Home) (p : Plan) (s : State S View) (o : La
 
     -- A2
     pub birth_law : Lawful shows p (stepped s (ref_index i) ((found + 1) % 2 ^ 64) id [] (gave_birth i found k v) keeps)
-    birth_law = record {
-      slot = slot;
-      log = o.log;
-      freed = o.freed;
-      places = o.places;
-      kept = o.kept;
-      fits = o.fits;
-      references = birth_keeps p s o.references id v here [] keeps i inside fits k there;
-      in_slots = slots_after;
-      held = λ j u g. ⊎_elim (λ y. subst (HoldsRights p) y.1 (still_holds p v w (λ a b c. more (is_met b c) refl a) (λ a b. more (is_hold b) refl a) refl (o.held id v here))) (λ y. o.held j u y.1) (at_set s.views id j w u g);
-      chains = comes_in o.chains k was_home.0 no_entries (ap (head_at s.words) no_slot) heads words.nexts words.requests (λ l ll. rights_same l)
-          (λ r rl. gather_same (claims_of r) s.views id v w here refl) (λ r rl. gather_same (loose_at r) s.views id v w here refl);
-      authors = keeps_lists (λ (y : View). y.lists) s.views o.log id v w o.authors here refl;
-      messages = messages_frame o.chains o.messages (tokens (set s.views id w)) (message shows s.homes) (λ r rl. refl) (λ r rl. gather_same (claims_of r) s.views id v w here refl)
-          (λ l e ll u. record { right = u.right; has = rights_same l ∙ u.has; stage = u.stage; taken = u.taken }) (λ l r ll b f. (r, sym (rights_same l) ∙ b, f, refl, refl, refl));
-      delivered = delivers_failed (delivers_same o.delivered (tokens (set s.views id w)) (λ l. get_or ws (place_index p l) 0) words.places (λ l r ll b. (r, sym (rights_same l) ∙ b, refl, refl, refl)))
-          (Failed p t) (λ l ll. failed_more s id v w here ws s.homes p (λ j g x. more (is_linked g x) refl j) (λ j g. more (is_failer g) refl j) l);
-      carried = λ j n u b c e. ⊎_elim (λ y. o.carried id n v b here (subst (λ (z : View). get_elem? z.hands n ≡ some b) (sym y.1) e)) (λ y. o.carried j n u b y.1 e) (at_set s.views id j w u c);
-      homes = homes_after;
-    }
+    birth_law = whole_law shows p s o id v w here ws (same_chain v w refl) slot (birth_keeps p s o.references id v here [] keeps i inside fits k there) slots_after
+        (still_holds p v w (λ a b c. more (is_met b c) refl a) (λ a b. more (is_hold b) refl a) refl (o.held id v here))
+        (comes_in o.chains k was_home.0 no_entries (ap (head_at s.words) no_slot) heads words.nexts words.requests (λ l ll. rights_same l)
+        (λ r rl. gather_same (claims_of r) s.views id v w here refl) (λ r rl. gather_same (loose_at r) s.views id v w here refl))
+        words.places (λ l ll. failed_more s id v w here ws s.homes p (λ j g x. more (is_linked g x) refl j) (λ j g. more (is_failer g) refl j) l) homes_after
       where
         words : ChainWords p o.slot s.words ws
         words = low_words shows p s o id v here (ref_index i) ((found + 1) % 2 ^ 64) (omega arith) (λ j jl e. omega arith)

@@ -1,5 +1,5 @@
 -- C1, M1, C7 and C3: a request is claimed, filled and made ready, and the next word of its entry is connected.
-use Rattle.std.proofs.Common.{◌≡◌, ◌≢◌, ℕ, ◌+◌, ◌*◌, ◌<◌, eqb, not, cond, Bool, true, false, eq-eqb, ne_eqb, eqb-true, List, [], ◌∷◌, length, get_or, set, inl, sym, refl, ap, ◌∙◌, subst, arith}
+use Rattle.std.proofs.Common.{◌≡◌, ℕ, ◌+◌, ◌*◌, ◌<◌, eqb, cond, true, false, eq-eqb, ne_eqb, List, [], ◌∷◌, length, get_or, set, inl, sym, refl, ap, ◌∙◌, subst, arith}
 use Rattle.std.specs.List.{filter, flat_map}
 use mathlib.Core.Option.{Option, some}
 use lib.ListN.{get_elem?}
@@ -34,7 +34,7 @@ use Rattle.sock_steps.proofs.Words.{Beside, beside_all, next_beside, next_head, 
 use Rattle.sock_steps.proofs.ChainFrame.{SameSlots, carried_same, slots_in, links_frame, chain_frame}
 use Rattle.atomic_table.proofs.Lists.{set_else}
 use Rattle.sock_steps.proofs.Maps.{set_at}
-use Rattle.sock_steps.proofs.RightSteps.{single}
+use Rattle.sock_steps.proofs.RightSteps.{single, out_here, out_else}
 
 module _ {S : Type 0} {shows : S → Home} {p : Plan} {s : State S View} (o : Lawful shows p s) (id : ℕ) (v w : View) (at : get_elem? s.views id ≡ some v) (same : SameSlots v w) (hands : w.hands ≡ v.hands) (rights : w.rights ≡ v.rights) (lists : w.lists ≡ v.lists) where
   pub rights_stay : (k : ℕ) → (tokens (set s.views id w)).rights k ≡ (tokens s.views).rights k
@@ -72,22 +72,6 @@ claiming_law shows p id r g v c s o at rl empty cr cg ready filled word =
     rt cl (λ q ql. gather_same (loose_at q) s.views id v (with_claim v c) at refl))
     (claims_letter o.chains o.messages (tokens (set s.views id (with_claim v c))) r c (λ e. let z : false ≡ true = sym filled ∙ e in cc) cl rt)
 
-loose_out_at : (r : ℕ) (x : Loose) (rest : List Loose) → filter (λ (y : Loose). eqb y.request r) rest ≡ [] → (b : Bool) → eqb x.request r ≡ b → filter (λ (y : Loose). eqb y.request r) (cond (not b) (x ∷ rest) rest) ≡ []
-loose_out_at r x rest h true e = h
-loose_out_at r x rest h false e = ap (λ b. cond b (x ∷ filter (λ (y : Loose). eqb y.request r) rest) (filter (λ (y : Loose). eqb y.request r) rest)) e ∙ h
-
-loose_out : (r : ℕ) (l : List Loose) → filter (λ (y : Loose). eqb y.request r) (filter (λ (y : Loose). not (eqb y.request r)) l) ≡ []
-loose_out r [] = refl
-loose_out r (x ∷ xs) = loose_out_at r x (filter (λ (y : Loose). not (eqb y.request r)) xs) (loose_out r xs) (eqb x.request r) refl
-
-loose_else_at : (r j : ℕ) (x : Loose) (rest all : List Loose) → j ≢ r → filter (λ (y : Loose). eqb y.request j) rest ≡ all → (b : Bool) → eqb x.request r ≡ b → filter (λ (y : Loose). eqb y.request j) (cond (not b) (x ∷ rest) rest) ≡ cond (eqb x.request j) (x ∷ all) all
-loose_else_at r j x rest all ne h true e = h ∙ sym (ap (λ b. cond b (x ∷ all) all) (ne_eqb x.request j (λ q. ne (sym q ∙ eqb-true x.request r e))))
-loose_else_at r j x rest all ne h false e = ap (λ l. cond (eqb x.request j) (x ∷ l) l) h
-
-loose_else : (r j : ℕ) (l : List Loose) → j ≢ r → filter (λ (y : Loose). eqb y.request j) (filter (λ (y : Loose). not (eqb y.request r)) l) ≡ filter (λ (y : Loose). eqb y.request j) l
-loose_else r j [] ne = refl
-loose_else r j (x ∷ xs) ne = loose_else_at r j x (filter (λ (y : Loose). not (eqb y.request r)) xs) (filter (λ (y : Loose). eqb y.request j) xs) ne (loose_else r j xs ne) (eqb x.request r) refl
-
 -- C3
 pub connecting_law : {S : Type 0} (shows : S → Home) (p : Plan) (id i : ℕ) (v : View) (l : Loose) (s : State S View) (o : Lawful shows p s) → get_elem? s.views id ≡ some v → l.request < p.requests → get_elem? v.loose i ≡ some l
     → Lawful shows p record { words = set s.words (next_index p l.request) l.before; homes = s.homes; views = set s.views id (without_loose v l.request) }
@@ -104,8 +88,8 @@ connecting_law shows p id i v l s o at rl has =
     (next_place p o.slot s.words l.before o.references.sized (slots_in o) l.request rl)
     (connects o.chains l.request l rl alone (next_head p o.slot s.words l.before o.references.sized (slots_in o) l.request rl) (next_changed p o.slot s.words l.before o.references.sized (slots_in o) l.request rl) (next_request p o.slot s.words l.before o.references.sized (slots_in o) l.request rl)
     rt cl record {
-      here = gather_own (loose_at l.request) s.views id v (without_loose v l.request) at all ∙ loose_out l.request v.loose;
-      else = λ q ql ne. gather_same (loose_at q) s.views id v (without_loose v l.request) at (loose_else l.request q v.loose ne);
+      here = gather_own (loose_at l.request) s.views id v (without_loose v l.request) at all ∙ out_here (λ (y : Loose). y.request) l.request v.loose;
+      else = λ q ql ne. gather_same (loose_at q) s.views id v (without_loose v l.request) at (out_else (λ (y : Loose). y.request) l.request q v.loose ne);
     })
     (messages_frame o.chains o.messages (tokens (set s.views id (without_loose v l.request))) (message shows s.homes) (λ q ql. refl) cl
     (λ k e kl u. record { right = u.right; has = rt k kl ∙ u.has; stage = u.stage; taken = u.taken }) (λ k r kl h g. (r, sym (rt k kl) ∙ h, g, refl, refl, refl)))

@@ -15,12 +15,12 @@ use Rattle.slot_steps.specs.sock_words.specs.declared.plain.Plan.{Plan}
 use Rattle.slot_steps.specs.sock_model.specs.declared.view.View.{View}
 use Rattle.slot_steps.specs.sock_model.specs.Weights.{total, only, is_busy, is_zero, is_reset, is_recycled, is_hold, is_freer, is_failer, is_linked, is_met}
 use Rattle.slot_steps.specs.sock_model.specs.Marks.{about, at, without_at}
-use Rattle.slot_steps.specs.sock_model.specs.Layout.{ref_index, head_index, place_index}
+use Rattle.slot_steps.specs.sock_model.specs.Layout.{ref_index, head_index}
 use Rattle.slot_steps.specs.sock_model.specs.Slots.{version_of, nref_of, count}
 use Rattle.slot_steps.specs.sock_model.specs.References.{slot_facts, References}
 use Rattle.slot_steps.specs.sock_model.specs.SlotRows.{marks_of, recycled}
-use Rattle.slot_steps.specs.sock_model.specs.Reads.{rights_on, claims_of, loose_at, head_at, memory, tokens, link_at, waits_of, hands_of, message}
-use Rattle.slot_steps.specs.sock_model.specs.Links.{HoldsRights, Given, Lives, Failed, InSlots}
+use Rattle.slot_steps.specs.sock_model.specs.Reads.{rights_on, claims_of, loose_at, head_at, memory, tokens, link_at, waits_of, hands_of}
+use Rattle.slot_steps.specs.sock_model.specs.Links.{Given, Lives, InSlots}
 use Rattle.slot_steps.specs.sock_model.specs.Homes.{Unborn, Recycles, LinkHomes}
 use Rattle.slot_steps.specs.sock_model.specs.Lawful.{Lawful}
 use Rattle.slot_steps.proofs.Sums.{total-set, about-here, about-other}
@@ -30,13 +30,11 @@ use Rattle.slot_steps.proofs.Kept.{recycle_keeps}
 use Rattle.chain_steps.proofs.Lists.{filter_at}
 use Rattle.chain_steps.proofs.Frames.{Changed}
 use Rattle.chain_steps.proofs.Gather.{gather_same}
-use Rattle.chain_steps.proofs.Authored.{keeps_lists}
-use Rattle.chain_steps.proofs.Letters.{messages_frame}
-use Rattle.chain_steps.proofs.Delivers.{delivers_same, delivers_failed}
 use Rattle.chain_steps.proofs.Settles.{goes_out}
 use Rattle.sock_steps.proofs.Quiet.{Less, More, less_add, more_add, less_without, more_without, waits-without}
+use Rattle.sock_steps.proofs.Steady.{same_chain}
 use Rattle.sock_steps.proofs.Places.{counts, own_count, given_more, failed_more, last_life, one_link, holder_lives, held_nref}
-use Rattle.sock_steps.proofs.SlotFrame.{still_holds, ChainWords, head_is}
+use Rattle.sock_steps.proofs.SlotFrame.{still_holds, ChainWords, head_is, whole_law}
 use Rattle.sock_steps.proofs.SlotSteps.{low_words}
 use Rattle.sock_steps.proofs.Maps.{put, put-here, put-at, put-else, no_members, gather_nil, took_some}
 
@@ -175,25 +173,9 @@ module _ {S : Type 0} (shows : S → Home) (p : Plan) (s : State S View) (o : La
       carry l {v'} u rec (inr a) = let b = a.recycling in inr record { slot = a.slot; version = a.version; recycling = omega (arith, rec a.slot a.version); life = to a.slot (a.version - 2) l a.life }
 
   won : References p t → Lawful shows p t
-  won refs = record {
-    slot = slot;
-    log = o.log;
-    freed = o.freed;
-    places = o.places;
-    kept = o.kept;
-    fits = o.fits;
-    references = refs;
-    in_slots = slots_after;
-    held = λ j u c. ⊎_elim (λ y. subst (HoldsRights p) y.1 (still_holds p v w (λ a b l. more (is_met b l) refl a) (λ a b. more (is_hold b) refl a) refl (o.held id v here))) (λ y. o.held j u y.1) (at_set s.views id j w u c);
-    chains = goes_out o.chains k k_in gone heads words.nexts words.requests (λ l ll. rights_same l) (λ r rl. gather_same (claims_of r) s.views id v w here refl) (λ r rl. gather_same (loose_at r) s.views id v w here refl);
-    authors = keeps_lists (λ (y : View). y.lists) s.views o.log id v w o.authors here refl;
-    messages = messages_frame o.chains o.messages (tokens (set s.views id w)) (message shows s.homes) (λ r rl. refl) (λ r rl. gather_same (claims_of r) s.views id v w here refl)
-        (λ l e ll u. record { right = u.right; has = rights_same l ∙ u.has; stage = u.stage; taken = u.taken }) (λ l r ll b f. (r, sym (rights_same l) ∙ b, f, refl, refl, refl));
-    delivered = delivers_failed (delivers_same o.delivered (tokens (set s.views id w)) (λ l. get_or ws (place_index p l) 0) words.places (λ l r ll b. (r, sym (rights_same l) ∙ b, refl, refl, refl)))
-        (Failed p t) (λ l ll. failed_more s id v w here ws s.homes p (λ j h y. more (is_linked h y) refl j) (λ j h. more (is_failer h) refl j) l);
-    carried = λ j n u b c e. ⊎_elim (λ y. o.carried id n v b here (subst (λ (z : View). get_elem? z.hands n ≡ some b) (sym y.1) e)) (λ y. o.carried j n u b y.1 e) (at_set s.views id j w u c);
-    homes = homes_after;
-  }
+  won refs = whole_law shows p s o id v w here ws (same_chain v w refl) slot refs slots_after (still_holds p v w (λ a b l. more (is_met b l) refl a) (λ a b. more (is_hold b) refl a) refl (o.held id v here))
+      (goes_out o.chains k k_in gone heads words.nexts words.requests (λ l ll. rights_same l) (λ r rl. gather_same (claims_of r) s.views id v w here refl) (λ r rl. gather_same (loose_at r) s.views id v w here refl))
+      words.places (λ l ll. failed_more s id v w here ws s.homes p (λ j h y. more (is_linked h y) refl j) (λ j h. more (is_failer h) refl j) l) homes_after
     where
       words : ChainWords p o.slot s.words ws
       words = low_words shows p s o id v here (ref_index i) ((x + 1) * 4294967296) (omega arith) (λ j jl e. omega arith)

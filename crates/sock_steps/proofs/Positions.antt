@@ -35,7 +35,7 @@ spread_parts names zero f g k h = omega arith
 spread_parts names (suc n) f g k h = omega (arith, total_parts f g k h (names zero), spread_parts (λ i. names (suc i)) n f g k h)
 
 -- a name that one of the views keeps counts
-spread_has : (names : ℕ → List ℕ) (n : ℕ) (f : ℕ → ℕ) (id i a : ℕ) → id < n → get_elem? (names id) i ≡ some a → f a ≤ spread names n f
+pub spread_has : (names : ℕ → List ℕ) (n : ℕ) (f : ℕ → ℕ) (id i a : ℕ) → id < n → get_elem? (names id) i ≡ some a → f a ≤ spread names n f
 unfolding spread
 spread_has names zero f id i a less e = absurd (omega arith)
 spread_has names (suc n) f zero i a less e = omega (arith, term_le f (names zero) i a e)

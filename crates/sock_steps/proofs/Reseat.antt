@@ -42,6 +42,7 @@ use Rattle.chain_steps.proofs.Authored.{takes_in, makes}
 use Rattle.chain_steps.proofs.Letters.{messages_frame}
 use Rattle.chain_steps.proofs.Delivers.{delivers_same, delivers_failed, taken_whole}
 use Rattle.chain_steps.proofs.Settles.{opens, settles}
+use Rattle.sock_steps.proofs.SlotFrame.{again, homes_again}
 
 -- seats that change hands, and no word and no home
 module _ {S : Type 0} (shows : S → Home) (p : Plan) (s : State S View) (o : Lawful shows p s) (vs : List View)
@@ -60,39 +61,19 @@ module _ {S : Type 0} (shows : S → Home) (p : Plan) (s : State S View) (o : La
   pub reseat_frame : References p t → ((id : ℕ) (u : View) → get_elem? vs id ≡ some u → HoldsRights p u) → Authored (λ (y : View). y.lists) vs o.log
       → ((id n : ℕ) (u : View) (h : Hand) → get_elem? vs id ≡ some u → get_elem? u.hands n ≡ some h → HasTaken (on h.link o.log) (o.places h.link) (o.kept h.link) h.took h.next)
       → ((id k : ℕ) (u : View) → get_elem? vs id ≡ some u → 0 < hands_of k u → Unborn shows p t k ⊎ Recycles shows p t u k) → Lawful shows p t
-  reseat_frame refs held authors carried hand_of = record {
-    slot = o.slot;
-    log = o.log;
-    freed = o.freed;
-    places = o.places;
-    kept = o.kept;
-    fits = o.fits;
-    references = refs;
-    in_slots = record {
-      lives = λ k j e. let a = o.in_slots.lives k j e in let u = a.1.unended in (a.0, record { life = given_there j a.0 k a.1.life; unended = omega (arith, same j (is_freer a.0)) });
-      alone = λ j h k g. let u = g.unended in o.in_slots.alone j h k record { life = given_before j h k g.life; unended = omega (arith, same j (is_freer h)) };
-      small = λ j h k g. o.in_slots.small j h k (given_before j h k g);
-      entered = λ q e g. let a = o.in_slots.entered q e g in (a.0, a.1, given_there a.0 a.1 e.link a.2);
-      reset = λ j jl h. o.in_slots.reset j jl (omega (arith, same j is_reset));
-    };
-    held = held;
-    chains = chains_frame o.chains (λ k kl. refl) (λ r rl. refl) (λ r rl. refl) (λ k kl. rt k) (λ r rl. cl r) (λ r rl. lo r);
-    authors = authors;
-    messages = messages_frame o.chains o.messages (tokens vs) (message shows s.homes) (λ r rl. refl) (λ r rl. cl r)
-        (λ k e kl u. record { right = u.right; has = rt k ∙ u.has; stage = u.stage; taken = u.taken }) (λ k r kl h f. (r, sym (rt k) ∙ h, f, refl, refl, refl));
-    delivered = delivers_failed (delivers_same o.delivered (tokens vs) (λ l. get_or s.words (place_index p l) 0) (λ l ll. refl) (λ k r kl h. (r, sym (rt k) ∙ h, refl, refl, refl)))
-        (Failed p t) (λ k kl f. let b = f.failed in record { slot = f.slot; version = f.version; life = given_there f.slot f.version k f.life; failed = omega (arith, same f.slot (is_failer f.version)) });
-    carried = carried;
-    homes = record {
-      own = o.homes.own;
-      idle = λ k j kl sk h. o.homes.idle k j kl sk (sym (rt k) ∙ h);
-      busy = λ k r kl h. o.homes.busy k r kl (sym (rt k) ∙ h);
-      waiting = λ k h. o.homes.waiting k (omega (arith, waits k));
-      outside = λ k kl e. ⊎_elim (λ y. inl y) (λ y. inr (omega (arith, hands k))) (o.homes.outside k kl e);
-      hands = λ k h. let a = o.homes.hands k (omega (arith, hands k)) in let b = a.1 in (a.0, omega (arith, waits k));
-      hand_of = hand_of;
-    };
-  }
+  reseat_frame refs held authors carried hand_of = again shows p o t o.slot refs record {
+    lives = λ k j e. let a = o.in_slots.lives k j e in let u = a.1.unended in (a.0, record { life = given_there j a.0 k a.1.life; unended = omega (arith, same j (is_freer a.0)) });
+    alone = λ j h k g. let u = g.unended in o.in_slots.alone j h k record { life = given_before j h k g.life; unended = omega (arith, same j (is_freer h)) };
+    small = λ j h k g. o.in_slots.small j h k (given_before j h k g);
+    entered = λ q e g. let a = o.in_slots.entered q e g in (a.0, a.1, given_there a.0 a.1 e.link a.2);
+    reset = λ j jl h. o.in_slots.reset j jl (omega (arith, same j is_reset));
+  } held
+      (chains_frame o.chains (λ k kl. refl) (λ r rl. refl) (λ r rl. refl) (λ k kl. rt k) (λ r rl. cl r) (λ r rl. lo r)) authors
+      (messages_frame o.chains o.messages (tokens vs) (message shows s.homes) (λ r rl. refl) (λ r rl. cl r)
+      (λ k e kl u. record { right = u.right; has = rt k ∙ u.has; stage = u.stage; taken = u.taken }) (λ k r kl h f. (r, sym (rt k) ∙ h, f, refl, refl, refl)))
+      (delivers_failed (delivers_same o.delivered (tokens vs) (λ l. get_or s.words (place_index p l) 0) (λ l ll. refl) (λ k r kl h. (r, sym (rt k) ∙ h, refl, refl, refl)))
+      (Failed p t) (λ k kl f. let b = f.failed in record { slot = f.slot; version = f.version; life = given_there f.slot f.version k f.life; failed = omega (arith, same f.slot (is_failer f.version)) }))
+      carried (homes_again shows p o s.words vs rt waits hands hand_of)
 
   -- what a seat has in hand, where its marks are as many or more
   pub hand_carry : (v u : View) (k : ℕ) → ((a x : ℕ) → marks_of (is_recycled x) a v ≤ marks_of (is_recycled x) a u) → Unborn shows p s k ⊎ Recycles shows p s v k → Unborn shows p t k ⊎ Recycles shows p t u k

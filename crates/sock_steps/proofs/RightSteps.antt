@@ -38,25 +38,23 @@ single [] i a h g = absurd (some-ne-none a (sym g))
 single (x ∷ xs) zero a h g = λ k. some-injective x a g k ∷ nil_of xs (omega arith) k
 single (x ∷ xs) (suc i) a h g = let b : i < length xs = at_length xs i a g in absurd (omega arith)
 
--- the rights of one link, or of another, once those of link k are left out
-test_else : (k j : ℕ) (x : Right) → j ≢ k → x.link ≡ k → eqb x.link j ≡ false
-test_else k j x ne e = ne_eqb x.link j (λ q. ne (sym q ∙ e))
+-- those that f gives the number k, or another, once those of k are left out
+module _ {A : Type 0} (f : A → ℕ) where
+  out_here_at : (k : ℕ) (x : A) (rest : List A) → filter (λ y. eqb (f y) k) rest ≡ [] → (b : Bool) → eqb (f x) k ≡ b → filter (λ y. eqb (f y) k) (cond (not b) (x ∷ rest) rest) ≡ []
+  out_here_at k x rest h true e = h
+  out_here_at k x rest h false e = ap (λ b. cond b (x ∷ filter (λ y. eqb (f y) k) rest) (filter (λ y. eqb (f y) k) rest)) e ∙ h
 
-out_here_at : (k : ℕ) (x : Right) (rest : List Right) → filter (λ (x : Right). eqb x.link k) rest ≡ [] → (b : Bool) → eqb x.link k ≡ b → filter (λ (x : Right). eqb x.link k) (cond (not b) (x ∷ rest) rest) ≡ []
-out_here_at k x rest h true e = h
-out_here_at k x rest h false e = ap (λ b. cond b (x ∷ filter (λ (x : Right). eqb x.link k) rest) (filter (λ (x : Right). eqb x.link k) rest)) e ∙ h
+  pub out_here : (k : ℕ) (l : List A) → filter (λ y. eqb (f y) k) (filter (λ y. not (eqb (f y) k)) l) ≡ []
+  out_here k [] = refl
+  out_here k (x ∷ xs) = out_here_at k x (filter (λ y. not (eqb (f y) k)) xs) (out_here k xs) (eqb (f x) k) refl
 
-out_here : (k : ℕ) (l : List Right) → filter (λ (x : Right). eqb x.link k) (filter (λ (x : Right). not (eqb x.link k)) l) ≡ []
-out_here k [] = refl
-out_here k (x ∷ xs) = out_here_at k x (filter (λ (x : Right). not (eqb x.link k)) xs) (out_here k xs) (eqb x.link k) refl
+  out_else_at : (k j : ℕ) (x : A) (rest all : List A) → j ≢ k → filter (λ y. eqb (f y) j) rest ≡ all → (b : Bool) → eqb (f x) k ≡ b → filter (λ y. eqb (f y) j) (cond (not b) (x ∷ rest) rest) ≡ cond (eqb (f x) j) (x ∷ all) all
+  out_else_at k j x rest all ne h true e = h ∙ sym (ap (λ b. cond b (x ∷ all) all) (ne_eqb (f x) j (λ q. ne (sym q ∙ eqb-true (f x) k e))))
+  out_else_at k j x rest all ne h false e = ap (λ l. cond (eqb (f x) j) (x ∷ l) l) h
 
-out_else_at : (k j : ℕ) (x : Right) (rest all : List Right) → j ≢ k → filter (λ (x : Right). eqb x.link j) rest ≡ all → (b : Bool) → eqb x.link k ≡ b → filter (λ (x : Right). eqb x.link j) (cond (not b) (x ∷ rest) rest) ≡ cond (eqb x.link j) (x ∷ all) all
-out_else_at k j x rest all ne h true e = h ∙ sym (ap (λ b. cond b (x ∷ all) all) (test_else k j x ne (eqb-true x.link k e)))
-out_else_at k j x rest all ne h false e = ap (λ l. cond (eqb x.link j) (x ∷ l) l) h
-
-out_else : (k j : ℕ) (l : List Right) → j ≢ k → filter (λ (x : Right). eqb x.link j) (filter (λ (x : Right). not (eqb x.link k)) l) ≡ filter (λ (x : Right). eqb x.link j) l
-out_else k j [] ne = refl
-out_else k j (x ∷ xs) ne = out_else_at k j x (filter (λ (x : Right). not (eqb x.link k)) xs) (filter (λ (x : Right). eqb x.link j) xs) ne (out_else k j xs ne) (eqb x.link k) refl
+  pub out_else : (k j : ℕ) (l : List A) → j ≢ k → filter (λ y. eqb (f y) j) (filter (λ y. not (eqb (f y) k)) l) ≡ filter (λ y. eqb (f y) j) l
+  out_else k j [] ne = refl
+  out_else k j (x ∷ xs) ne = out_else_at k j x (filter (λ y. not (eqb (f y) k)) xs) (filter (λ y. eqb (f y) j) xs) ne (out_else k j xs ne) (eqb (f x) k) refl
 
 module _ {S : Type 0} {shows : S → Home} {p : Plan} {s : State S View} (o : Lawful shows p s) (id i : ℕ) (v : View) (r : Right) (at : get_elem? s.views id ≡ some v) (has : get_elem? v.rights i ≡ some r) where
   pub right_in : r.link < p.links
@@ -82,10 +80,10 @@ module _ {S : Type 0} {shows : S → Home} {p : Plan} {s : State S View} (o : La
     rights_after = record {
       here = gather_own (rights_on r.link) s.views id v (with_right v r') at here_alone.0
           ∙ (ap (λ b. cond b (r' ∷ filter (λ (x : Right). eqb x.link r.link) (filter (λ (x : Right). not (eqb x.link r'.link)) v.rights)) (filter (λ (x : Right). eqb x.link r.link) (filter (λ (x : Right). not (eqb x.link r'.link)) v.rights))) (eq-eqb r'.link r.link link')
-          ∙ ap (λ l. r' ∷ l) (ap (λ k. filter (λ (x : Right). eqb x.link k) (filter (λ (x : Right). not (eqb x.link r'.link)) v.rights)) (sym link') ∙ out_here r'.link v.rights));
+          ∙ ap (λ l. r' ∷ l) (ap (λ k. filter (λ (x : Right). eqb x.link k) (filter (λ (x : Right). not (eqb x.link r'.link)) v.rights)) (sym link') ∙ out_here (λ (x : Right). x.link) r'.link v.rights));
       else = λ j jl ne. gather_same (rights_on j) s.views id v (with_right v r') at
           (ap (λ b. cond b (r' ∷ filter (λ (x : Right). eqb x.link j) (filter (λ (x : Right). not (eqb x.link r'.link)) v.rights)) (filter (λ (x : Right). eqb x.link j) (filter (λ (x : Right). not (eqb x.link r'.link)) v.rights))) (ne_eqb r'.link j (λ q. ne (sym q ∙ link')))
-          ∙ out_else r'.link j v.rights (λ q. ne (q ∙ link')));
+          ∙ out_else (λ (x : Right). x.link) r'.link j v.rights (λ q. ne (q ∙ link')));
     }
 
     pub claims_after : Same p.requests (tokens s.views).claims (tokens (set s.views id (with_right v r'))).claims
@@ -172,8 +170,8 @@ module _ {S : Type 0} {shows : S → Home} {p : Plan} {s : State S View} (o : La
   -- the right goes, where its link is at home
   rights_gone : Changed p.links (tokens s.views).rights (tokens (set s.views id (without_right v r.link))).rights r.link []
   rights_gone = record {
-    here = gather_own (rights_on r.link) s.views id v (without_right v r.link) at here_alone.0 ∙ out_here r.link v.rights;
-    else = λ j jl ne. gather_same (rights_on j) s.views id v (without_right v r.link) at (out_else r.link j v.rights ne);
+    here = gather_own (rights_on r.link) s.views id v (without_right v r.link) at here_alone.0 ∙ out_here (λ (x : Right). x.link) r.link v.rights;
+    else = λ j jl ne. gather_same (rights_on j) s.views id v (without_right v r.link) at (out_else (λ (x : Right). x.link) r.link j v.rights ne);
   }
 
   pub right_goes : (ws : List ℕ) → r.at_home ≡ true → ((now : ℕ) → r.stage ≢ Writes now) → Beside p o.slot s.words ws

@@ -1,5 +1,5 @@
 -- What a step on a slot leaves of its seat's view, and that each row of a step does.
-use Rattle.std.proofs.Common.{◌≡◌, ◌≢◌, ℕ, ◌+◌, ◌-◌, ◌%◌, ◌<◌, ◌≤◌, Bool, List, [], ◌∷◌, refl, sym, ap, ◌∙◌, subst, arith, cond, eqb, eq-eqb, ne_eqb}
+use Rattle.std.proofs.Common.{◌≡◌, ◌≢◌, ℕ, ◌+◌, ◌-◌, ◌%◌, ◌<◌, ◌≤◌, Bool, List, [], ◌∷◌, refl, sym, ap, ◌∙◌, subst, arith, cond, eqb, ne_eqb}
 use mathlib.Core.Logic.{dite}
 use native.Mathlib.Decide.{ℕ_discrete}
 use Rattle.slot_steps.specs.sock_model.specs.declared.marks.Mark.{Mark}
@@ -13,7 +13,7 @@ use Rattle.slot_steps.specs.sock_model.specs.References.{OnlyMarks}
 use Rattle.slot_steps.specs.sock_model.specs.SlotRows.{marks_of, claimed, added, subbed, failed, recycled, freed, looked, linked, staged, coded, told_code, met, wrote, met_link}
 use Rattle.slot_steps.specs.sock_model.specs.Reads.{waits_link, waits_of}
 use Rattle.slot_steps.proofs.Sums.{taken_as, about-here, about-other}
-use Rattle.slot_steps.proofs.Frame.{about-without, about-without_else, passes-without}
+use Rattle.slot_steps.proofs.Frame.{about-without, about-without_else, passes-without, mark-taken}
 use Rattle.slot_steps.proofs.Kept.{conds}
 use Rattle.slot_steps.proofs.Codes.{coding_as}
 use Rattle.slot_steps.proofs.Slots.{IsRef, zero_is, stage_is, any_recycled}
@@ -224,12 +224,7 @@ module _ (v : View) where
 
 -- a claim with a link
 pub waits-taken : (k i : ℕ) (g : Mark → ℕ) (e : Mark) (es : List SlotMark) → ((x : Mark) → 0 < g x → x ≡ e) → 0 < total g (about i es) → total (waits_link k) (without_at i g es) + is_waiting k e ≡ total (waits_link k) es
-waits-taken k i g e [] one h = absurd (omega arith)
-waits-taken k i g e (x ∷ xs) one h = dite (ℕ_discrete x.slot i)
-    (λ y. let q = eq-eqb x.slot i y in let h' : 0 < total g (x.mark ∷ about i xs) = subst (λ b. 0 < total g (cond b (x.mark ∷ about i xs) (about i xs))) q h in dite (ℕ_discrete (g x.mark) 0)
-    (λ y'. let r = eq-eqb (g x.mark) 0 y' in let ih = waits-taken k i g e xs one (omega arith) in simp (q, r) (omega arith))
-    (λ n. let r = ne_eqb (g x.mark) 0 n in let same : is_waiting k x.mark ≡ is_waiting k e = ap (is_waiting k) (one x.mark (omega arith)) in simp (q, r) (omega arith)))
-    (λ n. let q = ne_eqb x.slot i n in let h' : 0 < total g (about i xs) = subst (λ b. 0 < total g (cond b (x.mark ∷ about i xs) (about i xs))) q h in let ih = waits-taken k i g e xs one h' in simp q (omega arith))
+waits-taken k = mark-taken (is_waiting k)
 
 module _ (v : View) (i a k b : ℕ) (there : 0 < marks_of (is_stage a k) i v) where
   abbrev rest : List SlotMark

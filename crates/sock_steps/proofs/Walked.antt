@@ -52,18 +52,22 @@ module _ {S : Type 0} {shows : S → Home} {p : Plan} {s : State S View} (o : La
   walked_le = let f = held.fits.3 in
       omega (arith, f, counted, stage_short (memory p o.slot s.words) (tokens s.views) (on r.link o.log) held.counts (o.freed r.link) (o.places r.link) r.turned r.stage held.turned_is held.stage_is)
 
+  on_walk : (top at after : ℕ) → r.stage ≡ Walks top at after → OnWalk (on r.link o.log) held.counts (o.freed r.link) (o.places r.link) top at after
+  on_walk top at after stage = subst (InStage (memory p o.slot s.words) (tokens s.views) (on r.link o.log) held.counts (o.freed r.link) (o.places r.link)) stage held.stage_is
+
+  on_turn : (top at after before : ℕ) → r.stage ≡ Turns top at after before → OnWalk (on r.link o.log) held.counts (o.freed r.link) (o.places r.link) top at after
+  on_turn top at after before stage = let st : InStage (memory p o.slot s.words) (tokens s.views) (on r.link o.log) held.counts (o.freed r.link) (o.places r.link) (Turns top at after before) = subst (InStage (memory p o.slot s.words) (tokens s.views) (on r.link o.log) held.counts (o.freed r.link) (o.places r.link)) stage held.stage_is in st.0
+
   -- while it walks an entry is left that has no place and isn't turned
   walks_short : (top at after : ℕ) → OnWalk (on r.link o.log) held.counts (o.freed r.link) (o.places r.link) top at after → r.places + r.turned < length (on r.link o.log)
   walks_short top at after w = let f = held.fits.3 in
       omega (arith, f, counted, walk_short (on r.link o.log) held.counts (o.freed r.link) (o.places r.link) r.turned top at after held.turned_is w)
 
   pub walk_left : (top at after : ℕ) → r.stage ≡ Walks top at after → r.places + r.turned < length (on r.link o.log)
-  walk_left top at after stage = walks_short top at after (subst (InStage (memory p o.slot s.words) (tokens s.views) (on r.link o.log) held.counts (o.freed r.link) (o.places r.link)) stage held.stage_is)
+  walk_left top at after stage = walks_short top at after (on_walk top at after stage)
 
   pub turn_left : (top at after before : ℕ) → r.stage ≡ Turns top at after before → r.places + r.turned < length (on r.link o.log)
-  turn_left top at after before stage =
-      let st : InStage (memory p o.slot s.words) (tokens s.views) (on r.link o.log) held.counts (o.freed r.link) (o.places r.link) (Turns top at after before) =
-      subst (InStage (memory p o.slot s.words) (tokens s.views) (on r.link o.log) held.counts (o.freed r.link) (o.places r.link)) stage held.stage_is in walks_short top at after st.0
+  turn_left top at after before stage = walks_short top at after (on_turn top at after before stage)
 
   -- where it writes an entry has no place
   pub writes_left : (now : ℕ) → r.stage ≡ Writes now → r.places < length (on r.link o.log)
@@ -80,12 +84,10 @@ module _ {S : Type 0} {shows : S → Home} {p : Plan} {s : State S View} (o : La
   walks_less top at after w = let f = w.some_left in let g = held.fits.2 in let h = held.fits.3 in let n = held.noted_is in let t = held.turned_is in omega arith
 
   pub walk_less : (top at after : ℕ) → r.stage ≡ Walks top at after → r.noted + r.turned < length (on r.link o.log)
-  walk_less top at after stage = walks_less top at after (subst (InStage (memory p o.slot s.words) (tokens s.views) (on r.link o.log) held.counts (o.freed r.link) (o.places r.link)) stage held.stage_is)
+  walk_less top at after stage = walks_less top at after (on_walk top at after stage)
 
   pub turn_less : (top at after before : ℕ) → r.stage ≡ Turns top at after before → r.noted + r.turned < length (on r.link o.log)
-  turn_less top at after before stage =
-      let st : InStage (memory p o.slot s.words) (tokens s.views) (on r.link o.log) held.counts (o.freed r.link) (o.places r.link) (Turns top at after before) =
-      subst (InStage (memory p o.slot s.words) (tokens s.views) (on r.link o.log) held.counts (o.freed r.link) (o.places r.link)) stage held.stage_is in walks_less top at after st.0
+  turn_less top at after before stage = walks_less top at after (on_turn top at after before stage)
 
 -- ## What a link accepted
 

@@ -47,29 +47,29 @@ module _ (p : Plan) (slot : ℕ → Option ℕ) (ws : List ℕ) (n : ℕ) (wide 
     pub next_beside : Beside p slot ws (set ws (next_index p r) n)
     next_beside = high_beside (next_index p r) (omega arith)
 
-    pub next_head : Same p.links (memory p slot ws).head (memory p slot (set ws (next_index p r) n)).head
-    next_head = high_head (next_index p r) (omega arith)
-
-    pub next_changed : Changed p.requests (memory p slot ws).next (memory p slot (set ws (next_index p r) n)).next r n
-    next_changed = record { here = get_or-set_same ws (next_index p r) n 0 (omega arith); else = λ j jl ne. get_or-set_other ws (next_index p r) (next_index p j) n 0 (λ q. ne (omega arith)) }
-
-    pub next_request : Same p.requests (memory p slot ws).request (memory p slot (set ws (next_index p r) n)).request
-    next_request j jl = get_or-set_other ws (next_index p r) (request_index p j) n 0 (λ q. omega arith)
-
-    pub next_place : Same (8 * p.operations) (λ l. get_or ws (place_index p l) 0) (λ l. get_or (set ws (next_index p r) n) (place_index p l) 0)
-    next_place l ll = get_or-set_other ws (next_index p r) (place_index p l) n 0 (λ q. omega arith)
-
     pub request_beside : Beside p slot ws (set ws (request_index p r) n)
     request_beside = high_beside (request_index p r) (omega arith)
+
+    pub next_head : Same p.links (memory p slot ws).head (memory p slot (set ws (next_index p r) n)).head
+    next_head = high_head (next_index p r) (omega arith)
 
     pub request_head : Same p.links (memory p slot ws).head (memory p slot (set ws (request_index p r) n)).head
     request_head = high_head (request_index p r) (omega arith)
 
+    pub next_changed : Changed p.requests (memory p slot ws).next (memory p slot (set ws (next_index p r) n)).next r n
+    next_changed = record { here = get_or-set_same ws (next_index p r) n 0 (omega arith); else = λ j jl ne. get_or-set_other ws (next_index p r) (next_index p j) n 0 (λ q. ne (omega arith)) }
+
     pub request_changed : Changed p.requests (memory p slot ws).request (memory p slot (set ws (request_index p r) n)).request r n
     request_changed = record { here = get_or-set_same ws (request_index p r) n 0 (omega arith); else = λ j jl ne. get_or-set_other ws (request_index p r) (request_index p j) n 0 (λ q. ne (omega arith)) }
 
+    pub next_request : Same p.requests (memory p slot ws).request (memory p slot (set ws (next_index p r) n)).request
+    next_request j jl = get_or-set_other ws (next_index p r) (request_index p j) n 0 (λ q. omega arith)
+
     pub request_next : Same p.requests (memory p slot ws).next (memory p slot (set ws (request_index p r) n)).next
     request_next j jl = get_or-set_other ws (request_index p r) (next_index p j) n 0 (λ q. omega arith)
+
+    pub next_place : Same (8 * p.operations) (λ l. get_or ws (place_index p l) 0) (λ l. get_or (set ws (next_index p r) n) (place_index p l) 0)
+    next_place l ll = get_or-set_other ws (next_index p r) (place_index p l) n 0 (λ q. omega arith)
 
     pub request_place : Same (8 * p.operations) (λ l. get_or ws (place_index p l) 0) (λ l. get_or (set ws (request_index p r) n) (place_index p l) 0)
     request_place l ll = get_or-set_other ws (request_index p r) (place_index p l) n 0 (λ q. omega arith)

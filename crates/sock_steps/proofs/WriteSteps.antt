@@ -1,10 +1,11 @@
 -- M2, P1 and C8: a message comes into hand, gets its place, and its request is free again.
-use Rattle.std.proofs.Common.{◌≡◌, ◌≢◌, ℕ, suc, ◌+◌, ◌*◌, ◌<◌, eqb, cond, true, false, eq-eqb, ne_eqb, List, ◌++◌, length, get_or, set, sym, refl, ap, ◌∙◌, subst, inl, inr, ⊎_elim, arith}
+use Rattle.std.proofs.Common.{◌≡◌, ◌≢◌, ℕ, suc, ◌+◌, ◌*◌, ◌<◌, eqb, cond, true, false, eq-eqb, ne_eqb, List, ◌++◌, length, get_or, set, sym, refl, ap, ◌∙◌, subst, inl, inr, ⊎_elim, arith, [], ◌∷◌}
 use mathlib.Core.Option.{Option, some, none, some-injective, some-ne-none}
 use lib.ListN.{get_elem?}
 use Rattle.atomic_table.specs.Table.{State}
 use Rattle.atomic_table.proofs.Lists.{set_else}
 use Rattle.slot_steps.specs.sock_model.specs.declared.chain.Heading.{Heading}
+use Rattle.slot_steps.specs.sock_model.specs.declared.chain.Entry.{Entry}
 use Rattle.slot_steps.specs.sock_model.specs.declared.chain.Right.{Right}
 use Rattle.slot_steps.specs.sock_model.specs.declared.chain.Stage.{Stage}
 use Rattle.slot_steps.specs.sock_model.specs.declared.chain.Stage.TheVariants.{Writes, Placed, Passes}
@@ -142,35 +143,55 @@ taking_law shows p id v x s o at =
           (o.homes.busy x.mine.right.link x.mine.right kl has),
     )
 
+-- the entry that gets a place next, and what the right says of it
+pub record Leaves {S : Type 0} {shows : S → Home} {p : Plan} {s : State S View} (o : Lawful shows p s) (r : Right) : Type 0 where
+  pub inside : r.link < p.links
+  pub alone : (tokens s.views).rights r.link ≡ r ∷ []
+  pub entry : Entry
+  pub here : get_elem? (on r.link o.log) (o.places r.link) ≡ some entry
+  pub in_hand : (r.heading ≡ entry.heading) × (r.bytes ≡ entry.bytes)
+  pub counted : r.places ≡ o.places r.link
+  pub label_in : entry.heading.place < 8 * p.operations
+  pub at_label : place_index p entry.heading.place ≡ place_index p r.heading.place
+
+leaves : {S : Type 0} {shows : S → Home} {p : Plan} {s : State S View} (o : Lawful shows p s) (id i now : ℕ) (v : View) (r : Right) → get_elem? s.views id ≡ some v → get_elem? v.rights i ≡ some r
+    → r.stage ≡ Writes now → r.taken ≡ true → r.heading.place < 8 * p.operations → Leaves o r
+leaves {p = p} o id i now v r at has stage taken label_in = let kl = right_in o id i v r at has in let alone = right_alone o id i v r at has in
+    let e = at_some (on r.link o.log) (o.places r.link) (writes_room o.chains r.link r now kl alone stage) in
+    let hand = o.messages.in_hand r.link r e.0 kl alone taken e.1 in let label : r.heading.place ≡ e.0.heading.place = ap (λ (y : Heading). y.place) hand.0 in record {
+      inside = kl;
+      alone = alone;
+      entry = e.0;
+      here = e.1;
+      in_hand = hand;
+      counted = o.delivered.counted r.link r kl alone;
+      label_in = subst (λ y. y < 8 * p.operations) label label_in;
+      at_label = ap (place_index p) (sym label);
+    }
+
 -- P1, of a message that was taken whole
 pub placing_law : {S : Type 0} (shows : S → Home) (p : Plan) (id : ℕ) (v : View) (x : MayPlace p v) (s : State S View) (o : Lawful shows p s) → get_elem? s.views id ≡ some v
     → Lawful shows p record { words = set s.words (place_index p x.mine.right.heading.place) (place_value false x.mine.right.link x.mine.right.places); homes = s.homes; views = set s.views id (with_right v (placed_right x.mine.right x.now)) }
 placing_law shows p id v x s o at =
     let r : Right = x.mine.right in
     let r' : Right = placed_right x.mine.right x.now in
-    let value : ℕ = place_value false x.mine.right.link x.mine.right.places in let kl = right_in o id x.mine.place v x.mine.right at x.mine.has in let has = right_alone o id x.mine.place v x.mine.right at x.mine.has in
-    let room = writes_room o.chains x.mine.right.link x.mine.right x.now kl has x.stage in
-    let e = at_some (on x.mine.right.link o.log) (o.places x.mine.right.link) room in
-    let hand = o.messages.in_hand x.mine.right.link x.mine.right e.0 kl has x.taken e.1 in
-    let counted = o.delivered.counted x.mine.right.link x.mine.right kl has in
-    let label : x.mine.right.heading.place ≡ e.0.heading.place = ap (λ (y : Heading). y.place) hand.0 in
-    let lab : e.0.heading.place < 8 * p.operations = subst (λ y. y < 8 * p.operations) label x.label_in in
-    let is : place_index p e.0.heading.place ≡ place_index p x.mine.right.heading.place = ap (place_index p) (sym label) in
-    let val : value ≡ place_value false x.mine.right.link (o.places x.mine.right.link) = ap (place_value false x.mine.right.link) counted in
+    let value : ℕ = place_value false x.mine.right.link x.mine.right.places in
+    let e = leaves o id x.mine.place x.now v x.mine.right at x.mine.has x.stage x.taken x.label_in in let kl = e.inside in let has = e.alone in let hand = e.in_hand in let lab = e.label_in in
+    let val : value ≡ place_value false x.mine.right.link (o.places x.mine.right.link) = ap (place_value false x.mine.right.link) e.counted in
     let t' : Tokens = tokens (set s.views id (with_right v (placed_right x.mine.right x.now))) in
     let rt = rights_after o id x.mine.place v x.mine.right at x.mine.has (placed_right x.mine.right x.now) refl in
     let cl = claims_after o id x.mine.place v x.mine.right at x.mine.has (placed_right x.mine.right x.now) refl in
     let lo = loose_after o id x.mine.place v x.mine.right at x.mine.has (placed_right x.mine.right x.now) refl in
     let away : link_home shows p s.homes x.mine.right.link ≡ none = o.homes.busy x.mine.right.link x.mine.right kl has ∙ ap (λ b. cond b (some (x.mine.right.sent, x.mine.right.places)) none) x.away in
-    subst (λ i. Lawful shows p record { words = set s.words i (place_value false x.mine.right.link x.mine.right.places); homes = s.homes; views = set s.views id (with_right v (placed_right x.mine.right x.now)) }) is
-    (right_base o id x.mine.place v x.mine.right at x.mine.has (placed_right x.mine.right x.now) refl (set s.words (place_index p e.0.heading.place) value) s.homes o.freed (bump o.places x.mine.right.link) (bump o.kept x.mine.right.link) (λ k ne. (bump-else o.places x.mine.right.link k ne, bump-else o.kept x.mine.right.link k ne))
-    (place_beside p o.slot s.words value o.references.sized (slots_in o) e.0.heading.place lab) (λ k. refl)
+    subst (λ i. Lawful shows p record { words = set s.words i (place_value false x.mine.right.link x.mine.right.places); homes = s.homes; views = set s.views id (with_right v (placed_right x.mine.right x.now)) }) e.at_label
+    (right_base o id x.mine.place v x.mine.right at x.mine.has (placed_right x.mine.right x.now) refl (set s.words (place_index p e.entry.heading.place) value) s.homes o.freed (bump o.places x.mine.right.link) (bump o.kept x.mine.right.link) (λ k ne. (bump-else o.places x.mine.right.link k ne, bump-else o.kept x.mine.right.link k ne))
+    (place_beside p o.slot s.words value o.references.sized (slots_in o) e.entry.heading.place lab) (λ k. refl)
     (places_one o.chains x.mine.right.link x.mine.right kl has {places' = bump o.places x.mine.right.link} (placed_right x.mine.right x.now) x.now x.stage refl refl refl refl (bump_changed p.links o.places x.mine.right.link)
-    (place_head p o.slot s.words value o.references.sized (slots_in o) e.0.heading.place lab) (place_next p o.slot s.words value o.references.sized (slots_in o) e.0.heading.place lab) (place_request p o.slot s.words value o.references.sized (slots_in o) e.0.heading.place lab) rt cl lo)
+    (place_head p o.slot s.words value o.references.sized (slots_in o) e.entry.heading.place lab) (place_next p o.slot s.words value o.references.sized (slots_in o) e.entry.heading.place lab) (place_request p o.slot s.words value o.references.sized (slots_in o) e.entry.heading.place lab) rt cl lo)
     (lets_go o.chains o.messages t' x.mine.right.link x.mine.right (placed_right x.mine.right x.now) x.now kl has x.stage rt cl (bump o.places x.mine.right.link) refl (bump_changed p.links o.places x.mine.right.link))
-    (places_whole o.delivered t' (λ q. get_or (set s.words (place_index p e.0.heading.place) value) (place_index p q) 0) (bump o.places x.mine.right.link) (bump o.kept x.mine.right.link) (Failed p s) x.mine.right.link x.mine.right (placed_right x.mine.right x.now) e.0 kl has rt e.1 lab
+    (places_whole o.delivered t' (λ q. get_or (set s.words (place_index p e.entry.heading.place) value) (place_index p q) 0) (bump o.places x.mine.right.link) (bump o.kept x.mine.right.link) (Failed p s) x.mine.right.link x.mine.right (placed_right x.mine.right x.now) e.entry kl has rt e.here lab
     (bump_changed p.links o.places x.mine.right.link) refl x.is_clean refl (ap (λ l. x.mine.right.sent ++ l) hand.1) (bump_changed p.links o.kept x.mine.right.link)
-    (subst (λ y. Changed (8 * p.operations) (λ q. get_or s.words (place_index p q) 0) (λ q. get_or (set s.words (place_index p e.0.heading.place) value) (place_index p q) 0) e.0.heading.place y) val (place_changed p o.slot s.words value o.references.sized (slots_in o) e.0.heading.place lab))
+    (subst (λ y. Changed (8 * p.operations) (λ q. get_or s.words (place_index p q) 0) (λ q. get_or (set s.words (place_index p e.entry.heading.place) value) (place_index p q) 0) e.entry.heading.place y) val (place_changed p o.slot s.words value o.references.sized (slots_in o) e.entry.heading.place lab))
     (λ j jl f. f) away)
     (away ∙ sym (ap (λ b. cond b (some (x.mine.right.sent ++ x.mine.right.bytes, suc x.mine.right.places)) none) x.away)))
 
@@ -180,28 +201,22 @@ pub dropping_law : {S : Type 0} (shows : S → Home) (p : Plan) (id : ℕ) (v : 
 dropping_law shows p id v x s o at dead =
     let r : Right = x.mine.right in
     let r' : Right = dropped_right x.mine.right x.now x.sent in
-    let value : ℕ = place_value true x.mine.right.link x.mine.right.places in let kl = right_in o id x.mine.place v x.mine.right at x.mine.has in let has = right_alone o id x.mine.place v x.mine.right at x.mine.has in
-    let room = writes_room o.chains x.mine.right.link x.mine.right x.now kl has x.stage in
-    let e = at_some (on x.mine.right.link o.log) (o.places x.mine.right.link) room in
-    let hand = o.messages.in_hand x.mine.right.link x.mine.right e.0 kl has x.taken e.1 in
-    let counted = o.delivered.counted x.mine.right.link x.mine.right kl has in
-    let label : x.mine.right.heading.place ≡ e.0.heading.place = ap (λ (y : Heading). y.place) hand.0 in
-    let lab : e.0.heading.place < 8 * p.operations = subst (λ y. y < 8 * p.operations) label x.label_in in
-    let is : place_index p e.0.heading.place ≡ place_index p x.mine.right.heading.place = ap (place_index p) (sym label) in
-    let val : value ≡ place_value true x.mine.right.link (o.places x.mine.right.link) = ap (place_value true x.mine.right.link) counted in
+    let value : ℕ = place_value true x.mine.right.link x.mine.right.places in
+    let e = leaves o id x.mine.place x.now v x.mine.right at x.mine.has x.stage x.taken x.label_in in let kl = e.inside in let has = e.alone in let hand = e.in_hand in let lab = e.label_in in
+    let val : value ≡ place_value true x.mine.right.link (o.places x.mine.right.link) = ap (place_value true x.mine.right.link) e.counted in
     let t' : Tokens = tokens (set s.views id (with_right v (dropped_right x.mine.right x.now x.sent))) in
     let rt = rights_after o id x.mine.place v x.mine.right at x.mine.has (dropped_right x.mine.right x.now x.sent) refl in
     let cl = claims_after o id x.mine.place v x.mine.right at x.mine.has (dropped_right x.mine.right x.now x.sent) refl in
     let lo = loose_after o id x.mine.place v x.mine.right at x.mine.has (dropped_right x.mine.right x.now x.sent) refl in
     let away : link_home shows p s.homes x.mine.right.link ≡ none = o.homes.busy x.mine.right.link x.mine.right kl has ∙ ap (λ b. cond b (some (x.mine.right.sent, x.mine.right.places)) none) x.away in
-    subst (λ i. Lawful shows p record { words = set s.words i (place_value true x.mine.right.link x.mine.right.places); homes = s.homes; views = set s.views id (with_right v (dropped_right x.mine.right x.now x.sent)) }) is
-    (right_base o id x.mine.place v x.mine.right at x.mine.has (dropped_right x.mine.right x.now x.sent) refl (set s.words (place_index p e.0.heading.place) value) s.homes o.freed (bump o.places x.mine.right.link) o.kept (λ k ne. (bump-else o.places x.mine.right.link k ne, refl))
-    (place_beside p o.slot s.words value o.references.sized (slots_in o) e.0.heading.place lab) (λ k. refl)
+    subst (λ i. Lawful shows p record { words = set s.words i (place_value true x.mine.right.link x.mine.right.places); homes = s.homes; views = set s.views id (with_right v (dropped_right x.mine.right x.now x.sent)) }) e.at_label
+    (right_base o id x.mine.place v x.mine.right at x.mine.has (dropped_right x.mine.right x.now x.sent) refl (set s.words (place_index p e.entry.heading.place) value) s.homes o.freed (bump o.places x.mine.right.link) o.kept (λ k ne. (bump-else o.places x.mine.right.link k ne, refl))
+    (place_beside p o.slot s.words value o.references.sized (slots_in o) e.entry.heading.place lab) (λ k. refl)
     (places_one o.chains x.mine.right.link x.mine.right kl has {places' = bump o.places x.mine.right.link} (dropped_right x.mine.right x.now x.sent) x.now x.stage refl refl refl refl (bump_changed p.links o.places x.mine.right.link)
-    (place_head p o.slot s.words value o.references.sized (slots_in o) e.0.heading.place lab) (place_next p o.slot s.words value o.references.sized (slots_in o) e.0.heading.place lab) (place_request p o.slot s.words value o.references.sized (slots_in o) e.0.heading.place lab) rt cl lo)
+    (place_head p o.slot s.words value o.references.sized (slots_in o) e.entry.heading.place lab) (place_next p o.slot s.words value o.references.sized (slots_in o) e.entry.heading.place lab) (place_request p o.slot s.words value o.references.sized (slots_in o) e.entry.heading.place lab) rt cl lo)
     (lets_go o.chains o.messages t' x.mine.right.link x.mine.right (dropped_right x.mine.right x.now x.sent) x.now kl has x.stage rt cl (bump o.places x.mine.right.link) refl (bump_changed p.links o.places x.mine.right.link))
-    (drops o.delivered t' (λ q. get_or (set s.words (place_index p e.0.heading.place) value) (place_index p q) 0) (bump o.places x.mine.right.link) o.kept (Failed p s) x.mine.right.link x.mine.right (dropped_right x.mine.right x.now x.sent) e.0 kl has rt e.1 lab
+    (drops o.delivered t' (λ q. get_or (set s.words (place_index p e.entry.heading.place) value) (place_index p q) 0) (bump o.places x.mine.right.link) o.kept (Failed p s) x.mine.right.link x.mine.right (dropped_right x.mine.right x.now x.sent) e.entry kl has rt e.here lab
     (bump_changed p.links o.places x.mine.right.link) refl refl (⊎_elim (λ y. inl y) (λ y. inr (y.0, y.1, y.2, y.3, sym hand.1 ∙ y.4, y.5)) x.part) (λ j jl. refl)
-    (subst (λ y. Changed (8 * p.operations) (λ q. get_or s.words (place_index p q) 0) (λ q. get_or (set s.words (place_index p e.0.heading.place) value) (place_index p q) 0) e.0.heading.place y) val (place_changed p o.slot s.words value o.references.sized (slots_in o) e.0.heading.place lab))
+    (subst (λ y. Changed (8 * p.operations) (λ q. get_or s.words (place_index p q) 0) (λ q. get_or (set s.words (place_index p e.entry.heading.place) value) (place_index p q) 0) e.entry.heading.place y) val (place_changed p o.slot s.words value o.references.sized (slots_in o) e.entry.heading.place lab))
     (λ j jl f. f) dead away)
     (away ∙ sym (ap (λ b. cond b (some (x.sent, suc x.mine.right.places)) none) x.away)))

@@ -26,8 +26,7 @@ flat_last f [] x = append-nil (f x)
 flat_last f (y ∷ ys) x = ap (λ l. f y ++ l) (flat_last f ys x) ∙ sym (append_assoc (f y) (flat_map f ys) (f x))
 
 total_last : {A : Type 0} (f : A → ℕ) (xs : List A) (x : A) → total f (xs ++ x ∷ []) ≡ total f xs + f x
-total_last f [] x = omega arith
-total_last f (y ∷ ys) x = omega (arith, total_last f ys x)
+total_last f xs x = omega (arith, total-append f xs (x ∷ []))
 
 -- two seats that hold nothing hold nothing together
 module _ (p : Plan) (v w : View) where

@@ -1,5 +1,5 @@
 -- The loops of the close.
-use Rattle.std.proofs.Common.{◌≡◌, ◌≢◌, ℕ, zero, suc, ◌+◌, ◌*◌, ◌<◌, ◌≤◌, ◌⊎◌, ◌++◌, Bool, true, false, List, [], ◌∷◌, length, get_or, set, map, sym, refl, ap, ◌∙◌, subst, arith}
+use Rattle.std.proofs.Common.{◌≡◌, ℕ, zero, suc, ◌+◌, ◌*◌, ◌<◌, ◌≤◌, ◌⊎◌, ◌++◌, Bool, true, false, List, [], ◌∷◌, length, get_or, set, map, sym, refl, ap, ◌∙◌, subst, arith}
 use mathlib.Core.Logic.{dite}
 use mathlib.Core.Option.{some, some-injective, some-ne-none}
 use native.Mathlib.Decide.{ℕ_discrete}
@@ -38,20 +38,13 @@ set_false [] k = refl
 set_false (x ∷ xs) zero = refl
 set_false (x ∷ xs) (suc k) = set_false xs k
 
-set_other : (l : List Bool) (k j : ℕ) → j ≢ k → get_or (set l k false) j false ≡ get_or l j false
-set_other [] k j n = refl
-set_other (x ∷ xs) zero zero n = absurd (n refl)
-set_other (x ∷ xs) zero (suc j) n = refl
-set_other (x ∷ xs) (suc k) zero n = refl
-set_other (x ∷ xs) (suc k) (suc j) n = set_other xs k j (λ e. n (ap suc e))
-
 pub still_full : (old new : List Bool) (k m m' : ℕ) → new ≡ set old k false → m' ≡ m → ((j : ℕ) → k ≤ j → j < m → get_or old j false ≡ true) → (j : ℕ) → k + 1 ≤ j → j < m' → get_or new j false ≡ true
-still_full old new k m m' e f h j le lt = ap (λ l. get_or l j false) e ∙ (set_other old k j (λ q. omega arith) ∙ h j (omega arith) (omega arith))
+still_full old new k m m' e f h j le lt = ap (λ l. get_or l j false) e ∙ (get_or-set_other old k j false false (λ q. omega arith) ∙ h j (omega arith) (omega arith))
 
 pub now_empty : (old new : List Bool) (k : ℕ) → new ≡ set old k false → ((j : ℕ) → j < k → get_or old j false ≡ false) → (j : ℕ) → j < k + 1 → get_or new j false ≡ false
 now_empty old new k e h j lt = dite (ℕ_discrete j k)
     (λ q. ap (λ l. get_or l j false) e ∙ (ap (λ y. get_or (set old k false) y false) q ∙ set_false old k))
-    (λ n. ap (λ l. get_or l j false) e ∙ (set_other old k j n ∙ h j (omega arith)))
+    (λ n. ap (λ l. get_or l j false) e ∙ (get_or-set_other old k j false false n ∙ h j (omega arith)))
 
 index_of : (l : List ℕ) (i x : ℕ) → get_elem? l i ≡ some x → get_or l i 0 ≡ x
 index_of [] i x e = absurd (some-ne-none x (sym e))

@@ -3,7 +3,7 @@ ghost use Rattle.sock_words.specs.Words.{at_word, no_at, at_word_first, at_word_
 
 /// Where the last attempt of a call went: the call id by its slot and first version, the link, and
 /// the number of the attempt. A link's reader finds the calls that still wait for it by this.
-#[derive(Clone, Copy, Debug, PartialEq, Eq)]
+#[derive(Clone, Copy, PartialEq, Eq)]
 pub struct AtWord(u64);
 
 impl AtWord {

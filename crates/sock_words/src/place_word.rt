@@ -3,7 +3,7 @@ ghost use Rattle.sock_words.specs.Words.{place_word, no_place, place_word_droppe
 
 /// Where a message stands in the order of a link, and whether it was dropped. Positions are counted
 /// from 0 per link, over placed and dropped messages alike.
-#[derive(Clone, Copy, Debug, PartialEq, Eq)]
+#[derive(Clone, Copy, PartialEq, Eq)]
 pub struct PlaceWord(u64);
 
 impl PlaceWord {

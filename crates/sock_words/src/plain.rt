@@ -1,5 +1,5 @@
 /// The label of a message: which attempt of which operation it belongs to.
-#[derive(Clone, Copy, Debug, PartialEq, Eq)]
+#[derive(Clone, Copy)]
 pub struct Label {
     /// The client, 0 for the setup.
     pub client: u16,
@@ -13,7 +13,7 @@ pub struct Label {
 }
 
 /// What an atomic step did to one word.
-#[derive(Clone, Copy, Debug, PartialEq, Eq)]
+#[derive(Clone, Copy)]
 pub struct Step {
     /// The word found.
     pub found: u64,
@@ -25,7 +25,7 @@ pub struct Step {
 }
 
 /// How many of each thing the shared tables have.
-#[derive(Clone, Copy, Debug, PartialEq, Eq)]
+#[derive(Clone, Copy)]
 pub struct Plan {
     /// Socket slots, at most 256.
     pub slots: u16,

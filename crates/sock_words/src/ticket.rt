@@ -5,7 +5,7 @@ ghost use Rattle.sock_words.specs.Words.{ticket, idle_head, ticket_idle, ticket_
 /// slot of the request and the generation in which the request was claimed, so that no ticket comes
 /// twice. A head that is idle keeps the last ticket beside the mark that it is idle. bRPC has the
 /// request's address here; the generation and the ticket that stays are this project's own.
-#[derive(Clone, Copy, Debug, PartialEq, Eq)]
+#[derive(Clone, Copy, PartialEq, Eq)]
 pub struct Ticket(u64);
 
 impl Ticket {

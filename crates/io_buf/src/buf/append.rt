@@ -41,9 +41,16 @@ impl IoBuf {
     {
         let fresh = self.len == 0;
         let added = in_blocks(self.alloc, pool, bytes, fresh)?;
-        self.reserve_refs(added.refs())?;
-        self.append_buf(added);
-        Ok(())
+        match self.reserve_refs(added.refs()) {
+            Ok(()) => {
+                self.append_buf(added);
+                Ok(())
+            }
+            Err(fault) => {
+                drop(added);
+                Err(fault)
+            }
+        }
     }
 
     /// Moves the references of the other buffer to the end. It copies nothing.
@@ -112,6 +119,21 @@ impl IoBuf {
         }
         Ok(())
     }
+
+    // As `in_blocks`, at the end.
+    fn fill(&mut self, pool: &mut BlockPool, bytes: &[u8], fresh: bool) -> Result<(), NoMemory>
+        ensures items { OnOk result (self.new.items ≡ self.old.items ++ bytes.now) }
+        ensures sizes { OnOk result (OnTrue fresh (self.new.sizes ≡ self.old.sizes ++ block_sizes (length bytes.now))) }
+    {
+        let within = pool.left();
+        if fresh || within == 0 || within >= bytes.len() {
+            self.fill_blocks(pool, bytes)?;
+            return Ok(());
+        }
+        self.write_piece(pool, &bytes[..within])?;
+        self.fill_blocks(pool, &bytes[within..])?;
+        Ok(())
+    }
 }
 
 // The bytes in pieces of a block; unless they are to begin with a whole piece, what fits goes into
@@ -126,12 +148,11 @@ fn in_blocks(
     ensures sizes { IfOk result (λ b. OnTrue fresh (b.sizes ≡ block_sizes (length bytes.now))) }
 {
     let mut added = IoBuf::new(alloc);
-    let within = pool.left();
-    if fresh || within == 0 || within >= bytes.len() {
-        added.fill_blocks(pool, bytes)?;
-        return Ok(added);
+    match added.fill(pool, bytes, fresh) {
+        Ok(()) => Ok(added),
+        Err(fault) => {
+            drop(added);
+            Err(fault)
+        }
     }
-    added.write_piece(pool, &bytes[..within])?;
-    added.fill_blocks(pool, &bytes[within..])?;
-    Ok(added)
 }

@@ -29,9 +29,13 @@ impl IoBuf {
         ensures sizes { IfOk result (λ b. b.sizes ≡ self.now.sizes) }
     {
         let mut all = IoBuf::new(self.alloc);
-        all.reserve_refs(self.pieces.len())?;
-        all.add_front(&self.pieces, self.len)?;
-        Ok(all)
+        match all.append_each(self) {
+            Ok(()) => Ok(all),
+            Err(fault) => {
+                drop(all);
+                Err(fault)
+            }
+        }
     }
 
     /// Appends references to the other buffer's bytes. It copies nothing. After a refusal it has a
@@ -93,8 +97,13 @@ impl IoBuf {
         ensures sizes { IfOk result (λ b. b.sizes ≡ front_sizes n self.now.sizes) }
     {
         let mut front = IoBuf::new(self.alloc);
-        front.add_front(&self.pieces, n)?;
-        Ok(front)
+        match front.add_front(&self.pieces, n) {
+            Ok(()) => Ok(front),
+            Err(fault) => {
+                drop(front);
+                Err(fault)
+            }
+        }
     }
 
     /// A buffer with the bytes from one place up to another, in the same blocks. It copies nothing, and

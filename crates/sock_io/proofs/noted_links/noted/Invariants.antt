@@ -1,5 +1,5 @@
 use Rattle.std.proofs.Common.{◌++◌, ◌∷◌, []}
-use Rattle.net_link.proofs.tcp_linker.TcpLinkerLinker.back.Given as goal
+use Rattle.sock_io.proofs.noted_links.noted.Given as goal
 
 abbrev pub ghost-of : goal.ghost-of
 ghost-of g a = a.by.now.list

@@ -3,11 +3,11 @@ use Rattle.pb_wire.specs.brpc_model.specs.Meta as meta
 use Rattle.pb_wire.specs.brpc_model.specs.Spelling.{number_field, where_not_0, bytes_field, where_some, request_bytes, response_bytes}
 use Rattle.rpc_meta.specs.Meaning.{request_of, response_of}
 use Rattle.rpc_meta.proofs.Counting.{five}
-use Rattle.rpc_meta.proofs.meta.RpcMeta.sizes.Goals as goal
+use Rattle.rpc_meta.proofs.write.any_sizes.Goals as goal
 
 pub returns : goal.returns
 returns c =
-    let m = c.args.self.now in
+    let m = c.args.meta.now in
     let asked : List ℕ = where_some (λ (r : meta.RequestMeta). bytes_field 1 (request_bytes r)) (option_map request_of m.request) in
     let answered : List ℕ = where_some (λ (r : meta.ResponseMeta). bytes_field 2 (response_bytes r)) (option_map response_of m.response) in
     let fits : to_z w32 (of_z w32 m.compress_type) ≡ m.compress_type = search rules in

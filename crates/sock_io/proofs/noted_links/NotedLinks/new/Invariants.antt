@@ -1,5 +1,5 @@
 use Rattle.std.proofs.Common.{[]}
-use Rattle.net_link.proofs.tcp_linker.TcpLinker.new.Given as goal
+use Rattle.sock_io.proofs.noted_links.NotedLinks.new.Given as goal
 
 abbrev pub ghost-of : goal.ghost-of
 ghost-of g a = []
