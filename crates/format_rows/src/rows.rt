@@ -13,15 +13,38 @@ pub fn answer(alloc: Global, row: &str) -> Result<String, AllocError> {
     };
     match word {
         "line" => line_said(alloc, rest),
-        "script" => fault_or_count(alloc, expanded(alloc, rest)?.as_str()),
-        "sizes" => sizes(alloc, expanded(alloc, rest)?.as_str()),
-        "print" => printed(alloc, expanded(alloc, rest)?.as_str()),
         "generate" => generated(alloc, rest),
         "seats" => drawn_seats(alloc),
-        "report" => report(alloc, expanded(alloc, rest)?.as_str()),
-        "untold" => untold(alloc, expanded(alloc, rest)?.as_str()),
-        "summary" => summary(alloc, expanded(alloc, rest)?.as_str()),
-        _ => said_of(alloc, row, word, rest),
+        _ => said_by(alloc, row, word, rest),
+    }
+}
+
+/// The same of a text between quotes, or of bytes.
+fn said_by(alloc: Global, row: &str, word: &str, rest: &str) -> Result<String, AllocError> {
+    if !rest.starts_with("\"") {
+        return said_of(alloc, row, word, rest);
+    }
+    let text = expanded(alloc, rest)?;
+    script_said(alloc, row, word, text.as_str())
+}
+
+/// What is said of a script.
+fn script_said(alloc: Global, row: &str, word: &str, text: &str) -> Result<String, AllocError> {
+    match word {
+        "script" => fault_or_count(alloc, text),
+        "sizes" => sizes(alloc, text),
+        "print" => printed(alloc, text),
+        _ => report_said(alloc, row, word, text),
+    }
+}
+
+/// And of its reports.
+fn report_said(alloc: Global, row: &str, word: &str, text: &str) -> Result<String, AllocError> {
+    match word {
+        "report" => report(alloc, text),
+        "untold" => untold(alloc, text),
+        "summary" => summary(alloc, text),
+        _ => String::from_str(alloc, row),
     }
 }
 

@@ -173,17 +173,23 @@ fn is_lost<O: Out, I: In>(out: &mut O, inn: &mut I) -> bool {
     has_failed
 }
 
-// The other end goes away with bytes that it didn't read. The link fails then and from then on, and is not ended.
+// The other end of the next connection goes away with bytes that it didn't read.
+fn lose_next(listener: &TcpListener) -> io::Result<()> {
+    let (far, _) = listener.accept()?;
+    far.peek(&mut [0; 8])?;
+    Ok(())
+}
+
+// The link fails then and from then on, and is not ended.
 #[test]
 fn lost_connection_fails(rt: HostRuntime) -> Result<(), Fail> {
     let (listener, port) = listen(&rt)?;
     let mut links = TcpLinker::new(&rt, rt.alloc());
-    let mut ends = links.open(&asked(Mode::Tcp(port))).ok().ok_or("memory")?;
+    let Ok(mut ends) = links.open(&asked(Mode::Tcp(port))) else {
+        panic!(&rt; "no link");
+    };
     assert!(rt; put_on(&mut ends.out, b"message") == Put::Took(7));
-    let (far, _) = listener.accept()?;
-    let mut room = [0; 8];
-    far.peek(&mut room)?;
-    drop(far);
+    assert!(rt; lose_next(&listener).is_ok());
     assert!(rt; is_lost(&mut ends.out, &mut ends.inn));
     Ok(())
 }
@@ -195,15 +201,24 @@ fn opens_no_loop<L: Linker>(links: &mut L) -> bool
     links.open(&asked(Mode::Loop)).is_err()
 }
 
+// Whether nothing more comes.
+fn is_at_end(far: &mut TcpStream) -> bool {
+    matches!(far.read(&mut [0; 8]), Ok(0))
+}
+
 // The linker is still there then.
 #[test]
 fn link_is_closed_as_it_is_given_back(rt: HostRuntime) -> Result<(), Fail> {
     let (listener, port) = listen(&rt)?;
     let mut links = TcpLinker::new(&rt, rt.alloc());
-    let ends = links.open(&asked(Mode::Tcp(port))).ok().ok_or("memory")?;
-    let (mut far, _) = listener.accept()?;
+    let Ok(ends) = links.open(&asked(Mode::Tcp(port))) else {
+        panic!(&rt; "no link");
+    };
+    let Ok((mut far, _)) = listener.accept() else {
+        panic!(&rt; "no connection");
+    };
     links.back(0, ends);
-    assert!(rt; far.read(&mut [0; 8])? == 0);
+    assert!(rt; is_at_end(&mut far));
     assert!(rt; opens_no_loop(&mut links));
     Ok(())
 }
