@@ -79,6 +79,20 @@ pub record Links : Type 1 where
   pub done : List ConnectionEnd
   pub faults : Faults
 
+-- ## These over a call, by what they tell before and behind it
+
+abbrev pub faults_over : {T : Type 0} → (T → ℕ) → T → T → Faults
+faults_over faults_of old new = record { before = faults_of old; now = faults_of new }
+
+abbrev pub source_over : {S : Type 0} → (S → Option (List ℕ)) → (S → ℕ) → S → S → Input
+source_over left_of faults_of old new = record { given = left_of old; left = left_of new; faults = faults_over faults_of old new }
+
+abbrev pub sink_over : {K : Type 0} → (K → Option (List ℕ)) → (K → ℕ) → K → K → Output
+sink_over contents_of faults_of old new = record { before = contents_of old; now = contents_of new; faults = faults_over faults_of old new }
+
+abbrev pub linker_over : {L : Type 0} → (L → Bool) → (tells offering : Type 0) → (Mode → Bool) → (L → List LinkSpec) → (L → List LinkEnd) → (L → ℕ) → (L → List ConnectionEnd) → (L → ℕ) → L → L → Links
+linker_over ready_of tells offering tells_in asked_of back_of accepted_of done_of faults_of old new = record { always_ready = ready_of old; tells = tells; offering = offering; tells_in = tells_in; asked = asked_of new; ends = back_of new; accepted = accepted_of new; done = done_of new; faults = faults_over faults_of old new }
+
 -- no link was opened
 abbrev pub OpenedNone : Links → Type 0
 OpenedNone links = (links.asked ≡ []) × (links.ends ≡ [])

@@ -1,7 +1,7 @@
 ghost use Rattle.std.specs.Prelude.{◌≡◌, [], map, string_bytes};
 ghost use Rattle.script_links.specs.Offered.{TellOffers};
 ghost use Rattle.script_run.specs.Played.{TellClosed};
-ghost use Rattle.brpc_eng.specs.Answers.{Answers, CountsStand};
+ghost use Rattle.brpc_eng.specs.Answers.{Answers, CountsStand, faults_over, linker_over, sink_over, source_over};
 ghost use Rattle.brpc_eng.specs.Status.{number_of};
 
 use crate::commands::{Command, read_command};
@@ -56,15 +56,8 @@ pub fn brpc<R: Threads + Wait + Sync, S: Source, K: Sink, L: Linker, G: Gate + S
     requires done { L.done links.old ≡ [] }
     // `TellClosed`: a reading half of this type tells whether it is found closed. Links in memory do. `TellOffers`: its links tell what
     // they took, gave and are offered, as those whose other end is the built-in server do.
-    ensures answers { Answers (map string_bytes words.now)
-        (record { given = S.left source.old; left = S.left source.new; faults = record { before = S.faults source.old; now = S.faults source.new } })
-        (record { before = K.contents out.old; now = K.contents out.new; faults = record { before = K.faults out.old; now = K.faults out.new } })
-        (record { always_ready = L.always_ready links.old; tells = TellClosed L.I.state; offering = TellOffers L.O.state L.I.state; tells_in = L.tells_in; asked = L.asked links.new; ends = L.back links.new; accepted = L.accepted links.new; done = L.done links.new; faults = record { before = L.faults links.old; now = L.faults links.new } })
-        result }
-    ensures counts { CountsStand
-        (record { before = S.faults source.old; now = S.faults source.new })
-        (record { before = L.faults links.old; now = L.faults links.new })
-        result }
+    ensures answers { Answers (map string_bytes words.now) (source_over S.left S.faults source.old source.new) (sink_over K.contents K.faults out.old out.new) (linker_over L.always_ready (TellClosed L.I.state) (TellOffers L.O.state L.I.state) L.tells_in L.asked L.back L.accepted L.done L.faults links.old links.new) result }
+    ensures counts { CountsStand (faults_over S.faults source.old source.new) (faults_over L.faults links.old links.new) result }
 {
     answer(rt, alloc, words, source, out, links, gate).number()
 }
@@ -83,15 +76,8 @@ fn answer<R: Threads + Wait + Sync, S: Source, K: Sink, L: Linker, G: Gate + Syn
     requires back { L.back links.old ≡ [] }
     requires accepted { L.accepted links.old ≡ 0 }
     requires done { L.done links.old ≡ [] }
-    ensures answers { Answers (map string_bytes words.now)
-        (record { given = S.left source.old; left = S.left source.new; faults = record { before = S.faults source.old; now = S.faults source.new } })
-        (record { before = K.contents out.old; now = K.contents out.new; faults = record { before = K.faults out.old; now = K.faults out.new } })
-        (record { always_ready = L.always_ready links.old; tells = TellClosed L.I.state; offering = TellOffers L.O.state L.I.state; tells_in = L.tells_in; asked = L.asked links.new; ends = L.back links.new; accepted = L.accepted links.new; done = L.done links.new; faults = record { before = L.faults links.old; now = L.faults links.new } })
-        (number_of result) }
-    ensures counts { CountsStand
-        (record { before = S.faults source.old; now = S.faults source.new })
-        (record { before = L.faults links.old; now = L.faults links.new })
-        (number_of result) }
+    ensures answers { Answers (map string_bytes words.now) (source_over S.left S.faults source.old source.new) (sink_over K.contents K.faults out.old out.new) (linker_over L.always_ready (TellClosed L.I.state) (TellOffers L.O.state L.I.state) L.tells_in L.asked L.back L.accepted L.done L.faults links.old links.new) (number_of result) }
+    ensures counts { CountsStand (faults_over S.faults source.old source.new) (faults_over L.faults links.old links.new) (number_of result) }
 {
     match read_command(words) {
         None => {

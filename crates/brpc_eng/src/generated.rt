@@ -1,6 +1,6 @@
 ghost use Rattle.std.specs.Prelude.{◌≡◌};
 ghost use Rattle.brpc_eng.specs.Status.{number_of};
-ghost use Rattle.brpc_eng.specs.Answers.{Generated};
+ghost use Rattle.brpc_eng.specs.Answers.{Generated, sink_over};
 
 use crate::draw::Draw;
 use crate::status::Status;
@@ -10,9 +10,7 @@ use std::alloc::Global;
 
 /// Draws a script and prints it.
 pub fn print_generated<K: Sink>(alloc: Global, draw: &Draw, out: &mut K) -> Status
-    ensures { Generated draw.now.seed draw.now.clients draw.now.operations
-        (record { before = K.contents out.old; now = K.contents out.new; faults = record { before = K.faults out.old; now = K.faults out.new } })
-        (number_of result) }
+    ensures { Generated draw.now.seed draw.now.clients draw.now.operations (sink_over K.contents K.faults out.old out.new) (number_of result) }
 {
     let seed = u64::from(draw.seed);
     let Ok(script) = generate(alloc, seed, draw.clients as u16, draw.operations as u16) else {

@@ -2,7 +2,7 @@ ghost use Rattle.std.specs.Prelude.{◌≡◌, []};
 ghost use Rattle.script_links.specs.Offered.{TellOffers};
 ghost use Rattle.script_run.specs.Played.{TellClosed, turns_of};
 ghost use Rattle.brpc_eng.specs.Status.{number_of};
-ghost use Rattle.brpc_eng.specs.Answers.{Wrote, FaultWritten, ReplayedInput, by_turns, in_memory, CountsStand};
+ghost use Rattle.brpc_eng.specs.Answers.{Wrote, FaultWritten, ReplayedInput, by_turns, in_memory, CountsStand, faults_over, linker_over, sink_over, source_over};
 
 use crate::run::run_and_report;
 use crate::status::Status;
@@ -22,15 +22,8 @@ pub fn replay<S: Source, K: Sink, L: Linker>(
 ) -> Status
     requires asked { L.asked links.old ≡ [] }
     requires back { L.back links.old ≡ [] }
-    ensures replayed { ReplayedInput in_memory (by_turns (λ script. turns_of script schedule))
-        (record { given = S.left source.old; left = S.left source.new; faults = record { before = S.faults source.old; now = S.faults source.new } })
-        (record { before = K.contents out.old; now = K.contents out.new; faults = record { before = K.faults out.old; now = K.faults out.new } })
-        (record { always_ready = L.always_ready links.old; tells = TellClosed L.I.state; offering = TellOffers L.O.state L.I.state; tells_in = L.tells_in; asked = L.asked links.new; ends = L.back links.new; accepted = L.accepted links.new; done = L.done links.new; faults = record { before = L.faults links.old; now = L.faults links.new } })
-        (number_of result) }
-    ensures counts { CountsStand
-        (record { before = S.faults source.old; now = S.faults source.new })
-        (record { before = L.faults links.old; now = L.faults links.new })
-        (number_of result) }
+    ensures replayed { ReplayedInput in_memory (by_turns (λ script. turns_of script schedule)) (source_over S.left S.faults source.old source.new) (sink_over K.contents K.faults out.old out.new) (linker_over L.always_ready (TellClosed L.I.state) (TellOffers L.O.state L.I.state) L.tells_in L.asked L.back L.accepted L.done L.faults links.old links.new) (number_of result) }
+    ensures counts { CountsStand (faults_over S.faults source.old source.new) (faults_over L.faults links.old links.new) (number_of result) }
 {
     let bytes = match read_all(alloc, source) {
         Ok(bytes) => bytes,
@@ -51,7 +44,7 @@ pub fn replay<S: Source, K: Sink, L: Linker>(
 
 /// Writes where a script is faulty.
 pub fn write_fault<K: Sink>(alloc: Global, line: u32, kind: u8, out: &mut K) -> Status
-    ensures { FaultWritten (record { before = K.contents out.old; now = K.contents out.new; faults = record { before = K.faults out.old; now = K.faults out.new } }) line kind (number_of result) }
+    ensures { FaultWritten (sink_over K.contents K.faults out.old out.new) line kind (number_of result) }
 {
     match format!(in alloc; "script fault line {line} kind {kind}\n") {
         Ok(text) => {
@@ -64,7 +57,7 @@ pub fn write_fault<K: Sink>(alloc: Global, line: u32, kind: u8, out: &mut K) -> 
 
 /// Writes the text of an answer, which stands whatever becomes of the writing.
 pub fn write_answer<K: Sink>(out: &mut K, text: &[u8])
-    ensures { Wrote (record { before = K.contents out.old; now = K.contents out.new; faults = record { before = K.faults out.old; now = K.faults out.new } }) text.now }
+    ensures { Wrote (sink_over K.contents K.faults out.old out.new) text.now }
 {
     let _ = write_all(out, text);
 }

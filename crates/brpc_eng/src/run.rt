@@ -7,7 +7,7 @@ ghost use Rattle.script_links.specs.Offered.{TellOffers};
 ghost use Rattle.script_run.specs.Played.{TellClosed, turns_of};
 ghost use Rattle.brpc_eng.specs.Status.{number_of};
 ghost use Rattle.brpc_eng.specs.Streams.{script_limit};
-ghost use Rattle.brpc_eng.specs.Answers.{OpenedBy, Ran, TextWritten};
+ghost use Rattle.brpc_eng.specs.Answers.{OpenedBy, Ran, TextWritten, linker_over, sink_over};
 
 use crate::status::Status;
 use script_items::Script;
@@ -27,13 +27,8 @@ pub fn run_and_report<K: Sink, L: Linker>(
     requires back { L.back links.old ≡ [] }
     requires script { (bytes : List ℕ) × (script_of bytes ≡ Ok script) × (length bytes ≤ script_limit) }
     requires pieces { list_all has_piece script ≡ true }
-    ensures ran { Ran (turns_of script schedule) script
-        (record { before = K.contents out.old; now = K.contents out.new; faults = record { before = K.faults out.old; now = K.faults out.new } })
-        (record { always_ready = L.always_ready links.old; tells = TellClosed L.I.state; offering = TellOffers L.O.state L.I.state; tells_in = L.tells_in; asked = L.asked links.new; ends = L.back links.new; accepted = L.accepted links.new; done = L.done links.new; faults = record { before = L.faults links.old; now = L.faults links.new } })
-        (number_of result) }
-    ensures opened { OpenedBy modes.Loop script
-        (record { always_ready = L.always_ready links.old; tells = TellClosed L.I.state; offering = TellOffers L.O.state L.I.state; tells_in = L.tells_in; asked = L.asked links.new; ends = L.back links.new; accepted = L.accepted links.new; done = L.done links.new; faults = record { before = L.faults links.old; now = L.faults links.new } })
-        (number_of result) }
+    ensures ran { Ran (turns_of script schedule) script (sink_over K.contents K.faults out.old out.new) (linker_over L.always_ready (TellClosed L.I.state) (TellOffers L.O.state L.I.state) L.tells_in L.asked L.back L.accepted L.done L.faults links.old links.new) (number_of result) }
+    ensures opened { OpenedBy modes.Loop script (linker_over L.always_ready (TellClosed L.I.state) (TellOffers L.O.state L.I.state) L.tells_in L.asked L.back L.accepted L.done L.faults links.old links.new) (number_of result) }
     ensures linker { number_of result ≢ 8 → L.faults links.new ≡ L.faults links.old }
 {
     match run_script(alloc, script, schedule, Print::Report, links) {
@@ -45,7 +40,7 @@ pub fn run_and_report<K: Sink, L: Linker>(
 
 /// Writes a report, or a summary.
 pub fn write_report<K: Sink>(out: &mut K, text: &[u8]) -> Status
-    ensures { TextWritten (record { before = K.contents out.old; now = K.contents out.new; faults = record { before = K.faults out.old; now = K.faults out.new } }) text.now (number_of result) }
+    ensures { TextWritten (sink_over K.contents K.faults out.old out.new) text.now (number_of result) }
 {
     match write_all(out, text) {
         Ok(()) => Status::Done,

@@ -2,7 +2,7 @@ ghost use Rattle.std.specs.Prelude.{◌≡◌, ◌≢◌, ◌⊎◌, []};
 ghost use Rattle.script_links.specs.Offered.{TellOffers};
 ghost use Rattle.script_run.specs.Played.{TellClosed};
 ghost use Rattle.brpc_eng.specs.Status.{number_of};
-ghost use Rattle.brpc_eng.specs.Answers.{ServedPort, TextWritten, WroteNothing, served_text};
+ghost use Rattle.brpc_eng.specs.Answers.{ServedPort, TextWritten, WroteNothing, served_text, linker_over, sink_over};
 
 use crate::doors::Doors;
 use crate::run::write_report;
@@ -25,10 +25,7 @@ pub fn serve<R: Threads + Wait + Sync, K: Sink, L: Linker>(
     requires back { L.back links.old ≡ [] }
     requires accepted { L.accepted links.old ≡ 0 }
     requires done { L.done links.old ≡ [] }
-    ensures served { ServedPort doors.now.connections
-        (record { before = K.contents out.old; now = K.contents out.new; faults = record { before = K.faults out.old; now = K.faults out.new } })
-        (record { always_ready = L.always_ready links.old; tells = TellClosed L.I.state; offering = TellOffers L.O.state L.I.state; tells_in = L.tells_in; asked = L.asked links.new; ends = L.back links.new; accepted = L.accepted links.new; done = L.done links.new; faults = record { before = L.faults links.old; now = L.faults links.new } })
-        (number_of result) }
+    ensures served { ServedPort doors.now.connections (sink_over K.contents K.faults out.old out.new) (linker_over L.always_ready (TellClosed L.I.state) (TellOffers L.O.state L.I.state) L.tells_in L.asked L.back L.accepted L.done L.faults links.old links.new) (number_of result) }
     ensures linker { number_of result ≢ 8 → L.faults links.new ≡ L.faults links.old }
 {
     match serve_all(
@@ -48,8 +45,8 @@ pub fn serve<R: Threads + Wait + Sync, K: Sink, L: Linker>(
 
 /// Writes how many connections were served, and how many frames had replies.
 fn write_served<K: Sink>(alloc: Global, connections: u32, frames: u64, out: &mut K) -> Status
-    ensures { TextWritten (record { before = K.contents out.old; now = K.contents out.new; faults = record { before = K.faults out.old; now = K.faults out.new } }) (served_text connections frames) (number_of result)
-        ⊎ ((number_of result ≡ 7) × WroteNothing (record { before = K.contents out.old; now = K.contents out.new; faults = record { before = K.faults out.old; now = K.faults out.new } })) }
+    ensures { TextWritten (sink_over K.contents K.faults out.old out.new) (served_text connections frames) (number_of result)
+        ⊎ ((number_of result ≡ 7) × WroteNothing (sink_over K.contents K.faults out.old out.new)) }
 {
     match format!(in alloc; "served {connections} frames {frames}\n") {
         Ok(text) => write_report(out, text.as_bytes()),

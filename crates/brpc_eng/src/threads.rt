@@ -5,7 +5,7 @@ ghost use Rattle.script_links.specs.Offered.{TellOffers};
 ghost use Rattle.script_threads.specs.Served.{IsShort};
 ghost use Rattle.script_run.specs.Played.{TellClosed};
 ghost use Rattle.brpc_eng.specs.Status.{number_of};
-ghost use Rattle.brpc_eng.specs.Answers.{OpenedBy, RanOnThreads, ReplayedInput, RunTold, CountsStand, run_mode};
+ghost use Rattle.brpc_eng.specs.Answers.{OpenedBy, RanOnThreads, ReplayedInput, RunTold, CountsStand, run_mode, faults_over, linker_over, sink_over, source_over};
 
 use crate::replay::write_fault;
 use crate::run::write_report;
@@ -41,15 +41,8 @@ pub fn run_threads<R: Threads + Wait + Sync, S: Source, K: Sink, L: Linker, G: G
 ) -> Status
     requires asked { L.asked links.old ≡ [] }
     requires back { L.back links.old ≡ [] }
-    ensures replayed { ReplayedInput (run_mode port) (RanOnThreads (run_mode port))
-        (record { given = S.left source.old; left = S.left source.new; faults = record { before = S.faults source.old; now = S.faults source.new } })
-        (record { before = K.contents out.old; now = K.contents out.new; faults = record { before = K.faults out.old; now = K.faults out.new } })
-        (record { always_ready = L.always_ready links.old; tells = TellClosed L.I.state; offering = TellOffers L.O.state L.I.state; tells_in = L.tells_in; asked = L.asked links.new; ends = L.back links.new; accepted = L.accepted links.new; done = L.done links.new; faults = record { before = L.faults links.old; now = L.faults links.new } })
-        (number_of result) }
-    ensures counts { CountsStand
-        (record { before = S.faults source.old; now = S.faults source.new })
-        (record { before = L.faults links.old; now = L.faults links.new })
-        (number_of result) }
+    ensures replayed { ReplayedInput (run_mode port) (RanOnThreads (run_mode port)) (source_over S.left S.faults source.old source.new) (sink_over K.contents K.faults out.old out.new) (linker_over L.always_ready (TellClosed L.I.state) (TellOffers L.O.state L.I.state) L.tells_in L.asked L.back L.accepted L.done L.faults links.old links.new) (number_of result) }
+    ensures counts { CountsStand (faults_over S.faults source.old source.new) (faults_over L.faults links.old links.new) (number_of result) }
 {
     let bytes = match read_all(alloc, source) {
         Ok(bytes) => bytes,
@@ -82,13 +75,8 @@ fn threads_and_report<R: Threads + Wait + Sync, K: Sink, L: Linker, G: Gate + Sy
     requires back { L.back links.old ≡ [] }
     requires short { IsShort script.now }
     requires pieces { list_all has_piece script.now ≡ true }
-    ensures ran { RanOnThreads (run_mode port) script.now
-        (record { before = K.contents out.old; now = K.contents out.new; faults = record { before = K.faults out.old; now = K.faults out.new } })
-        (record { always_ready = L.always_ready links.old; tells = TellClosed L.I.state; offering = TellOffers L.O.state L.I.state; tells_in = L.tells_in; asked = L.asked links.new; ends = L.back links.new; accepted = L.accepted links.new; done = L.done links.new; faults = record { before = L.faults links.old; now = L.faults links.new } })
-        (number_of result) }
-    ensures opened { OpenedBy (run_mode port) script.now
-        (record { always_ready = L.always_ready links.old; tells = TellClosed L.I.state; offering = TellOffers L.O.state L.I.state; tells_in = L.tells_in; asked = L.asked links.new; ends = L.back links.new; accepted = L.accepted links.new; done = L.done links.new; faults = record { before = L.faults links.old; now = L.faults links.new } })
-        (number_of result) }
+    ensures ran { RanOnThreads (run_mode port) script.now (sink_over K.contents K.faults out.old out.new) (linker_over L.always_ready (TellClosed L.I.state) (TellOffers L.O.state L.I.state) L.tells_in L.asked L.back L.accepted L.done L.faults links.old links.new) (number_of result) }
+    ensures opened { OpenedBy (run_mode port) script.now (linker_over L.always_ready (TellClosed L.I.state) (TellOffers L.O.state L.I.state) L.tells_in L.asked L.back L.accepted L.done L.faults links.old links.new) (number_of result) }
     ensures linker { number_of result ≢ 8 → L.faults links.new ≡ L.faults links.old }
 {
     let mode = run_mode(port);
@@ -98,7 +86,7 @@ fn threads_and_report<R: Threads + Wait + Sync, K: Sink, L: Linker, G: Gate + Sy
 
 /// Writes the report of a run, or tells what stood in its way.
 fn tell_run<K: Sink>(ran: Result<Vec<u8>, OpenFault>, out: &mut K) -> Status
-    ensures { RunTold ran (record { before = K.contents out.old; now = K.contents out.new; faults = record { before = K.faults out.old; now = K.faults out.new } }) (number_of result) }
+    ensures { RunTold ran (sink_over K.contents K.faults out.old out.new) (number_of result) }
 {
     match ran {
         Ok(text) => write_report(out, &text),

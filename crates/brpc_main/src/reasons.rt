@@ -1,5 +1,5 @@
 ghost use Rattle.std.specs.Prelude.{◌≡◌};
-ghost use Rattle.brpc_eng.specs.Answers.{Wrote};
+ghost use Rattle.brpc_eng.specs.Answers.{Wrote, sink_over};
 ghost use Rattle.brpc_main.specs.Reasons.{reason_text};
 
 use sock_io::{Sink, write_all};
@@ -21,7 +21,7 @@ fn reason(status: u8) -> &'static [u8]
 
 /// Writes that line: whole, or a beginning of it where the count of faults rose.
 pub fn explain<E: Sink>(errors: &mut E, status: u8)
-    ensures { Wrote (record { before = E.contents errors.old; now = E.contents errors.new; faults = record { before = E.faults errors.old; now = E.faults errors.new } }) (reason_text status) }
+    ensures { Wrote (sink_over E.contents E.faults errors.old errors.new) (reason_text status) }
 {
     let _ = write_all(errors, reason(status));
 }

@@ -3,7 +3,7 @@ ghost use Rattle.std.specs.Process.{exit_status};
 ghost use Rattle.std.specs.Vec.Iter.{into_iter_items};
 ghost use Rattle.script_links.specs.Offered.{TellOffers};
 ghost use Rattle.brpc_eng.specs.script_run.specs.Played.{TellClosed};
-ghost use Rattle.brpc_eng.specs.Answers.{Answers, Wrote};
+ghost use Rattle.brpc_eng.specs.Answers.{Answers, Wrote, linker_over, sink_over, source_over};
 ghost use Rattle.brpc_main.specs.Reasons.{reason_text};
 ghost use Rattle.brpc_main.specs.Words.{arguments, words_behind};
 
@@ -38,13 +38,9 @@ pub fn run_with<R: Threads + Wait + Sync, S: Source, K: Sink, L: Linker, G: Gate
     requires back { L.back links.old ≡ [] }
     requires accepted { L.accepted links.old ≡ 0 }
     requires done { L.done links.old ≡ [] }
-    ensures answers { Answers (words_behind args)
-        (record { given = S.left source.old; left = S.left source.new; faults = record { before = S.faults source.old; now = S.faults source.new } })
-        (record { before = K.contents out.old; now = K.contents out.new; faults = record { before = K.faults out.old; now = K.faults out.new } })
-        (record { always_ready = L.always_ready links.old; tells = TellClosed L.I.state; offering = TellOffers L.O.state L.I.state; tells_in = L.tells_in; asked = L.asked links.new; ends = L.back links.new; accepted = L.accepted links.new; done = L.done links.new; faults = record { before = L.faults links.old; now = L.faults links.new } })
-        (exit_status result)
+    ensures answers { Answers (words_behind args) (source_over S.left S.faults source.old source.new) (sink_over K.contents K.faults out.old out.new) (linker_over L.always_ready (TellClosed L.I.state) (TellOffers L.O.state L.I.state) L.tells_in L.asked L.back L.accepted L.done L.faults links.old links.new) (exit_status result)
         ⊎ ((exit_status result ≡ 7) × (source.new ≡ source.old) × (out.new ≡ out.old) × (links.new ≡ links.old)) }
-    ensures explained { Wrote (record { before = E.contents errors.old; now = E.contents errors.new; faults = record { before = E.faults errors.old; now = E.faults errors.new } }) (reason_text (exit_status result)) }
+    ensures explained { Wrote (sink_over E.contents E.faults errors.old errors.new) (reason_text (exit_status result)) }
 {
     let status = answer(rt, alloc, args, source, out, links, gate);
     explain(errors, status);
@@ -65,11 +61,7 @@ fn answer<R: Threads + Wait + Sync, S: Source, K: Sink, L: Linker, G: Gate + Syn
     requires back { L.back links.old ≡ [] }
     requires accepted { L.accepted links.old ≡ 0 }
     requires done { L.done links.old ≡ [] }
-    ensures { Answers (words_behind args)
-        (record { given = S.left source.old; left = S.left source.new; faults = record { before = S.faults source.old; now = S.faults source.new } })
-        (record { before = K.contents out.old; now = K.contents out.new; faults = record { before = K.faults out.old; now = K.faults out.new } })
-        (record { always_ready = L.always_ready links.old; tells = TellClosed L.I.state; offering = TellOffers L.O.state L.I.state; tells_in = L.tells_in; asked = L.asked links.new; ends = L.back links.new; accepted = L.accepted links.new; done = L.done links.new; faults = record { before = L.faults links.old; now = L.faults links.new } })
-        result
+    ensures { Answers (words_behind args) (source_over S.left S.faults source.old source.new) (sink_over K.contents K.faults out.old out.new) (linker_over L.always_ready (TellClosed L.I.state) (TellOffers L.O.state L.I.state) L.tells_in L.asked L.back L.accepted L.done L.faults links.old links.new) result
         ⊎ ((result ≡ 7) × (source.new ≡ source.old) × (out.new ≡ out.old) × (links.new ≡ links.old)) }
 {
     match all_of(alloc, args) {

@@ -44,11 +44,13 @@ fn refuse_frame<O: Out, R: Wait>(
             let attempt = Some(msg.label.attempt);
             post_error(rt, &tables.ids, calls, msg.owner, EFAILEDSOCKET, attempt);
             tables.socks.release(seat, sock);
+            drop(msg);
         }
         Refused::Full(sock, msg) => {
             let attempt = Some(msg.label.attempt);
             post_error(rt, &tables.ids, calls, msg.owner, EREQUESTS, attempt);
             tables.socks.release(seat, sock);
+            drop(msg);
         }
     }
 }
@@ -133,6 +135,7 @@ pub fn attempt_one<O: Out, R: Wait>(
                 EFAILEDSOCKET,
                 Some(attempt),
             );
+            drop(msg);
         }
     }
 }

@@ -54,12 +54,14 @@ pub fn call_one<O: Out, R: Wait>(
     ensures own { (n : ℕ) → OwnList n seat.old.me.0 → OwnList (n + 1) seat.new.me.0 }
 {
     let Some(socket) = tables.socks.find(seat, call.name(0)) else {
+        drop(call);
         return Ok(Called::Unopened);
     };
     let operation = call.operation;
     let range = call.range;
     let kept = call.share()?;
     let Ok(id) = tables.ids.create(&mut calls.seat, range, call) else {
+        drop(kept);
         return Ok(Called::NoSlot);
     };
     let slots = tables.ids.plan.slots;
@@ -68,8 +70,10 @@ pub fn call_one<O: Out, R: Wait>(
     let Ok(frame) = CallFrame::new(calls.alloc, &mut calls.pool, &kept, id, 0) else {
         calls.starved = true;
         give_up(rt, &tables.ids, calls, id);
+        drop(kept);
         return Err(NoMemory);
     };
+    drop(kept);
     let msg = letter_of(frame, operation, id, 0);
     attempt_one(rt, tables, seat, calls, socket, msg);
     Ok(Called::Begun(id))

@@ -58,11 +58,15 @@ fn go_to<O: Out, R: Wait>(
     let attempt = Some(msg.label.attempt);
     if is_stray(tables, name, msg.label.operation) {
         post_error(rt, &tables.ids, calls, msg.owner, EFAILEDSOCKET, attempt);
+        drop(msg);
         return;
     }
     match tables.socks.find(seat, name) {
         Some(socket) => attempt_one(rt, tables, seat, calls, socket, msg),
-        None => post_error(rt, &tables.ids, calls, msg.owner, EFAILEDSOCKET, attempt),
+        None => {
+            post_error(rt, &tables.ids, calls, msg.owner, EFAILEDSOCKET, attempt);
+            drop(msg);
+        }
     }
 }
 
@@ -108,6 +112,7 @@ pub fn retry_one<O: Out, R: Wait>(
             attempt,
         } => {
             handle(&tables.ids, calls, next, code, attempt);
+            drop(frame);
             Ok(())
         }
         Unlocked::Open => {

@@ -18,20 +18,13 @@ use Rattle.seat_programs.specs.Posts.{post, post_with, posted, decide, decided}
 use Rattle.seat_programs.specs.Attempts.{attempt, begin_call, claim_id, call, tried_again, retry_locked, retry, expire_outcome, expire, join}
 use Rattle.id_runs.proofs.Loops.{not_equal}
 use Rattle.call_causes.specs.Scenes.{Birth, Scene, In, Said, IsOver, IsBorn, IsOpened, SeeksName, IsClaimed, CauseOf, of_expiry, by_expiry, Named, Begun, IsTaskOf, HasNoneOf, NoneFound, HasBegunIn, HasNotBegunIn, WhyOwn, IsJust, ToldOf, was_said, was_sent, was_begun, AreTold}
-use Rattle.call_causes.specs.Says.{Shape, with_attempt, NoSlot, Claims, Locked, Mark, with_slot, with_owed, with_made, with_done, IsFree, put_in, SaidBy, NoneOfSetup, Again, LeavesUnlock, LeavesLock, SaysOn}
+use Rattle.call_causes.specs.Says.{Shape, with_attempt, NoSlot, Claims, Locked, Mark, with_slot, with_owed, with_made, with_done, IsFree, put_in, SaidBy, NoneOfSetup, Again, LeavesUnlock, LeavesLock}
 use Rattle.call_causes.proofs.Lasting.{far, own_on}
-use Rattle.call_causes.proofs.Posts.{After, Follows, way, again_same, follows_on, id_back, was_posted, failed_of, Exits, Decided, decide_says, decided_says, post_with_says, post_says}
+use Rattle.call_causes.proofs.Posts.{speech, way, again_same, follows_on, id_back, was_posted, failed_of, Exits, Decided, decide_says, decided_says, post_with_says, post_says}
 use Rattle.call_causes.proofs.Programs.{attempt_says}
 
 module _ (p : Plan) (q : IdPlan) (clients : List (List Task)) (gives : ℕ → List ℕ) where
-  abbrev Tells : Scene → Mark → Program → Type 0
-  Tells w m x = SaysOn p q clients gives w m x
-
-  abbrev Later' : Scene → Scene → Type 0
-  Later' w v = After p q clients gives w v
-
-  abbrev Ends : Scene → Mark → Program → Type 0
-  Ends w m x = Follows p q clients gives w m x
+  open speech p q clients gives use {Tells, Later', Ends}
 
   -- ## What tasks done tell
 

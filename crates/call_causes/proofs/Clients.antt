@@ -9,27 +9,20 @@ use Rattle.corr_core.specs.declared.marks.Plan.{Plan as IdPlan}
 use Rattle.seat_programs.specs.declared.task.Op.{Op}
 use Rattle.seat_programs.specs.declared.task.Op.TheVariants as ops
 use Rattle.seat_programs.specs.declared.task.Task.{Task}
-use Rattle.seat_programs.specs.Programs.{Program, Say, Sent, NO_SOCKET, release, address, reach, set_failed, make_socket, open_from, fail_outcome, fail, drop_held}
+use Rattle.seat_programs.specs.Programs.{Program, Say, Sent, NO_SOCKET, release, address, reach, set_failed, make_socket, open_from, fail_outcome, fail}
 use Rattle.seat_programs.specs.Sends.{accept, heading_of, claim_from, start, send}
 use Rattle.seat_programs.specs.Clients.{HeldLife, held_under, without_name, give_back, drop_of, operation, client_from, ending_of}
 use Rattle.seat_programs.specs.Scripts.{sizes_of}
 use Rattle.id_runs.proofs.Loops.{not_equal}
 use Rattle.call_causes.specs.Scenes.{Scene, In, Named, IsTaskOf, NoneFound, WhyOwn, IsJust}
-use Rattle.call_causes.specs.Says.{Mark, with_slot, with_done, IsFree, SaidBy, Again, SaysOn}
+use Rattle.call_causes.specs.Says.{Mark, with_slot, with_done, IsFree, SaidBy, Again}
 use Rattle.call_causes.proofs.Lasting.{far}
-use Rattle.call_causes.proofs.Posts.{After, Follows, way, again_same, follows_later}
+use Rattle.call_causes.proofs.Posts.{speech, way, again_same, follows_later}
 use Rattle.call_causes.proofs.Programs.{release_says, address_says, set_failed_says, accept_says, releases}
 use Rattle.call_causes.proofs.Calls.{IsCalls, IsNext, own_at, none_found, call_says, expire_says, join_says}
 
 module _ (p : Plan) (q : IdPlan) (clients : List (List Task)) (gives : ℕ → List ℕ) where
-  abbrev Tells : Scene → Mark → Program → Type 0
-  Tells w m x = SaysOn p q clients gives w m x
-
-  abbrev Later' : Scene → Scene → Type 0
-  Later' w v = After p q clients gives w v
-
-  abbrev Ends : Scene → Mark → Program → Type 0
-  Ends w m x = Follows p q clients gives w m x
+  open speech p q clients gives use {Tells, Later', Ends}
 
   -- a `call` knows its operation, `expire` and `join` name calls, and a `fail` has the code of no call's end
   abbrev pub FitsOp : ℕ → Op → Type 0

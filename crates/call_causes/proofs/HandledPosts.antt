@@ -1,5 +1,5 @@
 -- A reader that posts, or sets its socket failed, has handled all frames that its link gives: each response that its id might have stands among the soon ones.
-use Rattle.std.proofs.Common.{◌≡◌, ℕ, ◌+◌, ◌<◌, ◌≤◌, ◌==◌, ◌&&◌, inl, inr, ⊎_elim, Bool, true, false, cond, eqb-true, eq-eqb, nat_lt, lt-ltb, List, [], ◌∷◌, ◌++◌, length, slice_get, Some, append_assoc, refl, sym, ap, ◌∙◌, subst, arith}
+use Rattle.std.proofs.Common.{◌≡◌, ℕ, ◌+◌, ◌<◌, ◌≤◌, ◌==◌, ◌&&◌, inl, inr, ⊎_elim, Bool, true, false, cond, eqb-true, eq-eqb, nat_lt, lt-ltb, List, [], ◌∷◌, length, slice_get, Some, refl, sym, ap, ◌∙◌, subst, arith}
 use Rattle.std.specs.Prelude.{slice_index}
 use Rattle.std.proofs.lemmas.Bool.{true≢false}
 use mathlib.Core.Option.{Option, none, some, some-injective}
@@ -10,28 +10,25 @@ use Rattle.corr_core.specs.Word.{Parts, parts}
 use Rattle.id_rule.specs.Lawful.{id_index}
 use Rattle.corr_core.specs.declared.marks.Plan.{Plan as IdPlan}
 use Rattle.seat_programs.specs.Calls.{LoadOpen}
-use Rattle.seat_programs.specs.Asides.{Step, Found, PostId, TakeBytes, Taking, call_id, id_slot, id_first}
-use Rattle.seat_programs.specs.Heads.{Head, Exit, Retry, Decides, Locks, Reads}
-use Rattle.seat_programs.specs.Programs.{Program, Do, TakeMessage, TakeHome, PutHome, PutBytes, AskReady, Aside, Round}
+use Rattle.seat_programs.specs.Asides.{Step, Found, PostId, Taking, call_id, id_slot, id_first}
+use Rattle.seat_programs.specs.Heads.{Retry, Decides, Locks}
+use Rattle.seat_programs.specs.Programs.{Program, Do, Aside, Round}
 use Rattle.seat_programs.specs.Beside.{found_in}
 use Rattle.seat_programs.specs.Readers.{slot_in, version_in, kept_for, reader}
-use Rattle.seat_programs.specs.Cores.{Core, SeatState, resolved, next_step}
+use Rattle.seat_programs.specs.Cores.{Core, SeatState}
 use Rattle.seat_programs.specs.Ticks.{Moment, taken}
 use Rattle.outcome_causes.specs.sock_runs.specs.Sound.{first_step}
 use Rattle.owed_calls.proofs.OwingRuns.{same_first}
 use Rattle.call_causes.specs.Posts.{Post, posts_by, posted_with, posted_at}
 use Rattle.call_causes.specs.Scenes.{In}
-use Rattle.call_causes.proofs.Handled.{Sit, word_of, frames_in, IsResp, Done, Later, Over, Frozen, AllFrom, all_on, all_at, over_on, frozen_on, done_on}
-use Rattle.call_causes.proofs.HandledStates.{After, after_first, after_next, after_map}
-use Rattle.call_causes.proofs.HandledSteps.{Took, Onward, Finds, bytes_in, State, waiting, reading, seeking, taking, ending_, freeing, over, state_on, onward}
+use Rattle.call_causes.proofs.Handled.{Sit, word_of, frames_in, IsResp, Done, Later, Over, Frozen, all_at, over_on, frozen_on}
+use Rattle.call_causes.proofs.HandledStates.{after_first, after_map}
+use Rattle.call_causes.proofs.HandledSteps.{IsOver, over_onward, Onward, State, waiting, reading, seeking, taking, ending_, freeing, over, state_on, onward}
 use Rattle.call_causes.proofs.HandledTicks.{sit, Known, HasReader}
 
 -- ## A reader behind the end of its reading
 
 module _ (k ids : ℕ) where
-  abbrev pub IsOver : Sit → Program → Type 0
-  IsOver s x = (kept : List Frame) × Over k ids s kept × After (Frozen k ids s) kept x
-
   -- each response of a version behind this first one, in this id slot, is soon
   abbrev pub Claim : ℕ → ℕ → Sit → Type 0
   Claim i first s = (n : ℕ) (f : Frame) → slice_get (frames_in s.bytes) n ≡ Some f → IsResp k ids f → slot_in f ≡ i → first < version_in f → In (k, n) s.soon
@@ -84,7 +81,7 @@ module _ (k ids : ℕ) where
 
   module _ (C : Sit → Type 0) (c_on : (s t : Sit) → frames_in t.bytes ≡ frames_in s.bytes → ((x : ℕ × ℕ) → In x s.soon → In x t.soon) → C s → C t) where
     abbrev pub With : Sit → Program → Type 0
-    With s x = IsOver s x × C s
+    With s x = IsOver k ids s x × C s
 
     pub with_on : (s t : Sit) → Later k ids s t → (x : Program) → With s x → With t x
     with_on s t l x c = (
@@ -92,48 +89,11 @@ module _ (k ids : ℕ) where
       c_on s t (ap frames_in l.bytes) l.soon c.1,
     )
 
-    module _ (s t : Sit) (ws : List Retry) (kept : List Frame) (ov : Over k ids s kept) (claim : C s) where
-      over_later : Later k ids s t → (x : Program) → After (Frozen k ids s) kept x → With t (next_step (resolved ws x))
-      over_later l x a = (
-        (kept, over_on k ids s t l kept ov, after_next (Frozen k ids t) kept ws x (after_map (Frozen k ids s) (Frozen k ids t) kept (frozen_on k ids s t l) x a)),
-        c_on s t (ap frames_in l.bytes) l.soon claim,
-      )
-
-      over_took : Frozen k ids s → (tk : Taking) → Took k ids s t tk → (x : Program) → After (Frozen k ids s) kept x → With t (next_step (resolved ws x))
-      over_took frozen tk l x a = (
-        (
-          kept,
-          subst (AllFrom (Done k ids t kept) 0) (sym frames_are) (all_on (Done k ids s kept) (Done k ids mid kept) (done_on k ids s mid (record { words = l.words; soon = l.soon; bytes = refl }) kept) 0 (frames_in s.bytes) ov),
-          after_next (Frozen k ids t) kept ws x (after_map (Frozen k ids s) (Frozen k ids t) kept (λ z more. ap (λ b. frames_in (b ++ more)) l.bytes ∙ (ap frames_in (append_assoc s.bytes (bytes_in tk) more) ∙ (z (bytes_in tk ++ more) ∙ sym frames_are))) x a),
-        ),
-        c_on s t frames_are l.soon claim,
-      )
-        where
-          mid : Sit
-          mid = record { words = t.words; soon = t.soon; bytes = s.bytes }
-
-          frames_are : frames_in t.bytes ≡ frames_in s.bytes
-          frames_are = ap frames_in l.bytes ∙ frozen (bytes_in tk)
-
-      over_aside : (step : Step) (next : Found step → Program) → After (Frozen k ids s) kept (Aside step next) → Onward k ids With s t ws (Aside step next)
-      over_aside (TakeBytes l room) next a = λ tk took_. over_took a.0 tk took_ (next tk) (a.1 tk)
-      over_aside step next a = λ found l f. over_later l (next found) (a.1 found)
-
-      over_onward : (x : Program) → After (Frozen k ids s) kept x → Onward k ids With s t ws x
-      over_onward (Do call next) a = λ found l. over_later l (next found) (a found)
-      over_onward (Aside step next) a = over_aside step next a
-      over_onward (TakeMessage q next) a = a
-      over_onward (TakeHome l next) a = a
-      over_onward (PutHome l n after) a = a
-      over_onward (PutBytes l asked bytes next) a = a
-      over_onward (AskReady l next) a = a
-      over_onward other a = tt
-
     pub with_onward : (s t : Sit) (ws : List Retry) (x : Program) → With s x → Onward k ids With s t ws (first_step x)
-    with_onward s t ws x c = over_onward s t ws c.0.0 c.0.1 c.1 (first_step x) (after_first (Frozen k ids s) c.0.0 x c.0.2)
+    with_onward s t ws x c = over_onward k ids s t ws c.0.0 c.0.1 With (λ same soon y still. (still, c_on s t same soon c.1)) (first_step x) (after_first (Frozen k ids s) c.0.0 x c.0.2)
 
   abbrev pub Claims : ℕ → ℕ → Sit → Program → Type 0
-  Claims i first s x = IsOver s x × Claim i first s
+  Claims i first s x = IsOver k ids s x × Claim i first s
 
   pub claims_on : (i first : ℕ) (s t : Sit) → Later k ids s t → (x : Program) → Claims i first s x → Claims i first t x
   claims_on i first s t l x c = with_on (Claim i first) (claim_on i first) s t l x c
@@ -142,7 +102,7 @@ module _ (k ids : ℕ) where
   claims_onward i first s t ws x c = with_onward (Claim i first) (claim_on i first) s t ws x c
 
   abbrev pub Silence : ℕ → ℕ → ℕ → Sit → Program → Type 0
-  Silence i first range s x = IsOver s x × Silent i first range s
+  Silence i first range s x = IsOver k ids s x × Silent i first range s
 
   pub silence_on : (i first range : ℕ) (s t : Sit) → Later k ids s t → (x : Program) → Silence i first range s x → Silence i first range t x
   silence_on i first range s t l x c = with_on (Silent i first range) (silent_on i first range) s t l x c
@@ -165,7 +125,7 @@ module _ (k ids : ℕ) where
     IsDecision (Round (Decides id asked word e) next) = Unit {0}
     IsDecision other = ⊥
 
-    pub deciding_over : (s : Sit) (x : Program) → State k ids calls o many s x → IsDecision x → IsOver s x
+    pub deciding_over : (s : Sit) (x : Program) → State k ids calls o many s x → IsDecision x → IsOver k ids s x
     deciding_over s x (waiting is none_) d = absurd (subst IsDecision is d)
     deciding_over s x (reading r is at) d = absurd (subst IsDecision is d)
     deciding_over s x (seeking r bytes before f fs kept w is resp sought m) d = absurd (subst IsDecision is d)
@@ -175,7 +135,7 @@ module _ (k ids : ℕ) where
     deciding_over s x (over kept ov a) d = (kept, ov, a)
 
     -- whoever makes one is
-    pub late_over : (s : Sit) (x : Program) → State k ids calls o many s x → IsLate (first_step x) → IsOver s x
+    pub late_over : (s : Sit) (x : Program) → State k ids calls o many s x → IsLate (first_step x) → IsOver k ids s x
     late_over s x (waiting is none_) late = absurd (subst (λ y. IsLate (first_step y)) is late)
     late_over s x (reading r is at) late = absurd (subst (λ y. IsLate (first_step y)) is late)
     late_over s x (seeking r bytes before f fs kept w is resp sought m) late = absurd (by_word w (subst (λ y. IsLate (first_step y)) is late))

@@ -32,7 +32,7 @@ use Rattle.call_causes.proofs.Numbered.{AreNumbered}
 use Rattle.call_causes.proofs.Claiming.{HaveSlots}
 use Rattle.call_causes.proofs.Firsts.{MayFirst, may_first}
 use Rattle.call_causes.proofs.Ticks.{other_there}
-use Rattle.call_causes.proofs.Run.{Story, one_tick}
+use Rattle.call_causes.proofs.Run.{Story, one_tick, in_either}
 use Rattle.call_causes.proofs.Handled.{Sit, Later}
 use Rattle.call_causes.proofs.HandledFacts.{facts}
 use Rattle.call_causes.proofs.HandledSteps.{Onward, State, state_on, onward}
@@ -98,15 +98,10 @@ module _ (p : Plan) (q : IdPlan) (k : ℕ) (calls : List ℕ) (o : ℕ) (many : 
   abbrev pub Reads' : List (ℕ × ℕ) → Core → Type 0
   Reads' soon c = HasReader p q k (State k q.slots calls o many) (state_on k q.slots calls o many) (onward k q.slots calls o many) soon c
 
-  in_two : {A : Type 0} (x : A) (xs ys : List A) → In x (xs ++ ys) → In x xs ⊎ In x ys
-  in_two x [] ys there = inr there
-  in_two x (z ∷ xs) ys (inl same) = inl (inl same)
-  in_two x (z ∷ xs) ys (inr there) = ⊎_elim (λ a. inl (inr a)) (λ a. inr a) (in_two x xs ys there)
-
-  by_reader : (c : Core) (m : Moment) (x : Post) → In x (posted_by (32 + k) c m) → (m.seat ≡ 32 + k) × In x (posted_at c m)
-  by_reader c m x there = by_seat (m.seat == 32 + k) refl there
+  at_reader : {A : Type 0} (m : Moment) (xs : List A) (x : A) → In x (cond (m.seat == 32 + k) xs []) → (m.seat ≡ 32 + k) × In x xs
+  at_reader {A = A} m xs x there = by_seat (m.seat == 32 + k) refl there
     where
-      by_seat : (b : Bool) → (m.seat == 32 + k) ≡ b → In x (cond b (posted_at c m) []) → (m.seat ≡ 32 + k) × In x (posted_at c m)
+      by_seat : (b : Bool) → (m.seat == 32 + k) ≡ b → In x (cond b xs []) → (m.seat ≡ 32 + k) × In x xs
       by_seat true is z = (eqb-true m.seat (32 + k) is, z)
       by_seat false is z = absurd z
 
@@ -122,22 +117,15 @@ module _ (p : Plan) (q : IdPlan) (k : ℕ) (calls : List ℕ) (o : ℕ) (many : 
   pub posts_claim : (x : Post) (ms : List Moment) (soon : List (ℕ × ℕ)) (c : Core) → AreKnown p q c ms → Reads' soon c → In x (shows_in (posted_by (32 + k)) p c ms) → HasClaims p q k x (soon ++ shows_in (soon_at p) p c ms) (run p c ms)
   posts_claim x [] soon c known h there = absurd there
   posts_claim x (m ∷ ms) soon c known h there = ⊎_elim
-      (λ now. let y = by_reader c m x now in claims_along x (m ∷ ms) soon c known (claims_at p q k c m known.0 x y.1 soon (over_at p q k c m known.0 x y.1 calls o many soon h y.0)))
+      (λ now. let y = at_reader m (posted_at c m) x now in claims_along x (m ∷ ms) soon c known (claims_at p q k c m known.0 x y.1 soon (over_at p q k c m known.0 x y.1 calls o many soon h y.0)))
       (λ later. subst (λ l. HasClaims p q k x l (run p (ticked p c m) ms)) (append_assoc soon (soon_at p c m) (shows_in (soon_at p) p (ticked p c m) ms))
       (posts_claim x ms (soon ++ soon_at p c m) (ticked p c m) known.1 (reader_ticks p q k (State k q.slots calls o many) (state_on k q.slots calls o many) (onward k q.slots calls o many) soon c m known.0 h) later))
-      (in_two x (posted_by (32 + k) c m) (shows_in (posted_by (32 + k)) p (ticked p c m) ms) there)
+      (in_either x (posted_by (32 + k) c m) (shows_in (posted_by (32 + k)) p (ticked p c m) ms) there)
 
   -- ## Decisions
 
   abbrev pub IsSilent : Decision → List (ℕ × ℕ) → Core → Type 0
   IsSilent d soon c = (seat : SeatState) → get_elem? c.seats (32 + k) ≡ some seat → Silence k q.slots (id_slot d.id) (id_first d.id) d.asked.range (sit k c soon) seat.program
-
-  deciding : (m : Moment) (c : Core) (d : Decision) → In d (decided_by (32 + k) c m) → (m.seat ≡ 32 + k) × In d (decided_at c m)
-  deciding m c d there = by_seat (m.seat == 32 + k) refl there
-    where
-      by_seat : (b : Bool) → (m.seat == 32 + k) ≡ b → In d (cond b (decided_at c m) []) → (m.seat ≡ 32 + k) × In d (decided_at c m)
-      by_seat true is z = (eqb-true m.seat (32 + k) is, z)
-      by_seat false is z = absurd z
 
   -- the seat is at it
   abbrev Is' : Decision → Program → Type 0
@@ -149,7 +137,7 @@ module _ (p : Plan) (q : IdPlan) (k : ℕ) (calls : List ℕ) (o : ℕ) (many : 
   decision_is d other there = absurd there
 
   silent_at : (d : Decision) (m : Moment) (soon : List (ℕ × ℕ)) (c : Core) → Known q c m → Reads' soon c → In d (decided_by (32 + k) c m) → IsSilent d soon c
-  silent_at d m soon c known h there seat at = let y = deciding m c d there in by_whom y.0 (get_elem? c.seats m.seat) refl y.1
+  silent_at d m soon c known h there seat at = let y = at_reader m (decided_at c m) d there in by_whom y.0 (get_elem? c.seats m.seat) refl y.1
     where
       by_whom : m.seat ≡ 32 + k → (x : Option SeatState) → get_elem? c.seats m.seat ≡ x → In d (elim x as (λ o. List Decision) [ none ↦ [] | some s ↦ decision_in s.program ]) → Silence k q.slots (id_slot d.id) (id_first d.id) d.asked.range (sit k c soon) seat.program
       by_whom own none e z = absurd z
@@ -170,4 +158,4 @@ module _ (p : Plan) (q : IdPlan) (k : ℕ) (calls : List ℕ) (o : ℕ) (many : 
       (λ now. silence_along d (m ∷ ms) soon c known (silent_at d m soon c known.0 h now))
       (λ later. subst (λ l. IsSilent d l (run p (ticked p c m) ms)) (append_assoc soon (soon_at p c m) (shows_in (soon_at p) p (ticked p c m) ms))
       (decides_silent d ms (soon ++ soon_at p c m) (ticked p c m) known.1 (reader_ticks p q k (State k q.slots calls o many) (state_on k q.slots calls o many) (onward k q.slots calls o many) soon c m known.0 h) later))
-      (in_two d (decided_by (32 + k) c m) (shows_in (decided_by (32 + k)) p (ticked p c m) ms) there)
+      (in_either d (decided_by (32 + k) c m) (shows_in (decided_by (32 + k)) p (ticked p c m) ms) there)

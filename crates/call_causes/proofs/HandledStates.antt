@@ -21,6 +21,15 @@ use Rattle.outcome_causes.specs.sock_runs.specs.Sound.{first_step}
 abbrev pub posts_then : ℕ → ℕ → ℕ → List Frame → Program → ℕ → Program
 posts_then id e from kept rest found = cond (found == from) (cond ((parts from).state == 1) (posted_last id e kept rest (HasLocked (packed (posted_word (parts from) e)))) (posted_last id e kept rest WasQueued)) (judged id e found (posted_last id e kept rest))
 
+-- a final error ends a call whatever attempts are left
+pub ends_final : (w : Parts) (e : ℕ) → is_final (code_of e) ≡ true → ends_call w e ≡ true
+ends_final w e final = by (attempt_of e == WHOLE) (is_final (code_of e)) final
+  where
+    by : (a b : Bool) → b ≡ true → (a || (b || (w.attempt + 2 == w.range))) ≡ true
+    by true b is = refl
+    by false true is = refl
+    by false false is = absurd (true≢false (sym is))
+
 -- a reader that keeps these responses takes bytes only where F, posts errors that end calls, and decides on those of calls to which it keeps no response
 module _ (F : Type 0) (kept : List Frame) where
   abbrev pub Posting' : (step : Step) → (Found step → Program) → Type 0
@@ -104,14 +113,6 @@ module _ (F : Type 0) (kept : List Frame) where
     λ found. both (found == from) (popped i (parts from).oldest (packed (unlocked_word (parts from) (advance_of advance))) next) (Round (Unlocks i found advance) next)
         (after_popped i (parts from).oldest (packed (unlocked_word (parts from) (advance_of advance))) next a) (tt, a),
   )
-
-  ends_final : (w : Parts) (e : ℕ) → is_final (code_of e) ≡ true → ends_call w e ≡ true
-  ends_final w e final = by (attempt_of e == WHOLE) (is_final (code_of e)) final
-    where
-      by : (a b : Bool) → b ≡ true → (a || (b || (w.attempt + 2 == w.range))) ≡ true
-      by true b is = refl
-      by false true is = refl
-      by false false is = absurd (true≢false (sym is))
 
   after_decides : (id : ℕ) (asked : Asked) (word e : ℕ) (next : Deciding → Program) → is_final (code_of e) ≡ true → ((x : Deciding) → After (next x)) → After (round (Decides id asked word e) next)
   after_decides id asked word e next final a = subst (λ b. After (cond b (end_id (id_slot id) (next (HasEnded asked.operation (code_of e)))) (Aside (Rattle.seat_programs.specs.Asides.PutCall (id_slot id) asked) (λ _. Round (Unlocks (id_slot id) word true) (unlocked (record { id = id; attempt = (parts word).attempt + 1 }) next)))))
@@ -198,16 +199,10 @@ after_next F kept ws (Do call next) a = a
 after_next F kept ws (Say o outcome next) a = after_next F kept ws next a
 after_next F kept ws (Sent o next) a = after_next F kept ws next a
 after_next F kept ws Rest a = a
-after_next F kept ws (TakeMessage q next) a = absurd a
-after_next F kept ws (TakeHome l next) a = absurd a
-after_next F kept ws (PutHome l n after) a = absurd a
-after_next F kept ws (PutBytes l asked bytes next) a = absurd a
-after_next F kept ws (AskReady l next) a = absurd a
-after_next F kept ws (Write w after) a = absurd a
 after_next F kept ws (Aside step next) a = a
 after_next F kept ws (Round head next) a = a
 after_next F kept ws (Keep r next) a = after_next F kept (ws ++ r ∷ []) next a
-after_next F kept ws (Retries requests after) a = absurd a
+after_next F kept ws _ a = absurd a
 
 posting_map : (F G : Type 0) (kept : List Frame) → (F → G) → (step : Step) (next : Found step → Program) → Posting' F kept step next → Posting' G kept step next
 posting_map F G kept on (PostId i from e) next x = x

@@ -52,6 +52,45 @@ module _ (k ids : ℕ) where
     Onward s t ws (AskReady l next) = ⊥
     Onward s t ws other = Unit {0}
 
+  -- ## Behind the end of a reading
+
+  abbrev pub IsOver : Sit → Program → Type 0
+  IsOver s x = (kept : List Frame) × Over k ids s kept × After (Frozen k ids s) kept x
+
+  module _ (s t : Sit) (ws : List Retry) (kept : List Frame) (ov : Over k ids s kept) where
+    over_later : Later k ids s t → (x : Program) → After (Frozen k ids s) kept x → IsOver t (next_step (resolved ws x))
+    over_later l x a = (kept, over_on k ids s t l kept ov, after_next (Frozen k ids t) kept ws x (after_map (Frozen k ids s) (Frozen k ids t) kept (frozen_on k ids s t l) x a))
+
+    -- bytes that come bring no frames any more
+    no_more : Frozen k ids s → (tk : Taking) → Took s t tk → frames_in t.bytes ≡ frames_in s.bytes
+    no_more frozen tk l = ap frames_in l.bytes ∙ frozen (bytes_in tk)
+
+    over_took : (frozen : Frozen k ids s) (tk : Taking) (l : Took s t tk) (x : Program) → After (Frozen k ids s) kept x → IsOver t (next_step (resolved ws x))
+    over_took frozen tk l x a = (
+      kept,
+      subst (AllFrom (Done k ids t kept) 0) (sym (no_more frozen tk l)) (all_on (Done k ids s kept) (Done k ids mid kept) (done_on k ids s mid (record { words = l.words; soon = l.soon; bytes = refl }) kept) 0 (frames_in s.bytes) ov),
+      after_next (Frozen k ids t) kept ws x (after_map (Frozen k ids s) (Frozen k ids t) kept (λ z more. ap (λ b. frames_in (b ++ more)) l.bytes ∙ (ap frames_in (append_assoc s.bytes (bytes_in tk) more) ∙ (z (bytes_in tk ++ more) ∙ sym (no_more frozen tk l)))) x a),
+    )
+      where
+        mid : Sit
+        mid = record { words = t.words; soon = t.soon; bytes = s.bytes }
+
+    -- so it stands where that is enough
+    module _ (St : Sit → Program → Type 0) (enough : frames_in t.bytes ≡ frames_in s.bytes → ((x : ℕ × ℕ) → In x s.soon → In x t.soon) → (x : Program) → IsOver t x → St t x) where
+      over_aside : (step : Step) (next : Found step → Program) → After (Frozen k ids s) kept (Aside step next) → Onward St s t ws (Aside step next)
+      over_aside (TakeBytes l room) next a = λ tk took_. enough (no_more a.0 tk took_) took_.soon (next_step (resolved ws (next tk))) (over_took a.0 tk took_ (next tk) (a.1 tk))
+      over_aside step next a = λ found l f. enough (ap frames_in l.bytes) l.soon (next_step (resolved ws (next found))) (over_later l (next found) (a.1 found))
+
+      pub over_onward : (x : Program) → After (Frozen k ids s) kept x → Onward St s t ws x
+      over_onward (Do call next) a = λ found l. enough (ap frames_in l.bytes) l.soon (next_step (resolved ws (next found))) (over_later l (next found) (a found))
+      over_onward (Aside step next) a = over_aside step next a
+      over_onward (TakeMessage q next) a = a
+      over_onward (TakeHome l next) a = a
+      over_onward (PutHome l n after) a = a
+      over_onward (PutBytes l asked bytes next) a = a
+      over_onward (AskReady l next) a = a
+      over_onward other a = tt
+
 -- the reader of link k, whose `open` is operation o
 module _ (k ids : ℕ) (calls : List ℕ) (o : ℕ) (many : length calls ≡ ids) where
   -- ## Where it stands
@@ -136,36 +175,6 @@ module _ (k ids : ℕ) (calls : List ℕ) (o : ℕ) (many : length calls ≡ ids
 
   abbrev Goes' : Sit → Sit → List Retry → Program → Type 0
   Goes' s t ws x = Onward k ids State s t ws x
-
-  -- behind the reading
-  module _ (s t : Sit) (ws : List Retry) (kept : List Frame) (ov : Over k ids s kept) where
-    over_later : Later k ids s t → (x : Program) → After (Frozen k ids s) kept x → State t (next_step (resolved ws x))
-    over_later l x a = over kept (over_on k ids s t l kept ov) (after_next (Frozen k ids t) kept ws x (after_map (Frozen k ids s) (Frozen k ids t) kept (frozen_on k ids s t l) x a))
-
-    over_took : Frozen k ids s → (tk : Taking) → Took k ids s t tk → (x : Program) → After (Frozen k ids s) kept x → State t (next_step (resolved ws x))
-    over_took frozen tk l x a = over kept
-        (subst (AllFrom (Done k ids t kept) 0) (sym frames_are) (all_on (Done k ids s kept) (Done k ids mid kept) (done_on k ids s mid (record { words = l.words; soon = l.soon; bytes = refl }) kept) 0 (frames_in s.bytes) ov))
-        (after_next (Frozen k ids t) kept ws x (after_map (Frozen k ids s) (Frozen k ids t) kept (λ z more. ap (λ b. frames_in (b ++ more)) l.bytes ∙ (ap frames_in (append_assoc s.bytes (bytes_in tk) more) ∙ (z (bytes_in tk ++ more) ∙ sym frames_are))) x a))
-      where
-        mid : Sit
-        mid = record { words = t.words; soon = t.soon; bytes = s.bytes }
-
-        frames_are : frames_in t.bytes ≡ frames_in s.bytes
-        frames_are = ap frames_in l.bytes ∙ frozen (bytes_in tk)
-
-    over_aside : (step : Step) (next : Found step → Program) → After (Frozen k ids s) kept (Aside step next) → Goes' s t ws (Aside step next)
-    over_aside (TakeBytes l room) next a = λ tk took_. over_took a.0 tk took_ (next tk) (a.1 tk)
-    over_aside step next a = λ found l f. over_later l (next found) (a.1 found)
-
-    over_onward : (x : Program) → After (Frozen k ids s) kept x → Goes' s t ws x
-    over_onward (Do call next) a = λ found l. over_later l (next found) (a found)
-    over_onward (Aside step next) a = over_aside step next a
-    over_onward (TakeMessage q next) a = a
-    over_onward (TakeHome l next) a = a
-    over_onward (PutHome l n after) a = a
-    over_onward (PutBytes l asked bytes next) a = a
-    over_onward (AskReady l next) a = a
-    over_onward other a = tt
 
   -- whoever waits for the word of its `open`
   waiting_onward : (s t : Sit) (ws : List Retry) → s.bytes ≡ [] → Goes' s t ws (first_step (reader calls k o))
@@ -263,4 +272,4 @@ module _ (k ids : ℕ) (calls : List ℕ) (o : ℕ) (many : length calls ≡ ids
       (λ asked l _. ending_ r bytes before f fs kept asked.operation (ending_of (call_id (slot_in f) first) f) refl resp (bounded_on k ids s t l f resp b) (mid_on k ids s t l r bytes before (f ∷ fs) kept m))
   onward s t ws x (ending_ r bytes before f fs kept n outcome is resp b m) = subst (λ y. Goes' s t ws (first_step y)) (sym is) (ending_onward s t ws r bytes before f fs kept n outcome resp b m)
   onward s t ws x (freeing r bytes before fs kept i n outcome is m) = subst (λ y. Goes' s t ws (first_step y)) (sym is) (λ found l _. enter t r bytes fs before kept (mid_on k ids s t l r bytes before fs kept m) ws)
-  onward s t ws x (over kept ov a) = over_onward s t ws kept ov (first_step x) (after_first (Frozen k ids s) kept x a)
+  onward s t ws x (over kept ov a) = over_onward k ids s t ws kept ov State (λ same soon y still. over still.0 still.1 still.2) (first_step x) (after_first (Frozen k ids s) kept x a)

@@ -1,7 +1,7 @@
 -- In a whole run each response of link k that an id might have to which the link's reader posted an error stands among the soon ones.
-use Rattle.std.proofs.Common.{◌≡◌, ℕ, zero, suc, ◌+◌, ◌<◌, ◌≤◌, ◌⊎◌, inl, inr, ⊎_elim, true, List, [], ◌∷◌, ◌++◌, length, replicate, slice_get, Some, append_assoc, get_or, refl, sym, ◌∙◌, subst, arith}
+use Rattle.std.proofs.Common.{◌≡◌, ℕ, zero, suc, ◌+◌, ◌<◌, ◌≤◌, ◌⊎◌, ⊎_elim, true, List, [], ◌∷◌, ◌++◌, length, replicate, slice_get, Some, append_assoc, get_or, refl, sym, ◌∙◌, subst, arith}
 use Rattle.std.specs.List.{AllByRecursion}
-use Rattle.std.proofs.lemmas.List.{length-map, append-nil}
+use Rattle.std.proofs.lemmas.List.{length-map}
 use mathlib.Core.Option.{some, some-injective, some-ne-none}
 use lib.ListN.{get_elem?}
 use Rattle.atomic_table.proofs.Lists.{at_set}
@@ -20,7 +20,7 @@ use Rattle.seat_programs.specs.Clients.{ending_of, client_from}
 use Rattle.seat_programs.specs.Programs.{Program}
 use Rattle.seat_programs.specs.Readers.{slot_in, version_in}
 use Rattle.seat_programs.specs.Cores.{Core, SeatState, resolved, waiting_at, next_step}
-use Rattle.seat_programs.specs.Ticks.{Moment, quiet, run}
+use Rattle.seat_programs.specs.Ticks.{Moment, run}
 use Rattle.seat_programs.specs.Tasks.{opens, calls, plan_of, id_plan_of}
 use Rattle.seat_programs.specs.Scripts.{sizes_of, programs, all_tasks, opened, ending, set_up, played, is_ending, IsRunWithCalls}
 use Rattle.outcome_causes.specs.sock_runs.proofs.OpensStay.{readers_begin}
@@ -32,7 +32,7 @@ use Rattle.owed_calls.specs.joint_runs.proofs.Both.{BothSound}
 use Rattle.owed_calls.specs.joint_runs.proofs.Runs.{AreMade, first_views, joint_runs}
 use Rattle.owed_calls.specs.report_fits.proofs.Reading.{InRange}
 use Rattle.owed_calls.specs.report_fits.proofs.Targets.{AreThere}
-use Rattle.call_causes.specs.Lists.{given, soon_at, shows_in, shows_in_run, soon_of_run}
+use Rattle.call_causes.specs.Lists.{advanced_at, given, soon_at, shows_in, shows_in_run, soon_of_run}
 use Rattle.call_causes.specs.Posts.{Post, posted_at}
 use Rattle.call_causes.specs.Decided.{posted_by, Decision, decided_by, posted_behind, late_in}
 use Rattle.call_causes.specs.Scenes.{Scene, In, LeadsTo}
@@ -44,6 +44,8 @@ use Rattle.call_causes.proofs.End.{HasEnded, call_of}
 use Rattle.call_causes.proofs.Knowing.{are_low}
 use Rattle.call_causes.proofs.Whole.{run_has_story, run_has_ended}
 use Rattle.call_causes.proofs.Run as runs
+use Rattle.call_causes.proofs.RunFacts.{own_leads, run_facts, leadings}
+use Rattle.call_causes.proofs.RunTicks.{in_setup, in_clients, in_closing, parts}
 use Rattle.call_causes.proofs.Handled.{Sit, frames_in, IsResp}
 use Rattle.call_causes.proofs.HandledSteps.{State, waiting}
 use Rattle.call_causes.proofs.HandledTicks.{sit}
@@ -61,14 +63,12 @@ empty_at zero k = refl
 empty_at (suc n) zero = refl
 empty_at (suc n) (suc k) = empty_at n k
 
-in_two : {A : Type 0} (x : A) (xs ys : List A) → In x (xs ++ ys) → In x xs ⊎ In x ys
-in_two x [] ys there = inr there
-in_two x (z ∷ xs) ys (inl same) = inl (inl same)
-in_two x (z ∷ xs) ys (inr there) = ⊎_elim (λ a. inl (inr a)) (λ a. inr a) (in_two x xs ys there)
-
 module _ (script : List Item) (made : AreMade script) (there : AreThere script) (range : AllByRecursion InRange script) (turns : List Turn) (core : Core) (is : IsRunWithCalls script turns core) where
   leads : LeadsTo (plan_of script) (id_plan_of script) (all_tasks script) (given core) core
-  leads k = ([], append-nil (given core k))
+  leads = own_leads script core
+
+  open run_facts script made turns core is use {set_up_ahead, ended_ahead, many_seats}
+  open leadings script turns core is (given core) leads use {set_up_leads, played_leads, closed_leads}
 
   numbered : AreNumbered (plan_of script) (id_plan_of script) (all_tasks script) (given core)
   numbered = are_numbered script made there range (given core)
@@ -78,61 +78,55 @@ module _ (script : List Item) (made : AreMade script) (there : AreThere script) 
 
   -- ## The ticks of each part
 
-  abbrev in_setup : List Moment
-  in_setup = replicate is.setup (quiet 0)
-
-  abbrev in_clients : List Moment
-  in_clients = is.scheduled ++ is.later
-
-  abbrev in_closing : List Moment
-  in_closing = replicate is.last (quiet 0)
+  open parts posted_at is use {setup as posts_in_setup}
+  open parts advanced_at is use {setup as advanced_in_setup}
 
   abbrev closing : Core
   closing = ending script (played script is.setup (is.scheduled ++ is.later))
 
-  known_setup : AreKnown (plan_of script) (id_plan_of script) (opened script) in_setup
+  pub known_setup : AreKnown (plan_of script) (id_plan_of script) (opened script) (in_setup is)
   known_setup = let s = runs.sound_run script made (given core) (are_numbered script made there range (given core)) (have_slots script made there range (given core)) (begins script made there range (given core)) turns core is leads in
       setup_known (plan_of script) (id_plan_of script) (all_tasks script) (given core) (are_numbered script made there range (given core)) (have_slots script made there range (given core)) (runs.small script made (given core) (are_numbered script made there range (given core)) (have_slots script made there range (given core)) (begins script made there range (given core)) turns core is leads)
       is.setup [] [] (opened script) (first_views script) s.setup
-      (runs.set_up_leads script made (given core) (are_numbered script made there range (given core)) (have_slots script made there range (given core)) (begins script made there range (given core)) turns core is leads)
+      set_up_leads
       (let t = runs.first_tale script made (given core) (are_numbered script made there range (given core)) (have_slots script made there range (given core)) (begins script made there range (given core)) turns core is leads in t.0)
 
-  known_clients : AreKnown (plan_of script) (id_plan_of script) (set_up script is.setup) in_clients
+  pub known_clients : AreKnown (plan_of script) (id_plan_of script) (set_up script is.setup) (in_clients is)
   known_clients = let s = runs.sound_run script made (given core) (are_numbered script made there range (given core)) (have_slots script made there range (given core)) (begins script made there range (given core)) turns core is leads in
       played_known (plan_of script) (id_plan_of script) (all_tasks script) (given core) (are_numbered script made there range (given core)) (have_slots script made there range (given core)) (runs.small script made (given core) (are_numbered script made there range (given core)) (have_slots script made there range (given core)) (begins script made there range (given core)) turns core is leads)
-      (is.scheduled ++ is.later) (runs.posts_in_setup script made (given core) (are_numbered script made there range (given core)) (have_slots script made there range (given core)) (begins script made there range (given core)) turns core is leads)
-      (runs.in_setup script made (given core) (are_numbered script made there range (given core)) (have_slots script made there range (given core)) (begins script made there range (given core)) turns core is leads)
+      (is.scheduled ++ is.later) posts_in_setup
+      advanced_in_setup
       (set_up script is.setup) (runs.views_set_up script made (given core) (are_numbered script made there range (given core)) (have_slots script made there range (given core)) (begins script made there range (given core)) turns core is leads) s.clients
-      (runs.set_up_ahead script made (given core) (are_numbered script made there range (given core)) (have_slots script made there range (given core)) (begins script made there range (given core)) turns core is leads) is.is_set_up
-      (runs.played_leads script made (given core) (are_numbered script made there range (given core)) (have_slots script made there range (given core)) (begins script made there range (given core)) turns core is leads)
+      set_up_ahead is.is_set_up
+      played_leads
       (let t = runs.set_up_tale script made (given core) (are_numbered script made there range (given core)) (have_slots script made there range (given core)) (begins script made there range (given core)) turns core is leads in t.0)
 
-  known_closing : AreKnown (plan_of script) (id_plan_of script) closing in_closing
+  known_closing : AreKnown (plan_of script) (id_plan_of script) closing (in_closing is)
   known_closing = let s = runs.sound_run script made (given core) (are_numbered script made there range (given core)) (have_slots script made there range (given core)) (begins script made there range (given core)) turns core is leads in
       let told = runs.ending_tale script made (given core) (are_numbered script made there range (given core)) (have_slots script made there range (given core)) (begins script made there range (given core)) turns core is leads in let t = told.0 in
       setup_known (plan_of script) (id_plan_of script) (all_tasks script) (given core) (are_numbered script made there range (given core)) (have_slots script made there range (given core)) (runs.small script made (given core) (are_numbered script made there range (given core)) (have_slots script made there range (given core)) (begins script made there range (given core)) turns core is leads)
       is.last t.0 t.1 closing (views_played script turns core is (first_views script)) s.closing
-      (runs.closed_leads script made (given core) (are_numbered script made there range (given core)) (have_slots script made there range (given core)) (begins script made there range (given core)) turns core is leads) (t.0, t.1, t.2, (λ x y. y), λ n. refl)
+      closed_leads (t.0, t.1, t.2, (λ x y. y), λ n. refl)
 
   known_final : AreKnown (plan_of script) (id_plan_of script) is.ended is.final
   known_final = let s = runs.sound_run script made (given core) (are_numbered script made there range (given core)) (have_slots script made there range (given core)) (begins script made there range (given core)) turns core is leads in
       let told = runs.ended_tale script made (given core) (are_numbered script made there range (given core)) (have_slots script made there range (given core)) (begins script made there range (given core)) turns core is leads in let t = told.0 in
       played_known (plan_of script) (id_plan_of script) (all_tasks script) (given core) (are_numbered script made there range (given core)) (have_slots script made there range (given core)) (runs.small script made (given core) (are_numbered script made there range (given core)) (have_slots script made there range (given core)) (begins script made there range (given core)) turns core is leads)
       is.final t.0 t.1 is.ended (views_closed script turns core is (first_views script)) s.final
-      (runs.ended_ahead script made (given core) (are_numbered script made there range (given core)) (have_slots script made there range (given core)) (begins script made there range (given core)) turns core is leads) is.is_over
+      ended_ahead is.is_over
       (subst (LeadsTo (plan_of script) (id_plan_of script) (all_tasks script) (given core)) is.is_end leads) (t.0, t.1, t.2, (λ x y. y), λ n. refl)
 
   module _ (k o : ℕ) (at : get_elem? (opens script) k ≡ some o) where
     -- ## Through the parts of the run
 
     abbrev soon_setup : List (ℕ × ℕ)
-    soon_setup = shows_in (soon_at (plan_of script)) (plan_of script) (opened script) in_setup
+    soon_setup = shows_in (soon_at (plan_of script)) (plan_of script) (opened script) (in_setup is)
 
     abbrev soon_clients : List (ℕ × ℕ)
-    soon_clients = shows_in (soon_at (plan_of script)) (plan_of script) (set_up script is.setup) in_clients
+    soon_clients = shows_in (soon_at (plan_of script)) (plan_of script) (set_up script is.setup) (in_clients is)
 
     abbrev soon_closing : List (ℕ × ℕ)
-    soon_closing = shows_in (soon_at (plan_of script)) (plan_of script) closing in_closing
+    soon_closing = shows_in (soon_at (plan_of script)) (plan_of script) closing (in_closing is)
 
     abbrev soon_final : List (ℕ × ℕ)
     soon_final = shows_in (soon_at (plan_of script)) (plan_of script) is.ended is.final
@@ -154,17 +148,17 @@ module _ (script : List Item) (made : AreMade script) (there : AreThere script) 
         from_ended soon h = subst (Has (soon ++ soon_final)) (sym is.is_end) (on soon is.ended is.final known_final h)
 
         from_closing : (soon : List (ℕ × ℕ)) → Has soon closing → Has (soon ++ (soon_closing ++ soon_final)) core
-        from_closing soon h = subst (λ l. Has l core) (append_assoc soon soon_closing soon_final) (from_ended (soon ++ soon_closing) (subst (Has (soon ++ soon_closing)) (sym is.is_ended) (is_told (soon ++ soon_closing) (run (plan_of script) closing in_closing) (on soon closing in_closing known_closing h))))
+        from_closing soon h = subst (λ l. Has l core) (append_assoc soon soon_closing soon_final) (from_ended (soon ++ soon_closing) (subst (Has (soon ++ soon_closing)) (sym is.is_ended) (is_told (soon ++ soon_closing) (run (plan_of script) closing (in_closing is)) (on soon closing (in_closing is) known_closing h))))
 
         from_played : (soon : List (ℕ × ℕ)) → Has soon (played script is.setup (is.scheduled ++ is.later)) → Has (soon ++ (soon_closing ++ soon_final)) core
         from_played soon h = from_closing soon (begins_ending soon (played script is.setup (is.scheduled ++ is.later)) h)
 
         from_set_up : (soon : List (ℕ × ℕ)) → Has soon (set_up script is.setup) → Has (soon ++ (soon_clients ++ (soon_closing ++ soon_final))) core
-        from_set_up soon h = subst (λ l. Has l core) (append_assoc soon soon_clients (soon_closing ++ soon_final)) (from_played (soon ++ soon_clients) (on soon (set_up script is.setup) in_clients known_clients h))
+        from_set_up soon h = subst (λ l. Has l core) (append_assoc soon soon_clients (soon_closing ++ soon_final)) (from_played (soon ++ soon_clients) (on soon (set_up script is.setup) (in_clients is) known_clients h))
 
     -- ## Its reader
 
-    many : length (calls script) ≡ (id_plan_of script).slots
+    abbrev many : length (calls script) ≡ (id_plan_of script).slots
     many = made.slots
 
     abbrev Reading : List (ℕ × ℕ) → Core → Type 0
@@ -181,26 +175,30 @@ module _ (script : List Item) (made : AreMade script) (there : AreThere script) 
     reads_on soon c ms known h = reads_along (plan_of script) (id_plan_of script) k (calls script) o many ms soon c known h
 
     reads_set_up : Reading soon_setup (set_up script is.setup)
-    reads_set_up = reads_on [] (opened script) in_setup known_setup reads_first
+    reads_set_up = reads_on [] (opened script) (in_setup is) known_setup reads_first
+
+    -- what it has handled where the ending begins
+    pub reads_played : Reading (soon_setup ++ soon_clients) (played script is.setup (is.scheduled ++ is.later))
+    reads_played = reads_on soon_setup (set_up script is.setup) (in_clients is) known_clients reads_set_up
 
     reads_closing : Reading (soon_setup ++ soon_clients) closing
-    reads_closing = begins_ending (State k (id_plan_of script).slots (calls script) o many) (soon_setup ++ soon_clients) (played script is.setup (is.scheduled ++ is.later)) (reads_on soon_setup (set_up script is.setup) in_clients known_clients reads_set_up)
+    reads_closing = begins_ending (State k (id_plan_of script).slots (calls script) o many) (soon_setup ++ soon_clients) (played script is.setup (is.scheduled ++ is.later)) reads_played
 
     reads_ended : Reading ((soon_setup ++ soon_clients) ++ soon_closing) is.ended
-    reads_ended = subst (Reading ((soon_setup ++ soon_clients) ++ soon_closing)) (sym is.is_ended) (reads_on (soon_setup ++ soon_clients) closing in_closing known_closing reads_closing)
+    reads_ended = subst (Reading ((soon_setup ++ soon_clients) ++ soon_closing)) (sym is.is_ended) (reads_on (soon_setup ++ soon_clients) closing (in_closing is) known_closing reads_closing)
 
     -- what each part of the run makes of it stands in the end
     module _ {A : Type 0} (show : Core → Moment → List A) (x : A) (St : Sit → Program → Type 0)
         (on : (soon : List (ℕ × ℕ)) (c : Core) (ms : List Moment) → AreKnown (plan_of script) (id_plan_of script) c ms → Has St soon c → Has St (soon ++ shows_in (soon_at (plan_of script)) (plan_of script) c ms) (run (plan_of script) c ms))
         (comes : (soon : List (ℕ × ℕ)) (c : Core) (ms : List Moment) → AreKnown (plan_of script) (id_plan_of script) c ms → Reading soon c → In x (shows_in show (plan_of script) c ms) → Has St (soon ++ shows_in (soon_at (plan_of script)) (plan_of script) c ms) (run (plan_of script) c ms)) where
       abbrev shown_setup : List A
-      shown_setup = shows_in show (plan_of script) (opened script) in_setup
+      shown_setup = shows_in show (plan_of script) (opened script) (in_setup is)
 
       abbrev shown_clients : List A
-      shown_clients = shows_in show (plan_of script) (set_up script is.setup) in_clients
+      shown_clients = shows_in show (plan_of script) (set_up script is.setup) (in_clients is)
 
       abbrev shown_closing : List A
-      shown_closing = shows_in show (plan_of script) closing in_closing
+      shown_closing = shows_in show (plan_of script) closing (in_closing is)
 
       abbrev shown_final : List A
       shown_final = shows_in show (plan_of script) is.ended is.final
@@ -214,22 +212,22 @@ module _ (script : List Item) (made : AreMade script) (there : AreThere script) 
 
       by_closing : In x shown_closing → Ended
       by_closing a = subst (λ y. Has St y core) (append_assoc (soon_setup ++ soon_clients) soon_closing soon_final ∙ append_assoc soon_setup soon_clients (soon_closing ++ soon_final))
-          (from_ended St on ((soon_setup ++ soon_clients) ++ soon_closing) (subst (Has St ((soon_setup ++ soon_clients) ++ soon_closing)) (sym is.is_ended) (comes (soon_setup ++ soon_clients) closing in_closing known_closing reads_closing a)))
+          (from_ended St on ((soon_setup ++ soon_clients) ++ soon_closing) (subst (Has St ((soon_setup ++ soon_clients) ++ soon_closing)) (sym is.is_ended) (comes (soon_setup ++ soon_clients) closing (in_closing is) known_closing reads_closing a)))
 
       by_clients : In x shown_clients → Ended
-      by_clients a = subst (λ y. Has St y core) (append_assoc soon_setup soon_clients (soon_closing ++ soon_final)) (from_played St on (soon_setup ++ soon_clients) (comes soon_setup (set_up script is.setup) in_clients known_clients reads_set_up a))
+      by_clients a = subst (λ y. Has St y core) (append_assoc soon_setup soon_clients (soon_closing ++ soon_final)) (from_played St on (soon_setup ++ soon_clients) (comes soon_setup (set_up script is.setup) (in_clients is) known_clients reads_set_up a))
 
       by_setup : In x shown_setup → Ended
-      by_setup a = from_set_up St on soon_setup (comes [] (opened script) in_setup known_setup reads_first a)
+      by_setup a = from_set_up St on soon_setup (comes [] (opened script) (in_setup is) known_setup reads_first a)
 
       in_the_end : In x (shows_in_run script turns core is show) → Ended
       in_the_end there = ⊎_elim by_setup
-          (λ l. ⊎_elim by_clients (λ l. ⊎_elim by_closing by_final (in_two x shown_closing shown_final l)) (in_two x shown_clients (shown_closing ++ shown_final) l))
-          (in_two x shown_setup (shown_clients ++ (shown_closing ++ shown_final)) there)
+          (λ l. ⊎_elim by_clients (λ l. ⊎_elim by_closing by_final (runs.in_either x shown_closing shown_final l)) (runs.in_either x shown_clients (shown_closing ++ shown_final) l))
+          (runs.in_either x shown_setup (shown_clients ++ (shown_closing ++ shown_final)) there)
 
     seat_there : (seat : SeatState) × (get_elem? core.seats (32 + k) ≡ some seat)
     seat_there = at_some core.seats (32 + k) (let seats = made.seats in let low = inside (opens script) k at in
-        let l = runs.many_seats script made (given core) (are_numbered script made there range (given core)) (have_slots script made there range (given core)) (begins script made there range (given core)) turns core is leads in omega (arith, l, seats, low))
+        let l = many_seats in omega (arith, l, seats, low))
       where
         inside : (xs : List ℕ) (i : ℕ) → get_elem? xs i ≡ some o → i < length xs
         inside [] i e = absurd (some-ne-none o (sym e))
@@ -270,15 +268,15 @@ module _ (script : List Item) (made : AreMade script) (there : AreThere script) 
       in_final h = subst (λ y. Has Cl y core) (append_assoc (soon_setup ++ soon_clients) soon_closing soon_final ∙ append_assoc soon_setup soon_clients (soon_closing ++ soon_final))
           (subst (Has Cl (((soon_setup ++ soon_clients) ++ soon_closing) ++ soon_final)) (sym is.is_end) h)
 
-      behind_ended : late_in (32 + k) (plan_of script) (set_up script is.setup) in_clients ≡ true → Behind ((soon_setup ++ soon_clients) ++ soon_closing) is.ended
+      behind_ended : late_in (32 + k) (plan_of script) (set_up script is.setup) (in_clients is) ≡ true → Behind ((soon_setup ++ soon_clients) ++ soon_closing) is.ended
       behind_ended late = subst (Behind ((soon_setup ++ soon_clients) ++ soon_closing)) (sym is.is_ended)
-          (behind_along (plan_of script) (id_plan_of script) k (calls script) o many in_closing (soon_setup ++ soon_clients) closing known_closing
-          (λ seat at_seat. ⊎_elim (λ a. absurd (let z = a.0 in omega (arith, z))) (λ a. late_behind (plan_of script) (id_plan_of script) k (calls script) o many in_clients soon_setup (set_up script is.setup) known_clients reads_set_up late seat a.1)
+          (behind_along (plan_of script) (id_plan_of script) k (calls script) o many (in_closing is) (soon_setup ++ soon_clients) closing known_closing
+          (λ seat at_seat. ⊎_elim (λ a. absurd (let z = a.0 in omega (arith, z))) (λ a. late_behind (plan_of script) (id_plan_of script) k (calls script) o many (in_clients is) soon_setup (set_up script is.setup) known_clients reads_set_up late seat a.1)
           (at_set (played script is.setup (is.scheduled ++ is.later)).seats 0 (32 + k) (let c = played script is.setup (is.scheduled ++ is.later) in record { program = next_step (resolved (waiting_at c.calls.waiting 0) (ending_of (opens script))); hand = [] }) seat at_seat)))
 
       late_claimed : PostedLate x → Has Cl (soon_of_run script turns core is) core
       late_claimed there = ⊎_elim
-          (λ a. subst (λ y. Has Cl y core) (append_assoc soon_setup soon_clients (soon_closing ++ soon_final)) (from_played Cl on (soon_setup ++ soon_clients) (late_claims (plan_of script) (id_plan_of script) k (calls script) o many x in_clients soon_setup (set_up script is.setup) known_clients reads_set_up a)))
+          (λ a. subst (λ y. Has Cl y core) (append_assoc soon_setup soon_clients (soon_closing ++ soon_final)) (from_played Cl on (soon_setup ++ soon_clients) (late_claims (plan_of script) (id_plan_of script) k (calls script) o many x (in_clients is) soon_setup (set_up script is.setup) known_clients reads_set_up a)))
           (λ l. ⊎_elim
           (λ a. in_final (late_claims (plan_of script) (id_plan_of script) k (calls script) o many x is.final ((soon_setup ++ soon_clients) ++ soon_closing) is.ended known_final reads_ended a))
           (λ a. in_final (behind_claims (plan_of script) (id_plan_of script) k (calls script) o many x is.final ((soon_setup ++ soon_clients) ++ soon_closing) is.ended known_final (behind_ended a.0) a.1)) l) there

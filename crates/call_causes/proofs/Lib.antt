@@ -33,6 +33,8 @@ pub mod Ticks
 pub mod Opening
 pub mod Allowing
 pub mod Leading
+pub mod RunTicks
+pub mod RunFacts
 pub mod Run
 pub mod End
 pub mod Whys

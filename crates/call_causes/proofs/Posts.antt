@@ -61,6 +61,13 @@ or_cases false b e = inr e
 pub id_back : (id : ℕ) → call_id (id_slot id) (id_first id) ≡ id
 id_back id = omega arith
 
+-- a program that may stand here with a mark, a scene that may follow one, and a program that may come next, with the same mark or with another
+pub record Speech : Type 1 where
+  pub Tells : Scene → Mark → Program → Type 0
+  pub Later' : Scene → Scene → Type 0
+  pub Next : Scene → Mark → Program → Type 0
+  pub Ends : Scene → Mark → Program → Type 0
+
 module _ (p : Plan) (q : IdPlan) (clients : List (List Task)) (gives : ℕ → List ℕ) where
   abbrev pub Says : Scene → Mark → Program → Type 0
   Says w m x = SaysOn p q clients gives w m x
@@ -74,6 +81,9 @@ module _ (p : Plan) (q : IdPlan) (clients : List (List Task)) (gives : ℕ → L
 
   abbrev pub Follows : Scene → Mark → Program → Type 0
   Follows w m x = (w' : Scene) (m' : Mark) → After w w' → SaidBy w' x → Again p q clients gives m m' → Says w' m' x
+
+  abbrev pub speech : Speech
+  speech = record { Tells = Says; Later' = After; Next = Then; Ends = Follows }
 
   pub way : (w : Scene) (m : Mark) (b : Bool) (x y : Program) → SaidBy w (cond b x y) → (b ≡ true → SaidBy w x → Says w m x) → (b ≡ false → SaidBy w y → Says w m y) → Says w m (cond b x y)
   way w m true x y s f g = f refl s

@@ -23,22 +23,12 @@ use Rattle.seat_programs.specs.Attempts.{claims_from, heading_for, attempt}
 use Rattle.id_runs.specs.Goes.{FitsOwner, FitsWriting}
 use Rattle.id_runs.proofs.Loops.{not_equal}
 use Rattle.call_causes.specs.Scenes.{Scene, IsOther}
-use Rattle.call_causes.specs.Says.{Mark, with_slot, IsFree, Again, SaysOn}
+use Rattle.call_causes.specs.Says.{Mark, with_slot, IsFree, Again}
 use Rattle.call_causes.proofs.Lasting.{far}
-use Rattle.call_causes.proofs.Posts.{After, Then, Follows, way, again_same, then_on, follows_later, then_follows, post_says}
+use Rattle.call_causes.proofs.Posts.{speech, way, again_same, then_on, follows_later, then_follows, post_says}
 
 module _ (p : Plan) (q : IdPlan) (clients : List (List Task)) (gives : ℕ → List ℕ) where
-  abbrev Tells : Scene → Mark → Program → Type 0
-  Tells w m x = SaysOn p q clients gives w m x
-
-  abbrev Later' : Scene → Scene → Type 0
-  Later' w v = After p q clients gives w v
-
-  abbrev Next : Scene → Mark → Program → Type 0
-  Next w m x = Then p q clients gives w m x
-
-  abbrev Ends : Scene → Mark → Program → Type 0
-  Ends w m x = Follows p q clients gives w m x
+  open speech p q clients gives use {Tells, Later', Next, Ends}
 
   -- ## Parts on sockets
 

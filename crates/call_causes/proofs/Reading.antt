@@ -18,24 +18,14 @@ use Rattle.seat_programs.specs.Posts.{is_stale, post_with, decided}
 use Rattle.seat_programs.specs.Readers.{LIMIT, by_code, outcome_by, ending_of, has_response, slot_in, version_in, is_early, answer, answered, responses, last_of, ended_by, read_on, took_bytes, took, reads_round, discarded, discards_round, opens_round, kept_for, ends_with, posted_last, post_each, thrown_away, read, reader}
 use Rattle.call_causes.specs.Lists.{given}
 use Rattle.call_causes.specs.Scenes.{Birth, Scene, Came, IsResponseTo, WasPosted, HasFaulted, IsOther, of_other, by_compression, WhyEnded}
-use Rattle.call_causes.specs.Says.{Shape, HasShape, Locked, Mark, with_slot, with_owed, with_bytes, IsFree, taken_out, SaidBy, GoesFrom, CameFrom, IsReading, Again, LeavesLock, Leaves', SaysOn}
+use Rattle.call_causes.specs.Says.{Shape, HasShape, Locked, Mark, with_slot, with_owed, with_bytes, IsFree, taken_out, SaidBy, GoesFrom, CameFrom, IsReading, Again, LeavesLock, Leaves'}
 use Rattle.call_causes.proofs.Lasting.{far, kept_on}
-use Rattle.call_causes.proofs.Posts.{After, Then, Follows, way, plain_way, and_left, and_right, again_same, follows_on, end_says, decide_says, decided_says, failed_of, Exits, post_with_says}
+use Rattle.call_causes.proofs.Posts.{speech, way, plain_way, and_left, and_right, again_same, follows_on, end_says, decide_says, decided_says, failed_of, Exits, post_with_says}
 use Rattle.call_causes.proofs.Programs.{release_says, address_says, set_failed_says, again_on}
 use Rattle.call_causes.proofs.Streams.{frames_follow, faults_more, faults_follow}
 
 module _ (p : Plan) (q : IdPlan) (clients : List (List Task)) (gives : ℕ → List ℕ) where
-  abbrev Tells : Scene → Mark → Program → Type 0
-  Tells w m x = SaysOn p q clients gives w m x
-
-  abbrev Later' : Scene → Scene → Type 0
-  Later' w v = After p q clients gives w v
-
-  abbrev Ends : Scene → Mark → Program → Type 0
-  Ends w m x = Follows p q clients gives w m x
-
-  abbrev Next : Scene → Mark → Program → Type 0
-  Next w m x = Then p q clients gives w m x
+  open speech p q clients gives use {Tells, Later', Next, Ends}
 
   abbrev AreKept : Scene → ℕ → List Frame → Type 0
   AreKept w k fs = AllByRecursion (CameFrom p q clients gives w k) fs

@@ -1,8 +1,7 @@
 -- The story of the calls goes on along the ticks of a whole run, up to its end.
-use Rattle.std.proofs.Common.{◌≡◌, ◌≢◌, ℕ, zero, suc, ◌+◌, ◌<◌, ◌≤◌, ◌⊎◌, inl, inr, ⊎_elim, cond, eqb, append_assoc, List, [], ◌∷◌, ◌++◌, length, length-set, replicate, refl, sym, ap, ◌∙◌, subst, arith}
-use Rattle.std.proofs.lemmas.List.{length-map, append-nil}
-use Rattle.std.specs.List.{AllByRecursion}
-use mathlib.Core.Option.{some, some-injective, some-ne-none}
+use Rattle.std.proofs.Common.{◌≡◌, ◌≢◌, ℕ, zero, suc, ◌+◌, ◌<◌, ◌≤◌, ◌⊎◌, inl, inr, ⊎_elim, cond, eqb, append_assoc, List, [], ◌∷◌, ◌++◌, length, replicate, refl, sym, ap, ◌∙◌, subst, arith}
+use Rattle.std.proofs.lemmas.List.{append-nil}
+use mathlib.Core.Option.{some}
 use lib.ListN.{get_elem?}
 use Rattle.sock_words.specs.declared.plain.Plan.{Plan}
 use Rattle.sock_model.specs.declared.view.View.{View}
@@ -12,19 +11,15 @@ use Rattle.corr_core.specs.declared.marks.Plan.{Plan as IdPlan}
 use Rattle.seat_programs.specs.declared.task.Task.{Task}
 use Rattle.seat_programs.specs.Programs.{Program}
 use Rattle.seat_programs.specs.Clients.{ending_of}
-use Rattle.seat_programs.specs.Cores.{Core, SeatState, resolved, waiting_at, next_step, with_seat}
+use Rattle.seat_programs.specs.Cores.{Core, SeatState, with_seat}
 use Rattle.seat_programs.specs.Ticks.{Moment, quiet, ticked, run}
 use Rattle.seat_programs.specs.Runs.{IsAtRest}
 use Rattle.seat_programs.specs.Tasks.{opens, calls, plan_of, id_plan_of}
 use Rattle.seat_programs.specs.Scripts.{sizes_of, programs, readers_from, all_programs, all_tasks, opened, ending, set_up, played, is_ending, IsRunWithCalls}
 use Rattle.outcome_causes.specs.sock_runs.specs.Sound.{IsAhead, views_after, views_along}
-use Rattle.outcome_causes.specs.sock_runs.proofs.Along.{seat_ahead, seat_rests, ticked_ahead, run_ahead, beginning_ahead}
-use Rattle.outcome_causes.specs.sock_runs.proofs.Quiets.{ticked_rests, run_rests, run_seats}
+use Rattle.outcome_causes.specs.sock_runs.proofs.Along.{seat_rests, ticked_ahead}
+use Rattle.outcome_causes.specs.sock_runs.proofs.Quiets.{ticked_rests, run_rests}
 use Rattle.outcome_causes.specs.sock_runs.proofs.Whole.{views_played, views_closed}
-use Rattle.owed_calls.specs.programs_allowed.proofs.Lasting.{length_all}
-use Rattle.id_rule.specs.Lawful.{newcomer}
-use Rattle.id_runs.specs.Goes.{IdGoesOn}
-use Rattle.id_runs.proofs.Opening.{all_go}
 use Rattle.owed_calls.specs.joint_runs.proofs.Both.{BothSound, AreBoth, behind_both}
 use Rattle.owed_calls.specs.joint_runs.proofs.Runs.{AreMade, first_views, IsSoundRun, joint_runs}
 use Rattle.owed_calls.specs.joint_runs.proofs.Starts.{narrow}
@@ -40,8 +35,10 @@ use Rattle.call_causes.proofs.Numbered.{AreNumbered}
 use Rattle.call_causes.proofs.Claiming.{HaveSlots}
 use Rattle.call_causes.proofs.Attempts.{in_behind, in_front}
 use Rattle.call_causes.proofs.Chains.{KeepsFew}
-use Rattle.call_causes.proofs.Ticks.{other_there, keeps_few, on_homes, told_story, story_lasts}
+use Rattle.call_causes.proofs.Ticks.{other_there, on_homes, told_story, story_lasts}
 use Rattle.call_causes.proofs.Allowing.{allows}
+use Rattle.call_causes.proofs.RunTicks.{parts}
+use Rattle.call_causes.proofs.RunFacts.{run_facts, leadings}
 use Rattle.call_causes.proofs.Opening.{Begins, first_decided}
 
 times_append : (o : ℕ) (xs ys : List ℕ) → times o (xs ++ ys) ≡ times o xs + times o ys
@@ -169,43 +166,11 @@ module _ (script : List Item) (made : AreMade script) (gives : ℕ → List ℕ)
   Tale decided posted shown c = (s : (ps : List Post) × (ns : List ℕ) × HasStory (plan_of script) (id_plan_of script) (all_tasks script) gives ps ns c × ((x : Post) → In x ps → In x posted) × ((o : ℕ) → times o ns ≡ times o shown)) × ((d : Decision) → In d s.2.scene.decisions → In d decided)
 
   -- the calls whose attempts the ticks of each part of the run advance
-  abbrev pub in_setup : List ℕ
-  in_setup = shows_in advanced_at (plan_of script) (opened script) (replicate is.setup (quiet 0))
-
-  abbrev pub in_clients : List ℕ
-  in_clients = shows_in advanced_at (plan_of script) (set_up script is.setup) (is.scheduled ++ is.later)
-
-  abbrev pub in_closing : List ℕ
-  in_closing = shows_in advanced_at (plan_of script) (ending script (played script is.setup (is.scheduled ++ is.later))) (replicate is.last (quiet 0))
-
-  abbrev in_final : List ℕ
-  in_final = shows_in advanced_at (plan_of script) is.ended is.final
-
+  open parts advanced_at is use {setup as in_setup, clients as in_clients, closing as in_closing, final as in_final}
   -- and the errors that ids take in them
-  abbrev pub posts_in_setup : List Post
-  posts_in_setup = shows_in posted_at (plan_of script) (opened script) (replicate is.setup (quiet 0))
-
-  abbrev pub posts_in_clients : List Post
-  posts_in_clients = shows_in posted_at (plan_of script) (set_up script is.setup) (is.scheduled ++ is.later)
-
-  abbrev pub posts_in_closing : List Post
-  posts_in_closing = shows_in posted_at (plan_of script) (ending script (played script is.setup (is.scheduled ++ is.later))) (replicate is.last (quiet 0))
-
-  abbrev posts_in_final : List Post
-  posts_in_final = shows_in posted_at (plan_of script) is.ended is.final
-
+  open parts posted_at is use {setup as posts_in_setup, clients as posts_in_clients, closing as posts_in_closing, final as posts_in_final}
   -- and on which seats decide
-  abbrev decided_in_setup : List Decision
-  decided_in_setup = shows_in decided_at (plan_of script) (opened script) (replicate is.setup (quiet 0))
-
-  abbrev decided_in_clients : List Decision
-  decided_in_clients = shows_in decided_at (plan_of script) (set_up script is.setup) (is.scheduled ++ is.later)
-
-  abbrev decided_in_closing : List Decision
-  decided_in_closing = shows_in decided_at (plan_of script) (ending script (played script is.setup (is.scheduled ++ is.later))) (replicate is.last (quiet 0))
-
-  abbrev decided_in_final : List Decision
-  decided_in_final = shows_in decided_at (plan_of script) is.ended is.final
+  open parts decided_at is use {setup as decided_in_setup, clients as decided_in_clients, closing as decided_in_closing, final as decided_in_final}
 
   abbrev pub small : (id_plan_of script).slots ≤ 65536
   small = narrow (plan_of script) (id_plan_of script) (all_tasks script) (calls script) (opens script) made
@@ -216,73 +181,11 @@ module _ (script : List Item) (made : AreMade script) (gives : ℕ → List ℕ)
   abbrev all : List Program
   all = all_programs (programs (sizes_of (plan_of script) (id_plan_of script)) (all_tasks script)) (readers_from (calls script) 0 (opens script))
 
-  length_is : length (all_programs (programs (sizes_of (plan_of script) (id_plan_of script)) (all_tasks script)) (readers_from (calls script) 0 (opens script))) ≡ (id_plan_of script).seats
-  length_is = let seats = made.seats in omega (arith, seats, length_all (plan_of script) (id_plan_of script) (all_tasks script) (calls script) (opens script) made.few_clients)
-
-  few_tries : (i : ℕ) (x : Program) → get_elem? (all_programs (programs (sizes_of (plan_of script) (id_plan_of script)) (all_tasks script)) (readers_from (calls script) 0 (opens script))) i ≡ some x → KeepsFew x
-  few_tries i x at = keeps_few (plan_of script) (id_plan_of script) newcomer x (at_place (all_programs (programs (sizes_of (plan_of script) (id_plan_of script)) (all_tasks script)) (readers_from (calls script) 0 (opens script))) i (all_go (plan_of script) (id_plan_of script) small made.operations (all_tasks script) (calls script) (opens script) (let are = made.are in are.fit) made.calls_in made.slots) at)
-    where
-      at_place : (xs : List Program) (i : ℕ) → AllByRecursion (IdGoesOn (plan_of script) (id_plan_of script) newcomer) xs → get_elem? xs i ≡ some x → IdGoesOn (plan_of script) (id_plan_of script) newcomer x
-      at_place [] i go at = absurd (some-ne-none x (sym at))
-      at_place (y ∷ ys) zero go at = subst (IdGoesOn (plan_of script) (id_plan_of script) newcomer) (some-injective y x at) go.0
-      at_place (y ∷ ys) (suc i) go at = at_place ys i go.1 at
+  open run_facts script made turns core is use {length_is, few_tries, set_up_ahead, played_ahead, ended_ahead, many_played, many_closed}
+  open leadings script turns core is gives leads use {told_leads, closed_leads, ending_leads, played_leads, set_up_leads, opened_leads}
 
   abbrev pub views_set_up : List View
   views_set_up = views_along (plan_of script) (opened script) (first_views script) (replicate is.setup (quiet 0))
-
-  opened_ahead : IsAhead (opened script)
-  opened_ahead = beginning_ahead (plan_of script) (id_plan_of script) (all_programs (programs (sizes_of (plan_of script) (id_plan_of script)) (all_tasks script)) (readers_from (calls script) 0 (opens script)))
-
-  pub set_up_ahead : IsAhead (set_up script is.setup)
-  set_up_ahead = run_ahead (plan_of script) (opened script) (replicate is.setup (quiet 0)) opened_ahead
-
-  played_ahead : IsAhead (played script is.setup (is.scheduled ++ is.later))
-  played_ahead = run_ahead (plan_of script) (set_up script is.setup) (is.scheduled ++ is.later) set_up_ahead
-
-  pub ending_ahead : IsAhead (ending script (played script is.setup (is.scheduled ++ is.later)))
-  ending_ahead = let c = played script is.setup (is.scheduled ++ is.later) in seat_ahead c 0 (ending_of (opens script)) [] c.words c.homes played_ahead
-
-  pub ended_ahead : IsAhead is.ended
-  ended_ahead = subst IsAhead (sym is.is_ended) (run_ahead (plan_of script) (ending script (played script is.setup (is.scheduled ++ is.later))) (replicate is.last (quiet 0)) ending_ahead)
-
-  -- no seat has an outcome to say before its next step at the end
-  pub end_ahead : IsAhead core
-  end_ahead = subst IsAhead (sym is.is_end) (run_ahead (plan_of script) is.ended is.final ended_ahead)
-
-  many_played : length (played script is.setup (is.scheduled ++ is.later)).seats ≡ (id_plan_of script).seats
-  many_played = run_seats (plan_of script) (set_up script is.setup) (is.scheduled ++ is.later) ∙ (run_seats (plan_of script) (opened script) (replicate is.setup (quiet 0))
-      ∙ (length-map (all_programs (programs (sizes_of (plan_of script) (id_plan_of script)) (all_tasks script)) (readers_from (calls script) 0 (opens script))) (λ (program : Program). record { program = next_step (resolved [] program); hand = [] }) ∙ length_is))
-
-  many_closed : length (run (plan_of script) (ending script (played script is.setup (is.scheduled ++ is.later))) (replicate is.last (quiet 0))).seats ≡ (id_plan_of script).seats
-  many_closed = run_seats (plan_of script) (ending script (played script is.setup (is.scheduled ++ is.later))) (replicate is.last (quiet 0))
-      ∙ (length-set (played script is.setup (is.scheduled ++ is.later)).seats 0 (let c = played script is.setup (is.scheduled ++ is.later) in record { program = next_step (resolved (waiting_at c.calls.waiting 0) (ending_of (opens script))); hand = [] }) ∙ many_played)
-
-  pub many_seats : length core.seats ≡ (id_plan_of script).seats
-  many_seats = ap (λ (d : Core). length d.seats) is.is_end ∙ (run_seats (plan_of script) is.ended is.final ∙ (ap (λ (d : Core). length d.seats) is.is_ended ∙ many_closed))
-
-  abbrev Leads : Core → Type 0
-  Leads c = LeadsTo (plan_of script) (id_plan_of script) (all_tasks script) gives c
-
-  ended_leads : Leads is.ended
-  ended_leads = run_leads (plan_of script) (id_plan_of script) (all_tasks script) gives is.final is.ended (subst Leads is.is_end leads)
-
-  told_leads : Leads (is_ending (run (plan_of script) (ending script (played script is.setup (is.scheduled ++ is.later))) (replicate is.last (quiet 0))))
-  told_leads = subst Leads is.is_ended ended_leads
-
-  pub closed_leads : Leads (run (plan_of script) (ending script (played script is.setup (is.scheduled ++ is.later))) (replicate is.last (quiet 0)))
-  closed_leads = λ k. told_leads k
-
-  ending_leads : Leads (ending script (played script is.setup (is.scheduled ++ is.later)))
-  ending_leads = run_leads (plan_of script) (id_plan_of script) (all_tasks script) gives (replicate is.last (quiet 0)) (ending script (played script is.setup (is.scheduled ++ is.later))) closed_leads
-
-  pub played_leads : Leads (played script is.setup (is.scheduled ++ is.later))
-  played_leads = λ k. ending_leads k
-
-  pub set_up_leads : Leads (set_up script is.setup)
-  set_up_leads = run_leads (plan_of script) (id_plan_of script) (all_tasks script) gives (is.scheduled ++ is.later) (set_up script is.setup) played_leads
-
-  opened_leads : Leads (opened script)
-  opened_leads = run_leads (plan_of script) (id_plan_of script) (all_tasks script) gives (replicate is.setup (quiet 0)) (opened script) set_up_leads
 
   pub first_tale : Tale [] [] [] (opened script)
   first_tale = let k = first_decided (plan_of script) (id_plan_of script) (all_tasks script) gives numbered slots (calls script) (opens script) fit made.seats length_is few_tries opened_leads in (([], [], k.0, (λ x there. there), λ o. refl), λ d there. subst (In d) k.1 there)
@@ -306,7 +209,7 @@ module _ (script : List Item) (made : AreMade script) (gives : ℕ → List ℕ)
       (behind_both (plan_of script) (id_plan_of script) (ending script (played script is.setup (is.scheduled ++ is.later))) (views_played script turns core is (first_views script)) (replicate is.last (quiet 0)) s.closing) (let seats = made.seats in omega (arith, many_closed, seats)) told_leads closed_tale)
 
   end_tale : Tale (((decided_in_setup ++ decided_in_clients) ++ decided_in_closing) ++ decided_in_final) (((posts_in_setup ++ posts_in_clients) ++ posts_in_closing) ++ posts_in_final) (((in_setup ++ in_clients) ++ in_closing) ++ in_final) core
-  end_tale = subst (Tale (((decided_in_setup ++ decided_in_clients) ++ decided_in_closing) ++ decided_in_final) (((posts_in_setup ++ posts_in_clients) ++ posts_in_closing) ++ posts_in_final) (((in_setup ++ in_clients) ++ in_closing) ++ in_final)) (sym is.is_end) (played_told (plan_of script) (id_plan_of script) (all_tasks script) gives numbered slots small is.final ((decided_in_setup ++ decided_in_clients) ++ decided_in_closing) ((posts_in_setup ++ posts_in_clients) ++ posts_in_closing) ((in_setup ++ in_clients) ++ in_closing) is.ended (views_closed script turns core is (first_views script)) (let s = sound_run in s.final) ended_ahead is.is_over (subst Leads is.is_end leads) ended_tale)
+  end_tale = subst (Tale (((decided_in_setup ++ decided_in_clients) ++ decided_in_closing) ++ decided_in_final) (((posts_in_setup ++ posts_in_clients) ++ posts_in_closing) ++ posts_in_final) (((in_setup ++ in_clients) ++ in_closing) ++ in_final)) (sym is.is_end) (played_told (plan_of script) (id_plan_of script) (all_tasks script) gives numbered slots small is.final ((decided_in_setup ++ decided_in_clients) ++ decided_in_closing) ((posts_in_setup ++ posts_in_clients) ++ posts_in_closing) ((in_setup ++ in_clients) ++ in_closing) is.ended (views_closed script turns core is (first_views script)) (let s = sound_run in s.final) ended_ahead is.is_over (subst (LeadsTo (plan_of script) (id_plan_of script) (all_tasks script) gives) is.is_end leads) ended_tale)
 
   -- at the end of a run its story is there, ids took no other errors than the run shows, the attempt of each call was advanced as often, and seats decided on no other errors
   pub run_told : (s : (ps : List Post) × (ns : List ℕ) × HasStory (plan_of script) (id_plan_of script) (all_tasks script) gives ps ns core × ((x : Post) → In x ps → In x (posts_of_run script turns core is)) × ((o : ℕ) → times o ns ≡ attempts_of_run script turns core is o)) × ((d : Decision) → In d s.2.scene.decisions → In d (shows_in_run script turns core is decided_at))

@@ -1,30 +1,16 @@
 -- Frames stay where more bytes come, and behind a rest those follow that begin with it.
-use Rattle.std.proofs.Common.{◌≡◌, ℕ, zero, suc, ◌+◌, ◌-◌, ◌<◌, ◌≤◌, not, ◌&&◌, Bool, true, false, cond, eqb, nat_lt, ltb-false, le-ltb, List, [], ◌∷◌, ◌++◌, length, take, drop, slice_get, Option, Some, None, Result, Ok, Err, ℤ, pos, negsuc, refl, sym, ap, ◌∙◌, subst, arith, length-append, length-drop, drop-drop, drop_of_length-le}
-use Rattle.std.specs.List.{common_prefix_len}
-use lib.Seq.{take-append-le, drop-append-le}
+use Rattle.std.proofs.Common.{append_assoc, ◌≡◌, ℕ, zero, suc, ◌+◌, ◌-◌, ◌<◌, ◌≤◌, not, ◌&&◌, Bool, true, false, cond, eqb, nat_lt, ltb-false, List, [], ◌∷◌, ◌++◌, length, take, drop, slice_get, Some, None, Result, Ok, Err, ℤ, pos, negsuc, refl, sym, ap, ◌∙◌, subst, arith, length-drop, drop-drop}
+use lib.Seq.{drop-append-le}
 use Rattle.brpc_model.specs.Meta.{Meta, MetaFault, read_meta}
-use Rattle.brpc_model.specs.Frame.{Frame, FrameFault, BadMagic, TooBig, MetaOver, Judged, NoneYet, Faulty, Begins, magic, high_first, matching, body_limit, with_attachment, body_judged, judged}
+use Rattle.brpc_model.specs.Frame.{Frame, FrameFault, BadMagic, TooBig, MetaOver, Judged, NoneYet, Faulty, Begins, high_first, matching, body_limit, with_attachment, body_judged, judged}
 use Rattle.brpc_model.specs.Causes.{HasFault}
-use Rattle.prpc_frame.proofs.Lasting.{faulty}
+use Rattle.prpc_frame.proofs.Cuts.{frames_anywhere}
+use Rattle.prpc_frame.proofs.Lasting.{stays, faulty}
 use Rattle.brpc_model.specs.Stream.{Ending, Stream, Rest, Fault, stream, goes_on, stream_up_to, stream_from}
 use Rattle.brpc_model.proofs.Streams.{stream_goes_on}
 use Rattle.seat_programs.specs.Readers.{last_of}
 
 -- ## One judgement
-
-prefix_append : (e : ℕ → ℕ → Bool) (ms xs ys : List ℕ) → length ms ≤ length xs → common_prefix_len e ms (xs ++ ys) ≡ common_prefix_len e ms xs
-prefix_append e [] xs ys room = refl
-prefix_append e (m ∷ ms) [] ys room = absurd (omega (arith, room))
-prefix_append e (m ∷ ms) (x ∷ xs) ys room = ap (λ n. cond (e m x) (1 + n) 0) (prefix_append e ms xs ys (omega (arith, room)))
-
-prefix_short : (e : ℕ → ℕ → Bool) (ms xs : List ℕ) → common_prefix_len e ms xs ≤ length ms
-prefix_short e [] xs = omega arith
-prefix_short e (m ∷ ms) [] = omega arith
-prefix_short e (m ∷ ms) (x ∷ xs) = by_first (prefix_short e ms xs) (e m x)
-  where
-    by_first : common_prefix_len e ms xs ≤ length ms → (b : Bool) → cond b (1 + common_prefix_len e ms xs) 0 ≤ suc (length ms)
-    by_first less true = omega (arith, less)
-    by_first less false = omega arith
 
 -- the eight cases by what they test
 abbrev judge : Bool → Bool → Judged → Judged → Judged → Bool → Bool → Bool → Judged → Judged
@@ -63,18 +49,6 @@ inside_of bytes = take (body_of bytes) (drop 12 bytes)
 abbrev behind_of : List ℕ → Judged
 behind_of bytes = body_judged (read_meta (take (meta_of bytes) (inside_of bytes))) (drop (meta_of bytes) (inside_of bytes)) (body_of bytes)
 
--- by what the tests of two byte lists have in common
-judge_same : (a b : List ℕ) → matching a ≡ matching b → eqb (matching a) (length a) ≡ eqb (matching b) (length b) → nat_lt (length a) 12 ≡ nat_lt (length b) 12 → body_of a ≡ body_of b → meta_of a ≡ meta_of b
-    → inside_of a ≡ inside_of b → nat_lt (length a) (12 + body_of a) ≡ nat_lt (length b) (12 + body_of b) → judged a ≡ judged b
-judge_same a b m l s body meta inside more =
-    ap (λ x. judge (not (eqb x 4) && not (eqb (matching a) (length a))) (nat_lt (length a) 12) (Faulty (BadMagic x)) (Faulty (TooBig (body_of a))) (Faulty (MetaOver (meta_of a) (body_of a))) (nat_lt body_limit (body_of a)) (nat_lt (body_of a) (meta_of a)) (nat_lt (length a) (12 + body_of a)) (behind_of a)) m
-    ∙ ap (λ x. judge (not (eqb (matching b) 4) && not x) (nat_lt (length a) 12) (Faulty (BadMagic (matching b))) (Faulty (TooBig (body_of a))) (Faulty (MetaOver (meta_of a) (body_of a))) (nat_lt body_limit (body_of a)) (nat_lt (body_of a) (meta_of a)) (nat_lt (length a) (12 + body_of a)) (behind_of a)) l
-    ∙ ap (λ x. judge (not (eqb (matching b) 4) && not (eqb (matching b) (length b))) x (Faulty (BadMagic (matching b))) (Faulty (TooBig (body_of a))) (Faulty (MetaOver (meta_of a) (body_of a))) (nat_lt body_limit (body_of a)) (nat_lt (body_of a) (meta_of a)) (nat_lt (length a) (12 + body_of a)) (behind_of a)) s
-    ∙ ap (λ x. judge (not (eqb (matching b) 4) && not (eqb (matching b) (length b))) (nat_lt (length b) 12) (Faulty (BadMagic (matching b))) (Faulty (TooBig (body_of a))) (Faulty (MetaOver (meta_of a) (body_of a))) (nat_lt body_limit (body_of a)) (nat_lt (body_of a) (meta_of a)) x (behind_of a)) more
-    ∙ ap (λ x. judge (not (eqb (matching b) 4) && not (eqb (matching b) (length b))) (nat_lt (length b) 12) (Faulty (BadMagic (matching b))) (Faulty (TooBig (body_of a))) (Faulty (MetaOver (meta_of a) (body_of a))) (nat_lt body_limit (body_of a)) (nat_lt (body_of a) (meta_of a)) (nat_lt (length b) (12 + body_of b)) (body_judged (read_meta (take (meta_of a) x)) (drop (meta_of a) x) (body_of a))) inside
-    ∙ ap (λ x. judge (not (eqb (matching b) 4) && not (eqb (matching b) (length b))) (nat_lt (length b) 12) (Faulty (BadMagic (matching b))) (Faulty (TooBig x)) (Faulty (MetaOver (meta_of a) x)) (nat_lt body_limit x) (nat_lt x (meta_of a)) (nat_lt (length b) (12 + body_of b)) (body_judged (read_meta (take (meta_of a) (inside_of b))) (drop (meta_of a) (inside_of b)) x)) body
-    ∙ ap (λ x. judge (not (eqb (matching b) 4) && not (eqb (matching b) (length b))) (nat_lt (length b) 12) (Faulty (BadMagic (matching b))) (Faulty (TooBig (body_of b))) (Faulty (MetaOver x (body_of b))) (nat_lt body_limit (body_of b)) (nat_lt (body_of b) x) (nat_lt (length b) (12 + body_of b)) (body_judged (read_meta (take x (inside_of b))) (drop x (inside_of b)) (body_of b))) meta
-
 -- a frame that is there is there with its size
 begins_facts : (xs : List ℕ) (f : Frame) (n : ℕ) → judged xs ≡ Begins f n → (12 ≤ length xs) × (body_of xs ≡ n) × (12 + n ≤ length xs)
 begins_facts xs f n e =
@@ -84,56 +58,9 @@ begins_facts xs f n e =
     (ltb-false (length xs) 12 w.0, size, omega (arith, room, size))
 
 pub judged_more : (xs ys : List ℕ) (f : Frame) (n : ℕ) → judged xs ≡ Begins f n → judged (xs ++ ys) ≡ Begins f n
-judged_more xs ys f n e = judge_same (xs ++ ys) xs same_matching lengths shorts body meta inside mores ∙ e
-  where
-    facts : (12 ≤ length xs) × (body_of xs ≡ n) × (12 + n ≤ length xs)
-    facts = begins_facts xs f n e
-
-    longer : length (xs ++ ys) ≡ length xs + length ys
-    longer = length-append xs ys
-
-    same_matching : matching (xs ++ ys) ≡ matching xs
-    same_matching = prefix_append (λ a b. eqb a b) magic xs ys (let l = facts.0 in omega (arith, l))
-
-    few : matching xs ≤ 4
-    few = prefix_short (λ a b. eqb a b) magic xs
-
-    not_all : (m l : ℕ) → m ≤ 4 → 12 ≤ l → eqb m l ≡ false
-    not_all m l low high = Rattle.std.proofs.Common.ne_eqb m l (λ same. omega (arith, low, high, same))
-
-    lengths : eqb (matching (xs ++ ys)) (length (xs ++ ys)) ≡ eqb (matching xs) (length xs)
-    lengths = not_all (matching (xs ++ ys)) (length (xs ++ ys)) (omega (arith, few, same_matching)) (let l = facts.0 in omega (arith, l, longer)) ∙ sym (not_all (matching xs) (length xs) few facts.0)
-
-    shorts : nat_lt (length (xs ++ ys)) 12 ≡ nat_lt (length xs) 12
-    shorts = le-ltb (length (xs ++ ys)) 12 (let l = facts.0 in omega (arith, l, longer)) ∙ sym (le-ltb (length xs) 12 facts.0)
-
-    part : (k m : ℕ) → k + m ≤ length xs → take m (drop k (xs ++ ys)) ≡ take m (drop k xs)
-    part k m room = ap (take m) (drop-append-le k xs ys (omega (arith, room))) ∙ take-append-le m (drop k xs) ys (let l : length (drop k xs) ≡ length xs - k = length-drop k xs in omega (arith, l, room))
-
-    body : body_of (xs ++ ys) ≡ body_of xs
-    body = ap high_first (part 4 4 (let l = facts.0 in omega (arith, l)))
-
-    meta : meta_of (xs ++ ys) ≡ meta_of xs
-    meta = ap high_first (part 8 4 (let l = facts.0 in omega (arith, l)))
-
-    inside : inside_of (xs ++ ys) ≡ inside_of xs
-    inside = ap (λ m. take m (drop 12 (xs ++ ys))) body ∙ part 12 (body_of xs) (let l = facts.2 in let s = facts.1 in omega (arith, l, s))
-
-    mores : nat_lt (length (xs ++ ys)) (12 + body_of (xs ++ ys)) ≡ nat_lt (length xs) (12 + body_of xs)
-    mores = le-ltb (length (xs ++ ys)) (12 + body_of (xs ++ ys)) (let l = facts.2 in let s = facts.1 in omega (arith, l, s, longer, body)) ∙ sym (le-ltb (length xs) (12 + body_of xs) (let l = facts.2 in let s = facts.1 in omega (arith, l, s)))
+judged_more xs ys f n e = stays xs ys (λ none_. let w : NoneYet ≡ Begins f n = sym none_ ∙ e in cc) ∙ e
 
 -- ## The whole stream
-
--- the frames are the same wherever the stream begins
-goes_same : (at at' : ℕ) (bytes : List ℕ) (j : Judged) (g h : ℕ → Stream) → ((body : ℕ) → (g body).frames ≡ (h body).frames) → (goes_on at bytes j g).frames ≡ (goes_on at' bytes j h).frames
-goes_same at at' bytes NoneYet g h all = refl
-goes_same at at' bytes (Faulty fault) g h all = refl
-goes_same at at' bytes (Begins f body) g h all = ap (λ fs. f ∷ fs) (all body)
-
-anywhere : (n at at' : ℕ) (bytes : List ℕ) → (stream_up_to n at bytes).frames ≡ (stream_up_to n at' bytes).frames
-anywhere zero at at' bytes = refl
-anywhere (suc n) at at' bytes = goes_same at at' bytes (judged bytes) (λ body. stream_up_to n (at + (12 + body)) (drop (12 + body) bytes)) (λ body. stream_up_to n (at' + (12 + body)) (drop (12 + body) bytes))
-    (λ body. anywhere n (at + (12 + body)) (at' + (12 + body)) (drop (12 + body) bytes))
 
 -- behind a frame, with more bytes
 begins_more : (at : ℕ) (xs ys : List ℕ) (f : Frame) (body : ℕ) → judged xs ≡ Begins f body → (stream_from at (xs ++ ys)).frames ≡ f ∷ (stream_from (at + (12 + body)) (drop (12 + body) xs ++ ys)).frames
@@ -169,29 +96,11 @@ rest_low (suc n) at xs r is = by_judged (judged xs) is (λ body e. rest_low n (a
     by_judged (Faulty fault) is again = absurd (let w : Fault at fault ≡ Rest r = is in cc)
     by_judged (Begins g body) is again = let l : length (drop (12 + body) xs) ≡ length xs - (12 + body) = length-drop (12 + body) xs in let low = again body is in omega (arith, l, low)
 
--- behind a rest the frames go on as those of the rest with what comes
-pub frames_follow : (n at : ℕ) (xs ys : List ℕ) (r : ℕ) → length xs < n → (stream_up_to n at xs).ending ≡ Rest r → (j : ℕ) (f : Frame) → slice_get (stream_from 0 (last_of r xs ++ ys)).frames j ≡ Some f
-    → slice_get (stream_from at (xs ++ ys)).frames (length (stream_up_to n at xs).frames + j) ≡ Some f
-frames_follow zero at xs ys r room is j f there = absurd (omega (arith, room))
-frames_follow (suc n) at xs ys r room is j f there = by_judged (judged xs) refl is
-    (λ body g e later. frames_follow n (at + (12 + body)) (drop (12 + body) xs) ys r (left_short xs g body n e room) later j f
-    (subst (λ l. slice_get (stream_from 0 (l ++ ys)).frames j ≡ Some f) (last_same body g e (rest_low n (at + (12 + body)) (drop (12 + body) xs) r later)) there))
-  where
-    last_same : (body : ℕ) (g : Frame) → judged xs ≡ Begins g body → r ≤ length (drop (12 + body) xs) → last_of r xs ≡ last_of r (drop (12 + body) xs)
-    last_same body g e low = let l : length (drop (12 + body) xs) ≡ length xs - (12 + body) = length-drop (12 + body) xs in let b = (begins_facts xs g body e).2 in
-        let k : length xs - r ≡ (12 + body) + (length (drop (12 + body) xs) - r) = omega (arith, l, b, low) in
-        ap (λ m. drop m xs) k ∙ sym (drop-drop (length (drop (12 + body) xs) - r) (12 + body) xs)
-
-    by_judged : (x : Judged) → judged xs ≡ x → (goes_on at xs x (λ body. stream_up_to n (at + (12 + body)) (drop (12 + body) xs))).ending ≡ Rest r
-        → ((body : ℕ) (g : Frame) → judged xs ≡ Begins g body → (stream_up_to n (at + (12 + body)) (drop (12 + body) xs)).ending ≡ Rest r
-        → slice_get (stream_from (at + (12 + body)) (drop (12 + body) xs ++ ys)).frames (length (stream_up_to n (at + (12 + body)) (drop (12 + body) xs)).frames + j) ≡ Some f)
-        → slice_get (stream_from at (xs ++ ys)).frames (length (goes_on at xs x (λ body. stream_up_to n (at + (12 + body)) (drop (12 + body) xs))).frames + j) ≡ Some f
-    by_judged NoneYet e is again = let w : length xs ≡ r = cc in let all : length xs - r ≡ 0 = omega (arith, w) in
-        subst (λ k. slice_get (stream_from at (xs ++ ys)).frames k ≡ Some f) (let z : j ≡ 0 + j = omega arith in z)
-        (subst (λ l. slice_get l j ≡ Some f) (anywhere (suc (length (xs ++ ys))) 0 at (xs ++ ys)) (subst (λ l. slice_get (stream_from 0 (l ++ ys)).frames j ≡ Some f) (ap (λ m. drop m xs) all) there))
-    by_judged (Faulty fault) e is again = absurd (let w : Fault at fault ≡ Rest r = is in cc)
-    by_judged (Begins g body) e is again = subst (λ l. slice_get l (suc (length (stream_up_to n (at + (12 + body)) (drop (12 + body) xs)).frames) + j) ≡ Some f) (sym (begins_more at xs ys g body e))
-        (subst (λ k. slice_get (g ∷ (stream_from (at + (12 + body)) (drop (12 + body) xs ++ ys)).frames) k ≡ Some f) (let z : suc (length (stream_up_to n (at + (12 + body)) (drop (12 + body) xs)).frames + j) ≡ suc (length (stream_up_to n (at + (12 + body)) (drop (12 + body) xs)).frames) + j = omega arith in z) (again body g e is))
+-- what is left behind the frames is the last of what stands behind the first
+last_same : (xs : List ℕ) (r body : ℕ) (g : Frame) → judged xs ≡ Begins g body → r ≤ length (drop (12 + body) xs) → last_of r xs ≡ last_of r (drop (12 + body) xs)
+last_same xs r body g e low = let l : length (drop (12 + body) xs) ≡ length xs - (12 + body) = length-drop (12 + body) xs in let b = (begins_facts xs g body e).2 in
+    let k : length xs - r ≡ (12 + body) + (length (drop (12 + body) xs) - r) = omega (arith, l, b, low) in
+    ap (λ m. drop m xs) k ∙ sym (drop-drop (length (drop (12 + body) xs) - r) (12 + body) xs)
 
 -- ## Faults
 
@@ -233,19 +142,18 @@ faults_behind : (n at : ℕ) (xs ys : List ℕ) (r : ℕ) → length xs < n → 
 faults_behind zero at xs ys r room is x = absurd (omega (arith, room))
 faults_behind (suc n) at xs ys r room is x = by_judged (judged xs) refl is
     (λ body g e later. faults_behind n (at + (12 + body)) (drop (12 + body) xs) ys r (left_short xs g body n e room) later
-    (subst (λ l. IsFaulty (stream_from 0 (l ++ ys)).ending) (last_same body g e (rest_low n (at + (12 + body)) (drop (12 + body) xs) r later)) x))
+    (subst (λ l. IsFaulty (stream_from 0 (l ++ ys)).ending) (last_same xs r body g e (rest_low n (at + (12 + body)) (drop (12 + body) xs) r later)) x))
   where
-    last_same : (body : ℕ) (g : Frame) → judged xs ≡ Begins g body → r ≤ length (drop (12 + body) xs) → last_of r xs ≡ last_of r (drop (12 + body) xs)
-    last_same body g e low = let l : length (drop (12 + body) xs) ≡ length xs - (12 + body) = length-drop (12 + body) xs in let b = (begins_facts xs g body e).2 in
-        let k : length xs - r ≡ (12 + body) + (length (drop (12 + body) xs) - r) = omega (arith, l, b, low) in
-        ap (λ m. drop m xs) k ∙ sym (drop-drop (length (drop (12 + body) xs) - r) (12 + body) xs)
-
     by_judged : (j : Judged) → judged xs ≡ j → (goes_on at xs j (λ body. stream_up_to n (at + (12 + body)) (drop (12 + body) xs))).ending ≡ Rest r
         → ((body : ℕ) (g : Frame) → judged xs ≡ Begins g body → (stream_up_to n (at + (12 + body)) (drop (12 + body) xs)).ending ≡ Rest r → IsFaulty (stream_from (at + (12 + body)) (drop (12 + body) xs ++ ys)).ending) → IsFaulty (stream_from at (xs ++ ys)).ending
     by_judged NoneYet e is again = let w : length xs ≡ r = cc in let all : length xs - r ≡ 0 = omega (arith, w) in
         faulty_anywhere (suc (length (xs ++ ys))) 0 at (xs ++ ys) (subst (λ l. IsFaulty (stream_from 0 (l ++ ys)).ending) (ap (λ m. drop m xs) all) x)
     by_judged (Faulty fault) e is again = absurd (let w : Fault at fault ≡ Rest r = is in cc)
     by_judged (Begins g body) e is again = subst IsFaulty (sym (begins_ends at xs ys g body e)) (again body g e is)
+
+-- where a fault behind a rest is one of the whole, it is so with more bytes
+pub tied_more : (rest whole bytes more : List ℕ) → ((ys : List ℕ) → HasFault (rest ++ ys) → HasFault (whole ++ ys)) → HasFault ((rest ++ bytes) ++ more) → HasFault ((whole ++ bytes) ++ more)
+tied_more rest whole bytes more tied f = subst HasFault (sym (append_assoc whole bytes more)) (tied (bytes ++ more) (subst HasFault (append_assoc rest bytes more) f))
 
 pub faults_follow : (xs ys : List ℕ) (r : ℕ) → (stream xs).ending ≡ Rest r → HasFault (last_of r xs ++ ys) → HasFault (xs ++ ys)
 faults_follow xs ys r is x = faults_behind (suc (length xs)) 0 xs ys r (omega arith) is x
@@ -257,24 +165,28 @@ frames_behind : (n at : ℕ) (xs ys : List ℕ) (r : ℕ) → length xs < n → 
 frames_behind zero at xs ys r room is = absurd (omega (arith, room))
 frames_behind (suc n) at xs ys r room is = by_judged (judged xs) refl is
     (λ body g e later. frames_behind n (at + (12 + body)) (drop (12 + body) xs) ys r (left_short xs g body n e room) later
-    ∙ ap (λ l. (stream_up_to n (at + (12 + body)) (drop (12 + body) xs)).frames ++ (stream_from 0 (l ++ ys)).frames) (sym (last_same body g e (rest_low n (at + (12 + body)) (drop (12 + body) xs) r later))))
+    ∙ ap (λ l. (stream_up_to n (at + (12 + body)) (drop (12 + body) xs)).frames ++ (stream_from 0 (l ++ ys)).frames) (sym (last_same xs r body g e (rest_low n (at + (12 + body)) (drop (12 + body) xs) r later))))
   where
-    last_same : (body : ℕ) (g : Frame) → judged xs ≡ Begins g body → r ≤ length (drop (12 + body) xs) → last_of r xs ≡ last_of r (drop (12 + body) xs)
-    last_same body g e low = let l : length (drop (12 + body) xs) ≡ length xs - (12 + body) = length-drop (12 + body) xs in let b = (begins_facts xs g body e).2 in
-        let k : length xs - r ≡ (12 + body) + (length (drop (12 + body) xs) - r) = omega (arith, l, b, low) in
-        ap (λ m. drop m xs) k ∙ sym (drop-drop (length (drop (12 + body) xs) - r) (12 + body) xs)
-
     by_judged : (x : Judged) → judged xs ≡ x → (goes_on at xs x (λ body. stream_up_to n (at + (12 + body)) (drop (12 + body) xs))).ending ≡ Rest r
         → ((body : ℕ) (g : Frame) → judged xs ≡ Begins g body → (stream_up_to n (at + (12 + body)) (drop (12 + body) xs)).ending ≡ Rest r
         → (stream_from (at + (12 + body)) (drop (12 + body) xs ++ ys)).frames ≡ (stream_up_to n (at + (12 + body)) (drop (12 + body) xs)).frames ++ (stream_from 0 (last_of r xs ++ ys)).frames)
         → (stream_from at (xs ++ ys)).frames ≡ (goes_on at xs x (λ body. stream_up_to n (at + (12 + body)) (drop (12 + body) xs))).frames ++ (stream_from 0 (last_of r xs ++ ys)).frames
     by_judged NoneYet e is again = let w : length xs ≡ r = cc in let all : length xs - r ≡ 0 = omega (arith, w) in
-        anywhere (suc (length (xs ++ ys))) at 0 (xs ++ ys) ∙ ap (λ m. (stream_from 0 (drop m xs ++ ys)).frames) (sym all)
+        frames_anywhere at (xs ++ ys) ∙ ap (λ m. (stream_from 0 (drop m xs ++ ys)).frames) (sym all)
     by_judged (Faulty fault) e is again = absurd (let w : Fault at fault ≡ Rest r = is in cc)
     by_judged (Begins g body) e is again = begins_more at xs ys g body e ∙ ap (λ l. g ∷ l) (again body g e is)
 
 pub frames_behind_rest : (xs ys : List ℕ) (r : ℕ) → (stream xs).ending ≡ Rest r → (stream (xs ++ ys)).frames ≡ (stream xs).frames ++ (stream (last_of r xs ++ ys)).frames
 frames_behind_rest xs ys r is = frames_behind (suc (length xs)) 0 xs ys r (omega arith) is
+
+at_behind : (fs gs : List Frame) (j : ℕ) (f : Frame) → slice_get gs j ≡ Some f → slice_get (fs ++ gs) (length fs + j) ≡ Some f
+at_behind [] gs j f there = subst (λ k. slice_get gs k ≡ Some f) (let z : j ≡ 0 + j = omega arith in z) there
+at_behind (x ∷ fs) gs j f there = subst (λ k. slice_get (x ∷ (fs ++ gs)) k ≡ Some f) (let z : suc (length fs + j) ≡ suc (length fs) + j = omega arith in z) (at_behind fs gs j f there)
+
+-- each frame of the rest with what comes is one of the whole
+pub frames_follow : (n at : ℕ) (xs ys : List ℕ) (r : ℕ) → length xs < n → (stream_up_to n at xs).ending ≡ Rest r → (j : ℕ) (f : Frame) → slice_get (stream_from 0 (last_of r xs ++ ys)).frames j ≡ Some f
+    → slice_get (stream_from at (xs ++ ys)).frames (length (stream_up_to n at xs).frames + j) ≡ Some f
+frames_follow n at xs ys r room is j f there = subst (λ l. slice_get l (length (stream_up_to n at xs).frames + j) ≡ Some f) (sym (frames_behind n at xs ys r room is)) (at_behind (stream_up_to n at xs).frames (stream_from 0 (last_of r xs ++ ys)).frames j f there)
 
 -- behind a fault there are none
 frames_before : (n at : ℕ) (xs ys : List ℕ) → length xs < n → IsFaulty (stream_up_to n at xs).ending → (stream_from at (xs ++ ys)).frames ≡ (stream_up_to n at xs).frames

@@ -1,7 +1,7 @@
 -- A tick of any seat goes on with the story of the calls.
 use Rattle.std.proofs.Common.{◌≡◌, ◌≢◌, ℕ, zero, suc, ◌<◌, ◌≤◌, ◌⊎◌, inl, inr, ⊎_elim, List, [], ◌∷◌, ◌++◌, length, length-set, get_or, get_or-set_same, set, slice_get, None, Some, refl, sym, ap, ◌∙◌, subst, arith}
 use Rattle.std.specs.List.{AllByRecursion}
-use mathlib.Core.Option.{Option, none, some, some-injective, some-ne-none}
+use mathlib.Core.Option.{Option, none, some, some-ne-none}
 use lib.ListN.{get_elem?}
 use Rattle.atomic_table.proofs.Lists.{at_set}
 use Rattle.sock_words.specs.declared.plain.Plan.{Plan}
@@ -9,10 +9,10 @@ use Rattle.sock_io.specs.declared.link.Put.{Put}
 use Rattle.sock_io.specs.declared.link.Ready.{Ready}
 use Rattle.sock_model.specs.declared.chain.Heading.{Heading}
 use Rattle.sock_model.specs.declared.home.Home.{Home}
-use Rattle.sock_model.specs.declared.home.Home.TheVariants.{Empty, Link, Message}
+use Rattle.sock_model.specs.declared.home.Home.TheVariants.{Message}
 use Rattle.sock_model.specs.Layout.{name_index, all_words}
 use Rattle.sock_model.specs.Messages.{Letter}
-use Rattle.sock_model.specs.Reads.{letter_of, shown, message, link_home}
+use Rattle.sock_model.specs.Reads.{shown, message, link_home}
 use Rattle.corr_core.specs.declared.marks.Plan.{Plan as IdPlan}
 use Rattle.seat_programs.specs.declared.task.Op.TheVariants as ops
 use Rattle.seat_programs.specs.declared.task.Task.{Task}
@@ -33,6 +33,7 @@ use Rattle.id_runs.specs.Goes as goes
 use Rattle.id_runs.proofs.Loops.{ids_round}
 use Rattle.id_runs.proofs.Programs.{block_goes}
 use Rattle.id_runs.proofs.Owners.{steps_on}
+use Rattle.owed_calls.proofs.OwingTicks.{message_there}
 use Rattle.call_causes.specs.Lists.{advances_by, advanced_with, advanced_at}
 use Rattle.call_causes.specs.Posts.{Post, posts_by, posted_with, posted_at}
 use Rattle.call_causes.specs.Decided.{Decision, decision_in, decided_at}
@@ -63,14 +64,6 @@ other_there [] m i a e at = absurd (some-ne-none a (sym at))
 other_there (x ∷ xs) [] i a e at = absurd (omega (arith, e))
 other_there (x ∷ xs) (y ∷ ys) zero a e at = (y, refl)
 other_there (x ∷ xs) (y ∷ ys) (suc i) a e at = other_there xs ys i a (omega (arith, e)) at
-
--- an end of the other list is none of this
-message_there : (x : Option (Option Home)) (letter : Letter) → letter_of (shown (λ (home : Home). home) x) ≡ some letter → x ≡ some (some (Message letter.0 letter.1))
-message_there none letter e = absurd (some-ne-none letter (sym e))
-message_there (some none) letter e = absurd (some-ne-none letter (sym e))
-message_there (some (some Empty)) letter e = absurd (some-ne-none letter (sym e))
-message_there (some (some (Link k took next done))) letter e = absurd (some-ne-none letter (sym e))
-message_there (some (some (Message l cs))) letter e = ap (λ (z : Letter). some (some (Message z.0 z.1))) (some-injective (l, cs) letter e)
 
 -- the retries that wait stay behind a step aside
 waiting_same : (step : Step) (found : Found step) (a : Calls) → (calls_after step found a).waiting ≡ a.waiting
@@ -109,13 +102,13 @@ abbrev pub IsSetUp : Core → Type 0
 IsSetUp c = (seat : SeatState) → get_elem? c.seats 0 ≡ some seat → seat.program ≡ Rest
 
 module _ (p : Plan) (q : IdPlan) (clients : List (List Task)) (gives : ℕ → List ℕ) (numbered : AreNumbered p q clients gives) (slots : HaveSlots p q clients gives) (narrow : q.slots ≤ 65536) where
+  -- the story goes on to a scene that is as told
+  stands : (w v : Scene) (ns : List Mark) → Later p q clients gives w v → CallStory p q clients gives v ns → GoesOn p q clients gives w v.decisions v.posts v.advances v.core
+  stands w v ns later story = record { has = record { scene = v; marks = ns; is = refl; shown = refl; shown_posts = refl; story = story }; shown_decisions = refl; later = later }
+
   -- where nothing happens
   stays : (w : Scene) (ms : List Mark) → CallStory p q clients gives w ms → LeadsTo p q clients gives w.core → GoesOn p q clients gives w w.decisions w.posts w.advances w.core
-  stays w ms story lead = record {
-    has = record { scene = w; marks = ms; is = refl; shown = refl; shown_posts = refl; story = story };
-    shown_decisions = refl;
-    later = here_later p q clients gives w (has_room p q clients gives slots w ms story.claims, lead) (let births = story.births in one_call w.births births.apart (λ b there. (births.born b there).1));
-  }
+  stays w ms story lead = stands w w ms (here_later p q clients gives w (has_room p q clients gives slots w ms story.claims, lead) (let births = story.births in one_call w.births births.apart (λ b there. (births.born b there).1))) story
 
   module _ (w : Scene) (ms : List Mark) (story : CallStory p q clients gives w ms) (us : List IdView) (ids : SoundIds p q w.core us) (sized : length w.core.words ≡ all_words p) (i : ℕ) (seat : SeatState) (at_seat : get_elem? w.core.seats i ≡ some seat) (u : IdView) (at_view : get_elem? us i ≡ some u) (m : Mark) (at : At ms i m)
       (over : i ≢ 0 → (n : Mark) → At ms 0 n → n.todo ≡ []) where
@@ -157,26 +150,15 @@ module _ (p : Plan) (q : IdPlan) (clients : List (List Task)) (gives : ℕ → L
           let l = beside_later p q clients gives numbered w scene ms i m at story.slots story.births story.tasks (room, lead) b x (waiting_at w.core.calls.waiting i) few keeps refl refl in
           let said = beside_said p q clients gives numbered w scene ms i m at story.slots story.births story.tasks (room, lead) b x (waiting_at w.core.calls.waiting i) few keeps refl refl in
           let r = beside_ticks p q clients gives numbered w scene ms i m at story.slots story.births story.tasks (room, lead) b x (waiting_at w.core.calls.waiting i) few keeps refl refl (says scene refl l said) in
-          record {
-            shown_decisions = refl;
-            later = l;
-            has = record {
-              scene = scene;
-              marks = set ms i r.mark;
-              is = refl;
-              shown = refl;
-              shown_posts = refl;
-              story = record {
-                each = length-set ms i r.mark ∙ (story.each ∙ sym (length-set w.core.seats i (record { program = next_step (resolved (waiting_at w.core.calls.waiting i) x); hand = hand })));
-                slots = kept_slots p q clients gives scene ms i m r.mark at r.kept r.slots_law;
-                births = r.births_law;
-                tasks = r.tasks_law;
-                claims = kept_claims p q clients gives scene ms i m r.mark at r.kept (record { taken = story.claims.taken; calls = story.claims.calls; once = story.claims.once; free = story.claims.free });
-                reads = kept_reads p q clients gives scene ms i m r.mark at r.kept (record { bytes = story.reads.bytes; tied = story.reads.tied; inside = story.reads.inside });
-                seats = seats_after scene (record { program = next_step (resolved (waiting_at w.core.calls.waiting i) x); hand = hand }) r.mark refl l r.says_on;
-              };
-            };
-          }
+          stands w scene (set ms i r.mark) l (record {
+            each = length-set ms i r.mark ∙ (story.each ∙ sym (length-set w.core.seats i (record { program = next_step (resolved (waiting_at w.core.calls.waiting i) x); hand = hand })));
+            slots = kept_slots p q clients gives scene ms i m r.mark at r.kept r.slots_law;
+            births = r.births_law;
+            tasks = r.tasks_law;
+            claims = kept_claims p q clients gives scene ms i m r.mark at r.kept (record { taken = story.claims.taken; calls = story.claims.calls; once = story.claims.once; free = story.claims.free });
+            reads = kept_reads p q clients gives scene ms i m r.mark at r.kept (record { bytes = story.reads.bytes; tied = story.reads.tied; inside = story.reads.inside });
+            seats = seats_after scene (record { program = next_step (resolved (waiting_at w.core.calls.waiting i) x); hand = hand }) r.mark refl l r.says_on;
+          })
 
     -- where no word changes
     pub on_homes : (x : Program) (hand : List Home) (hs : List (Option Home)) → KeepsFew x → Leads (with_seat i x hand w.core.words hs w.core) → ((v : Scene) → Later p q clients gives w v → SaidBy v x → SaysOn p q clients gives v m x) → Goes w.posts w.advances (with_seat i x hand w.core.words hs w.core)
@@ -190,26 +172,15 @@ module _ (p : Plan) (q : IdPlan) (clients : List (List Task)) (gives : ℕ → L
     pub told_story : Leads (is_ending w.core) → Goes w.posts w.advances (is_ending w.core)
     told_story lead =
         let b : IsBeside p q clients gives numbered w told_scene ms i m at story.slots story.births story.tasks (room, lead) = record { words = refl; homes = refl; gave = refl; births_are = refl; claims_are = refl; advances_are = refl; posts_are = refl; decided = λ d there. there; named = λ n y. y; codes = story.births.codes } in
-        let l = beside_later p q clients gives numbered w told_scene ms i m at story.slots story.births story.tasks (room, lead) b Rest [] tt tt refl refl in record {
-          shown_decisions = refl;
-          later = l;
-          has = record {
-            scene = told_scene;
-            marks = ms;
-            is = refl;
-            shown = refl;
-            shown_posts = refl;
-            story = record {
-              each = story.each;
-              slots = beside_slots p q clients gives numbered w told_scene ms i m at story.slots story.births story.tasks (room, lead) b Rest [] tt tt refl refl;
-              births = beside_births p q clients gives numbered w told_scene ms i m at story.slots story.births story.tasks (room, lead) b Rest [] tt tt refl refl;
-              tasks = beside_tasks p q clients gives numbered w told_scene ms i m at story.slots story.births story.tasks (room, lead) b Rest [] tt tt refl refl;
-              claims = record { taken = story.claims.taken; calls = story.claims.calls; once = story.claims.once; free = story.claims.free };
-              reads = record { bytes = story.reads.bytes; tied = story.reads.tied; inside = story.reads.inside };
-              seats = λ k s n at_s at_n. says_on p q clients gives w told_scene l n s.program (story.seats k s n at_s at_n);
-            };
-          };
-        }
+        let l = beside_later p q clients gives numbered w told_scene ms i m at story.slots story.births story.tasks (room, lead) b Rest [] tt tt refl refl in stands w told_scene ms l (record {
+          each = story.each;
+          slots = beside_slots p q clients gives numbered w told_scene ms i m at story.slots story.births story.tasks (room, lead) b Rest [] tt tt refl refl;
+          births = beside_births p q clients gives numbered w told_scene ms i m at story.slots story.births story.tasks (room, lead) b Rest [] tt tt refl refl;
+          tasks = beside_tasks p q clients gives numbered w told_scene ms i m at story.slots story.births story.tasks (room, lead) b Rest [] tt tt refl refl;
+          claims = record { taken = story.claims.taken; calls = story.claims.calls; once = story.claims.once; free = story.claims.free };
+          reads = record { bytes = story.reads.bytes; tied = story.reads.tied; inside = story.reads.inside };
+          seats = λ k s n at_s at_n. says_on p q clients gives w told_scene l n s.program (story.seats k s n at_s at_n);
+        })
 
     -- ## Errors on which a seat decides are noted
 
@@ -317,26 +288,15 @@ module _ (p : Plan) (q : IdPlan) (clients : List (List Task)) (gives : ℕ → L
           let r = aside_ticks p q clients gives numbered w aside_scene ms i m at ids.plan (is_sized p q clients gives w us ids) (are_low p q clients gives w us ids) story.slots story.births story.tasks story.claims story.reads step found b kn refl room' next says (waiting_at (calls_after step found w.core.calls).waiting i) few keeps refl refl in
           let at1 = put_at ms i m (mark_after p q clients gives step found m) at in
           let twice = set_twice ms i (mark_after p q clients gives step found m) r.mark in
-          record {
-            shown_decisions = refl;
-            later = l;
-            has = record {
-              scene = aside_scene;
-              marks = set ms i r.mark;
-              is = refl;
-              shown = refl;
-              shown_posts = refl;
-              story = record {
-                each = length-set ms i r.mark ∙ (story.each ∙ sym (length-set w.core.seats i (record { program = next_step (resolved (waiting_at (calls_after step found w.core.calls).waiting i) (next found)); hand = seat.hand })));
-                slots = subst (SlotsLaw q aside_scene) twice (kept_slots p q clients gives aside_scene (set ms i (mark_after p q clients gives step found m)) i (mark_after p q clients gives step found m) r.mark at1 r.kept r.slots_law);
-                births = r.births_law;
-                tasks = r.tasks_law;
-                claims = subst (ClaimsLaw p q clients gives aside_scene) twice (kept_claims p q clients gives aside_scene (set ms i (mark_after p q clients gives step found m)) i (mark_after p q clients gives step found m) r.mark at1 r.kept law);
-                reads = subst (ReadsLaw p q clients gives aside_scene) twice (kept_reads p q clients gives aside_scene (set ms i (mark_after p q clients gives step found m)) i (mark_after p q clients gives step found m) r.mark at1 r.kept (reads_after_step p q clients gives w aside_scene ms i m at story.reads step found b kn says.0));
-                seats = seats_after aside_scene (record { program = next_step (resolved (waiting_at (calls_after step found w.core.calls).waiting i) (next found)); hand = seat.hand }) r.mark refl l r.says_on;
-              };
-            };
-          }
+          stands w aside_scene (set ms i r.mark) l (record {
+            each = length-set ms i r.mark ∙ (story.each ∙ sym (length-set w.core.seats i (record { program = next_step (resolved (waiting_at (calls_after step found w.core.calls).waiting i) (next found)); hand = seat.hand })));
+            slots = subst (SlotsLaw q aside_scene) twice (kept_slots p q clients gives aside_scene (set ms i (mark_after p q clients gives step found m)) i (mark_after p q clients gives step found m) r.mark at1 r.kept r.slots_law);
+            births = r.births_law;
+            tasks = r.tasks_law;
+            claims = subst (ClaimsLaw p q clients gives aside_scene) twice (kept_claims p q clients gives aside_scene (set ms i (mark_after p q clients gives step found m)) i (mark_after p q clients gives step found m) r.mark at1 r.kept law);
+            reads = subst (ReadsLaw p q clients gives aside_scene) twice (kept_reads p q clients gives aside_scene (set ms i (mark_after p q clients gives step found m)) i (mark_after p q clients gives step found m) r.mark at1 r.kept (reads_after_step p q clients gives w aside_scene ms i m at story.reads step found b kn says.0));
+            seats = seats_after aside_scene (record { program = next_step (resolved (waiting_at (calls_after step found w.core.calls).waiting i) (next found)); hand = seat.hand }) r.mark refl l r.says_on;
+          })
 
     by_found : (step : Step) (next : Found step → Program) (t : Option Taking) → SaysOn p q clients gives w m (Aside step next) → IdGoesOn p q u (Aside step next) → (x : Option (Found step)) → found_in step w.core.calls t ≡ x → Leads (with_found p i seat w.core step x next) → Goes (elim x as (λ o. List Post) [ none ↦ [] | some found ↦ posts_by step found ] ++ w.posts) (elim x as (λ o. List ℕ) [ none ↦ [] | some found ↦ advances_by step found w.core.calls ] ++ w.advances) (with_found p i seat w.core step x next)
     by_found step next t says go none is lead = before lead

@@ -29,7 +29,8 @@ use Rattle.call_causes.proofs.End.{HasEnded, told, versions}
 use Rattle.call_causes.proofs.CallWhys.{names_found_none, why}
 use Rattle.call_causes.proofs.Once.{expired_once}
 use Rattle.call_causes.proofs.Scripts.{are_numbered, are_ascending, have_slots, begins}
-use Rattle.call_causes.proofs.Run.{run_told, many_seats}
+use Rattle.call_causes.proofs.Run.{run_told}
+use Rattle.call_causes.proofs.RunFacts.{run_facts}
 use Rattle.call_causes.proofs.Over.{has_ended}
 
 seeks_name : (n : ℕ) (op : Op) → Seeks n op → SeeksName n op
@@ -73,7 +74,7 @@ module _ (script : List Item) (made : AreMade script) (there : AreThere script) 
     run_has_ended = let h = run_has_story in has_ended (plan_of script) (id_plan_of script) (all_tasks script) (given core) h.scene h.marks h.story
         (subst AllRest (sym h.is) (run_all_rest script made turns core is closes))
         (λ i inside. subst (λ (d : Core). (parts (get_or d.calls.words (id_index i) 0)).state ≡ 0) (sym h.is) (run_all_ended script made turns core is closes i inside))
-        (let many = ap (λ (d : Core). length d.seats) h.is ∙ many_seats script made (given core) (are_numbered script made there range (given core)) (have_slots script made there range (given core)) (begins script made there range (given core)) turns core is leads in let seats = made.seats in let few = made.few_clients in omega (arith, many, seats, few))
+        (let r = run_facts script made turns core is in let many = ap (λ (d : Core). length d.seats) h.is ∙ r.many_seats in let seats = made.seats in let few = made.few_clients in omega (arith, many, seats, few))
 
     -- where an operation found a name without a socket, the calls of its client before it found so too
     pub run_found_none : CallsFoundNone (all_tasks script) core.outcomes

@@ -5,6 +5,8 @@ use Rattle.sock_words.specs.declared.plain.Plan.{Plan}
 use Rattle.sock_words.specs.declared.outcome.Outcome.{Outcome}
 use Rattle.sock_words.specs.declared.outcome.Outcome.TheVariants as outcomes
 use Rattle.corr_core.specs.declared.marks.Plan.{Plan as IdPlan}
+use Rattle.sock_message.specs.Asked.{Asked}
+use Rattle.seat_programs.specs.declared.task.Op.{Op}
 use Rattle.seat_programs.specs.declared.task.Op.TheVariants as ops
 use Rattle.seat_programs.specs.declared.task.Task.{Task}
 use Rattle.seat_programs.specs.Told.{IsTask, Became}
@@ -108,19 +110,18 @@ module _ (p : Plan) (q : IdPlan) (clients : List (List Task)) (gives : ℕ → L
         expire_by o d outcomes.NotBegun why = not_begun c t o d why
         expire_by o d _ why = absurd why
 
+        -- why the task's own outcome is as it is, where the task sends nothing and begins no call
+        own_why : (op : Op) (x : Outcome) → t.op ≡ op → ((n : ℕ) (bytes : List ℕ) → ops.Send n bytes ≡ op → ⊥) → ((a : Asked) → ops.Call a ≡ op → ⊥) → Became clients w.core.outcomes t.number x → (d : IsDone c t) × WhyOwn p q clients gives w c d.before op x
+        own_why op x is_op sends calls_ has = let d = is_done c t is in (d, by_told d d.told)
+          where
+            by_told : (d : IsDone c t) → ToldOf p q clients gives w c d.before t → WhyOwn p q clients gives w c d.before op x
+            by_told d (was_said y s why just) = subst (λ z. WhyOwn p q clients gives w c d.before z x) is_op (subst (WhyOwn p q clients gives w c d.before t.op) (one_outcome p q clients gives w ms e t.number y x (e.tasks.said t.number y s) has) why)
+            by_told d (was_sent n bytes sent named) = absurd (sends n bytes (sym sent ∙ is_op))
+            by_told d (was_begun id a call own born begun named) = absurd (calls_ a (sym call ∙ is_op))
+
         -- why each `join`, and each `expire`, has its outcome
         pub why_join : (o : ℕ) (x : Outcome) → t.op ≡ ops.Join o → Became clients w.core.outcomes t.number x → WhyJoin p clients w.core.outcomes fixed (given w.core) orders last c t.number o x
-        why_join o x op has = let d = is_done c t is in by_told d d.told
-          where
-            by_told : (d : IsDone c t) → ToldOf p q clients gives w c d.before t → WhyJoin p clients w.core.outcomes fixed (given w.core) orders last c t.number o x
-            by_told d (was_said y s why just) = join_by o d x (subst (λ z. WhyOwn p q clients gives w c d.before z x) op (subst (WhyOwn p q clients gives w c d.before t.op) (one_outcome p q clients gives w ms e t.number y x (e.tasks.said t.number y s) has) why))
-            by_told d (was_sent n bytes sent named) = absurd (let z : ops.Send n bytes ≡ ops.Join o = sym sent ∙ op in cc)
-            by_told d (was_begun id a call own born begun named) = absurd (let z : ops.Call a ≡ ops.Join o = sym call ∙ op in cc)
+        why_join o x op has = let r = own_why (ops.Join o) x op (λ n bytes z. cc) (λ a z. cc) has in join_by o r.0 x r.1
 
         pub why_expire : (o : ℕ) (x : Outcome) → t.op ≡ ops.Expire o → Became clients w.core.outcomes t.number x → WhyExpire p clients w.core.outcomes fixed (given w.core) orders last c t.number o x
-        why_expire o x op has = let d = is_done c t is in by_told d d.told
-          where
-            by_told : (d : IsDone c t) → ToldOf p q clients gives w c d.before t → WhyExpire p clients w.core.outcomes fixed (given w.core) orders last c t.number o x
-            by_told d (was_said y s why just) = expire_by o d x (subst (λ z. WhyOwn p q clients gives w c d.before z x) op (subst (WhyOwn p q clients gives w c d.before t.op) (one_outcome p q clients gives w ms e t.number y x (e.tasks.said t.number y s) has) why))
-            by_told d (was_sent n bytes sent named) = absurd (let z : ops.Send n bytes ≡ ops.Expire o = sym sent ∙ op in cc)
-            by_told d (was_begun id a call own born begun named) = absurd (let z : ops.Call a ≡ ops.Expire o = sym call ∙ op in cc)
+        why_expire o x op has = let r = own_why (ops.Expire o) x op (λ n bytes z. cc) (λ a z. cc) has in expire_by o r.0 x r.1

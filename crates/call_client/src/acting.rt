@@ -156,26 +156,34 @@ pub fn act<O: Out, R: Wait>(
     ensures capacity { vec_capacity caller.new.held ≡ vec_capacity caller.old.held }
 {
     match op {
-        Op::Open(name, _) => Ok(Some(open_next(caller, tables, name, number))),
+        Op::Open(name, _) => {
+            drop(op);
+            Ok(Some(open_next(caller, tables, name, number)))
+        }
         Op::Send(name, message) => { Ok(send_message(caller, rt, tables, name, number, message)) }
         Op::Call(call) => begin_call(caller, rt, tables, call),
         Op::Expire(of) => {
+            drop(op);
             let outcome = expire_one(rt, &tables.ids, &mut caller.calls, of);
             Ok(Some(outcome))
         }
         Op::Join(of) => {
+            drop(op);
             let outcome = join_one(rt, &tables.ids, &mut caller.calls, of);
             Ok(Some(outcome))
         }
         Op::Hold(name) => {
+            drop(op);
             let outcome = hold_one(&tables.socks, &mut caller.seat, &mut caller.held, name);
             Ok(Some(outcome))
         }
         Op::Drop(name) => {
+            drop(op);
             let outcome = drop_one(&tables.socks, &mut caller.seat, &mut caller.held, name);
             Ok(Some(outcome))
         }
         Op::Fail(name, code) => {
+            drop(op);
             let outcome = fail_one(&tables.socks, &mut caller.seat, name, code);
             Ok(Some(outcome))
         }

@@ -232,6 +232,9 @@ fn leave_one<O: Out>(caller: &mut Caller<O>, tables: &Tables<O>, task: Task)
             unreachable!();
         };
         open_none(&tables.socks, &mut caller.seat, task.number, pass);
+        drop(task);
+    } else {
+        drop(task);
     }
 }
 

@@ -38,5 +38,6 @@ pub fn end_call(ids: &IdTable<Call>, calls: &mut CallSeat, lock: IdLock<Call>, c
         number: call.operation,
         outcome: Outcome::CallFailed { id, code },
     };
+    drop(call);
     tell(calls, told);
 }

@@ -8,7 +8,7 @@ use sock_words::{AtWord, IdWord, Kind};
 
 /// A step aside of the table of the sockets: on the table of the call ids, by id slots, or at the reading half of a link.
 /// A call that goes into its home is the one in the seat's hand.
-#[derive(Clone, Copy, Debug, PartialEq, Eq)]
+#[derive(Clone, Copy)]
 pub enum Aside {
     /// The slot's tag is claimed.
     ClaimId(u16),

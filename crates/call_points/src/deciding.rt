@@ -11,7 +11,7 @@ use id_points::{AttemptNumber, CallId, IdError, UnlockTurn, ends_call, is_reused
 use sock_words::IdWord;
 
 /// An error in a seat's hand: the id of its call, and the error.
-#[derive(Clone, Copy, Debug, PartialEq, Eq)]
+#[derive(Clone, Copy)]
 pub struct OnCall {
     pub id: CallId,
     pub error: IdError,
@@ -19,7 +19,7 @@ pub struct OnCall {
 
 /// Where the decision on an error stands, by whoever has the call's id locked, which has this word.
 /// bRPC's handler of an id's errors, which retries or ends the call (bthread_id.md).
-#[derive(Clone, Copy, Debug, PartialEq, Eq)]
+#[derive(Clone, Copy)]
 pub enum DecideStep {
     /// The call is taken out of its home,
     Take(IdWord),
@@ -32,7 +32,7 @@ pub enum DecideStep {
 }
 
 /// How a decision goes on behind a step.
-#[derive(Clone, Copy, Debug, PartialEq, Eq)]
+#[derive(Clone, Copy)]
 pub enum DecideNext {
     Step(DecideStep),
     /// The call of this operation has ended with the error's code.

@@ -10,7 +10,7 @@ use sock_words::IdWord;
 
 /// Where the end of a range stands.
 /// bRPC's `bthread_id_unlock_and_destroy` (bthread_id.md).
-#[derive(Clone, Copy, Debug, PartialEq, Eq)]
+#[derive(Clone, Copy)]
 pub enum EndStep {
     /// Every version of the range is skipped,
     End,

@@ -12,7 +12,7 @@ use id_points::{LockTurn, Sought, lock_behind, lock_by};
 use sock_words::IdWord;
 
 /// Whoever is on the way to a lock: the id slot, and what is sought there.
-#[derive(Clone, Copy, Debug, PartialEq, Eq)]
+#[derive(Clone, Copy)]
 pub struct Locker {
     pub slot: u16,
     pub sought: Sought,
@@ -20,7 +20,7 @@ pub struct Locker {
 
 /// Where the way to a lock stands.
 /// bRPC's `bthread_id_lock` (bthread_id.md).
-#[derive(Clone, Copy, Debug, PartialEq, Eq)]
+#[derive(Clone, Copy)]
 pub enum LockStep {
     /// The id's word is read.
     Read,

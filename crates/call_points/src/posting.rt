@@ -14,7 +14,7 @@ use sock_words::IdWord;
 
 /// Where the post of an error stands.
 /// bRPC's `bthread_id_error` (bthread_id.md).
-#[derive(Clone, Copy, Debug, PartialEq, Eq)]
+#[derive(Clone, Copy)]
 pub enum PostStep {
     /// The id's word is read.
     Load,

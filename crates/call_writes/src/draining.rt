@@ -33,9 +33,11 @@ fn tell_dropped<R: Wait>(
     ensures told { ToldDrop ids.now.plan.slots msg code (stand_of calls.old) (stand_of calls.new) }
 {
     if msg.owner == 0 {
+        drop(msg);
         return;
     }
     post_error(rt, ids, calls, msg.owner, code, Some(msg.label.attempt));
+    drop(msg);
 }
 
 /// Writes until the head is empty. The call of each message that is dropped is told at once.

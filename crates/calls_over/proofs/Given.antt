@@ -21,7 +21,8 @@ use Rattle.seat_programs.specs.Tasks.{plan_of}
 use Rattle.seat_programs.specs.Ticks.{Answer, Unasked, OfPut, OfReady, OfTake, Moment, seats_of, ticked, run, waits, waits_at}
 use Rattle.seat_programs.specs.Scripts.{set_up, played, AreStill, ticks_of, IsRunWithCalls}
 use Rattle.sock_runs.specs.Sound.{first_step}
-use Rattle.owed_calls.proofs.EndsStill.{all_still, in_round, run_parts}
+use Rattle.owed_calls.proofs.EndsStill.{all_still, in_round}
+use Rattle.served_fits.specs.send_causes.proofs.Rests.{before_last, rested_still}
 use Rattle.served_fits.specs.served_runs.specs.Offered.{GaveAll, OffersAt, IsOffered, AreOffered, OffersInRun}
 use Rattle.served_fits.specs.served_runs.proofs.Served.{shapes_many}
 
@@ -60,22 +61,14 @@ module _ (script : List Item) (turns : List Turn) (core : Core) (is : IsRunWithC
   abbrev before : Core
   before = played script is.setup (is.scheduled ++ is.later)
 
-  -- the round that moved nothing
-  abbrev before_last : Core
-  before_last = let s = is.settles in run (plan_of script) (played script is.setup is.scheduled) (ticks_of s.moving)
-
-  rested_still : played script is.setup (is.scheduled ++ is.later) ≡ before_last
-  rested_still = let s = is.settles in run_parts (plan_of script) (set_up script is.setup) is.scheduled is.later ∙ (ap (run (plan_of script) (played script is.setup is.scheduled)) s.all
-      ∙ (run_parts (plan_of script) (played script is.setup is.scheduled) (ticks_of s.moving) s.last ∙ all_still (plan_of script) before_last s.last s.still))
-
-  offered_last : AreOffered script before_last (let s = is.settles in s.last)
+  offered_last : AreOffered script (before_last script turns core is) (let s = is.settles in s.last)
   offered_last = let s = is.settles in offered_behind script (ticks_of s.moving) s.last (played script is.setup is.scheduled)
       (subst (AreOffered script (played script is.setup is.scheduled)) s.all (offered_behind script is.scheduled is.later (set_up script is.setup) offers.played))
 
   -- a reader is at rest where the ending begins, or it waits, and its link gives what it should
   reader_waits : (k : ℕ) → k < length (link_names script) → Waits script before (32 + k)
   reader_waits k low = let s = is.settles in let n = in_round (clients script) (length (link_names script)) (32 + k) (inr (omega arith, omega (arith, low))) in
-      subst (λ d. Waits script d (32 + k)) (sym rested_still) (still_offered script before_last s.last s.still offered_last n.0 (32 + k) (ap (λ (l : List ℕ). get_elem? l n.0) s.one_more ∙ n.1))
+      subst (λ d. Waits script d (32 + k)) (sym (rested_still script turns core is)) (still_offered script (before_last script turns core is) s.last s.still offered_last n.0 (32 + k) (ap (λ (l : List ℕ). get_elem? l n.0) s.one_more ∙ n.1))
 
   module _ (k : ℕ) (shape : Shape) (shape_is : slice_get (link_shapes script) k ≡ Some shape) (seat : SeatState) (at_seat : get_elem? (played script is.setup (is.scheduled ++ is.later)).seats (32 + k) ≡ some seat)
       (r : Reading) (next : Exit (Reads r) → Program) (reads : seat.program ≡ Round (Reads r) next) (own : r.link ≡ k) where

@@ -1,40 +1,29 @@
 -- Where the reader of a link waits for bytes as the ending begins, it has handled each frame that the link gave.
-use Rattle.std.proofs.Common.{◌≡◌, ℕ, zero, suc, ◌+◌, ◌<◌, ⊎_elim, List, [], ◌∷◌, ◌++◌, length, replicate, slice_get, Option, Some, None, append-nil, refl, sym, ap, ◌∙◌, subst, arith}
+use Rattle.std.proofs.Common.{◌≡◌, ℕ, ◌+◌, ◌<◌, ⊎_elim, List, ◌++◌, length, replicate, slice_get, Option, Some, None, refl, sym, ap, ◌∙◌, subst, arith}
 use Rattle.std.specs.List.{AllByRecursion}
-use Rattle.std.proofs.lemmas.List.{length-map}
-use mathlib.Core.Option.{some, some-injective, some-ne-none}
+use mathlib.Core.Option.{some}
 use lib.ListN.{get_elem?}
 use Rattle.brpc_model.specs.Frame.{Frame}
 use Rattle.brpc_model.specs.Items.{Item}
 use Rattle.brpc_model.specs.Operations.{Turn}
-use Rattle.seat_programs.specs.Clients.{client_from}
 use Rattle.seat_programs.specs.Heads.{Exit, Reading, Reads}
 use Rattle.seat_programs.specs.Programs.{Program, Round}
 use Rattle.seat_programs.specs.Readers.{slot_in, version_in}
 use Rattle.seat_programs.specs.Cores.{Core, SeatState}
-use Rattle.seat_programs.specs.Ticks.{Moment, quiet}
+use Rattle.seat_programs.specs.Ticks.{quiet}
 use Rattle.seat_programs.specs.Tasks.{opens, calls, plan_of, id_plan_of}
-use Rattle.seat_programs.specs.Scripts.{sizes_of, programs, all_tasks, opened, set_up, played, IsRunWithCalls}
-use Rattle.sock_runs.proofs.OpensStay.{readers_begin}
-use Rattle.served_fits.specs.Below.programs_allowed.proofs.Beginning as clients_begin
-use Rattle.owed_calls.specs.joint_runs.proofs.Runs.{AreMade, first_views}
+use Rattle.seat_programs.specs.Scripts.{opened, set_up, played, IsRunWithCalls}
+use Rattle.owed_calls.specs.joint_runs.proofs.Runs.{AreMade}
 use Rattle.report_fits.proofs.Reading.{InRange}
 use Rattle.report_fits.proofs.Targets.{AreThere}
 use Rattle.served_fits.specs.Below.call_causes.specs.Lists.{given, soon_at, shows_in}
-use Rattle.served_fits.specs.Below.call_causes.specs.Scenes.{In, LeadsTo}
-use Rattle.served_fits.specs.Below.call_causes.proofs.Scripts.{are_numbered, have_slots, begins}
-use Rattle.served_fits.specs.Below.call_causes.proofs.Run as runs
+use Rattle.served_fits.specs.Below.call_causes.specs.Scenes.{In}
+use Rattle.served_fits.specs.Below.call_causes.proofs.HandledWhole.{reads_played}
 use Rattle.served_fits.specs.Below.call_causes.proofs.Handled.{word_of, frames_in, all_at, IsResp, Done, Over, Frozen}
 use Rattle.served_fits.specs.Below.call_causes.proofs.HandledSteps.{State, waiting, reading, seeking, taking, ending_, freeing, over}
 use Rattle.served_fits.specs.Below.call_causes.proofs.HandledStates.{After}
 use Rattle.served_fits.specs.Below.call_causes.proofs.HandledTicks.{sit}
-use Rattle.served_fits.specs.Below.call_causes.proofs.HandledRuns.{AreKnown, setup_known, played_known, Reads', reads_along}
-use Rattle.served_fits.specs.served_runs.proofs.Replies.{empty_at}
-
-each_at : {A : Type 0} (P : A → Type 0) (xs : List A) → AllByRecursion P xs → (i : ℕ) (x : A) → get_elem? xs i ≡ some x → P x
-each_at P [] all i x at = absurd (some-ne-none x (sym at))
-each_at P (y ∷ ys) all zero x at = subst P (some-injective y x at) all.0
-each_at P (y ∷ ys) all (suc i) x at = each_at P ys all.1 i x at
+use Rattle.served_fits.specs.Below.call_causes.proofs.HandledRuns.{Reads'}
 
 -- what a program waits for at the head of a reading
 abbrev reading_in : Program → Option Reading
@@ -42,34 +31,6 @@ reading_in (Round (Reads r) next) = Some r
 reading_in other = None
 
 module _ (script : List Item) (made : AreMade script) (there : AreThere script) (range : AllByRecursion InRange script) (turns : List Turn) (core : Core) (is : IsRunWithCalls script turns core) where
-  leads : LeadsTo (plan_of script) (id_plan_of script) (all_tasks script) (given core) core
-  leads k = ([], append-nil (given core k))
-
-  -- ## The ticks of each part
-
-  abbrev in_setup : List Moment
-  in_setup = replicate is.setup (quiet 0)
-
-  abbrev in_clients : List Moment
-  in_clients = is.scheduled ++ is.later
-
-  pub known_setup : AreKnown (plan_of script) (id_plan_of script) (opened script) in_setup
-  known_setup = let s = runs.sound_run script made (given core) (are_numbered script made there range (given core)) (have_slots script made there range (given core)) (begins script made there range (given core)) turns core is leads in
-      setup_known (plan_of script) (id_plan_of script) (all_tasks script) (given core) (are_numbered script made there range (given core)) (have_slots script made there range (given core)) (runs.small script made (given core) (are_numbered script made there range (given core)) (have_slots script made there range (given core)) (begins script made there range (given core)) turns core is leads)
-      is.setup [] [] (opened script) (first_views script) s.setup
-      (runs.set_up_leads script made (given core) (are_numbered script made there range (given core)) (have_slots script made there range (given core)) (begins script made there range (given core)) turns core is leads)
-      (let t = runs.first_tale script made (given core) (are_numbered script made there range (given core)) (have_slots script made there range (given core)) (begins script made there range (given core)) turns core is leads in t.0)
-
-  pub known_clients : AreKnown (plan_of script) (id_plan_of script) (set_up script is.setup) in_clients
-  known_clients = let s = runs.sound_run script made (given core) (are_numbered script made there range (given core)) (have_slots script made there range (given core)) (begins script made there range (given core)) turns core is leads in
-      played_known (plan_of script) (id_plan_of script) (all_tasks script) (given core) (are_numbered script made there range (given core)) (have_slots script made there range (given core)) (runs.small script made (given core) (are_numbered script made there range (given core)) (have_slots script made there range (given core)) (begins script made there range (given core)) turns core is leads)
-      (is.scheduled ++ is.later) (runs.posts_in_setup script made (given core) (are_numbered script made there range (given core)) (have_slots script made there range (given core)) (begins script made there range (given core)) turns core is leads)
-      (runs.in_setup script made (given core) (are_numbered script made there range (given core)) (have_slots script made there range (given core)) (begins script made there range (given core)) turns core is leads)
-      (set_up script is.setup) (runs.views_set_up script made (given core) (are_numbered script made there range (given core)) (have_slots script made there range (given core)) (begins script made there range (given core)) turns core is leads) s.clients
-      (runs.set_up_ahead script made (given core) (are_numbered script made there range (given core)) (have_slots script made there range (given core)) (begins script made there range (given core)) turns core is leads) is.is_set_up
-      (runs.played_leads script made (given core) (are_numbered script made there range (given core)) (have_slots script made there range (given core)) (begins script made there range (given core)) turns core is leads)
-      (let t = runs.set_up_tale script made (given core) (are_numbered script made there range (given core)) (have_slots script made there range (given core)) (begins script made there range (given core)) turns core is leads in t.0)
-
   abbrev pub soon_setup : List (ℕ × ℕ)
   soon_setup = shows_in (soon_at (plan_of script)) (plan_of script) (opened script) (replicate is.setup (quiet 0))
 
@@ -79,23 +40,12 @@ module _ (script : List Item) (made : AreMade script) (there : AreThere script) 
   -- ## A reader
 
   module _ (k o : ℕ) (at : get_elem? (opens script) k ≡ some o) where
-    pub many : length (calls script) ≡ (id_plan_of script).slots
+    abbrev pub many : length (calls script) ≡ (id_plan_of script).slots
     many = made.slots
 
-    abbrev Reading_ : List (ℕ × ℕ) → Core → Type 0
-    Reading_ soon c = Reads' (plan_of script) (id_plan_of script) k (calls script) o many soon c
-
-    reads_first : Reading_ [] (opened script)
-    reads_first seat at_seat = waiting
-        (⊎_elim (λ e. e) (λ x. absurd (x.0 ((let u = clients_begin.unused (plan_of script) in u.opens) o (each_at (λ n. n < (plan_of script).operations) (opens script) made.opens_in k o at))))
-        (readers_begin (plan_of script) (id_plan_of script) (programs (sizes_of (plan_of script) (id_plan_of script)) (all_tasks script)) (calls script) (opens script)
-        (let l = length-map (all_tasks script) (client_from (sizes_of (plan_of script) (id_plan_of script)) []) in let f = made.few_clients in omega (arith, l, f)) k o at seat at_seat))
-        (empty_at (plan_of script).links k)
-
     -- what it has handled where the ending begins
-    pub reads_before : Reading_ (soon_setup ++ soon_clients) (played script is.setup (is.scheduled ++ is.later))
-    reads_before = reads_along (plan_of script) (id_plan_of script) k (calls script) o many in_clients soon_setup (set_up script is.setup) known_clients
-        (reads_along (plan_of script) (id_plan_of script) k (calls script) o many in_setup [] (opened script) known_setup reads_first)
+    pub reads_before : Reads' (plan_of script) (id_plan_of script) k (calls script) o many (soon_setup ++ soon_clients) (played script is.setup (is.scheduled ++ is.later))
+    reads_before = reads_played script made there range turns core is k o at
 
     abbrev before : Core
     before = played script is.setup (is.scheduled ++ is.later)

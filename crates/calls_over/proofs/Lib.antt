@@ -16,6 +16,7 @@ pub mod Given
 pub mod SoonRuns
 pub mod Soon
 pub mod OpensFull
+pub mod OpensGiven
 pub mod OpensQuiet
 pub mod OpensRequest
 pub mod Opens

@@ -1,41 +1,31 @@
 -- Each id that is open as the ending begins, in a run in which nothing went wrong, is that of a call whose request the link of its attempt took, which has the server and whose reader waits for bytes.
-use Rattle.std.proofs.Common.{◌≡◌, ◌≢◌, ℕ, ◌+◌, ◌<◌, ◌≤◌, ⊎_elim, List, ◌++◌, length, replicate, slice_get, Some, Ok, refl, sym, ap, ◌∙◌, subst, arith}
-use Rattle.std.specs.List.{AllByRecursion}
-use Rattle.std.specs.Prelude.{IsTrue, Contains}
+use Rattle.std.proofs.Common.{◌≡◌, ◌≢◌, ℕ, ◌+◌, ◌<◌, ◌≤◌, ⊎_elim, List, ◌++◌, replicate, slice_get, Some, refl, sym, ap, ◌∙◌, subst, arith}
 use Rattle.sock_words.specs.declared.plain.Plan.{Plan}
 use Rattle.sock_words.specs.Words.{at_word, at_word_first, at_word_slot, at_word_link, at_word_attempt}
-use Rattle.brpc_model.specs.Complete.{IsUntroubled}
-use Rattle.brpc_model.specs.Items.{Item, Shape, Open, attempts_of}
-use Rattle.brpc_model.specs.Link.{LinkEnd}
-use Rattle.brpc_model.specs.Operations.{Operation, Turn, operations}
+use Rattle.brpc_model.specs.Items.{attempts_of}
+use Rattle.brpc_model.specs.Operations.{Operation, operations}
 use Rattle.brpc_model.specs.Places.{names}
-use Rattle.brpc_model.specs.Report.{Report}
-use Rattle.brpc_model.specs.Script.{script_of}
 use Rattle.brpc_model.specs.Stream.{stream}
 use Rattle.corr_core.specs.Word.{Parts}
 use Rattle.corr_core.specs.declared.marks.Plan.{Plan as IdPlan}
 use Rattle.id_rule.specs.Lawful.{local}
 use Rattle.id_runs.specs.Held.{id_state}
-use Rattle.report_fits.specs.Ends.{AreEndsOf, AreTold}
 use Rattle.report_fits.proofs.Lists.{Has}
-use Rattle.report_fits.proofs.Reading.{InRange}
 use Rattle.report_fits.proofs.Sizes.{is_counted}
-use Rattle.report_fits.proofs.Targets.{AreThere, are_there}
+use Rattle.report_fits.proofs.Targets.{are_there}
 use Rattle.report_fits.proofs.TaskLemmas.{numbers_at, task_is, call_asks}
 use Rattle.sock_message.specs.Asked.{Asked, request_of}
 use Rattle.seat_programs.specs.Asides.{id_slot, id_first, call_id}
 use Rattle.seat_programs.specs.Cores.{Core}
-use Rattle.seat_programs.specs.Scripts.{Reports, all_tasks, opened, set_up, played, IsRunWithCalls}
+use Rattle.seat_programs.specs.Scripts.{all_tasks, opened, set_up, played}
 use Rattle.seat_programs.specs.Tasks.{opens, numbered, plan_of, id_plan_of}
 use Rattle.seat_programs.specs.Ticks.{quiet}
 use Rattle.seat_programs.specs.Told.{IsTask}
-use Rattle.seat_programs.specs.ToldCalls.{Order, Fixed, ToldCalls}
+use Rattle.seat_programs.specs.ToldCalls.{Fixed}
 use Rattle.sock_runs.proofs.Along.{place_inside}
 use Rattle.sock_runs.proofs.Whole.{closing_of, views_played}
-use Rattle.outcome_causes.specs.Facts.{broken_of_run}
 use Rattle.outcome_causes.proofs.Members.{in_contains}
-use Rattle.owed_calls.specs.joint_runs.proofs.Runs.{AreMade, first_views}
-use Rattle.owed_calls.specs.Lives.{ClosesInRun}
+use Rattle.owed_calls.specs.joint_runs.proofs.Runs.{first_views}
 use Rattle.owed_calls.specs.Sound.{id_word_of, at_of, IsOpen}
 use Rattle.owed_calls.proofs.Known.{run_all_rest}
 use Rattle.served_fits.specs.Below.run_theorems.proofs.Lengths.{ended_length}
@@ -51,13 +41,13 @@ use Rattle.served_fits.specs.send_causes.proofs.Early.{start, go, fitting, known
 use Rattle.served_fits.specs.send_causes.proofs.OwnIds.{labelled_at, single_at}
 use Rattle.served_fits.specs.send_causes.proofs.Runs.{AreLabelledIn, IsCallOf}
 use Rattle.served_fits.specs.send_causes.proofs.Sends.{narrow, opening_bare}
-use Rattle.served_fits.specs.served_runs.specs.Offered.{OffersInRun}
-use Rattle.served_fits.specs.served_calls.specs.Quiet.{AreShown, HasServer}
+use Rattle.served_fits.specs.served_calls.specs.Quiet.{HasServer}
 use Rattle.calls_over.specs.Open.{OpenCall}
 use Rattle.calls_over.proofs.OpensEntered.{early_log, IsAccepted, AllTaken, own_early, accepted_so, accepted_or}
 use Rattle.calls_over.proofs.OpensFull.{IsIn, taken_has}
 use Rattle.calls_over.proofs.OpensNamed.{IsEarly, stored_early}
 use Rattle.calls_over.proofs.OpensOwed.{IsRead, open_read}
+use Rattle.calls_over.proofs.OpensGiven.{CalmRun, are_made, targets, range}
 use Rattle.calls_over.proofs.OpensQuiet.{has_server, unfailed, none_thrown}
 use Rattle.calls_over.proofs.OpensRequest.{own_told, IsAttempt, attempt_of, taken, taken_so, request_there}
 use Rattle.served_fits.specs.send_causes.proofs.Standing.{both, unlocked}
@@ -83,18 +73,8 @@ slot_back i f low = omega (arith, low)
 first_back : (i f : ℕ) → f ≤ 67108856 → id_first (call_id i f) ≡ f
 first_back i f low = omega (arith, low)
 
-module _ (bytes : List ℕ) (script : List Item) (reads : script_of bytes ≡ Ok script) (short : length bytes ≤ 1048576) (turns : List Turn) (core : Core) (is : IsRunWithCalls script turns core) (closes : ClosesInRun script turns core is) (offers : OffersInRun script turns core is) (fixed : Fixed)
-    (orders : ℕ → Order) (tells : ToldCalls (plan_of script) (all_tasks script) core.outcomes fixed (given core) orders core) (report : Report) (took : List (List ℕ)) (ends : List LinkEnd)
-    (reports : Reports script core took report) (told : AreTold ends took) (given_back : AreEndsOf script core fixed (given core) ends) (shown : AreShown script turns core is fixed ends) (breaks : (k : ℕ) → Contains (broken_of_run script turns core is) k → Contains fixed.broken k)
-    (served : (name : List ℕ) (shape : Shape) → Contains script (Open name shape) → IsTrue shape.serve) (untroubled : IsUntroubled script ends) where
-  abbrev are_made : AreMade script
-  are_made = made bytes script reads
-
-  abbrev targets : AreThere script
-  targets = are_there bytes script reads
-
-  abbrev range : AllByRecursion InRange script
-  range = (is_counted bytes script reads).in_range
+module _ (calm : CalmRun) where
+  open calm use {bytes, script, reads, turns, core, is, closes, took, untroubled}
 
   abbrev q : IdPlan
   q = id_plan_of script
@@ -106,7 +86,7 @@ module _ (bytes : List ℕ) (script : List Item) (reads : script_of bytes ≡ Ok
   ids = ids_at script core
 
   labelled : AreLabelledIn (ids_at script core) script turns core is
-  labelled = labelled_at script are_made targets range turns core is closes
+  labelled = labelled_at script (are_made calm) (targets calm) (range calm) turns core is closes
 
   abbrev own_fixed : Fixed
   own_fixed = fixed_in_run script (made bytes script reads) (are_there bytes script reads) (is_counted bytes script reads).in_range bytes reads turns core is closes
@@ -116,17 +96,17 @@ module _ (bytes : List ℕ) (script : List Item) (reads : script_of bytes ≡ Ok
   -- a call comes to no attempt that its range lacks
   within : (i : ℕ) → i < (id_plan_of script).slots → 0 < (id_word_of rested i).state → (o : ℕ) → ids_at script core o ≢ 0 → ids_at script core o ≡ call_id i (id_word_of rested i).first → (id_word_of rested i).attempt ≤ attempts_of_run script turns core is o
   within i low live o some_ same = ⊎_elim (λ z. omega (arith, z))
-      (λ x. let one : o ≡ x.0 = single_at script are_made targets range turns core is closes o x.0 some_ (same ∙ sym x.1) in
+      (λ x. let one : o ≡ x.0 = single_at script (are_made calm) (targets calm) (range calm) turns core is closes o x.0 some_ (same ∙ sym x.1) in
       let few : (id_word_of rested i).attempt ≤ since_clients o = subst (λ y. (id_word_of rested i).attempt ≤ since_clients y) (sym one) x.2 in let more = all_parts in omega (arith, few, more))
       (counted.words i low live)
     where
       since_clients : ℕ → ℕ
       since_clients y = times y (shows_in advanced_at (plan_of script) (opened script) (replicate is.setup (quiet 0))) + times y (shows_in advanced_at (plan_of script) (set_up script is.setup) (is.scheduled ++ is.later))
 
-      counted : Counted (plan_of script) (id_plan_of script) (narrow script are_made turns core is closes) (IsCallOf script) (ids_at script core) (single_at script are_made targets range turns core is closes) since_clients rested (views_played script turns core is (first_views script))
-      counted = played_counted script are_made.are (first_views script) (start script are_made turns core is) (go script are_made turns core is) turns core is (fitting script are_made turns core is) (narrow script are_made turns core is closes)
+      counted : Counted (plan_of script) (id_plan_of script) (narrow script (are_made calm) turns core is closes) (IsCallOf script) (ids_at script core) (single_at script (are_made calm) (targets calm) (range calm) turns core is closes) since_clients rested (views_played script turns core is (first_views script))
+      counted = played_counted script (are_made calm).are (first_views script) (start script (are_made calm) turns core is) (go script (are_made calm) turns core is) turns core is (fitting script (are_made calm) turns core is) (narrow script (are_made calm) turns core is closes)
           (opening_bare script)
-          (ids_at script core) (single_at script are_made targets range turns core is closes) labelled (stored_run script are_made targets range turns core is (run_all_rest script are_made turns core is closes)).1
+          (ids_at script core) (single_at script (are_made calm) (targets calm) (range calm) turns core is closes) labelled (stored_run script (are_made calm) (targets calm) (range calm) turns core is (run_all_rest script (are_made calm) turns core is closes)).1
 
       all_parts : since_clients o ≤ attempts_of_run script turns core is o
       all_parts = let p : Plan = plan_of script in
@@ -141,16 +121,16 @@ module _ (bytes : List ℕ) (script : List Item) (reads : script_of bytes ≡ Ok
     word = id_word_of (played script is.setup (is.scheduled ++ is.later)) i
 
     is_open : word.state ≡ 1
-    is_open = ⊎_elim (λ z. absurd (some_ z)) (λ e. e) (unlocked script are_made turns core is i inside)
+    is_open = ⊎_elim (λ z. absurd (some_ z)) (λ e. e) (unlocked script (are_made calm) turns core is i inside)
 
     live : 0 < word.state
     live = let e = is_open in omega (arith, e)
 
     first_low : word.first ≤ 67108856
-    first_low = let b = both script are_made turns core is in (b.ids.rule.slots i inside).first_low
+    first_low = let b = both script (are_made calm) turns core is in (b.ids.rule.slots i inside).first_low
 
     room : word.attempt + 2 ≤ word.range
-    room = let b = both script are_made turns core is in live_room (local (id_state rested.calls b.id_views) i) (b.ids.rule.slots i inside) live
+    room = let b = both script (are_made calm) turns core is in live_room (local (id_state rested.calls b.id_views) i) (b.ids.rule.slots i inside) live
 
     few : word.attempt ≤ 6
     few = let r = room in let eight : word.range ≤ 8 = omega arith in omega (arith, r, eight)
@@ -167,8 +147,8 @@ module _ (bytes : List ℕ) (script : List Item) (reads : script_of bytes ≡ Ok
     stands_open : IsOpen rested id word.attempt
     stands_open = subst (λ j. ((id_word_of rested j).first ≡ id_first id) × ((id_word_of rested j).state ≡ 1) × ((id_word_of rested j).attempt ≡ word.attempt)) (sym slot_is) (sym first_is, is_open, refl)
 
-    is_read : IsRead script are_made turns core is closes targets range (none_thrown bytes script reads short turns core is closes offers fixed orders tells report took ends reports told given_back shown breaks served untroubled) id word.attempt
-    is_read = open_read script are_made turns core is closes targets range (none_thrown bytes script reads short turns core is closes offers fixed orders tells report took ends reports told given_back shown breaks served untroubled) id word.attempt (subst (λ j. j < (id_plan_of script).slots) (sym slot_is) inside) stands_open
+    is_read : IsRead script (are_made calm) turns core is closes (targets calm) (range calm) (none_thrown calm) id word.attempt
+    is_read = open_read script (are_made calm) turns core is closes (targets calm) (range calm) (none_thrown calm) id word.attempt (subst (λ j. j < (id_plan_of script).slots) (sym slot_is) inside) stands_open
 
     abbrev o : ℕ
     o = is_read.operation
@@ -177,16 +157,16 @@ module _ (bytes : List ℕ) (script : List Item) (reads : script_of bytes ≡ Ok
     w = at_of (id_plan_of script) rested is_read.operation
 
     link_low : is_read.link < (plan_of script).links
-    link_low = let l = place_inside (opens script) is_read.link is_read.opening_ is_read.opens_it in let many = (let x = known script are_made turns core is in x.as_many) in omega (arith, l, many)
+    link_low = let l = place_inside (opens script) is_read.link is_read.opening_ is_read.opens_it in let many = (let x = known script (are_made calm) turns core is in x.as_many) in omega (arith, l, many)
 
     link_small : is_read.link < 65535
-    link_small = let l = link_low in let b = both script are_made turns core is in let lim = b.sockets.limits in let few_links = lim.links in omega (arith, l, few_links)
+    link_small = let l = link_low in let b = both script (are_made calm) turns core is in let lim = b.sockets.limits in let few_links = lim.links in omega (arith, l, few_links)
 
     early : IsEarly script turns core is o w
-    early = stored_early script are_made turns core is closes ids labelled o is_read.low (word_some (id_first id) (id_slot id) is_read.link word.attempt w is_read.word)
+    early = stored_early script (are_made calm) turns core is closes ids labelled o is_read.low (word_some (id_first id) (id_slot id) is_read.link word.attempt w is_read.word)
 
     slot_small : id_slot id < 65536
-    slot_small = let s = slot_is in let n = narrow script are_made turns core is closes in omega (arith, s, inside, n)
+    slot_small = let s = slot_is in let n = narrow script (are_made calm) turns core is closes in omega (arith, s, inside, n)
 
     same_link : early.link ≡ is_read.link
     same_link = word_link (id_first early.id) (id_slot early.id) early.link early.attempt early.small early.few ∙ (ap at_word_link (sym early.word ∙ is_read.word) ∙ sym (word_link (id_first id) (id_slot id) is_read.link word.attempt link_small few))
@@ -200,10 +180,10 @@ module _ (bytes : List ℕ) (script : List Item) (reads : script_of bytes ≡ Ok
         (word_first (id_first early.id) (id_slot early.id) early.link early.attempt early.slot early.small early.few ∙ (ap at_word_first (sym early.word ∙ is_read.word) ∙ sym (word_first (id_first id) (id_slot id) is_read.link word.attempt slot_small link_small few)))
 
     own : ids_at script core o ≡ id
-    own = (own_early script are_made turns core is closes ids labelled o w early).0 ∙ same_id
+    own = (own_early script (are_made calm) turns core is closes ids labelled o w early).0 ∙ same_id
 
     own_some : ids_at script core o ≢ 0
-    own_some z = (own_early script are_made turns core is closes ids labelled o w early).1 (sym (own_early script are_made turns core is closes ids labelled o w early).0 ∙ z)
+    own_some z = (own_early script (are_made calm) turns core is closes ids labelled o w early).1 (sym (own_early script (are_made calm) turns core is closes ids labelled o w early).0 ∙ z)
 
     -- ## Its call
 
@@ -219,31 +199,31 @@ module _ (bytes : List ℕ) (script : List Item) (reads : script_of bytes ≡ Ok
     its_place : (x : Operation) × (slice_get (operations script) o ≡ Some x) × (early.attempt < attempts_of x.item)
     its_place = let u = task_is script core.outcomes early.called.0 early.called.2 its_task in
         let c = call_asks (numbered script) (names script) (numbers_at script early.called.2.number u.operation) u.operation.item early.asked (u.asks ∙ ap (λ x. Some x) early.called.5) in
-        let tries = run_few_attempts script are_made targets range turns core is early.called.0 early.called.2 early.asked its_task early.called.5 in
+        let tries = run_few_attempts script (are_made calm) (targets calm) (range calm) turns core is early.called.0 early.called.2 early.asked its_task early.called.5 in
         let most : word.attempt ≤ attempts_of_run script turns core is o = within i inside live o own_some own in
         let same = ap (attempts_of_run script turns core is) number in let has = ap (λ (a : Asked). a.range) c.2 in let counts = ap attempts_of c.1 in let n = same_attempt in
         (u.operation, subst (λ y. slice_get (operations script) y ≡ Some u.operation) number u.there, omega (arith, tries, most, same, has, counts, n))
 
-    accepted : IsAccepted script are_made turns core is closes ids labelled o w early
-    accepted = ⊎_elim (λ a. a) by_full (accepted_or script are_made turns core is closes ids labelled o w early own_fixed (given core) (unfailed bytes script reads short turns core is closes offers fixed orders tells report took ends reports told given_back shown breaks served untroubled early.link))
+    accepted : IsAccepted script (are_made calm) turns core is closes ids labelled o w early
+    accepted = ⊎_elim (λ a. a) by_full (accepted_or script (are_made calm) turns core is closes ids labelled o w early own_fixed (given core) (unfailed calm early.link))
       where
-        by_full : AllTaken script are_made turns core is closes ids labelled o w early → IsAccepted script are_made turns core is closes ids labelled o w early
-        by_full full = let t : IsIn o early.attempt (early_log script are_made turns core is) =
-            taken_has bytes script reads are_made turns core is closes own_fixed (given core) (own_told bytes script reads short turns core is closes offers fixed orders tells report took ends reports told given_back shown breaks served untroubled) (ended_length bytes script reads turns core is)
+        by_full : AllTaken script (are_made calm) turns core is closes ids labelled o w early → IsAccepted script (are_made calm) turns core is closes ids labelled o w early
+        by_full full = let t : IsIn o early.attempt (early_log script (are_made calm) turns core is) =
+            taken_has bytes script reads (are_made calm) turns core is closes own_fixed (given core) (own_told calm) (ended_length bytes script reads turns core is)
             untroubled.few_attempts full o early.attempt its_place.0 its_place.1 its_place.2 in
-            accepted_so script are_made turns core is closes ids labelled o w early own_fixed (given core) t.0 t.1 t.2 t.3 t.4
+            accepted_so script (are_made calm) turns core is closes ids labelled o w early own_fixed (given core) t.0 t.1 t.2 t.3 t.4
 
     over : accepted.entry.link ≡ is_read.link
     over = accepted.over ∙ same_link
 
-    its_attempt : IsAttempt bytes script reads short turns core is closes offers fixed orders tells report took ends reports told given_back shown breaks served untroubled accepted.entry
-    its_attempt = attempt_of bytes script reads short turns core is closes offers fixed orders tells report took ends reports told given_back shown breaks served untroubled accepted.place accepted.entry accepted.there
+    its_attempt : IsAttempt calm accepted.entry
+    its_attempt = attempt_of calm accepted.place accepted.entry accepted.there
 
     asked_id : its_attempt.id ≡ id
     asked_id = sym its_attempt.own ∙ (ap (ids_at script core) accepted.own ∙ own)
 
     server : HasServer script turns core is is_read.link
-    server = has_server bytes script reads short turns core is closes offers fixed orders tells report took ends reports told given_back shown breaks served untroubled is_read.link link_low
+    server = has_server calm is_read.link link_low
 
     pub open_call : OpenCall script turns core is i
     open_call = record {
@@ -264,11 +244,11 @@ module _ (bytes : List ℕ) (script : List Item) (reads : script_of bytes ≡ Ok
       link_inside = link_low;
       opened = server.1;
       serves = server.2;
-      took = taken bytes script reads short turns core is closes offers fixed orders tells report took ends reports told given_back shown breaks served untroubled accepted.place accepted.entry accepted.there is_read.link over;
-      took_so = taken_so bytes script reads short turns core is closes offers fixed orders tells report took ends reports told given_back shown breaks served untroubled accepted.place accepted.entry accepted.there is_read.link over;
-      request = subst (λ n. Has (stream (taken bytes script reads short turns core is closes offers fixed orders tells report took ends reports told given_back shown breaks served untroubled accepted.place accepted.entry accepted.there is_read.link over)).frames (request_of its_attempt.asked id n)) (accepted.tried ∙ same_attempt)
-          (subst (λ y. Has (stream (taken bytes script reads short turns core is closes offers fixed orders tells report took ends reports told given_back shown breaks served untroubled accepted.place accepted.entry accepted.there is_read.link over)).frames (request_of its_attempt.asked y accepted.entry.heading.attempt)) asked_id
-          (request_there bytes script reads short turns core is closes offers fixed orders tells report took ends reports told given_back shown breaks served untroubled accepted.place accepted.entry accepted.there is_read.link over its_attempt));
+      took = taken calm accepted.place accepted.entry accepted.there is_read.link over;
+      took_so = taken_so calm accepted.place accepted.entry accepted.there is_read.link over;
+      request = subst (λ n. Has (stream (taken calm accepted.place accepted.entry accepted.there is_read.link over)).frames (request_of its_attempt.asked id n)) (accepted.tried ∙ same_attempt)
+          (subst (λ y. Has (stream (taken calm accepted.place accepted.entry accepted.there is_read.link over)).frames (request_of its_attempt.asked y accepted.entry.heading.attempt)) asked_id
+          (request_there calm accepted.place accepted.entry accepted.there is_read.link over its_attempt));
       seat = is_read.seat;
       seat_there = is_read.seat_there;
       reading = is_read.reads;

@@ -1,5 +1,5 @@
 -- Where there are requests for all attempts, not each request was taken as long as the log lacks an attempt.
-use Rattle.std.proofs.Common.{◌≡◌, ◌≢◌, ℕ, zero, suc, ◌+◌, ◌*◌, ◌<◌, ◌≤◌, ◌⊎◌, inl, inr, ⊎_elim, true, eqb, List, [], ◌∷◌, ◌++◌, length, map, slice_get, Some, length-append, Ok, refl, sym, ap, ◌∙◌, subst, arith}
+use Rattle.std.proofs.Common.{◌≡◌, ◌≢◌, ℕ, zero, suc, ◌+◌, ◌*◌, ◌<◌, ◌≤◌, ◌⊎◌, inl, inr, ⊎_elim, true, eqb, List, [], ◌∷◌, ◌++◌, length, map, slice_get, Some, Ok, refl, sym, ap, ◌∙◌, subst, arith}
 use Rattle.std.proofs.lemmas.List.{length-map}
 use Rattle.std.proofs.lemmas.Option.{slice_get_within}
 use Rattle.std.specs.List.{AllByRecursion, filter}
@@ -9,13 +9,8 @@ use native.Mathlib.Decide.{ℕ_discrete}
 use lib.ListN.{get_elem?}
 use Rattle.sock_model.specs.declared.chain.Claim.{Claim}
 use Rattle.sock_model.specs.declared.chain.Entry.{Entry}
-use Rattle.sock_model.specs.Chains.{Chains}
-use Rattle.sock_model.specs.Entries.{on, uses, count_up, ticket}
-use Rattle.sock_model.specs.Memory.{Memory}
+use Rattle.sock_model.specs.Entries.{on, ticket}
 use Rattle.sock_model.specs.Reads.{tokens, claims_of}
-use Rattle.sock_model.specs.Requests.{free_phase, claimed_phase, used_phase, retired_phase}
-use Rattle.sock_model.specs.Tokens.{Tokens}
-use Rattle.chain_steps.proofs.Frames.{no_token}
 use Rattle.chain_steps.proofs.Totals.{log_full}
 use Rattle.sock_steps.proofs.Maps.{gather_nil}
 use Rattle.brpc_model.specs.Items.{Item, attempts_of}
@@ -35,28 +30,13 @@ use Rattle.seat_programs.specs.Scripts.{all_tasks, played, IsRunWithCalls}
 use Rattle.seat_programs.specs.Tasks.{plan_of}
 use Rattle.seat_programs.specs.ToldCalls.{Accepted, Fixed, ToldCalls, label}
 use Rattle.sock_runs.proofs.Whole.{views_played}
-use Rattle.outcome_causes.proofs.Delivered.{accepted_of, accepted_at}
+use Rattle.outcome_causes.proofs.Delivered.{accepted_of, accepted_at, used_once}
 use Rattle.owed_calls.specs.joint_runs.proofs.Runs.{AreMade, first_views}
 use Rattle.owed_calls.specs.Lives.{ClosesInRun}
 use Rattle.served_fits.specs.send_causes.proofs.ClosedLostTicks.{AreTaken}
 use Rattle.served_fits.specs.send_causes.proofs.Sends.{orders_of_run}
 use Rattle.calls_over.proofs.OpensEntered.{early_log, late_log, rested_sound, idle_there, StandsLater, stands_later}
 use Rattle.served_fits.specs.send_causes.proofs.LateRests.{NoOld}
-
-count_up_length : (n : ℕ) → length (count_up n) ≡ n
-count_up_length zero = refl
-count_up_length (suc n) = omega (arith, length-append (count_up n) (n ∷ []), count_up_length n)
-
--- a request whose word isn't 0 and that nobody claims was used
-used_once : {links most : ℕ} {m : Memory} {t : Tokens} {log : List Entry} {freed places : ℕ → ℕ} → Chains links most m t log freed places → (q : ℕ) → q < most → m.request q ≢ 0 → t.claims q ≡ [] → 1 ≤ length (uses q log)
-used_once {links} {most} {m} {t} {log} s q ql some_ none_ = let u = s.in_use q ql in
-    let long : length (uses q log) ≡ u.times = sym (length-map (uses q log) (λ (e : Entry). e.generation)) ∙ (ap length u.each_once ∙ count_up_length u.times) in
-    elim u.phase [
-      | free_phase f ↦ (let a = f.word in let b = f.used in dite (ℕ_discrete u.generation 0) (λ z. absurd (some_ (a ∙ omega arith))) (λ n. omega arith))
-      | claimed_phase x ↦ absurd (no_token (t.claims q) x.claim x.claimed none_)
-      | used_phase e ↦ (let a = e.used in omega arith)
-      | retired_phase e ↦ (let a = e.used in omega arith)
-    ]
 
 -- a message of the attempt is in the list, or none is
 module _ (o n : ℕ) where

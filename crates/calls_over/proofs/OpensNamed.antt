@@ -1,7 +1,6 @@
 -- Each at word that stands where the ending begins was stored before, for an attempt of the call that is its operation.
 use Rattle.std.proofs.Common.{◌≡◌, ◌≢◌, ℕ, ◌+◌, ◌<◌, ◌≤◌, get_or, true, false, List, [], ◌++◌, length, map, replicate, refl, sym, subst}
 use Rattle.std.specs.Prelude.{Bool}
-use Rattle.sock_words.specs.declared.plain.Plan.{Plan}
 use Rattle.sock_model.specs.declared.view.View.{View}
 use Rattle.brpc_model.specs.Items.{Item}
 use Rattle.brpc_model.specs.Operations.{Turn, clients}
@@ -31,12 +30,13 @@ use Rattle.served_fits.specs.send_causes.proofs.EndedNamed.{all_follow, begins_n
 use Rattle.served_fits.specs.send_causes.proofs.EndedNames.{NameLaw, StoredFor}
 use Rattle.sock_words.specs.Words as sockets
 use Rattle.seat_programs.specs.Asides.{id_slot, id_first}
-use Rattle.owed_calls.specs.joint_runs.proofs.Runs.{AreMade, first_views}
+use Rattle.owed_calls.specs.joint_runs.proofs.Runs.{AreMade}
 use Rattle.owed_calls.specs.Lives.{ClosesInRun}
 use Rattle.owed_calls.specs.Sound.{at_of}
 use Rattle.served_fits.specs.send_causes.proofs.Early.{start, go, fitting, first_fresh}
 use Rattle.served_fits.specs.send_causes.proofs.Sends.{narrow, opening_bare}
 use Rattle.served_fits.specs.send_causes.proofs.Standing.{both}
+use Rattle.served_fits.specs.send_causes.proofs.Grounds.{setting}
 
 -- what is known of an at word that was stored before the ending
 pub record IsEarly (script : List Item) (turns : List Turn) (core : Core) (is : IsRunWithCalls script turns core) (o w : ℕ) : Type 0 where
@@ -53,14 +53,7 @@ pub record IsEarly (script : List Item) (turns : List Turn) (core : Core) (is : 
   pub stored : In (record { operation = o; word = w }) (shows_in stored_at (plan_of script) (opened script) (replicate is.setup (quiet 0)) ++ shows_in stored_at (plan_of script) (set_up script is.setup) (is.scheduled ++ is.later))
 
 module _ (script : List Item) (made : AreMade script) (turns : List Turn) (core : Core) (is : IsRunWithCalls script turns core) (closes : ClosesInRun script turns core is) (ids : ℕ → ℕ) (labelled : AreLabelledIn ids script turns core is) where
-  abbrev p : Plan
-  p = plan_of script
-
-  abbrev q : IdPlan
-  q = id_plan_of script
-
-  abbrev vs : List View
-  vs = first_views script
+  open setting script use {p, q, vs}
 
   abbrev in_setup : List Moment
   in_setup = replicate is.setup (quiet 0)
@@ -118,16 +111,4 @@ module _ (script : List Item) (made : AreMade script) (turns : List Turn) (core 
   -- an at word that stands there
   pub stored_early : (o : ℕ) → o < (id_plan_of script).operations → at_of (id_plan_of script) (played script is.setup (is.scheduled ++ is.later)) o ≢ 0 → IsEarly script turns core is o (at_of (id_plan_of script) (played script is.setup (is.scheduled ++ is.later)) o)
   stored_early o low some_ = let b = both script made turns core is in let ids = b.ids in let c = played script is.setup in_clients in let n = clients_part.named in
-      let x = subst (λ (plan : IdPlan). o < plan.operations → get_or c.calls.words (at_index plan o) 0 ≢ 0 → StoredFor (IsCallOf script) (s₁ ++ s₂) n.events o (get_or c.calls.words (at_index plan o) 0)) ids.plan (n.law.ats o) low some_ in record {
-        asked = x.asked;
-        called = x.called;
-        operation = x.operation;
-        id = x.id;
-        attempt = x.attempt;
-        link = x.link;
-        word = x.word;
-        slot = x.slot;
-        small = x.small;
-        few = x.few;
-        stored = x.stored;
-      }
+      let x = subst (λ (plan : IdPlan). o < plan.operations → get_or c.calls.words (at_index plan o) 0 ≢ 0 → StoredFor (IsCallOf script) (s₁ ++ s₂) n.events o (get_or c.calls.words (at_index plan o) 0)) ids.plan (n.law.ats o) low some_ in record { asked = x.asked; called = x.called; operation = x.operation; id = x.id; attempt = x.attempt; link = x.link; word = x.word; slot = x.slot; small = x.small; few = x.few; stored = x.stored }

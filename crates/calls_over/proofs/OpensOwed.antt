@@ -1,31 +1,29 @@
 -- What is owed to calls where the ending begins: whoever owes an open id its end is the reader of the link that the at word of its attempt names, which reads that link.
-use Rattle.std.proofs.Common.{◌≡◌, ℕ, zero, suc, ◌+◌, ◌-◌, ◌<◌, ◌≤◌, false, List, [], ◌∷◌, ◌++◌, length, get_or, replicate, Option, Some, None, refl, sym, ap, ◌∙◌, subst, arith}
+use Rattle.std.proofs.Common.{◌≡◌, ℕ, ◌+◌, ◌-◌, ◌<◌, ◌≤◌, false, List, [], ◌∷◌, ◌++◌, length, get_or, replicate, Option, Some, None, refl, sym, ap, ◌∙◌, subst, arith}
 use Rattle.std.specs.List.{AllByRecursion}
 use Rattle.std.proofs.lemmas.List.{length-map}
 use Rattle.std.specs.Prelude.{true}
 use mathlib.Core.Logic.{dite}
 use native.Mathlib.Decide.{dec_le}
 use mathlib.Core.Option.{Option as Maybe}
-use mathlib.Core.Option.{none, some, some-ne-none}
+use mathlib.Core.Option.{none, some}
 use lib.ListN.{get_elem?}
 use Rattle.chain_steps.proofs.Lists.{at_some}
 use Rattle.sock_words.specs.Words.{at_word, socket_id, socket_id_slot}
-use Rattle.sock_words.specs.declared.plain.Plan.{Plan}
 use Rattle.sock_model.specs.declared.view.View.{View}
 use Rattle.sock_model.specs.Layout.{open_index}
 use Rattle.brpc_model.specs.Items.{Item}
 use Rattle.brpc_model.specs.Frame.{Frame}
 use Rattle.brpc_model.specs.Operations.{Turn, clients}
-use Rattle.corr_core.specs.declared.marks.Plan.{Plan as IdPlan}
 use Rattle.report_fits.proofs.Reading.{InRange}
 use Rattle.report_fits.proofs.Targets.{AreThere}
-use Rattle.seat_programs.specs.Asides.{TakeBytes, Closed, id_slot, id_first}
+use Rattle.seat_programs.specs.Asides.{id_slot, id_first}
 use Rattle.seat_programs.specs.Clients.{client_from}
 use Rattle.seat_programs.specs.Heads.{Exit, Reading, Joins, Opens, Reads, Discards}
-use Rattle.seat_programs.specs.Programs.{Program, Rest, Aside, Round}
+use Rattle.seat_programs.specs.Programs.{Program, Rest, Round}
 use Rattle.seat_programs.specs.Readers.{post_each, read, reader}
 use Rattle.seat_programs.specs.Cores.{Core, SeatState}
-use Rattle.seat_programs.specs.Ticks.{Unasked, Moment, quiet, ticked}
+use Rattle.seat_programs.specs.Ticks.{Moment, quiet}
 use Rattle.seat_programs.specs.Tasks.{opens, calls, plan_of, id_plan_of}
 use Rattle.seat_programs.specs.Scripts.{sizes_of, programs, readers_from, all_tasks, opened, set_up, played, IsRunWithCalls}
 use Rattle.sock_runs.specs.Sound.{Sound, views_along}
@@ -39,15 +37,14 @@ use Rattle.sock_runs.proofs.ReaderSeats.{AtReader, run_reader, waits_own}
 use Rattle.sock_runs.proofs.Records.{next_stores}
 use Rattle.sock_runs.proofs.Whole.{IsListed, views_played, set_up_answered, set_up_sound, played_sound, recorded_opened, recorded_set_up}
 use Rattle.served_fits.specs.Below.programs_allowed.proofs.Beginning as clients_begin
-use Rattle.id_runs.specs.Goes as goes
 use Rattle.owed_calls.specs.joint_runs.proofs.Runs.{AreMade, first_views, joint_runs}
-use Rattle.owed_calls.specs.Lives.{id_of, life_of, AreSaying, ClosesAt, ClosesInTime, ClosesInRun}
+use Rattle.owed_calls.specs.Lives.{id_of, life_of, AreSaying, ClosesInRun}
 use Rattle.owed_calls.specs.Owes.{OwesOn}
 use Rattle.owed_calls.specs.Owing.{Free, Owing, InList, Among, DutyTo, with_dead}
 use Rattle.owed_calls.specs.Sound.{at_of, IsOpen, Owed, by_seat, by_retry, by_reader, retry_tokens, SoundOwing}
 use Rattle.owed_calls.proofs.Beginning.{owing_begins}
 use Rattle.owed_calls.proofs.EndsStill.{view_of}
-use Rattle.owed_calls.proofs.Known.{run_keeps}
+use Rattle.owed_calls.proofs.Known.{run_keeps, opens_apart, quiet_closes}
 use Rattle.owed_calls.proofs.Owed.{tasks_own, opened_seats}
 use Rattle.owed_calls.proofs.OwingRuns.{Reaches, id_is, run_owing, reach_back}
 use Rattle.owed_calls.proofs.Saying.{says_along}
@@ -56,11 +53,12 @@ use Rattle.owed_calls.proofs.WordsGiven.{Named, names_others, beginning_named, r
 use Rattle.served_fits.specs.Below.call_causes.proofs.Handled.{Sit}
 use Rattle.served_fits.specs.Below.call_causes.proofs.HandledSteps.{State, waiting, reading, seeking, taking, ending_, freeing, over}
 use Rattle.served_fits.specs.Below.call_causes.proofs.HandledStates.{After}
-use Rattle.served_fits.specs.send_causes.proofs.Early.{start, go, fitting, known, opens_apart, clients_take_none}
+use Rattle.served_fits.specs.send_causes.proofs.Early.{start, go, fitting, known, clients_take_none}
 use Rattle.served_fits.specs.send_causes.proofs.Takeless.{NoTakes}
 use Rattle.calls_over.proofs.Handled.{reads_before}
 use Rattle.served_fits.specs.send_causes.proofs.Standing.{Stands, resting, joining, opening, discarding, stands}
 use Rattle.served_fits.specs.send_causes.proofs.Standing as still
+use Rattle.served_fits.specs.send_causes.proofs.Grounds.{setting, stages}
 
 -- ## A reader keeps no retry
 
@@ -81,29 +79,10 @@ stores_nothing script c program (opening o next e z) = ap next_stores e
 stores_nothing script c program (still.reading r next e) = ap next_stores e
 stores_nothing script c program (discarding k total next e) = ap next_stores e
 
--- ticks that ask no link close none
-quiet_at : (p : Plan) (c : Core) (program : Program) → ClosesAt p c Unasked program
-quiet_at p c (Aside (TakeBytes k room) next) = λ e. absurd (some-ne-none Closed (sym e))
-quiet_at p c program = tt
-
-quiet_closes : (p : Plan) (c : Core) (n : ℕ) → ClosesInTime p c (replicate n (quiet 0))
-quiet_closes p c zero = tt
-quiet_closes p c (suc n) = ((λ seat at. quiet_at p c (goes.first_of seat.program)), quiet_closes p (ticked p c (quiet 0)) n)
-
 -- ## What each seat owes
 
 module _ (script : List Item) (made : AreMade script) (turns : List Turn) (core : Core) (is : IsRunWithCalls script turns core) (closes : ClosesInRun script turns core is) where
-  abbrev p : Plan
-  p = plan_of script
-
-  abbrev q : IdPlan
-  q = id_plan_of script
-
-  abbrev os : List ℕ
-  os = opens script
-
-  abbrev vs : List View
-  vs = first_views script
+  open setting script use {p, q, os, vs}
 
   abbrev m₁ : List Moment
   m₁ = replicate is.setup (quiet 0)
@@ -111,8 +90,7 @@ module _ (script : List Item) (made : AreMade script) (turns : List Turn) (core 
   abbrev m₂ : List Moment
   m₂ = is.scheduled ++ is.later
 
-  abbrev rested : Core
-  rested = played script is.setup (is.scheduled ++ is.later)
+  open stages script turns core is use {rested}
 
   abbrev v₁ : List View
   v₁ = views_along (plan_of script) (opened script) (first_views script) (replicate is.setup (quiet 0))
@@ -329,20 +307,7 @@ module _ (script : List Item) (made : AreMade script) (turns : List Turn) (core 
           by (joining i next e inside waits_) = let r : OwesOn lives_there u (Round (Joins i) next) = subst (OwesOn lives_there u) e g in absurd (subst (InList o) r.0.1 left)
           by (opening x next e z) = let same : x ≡ own.0 = waits_own p (calls script) (32 + k) k own.0 (in_script k own.0 own.1) rested seat.0 seat.1 (readers₂ k own.0 own.1) x next e in
               let word_is = (id_is (get_or rested.words (open_index p own.0) 0) s own.2).0 in let zero_ : get_or rested.words (open_index p own.0) 0 ≡ 0 = ap (λ m. get_or rested.words (open_index p m) 0) (sym same) ∙ z in absurd (let z : ⊥ = omega (arith, word_is, zero_) in z)
-          by (still.reading r next e) = let x = reads_so k own.0 own.1 seat.0 seat.1 r next e in record {
-            operation = o;
-            low = inside;
-            link = k;
-            word = word;
-            opening_ = own.0;
-            opens_it = own.1;
-            seat = seat.0;
-            seat_there = seat.1;
-            reads = x.0;
-            next = read (calls script);
-            program = x.1;
-            of_link = x.2;
-          }
+          by (still.reading r next e) = let x = reads_so k own.0 own.1 seat.0 seat.1 r next e in record { operation = o; low = inside; link = k; word = word; opening_ = own.0; opens_it = own.1; seat = seat.0; seat_there = seat.1; reads = x.0; next = read (calls script); program = x.1; of_link = x.2 }
           by (discarding l total next e) = absurd (none_thrown k own.0 own.1 seat.0 seat.1 l total next e)
 
       -- so it is with each open id

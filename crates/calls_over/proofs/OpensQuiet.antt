@@ -1,25 +1,17 @@
 -- Where each link has the server and nothing went wrong, no link failed before the ending, no reader throws bytes away, and each message that a link accepted is the request of a call.
-use Rattle.std.proofs.Common.{◌≡◌, ℕ, ◌<◌, ◌≤◌, ◌⊎◌, inl, inr, ⊎_elim, List, ◌++◌, length, replicate, Some, None, Ok, sym, ap, ◌∙◌, subst, arith}
-use Rattle.std.specs.List.{AllByRecursion}
-use Rattle.std.specs.Prelude.{IsTrue, Contains}
+use Rattle.std.proofs.Common.{◌≡◌, ℕ, ◌<◌, ◌≤◌, ◌⊎◌, inl, inr, ⊎_elim, List, ◌++◌, length, replicate, Some, None, sym, ap, ◌∙◌, subst, arith}
+use Rattle.std.specs.Prelude.{Contains}
 use Rattle.sock_model.specs.Links.{Failed}
 use Rattle.brpc_model.specs.Causes.{HasFault, reading_limit}
-use Rattle.brpc_model.specs.Complete.{IsUntroubled}
-use Rattle.brpc_model.specs.Items.{Item, Shape, Open, Fail}
+use Rattle.brpc_model.specs.Items.{Open, Fail}
 use Rattle.brpc_model.specs.Link.{LinkEnd}
-use Rattle.brpc_model.specs.Operations.{Turn, link_names, link_shapes}
+use Rattle.brpc_model.specs.Operations.{link_names, link_shapes}
 use Rattle.brpc_model.specs.Places.{names}
-use Rattle.brpc_model.specs.Report.{Report}
-use Rattle.brpc_model.specs.Script.{script_of}
-use Rattle.report_fits.specs.Ends.{AreEndsOf, AreTold}
 use Rattle.report_fits.proofs.Known as known
 use Rattle.report_fits.proofs.Lines.{Given}
 use Rattle.report_fits.proofs.Lists.{all_at, has_from, contains_from, within}
 use Rattle.report_fits.proofs.Lives as lives
 use Rattle.report_fits.proofs.Places.{known_of}
-use Rattle.report_fits.proofs.Reading.{InRange}
-use Rattle.report_fits.proofs.Sizes.{is_counted}
-use Rattle.report_fits.proofs.Targets.{AreThere, are_there}
 use Rattle.report_fits.proofs.TaskLemmas.{numbers_at, task_is, fail_asks}
 use Rattle.seat_programs.specs.declared.task.Op.TheVariants as ops
 use Rattle.seat_programs.specs.declared.task.Task.{Task}
@@ -28,11 +20,10 @@ use Rattle.seat_programs.specs.Cores.{Core}
 use Rattle.seat_programs.specs.Heads.{Discards}
 use Rattle.seat_programs.specs.Programs.{Rest, Round}
 use Rattle.seat_programs.specs.Readers.{LIMIT, reader}
-use Rattle.seat_programs.specs.Scripts.{Reports, all_tasks, opened, set_up, played, IsRunWithCalls}
+use Rattle.seat_programs.specs.Scripts.{all_tasks, opened, set_up, played}
 use Rattle.seat_programs.specs.Tasks.{opens, calls, numbered, plan_of, id_plan_of}
 use Rattle.seat_programs.specs.Ticks.{Moment, quiet, broken_in}
 use Rattle.seat_programs.specs.Told.{IsTask, IsFail, Made}
-use Rattle.seat_programs.specs.ToldCalls.{Order, Fixed, ToldCalls}
 use Rattle.sock_runs.specs.Sound.{state}
 use Rattle.sock_runs.proofs.Along.{place_inside}
 use Rattle.sock_runs.proofs.Whole.{views_played}
@@ -43,45 +34,33 @@ use Rattle.outcome_causes.specs.Stories.{In}
 use Rattle.outcome_causes.proofs.Lifted.{task_up}
 use Rattle.outcome_causes.proofs.Members.{in_contains, contains_in}
 use Rattle.outcome_causes.proofs.Plain.{in_left, in_right, in_both}
-use Rattle.owed_calls.specs.joint_runs.proofs.Runs.{AreMade, first_views}
-use Rattle.owed_calls.specs.Lives.{ClosesInRun}
+use Rattle.owed_calls.specs.joint_runs.proofs.Runs.{first_views}
 use Rattle.served_fits.specs.Below.run_theorems.specs.Heard.{heard_takes, given_by}
 use Rattle.served_fits.specs.Below.run_theorems.proofs.Gave.{gave_heard}
 use Rattle.served_fits.specs.Below.run_theorems.proofs.Lengths.{ended_length}
-use Rattle.served_fits.specs.Below.run_theorems.proofs.Starts.{made}
 use Rattle.served_fits.specs.Below.call_causes.specs.Lists.{given}
 use Rattle.served_fits.specs.Below.call_causes.specs.Scenes.{LeadsTo}
-use Rattle.served_fits.specs.send_causes.proofs.AttemptedStored.{played_leads}
+use Rattle.served_fits.specs.Below.call_causes.proofs.RunFacts.{own_leads, leadings}
 use Rattle.served_fits.specs.send_causes.proofs.Early.{start, go, fitting, closed_early, first_fresh}
-use Rattle.served_fits.specs.send_causes.proofs.Faults.{Faults, fault_stays}
+use Rattle.served_fits.specs.Below.call_causes.proofs.Streams.{faults_more}
 use Rattle.served_fits.specs.send_causes.proofs.Sends.{owed, lost_so}
 use Rattle.outcome_causes.proofs.Scripts.{run_tells, failed_early}
-use Rattle.served_fits.specs.served_runs.specs.Offered.{OffersInRun}
 use Rattle.served_fits.specs.served_runs.specs.Served.{IsForCalls}
 use Rattle.served_fits.specs.served_runs.proofs.Ends.{Holds}
 use Rattle.served_fits.specs.served_runs.proofs.Own.{id_small}
 use Rattle.served_fits.specs.served_runs.proofs.Readings.{Goes}
 use Rattle.served_fits.specs.served_runs.proofs.Replies.{played_holds}
 use Rattle.served_fits.specs.served_runs.proofs.Served.{shapes_many, gives_last, gives_no_fault}
-use Rattle.served_fits.specs.served_calls.specs.Quiet.{AreShown, HasServer}
+use Rattle.served_fits.specs.served_calls.specs.Quiet.{HasServer}
 use Rattle.served_fits.specs.served_calls.proofs.Requests.{never_last}
 use Rattle.served_fits.specs.served_sizes.proofs.Few as sizes
 use Rattle.calls_over.proofs.OpensEntered.{rested_sound}
 use Rattle.calls_over.proofs.OpensOwed.{NoneThrown}
 use Rattle.calls_over.proofs.Soon.{named_shape, no_end, no_stray}
+use Rattle.calls_over.proofs.OpensGiven.{CalmRun, are_made, targets, range}
 
-module _ (bytes : List ℕ) (script : List Item) (reads : script_of bytes ≡ Ok script) (short : length bytes ≤ 1048576) (turns : List Turn) (core : Core) (is : IsRunWithCalls script turns core) (closes : ClosesInRun script turns core is) (offers : OffersInRun script turns core is) (fixed : Fixed)
-    (orders : ℕ → Order) (tells : ToldCalls (plan_of script) (all_tasks script) core.outcomes fixed (given core) orders core) (report : Report) (took : List (List ℕ)) (ends : List LinkEnd)
-    (reports : Reports script core took report) (told : AreTold ends took) (given_back : AreEndsOf script core fixed (given core) ends) (shown : AreShown script turns core is fixed ends) (breaks : (k : ℕ) → Contains (broken_of_run script turns core is) k → Contains fixed.broken k)
-    (served : (name : List ℕ) (shape : Shape) → Contains script (Open name shape) → IsTrue shape.serve) (untroubled : IsUntroubled script ends) where
-  abbrev are_made : AreMade script
-  are_made = made bytes script reads
-
-  abbrev targets : AreThere script
-  targets = are_there bytes script reads
-
-  abbrev range : AllByRecursion InRange script
-  range = (is_counted bytes script reads).in_range
+module _ (calm : CalmRun) where
+  open calm use {bytes, script, reads, short, turns, core, is, closes, offers, fixed, orders, tells, report, took, ends, reports, told, given_back, shown, breaks, served, untroubled}
 
   abbrev all_given : Given
   all_given = record { run = known_of bytes script reads core fixed (given core) orders (ended_length bytes script reads turns core is) tells; report = report; took = took; ends = ends; reports = reports; told = told; given = given_back }
@@ -112,14 +91,14 @@ module _ (bytes : List ℕ) (script : List Item) (reads : script_of bytes ≡ Ok
     for_calls = record { opened = s.1; serves = s.2; unsent = unsent }
 
     no_fault : HasFault (given core k) → ⊥
-    no_fault = gives_no_fault script are_made targets range turns core is closes offers k s.0 for_calls
+    no_fault = gives_no_fault script (are_made calm) (targets calm) (range calm) turns core is closes offers k s.0 for_calls
 
     few : length (given core k) < LIMIT
     few = sizes.few bytes script reads short turns core is closes offers fixed orders tells untroubled.few_attempts k s.0 s.1 s.2
 
     endless : Contains (heard_takes is k) AtEnd → ⊥
-    endless ended = never_last script are_made turns core is fixed orders tells (id_small script are_made targets range turns core is closes) k low unsent s.0 endless_shape
-        (gives_last script are_made targets range turns core is closes offers k s.0 s.1 s.2 ended)
+    endless ended = never_last script (are_made calm) turns core is fixed orders tells (id_small script (are_made calm) (targets calm) (range calm) turns core is closes) k low unsent s.0 endless_shape
+        (gives_last script (are_made calm) (targets calm) (range calm) turns core is closes offers k s.0 s.1 s.2 ended)
 
     unbroken : Contains (heard_takes is k) Broken → ⊥
     unbroken broken = let x = shown.1 k end_of.end end_of.there end_of.is.numbered broken in let y = faultless.1 in let z : ⊥ = omega (arith, x, y) in z
@@ -128,7 +107,7 @@ module _ (bytes : List ℕ) (script : List Item) (reads : script_of bytes ≡ Ok
     unput broken = let x = end_of.is.failed (breaks k broken) in let y = faultless.0 in let z : ⊥ = omega (arith, x, y) in z
 
     unclosed : In k (closed_before_ending script turns core is) → ⊥
-    unclosed closed = by (closed_early script are_made turns core is k closed).1
+    unclosed closed = by (closed_early script (are_made calm) turns core is k closed).1
       where
         same : given core k ≡ given_by (heard_takes is k)
         same = gave_heard bytes script reads turns core is k low
@@ -145,15 +124,15 @@ module _ (bytes : List ℕ) (script : List Item) (reads : script_of bytes ≡ Ok
   pub unfailed : (k : ℕ) → Failed (plan_of script) (state (played script is.setup (is.scheduled ++ is.later)) (views_played script turns core is (first_views script))) k → ⊥
   unfailed k failed = ⊎_elim (λ lost. by_lost (contains_in _ k lost))
       (λ at_fail.
-      let tale = run_tells script are_made.are (first_views script) (start script are_made turns core is) (first_fresh script) (go script are_made turns core is) turns core is (fitting script are_made turns core is) (owed script are_made turns core is closes) in
+      let tale = run_tells script (are_made calm).are (first_views script) (start script (are_made calm) turns core is) (first_fresh script) (go script (are_made calm) turns core is) turns core is (fitting script (are_made calm) turns core is) (owed script (are_made calm) turns core is closes) in
       let t = tale.tells in let f : IsFail (told_tasks_of script) core.outcomes (at_fail.0, k) = all_at (IsFail (told_tasks_of script) core.outcomes) t.fails (at_fail.0, k) t.are (has_from t.fails (at_fail.0, k) at_fail.1) in
       let it = task_up (all_tasks script) (length (opens script)) core.outcomes f.client f.task f.is in
       let w = task_is script core.outcomes f.client f.task it in let m = fail_asks (numbered script) (names script) (numbers_at script f.task.number w.operation) w.operation.item f.name f.code (w.asks ∙ ap Some f.op) in
       untroubled.no_fail m.0 f.code (contains_from script (Fail m.0 f.code) (known.in_script all_given.run f.task.number w.operation w.there (Fail m.0 f.code) m.1)))
-      (failed_early script are_made.are (first_views script) (start script are_made turns core is) (first_fresh script) (go script are_made turns core is) turns core is (fitting script are_made turns core is) (owed script are_made turns core is closes) k failed)
+      (failed_early script (are_made calm).are (first_views script) (start script (are_made calm) turns core is) (first_fresh script) (go script (are_made calm) turns core is) turns core is (fitting script (are_made calm) turns core is) (owed script (are_made calm) turns core is closes) k failed)
     where
       low : k < length (link_names script)
-      low = let o = (rested_sound script are_made turns core is).lawful in o.in_slots.small failed.slot failed.version k failed.life
+      low = let o = (rested_sound script (are_made calm) turns core is).lawful in o.in_slots.small failed.slot failed.version k failed.life
 
       ones : List Moment
       ones = replicate is.setup (quiet 0)
@@ -173,14 +152,14 @@ module _ (bytes : List ℕ) (script : List Item) (reads : script_of bytes ≡ Ok
   -- ## Readers
 
   -- no reader throws bytes away
-  pub none_thrown : NoneThrown script are_made turns core is closes targets range
+  pub none_thrown : NoneThrown script (are_made calm) turns core is closes (targets calm) (range calm)
   none_thrown k o at seat there l total next e = ⊎_elim (λ x. absurd (let z : reader (calls script) k o ≡ Round (Discards l total) next = sym x.0 ∙ e in cc))
       (λ other. ⊎_elim (λ x. absurd (let z : Rest ≡ Round (Discards l total) next = sym x.0 ∙ e in cc))
       (λ x. let g = subst (Goes k (given before k) held.last) e x in by_fault g.2) other)
       (held.reader seat there)
     where
       low : k < length (link_names script)
-      low = let i = place_inside (opens script) k o at in let many = (let x = Rattle.served_fits.specs.send_causes.proofs.Early.known script are_made turns core is in x.as_many) in omega (arith, i, many)
+      low = let i = place_inside (opens script) k o at in let many = (let x = Rattle.served_fits.specs.send_causes.proofs.Early.known script (are_made calm) turns core is in x.as_many) in omega (arith, i, many)
 
       server : HasServer script turns core is k
       server = has_server k low
@@ -189,10 +168,10 @@ module _ (bytes : List ℕ) (script : List Item) (reads : script_of bytes ≡ Ok
       before = played script is.setup (is.scheduled ++ is.later)
 
       held : Holds script k o server.0 (In Broken (heard_takes is k)) before
-      held = played_holds script are_made turns core is offers k o at server.0 server.1
+      held = played_holds script (are_made calm) turns core is offers k o at server.0 server.1
 
       leads : LeadsTo (plan_of script) (id_plan_of script) (all_tasks script) (given core) (played script is.setup (is.scheduled ++ is.later))
-      leads = played_leads script are_made targets range turns core is
+      leads = let l = leadings script turns core is (given core) (own_leads script core) in l.played_leads
 
-      by_fault : Faults 0 (given (played script is.setup (is.scheduled ++ is.later)) k) → ⊥
-      by_fault fault = let m = leads k in no_fault k low (subst HasFault m.1 (fault_stays 0 (given (played script is.setup (is.scheduled ++ is.later)) k) m.0 fault))
+      by_fault : HasFault (given (played script is.setup (is.scheduled ++ is.later)) k) → ⊥
+      by_fault fault = let m = leads k in no_fault k low (subst HasFault m.1 (faults_more (given (played script is.setup (is.scheduled ++ is.later)) k) m.0 fault))

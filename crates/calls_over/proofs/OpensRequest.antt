@@ -1,38 +1,27 @@
 -- What a link with the server took, in a run in which nothing went wrong: the request of each message that it accepted.
-use Rattle.std.proofs.Common.{◌≡◌, ℕ, ◌<◌, ◌≤◌, inl, eqb, eq-eqb, List, [], ◌++◌, length, flat_map, Ok, append-nil, refl, sym, ap, ◌∙◌, subst, arith}
+use Rattle.std.proofs.Common.{◌≡◌, ℕ, ◌<◌, inl, eqb, eq-eqb, List, [], ◌++◌, flat_map, append-nil, refl, sym, ap, ◌∙◌, subst, arith}
 use Rattle.std.specs.List.{AllByRecursion}
-use Rattle.std.specs.Prelude.{IsTrue, Contains}
 use mathlib.Core.Option.{some}
 use lib.ListN.{get_elem?}
 use Rattle.chain_steps.proofs.Lists.{filter_in}
 use Rattle.sock_model.specs.declared.chain.Entry.{Entry}
 use Rattle.sock_model.specs.Entries.{on}
 use Rattle.sock_model.specs.Links.{Given}
-use Rattle.brpc_model.specs.Complete.{IsUntroubled}
 use Rattle.brpc_model.specs.Frame.{IsFrame}
-use Rattle.brpc_model.specs.Items.{Item, Shape, Open}
-use Rattle.brpc_model.specs.Link.{LinkEnd}
-use Rattle.brpc_model.specs.Operations.{Turn}
-use Rattle.brpc_model.specs.Report.{Report}
-use Rattle.brpc_model.specs.Script.{script_of}
 use Rattle.brpc_model.specs.Stream.{stream}
-use Rattle.report_fits.specs.Ends.{AreEndsOf, AreTold}
 use Rattle.report_fits.proofs.Lists.{Has, all_at, all_from, filter_has}
-use Rattle.report_fits.proofs.Reading.{InRange}
 use Rattle.report_fits.proofs.Sizes.{is_counted}
-use Rattle.report_fits.proofs.Targets.{AreThere, are_there}
+use Rattle.report_fits.proofs.Targets.{are_there}
 use Rattle.sock_message.specs.Asked.{Asked, request_of, frame_of}
 use Rattle.seat_programs.specs.Cores.{Core}
-use Rattle.seat_programs.specs.Scripts.{Reports, all_tasks, played, IsRunWithCalls}
+use Rattle.seat_programs.specs.Scripts.{all_tasks, played}
 use Rattle.seat_programs.specs.Tasks.{plan_of}
 use Rattle.seat_programs.specs.Told.{Became}
 use Rattle.seat_programs.specs.ToldCalls.{Order, Fixed, ToldCalls, IsSent, OfSend, OfCall}
 use Rattle.sock_runs.specs.Sound.{state}
 use Rattle.sock_runs.proofs.Whole.{views_played}
-use Rattle.outcome_causes.specs.Facts.{broken_of_run}
 use Rattle.outcome_causes.proofs.Delivered.{accepted_of}
-use Rattle.owed_calls.specs.joint_runs.proofs.Runs.{AreMade, first_views}
-use Rattle.owed_calls.specs.Lives.{ClosesInRun}
+use Rattle.owed_calls.specs.joint_runs.proofs.Runs.{first_views}
 use Rattle.owed_calls.proofs.OpensStored.{at_place}
 use Rattle.served_fits.specs.Below.run_theorems.proofs.Starts.{made}
 use Rattle.served_fits.specs.Below.call_causes.specs.Lists.{given}
@@ -42,28 +31,18 @@ use Rattle.served_fits.specs.send_causes.proofs.DropWhole.{get_same}
 use Rattle.served_fits.specs.send_causes.proofs.AttemptedStored.{ids_at}
 use Rattle.served_fits.specs.send_causes.proofs.OwnIds.{own_id}
 use Rattle.served_fits.specs.send_causes.proofs.Sends.{orders_of_run}
-use Rattle.served_fits.specs.served_runs.specs.Offered.{OffersInRun, TookSoFar}
+use Rattle.served_fits.specs.served_runs.specs.Offered.{TookSoFar}
 use Rattle.served_fits.specs.served_runs.proofs.Frames.{IsPiece, IsSmall, request_is}
 use Rattle.served_fits.specs.served_runs.proofs.Own.{id_small}
-use Rattle.served_fits.specs.served_calls.specs.Quiet.{AreShown}
 use Rattle.served_fits.specs.served_calls.proofs.Frames.{piece_has}
 use Rattle.served_fits.specs.served_calls.proofs.Requests.{IsCalled, small_call}
 use Rattle.calls_over.proofs.OpensEntered.{early_log, rested_sound, idle_there, StandsLater, stands_later}
+use Rattle.calls_over.proofs.OpensGiven.{CalmRun, are_made, targets, range}
 use Rattle.calls_over.proofs.OpensQuiet.{unsent, unfailed}
 use Rattle.calls_over.proofs.OpensTook.{IsHome, home}
 
-module _ (bytes : List ℕ) (script : List Item) (reads : script_of bytes ≡ Ok script) (short : length bytes ≤ 1048576) (turns : List Turn) (core : Core) (is : IsRunWithCalls script turns core) (closes : ClosesInRun script turns core is) (offers : OffersInRun script turns core is) (fixed : Fixed)
-    (orders : ℕ → Order) (tells : ToldCalls (plan_of script) (all_tasks script) core.outcomes fixed (given core) orders core) (report : Report) (took : List (List ℕ)) (ends : List LinkEnd)
-    (reports : Reports script core took report) (told : AreTold ends took) (given_back : AreEndsOf script core fixed (given core) ends) (shown : AreShown script turns core is fixed ends) (breaks : (k : ℕ) → Contains (broken_of_run script turns core is) k → Contains fixed.broken k)
-    (served : (name : List ℕ) (shape : Shape) → Contains script (Open name shape) → IsTrue shape.serve) (untroubled : IsUntroubled script ends) where
-  abbrev are_made : AreMade script
-  are_made = made bytes script reads
-
-  abbrev targets : AreThere script
-  targets = are_there bytes script reads
-
-  abbrev range : AllByRecursion InRange script
-  range = (is_counted bytes script reads).in_range
+module _ (calm : CalmRun) where
+  open calm use {bytes, script, reads, turns, core, is, closes}
 
   abbrev rested : Core
   rested = played script is.setup (is.scheduled ++ is.later)
@@ -75,7 +54,7 @@ module _ (bytes : List ℕ) (script : List Item) (reads : script_of bytes ≡ Ok
   own_orders = orders_of_run script (made bytes script reads) turns core is closes
 
   pub own_told : ToldCalls (plan_of script) (all_tasks script) core.outcomes own_fixed (given core) own_orders core
-  own_told = told_of_run script are_made targets range turns core is closes bytes reads
+  own_told = told_of_run script (are_made calm) (targets calm) (range calm) turns core is closes bytes reads
 
   -- ## A message
 
@@ -90,32 +69,32 @@ module _ (bytes : List ℕ) (script : List Item) (reads : script_of bytes ≡ Ok
   pub attempt_of : (q : ℕ) (e : Entry) → get_elem? (early_log script (made bytes script reads) turns core is) q ≡ some e → IsAttempt e
   attempt_of q e at = by (all_at (IsSent (plan_of script) (all_tasks script) core.outcomes own_fixed (given core) own_orders own_told.last e.link) (own_orders e.link).accepted (accepted_of e) (own_told.sent e.link later.low) (later.place, later.stands))
     where
-      later : StandsLater script are_made turns core is closes e
-      later = stands_later script are_made turns core is closes q e at
+      later : StandsLater script (are_made calm) turns core is closes e
+      later = stands_later script (are_made calm) turns core is closes q e at
 
       by : IsSent (plan_of script) (all_tasks script) core.outcomes own_fixed (given core) own_orders own_told.last e.link (accepted_of e) → IsAttempt e
-      by (OfSend client t name slot version it number op first life untold) = absurd (unsent bytes script reads short turns core is closes offers fixed orders tells report took ends reports told given_back shown breaks served untroubled e.link later.low client t name slot version e.bytes it op life)
+      by (OfSend client t name slot version it number op first life untold) = absurd (unsent calm e.link later.low client t name slot version e.bytes it op life)
       by (OfCall client t asked outcome id slot version it number op became shows last bytes_ life) = let became' : Became (all_tasks script) core.outcomes t.number outcome = subst (λ n. Became (all_tasks script) core.outcomes n outcome) (sym number) became in record {
         asked = asked;
         id = id;
-        small = small_call script are_made turns core is own_fixed own_orders own_told (id_small script are_made targets range turns core is closes) client t asked outcome id e.heading.attempt it op became' shows (let same = ap own_told.last number in omega (arith, last, same));
+        small = small_call script (are_made calm) turns core is own_fixed own_orders own_told (id_small script (are_made calm) (targets calm) (range calm) turns core is closes) client t asked outcome id e.heading.attempt it op became' shows (let same = ap own_told.last number in omega (arith, last, same));
         bytes_are = bytes_;
-        own = subst (λ n. ids_at script core n ≡ id) number (own_id script are_made targets range turns core is closes client t asked it op outcome became' id shows);
+        own = subst (λ n. ids_at script core n ≡ id) number (own_id script (are_made calm) (targets calm) (range calm) turns core is closes client t asked it op outcome became' id shows);
       }
 
   -- ## A link
 
   module _ (q : ℕ) (e : Entry) (at : get_elem? (early_log script (made bytes script reads) turns core is) q ≡ some e) (k : ℕ) (over : e.link ≡ k) where
     low : k < (plan_of script).links
-    low = subst (λ j. j < (plan_of script).links) over (stands_later script are_made turns core is closes q e at).low
+    low = subst (λ j. j < (plan_of script).links) over (stands_later script (are_made calm) turns core is closes q e at).low
 
     given_so : (j : ℕ) × (h : ℕ) × Given (plan_of script) (state rested (views_played script turns core is (first_views script))) j h e.link
-    given_so = (let o = (rested_sound script are_made turns core is).lawful in o.in_slots.entered q e at)
+    given_so = (let o = (rested_sound script (are_made calm) turns core is).lawful in o.in_slots.entered q e at)
 
-    at_home : IsHome (plan_of script) rested (views_played script turns core is (first_views script)) (rested_sound script are_made turns core is) (λ i v there. (idle_there script are_made turns core is i v there).1) k low
-        (unfailed bytes script reads short turns core is closes offers fixed orders tells report took ends reports told given_back shown breaks served untroubled k) given_so.0 given_so.1 (subst (Given (plan_of script) (state rested (views_played script turns core is (first_views script))) given_so.0 given_so.1) over given_so.2)
-    at_home = home (plan_of script) rested (views_played script turns core is (first_views script)) (rested_sound script are_made turns core is) (λ i v there. (idle_there script are_made turns core is i v there).1) k low
-        (unfailed bytes script reads short turns core is closes offers fixed orders tells report took ends reports told given_back shown breaks served untroubled k) given_so.0 given_so.1 (subst (Given (plan_of script) (state rested (views_played script turns core is (first_views script))) given_so.0 given_so.1) over given_so.2)
+    at_home : IsHome (plan_of script) rested (views_played script turns core is (first_views script)) (rested_sound script (are_made calm) turns core is) (λ i v there. (idle_there script (are_made calm) turns core is i v there).1) k low
+        (unfailed calm k) given_so.0 given_so.1 (subst (Given (plan_of script) (state rested (views_played script turns core is (first_views script))) given_so.0 given_so.1) over given_so.2)
+    at_home = home (plan_of script) rested (views_played script turns core is (first_views script)) (rested_sound script (are_made calm) turns core is) (λ i v there. (idle_there script (are_made calm) turns core is i v there).1) k low
+        (unfailed calm k) given_so.0 given_so.1 (subst (Given (plan_of script) (state rested (views_played script turns core is (first_views script))) given_so.0 given_so.1) over given_so.2)
 
     pub taken : List ℕ
     taken = at_home.took
@@ -128,17 +107,17 @@ module _ (bytes : List ℕ) (script : List Item) (reads : script_of bytes ≡ Ok
     bytes_of x = x.bytes
 
     abbrev log_on : List Entry
-    log_on = on k (early_log script are_made turns core is)
+    log_on = on k (early_log script (are_made calm) turns core is)
 
-    piece : (x : Entry) → Has (early_log script are_made turns core is) x → IsPiece IsCalled x.bytes
-    piece x h = let a = attempt_of h.0 x (at_place (early_log script are_made turns core is) h.0 x h.1) in record {
+    piece : (x : Entry) → Has (early_log script (are_made calm) turns core is) x → IsPiece IsCalled x.bytes
+    piece x h = let a = attempt_of h.0 x (at_place (early_log script (are_made calm) turns core is) h.0 x h.1) in record {
       frame = request_of a.asked a.id x.heading.attempt;
       is = subst (λ b. IsFrame b (request_of a.asked a.id x.heading.attempt)) (sym a.bytes_are) (request_is a.asked a.id x.heading.attempt a.small);
       holds = record { asked = a.asked; id = a.id; attempt = x.heading.attempt; small = a.small; frame = refl };
     }
 
     pieces : AllByRecursion (λ (x : Entry). IsPiece IsCalled x.bytes) log_on
-    pieces = all_from (λ (x : Entry). IsPiece IsCalled x.bytes) log_on (λ x h. piece x (filter_has (λ (y : Entry). eqb y.link k) (early_log script are_made turns core is) x h).0)
+    pieces = all_from (λ (x : Entry). IsPiece IsCalled x.bytes) log_on (λ x h. piece x (filter_has (λ (y : Entry). eqb y.link k) (early_log script (are_made calm) turns core is) x h).0)
 
     -- its request is among the frames of what it took
     pub request_there : (a : IsAttempt e) → Has (stream taken).frames (request_of a.asked a.id e.heading.attempt)
@@ -148,4 +127,4 @@ module _ (bytes : List ℕ) (script : List Item) (reads : script_of bytes ≡ Ok
         (subst (λ b. IsFrame b (request_of a.asked a.id e.heading.attempt)) (sym a.bytes_are) (request_is a.asked a.id e.heading.attempt a.small)) [])
       where
         there : Has log_on e
-        there = let i = filter_in (λ (y : Entry). eqb y.link k) (early_log script are_made turns core is) q e at (eq-eqb e.link k over) in (i.0, get_same log_on i.0 e i.1)
+        there = let i = filter_in (λ (y : Entry). eqb y.link k) (early_log script (are_made calm) turns core is) q e at (eq-eqb e.link k over) in (i.0, get_same log_on i.0 e i.1)

@@ -21,6 +21,7 @@ use Rattle.served_fits.specs.served_runs.specs.Offered.{OffersInRun}
 use Rattle.served_fits.specs.served_calls.specs.Quiet.{AreShown}
 use Rattle.served_fits.specs.Shown.{AreSo}
 use Rattle.served_fits.proofs.Whole as fits
+use Rattle.calls_over.proofs.OpensGiven.{CalmRun}
 use Rattle.calls_over.proofs.Opens.{open_call}
 use Rattle.served_fits.specs.send_causes.proofs.Standing.{unlocked}
 use Rattle.calls_over.proofs.Soon.{no_open_call}
@@ -29,9 +30,9 @@ module _ (bytes : List ℕ) (script : List Item) (reads : script_of bytes ≡ Ok
     (orders : ℕ → Order) (tells : ToldCalls (plan_of script) (all_tasks script) core.outcomes fixed (given core) orders core) (so : AreSo script turns core is fixed tells.last) (report : Report) (took : List (List ℕ)) (ends : List LinkEnd)
     (reports : Reports script core took report) (told : AreTold ends took) (given_back : AreEndsOf script core fixed (given core) ends) (shown : AreShown script turns core is fixed ends) (breaks : (k : ℕ) → Contains (broken_of_run script turns core is) k → Contains fixed.broken k) where
   pub calls_over : fits.CallsAreOver bytes script reads short turns core is closes offers fixed orders tells so report took ends reports told given_back shown
-  calls_over client number joins served untroubled i inside = ⊎_elim (λ ended. ended)
+  calls_over client number joins served untroubled i inside = let calm : CalmRun = record { bytes = bytes; script = script; reads = reads; short = short; turns = turns; core = core; is = is; closes = closes; offers = offers; fixed = fixed; orders = orders; tells = tells; report = report; took = took; ends = ends; reports = reports; told = told; given_back = given_back; shown = shown; breaks = breaks; served = served; untroubled = untroubled } in ⊎_elim (λ ended. ended)
       (λ open_. absurd (no_open_call bytes script reads turns core is closes offers fixed orders tells report took ends reports told given_back untroubled i
-      (open_call bytes script reads short turns core is closes offers fixed orders tells report took ends reports told given_back shown breaks served untroubled i inside (λ z. omega (arith, open_, z)))))
+      (open_call calm i inside (λ z. omega (arith, open_, z)))))
       (unlocked script (made bytes script reads) turns core is i inside)
 
   pub whole_fits : FitsWhole script (report_text script report) ends (lateness fixed)

@@ -48,16 +48,7 @@ pub record IsLow (q : IdPlan) (c : Core) (f : Frame) : Type 0 where
 
 -- so it stays while no range ends lower
 pub low_on : (q : IdPlan) (c d : Core) → ((i : ℕ) → i < q.slots → bound (id_word_of c i) ≤ bound (id_word_of d i)) → (f : Frame) → IsLow q c f → IsLow q d f
-low_on q c d up f l = record {
-  asked = l.asked;
-  id = l.id;
-  attempt = l.attempt;
-  small = l.small;
-  frame = l.frame;
-  inside = l.inside;
-  fits = l.fits;
-  below = (let a = l.below in let b = up (id_slot l.id) l.inside in omega (arith, a, b));
-}
+low_on q c d up f l = record { asked = l.asked; id = l.id; attempt = l.attempt; small = l.small; frame = l.frame; inside = l.inside; fits = l.fits; below = (let a = l.below in let b = up (id_slot l.id) l.inside in omega (arith, a, b)) }
 
 -- no message of link k is that of a `send`
 abbrev pub NonePlain : ℕ → List View → Type 0

@@ -39,7 +39,8 @@ use Rattle.served_fits.specs.served_runs.specs.Offered.{TookSoFar, offered_by, O
 use Rattle.served_fits.specs.served_runs.proofs.Parts.{IsPart, part_along}
 use Rattle.served_fits.specs.served_runs.proofs.Runs.{quiet_offered}
 use Rattle.served_fits.specs.served_runs.proofs.Served.{shapes_many}
-use Rattle.calls_over.proofs.Handled.{known_setup, known_clients, soon_setup, soon_clients}
+use Rattle.served_fits.specs.Below.call_causes.proofs.HandledWhole.{known_setup, known_clients}
+use Rattle.calls_over.proofs.Handled.{soon_setup, soon_clients}
 use Rattle.calls_over.proofs.SoonPieces.{IsLow, NonePlain}
 use Rattle.served_fits.specs.Below.call_causes.proofs.Run.{in_either as in_two}
 use Rattle.calls_over.proofs.SoonTicks.{Stands', plain_before, run_stands, quiet_soon, none_soon}

@@ -17,8 +17,7 @@ use Rattle.seat_programs.specs.Told.{IsTask, Made}
 use Rattle.seat_programs.specs.ToldCalls.{Accepted}
 use Rattle.seat_programs.specs.Scripts.{all_tasks, IsRunWithCalls}
 use Rattle.sock_runs.specs.Sound.{Sound, AllRest}
-use Rattle.sock_runs.proofs.LinkTicks.{RetriesGo}
-use Rattle.sock_runs.proofs.Whole.{Begins, AreFittingIn, IsOwed, closing_of, views_played, views_closed, views_ended, end_answered, closing_sound, closed_sound, ended_sound, end_rests}
+use Rattle.sock_runs.proofs.Whole.{IsOwed, closing_of, views_played, views_closed, views_ended, end_answered, closing_sound, closed_sound, ended_sound, end_rests}
 use Rattle.outcome_causes.specs.Kept.{is_of_send, IsSpoken}
 use Rattle.outcome_causes.specs.PlainTasks.{told_tasks_of}
 use Rattle.outcome_causes.specs.TaskCauses as causes
@@ -31,10 +30,11 @@ use Rattle.owed_calls.specs.joint_runs.proofs.Runs.{AreMade, first_views}
 use Rattle.owed_calls.specs.Lives.{ClosesInRun}
 use Rattle.owed_calls.proofs.EndsStill as still
 use Rattle.served_fits.specs.send_causes.specs.Counts.{EntryFits}
-use Rattle.served_fits.specs.send_causes.proofs.Early.{start, go, fitting, first_fresh}
+use Rattle.served_fits.specs.send_causes.proofs.Early.{first_fresh}
 use Rattle.served_fits.specs.send_causes.proofs.Runs.{IsCallOf, end_law}
 use Rattle.served_fits.specs.send_causes.proofs.Sends.{owed, narrow, few_clients, labelled, opening_bare}
 use Rattle.served_fits.specs.send_causes.proofs.Labelled.{ids_of_run}
+use Rattle.served_fits.specs.send_causes.proofs.Grounds.{setting, grounds}
 use Rattle.calls_over.proofs.SoonLists.{Stood, run_stay}
 use Rattle.calls_over.proofs.SoonPieces.{NonePlain}
 
@@ -48,17 +48,8 @@ stood_there vs e s made one = record { view = s.view; here = s.here; made = made
 
 module _ (script : List Item) (made : AreMade script) (turns : List Turn) (core : Core) (is : IsRunWithCalls script turns core) (closes : ClosesInRun script turns core is) (k : ℕ)
     (unsent : (client : ℕ) (t : Task) (name slot version : ℕ) (bytes : List ℕ) → IsTask (all_tasks script) core.outcomes client t → t.op ≡ ops.Send name bytes → Made (all_tasks script) core.outcomes name k slot version → ⊥) where
-  abbrev vs : List View
-  vs = first_views script
-
-  abbrev begins : Begins script (first_views script)
-  begins = start script made turns core is
-
-  abbrev goes : RetriesGo (plan_of script)
-  goes = go script made turns core is
-
-  abbrev fits : AreFittingIn script turns core is
-  fits = fitting script made turns core is
+  open setting script use {vs}
+  open grounds script made turns core is use {begins, goes, fits}
 
   abbrev owes : IsOwed script turns core is
   owes = owed script made turns core is closes

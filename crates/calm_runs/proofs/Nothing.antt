@@ -4,7 +4,7 @@ use Rattle.std.proofs.lemmas.List.{length-map}
 use Rattle.std.specs.Prelude as std
 use Rattle.std.specs.Prelude.{Contains, slice_get}
 use mathlib.Core.Logic.{dite}
-use mathlib.Core.Option.{some, some-injective, some-ne-none}
+use mathlib.Core.Option.{some}
 use native.Mathlib.Decide.{dec_le}
 use lib.ListN.{get_elem?}
 use Rattle.sock_words.specs.declared.outcome.Outcome.{Outcome}
@@ -14,7 +14,6 @@ use Rattle.seat_programs.specs.declared.task.Task.{Task}
 use Rattle.seat_programs.specs.Clients.{client_from, ending_of}
 use Rattle.seat_programs.specs.Cores.{Core, SeatState, resolved, next_step, waiting_at}
 use Rattle.seat_programs.specs.Programs.{Program, Rest}
-use Rattle.seat_programs.specs.Readers.{reader}
 use Rattle.seat_programs.specs.Scripts.{sizes_of, programs, readers_from, all_programs, all_tasks, opened, set_up, played, IsRunWithCalls}
 use Rattle.seat_programs.specs.Tasks.{opens, calls, plan_of, id_plan_of}
 use Rattle.seat_programs.specs.Ticks.{quiet}
@@ -28,6 +27,7 @@ use Rattle.send_causes.specs.Below.outcome_causes.specs.PlainTasks.{told_tasks_o
 use Rattle.send_causes.specs.Below.outcome_causes.specs.Stories.{In}
 use Rattle.send_causes.specs.Below.outcome_causes.proofs.Plain.{in_both}
 use Rattle.send_causes.specs.Below.joint_runs.proofs.Runs.{AreMade, first_views}
+use Rattle.send_causes.proofs.Beginnings.{others_begin}
 use Rattle.send_causes.proofs.Early.{start, go, fitting, known, first_fresh}
 use Rattle.send_causes.proofs.SeatTicks.{never_later}
 use Rattle.send_causes.specs.Below.outcome_causes.proofs.Scripts as stories
@@ -37,19 +37,6 @@ use Rattle.calm_runs.proofs.Along.{calm_setup, calm_along, StaysQuiet, quiet_alo
 use Rattle.calm_runs.proofs.Programs.{ending_calm, reader_calm}
 use Rattle.calm_runs.proofs.Resting.{clients_rest}
 use Rattle.calm_runs.proofs.Ticks.{CalmAt, AllCalm, calm_next, calm_set, unsaid}
-
--- ## Behind the clients all seats begin calm
-
-module _ (S : ℕ → Type 0) where
-  readers_calm : (calls : List ℕ) (k : ℕ) (os : List ℕ) (i : ℕ) (x : Program) → get_elem? (readers_from calls k os) i ≡ some x → IsCalm S x
-  readers_calm calls k [] i x at = absurd (some-ne-none x (sym at))
-  readers_calm calls k (o ∷ os) zero x at = subst (IsCalm S) (some-injective (reader calls k o) x at) (reader_calm S calls k o)
-  readers_calm calls k (o ∷ os) (suc i) x at = readers_calm calls (k + 1) os i x at
-
-  others_calm : (n : ℕ) (calls os : List ℕ) (i : ℕ) (x : Program) → get_elem? (replicate n Rest ++ readers_from calls 0 os) i ≡ some x → IsCalm S x
-  others_calm zero calls os i x at = readers_calm calls 0 os i x at
-  others_calm (suc n) calls os zero x at = subst (IsCalm S) (some-injective Rest x at) tt
-  others_calm (suc n) calls os (suc i) x at = others_calm n calls os i x at
 
 back_at : {A : Type 0} (xs ys : List A) (i : ℕ) (x : A) → length xs ≤ i → get_elem? (xs ++ ys) i ≡ some x → (k : ℕ) × (get_elem? ys k ≡ some x)
 back_at [] ys i x past at = (i, at)
@@ -95,7 +82,7 @@ module _ (script : List Item) (made : AreMade script) (turns : List Turn) (core 
       let long = length-map (all_tasks script) (client_from (sizes_of (plan_of script) (id_plan_of script)) []) in let k = known script made turns core is in let few = k.few in
       let b = back_at clients (replicate (32 - length clients) Rest ++ readers_from (calls script) 0 (opens script)) j m.0 (omega (arith, long, few, high)) m.1 in
       subst (λ (y : SeatState). IsCalm S y.program) m.2
-      (calm_next S [] m.0 (others_calm S (32 - length clients) (calls script) (opens script) b.0 m.0 b.1))
+      (calm_next S [] m.0 (others_begin (IsCalm S) tt (calls script) (λ k o. reader_calm S (calls script) k o) (32 - length clients) (opens script) b.0 m.0 b.1))
 
   played_calm : (j : ℕ) → 32 ≤ j → CalmAt S j before
   played_calm j high = let g = go script made turns core is in let f = fitting script made turns core is in let s = start script made turns core is in

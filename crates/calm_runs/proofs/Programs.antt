@@ -1,29 +1,19 @@
 -- The ending and the readers are calm: a reader posts only errors that end their calls.
-use Rattle.std.proofs.Common.{◌≡◌, ℕ, ◌+◌, ◌-◌, ◌%◌, ◌<◌, ◌==◌, ◌&&◌, not, nat_lt, nat_le, Bool, true, false, cond, List, [], ◌∷◌, ◌++◌, length, refl, sym, ap, ◌∙◌, arith}
-use Rattle.std.proofs.lemmas.Bool.{true≢false}
-use Rattle.std.specs.Prelude.{◌||◌}
+use Rattle.std.proofs.Common.{◌≡◌, ℕ, ◌+◌, ◌-◌, ◌%◌, ◌<◌, ◌==◌, ◌&&◌, not, nat_lt, nat_le, Bool, true, false, cond, List, [], ◌∷◌, ◌++◌, length, refl, ap, ◌∙◌, arith}
 use Rattle.sock_words.specs.Words.{socket_id_version, socket_id_slot, vref_version, vref_nref, at_word_first, at_word_slot, at_word_link, at_word_attempt}
 use Rattle.brpc_model.specs.Frame.{Frame}
 use Rattle.brpc_model.specs.Stream as streams
 use Rattle.sock_steps.proofs.Quiet.{either_way}
-use Rattle.corr_core.specs.Word.{Parts, parts, posted_word, code_of, attempt_of, error_of}
+use Rattle.corr_core.specs.Word.{parts, posted_word, code_of, error_of}
 use Rattle.corr_core.specs.Law.{LAST}
 use Rattle.seat_programs.specs.Asides.{Taking, Bytes, Nothing, Closed, call_id, id_first}
 use Rattle.seat_programs.specs.Clients.{ending_of}
 use Rattle.seat_programs.specs.Heads.{Reading, Sought, Posting, WasGone, WasStale, WasCrowded, WasQueued, HasLocked, Locking, NotThere, Has, Ended}
-use Rattle.seat_programs.specs.Posts.{WHOLE, packed, is_final, ends_call, is_first, is_stale, is_full, is_sought, judged, posts_round, post_with, end_id, locking}
+use Rattle.seat_programs.specs.Posts.{packed, is_final, is_first, is_stale, is_full, is_sought, judged, posts_round, post_with, end_id, locking}
 use Rattle.seat_programs.specs.Programs.{Program, Say, LAST_VERSION, NO_SOCKET, recycle, release, address, set_failed}
 use Rattle.seat_programs.specs.Readers.{LIMIT, has_response, slot_in, version_in, is_early, ending_of as outcome_of, answer, answered, responses, read_on, took, discarded, kept_for, ends_with, posted_last, post_each, thrown_away, read, reader}
+use Rattle.send_causes.specs.Below.call_causes.proofs.HandledStates.{ends_final}
 use Rattle.calm_runs.specs.Calm.{IsCalm}
-
--- a final error ends a call whatever attempts are left
-pub ends_final : (w : Parts) (e : ℕ) → is_final (code_of e) ≡ true → ends_call w e ≡ true
-ends_final w e final = by (attempt_of e == WHOLE) (is_final (code_of e)) final
-  where
-    by : (a b : Bool) → b ≡ true → (a || (b || (w.attempt + 2 == w.range))) ≡ true
-    by true b is = refl
-    by false true is = refl
-    by false false is = absurd (true≢false (sym is))
 
 module _ (S : ℕ → Type 0) where
   abbrev C : Program → Type 0

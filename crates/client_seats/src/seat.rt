@@ -27,14 +27,14 @@ use std::alloc::Global;
 use std::collections::VecDeque;
 
 /// A life that is held: the number of the name under which it was reached, and its id.
-#[derive(Clone, Copy, Debug, PartialEq, Eq)]
+#[derive(Clone, Copy)]
 pub struct Held {
     pub name: u16,
     pub id: SocketId,
 }
 
 /// A retry that is kept: the id of its call, and the attempt that is to be tried.
-#[derive(Clone, Copy, Debug, PartialEq, Eq)]
+#[derive(Clone, Copy)]
 pub struct Kept {
     pub id: CallId,
     pub attempt: AttemptNumber,

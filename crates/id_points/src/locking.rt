@@ -9,7 +9,7 @@ use crate::posting::{is_there, locked};
 use sock_words::IdWord;
 
 /// What is sought in an id slot.
-#[derive(Clone, Copy, Debug, PartialEq, Eq)]
+#[derive(Clone, Copy)]
 pub enum Sought {
     /// The range with this first version.
     First(u32),
@@ -18,7 +18,7 @@ pub enum Sought {
 }
 
 /// How the way to a lock goes on behind a step.
-#[derive(Clone, Copy, Debug, PartialEq, Eq)]
+#[derive(Clone, Copy)]
 pub enum LockTurn {
     /// It is done: what is sought isn't there, and this word was found,
     NotThere(IdWord),

@@ -11,7 +11,7 @@ use crate::error::IdError;
 use sock_words::IdWord;
 
 /// How the post of an error goes on behind a step.
-#[derive(Clone, Copy, Debug, PartialEq, Eq)]
+#[derive(Clone, Copy)]
 pub enum PostTurn {
     /// It is done: the range has ended,
     Gone,

@@ -10,7 +10,7 @@ use crate::posting::is_stale;
 use sock_words::IdWord;
 
 /// How the giving back of a lock goes on behind its exchange.
-#[derive(Clone, Copy, Debug, PartialEq, Eq)]
+#[derive(Clone, Copy)]
 pub enum UnlockTurn {
     /// It is done: the id is open, and has this word,
     Open(IdWord),

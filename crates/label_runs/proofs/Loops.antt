@@ -21,22 +21,12 @@ use Rattle.seat_programs.specs.Rounds.{round}
 use Rattle.seat_programs.specs.Sends.{heading_of}
 use Rattle.seat_programs.specs.Writings.{Writing}
 use Rattle.label_runs.specs.Labels.{FindsLabel, AtLabel, LeavesLabel, LeavesUnlock, IsSoughtWord}
+pub use Rattle.id_runs.proofs.Loops.{not_true, not_equal, and_left}
 
 -- ## Numbers
 
 pub id_back : (id : ℕ) → call_id (id_slot id) (id_first id) ≡ id
 id_back id = omega arith
-
-pub not_true : (b : Bool) → not b ≡ false → b ≡ true
-not_true true e = refl
-not_true false e = cc
-
-pub not_equal : (a b : ℕ) → eqb a b ≡ false → a ≢ b
-not_equal a b e same = let z : true ≡ false = sym (eq-eqb a b same) ∙ e in cc
-
-pub and_left : (a b : Bool) → (a && b) ≡ true → a ≡ true
-and_left true b e = refl
-and_left false b e = e
 
 -- the word of an id that was found open, once it is locked
 pub locked_parts : (w e : ℕ) → (parts w).state ≡ 1 → parts (packed (posted_word (parts w) e)) ≡ locked_word (parts w)
@@ -98,6 +88,10 @@ module _ {K : Type 0} (lost : K) (unlocked_behind : ℕ → ℕ → Bool → K �
     pub again : (t : K) (i from found : ℕ) (b : Bool) → (parts found).first ≡ (parts from).first → (parts found).attempt ≡ (parts from).attempt → unlocked_behind i from b t ≡ unlocked_behind i found b t
     pub unmoved : (t : K) (i w : ℕ) → unlocked_behind i w false t ≡ t
     pub locking : (exit : Locking) (t : K) → Stays lost t (locked_behind exit t)
+
+pub first_as : (x y : ℕ) → x ≡ y → (exit : Unlocking) → LeavesUnlock x exit → LeavesUnlock y exit
+first_as x y e (HasNext w error) l = l ∙ e
+first_as x y e (IsOpen w) l = tt
 
 module _ {K : Type 0} {lost : K} {unlocked_behind : ℕ → ℕ → Bool → K → K} {locked_behind : Locking → K → K} {is_call : Asked → Type 0} {G : K → Program → Type 0} (g : Tracks lost unlocked_behind locked_behind is_call G) where
   pub way : (t : K) (b : Bool) (x y : Program) → (b ≡ true → G t x) → (b ≡ false → G t y) → G t (cond b x y)
@@ -164,10 +158,6 @@ module _ {K : Type 0} {lost : K} {unlocked_behind : ℕ → ℕ → Bool → K �
 
   word_after : (from : ℕ) (advance : Bool) → (parts from).attempt + advance_of advance ≤ 6 → parts (packed (unlocked_word (parts from) (advance_of advance))) ≡ unlocked_word (parts from) (advance_of advance)
   word_after from advance low = parts_packed (unlocked_word (parts from) (advance_of advance)) (state_fits (eqb (parts from).oldest 0)) (omega arith) (omega arith) (omega (arith, low)) (omega arith) (omega arith)
-
-  first_as : (x y : ℕ) → x ≡ y → (exit : Unlocking) → LeavesUnlock x exit → LeavesUnlock y exit
-  first_as x y e (HasNext w error) l = l ∙ e
-  first_as x y e (IsOpen w) l = tt
 
   module _ (t : K) (i from : ℕ) (advance : Bool) (k : Unlocking → Program) (goes : (exit : Unlocking) → LeavesLabel (Unlocks i from advance) exit → G (unlocked_behind i from advance t) (k exit)) where
     abbrev after : ℕ

@@ -24,6 +24,20 @@ use Rattle.label_runs.proofs.Loops.{id_back, is_plain, is_plain_aside, Tracks, b
 use Rattle.label_runs.proofs.Operations as kept
 use Rattle.label_runs.proofs.Operations.{OpCalls, release_goes, address_goes, accept_goes}
 
+-- ## What a lock that is given back leaves of a trial
+
+pub hit_is : (t : Trial) (i from : ℕ) (b : Bool) (found : ℕ) → eqb found from ≡ true → unlocks_trial i from b t ≡ unlocked_trial i from b found t
+hit_is t i from true found hit = sym (ap (λ z. cond z (Tries (call_id i (parts from).first) ((parts from).attempt + 1)) t) hit)
+hit_is t i from false found hit = refl
+
+pub miss_is : (t : Trial) (i from : ℕ) (b : Bool) (found : ℕ) → eqb found from ≡ false → t ≡ unlocked_trial i from b found t
+miss_is t i from true found miss = sym (ap (λ z. cond z (Tries (call_id i (parts from).first) ((parts from).attempt + 1)) t) miss)
+miss_is t i from false found miss = refl
+
+pub found_is : (t : Trial) (i from found : ℕ) (b : Bool) → (parts found).first ≡ (parts from).first → (parts found).attempt ≡ (parts from).attempt → unlocks_trial i from b t ≡ unlocks_trial i found b t
+found_is t i from found true f a = ap (λ x. Tries (call_id i x) ((parts from).attempt + 1)) (sym f) ∙ ap (λ x. Tries (call_id i (parts found).first) (x + 1)) (sym a)
+found_is t i from found false f a = refl
+
 module _ (is_call : Asked → Type 0) where
   may_plain : (t : Trial) (call : Call) → is_plain call ≡ true → MayPut is_call t call
   may_plain t (PutMessage q heading bytes) plain = absurd (let e = plain in cc)
@@ -39,18 +53,6 @@ module _ (is_call : Asked → Type 0) where
   aside_moves (StoreAt o w) plain found t u k = absurd (let e = plain in cc)
   aside_moves (UnlockId i from advance) plain found t u k = absurd (let e = plain in cc)
   aside_moves step plain found t u k = k
-
-  hit_is : (t : Trial) (i from : ℕ) (b : Bool) (found : ℕ) → eqb found from ≡ true → unlocks_trial i from b t ≡ unlocked_trial i from b found t
-  hit_is t i from true found hit = sym (ap (λ z. cond z (Tries (call_id i (parts from).first) ((parts from).attempt + 1)) t) hit)
-  hit_is t i from false found hit = refl
-
-  miss_is : (t : Trial) (i from : ℕ) (b : Bool) (found : ℕ) → eqb found from ≡ false → t ≡ unlocked_trial i from b found t
-  miss_is t i from true found miss = sym (ap (λ z. cond z (Tries (call_id i (parts from).first) ((parts from).attempt + 1)) t) miss)
-  miss_is t i from false found miss = refl
-
-  found_is : (t : Trial) (i from found : ℕ) (b : Bool) → (parts found).first ≡ (parts from).first → (parts found).attempt ≡ (parts from).attempt → unlocks_trial i from b t ≡ unlocks_trial i found b t
-  found_is t i from found true f a = ap (λ x. Tries (call_id i x) ((parts from).attempt + 1)) (sym f) ∙ ap (λ x. Tries (call_id i (parts found).first) (x + 1)) (sym a)
-  found_is t i from found false f a = refl
 
   rounds : (t : Trial) (head : Head) (next : Exit head → Program) → AtLabel is_call head → ((exit : Exit head) → LeavesLabel head exit → Labels is_call (behind Idle unlocks_trial locked_trial head exit t) (next exit)) → Labels is_call t (Round head next)
   rounds t (Posts id e w) next at goes = (at, goes)

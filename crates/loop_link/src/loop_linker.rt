@@ -3,27 +3,20 @@ ghost use Rattle.std.specs.List.{AllByRecursion};
 ghost use Rattle.brpc_model.specs.Link.{LinkEnd};
 ghost use Rattle.sock_io.specs.Causes.{Rose, next_number};
 ghost use Rattle.sock_io.specs.Link.{IsFresh, IsNewOffer, IsServed, IsSettled, IsUnused, SettleStep, connection_of, end_of};
-ghost use Rattle.sock_io.specs.Linker.{new_half, plain_shape};
+ghost use Rattle.sock_io.specs.Linker.{new_half, plain_shape, shape_asked};
 ghost use Rattle.sock_io.specs.Memory.{closing};
 ghost use Rattle.sock_io.specs.Shape.{shaped_out};
-ghost use Rattle.loop_link.specs.Linker.{shape_asked};
 ghost use Rattle.loop_link.specs.Serving.{Settled, loop_in, new_in, offer_of};
 
-use crate::counts::{is_counted, next_call, risen};
 use crate::loop_in::LoopIn;
 use io_buf::BlockPool;
-use sock_io::{Ends, LinkSpec, Linker, MemOut, NoMemory, NoPeer, OpenFault, Out, Shape, Shaped};
+use sock_io::{
+    Ends, LinkSpec, Linker, MemLinks, MemOut, NoMemory, NoPeer, OpenFault, Out, Shape, Shaped,
+};
 use std::alloc::Global;
 use std::marker::Model;
 
 type Link = Ends<Shaped<MemOut>, LoopIn, NoPeer>;
-
-/// The halves of a connection, as it was given back.
-#[derive(Drop)]
-struct Connection {
-    out: Shaped<MemOut>,
-    inn: LoopIn,
-}
 
 /// Links in memory whose other end is called by `settle`: the built-in server, where it is asked for, and otherwise one
 /// that takes everything, gives nothing, and closes its half once the link was finished. The reading half of a connection
@@ -35,27 +28,15 @@ struct Connection {
 pub struct LoopLinker {
     alloc: Global,
     pool: BlockPool,
-    fail_opens: Vec<u32>,
-    calls: u64,
-    asked: Vec<LinkSpec>,
-    accepted: u16,
-    faults: u64,
-    links: Vec<Link>,
-    connections: Vec<Connection>,
+    links: MemLinks<LoopIn>,
 }
 
 impl Model for LoopLinker {
-    ghost use Rattle.std.specs.Prelude.{◌≤◌, map, vec_len, vec_capacity};
-    ghost use Rattle.sock_io.specs.Link.{connection_of, end_of};
-    ghost use Rattle.sock_io.specs.Shape.{shaped_out};
-    ghost use Rattle.loop_link.specs.Linker.{LoopLinkerState};
-    ghost use Rattle.loop_link.specs.Serving.{loop_in};
+    ghost use Rattle.sock_io.specs.Linker.{MemLinksState};
 
-    ghost Value = { LoopLinkerState };
+    ghost Value = { MemLinksState };
 
-    ghost view = { λ l. record { asked = l.asked.items; accepted = l.accepted; back = map (λ e. end_of (shaped_out e.out) (loop_in e.inn)) l.links.items; done = map (λ c. connection_of (shaped_out c.out) (loop_in c.inn)) l.connections.items; fail_opens = l.fail_opens.items; calls = l.calls; faults = l.faults } };
-
-    ghost invariant = { λ l. (vec_len l.asked ≤ vec_capacity l.links) × (vec_len l.links ≤ vec_len l.asked) × (l.accepted ≤ vec_capacity l.connections) × (vec_len l.connections ≤ l.accepted) };
+    ghost view = { λ l. l.links };
 }
 
 impl LoopLinker {
@@ -66,13 +47,7 @@ impl LoopLinker {
         LoopLinker {
             alloc,
             pool: BlockPool::new(alloc),
-            fail_opens,
-            calls: 0,
-            asked: Vec::new(alloc),
-            accepted: 0,
-            faults: 0,
-            links: Vec::new(alloc),
-            connections: Vec::new(alloc),
+            links: MemLinks::new(alloc, fail_opens),
         }
     }
 }
@@ -112,32 +87,12 @@ impl Linker for LoopLinker {
         ensures kept { (¬ IsErrOf result OpenFault.Failed) → self.new.faults ≡ self.old.faults }
         ensures failed_at { IsErrOf result OpenFault.Failed ↔ Contains self.old.fail_opens (next_number self.old.calls) }
     {
-        self.calls = next_call(self.calls);
-        if is_counted(&self.fail_opens, self.calls) {
-            self.faults = risen(self.faults);
-            return Err(OpenFault::Failed);
-        }
-        let opened = self.asked.len();
-        let room = opened + 1 - self.links.len();
-        if self.asked.reserve(1).is_err() || self.links.reserve(room).is_err() {
-            return Err(OpenFault::NoMemory);
-        }
-        let shape = Shape {
-            piece: spec.piece,
-            again: spec.again,
-            fail: spec.fail,
-        };
-        match Shaped::new(self.alloc, MemOut::new(opened as u16), shape) {
-            Ok(out) => {
-                self.asked.push_reserved(*spec);
-                Ok(Ends {
-                    out,
-                    inn: LoopIn::new(self.alloc, spec.serve, spec.end),
-                    peer: NoPeer,
-                })
-            }
-            Err(_) => Err(OpenFault::NoMemory),
-        }
+        let out = self.links.open(spec, Shape::asked(spec))?;
+        Ok(Ends {
+            out,
+            inn: LoopIn::new(self.alloc, spec.serve, spec.end),
+            peer: NoPeer,
+        })
     }
 
     fn settle(&mut self, ends: &mut Link) -> Result<(), NoMemory>
@@ -166,41 +121,21 @@ impl Linker for LoopLinker {
         ensures refused { OnErr result (self.new ≡ self.old) }
         ensures never { ¬ IsErrOf result OpenFault.Failed }
     {
-        let room = self.accepted as usize + 1 - self.connections.len();
-        if self.connections.reserve(room).is_err() {
-            return Err(OpenFault::NoMemory);
-        }
-        let shape = Shape {
-            piece: u32::MAX,
-            again: 0,
-            fail: 0,
-        };
-        match Shaped::new(self.alloc, MemOut::new(0), shape) {
-            Ok(out) => {
-                self.accepted += 1;
-                Ok((out, LoopIn::new(self.alloc, true, Some(0))))
-            }
-            Err(_) => Err(OpenFault::NoMemory),
-        }
+        let out = self.links.accept()?;
+        Ok((out, LoopIn::new(self.alloc, true, Some(0))))
     }
 
     fn done(&mut self, out: Shaped<MemOut>, inn: LoopIn)
         requires { length self.old.done < self.old.accepted }
         ensures { self.new ≡ record self.old { done = self.old.done ++ connection_of (shaped_out out) (loop_in inn) ∷ [] } }
     {
-        match self.connections.push(Connection { out, inn }) {
-            Ok(()) => {}
-            Err(_) => unreachable!(),
-        }
+        self.links.done(out, inn);
     }
 
     fn back(&mut self, _link: u16, ends: Link)
         requires { length self.old.back < length self.old.asked }
         ensures { self.new ≡ record self.old { back = self.old.back ++ end_of (shaped_out ends.out) (loop_in ends.inn) ∷ [] } }
     {
-        match self.links.push(ends) {
-            Ok(()) => {}
-            Err(_) => unreachable!(),
-        }
+        self.links.back(ends);
     }
 }

@@ -16,7 +16,7 @@ use Rattle.sock_model.specs.declared.chain.Claim.{Claim}
 use Rattle.sock_model.specs.declared.chain.Heading.{Heading}
 use Rattle.sock_model.specs.declared.chain.Right.{Right}
 use Rattle.sock_model.specs.declared.chain.Stage.{Stage}
-use Rattle.sock_model.specs.declared.chain.Stage.TheVariants.{Writes, Walks, Turns}
+use Rattle.sock_model.specs.declared.chain.Stage.TheVariants.{Writes, Placed, Passes, Empties, Walks, Turns}
 use Rattle.sock_model.specs.declared.view.View.{View}
 use Rattle.sock_model.specs.declared.view.Hand.{Hand}
 use Rattle.sock_model.specs.Layout.{head_index}
@@ -31,7 +31,7 @@ use Rattle.sock_model.specs.Conditions.{MayExchange}
 use Rattle.sock_model.specs.Links.{Lives}
 use Rattle.sock_model.specs.Lawful.{Lawful}
 use Rattle.seat_programs.specs.Cores.{Core}
-use Rattle.seat_programs.specs.Calls.{Call, LoadName, LoadOpen, TakeLink, LookWord, LoadCode, ClaimRequest, PutMessage, Unconnect, SwapHead, Connect, EmptyHead, ReadNext, ReverseNext, FreeRequest, StorePlace, DropPlace}
+use Rattle.seat_programs.specs.Calls.{Call, ClaimSlot, CreateLife, AddRef, SubRef, SetOdd, Recycle, FreeSlot, StoreLink, LoadLink, ResetHead, ClearCode, StoreCode, StoreName, LoadName, StoreOpen, LoadOpen, TakeLink, FinishLink, PutLink, LookWord, FindLink, LoadCode, ClaimRequest, PutMessage, Unconnect, SwapHead, Connect, EmptyHead, ReadNext, ReverseNext, FreeRequest, StorePlace, DropPlace}
 use Rattle.sock_runs.specs.Rows.{row, is_id, new_claim, filled_claim, ready_claim, by_claim, by_right, read_next, turned_next, freed_next, placed_next, dropped_next, looked_clean, emptied, took_message, link_away, link_home_again, took_bytes}
 use Rattle.sock_runs.specs.Sound.{state}
 use Rattle.chain_steps.proofs.Lists.{at_longer, at_length, at_some, filter_at, filter_in}
@@ -258,30 +258,62 @@ module _ (v : View) where
   look_lists (r ∷ rs) then_ w own h = h r
 
   read_lists : (found : ℕ) (r : Right) (stage : Stage) → Stays (read_next found v r stage)
+  read_lists found r (Placed now) = refl
   read_lists found r (Walks top at after) = either_way (eqb found UNCONNECTED) v (with_right v (record r { stage = Turns top at after found })) Stays refl refl
-  read_lists found r _ = refl
+  read_lists found r (Writes now) = refl
+  read_lists found r (Passes now next) = refl
+  read_lists found r Empties = refl
+  read_lists found r (Turns top at after before) = refl
 
   turned_lists : (r : Right) (stage : Stage) → Stays (turned_next v r stage)
   turned_lists r (Turns top at after before) = refl
-  turned_lists r _ = refl
+  turned_lists r (Walks top at after) = refl
+  turned_lists r (Writes now) = refl
+  turned_lists r (Placed now) = refl
+  turned_lists r (Passes now next) = refl
+  turned_lists r Empties = refl
 
   placed_lists : (r : Right) (stage : Stage) → Stays (placed_next v r stage)
   placed_lists r (Writes now) = refl
-  placed_lists r _ = refl
+  placed_lists r (Placed now) = refl
+  placed_lists r (Passes now next) = refl
+  placed_lists r Empties = refl
+  placed_lists r (Walks top at after) = refl
+  placed_lists r (Turns top at after before) = refl
 
   dropped_lists : (r : Right) (stage : Stage) → Stays (dropped_next v r stage)
   dropped_lists r (Writes now) = refl
-  dropped_lists r _ = refl
+  dropped_lists r (Placed now) = refl
+  dropped_lists r (Passes now next) = refl
+  dropped_lists r Empties = refl
+  dropped_lists r (Walks top at after) = refl
+  dropped_lists r (Turns top at after before) = refl
 
 -- only an exchange of the head changes the lists of accepted messages
 pub lists_stay : (p : Plan) (call : Call) (found : ℕ) (hand : Hand) (v : View) → ((j own : ℕ) → call ≡ SwapHead j own → ⊥) → (row p call found hand v).lists ≡ v.lists
+lists_stay p (ClaimSlot i) found hand v other = refl
+lists_stay p (CreateLife i k) found hand v other = refl
+lists_stay p (AddRef id) found hand v other = refl
+lists_stay p (SubRef i) found hand v other = refl
+lists_stay p (SetOdd i) found hand v other = refl
+lists_stay p (Recycle i from) found hand v other = refl
+lists_stay p (FreeSlot i) found hand v other = refl
+lists_stay p (StoreLink i k) found hand v other = refl
+lists_stay p (LoadLink i w) found hand v other = refl
+lists_stay p (ResetHead i k) found hand v other = refl
+lists_stay p (ClearCode i k) found hand v other = refl
+lists_stay p (StoreCode i h c) found hand v other = refl
+lists_stay p (StoreName n w) found hand v other = refl
 lists_stay p (LoadName n) found hand v other = id_lists v found
+lists_stay p (StoreOpen n w) found hand v other = refl
 lists_stay p (LoadOpen n) found hand v other = id_lists v found
 lists_stay p (TakeLink k) found hand v other = either_way (nat_lt 0 (total (only hand.link) v.passes)) (spent_hand v hand) (with_hand v hand) (Stays v) refl refl
+lists_stay p (FinishLink k) found hand v other = refl
+lists_stay p (PutLink k) found hand v other = refl
 lists_stay p (LookWord id) found hand v other = look_lists v v.rights (looked_clean (socket_id_slot id) found v) (looked (socket_id_slot id) found v) refl
     (λ r. either_way (eqb (vref_version found % 2) 0) (with_right (looked (socket_id_slot id) found v) (record r { clean = true })) (looked (socket_id_slot id) found v) (Stays v) refl refl)
+lists_stay p (FindLink i h) found hand v other = refl
 lists_stay p (LoadCode i h) found hand v other = either_way (eqb found 0) v (told_code i h found v) (Stays v) refl refl
-lists_stay p _ found hand v other = refl
 lists_stay p (ClaimRequest id q) found hand v other =
     either_way (eqb (found % 2) 0) (with_claim (met_link (socket_id_slot id) (socket_id_version id) hand.link v) (new_claim hand.link q found)) v (Stays v) refl refl
 lists_stay p (PutMessage q heading bytes) found hand v other = by_claim_lists v v.claims (λ c. with_claim v (filled_claim c heading bytes)) (λ c. refl)

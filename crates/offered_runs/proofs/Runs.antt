@@ -26,7 +26,7 @@ use Rattle.served_runs.specs.Below.run_theorems.specs.Offered as told
 use Rattle.served_runs.specs.Below.run_theorems.specs.OfferedRuns as runs
 use Rattle.served_runs.specs.Below.call_causes.specs.Lists.{given}
 use Rattle.served_runs.specs.send_causes.proofs.Early.{start, go, fitting}
-use Rattle.served_runs.specs.send_causes.proofs.RunTicks.{in_setup, in_clients, in_closing}
+use Rattle.served_runs.specs.Below.call_causes.proofs.RunTicks.{in_setup, in_clients, in_closing}
 use Rattle.served_runs.specs.Offered.{TookSoFar, IsDone, IsOfferedSo, OffersAt, AreOffered, OffersInRun}
 use Rattle.offered_runs.proofs.Once.{IsOnce, one_link, once_tick, once_along, once_opened, once_ending}
 

@@ -31,7 +31,7 @@ use Rattle.outcome_causes.specs.Stories.{In, trace_now}
 use Rattle.outcome_causes.specs.Explains.{Way, Own, Beside, Closing, Done, ExplainsBy}
 use Rattle.outcome_causes.specs.Kept.{undo, IsTraced, MayClose, IsSpoken, AreMadeNow, SeatStory, Story, IsReady}
 use Rattle.outcome_causes.proofs.Members.{all_in, all_of}
-use Rattle.outcome_causes.proofs.Seats.{Less, length_said, said_else, no_claims, after_say, undo_in, undo_done}
+use Rattle.outcome_causes.proofs.Seats.{keeps, Less, length_said, said_else, no_claims, after_say, undo_in, undo_done}
 use Rattle.outcome_causes.proofs.Ticks.{come_ready}
 use Rattle.outcome_causes.proofs.Tasks.{Apart, InOrder, before_weaker}
 
@@ -168,24 +168,7 @@ module _ (p : Plan) (calls : ℕ → Type 0) where
   seats_begin seat (t ∷ cs) (r ∷ qs) x told apart sorted os fit blank zero ts q v fresh e f = let same : t ≡ ts = cc in let one : r ≡ q = some-injective r q f in
       subst (λ n. SeatStory p calls false [] [] (fold Says os (r ∷ qs)) n ts (next_step (resolved [] q)) v) (let a : seat ≡ seat + 0 = omega arith in a)
       (subst (λ us. SeatStory p calls false [] [] (fold Says os (r ∷ qs)) seat us (next_step (resolved [] q)) v) same (subst (λ z. SeatStory p calls false [] [] (fold Says os (r ∷ qs)) seat t (next_step (resolved [] z)) v) one
-      (first_ (after_say p calls false [] [] seat t sorted.0 (λ u m. all_in (λ (u : Task). calls u.number → ⊥) t u told.0 m) v x.0.way [] [] r os [] t fit.0 record {
-        set_up = λ e zero_. absurd (cc);
-        closes = x.0.closes;
-        traced = traced_at x.0.way seat t;
-        all = refl;
-        became = tt;
-        unsaid = blank.0;
-        kept = tt;
-        past = λ x m. absurd m;
-        explains = x.0.explains;
-        holding = λ i h. omega arith;
-        linked = λ i h k m. absurd m;
-        claims = no_claims [] v.claims;
-        made = [];
-        lists = fresh;
-        are_made = none_made seat t;
-        of_calls = tt;
-      }))))
+      (first_ (after_say p calls false [] [] seat t sorted.0 (λ u m. all_in (λ (u : Task). calls u.number → ⊥) t u told.0 m) v x.0.way [] [] r os [] t fit.0 record { set_up = λ e zero_. absurd (cc); closes = x.0.closes; traced = traced_at x.0.way seat t; all = refl; became = tt; unsaid = blank.0; kept = tt; past = λ x m. absurd m; explains = x.0.explains; holding = λ i h. omega arith; linked = λ i h k m. absurd m; claims = no_claims [] v.claims; made = []; lists = fresh; are_made = none_made seat t; of_calls = tt }))))
     where
       first_ : SeatStory p calls false [] [] (said (resolved [] r) os) seat t (next_step (resolved [] r)) v → SeatStory p calls false [] [] (fold Says os (r ∷ qs)) seat t (next_step (resolved [] r)) v
       first_ s = let a = s.at in let os' : List (Option Outcome) = said (resolved [] r) os in
@@ -197,24 +180,9 @@ module _ (p : Plan) (calls : ℕ → Type 0) where
             trace = s.trace;
             done = s.done;
             todo = s.todo;
-            at = record {
-              set_up = a.set_up;
-              closes = a.closes;
-              traced = a.traced;
-              all = a.all;
-              became = all_of (λ (d : Done). slice_get (fold Says os' qs) d.task.number ≡ Some d.outcome) s.done (λ d m. stays d.task (undo_done s.done s.todo d m) ∙ all_in (λ (d : Done). slice_get os' d.task.number ≡ Some d.outcome) s.done d a.became m);
-              unsaid = all_of (λ (u : Task). slice_get (fold Says os' qs) u.number ≡ Some None) s.todo (λ u m. stays u (undo_in s.done s.todo u m) ∙ all_in (λ (u : Task). slice_get os' u.number ≡ Some None) s.todo u a.unsaid m);
-              kept = a.kept;
-              past = a.past;
-              explains = a.explains;
-              holding = a.holding;
-              linked = a.linked;
-              claims = a.claims;
-              made = a.made;
-              lists = a.lists;
-              are_made = a.are_made;
-              of_calls = a.of_calls;
-            };
+            at = keeps (all_of (λ (d : Done). slice_get (fold Says os' qs) d.task.number ≡ Some d.outcome) s.done (λ d m. stays d.task (undo_done s.done s.todo d m) ∙ all_in (λ (d : Done). slice_get os' d.task.number ≡ Some d.outcome) s.done d a.became m))
+                (all_of (λ (u : Task). slice_get (fold Says os' qs) u.number ≡ Some None) s.todo (λ u m. stays u (undo_in s.done s.todo u m) ∙ all_in (λ (u : Task). slice_get os' u.number ≡ Some None) s.todo u a.unsaid m))
+                a.explains a.holding a.claims refl a;
           }
 
 program_at : (qs : List Program) (i : ℕ) (seat : SeatState) → get_elem? (map (λ (program : Program). record { program = next_step (resolved [] program); hand = [] }) qs) i ≡ some seat → (q : Program) × (get_elem? qs i ≡ some q) × (next_step (resolved [] q) ≡ seat.program)

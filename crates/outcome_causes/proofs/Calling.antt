@@ -29,6 +29,7 @@ use Rattle.outcome_causes.specs.Explains.{Beside, Done, ExplainsBy, IsAttemptOn,
 use Rattle.outcome_causes.proofs.Tests.{split, split_eq}
 use Rattle.outcome_causes.proofs.Sending.{Within, even_holds, odd_holds, sub_holds, add_holds}
 use Rattle.outcome_causes.proofs.Errors.{post_goes, post_with_goes, posted_goes, decide_goes, decided_goes, tell_goes}
+use Rattle.outcome_causes.proofs.Puts as puts_on
 
 module _ (slots requests : ℕ) (calls : ℕ → Type 0) (done : List Done) (todo : List Task) where
   abbrev pub Goes : List ℕ → List Entry → Program → Type 0
@@ -138,28 +139,15 @@ module _ (slots requests : ℕ) (calls : ℕ → Type 0) (done : List Done) (tod
     more_broken : (h : Holder) (bs : List ℕ) (tr : List Entry) → IsOn h bs tr → IsOn h (h.link ∷ bs) tr
     more_broken h bs tr a = record { within = λ k m. inr (a.within k m); on = a.on }
 
-    put_goes : (h : Holder) (now : ℕ) (heading : Heading) (left : List ℕ) (taken : ℕ) (bs : List ℕ) (tr : List Entry) → IsOn h bs tr → (answer : Put) → Goes (broken_put h.link answer bs) tr (put_answered h now heading left taken after answer)
-    put_goes h now heading left taken bs tr a (puts.Took n) = split (nat_le (length left) n) (placed h now heading after) (Write (Puts h now heading (drop n left) (taken + n) false) after) (Goes bs tr)
-        (placed_goes h bs now heading tr a) (again (Puts h now heading (drop n left) (taken + n) false) bs tr a)
-    put_goes h now heading left taken bs tr a puts.Again = again (Waits h now heading left taken) bs tr a
-    put_goes h now heading left taken bs tr a puts.Failed = failed_goes h (h.link ∷ bs) (Write (Puts h now heading left taken false) after) (inl refl)
-        (λ tr a. again (Puts h now heading left taken false) (h.link ∷ bs) tr a) tr (more_broken h bs tr a)
-
-    ready_goes : (h : Holder) (now : ℕ) (heading : Heading) (left : List ℕ) (taken : ℕ) (bs : List ℕ) (tr : List Entry) → IsOn h bs tr → (answer : Ready) → Goes (broken_ready h.link answer bs) tr (ready_answered h now heading left taken after answer)
-    ready_goes h now heading left taken bs tr a asks.Now = again (Puts h now heading left taken true) bs tr a
-    ready_goes h now heading left taken bs tr a asks.NotYet = again (Waits h now heading left taken) bs tr a
-    ready_goes h now heading left taken bs tr a asks.Failed = failed_goes h (h.link ∷ bs) (Write (Puts h now heading left taken false) after) (inl refl)
-        (λ tr a. again (Puts h now heading left taken false) (h.link ∷ bs) tr a) tr (more_broken h bs tr a)
-
     block_goes : (w : Writing) (bs : List ℕ) (tr : List Entry) → IsOn (holder_of w) bs tr → Goes bs tr (block w after)
     block_goes (Puts h now heading left taken asked) bs tr a = (
       tt,
       λ found. let one : List Entry = step (LookWord h.id) found ∷ tr in let b : IsOn h bs one = more_on h bs tr (LookWord h.id) found refl a in
           split (eqb (vref_version found % 2) 0) (PutBytes h.link asked _ (put_answered h now heading left taken after)) (dropped h now heading after) (Goes bs one)
-          (λ answer. put_goes h now heading left taken bs one b answer)
+          (λ answer. puts_on.put_goes Goes IsOn after again placed_goes failed_goes more_broken h now heading left taken bs one b answer)
           (dropped_goes h bs now heading one b),
     )
-    block_goes (Waits h now heading left taken) bs tr a = λ answer. ready_goes h now heading left taken bs tr a answer
+    block_goes (Waits h now heading left taken) bs tr a = λ answer. puts_on.ready_goes Goes IsOn after again placed_goes failed_goes more_broken h now heading left taken bs tr a answer
     block_goes (Empties h) bs tr a = (
       tt,
       λ found. let e : Call = EmptyHead (socket_id_slot h.id) h.last in let one : List Entry = step e found ∷ tr in let b : IsOn h bs one = more_on h bs tr e found refl a in
@@ -186,7 +174,7 @@ module _ (slots requests : ℕ) (calls : ℕ → Type 0) (done : List Done) (tod
       tt,
       λ found. let one : List Entry = step (LookWord h.id) found ∷ tr in let b : IsOn h bs one = more_on h bs tr (LookWord h.id) found refl a in
           split (eqb (vref_version found % 2) 0) (PutBytes h.link false _ (put_answered h now heading bytes 0 after)) (Write (Puts h now heading bytes 0 false) after) (Goes bs one)
-          (λ answer. put_goes h now heading bytes 0 bs one b answer)
+          (λ answer. puts_on.put_goes Goes IsOn after again placed_goes failed_goes more_broken h now heading bytes 0 bs one b answer)
           (again (Puts h now heading bytes 0 false) bs one b),
     )
 

@@ -5,6 +5,7 @@ pub mod Added
 pub mod Used
 pub mod Errors
 pub mod Pieces
+pub mod Puts
 pub mod Sending
 pub mod Broken
 pub mod Calling
@@ -18,6 +19,7 @@ pub mod Tasks
 pub mod Events
 pub mod Cases
 pub mod AtWork
+pub mod HomeCalls
 pub mod Ticks
 pub mod Begin
 pub mod Runs
@@ -26,6 +28,7 @@ pub mod Final
 pub mod Lives
 pub mod Fails
 pub mod Whys
+pub mod Accepted
 pub mod Delivered
 pub mod Ordered
 pub mod Senders

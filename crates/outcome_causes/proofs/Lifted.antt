@@ -107,19 +107,7 @@ module _ (clients : List (List Task)) (readers : ℕ) where
     made_down n k slot version a = record { client = a.client; task = a.task; is = task_down a.client a.task a.is (ap is_plain a.op); op = a.op; became = a.became }
 
     fail_up : (f : ℕ × ℕ) → IsFail cs outcomes f → IsFail clients outcomes f
-    fail_up f x = record {
-      client = x.client;
-      task = x.task;
-      is = task_up x.client x.task x.is;
-      numbered = x.numbered;
-      name = x.name;
-      code = x.code;
-      op = x.op;
-      became = x.became;
-      slot = x.slot;
-      version = x.version;
-      life = made_up x.name f.1 x.slot x.version x.life;
-    }
+    fail_up f x = record { client = x.client; task = x.task; is = task_up x.client x.task x.is; numbered = x.numbered; name = x.name; code = x.code; op = x.op; became = x.became; slot = x.slot; version = x.version; life = made_up x.name f.1 x.slot x.version x.life }
 
     -- ## What is told
 

@@ -1,10 +1,9 @@
 -- The orders of the links are those that the place words and the links at home show, where no two accepted messages have one place word.
-use Rattle.std.proofs.Common.{◌≡◌, ◌≢◌, ℕ, zero, suc, ◌+◌, ◌*◌, ◌<◌, Bool, List, [], ◌∷◌, ◌++◌, length, take, drop, map, flat_map, eqb, get_or, append-nil, inl, inr, ⊎_elim, refl, sym, ap, ◌∙◌, subst, arith}
+use Rattle.std.proofs.Common.{◌≡◌, ◌≢◌, ℕ, zero, suc, ◌+◌, ◌*◌, ◌<◌, Bool, List, [], ◌∷◌, ◌++◌, length, map, flat_map, eqb, get_or, append-nil, inl, inr, sym, ap, ◌∙◌, subst, arith}
 use Rattle.std.proofs.lemmas.List.{length-map}
 use Rattle.std.specs.Prelude.{slice_index}
-use mathlib.Core.Option.{Option, some, none, some-injective, some-ne-none}
+use mathlib.Core.Option.{Option, some, none, some-injective}
 use lib.ListN.{get_elem?}
-use Rattle.brpc_model.specs.Order.{IsCut}
 use Rattle.sock_words.specs.declared.plain.Plan.{Plan}
 use Rattle.sock_model.specs.declared.chain.Entry.{Entry}
 use Rattle.sock_model.specs.declared.home.Home.{Home}
@@ -15,7 +14,7 @@ use Rattle.sock_model.specs.Tokens.{Tokens}
 use Rattle.sock_model.specs.Chains.{Chains}
 use Rattle.sock_model.specs.Layout.{place_index}
 use Rattle.sock_model.specs.Entries.{on}
-use Rattle.sock_model.specs.Deliveries.{whole, Taken, no_place, one_place}
+use Rattle.sock_model.specs.Deliveries.{no_place, one_place}
 use Rattle.sock_model.specs.Reads.{as_link, took_of, shown, link_home}
 use Rattle.sock_model.specs.Lawful.{Lawful}
 use Rattle.sock_runs.specs.chain_steps.proofs.Lists.{Distinct, distinct_filter, at_length}
@@ -24,47 +23,15 @@ use Rattle.sock_runs.specs.chain_steps.proofs.Settles.{shown_as}
 use Rattle.seat_programs.specs.Cores.{Core, link_place, lies_at}
 use Rattle.seat_programs.specs.Runs.{from_to}
 use Rattle.seat_programs.specs.Scripts.{taken_by, took_at_home}
-use Rattle.seat_programs.specs.ToldCalls.{Accepted, bytes_of, label, IsTaken, AreOrders}
+use Rattle.seat_programs.specs.ToldCalls.{Accepted, label, IsTaken, AreOrders}
 use Rattle.sock_runs.specs.Sound.{state}
 use Rattle.sock_runs.proofs.HandTicks.{AtHome}
+use Rattle.outcome_causes.proofs.Accepted as accepted
 use Rattle.outcome_causes.proofs.Delivered.{accepted_of, accepted_at, accepted_there, orders_of, AreQuiet, places_all}
-
--- the first n messages, one after another
-whole_of : (es : List Entry) (n : ℕ) → whole es n ≡ flat_map bytes_of (take n (map accepted_of es))
-whole_of [] zero = refl
-whole_of [] (suc n) = refl
-whole_of (e ∷ es) zero = refl
-whole_of (e ∷ es) (suc n) = ap (λ l. e.bytes ++ l) (whole_of es n)
-
--- nothing of the next message
-cut_none : (es : List Entry) (n : ℕ) → ((i : ℕ) (e : Entry) → get_elem? es i ≡ some e → 0 < length e.bytes) → IsCut [] (map bytes_of (drop n (map accepted_of es)))
-cut_none [] zero some_ = refl
-cut_none [] (suc n) some_ = refl
-cut_none (e ∷ es) zero some_ = (e.bytes, some_ 0 e refl, refl)
-cut_none (e ∷ es) (suc n) some_ = cut_none es n (λ i x g. some_ (suc i) x g)
-
--- or a proper prefix of it
-cut_some : (es : List Entry) (n : ℕ) (e : Entry) (part rest : List ℕ) → get_elem? es n ≡ some e → e.bytes ≡ part ++ rest → 0 < length rest → IsCut part (map bytes_of (drop n (map accepted_of es)))
-cut_some [] n e part after g is more = absurd (some-ne-none e (sym g))
-cut_some (x ∷ es) zero e part after g is more = (after, more, sym is ∙ ap (λ (y : Entry). y.bytes) (sym (some-injective x e g)))
-cut_some (x ∷ es) (suc n) e part after g is more = cut_some es n e part after g is more
-
-some_length : (bytes : List ℕ) → bytes ≢ [] → 0 < length bytes
-some_length [] n = absurd (n refl)
-some_length (b ∷ bs) n = omega arith
-
--- what a link took in order, where each message has a byte
-taken_of : (es : List Entry) (n : ℕ) (took : List ℕ) → ((i : ℕ) (e : Entry) → get_elem? es i ≡ some e → e.bytes ≢ []) → Taken es n took → IsTaken (record { accepted = map accepted_of es; placed = n }) took
-taken_of es n took some_ t = record {
-  cut = t.part;
-  took_is = t.took_is ∙ ap (λ l. l ++ t.part) (whole_of es n);
-  is_cut = ⊎_elim (λ e. subst (λ l. IsCut l (map bytes_of (drop n (map accepted_of es)))) (sym e) (cut_none es n (λ i e g. some_length e.bytes (some_ i e g))))
-      (λ x. cut_some es n x.0 t.part x.1 x.2 x.3 (some_length x.1 x.4)) t.of_next;
-}
 
 -- ## What lies at home
 
-get_range : {A : Type 0} (f : ℕ → A) (d : A) (a n k : ℕ) → k < n → get_or (map f (from_to a n)) k d ≡ f (a + k)
+pub get_range : {A : Type 0} (f : ℕ → A) (d : A) (a n k : ℕ) → k < n → get_or (map f (from_to a n)) k d ≡ f (a + k)
 get_range f d a zero k l = absurd (omega arith)
 get_range f d a (suc n) zero l = ap f (omega arith)
 get_range f d a (suc n) (suc k) l = get_range f d (a + 1) n k (omega arith) ∙ ap f (omega arith)
@@ -114,7 +81,7 @@ module _ (p : Plan) (c : Core) (views : List View) (o : Lawful (λ (home : Home)
     ];
     within = λ k kl. omega (arith, o.delivered.kept_fits k kl, places_all p c views o quiet k kl, length-map (on k o.log) accepted_of);
     taken = λ k kl. let h = at_home k kl in subst (IsTaken (orders_of p c views o k)) (sym (took_there p c.homes k h.took h.next h.done h.is kl))
-        (taken_of (on k o.log) (o.kept k) h.took (λ i e g. let x = in_log o.chains k i e g in (labelled x.0 e x.1).2) (o.delivered.at_home k h.took h.next kl (home_there p c.homes k h.took h.next h.done h.is)).0);
+        (accepted.taken_of (λ e. e.heading.operation) (λ e. e.heading.attempt) (on k o.log) (o.kept k) h.took (λ i e g. let x = in_log o.chains k i e g in (labelled x.0 e x.1).2) (o.delivered.at_home k h.took h.next kl (home_there p c.homes k h.took h.next h.done h.is)).0);
     apart = λ k l i j a b kl ll ak bl same. let d = accepted_at (on k o.log) i a ak in let e = accepted_at (on l o.log) j b bl in
         let x = in_log o.chains k i d.0 d.1 in let y = in_log o.chains l j e.0 e.1 in
         one_place_each o.chains (λ (x : Entry). x.heading.place) apart k l i j d.0 e.0 d.1 e.1 (label_of d.0 a d.2 (labelled x.0 d.0 x.1).0 ∙ (same ∙ sym (label_of e.0 b e.2 (labelled y.0 e.0 y.1).0)));

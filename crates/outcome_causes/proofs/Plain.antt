@@ -48,6 +48,10 @@ in_all f (us ∷ clients) zero o ts e m = in_left (f us) (flat_map f clients) o 
     same e = cc
 in_all f (us ∷ clients) (suc c) o ts e m = in_right (f us) (flat_map f clients) o (in_all f clients c o ts e m)
 
+-- what a run fixes, beside what is told of its links' ends and its `fail`s
+abbrev pub fixed_with : (script : List Item) (turns : List Turn) (core : Core) → IsRunWithCalls script turns core → (early closed silent : List ℕ) (soon fails : List (ℕ × ℕ)) → Fixed
+fixed_with script turns core is early closed silent soon fails = record { broken = broken_of_run script turns core is; early = early; closed = closed; silent = silent; late = late_of_run script turns core is; late_links = late_links_of_run script turns core is; soon = soon; fails = fails }
+
 module _ (script : List Item) (are : AreTasks (plan_of script) (all_tasks script)) (vs : List View) (begins : Begins script vs) (fresh : (i : ℕ) (v : View) → get_elem? vs i ≡ some v → v.lists ≡ [] ∷ []) (go : RetriesGo (plan_of script))
     (turns : List Turn) (core : Core) (is : IsRunWithCalls script turns core) (fitting : AreFittingIn script turns core is) (owed : IsOwed script turns core is)
     (early closed silent : List ℕ) (soon : List (ℕ × ℕ)) (gave : ℕ → List ℕ) (last : ℕ → ℕ) where
@@ -56,19 +60,16 @@ module _ (script : List Item) (are : AreTasks (plan_of script) (all_tasks script
 
   -- what the run fixes
   abbrev pub fixed : Fixed
-  fixed = record {
-    broken = broken_of_run script turns core is;
-    early = early;
-    closed = closed;
-    silent = silent;
-    late = late_of_run script turns core is;
-    late_links = late_links_of_run script turns core is;
-    soon = soon;
-    fails = tells.fails;
-  }
+  fixed = fixed_with script turns core is early closed silent soon tells.fails
+
+  pub lates : (c : ℕ) (t : Task) → IsTask (all_tasks script) core.outcomes c t → is_plain t.op ≡ true → late script are vs begins fresh go turns core is fitting t.number → Contains (late_of_run script turns core is) t.number
+  lates c t it plain_ l = in_contains (late_of_run script turns core is) t.number (in_left _ _ t.number
+      (filtered_in (is_said_late script turns core is) (flat_map (numbers_of script turns core is) (all_tasks script)) t.number
+      (in_all (numbers_of script turns core is) (all_tasks script) c t.number it.0 it.1
+      (in_numbers (plain_tasks it.0) t (filtered_in (λ (t : Task). is_plain t.op) it.0 t (contains_in it.0 t it.2) plain_))) l))
 
   module _ (ends_early : (k : ℕ) → In k (closed_before_ending script turns core is) → Contains early k) where
-    failing : (k : ℕ) → Contains (lost_before script are vs begins fresh go turns core is fitting) k → Contains (broken_of_run script turns core is) k ⊎ Contains early k
+    pub failing : (k : ℕ) → Contains (lost_before script are vs begins fresh go turns core is fitting) k → Contains (broken_of_run script turns core is) k ⊎ Contains early k
     failing k m = let p : Plan = plan_of script in let ones = replicate is.setup (quiet 0) in let twos = is.scheduled ++ is.later in
         ⊎_elim
         (λ a. ⊎_elim (λ b. inl (in_contains (broken_of_run script turns core is) k (in_left (broken_in p (opened script) ones) _ k b)))
@@ -77,12 +78,6 @@ module _ (script : List Item) (are : AreTasks (plan_of script) (all_tasks script
         (λ b. inr (ends_early k (in_right (shown_in closed_at p (opened script) ones) _ k b))) (lost_so p (set_up script is.setup) twos k a))
         (in_both (lost_in p (opened script) ones) (lost_in p (set_up script is.setup) twos) k
         (contains_in (lost_before script are vs begins fresh go turns core is fitting) k m))
-
-    lates : (c : ℕ) (t : Task) → IsTask (all_tasks script) core.outcomes c t → is_plain t.op ≡ true → late script are vs begins fresh go turns core is fitting t.number → Contains (late_of_run script turns core is) t.number
-    lates c t it plain_ l = in_contains (late_of_run script turns core is) t.number (in_left _ _ t.number
-        (filtered_in (is_said_late script turns core is) (flat_map (numbers_of script turns core is) (all_tasks script)) t.number
-        (in_all (numbers_of script turns core is) (all_tasks script) c t.number it.0 it.1
-        (in_numbers (plain_tasks it.0) t (filtered_in (λ (t : Task). is_plain t.op) it.0 t (contains_in it.0 t it.2) plain_))) l))
 
     abbrev these : ℕ → Order
     these = orders script are vs begins fresh go turns core is fitting owed

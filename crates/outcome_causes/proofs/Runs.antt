@@ -144,24 +144,7 @@ module _ (p : Plan) (clients : List (List Task)) (are : AreTasks p clients) wher
   -- ## The ending
 
   closing_at : (es : List Event) (lost : List ℕ) (os : List (std.Option Outcome)) (tasks : List Task) (v : View) (y : SeatStory p (IsSpoken clients) true es lost os 0 tasks Rest v) → y.todo ≡ [] → SeatAt p (IsSpoken clients) true es lost os 0 tasks Closing [] y.done [] Rest v
-  closing_at es lost os tasks v y none_ = let s = y.at in record {
-    set_up = λ e zero_. refl;
-    closes = λ e. inl refl;
-    traced = (refl, refl);
-    all = s.all ∙ ap (undo y.done) none_;
-    became = s.became;
-    unsaid = tt;
-    kept = s.kept;
-    past = λ e m q. tt;
-    explains = refl;
-    holding = λ i h. omega arith;
-    linked = λ i h k m. absurd m;
-    claims = no_claims es v.claims;
-    made = s.made;
-    lists = s.lists;
-    are_made = subst (λ ts. AreMadeNow es 0 y.done ts (of_sends s.made)) none_ s.are_made;
-    of_calls = s.of_calls;
-  }
+  closing_at es lost os tasks v y none_ = let s = y.at in record { set_up = λ e zero_. refl; closes = λ e. inl refl; traced = (refl, refl); all = s.all ∙ ap (undo y.done) none_; became = s.became; unsaid = tt; kept = s.kept; past = λ e m q. tt; explains = refl; holding = λ i h. omega arith; linked = λ i h k m. absurd m; claims = no_claims es v.claims; made = s.made; lists = s.lists; are_made = subst (λ ts. AreMadeNow es 0 y.done ts (of_sends s.made)) none_ s.are_made; of_calls = s.of_calls }
 
   -- seat 0 closes the sockets of these `open`s
   pub ending_story : (c : Core) (views : List View) (es : List Event) (lost : List ℕ) (os : List ℕ) → Sound p c views → Story p clients true c views es lost → (seat : SeatState) (v : View) → get_elem? c.seats 0 ≡ some seat → seat.program ≡ Rest → get_elem? views 0 ≡ some v
@@ -174,18 +157,4 @@ module _ (p : Plan) (clients : List (List Task)) (are : AreTasks p clients) wher
 
   -- and then what isn't there any more ends each reading
   pub is_ending_story : (c : Core) (views : List View) (es : List Event) (lost : List ℕ) → Story p clients true c views es lost → Story p clients true (is_ending c) views es lost
-  is_ending_story c views es lost s = record {
-    sized = s.sized;
-    each = s.each;
-    ready = s.ready;
-    good = s.good;
-    births = s.births;
-    links = s.links;
-    fails = s.fails;
-    lost = s.lost;
-    tries = s.tries;
-    named = s.named;
-    used = s.used;
-    spoken = s.spoken;
-    seats = s.seats;
-  }
+  is_ending_story c views es lost s = record { sized = s.sized; each = s.each; ready = s.ready; good = s.good; births = s.births; links = s.links; fails = s.fails; lost = s.lost; tries = s.tries; named = s.named; used = s.used; spoken = s.spoken; seats = s.seats }

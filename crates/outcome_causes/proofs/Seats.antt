@@ -104,27 +104,10 @@ starts Beside c todo es is idle = idle
 starts Closing c todo es is idle = absurd is
 
 -- where the steps are the same: by another program, in another view, and with other outcomes and links of which what is said of the seat's tasks holds
-keeps : {p : Plan} {calls : ℕ → Type 0} {over : Bool} {es : List Event} {broken more : List ℕ} {os os' : List (Option Outcome)} {c : ℕ} {tasks : List Task} {way : Way} {trace : List Entry} {done : List Done} {todo : List Task} {program next : Program} {v w : View}
+pub keeps : {p : Plan} {calls : ℕ → Type 0} {over : Bool} {es : List Event} {broken more : List ℕ} {os os' : List (Option Outcome)} {c : ℕ} {tasks : List Task} {way : Way} {trace : List Entry} {done : List Done} {todo : List Task} {program next : Program} {v w : View}
     → AllByRecursion (λ (y : Done). slice_get os' y.task.number ≡ Some y.outcome) done → AllByRecursion (λ (u : Task). slice_get os' u.number ≡ Some None) todo → ExplainsBy p.slots p.requests calls way more done trace todo next
     → ((i h : ℕ) → holds i h trace ≤ marks_of (is_hold h) i w) → AreClaims es trace w.claims → w.lists ≡ v.lists → SeatAt p calls over es broken os c tasks way trace done todo program v → SeatAt p calls over es more os' c tasks way trace done todo next w
-keeps became unsaid explains holding claims lists s = record {
-  set_up = s.set_up;
-  closes = s.closes;
-  traced = s.traced;
-  all = s.all;
-  became = became;
-  unsaid = unsaid;
-  kept = s.kept;
-  past = s.past;
-  explains = explains;
-  holding = holding;
-  linked = s.linked;
-  claims = claims;
-  made = s.made;
-  lists = lists ∙ s.lists;
-  are_made = s.are_made;
-  of_calls = s.of_calls;
-}
+keeps became unsaid explains holding claims lists s = record { set_up = s.set_up; closes = s.closes; traced = s.traced; all = s.all; became = became; unsaid = unsaid; kept = s.kept; past = s.past; explains = explains; holding = holding; linked = s.linked; claims = claims; made = s.made; lists = lists ∙ s.lists; are_made = s.are_made; of_calls = s.of_calls }
 
 module _ (p : Plan) (calls : ℕ → Type 0) (over : Bool) (es : List Event) (broken : List ℕ) (c : ℕ) (tasks : List Task) (order : EachBefore Less tasks) (apart : (t : Task) → In t tasks → calls t.number → ⊥) (v : View) where
   -- the seat's part of the story, where its outcomes are these
@@ -179,24 +162,7 @@ module _ (p : Plan) (calls : ℕ → Type 0) (over : Bool) (es : List Event) (br
   -- from a place between operations on
   begins : (way w : Way) (trace : List Entry) (os : List (Option Outcome)) (done : List Done) (todo : List Task) (program next : Program) → IsBare way trace → IsTasked w → (w ≡ Closing → ⊥) → ExplainsBy p.slots p.requests calls w broken done [] todo next
       → At way trace os done todo program → At w [] os done todo next
-  begins way w trace os done todo program next bare tasked open_ explains s = record {
-    set_up = s.set_up;
-    closes = λ e. absurd (open_ e);
-    traced = starts w c todo es tasked (idle_of way trace c todo es s.traced bare);
-    all = s.all;
-    became = s.became;
-    unsaid = s.unsaid;
-    kept = s.kept;
-    past = s.past;
-    explains = explains;
-    holding = λ i h. omega arith;
-    linked = λ i h k m. absurd m;
-    claims = no_claims es v.claims;
-    made = s.made;
-    lists = s.lists;
-    are_made = s.are_made;
-    of_calls = s.of_calls;
-  }
+  begins way w trace os done todo program next bare tasked open_ explains s = record { set_up = s.set_up; closes = λ e. absurd (open_ e); traced = starts w c todo es tasked (idle_of way trace c todo es s.traced bare); all = s.all; became = s.became; unsaid = s.unsaid; kept = s.kept; past = s.past; explains = explains; holding = λ i h. omega arith; linked = λ i h k m. absurd m; claims = no_claims es v.claims; made = s.made; lists = s.lists; are_made = s.are_made; of_calls = s.of_calls }
 
   tasked_open : (w : Way) → IsTasked w → w ≡ Closing → ⊥
   tasked_open Own t e = absurd (cc)

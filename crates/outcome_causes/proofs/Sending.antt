@@ -29,6 +29,7 @@ use Rattle.outcome_causes.specs.Explains.{Own, Done, Explains, Explained, Tells,
 use Rattle.outcome_causes.proofs.Tests.{split, split_eq}
 use Rattle.outcome_causes.proofs.Errors.{tell_goes}
 use Rattle.outcome_causes.proofs.Pieces.{IsMute, grew_same, grew_on, mute_grew, release_goes, reach_goes}
+use Rattle.outcome_causes.proofs.Puts as puts_on
 
 -- ## References
 
@@ -159,17 +160,7 @@ module _ (slots requests : ℕ) (calls : ℕ → Type 0) (done : List Done) (t :
     more_broken h bs tr a = record { grew = a.grew; within = λ k m. inr (a.within k m); writer = a.writer }
 
     put_goes : (h : Holder) (now : ℕ) (heading : Heading) (left : List ℕ) (taken : ℕ) (bs : List ℕ) (tr : List Entry) → IsAt h bs tr → (answer : Put) → Goes (broken_put h.link answer bs) tr (put_answered h now heading left taken after answer)
-    put_goes h now heading left taken bs tr a (puts.Took n) = split (nat_le (length left) n) (placed h now heading after) (Write (Puts h now heading (drop n left) (taken + n) false) after) (Goes bs tr)
-        (placed_goes h bs now heading tr a) (again (Puts h now heading (drop n left) (taken + n) false) bs tr a)
-    put_goes h now heading left taken bs tr a puts.Again = again (Waits h now heading left taken) bs tr a
-    put_goes h now heading left taken bs tr a puts.Failed = failed_goes h (h.link ∷ bs) (Write (Puts h now heading left taken false) after) (inl refl)
-        (λ tr a. again (Puts h now heading left taken false) (h.link ∷ bs) tr a) tr (more_broken h bs tr a)
-
-    ready_goes : (h : Holder) (now : ℕ) (heading : Heading) (left : List ℕ) (taken : ℕ) (bs : List ℕ) (tr : List Entry) → IsAt h bs tr → (answer : Ready) → Goes (broken_ready h.link answer bs) tr (ready_answered h now heading left taken after answer)
-    ready_goes h now heading left taken bs tr a asks.Now = again (Puts h now heading left taken true) bs tr a
-    ready_goes h now heading left taken bs tr a asks.NotYet = again (Waits h now heading left taken) bs tr a
-    ready_goes h now heading left taken bs tr a asks.Failed = failed_goes h (h.link ∷ bs) (Write (Puts h now heading left taken false) after) (inl refl)
-        (λ tr a. again (Puts h now heading left taken false) (h.link ∷ bs) tr a) tr (more_broken h bs tr a)
+    put_goes = puts_on.put_goes Goes IsAt after again placed_goes failed_goes more_broken
 
     block_goes : (w : Writing) (bs : List ℕ) (tr : List Entry) → IsAt (holder_of w) bs tr → Goes bs tr (block w after)
     block_goes (Puts h now heading left taken asked) bs tr a = (
@@ -179,7 +170,7 @@ module _ (slots requests : ℕ) (calls : ℕ → Type 0) (done : List Done) (t :
           (λ answer. put_goes h now heading left taken bs one b answer)
           (dropped_goes h bs now heading one b),
     )
-    block_goes (Waits h now heading left taken) bs tr a = λ answer. ready_goes h now heading left taken bs tr a answer
+    block_goes (Waits h now heading left taken) bs tr a = λ answer. puts_on.ready_goes Goes IsAt after again placed_goes failed_goes more_broken h now heading left taken bs tr a answer
     block_goes (Empties h) bs tr a = (
       tt,
       λ found. let e : Call = EmptyHead (socket_id_slot h.id) h.last in let one : List Entry = step e found ∷ tr in let b : IsAt h bs one = mute_at h bs tr e found tt refl a in

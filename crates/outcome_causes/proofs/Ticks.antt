@@ -1,6 +1,6 @@
 -- Each tick keeps the story.
 use Rattle.std.proofs.Common.{◌≡◌, ◌≢◌, ℕ, zero, suc, ◌+◌, ◌%◌, ◌<◌, ◌⊎◌, Bool, true, false, List, [], ◌∷◌, ◌++◌, length, set, length-set, inl, inr, ⊎_elim, sym, refl, ap, ◌∙◌, subst, cond, arith}
-use Rattle.std.specs.Prelude.{Some, None, slice_get}
+use Rattle.std.specs.Prelude.{Some, slice_get}
 use Rattle.std.specs.Prelude as std
 use Rattle.std.specs.List.{AllByRecursion}
 use mathlib.Core.Option.{Option, some, none, some-ne-none}
@@ -32,11 +32,9 @@ use Rattle.seat_programs.specs.declared.task.Task.{Task}
 use Rattle.seat_programs.specs.Writings.{Puts, Waits, Empties, Walks}
 use Rattle.seat_programs.specs.Calls.{Call, ClaimSlot, CreateLife, SetOdd, StoreName, LoadOpen, FindLink, ClaimRequest, SwapHead}
 use Rattle.seat_programs.specs.Programs.{Program, Do, Say, Sent, TakeMessage, TakeHome, PutHome, PutBytes, AskReady, Write, Aside, Round, Keep, Retries}
-use Rattle.seat_programs.specs.sock_message.specs.Asked.{Asked}
-use Rattle.seat_programs.specs.Asides.{Step, Found, PutCall, TakeCall, TakeBytes, Taking, Bytes}
+use Rattle.seat_programs.specs.Asides.{Step, Found, PutCall, TakeCall, Taking}
 use Rattle.seat_programs.specs.Heads.{Retry}
-use Rattle.seat_programs.specs.Beside.{call_at, found_in, more_given, calls_after}
-use mathlib.Core.Option.{some-injective}
+use Rattle.seat_programs.specs.Beside.{found_in, calls_after}
 use mathlib.Core.Logic.{dite}
 use mathlib.Core.List.{cons-ne-nil}
 use native.Mathlib.Decide.{ℕ_discrete}
@@ -49,9 +47,11 @@ use Rattle.seat_programs.specs.Drops.{call_in, Makes}
 use Rattle.seat_programs.specs.Told.{AreTasks, TaskFits}
 use Rattle.sock_runs.specs.Rows.{row, hand_at, took_message, link_away, link_home_again, took_bytes}
 use Rattle.sock_runs.specs.May.{May}
-use Rattle.sock_runs.specs.Sound.{state, Sound, first_step, views_after}
+use Rattle.sock_runs.specs.Sound.{state, Sound, first_step, views_after, is_begun}
+use Rattle.sock_runs.proofs.Along.{begins}
 use Rattle.sock_runs.proofs.Cases.{with_rights, right_rights, put_rights}
 use Rattle.outcome_causes.specs.Stories.{Entry, Event, In, trace_of, told_of, stored_by, last_name, adds, marked}
+use Rattle.outcome_causes.proofs.HomeCalls.{AreCalls, PutsAsked, calls_behind}
 use Rattle.outcome_causes.specs.Explains.{Way, Own, Beside, Closing, FitsBeside, FitsClosing, FailsAttempt, PutsCall, TakesCall, ExplainsBy, Fits, Done, IsPlain, Explains, swapped, holds, step, broken_put, broken_ready}
 use Rattle.outcome_causes.specs.Causes.{Means, Good, WasGiven, IsLost, WasFailed, OddAt}
 use Rattle.outcome_causes.specs.Losses.{lost_of, lost_by, may_close, closed_at, lost_at}
@@ -146,14 +146,16 @@ get_of (z ∷ zs) [] i x l e = absurd (omega arith)
 get_of (z ∷ zs) (y ∷ ys) zero x l e = (y, refl)
 get_of (z ∷ zs) (y ∷ ys) (suc i) x l e = get_of zs ys i x (omega arith) e
 
+ready_of : (q : Program) → is_begun q ≡ true → IsReady q
+ready_of (Say o outcome more) e = true≢false (sym e)
+ready_of (Sent o more) e = true≢false (sym e)
+ready_of (Keep r more) e = true≢false (sym e)
+ready_of (Retries n after) e = true≢false (sym e)
+ready_of _ e = tt
+
 -- retries that wait come first, and else what follows
 pub come_ready : (ws : List Retry) (q : Program) → IsReady (next_step (resolved ws q))
-come_ready ws (Say o outcome more) = come_ready ws more
-come_ready ws (Sent o more) = come_ready ws more
-come_ready ws (Keep r more) = come_ready (ws ++ r ∷ []) more
-come_ready [] (Retries n after) = come_ready [] after
-come_ready (r ∷ ws) (Retries n after) = tt
-come_ready ws _ = tt
+come_ready ws q = ready_of (next_step (resolved ws q)) (begins ws q)
 
 -- what a program explains, its first step does
 first_explains : (slots requests : ℕ) (calls : ℕ → Type 0) (w : Way) (broken : List ℕ) (done : List Done) (trace : List Entry) (todo : List Task) (program : Program) → ExplainsBy slots requests calls w broken done trace todo program → ExplainsBy slots requests calls w broken done trace todo (first_step program)
@@ -193,37 +195,15 @@ asks_ready _ k next e = absurd (cc)
 -- ## Calls at home
 
 abbrev pub AreSpoken : List (List Task) → Calls → Type 0
-AreSpoken clients a = (n : ℕ) (asked : Asked) → call_at (get_elem? a.homes n) ≡ some asked → IsSpoken clients asked.operation
+AreSpoken clients a = AreCalls (λ asked. IsSpoken clients asked.operation) a
 
-home_is : (x : Option (Option (std.Option Asked))) (asked : Asked) → call_at x ≡ some asked → x ≡ some (some (std.Some asked))
-home_is none asked e = absurd (some-ne-none asked (sym e))
-home_is (some none) asked e = absurd (some-ne-none asked (sym e))
-home_is (some (some std.None)) asked e = absurd (some-ne-none asked (sym e))
-home_is (some (some (std.Some a))) asked e = ap (λ (z : Asked). some (some (std.Some z))) (some-injective a asked e)
-
-one_asked : (a b : Asked) → some (std.Some a) ≡ some (std.Some b) → a ≡ b
-one_asked a b e = cc
-
-abbrev none_asked : std.Option Asked
-none_asked = std.None
-
-no_asked : (a : Asked) → some none_asked ≡ some (std.Some a) → ⊥
-no_asked a e = cc
-
-more_spoken : (clients : List (List Task)) (k : ℕ) (t : Taking) (a : Calls) → AreSpoken clients a → AreSpoken clients (more_given k t a)
-more_spoken clients k (Bytes bytes) a h = h
-more_spoken clients k _ a h = h
+puts_spoken : (clients : List (List Task)) (x : Step) → PutsCall (IsSpoken clients) x → PutsAsked (λ asked. IsSpoken clients asked.operation) x
+puts_spoken clients (PutCall i asked) puts = puts
+puts_spoken clients _ puts = tt
 
 -- a step aside keeps them so
 spoken_after : (clients : List (List Task)) (x : Step) (found : Found x) (a : Calls) → PutsCall (IsSpoken clients) x → AreSpoken clients a → AreSpoken clients (calls_after x found a)
-spoken_after clients (PutCall i asked) found a puts h = λ n other at. ⊎_elim
-    (λ r. subst (λ (z : Asked). IsSpoken clients z.operation) (one_asked asked other r.1) puts) (λ r. h n other (ap call_at r.1))
-    (at_set a.homes i n (some (std.Some asked)) (some (std.Some other)) (home_is (get_elem? (set a.homes i (some (std.Some asked))) n) other at))
-spoken_after clients (TakeCall i) found a puts h = λ n other at. ⊎_elim
-    (λ r. absurd (no_asked other r.1)) (λ r. h n other (ap call_at r.1))
-    (at_set a.homes i n (some std.None) (some (std.Some other)) (home_is (get_elem? (set a.homes i (some std.None)) n) other at))
-spoken_after clients (TakeBytes k room) found a puts h = more_spoken clients k found a h
-spoken_after clients _ found a puts h = h
+spoken_after clients x found a puts h = calls_behind (λ asked. IsSpoken clients asked.operation) x found a (puts_spoken clients x puts) h
 
 -- what is found there is a call
 takes_spoken : (clients : List (List Task)) (x : Step) (found : Found x) (a : Calls) (t : Option Taking) → found_in x a t ≡ some found → AreSpoken clients a → TakesCall (IsSpoken clients) x found

@@ -1,5 +1,5 @@
 -- Where each seat is at rest or waits and the run is ending, each range has ended, and nobody waits but for the word of an `open`.
-use Rattle.std.proofs.Common.{◌≡◌, ◌≢◌, ℕ, zero, suc, ◌<◌, ◌≤◌, ◌⊎◌, inl, inr, ⊎_elim, ◌==◌, ◌&&◌, not, Bool, true, false, eqb-true, eq-eqb, List, [], ◌∷◌, Option, Some, length, get_or, refl, sym, ap, ◌∙◌, subst, arith}
+use Rattle.std.proofs.Common.{◌≡◌, ◌≢◌, ℕ, zero, suc, ◌<◌, ◌≤◌, ◌⊎◌, inl, inr, ⊎_elim, ◌==◌, not, true, false, eqb-true, eq-eqb, List, [], ◌∷◌, Option, Some, length, get_or, sym, ap, ◌∙◌, subst, arith}
 use Rattle.std.proofs.lemmas.Bool.{true≢false}
 use Rattle.std.specs.Prelude.{None}
 use mathlib.Core.Option.{some, some-ne-none, some-injective}
@@ -22,27 +22,13 @@ use Rattle.owed_calls.specs.Owing.{Free, Owing, InList, DutyTo, Among}
 use Rattle.owed_calls.specs.Owes.{OwesOn}
 use Rattle.owed_calls.specs.Sound.{id_word_of, Owed, by_seat, by_retry, by_reader, Failed, SoundOwing, AllRest, retry_tokens}
 use Rattle.owed_calls.specs.Settled.{IsAtRest, WaitsAside, WaitsForOpen, OpensKnown}
-use Rattle.owed_calls.proofs.End.{none_held}
-
--- of two lists of one length each place of one is a place of the other
-beside : {A B : Type 0} (l : List A) (m : List B) (j : ℕ) (a : A) → length m ≡ length l → get_elem? l j ≡ some a → (b : B) × (get_elem? m j ≡ some b)
-beside [] m j a e at = absurd (some-ne-none a (sym at))
-beside (x ∷ xs) [] j a e at = absurd (let z : ⊥ = omega (arith, e) in z)
-beside (x ∷ xs) (y ∷ ys) zero a e at = (y, refl)
-beside (x ∷ xs) (y ∷ ys) (suc j) a e at = beside xs ys j a (omega (arith, e)) at
+use Rattle.owed_calls.proofs.End.{beside, none_held}
+use Rattle.joint_runs.specs.id_runs.proofs.Loops.{and_left, and_right}
 
 inside_of : {A : Type 0} (l : List A) (i : ℕ) (a : A) → get_elem? l i ≡ some a → i < length l
 inside_of [] i a at = absurd (some-ne-none a (sym at))
 inside_of (x ∷ xs) zero a at = omega arith
 inside_of (x ∷ xs) (suc i) a at = let z = inside_of xs i a at in omega (arith, z)
-
-and_first : (a b : Bool) → (a && b) ≡ true → a ≡ true
-and_first true b e = refl
-and_first false b e = e
-
-and_second : (a b : Bool) → (a && b) ≡ true → b ≡ true
-and_second true b e = e
-and_second false b e = absurd (true≢false (sym e))
 
 not_zero : (n : ℕ) → not (n == 0) ≡ true → n ≢ 0
 not_zero n e z = true≢false (sym e ∙ ap not (eq-eqb n 0 z))
@@ -52,11 +38,11 @@ not_one n e z = true≢false (sym e ∙ ap not (eq-eqb n 1 z))
 
 -- a range that is sought is there
 first_there : (first : ℕ) (w : Parts) → is_first first w ≡ true → w.state ≢ 0
-first_there first w e = not_zero w.state (and_second (w.first == first) (not (w.state == 0)) e)
+first_there first w e = not_zero w.state (and_right (w.first == first) (not (w.state == 0)) e)
 
 sought_there : (sought : Sought) (w : Parts) → is_sought sought w ≡ true → w.state ≢ 0
 sought_there (First first) w e = first_there first w e
-sought_there (Version v) w e = not_zero w.state (and_first (not (w.state == 0)) _ e)
+sought_there (Version v) w e = not_zero w.state (and_left (not (w.state == 0)) _ e)
 
 -- at the ending nobody waits for more bytes
 never_nothing : (answer : Answer) → is_nothing true answer ≡ true → ⊥
@@ -107,8 +93,8 @@ module _ (p : Plan) (q : IdPlan) (life : ℕ → Option ℕ) (calls : List ℕ) 
   by_head : (i : ℕ) (seat : SeatState) (head : Head) (next : Exit head → Program) (answer : Answer) (v : IdView) → get_elem? c.seats i ≡ some seat → seat.program ≡ Round head next → IdGoesOn p q v (Round head next) → waits_in p c.words c.calls answer head ≡ true → Waits i
   by_head i seat (Joins id) next answer v at e g is = joins seat id next at e is
   by_head i seat (Opens o) next answer v at e g is = opens seat o next at e (eqb-true (get_or c.words (open_index p o) 0) 0 is)
-  by_head i seat (Locks s sought None) next answer v at e g is = let w : Parts = id_word_of c s in let there = sought_there sought (id_word_of c s) (and_first (is_sought sought (id_word_of c s)) (not ((id_word_of c s).state == 1)) is) in
-      let taken = not_one (id_word_of c s).state (and_second (is_sought sought (id_word_of c s)) (not ((id_word_of c s).state == 1)) is) in absurd (⊎_elim there taken (not_locked p q c vs known still s g.0.1))
+  by_head i seat (Locks s sought None) next answer v at e g is = let w : Parts = id_word_of c s in let there = sought_there sought (id_word_of c s) (and_left (is_sought sought (id_word_of c s)) (not ((id_word_of c s).state == 1)) is) in
+      let taken = not_one (id_word_of c s).state (and_right (is_sought sought (id_word_of c s)) (not ((id_word_of c s).state == 1)) is) in absurd (⊎_elim there taken (not_locked p q c vs known still s g.0.1))
   by_head i seat (Reads r) next answer v at e g is = absurd (never_nothing answer (sym (ap (λ b. is_nothing b answer) ending) ∙ is))
   by_head i seat (Discards k total) next answer v at e g is = absurd (never_nothing answer (sym (ap (λ b. is_nothing b answer) ending) ∙ is))
   by_head i seat _ next answer v at e g is = absurd (true≢false (sym is))

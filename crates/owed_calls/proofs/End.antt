@@ -17,7 +17,7 @@ use Rattle.owed_calls.specs.Owes.{OwesOn}
 use Rattle.owed_calls.specs.Sound.{id_word_of, Owed, by_seat, by_retry, by_reader, SoundOwing, AllRest, retry_tokens}
 
 -- of two lists of one length each place of one is a place of the other
-beside : {A B : Type 0} (l : List A) (m : List B) (j : ℕ) (a : A) → length m ≡ length l → get_elem? l j ≡ some a → (b : B) × (get_elem? m j ≡ some b)
+pub beside : {A B : Type 0} (l : List A) (m : List B) (j : ℕ) (a : A) → length m ≡ length l → get_elem? l j ≡ some a → (b : B) × (get_elem? m j ≡ some b)
 beside [] m j a e at = absurd (some-ne-none a (sym at))
 beside (x ∷ xs) [] j a e at = absurd (let z : ⊥ = omega (arith, e) in z)
 beside (x ∷ xs) (y ∷ ys) zero a e at = (y, refl)

@@ -24,7 +24,7 @@ pub few_of : (q : IdPlan) (ws : List Retry) → AllByRecursion (FitsRetryId q) w
 few_of q [] all = tt
 few_of q (w ∷ ws) all = (all.0.1, few_of q ws all.1)
 
-claimed_free : (b : Births Asked) (l : Local Asked) (seen : ℕ) (h : Hand Asked) → Stands b l → l.tokens ≡ Claimed seen h ∷ [] → l.word.state ≡ 0
+pub claimed_free : (b : Births Asked) (l : Local Asked) (seen : ℕ) (h : Hand Asked) → Stands b l → l.tokens ≡ Claimed seen h ∷ [] → l.word.state ≡ 0
 claimed_free b l seen h (vacant t g s x y) has = s
 claimed_free b l seen h (retired t g s x y) has = s
 claimed_free b l seen h (claimed seen' h' t g s x y z) has = s

@@ -16,7 +16,7 @@ use Rattle.brpc_model.specs.Operations.{Turn, operations, clients, link_names}
 use Rattle.sock_model.specs.declared.view.View.{View}
 use Rattle.corr_core.specs.declared.marks.Plan.{Plan as IdPlan}
 use Rattle.seat_programs.specs.Asides.{TakeBytes, Closed}
-use Rattle.seat_programs.specs.Programs.{Program, Do, Rest, Aside}
+use Rattle.seat_programs.specs.Programs.{Program, Rest, Aside}
 use Rattle.seat_programs.specs.Tasks.{Numbered, numbered, opens, calls, plan_of, id_plan_of}
 use Rattle.seat_programs.specs.Clients.{client_from, ending_of}
 use Rattle.seat_programs.specs.Cores.{Core, SeatState, resolved, next_step, waiting_at}
@@ -28,12 +28,9 @@ use Rattle.joint_runs.specs.sock_runs.specs.Sound.{AllRest, views_along}
 use Rattle.joint_runs.specs.sock_runs.proofs.LinkTicks.{RetriesGo}
 use Rattle.joint_runs.specs.sock_runs.proofs.Along.{seat_rests, place_inside}
 use Rattle.joint_runs.specs.sock_runs.proofs.Quiets.{run_seats, run_rests}
-use Rattle.joint_runs.specs.sock_runs.proofs.Records.{stores}
-use Rattle.joint_runs.specs.sock_runs.proofs.Through.{Passes, Follows}
 use Rattle.joint_runs.specs.sock_runs.proofs.ThroughCalls.{through_next}
-use Rattle.seat_programs.specs.Calls.{Call, StoreOpen}
 use Rattle.joint_runs.specs.id_runs.specs.Goes as goes
-use Rattle.joint_runs.specs.sock_runs.proofs.WillStore.{WillStore, IsToStore, will_client, run_stores, rested_stored}
+use Rattle.joint_runs.specs.sock_runs.proofs.WillStore.{WillStore, IsToStore, will_passes, will_follow, will_client, run_stores, rested_stored}
 use Rattle.joint_runs.specs.sock_runs.proofs.LinksOpening.{OpensLink}
 use Rattle.joint_runs.specs.sock_runs.proofs.Whole.{AreFittingIn, Begins, IsOwed, IsListed, views_closed, set_up_answered, end_answered, set_up_sound, closing_sound, closed_sound, views_played, rested_ahead, rested_idle, ended_idle, end_rests}
 use Rattle.joint_runs.specs.id_runs.proofs.Opening.{unused}
@@ -73,7 +70,7 @@ known_of script made = record {
 }
 
 -- no operation is the `open` of two links
-opens_apart : (script : List Item) (k l o : ℕ) → get_elem? (opens script) k ≡ some o → get_elem? (opens script) l ≡ some o → k ≡ l
+pub opens_apart : (script : List Item) (k l o : ℕ) → get_elem? (opens script) k ≡ some o → get_elem? (opens script) l ≡ some o → k ≡ l
 opens_apart script k l o at_k at_l = dite (ℕ_discrete k l) (λ e. e)
     (λ far. dite (dec_le (suc k) l) (λ less. absurd (let z = before k l (omega (arith, less)) at_k at_l in omega (arith, z))) (λ more. absurd (let z = before l k (omega (arith, far, more)) at_l at_k in omega (arith, z))))
   where
@@ -104,47 +101,9 @@ quiet_at : (p : Plan) (c : Core) (program : Program) → ClosesAt p c Unasked pr
 quiet_at p c (Aside (TakeBytes k room) next) = λ e. absurd (some-ne-none Closed (sym e))
 quiet_at p c program = tt
 
-quiet_closes : (p : Plan) (c : Core) (n : ℕ) → ClosesInTime p c (replicate n (quiet 0))
+pub quiet_closes : (p : Plan) (c : Core) (n : ℕ) → ClosesInTime p c (replicate n (quiet 0))
 quiet_closes p c zero = tt
 quiet_closes p c (suc n) = ((λ seat at. quiet_at p c (goes.first_of seat.program)), quiet_closes p (ticked p c (quiet 0)) n)
-
--- what a program is to store it is to store whatever is said before
-will_passes : (o : ℕ) → Passes (WillStore o)
-will_passes o = record {
-  step = λ call next s b l r. plain call next s r;
-  say = λ n outcome next r. r;
-  sent = λ n next r. r;
-  message = λ r next x. x;
-  home = λ k next r. r;
-  puts_home = λ k n after r. r;
-  put = λ k asked bytes next r. r;
-  ask = λ k next r. r;
-  write = λ w after r. r;
-  aside = λ step next r. r;
-  round = λ head l next r. r;
-  keep = λ r next x. x;
-  retries = λ requests after r. r;
-}
-  where
-    plain : (call : Call) (next : ℕ → Program) → stores call ≡ none → ((found : ℕ) → WillStore o (next found)) → WillStore o (Do call next)
-    plain (StoreOpen n w) next s r = absurd (some-ne-none (n, w) s)
-    plain call next s r = r
-
-will_follow : (o : ℕ) → Follows (WillStore o)
-will_follow o = record {
-  said = λ n outcome next r. r;
-  sent = λ n next r. r;
-  message = λ r next x. x;
-  home = λ k next r. r;
-  puts_home = λ k n after r. r;
-  put = λ k asked bytes next r. r;
-  ask = λ k next r. r;
-  write = λ w after r. r;
-  aside = λ step next r. r;
-  round = λ head next r. r;
-  keep = λ r next x. x;
-  retries = λ requests after r. r;
-}
 
 module _ (script : List Item) (made : AreMade script) (turns : List Turn) (core : Core) (is : IsRunWithCalls script turns core) where
   abbrev p : Plan

@@ -1,5 +1,5 @@
 -- A tick of any seat keeps what is owed, where both tables, the script and the links say what they should.
-use Rattle.std.proofs.Common.{◌≡◌, ◌≢◌, ℕ, zero, suc, ◌<◌, ◌≤◌, inl, inr, ⊎_elim, Bool, true, false, List, [], ◌∷◌, ◌++◌, Some, length, set, get_or, get_or-set_other, refl, sym, ap, ◌∙◌, subst, arith}
+use Rattle.std.proofs.Common.{◌≡◌, ◌≢◌, ℕ, ◌<◌, ◌≤◌, inl, inr, ⊎_elim, Bool, true, false, List, [], ◌∷◌, ◌++◌, Some, length, set, get_or, get_or-set_other, refl, sym, ap, ◌∙◌, subst, arith}
 use Rattle.std.specs.Prelude.{Option as Maybe}
 use Rattle.std.specs.List.{AllByRecursion}
 use mathlib.Core.Logic.{dite}
@@ -14,7 +14,7 @@ use Rattle.sock_model.specs.declared.chain.Heading.{Heading}
 use Rattle.sock_model.specs.declared.home.Home.{Home}
 use Rattle.sock_model.specs.declared.home.Home.TheVariants.{Empty, Link, Message}
 use Rattle.sock_model.specs.Messages.{Letter}
-use Rattle.sock_model.specs.Reads.{letter_of, shown, message, link_home}
+use Rattle.sock_model.specs.Reads.{message, link_home}
 use Rattle.corr_core.specs.Word.{parts}
 use Rattle.corr_core.specs.declared.marks.Plan.{Plan as IdPlan}
 use Rattle.id_rule.specs.Lawful as ids
@@ -47,21 +47,8 @@ use Rattle.owed_calls.proofs.Finds.{lock_finds, unlock_finds}
 use Rattle.owed_calls.proofs.IdFacts.{few_of, free_there, lock_low, lock_few, lock_two, lock_longer}
 use Rattle.owed_calls.proofs.Rounds.{owes_round}
 use Rattle.owed_calls.proofs.Programs.{block_goes}
-
--- of two lists of one length each place of one is a place of the other
-beside : {A B : Type 0} (l : List A) (m : List B) (j : ℕ) (a : A) → length m ≡ length l → get_elem? l j ≡ some a → (b : B) × (get_elem? m j ≡ some b)
-beside [] m j a e at = absurd (some-ne-none a (sym at))
-beside (x ∷ xs) [] j a e at = absurd (let z : ⊥ = omega (arith, e) in z)
-beside (x ∷ xs) (y ∷ ys) zero a e at = (y, refl)
-beside (x ∷ xs) (y ∷ ys) (suc j) a e at = beside xs ys j a (omega (arith, e)) at
-
--- a home that shows a message has it
-message_there : (x : Option (Option Home)) (letter : Letter) → letter_of (shown (λ (home : Home). home) x) ≡ some letter → x ≡ some (some (Message letter.0 letter.1))
-message_there none letter e = absurd (some-ne-none letter (sym e))
-message_there (some none) letter e = absurd (some-ne-none letter (sym e))
-message_there (some (some Empty)) letter e = absurd (some-ne-none letter (sym e))
-message_there (some (some (Link k took next done))) letter e = absurd (some-ne-none letter (sym e))
-message_there (some (some (Message l cs))) letter e = ap (λ (z : Letter). some (some (Message z.0 z.1))) (some-injective (l, cs) letter e)
+use Rattle.owed_calls.proofs.End.{beside}
+pub use Rattle.joint_runs.specs.id_runs.proofs.Ticks.{message_there}
 
 module _ (p : Plan) (q : IdPlan) (narrow : q.slots ≤ 65536) (same : q.operations ≡ p.operations) (life : ℕ → Maybe ℕ) (low_links : (k s : ℕ) → life k ≡ Some s → k < 65535) (calls : List ℕ) where
   module _ (c : Core) (us : List Owing) (sound : SoundOwing q life calls c us) (vs : List IdView) (known : SoundIds p q c vs) (i : ℕ) (seat : SeatState) (u : Owing) (at_seat : get_elem? c.seats i ≡ some seat) (at : get_elem? us i ≡ some u)

@@ -25,7 +25,7 @@ use Rattle.seat_programs.specs.Attempts.{claims_from, heading_for, attempt, begi
 use Rattle.seat_programs.specs.Readers.{LIMIT, kept_for, ends_with, posted_last, post_each, thrown_away, read, reader}
 use Rattle.seat_programs.specs.Clients.{HeldLife, held_under, without_name, give_back, drop_of, operation, client_from, ending_of}
 use Rattle.seat_programs.specs.Told.{HaveOwnLinks}
-use Rattle.joint_runs.specs.sock_runs.proofs.Opening.{or_cases, second_true}
+use Rattle.joint_runs.specs.sock_runs.proofs.Opening.{or_cases, second_true, or_first, or_second, both_true}
 use Rattle.joint_runs.specs.id_runs.specs.Goes.{FitsSock}
 use Rattle.owed_calls.specs.Owns.{Other, HasClaimed, HasLock, HasTaken, Grows, IsIdOf, IsOwnAt, but, Owns}
 use Rattle.owed_calls.proofs.Posts.{id_back}
@@ -217,18 +217,6 @@ operation_goes has mine sizes held o next (ops.Join t) own here after made = joi
 operation_goes has mine sizes held o next (ops.Hold name) own here after made = hold_goes has mine o name (λ id. next (held ++ (record { name = name; id = id }) ∷ [])) (next held) (λ id. after (held ++ (record { name = name; id = id }) ∷ [])) (after held)
 operation_goes has mine sizes held o next (ops.Drop name) own here after made = dropping_goes has mine o (held_under name held) (next (without_name name held)) (after (without_name name held))
 operation_goes has mine sizes held o next (ops.Fail name code) own here after made = fail_goes has mine o name code (next held) (after held)
-
-or_first : (a b : Bool) → a ≡ true → (a || b) ≡ true
-or_first true b e = refl
-or_first false b e = absurd (true≢false (sym e))
-
-or_second : (a b : Bool) → b ≡ true → (a || b) ≡ true
-or_second true b e = refl
-or_second false b e = e
-
-both_true : (a b : Bool) → a ≡ true → b ≡ true → (a && b) ≡ true
-both_true true b x y = y
-both_true false b x y = x
 
 -- a later call has a greater number
 pub calls_later : (n : ℕ) (R : Task → Type 0) → ((t : Task) → R t → n < t.number) → (ts : List Task) → AllByRecursion R ts → (o : ℕ) → calls_in ts o ≡ true → n < o

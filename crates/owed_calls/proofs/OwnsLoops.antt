@@ -21,6 +21,7 @@ use Rattle.seat_programs.specs.Posts.{packed, advance_of, is_first, is_sought, i
 use Rattle.seat_programs.specs.Readers.{LIMIT, ending_of, slot_in, version_in, has_response, is_early, answer, answered, responses, last_of, ended_by, read_on, took, room_of, discarded, opens_round}
 use Rattle.seat_programs.specs.Rounds.{round}
 use Rattle.owed_calls.specs.Owns.{Behind, Other, HasClaimed, HasPut, HasLock, HasTaken, Grows, IsIdOf, MayOwn, taken_behind, behind, IsOfSought, AtOwn, LeavesLock, behind_head, Owns}
+use Rattle.joint_runs.specs.id_runs.proofs.Loops.{and_left}
 
 -- ## More calls with ids
 
@@ -265,11 +266,7 @@ module _ (has : ℕ → ℕ) (left : ℕ → Bool) where
       by_exit (NotThere x) most h f l = (after (NotThere x)).goes most h Other
 
   sought_is : (sought : Sought) (found : ℕ) → is_sought sought (parts found) ≡ true → IsOfSought sought (Some found)
-  sought_is (First x) found e = eqb-true (parts found).first x (first_true ((parts found).first == x) (not ((parts found).state == 0)) e)
-    where
-      first_true : (a b : Bool) → (a && b) ≡ true → a ≡ true
-      first_true true b e = refl
-      first_true false b e = e
+  sought_is (First x) found e = eqb-true (parts found).first x (and_left ((parts found).first == x) (not ((parts found).state == 0)) e)
   sought_is (Version v) found e = tt
 
   none_sought : (sought : Sought) → IsOfSought sought None

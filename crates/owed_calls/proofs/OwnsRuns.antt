@@ -46,6 +46,7 @@ use Rattle.owed_calls.proofs.OwnsLoops.{grows_same, owns_any, owns_round}
 use Rattle.owed_calls.proofs.OwnsSends.{block_goes}
 use Rattle.owed_calls.proofs.OwnsCalls.{CallsOwn, is_calling, calls_in, client_goes, reader_goes, ending_goes}
 use Rattle.owed_calls.proofs.OwnsTicks.{own_at, resolved_owns, true_of, true_on, on_sockets, owns_ticks}
+use Rattle.joint_runs.specs.id_runs.proofs.Loops.{and_left}
 
 -- ## Along ticks
 
@@ -105,12 +106,8 @@ in_list (x ∷ xs) o (suc i) e = inr (in_list xs o i e)
 called_by : (ts : List Task) (o : ℕ) → calls_in ts o ≡ true → (t : Task) × Has ts t × (is_calling t.op ≡ true) × (t.number ≡ o)
 called_by [] o there = absurd (true≢false (sym there))
 called_by (t ∷ ts) o there = or_cases (is_calling t.op && (t.number == o)) (calls_in ts o) ((x : Task) × Has (t ∷ ts) x × (is_calling x.op ≡ true) × (x.number ≡ o))
-    (λ here. (t, (0, refl), first_true (is_calling t.op) (t.number == o) here, eqb-true t.number o (second_true (is_calling t.op) (t.number == o) here)))
+    (λ here. (t, (0, refl), and_left (is_calling t.op) (t.number == o) here, eqb-true t.number o (second_true (is_calling t.op) (t.number == o) here)))
     (λ more. let w = called_by ts o more in (w.0, has_later t ts w.0 w.1, w.2, w.3)) there
-  where
-    first_true : (a b : Bool) → (a && b) ≡ true → a ≡ true
-    first_true true b e = refl
-    first_true false b e = e
 
 module _ (script : List Item) where
   own_call : (c : ℕ) (t : Task) → IsTaskOf script c t → CallsOwn t.number t.op

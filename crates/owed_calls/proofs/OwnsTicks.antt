@@ -1,5 +1,5 @@
 -- A tick of any seat keeps which id the call of each operation has, and that at words and homes are of those.
-use Rattle.std.proofs.Common.{◌≡◌, ◌≢◌, ℕ, ◌+◌, ◌*◌, ◌<◌, ◌≤◌, ⊎_elim, ◌==◌, ◌&&◌, not, Bool, true, false, cond, eq-eqb, eqb-true, ne_eqb, List, [], ◌∷◌, ◌++◌, get_or, set, get_or-set_other, get_or-set_same, refl, sym, ap, ◌∙◌, subst, arith}
+use Rattle.std.proofs.Common.{◌≡◌, ◌≢◌, ℕ, ◌+◌, ◌*◌, ◌<◌, ◌≤◌, ⊎_elim, ◌==◌, not, Bool, true, false, cond, eq-eqb, eqb-true, ne_eqb, List, [], ◌∷◌, ◌++◌, get_or, set, get_or-set_other, get_or-set_same, refl, sym, ap, ◌∙◌, subst, arith}
 use Rattle.std.proofs.lemmas.Bool.{true≢false}
 use Rattle.std.specs.Prelude as std
 use Rattle.std.specs.List.{AllByRecursion}
@@ -48,6 +48,7 @@ use Rattle.owed_calls.proofs.OwnsLoops.{later, grows_same, id_grows, owns_grows,
 use Rattle.owed_calls.proofs.OwnsSends.{block_goes}
 use Rattle.owed_calls.proofs.OwnsCalls.{retry_goes}
 use Rattle.owed_calls.proofs.OwnsSteps.{one_seat, free_tag, home_inside, word_inside, Then, Keeps, Acts, step_keeps, acts_token}
+use Rattle.joint_runs.specs.id_runs.proofs.Loops.{and_left, and_right}
 
 -- ## Behind what is said
 
@@ -286,18 +287,10 @@ module _ (p : Plan) (q : IdPlan) (narrow : q.slots ≤ 65536) (calls : List ℕ)
     others_else : (j : ℕ) → j ≢ i → others j ≡ left j
     others_else j far = ap (λ b. cond b (but asked.operation (left i)) (left j)) (ne_eqb j i far)
 
-    first_true : (x y : Bool) → (x && y) ≡ true → x ≡ true
-    first_true true y e = refl
-    first_true false y e = e
-
-    second_true : (x y : Bool) → (x && y) ≡ true → y ≡ true
-    second_true true y e = e
-    second_true false y e = absurd (true≢false (sym e))
-
     left_still : (j x : ℕ) → others j x ≡ true → (left j x ≡ true) × (j ≡ i → x ≢ asked.operation)
     left_still j x e = dite (ℕ_discrete j i)
         (λ same. let l : but asked.operation (left i) x ≡ true = sym (ap (λ (f : ℕ → Bool). f x) others_here) ∙ ap (λ k. others k x) (sym same) ∙ e in
-        (ap (λ k. left k x) same ∙ first_true (left i x) (not (x == asked.operation)) l, λ _ z. true≢false (sym (second_true (left i x) (not (x == asked.operation)) l) ∙ ap not (eq-eqb x asked.operation z))))
+        (ap (λ k. left k x) same ∙ and_left (left i x) (not (x == asked.operation)) l, λ _ z. true≢false (sym (and_right (left i x) (not (x == asked.operation)) l) ∙ ap not (eq-eqb x asked.operation z))))
         (λ far. (sym (ap (λ (f : ℕ → Bool). f x) (others_else j far)) ∙ e, λ same. absurd (far same)))
 
     not_made : (j x : ℕ) → others j x ≡ true → x ≢ asked.operation

@@ -12,30 +12,16 @@ use Rattle.joint_runs.specs.id_runs.proofs.Keeps.{parts_packed}
 use Rattle.owed_calls.specs.Owing.{Duty, Free, Trying, Linked, Looking, Telling, Owing, Among, IsOpenAt, with_duty, freed, with_known, with_error, unlocked_by, KnowsError, FindsUnlock}
 use Rattle.owed_calls.specs.Owing as owing
 use Rattle.owed_calls.specs.Owes.{Further, PostsOwn, IsDue, MayDecide, MayAdvance, AtOwe, LeavesUnlocks, LeavesPosts, OwesOn}
+pub use Rattle.joint_runs.specs.id_runs.proofs.Loops.{not_true, not_equal, and_left, and_right}
 
 -- ## Numbers and truth values
 
 pub id_back : (id : ℕ) → call_id (id_slot id) (id_first id) ≡ id
 id_back id = omega arith
 
-pub not_true : (b : Bool) → not b ≡ false → b ≡ true
-not_true true e = refl
-not_true false e = cc
-
 pub not_false : (b : Bool) → not b ≡ true → b ≡ false
 not_false true e = cc
 not_false false e = refl
-
-pub not_equal : (a b : ℕ) → eqb a b ≡ false → a ≢ b
-not_equal a b e same = let z : true ≡ false = sym (eq-eqb a b same) ∙ e in cc
-
-pub and_left : (a b : Bool) → (a && b) ≡ true → a ≡ true
-and_left true b e = refl
-and_left false b e = e
-
-pub and_right : (a b : Bool) → (a && b) ≡ true → b ≡ true
-and_right true b e = e
-and_right false b e = cc
 
 pub both_true : (a b : Bool) → a ≡ true → b ≡ true → (a && b) ≡ true
 both_true true true x y = refl

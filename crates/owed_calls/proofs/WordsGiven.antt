@@ -10,9 +10,6 @@ use lib.ListN.{get_elem?}
 use Rattle.atomic_table.proofs.Lists.{at_set}
 use Rattle.sock_words.specs.Words.{socket_id, socket_id_slot, vref_version}
 use Rattle.sock_words.specs.declared.plain.Plan.{Plan}
-use Rattle.sock_io.specs.declared.link.Put.{Put}
-use Rattle.sock_io.specs.declared.link.Ready.{Ready}
-use Rattle.sock_model.specs.declared.chain.Heading.{Heading}
 use Rattle.sock_model.specs.declared.chain.Right.{Right}
 use Rattle.sock_model.specs.declared.home.Home.{Home}
 use Rattle.sock_model.specs.declared.marks.Mark.TheVariants.{Known, Born, Linked}
@@ -32,9 +29,7 @@ use Rattle.seat_programs.specs.declared.task.Op.TheVariants as ops
 use Rattle.seat_programs.specs.declared.task.Task.{Task}
 use Rattle.seat_programs.specs.declared.task.Sizes.{Sizes}
 use Rattle.seat_programs.specs.Calls.{Call, CreateLife, StoreOpen}
-use Rattle.seat_programs.specs.Asides.{Found}
-use Rattle.seat_programs.specs.Heads.{Exit}
-use Rattle.seat_programs.specs.Programs.{Program, Do, Say, Sent, Rest, TakeMessage, TakeHome, PutHome, PutBytes, AskReady, Write, Aside, Round, Keep, Retries, NO_SOCKET, open_from, make_socket}
+use Rattle.seat_programs.specs.Programs.{Program, Do, Rest, NO_SOCKET, open_from, make_socket}
 use Rattle.seat_programs.specs.Clients.{HeldLife, held_under, without_name, give_back, drop_of, operation, client_from, ending_of}
 use Rattle.seat_programs.specs.Readers.{reader}
 use Rattle.seat_programs.specs.Cores.{Calls, Core, SeatState, word_of, word_after, found_at, words_after, homes_after, hand_after, resolved, next_step, waiting_at, with_seat, stepped}
@@ -50,7 +45,8 @@ use Rattle.joint_runs.specs.sock_runs.proofs.LinksStay.{IsGiven}
 use Rattle.joint_runs.specs.sock_runs.proofs.Records.{stores, opens_same}
 use Rattle.joint_runs.specs.sock_runs.proofs.Opening.{mapped, appended}
 use Rattle.joint_runs.specs.sock_runs.proofs.LinksOpening.{OwnsLink}
-use Rattle.joint_runs.specs.sock_runs.proofs.Through.{Passes, PassesOpens, Follows, comes_follows, through_release, through_fail, through_hold, through_drop}
+use Rattle.joint_runs.specs.sock_runs.proofs.Through.{Passes, PassesOpens, Follows, comes_follows, through_release, through_fail, through_hold, through_drop, at_calls_passes, at_calls_follow}
+use Rattle.joint_runs.specs.sock_runs.proofs.AtCalls.{AtCalls, every_exit}
 use Rattle.joint_runs.specs.sock_runs.proofs.ThroughSends.{through_send, through_end}
 use Rattle.joint_runs.specs.sock_runs.proofs.ThroughCalls.{through_call, through_expire, through_join, through_reader, through_first, through_next}
 use Rattle.joint_runs.specs.sock_runs.proofs.Cases.{ComesNext, with_rights, tick_keeps_marks}
@@ -61,26 +57,21 @@ use Rattle.joint_runs.specs.sock_runs.proofs.Ticks.{sound_ticks}
 
 -- ## Programs
 
+-- the next step stores in the word of an `open`
+abbrev pub IsStore : Program → Type 0
+IsStore (Do (StoreOpen o w) next) = Unit {0}
+IsStore other = ⊥
+
 -- in the word of an `open` the program stores each life that it makes, at once, and else only that there is none; here it has just made this life of this link
+abbrev pub NamesAt : (ℕ → ℕ → Type 0) → Option (ℕ × ℕ) → Call → (ℕ → Program) → (Option (ℕ × ℕ) → ℕ → Type 0) → Type 0
+NamesAt own none (CreateLife i k) next behind = (found : ℕ) → IsStore (next found) × behind (some (k, socket_id (vref_version found) i)) found
+NamesAt own none (StoreOpen o w) next behind = (w ≡ NO_SOCKET) × ((found : ℕ) → behind none found)
+NamesAt own none call next behind = (found : ℕ) → behind none found
+NamesAt own (some x) (StoreOpen o w) next behind = own x.0 o × (w ≡ x.1 + 1) × ((found : ℕ) → behind none found)
+NamesAt own (some x) call next behind = ⊥
+
 abbrev pub NamesBehind : (ℕ → ℕ → Type 0) → Option (ℕ × ℕ) → Program → Type 0
-NamesBehind own none (Do (CreateLife i k) next) = (found : ℕ) → NamesBehind own (some (k, socket_id (vref_version found) i)) (next found)
-NamesBehind own none (Do (StoreOpen o w) next) = (w ≡ NO_SOCKET) × ((found : ℕ) → NamesBehind own none (next found))
-NamesBehind own none (Do call next) = (found : ℕ) → NamesBehind own none (next found)
-NamesBehind own none (Say o outcome next) = NamesBehind own none next
-NamesBehind own none (Sent o next) = NamesBehind own none next
-NamesBehind own none Rest = Unit {0}
-NamesBehind own none (TakeMessage k next) = (heading : Heading) (bytes : List ℕ) → NamesBehind own none (next heading bytes)
-NamesBehind own none (TakeHome k next) = (places : ℕ) → NamesBehind own none (next places)
-NamesBehind own none (PutHome k n after) = NamesBehind own none after
-NamesBehind own none (PutBytes k asked bytes next) = (answer : Put) → NamesBehind own none (next answer)
-NamesBehind own none (AskReady k next) = (answer : Ready) → NamesBehind own none (next answer)
-NamesBehind own none (Write w after) = NamesBehind own none after
-NamesBehind own none (Aside step next) = (found : Found step) → NamesBehind own none (next found)
-NamesBehind own none (Round head next) = (exit : Exit head) → NamesBehind own none (next exit)
-NamesBehind own none (Keep r next) = NamesBehind own none next
-NamesBehind own none (Retries requests after) = NamesBehind own none after
-NamesBehind own (some x) (Do (StoreOpen o w) next) = own x.0 o × (w ≡ x.1 + 1) × ((found : ℕ) → NamesBehind own none (next found))
-NamesBehind own (some x) other = ⊥
+NamesBehind own s program = AtCalls (Unit {0}) (NamesAt own) every_exit s program
 
 abbrev pub Names : (ℕ → ℕ → Type 0) → Program → Type 0
 Names own program = NamesBehind own none program
@@ -93,30 +84,16 @@ record StoresNew (own : ℕ → ℕ → Type 0) (x : ℕ × ℕ) (program : Prog
   stores : program ≡ Do (StoreOpen operation (x.1 + 1)) after
   goes : (found : ℕ) → Names own (after found)
 
-stores_new : (own : ℕ → ℕ → Type 0) (x : ℕ × ℕ) (program : Program) → NamesBehind own (some x) program → StoresNew own x program
-stores_new own x (Do (StoreOpen o w) next) n = record { operation = o; after = next; mine = n.0; stores = ap (λ y. Do (StoreOpen o y) next) n.1; goes = n.2 }
-stores_new own x other n = absurd n
+stores_new : (own : ℕ → ℕ → Type 0) (x : ℕ × ℕ) (program : Program) → IsStore program × NamesBehind own (some x) program → StoresNew own x program
+stores_new own x (Do (StoreOpen o w) next) n = let m = n.1 in record { operation = o; after = next; mine = m.0; stores = ap (λ y. Do (StoreOpen o y) next) m.1; goes = m.2 }
+stores_new own x other n = absurd n.0
 
 module _ (own : ℕ → ℕ → Type 0) where
   abbrev G : Program → Type 0
   G = Names own
 
   names_passes : Passes (Names own)
-  names_passes = record {
-    step = λ call next s b l r. plain call next s b r;
-    say = λ o outcome next r. r;
-    sent = λ o next r. r;
-    message = λ k next r. r;
-    home = λ k next r. r;
-    puts_home = λ k n after r. r;
-    put = λ k asked bytes next r. r;
-    ask = λ k next r. r;
-    write = λ w after r. r;
-    aside = λ step next r. r;
-    round = λ head l next r. r;
-    keep = λ r next x. x;
-    retries = λ requests after r. r;
-  }
+  names_passes = at_calls_passes (Unit {0}) (NamesAt own) every_exit none (λ call next s b l r. plain call next s b r) (λ head l next r. r)
     where
       plain : (call : Call) (next : ℕ → Program) → stores call ≡ none → bears call ≡ none → ((found : ℕ) → Names own (next found)) → Names own (Do call next)
       plain (CreateLife i k) next s b r = absurd (some-ne-none i b)
@@ -127,25 +104,12 @@ module _ (own : ℕ → ℕ → Type 0) where
   names_opens = record { load = λ o next r. r; wait = λ o next r. r }
 
   names_follow : Follows (Names own)
-  names_follow = record {
-    said = λ o outcome next r. r;
-    sent = λ o next r. r;
-    message = λ k next r. r;
-    home = λ k next r. r;
-    puts_home = λ k n after r. r;
-    put = λ k asked bytes next r. r;
-    ask = λ k next r. r;
-    write = λ w after r. r;
-    aside = λ step next r. r;
-    round = λ head next r. r;
-    keep = λ r next x. x;
-    retries = λ requests after r. r;
-  }
+  names_follow = at_calls_follow (Unit {0}) (NamesAt own) every_exit none (λ head next r. r)
 
   names_open : (more i o name k : ℕ) (next : Program) → own k o → G next → G (open_from more i o name k next)
   names_open zero i o name k next mine after = λ _ _ _. (refl, λ _. after)
   names_open (suc more) i o name k next mine after = λ found. either_way (found == 0) (make_socket o name k i next) (open_from more (i + 1) o name k next) (Names own)
-      (λ _ _ _ word. (mine, refl, λ _ _. after)) (names_open more (i + 1) o name k next mine after)
+      (λ _ _ _ word. (tt, (mine, refl, λ _ _. after))) (names_open more (i + 1) o name k next mine after)
 
   names_back : (held : List HeldLife) → G (give_back held)
   names_back [] = tt

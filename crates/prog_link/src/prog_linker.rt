@@ -7,24 +7,18 @@ ghost use Rattle.prog_link.specs.Linker.{are_kind, IsOpened, InMemory, OverRings
 use crate::prog_in::ProgIn;
 use crate::prog_out::ProgOut;
 use crate::prog_peer::ProgPeer;
-use ghosts::Ghosts;
 use io_buf::BlockPool;
 use loop_link::LoopLinker;
 use net_link::TcpLinker;
 use ring_link::open_ring;
-use sock_io::{Ends, LinkSpec, Linker, Mode, NoMemory, OpenFault, Out, Shape, Shaped};
+use sock_io::{
+    Ends, LinkSpec, Linker, Mode, NoMemory, NotedLinks, OpenFault, Out, Shape, Shaped, risen,
+};
 use std::alloc::Global;
 use std::marker::Model;
 use std::net::{Net, TcpListener, TcpStream};
 
 type Link = Ends<ProgOut, ProgIn, ProgPeer>;
-
-/// The halves of a connection, as it was given back.
-#[derive(Drop)]
-struct Connection {
-    out: ProgOut,
-    inn: ProgIn,
-}
 
 /// Links of the kind that is asked for: in memory as `LoopLinker` makes them, over rings as `RingLinker` does, and over TCP
 /// as `TcpLinker` does. Connections are accepted over TCP.
@@ -45,36 +39,24 @@ pub struct ProgLinker<N: Net<Stream = TcpStream, Listener = TcpListener> + Drop>
     over_rings: u16,
     over_tcp: u16,
     faults: u64,
-    /// What was asked of each link, and what was given back, for the proofs.
-    asked: Ghosts<LinkSpec>,
-    links: Ghosts<Link>,
-    connections: Ghosts<Connection>,
+    /// What was asked of each link, and what was given back.
+    notes: NotedLinks<ProgOut, ProgIn, ProgPeer>,
 }
 
 impl<N: Net<Stream = TcpStream, Listener = TcpListener> + Drop> Model for ProgLinker<N> {
-    ghost use Rattle.std.specs.Prelude.{◌≡◌, ◌+◌, [], length, map};
-    ghost use Rattle.sock_io.specs.Link.{connection_of, end_of};
-    ghost use Rattle.prog_link.specs.Halves.{prog_in, prog_out};
+    ghost use Rattle.std.specs.Prelude.{◌≡◌, ◌+◌, [], length};
     ghost use Rattle.prog_link.specs.Linker.{ProgLinkerState, InMemory, OverRings, OverTcp, count_kind};
 
     ghost Value = { ProgLinkerState };
 
-    ghost view = { λ l. record { asked = l.asked.list; accepted = l.streams.accepted; back = map (λ e. end_of (prog_out e.out) (prog_in e.inn)) l.links.list; done = map (λ c. connection_of (prog_out c.out) (prog_in c.inn)) l.connections.list; faults = l.faults } };
+    ghost view = { λ l. record { asked = l.notes.asked; accepted = l.streams.accepted; back = l.notes.back; done = l.notes.done; faults = l.faults } };
 
-    ghost invariant = { λ l. (length l.asked.list ≡ l.in_memory + l.over_rings + l.over_tcp) × (length l.loops.asked ≡ l.in_memory) × (length l.streams.asked ≡ l.over_tcp) × (l.loops.fail_opens ≡ []) × (count_kind InMemory l.asked.list ≡ l.in_memory) × (count_kind OverRings l.asked.list ≡ l.over_rings) × (count_kind OverTcp l.asked.list ≡ l.over_tcp) };
-}
-
-/// With one more link of which this was asked.
-fn noted(asked: &Ghosts<LinkSpec>, spec: &LinkSpec) -> Ghosts<LinkSpec>
-    ensures { result.list ≡ asked.now.list ++ spec.now ∷ [] }
-{
-    let before: Ghosts<LinkSpec> = Ghosts::of(asked);
-    let with = (before, *spec);
-    Ghosts::of(&with)
+    ghost invariant = { λ l. (length l.notes.asked ≡ l.in_memory + l.over_rings + l.over_tcp) × (length l.loops.asked ≡ l.in_memory) × (length l.streams.asked ≡ l.over_tcp) × (l.loops.fail_opens ≡ []) × (count_kind InMemory l.notes.asked ≡ l.in_memory) × (count_kind OverRings l.notes.asked ≡ l.over_rings) × (count_kind OverTcp l.notes.asked ≡ l.over_tcp) };
 }
 
 impl<N: Net<Stream = TcpStream, Listener = TcpListener> + Drop> ProgLinker<N> {
     /// A linker that opened and accepted nothing yet, over this network. It takes no memory.
+    #[tactic(auto, using(crate::proofs::Alike::none_counted))]
     pub fn new(net: N, alloc: Global) -> Self
         ensures { result ≡ record { asked = []; accepted = 0; back = []; done = []; faults = 0 } }
     {
@@ -87,9 +69,7 @@ impl<N: Net<Stream = TcpStream, Listener = TcpListener> + Drop> ProgLinker<N> {
             over_rings: 0,
             over_tcp: 0,
             faults: 0,
-            asked: Ghosts::of(&0u8),
-            links: Ghosts::of(&0u8),
-            connections: Ghosts::of(&0u8),
+            notes: NotedLinks::new(),
         }
     }
 
@@ -109,7 +89,7 @@ impl<N: Net<Stream = TcpStream, Listener = TcpListener> + Drop> ProgLinker<N> {
         }
         let Ends { out, inn, peer } = self.loops.open(spec)?;
         self.in_memory += 1;
-        self.asked = noted(&self.asked, spec);
+        self.notes.ask(spec);
         Ok(Ends {
             out: ProgOut::Loop(out),
             inn: ProgIn::Loop(inn),
@@ -143,7 +123,7 @@ impl<N: Net<Stream = TcpStream, Listener = TcpListener> + Drop> ProgLinker<N> {
         match Shaped::new(self.alloc, out, shape) {
             Ok(out) => {
                 self.over_rings += 1;
-                self.asked = noted(&self.asked, spec);
+                self.notes.ask(spec);
                 Ok(Ends {
                     out: ProgOut::Ring(out),
                     inn: ProgIn::Ring(inn),
@@ -169,7 +149,7 @@ impl<N: Net<Stream = TcpStream, Listener = TcpListener> + Drop> ProgLinker<N> {
         }
         let Ends { out, inn, peer } = self.streams.open(spec)?;
         self.over_tcp += 1;
-        self.asked = noted(&self.asked, spec);
+        self.notes.ask(spec);
         Ok(Ends {
             out: ProgOut::Tcp(out),
             inn: ProgIn::Tcp(inn),
@@ -185,7 +165,7 @@ impl<N: Net<Stream = TcpStream, Listener = TcpListener> + Drop> ProgLinker<N> {
         ensures kept { fault ≡ OpenFault.NoMemory → self.new.faults ≡ self.old.faults }
     {
         match fault {
-            OpenFault::Failed => self.faults = self.faults.saturating_add(1),
+            OpenFault::Failed => self.faults = risen(self.faults),
             OpenFault::NoMemory => {}
         }
     }
@@ -270,17 +250,13 @@ impl<N: Net<Stream = TcpStream, Listener = TcpListener> + Drop> Linker for ProgL
         requires { length self.old.done < self.old.accepted }
         ensures { self.new ≡ record self.old { done = self.old.done ++ connection_of (prog_out out) (prog_in inn) ∷ [] } }
     {
-        let before: Ghosts<Connection> = Ghosts::of(&self.connections);
-        let with = (before, Connection { out, inn });
-        self.connections = Ghosts::of(&with);
+        self.notes.done(out, inn);
     }
 
     fn back(&mut self, _link: u16, ends: Link)
         requires { length self.old.back < length self.old.asked }
         ensures { self.new ≡ record self.old { back = self.old.back ++ end_of (prog_out ends.out) (prog_in ends.inn) ∷ [] } }
     {
-        let before: Ghosts<Link> = Ghosts::of(&self.links);
-        let with = (before, ends);
-        self.links = Ghosts::of(&with);
+        self.notes.back(ends);
     }
 }

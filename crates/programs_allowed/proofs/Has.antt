@@ -143,34 +143,31 @@ at_slot {lists} {s} {held} {passes} {links} {v} a i = record {
     all : (f : Mark → ℕ) → OfTokens f → (j : ℕ) → marks_of f j v ≡ total f (about j a.rest) + total f (about j (holds held))
     all f o j = dite (ℕ_discrete j s) (λ e. subst (λ x. marks_of f x v ≡ total f (about x a.rest) + total f (about x (holds held))) (sym e) (omega (arith, a.here f o))) (λ n. a.other f o j n)
 
--- a reference that stays is held from then on, and one that is held may go
-pub holding : {lists : List (List Entry)} {s : ℕ} {held : List HeldLife} {passes links : List ℕ} {v : View} (h : ℕ) (more : List HeldLife) → Has lists s (Hold h ∷ []) held passes links v
-    → ((f : Mark → ℕ) → total f (about s (holds more)) ≡ f (Hold h) + total f (about s (holds held))) → ((f : Mark → ℕ) (j : ℕ) → j ≢ s → total f (about j (holds more)) ≡ total f (about j (holds held)))
-    → Has lists s [] more passes links v
-holding h more a grows stays = record {
+-- tokens of the slot go over to what is held, or come from there
+turned : {lists : List (List Entry)} {s : ℕ} {t t' : List Mark} {held held' : List HeldLife} {passes links : List ℕ} {v : View} → Has lists s t held passes links v
+    → ((f : Mark → ℕ) → total f t + total f (about s (holds held)) ≡ total f t' + total f (about s (holds held'))) → ((f : Mark → ℕ) (j : ℕ) → j ≢ s → total f (about j (holds held)) ≡ total f (about j (holds held')))
+    → Has lists s t' held' passes links v
+turned a here other = record {
   rest = a.rest;
   idle = a.idle;
-  here = λ f o. omega (arith, a.here f o, grows f);
-  other = λ f o j n. omega (arith, a.other f o j n, stays f j n);
+  here = λ f o. omega (arith, a.here f o, here f);
+  other = λ f o j n. omega (arith, a.other f o j n, other f j n);
   passes_are = a.passes_are;
   hands_are = a.hands_are;
   lists_are = a.lists_are;
   quiet = a.quiet;
 }
 
+-- a reference that stays is held from then on, and one that is held may go
+pub holding : {lists : List (List Entry)} {s : ℕ} {held : List HeldLife} {passes links : List ℕ} {v : View} (h : ℕ) (more : List HeldLife) → Has lists s (Hold h ∷ []) held passes links v
+    → ((f : Mark → ℕ) → total f (about s (holds more)) ≡ f (Hold h) + total f (about s (holds held))) → ((f : Mark → ℕ) (j : ℕ) → j ≢ s → total f (about j (holds more)) ≡ total f (about j (holds held)))
+    → Has lists s [] more passes links v
+holding h more a grows stays = turned a (λ f. omega (arith, grows f)) (λ f j n. omega (arith, stays f j n))
+
 pub letting : {lists : List (List Entry)} {s : ℕ} {held : List HeldLife} {passes links : List ℕ} {v : View} (h : ℕ) (fewer : List HeldLife) → Has lists s [] held passes links v
     → ((f : Mark → ℕ) → total f (about s (holds held)) ≡ f (Hold h) + total f (about s (holds fewer))) → ((f : Mark → ℕ) (j : ℕ) → j ≢ s → total f (about j (holds held)) ≡ total f (about j (holds fewer)))
     → Has lists s (Hold h ∷ []) fewer passes links v
-letting h fewer a grows stays = record {
-  rest = a.rest;
-  idle = a.idle;
-  here = λ f o. omega (arith, a.here f o, grows f);
-  other = λ f o j n. omega (arith, a.other f o j n, stays f j n);
-  passes_are = a.passes_are;
-  hands_are = a.hands_are;
-  lists_are = a.lists_are;
-  quiet = a.quiet;
-}
+letting h fewer a grows stays = turned a (λ f. omega (arith, grows f)) (λ f j n. omega (arith, stays f j n))
 
 -- a slot whose versions are used up stays recycled
 pub retiring : {lists : List (List Entry)} {s : ℕ} {held : List HeldLife} {passes links : List ℕ} {v : View} (w : ℕ) → LAST_VERSION < w → Has lists s (Recycling w ∷ []) held passes links v → Has lists s [] held passes links v

@@ -112,16 +112,7 @@ module _ (p : Plan) {lists : List (List Entry)} {held : List HeldLife} {passes :
         no_probe = probes a;
         no_coding = codings a;
       })
-      (record {
-        stage = refl;
-        in_hand = refl;
-        heading_is = refl;
-        put = refl;
-        left_is = refl;
-        some_left = some_;
-        clean = λ z. absurd (omega (arith, z));
-        label_in = label;
-      })
+      (record { stage = refl; in_hand = refl; heading_is = refl; put = refl; left_is = refl; some_left = some_; clean = λ z. absurd (omega (arith, z)); label_in = label })
       (λ notes are. goes (behind notes w) (behind_has a notes are))
 
   message_goes : {w : View} → Has lists (socket_id_slot id) (Hold (socket_id_version id) ∷ []) held passes [] w → 0 < marks_of (is_met (socket_id_version id) c.link) (socket_id_slot id) w → (q : ℕ) → slot_of (own_of c) ≡ q
@@ -154,35 +145,20 @@ module _ (p : Plan) {lists : List (List Entry)} {held : List HeldLife} {passes :
 abbrev accepted : View → Entry → View
 accepted v e = record v { claims = []; lists = more v.lists e }
 
+-- a view with other claims, entries, rights and lists, and else the same
+resting : {lists : List (List Entry)} {s : ℕ} {t : List Mark} {held : List HeldLife} {passes links : List ℕ} {v : View} → Has lists s t held passes links v → (claims : List Claim) (loose : List Loose) (rights : List Right) (its : List (List Entry))
+    → claims ≡ [] → loose ≡ [] → rights ≡ [] → Has its s t held passes links (record v { claims = claims; loose = loose; rights = rights; lists = its })
+resting a claims loose rights its c l r = record { rest = a.rest; idle = a.idle; here = a.here; other = a.other; passes_are = a.passes_are; hands_are = a.hands_are; lists_are = refl; quiet = record { claims = c; loose = l; rights = r } }
+
 accepted_has : {made : List Entry} {s : ℕ} {t : List Mark} {held : List HeldLife} {passes links : List ℕ} {v : View} → Has (made ∷ []) s t held passes links v → (e : Entry) → Has ((made ++ e ∷ []) ∷ []) s t held passes links (accepted v e)
-accepted_has a e = record {
-  rest = a.rest;
-  idle = a.idle;
-  here = a.here;
-  other = a.other;
-  passes_are = a.passes_are;
-  hands_are = a.hands_are;
-  lists_are = ap (λ l. more l e) a.lists_are;
-  quiet = record { claims = refl; loose = a.quiet.loose; rights = a.quiet.rights };
-}
+accepted_has {made} {s} {t} {held} {passes} {links} {v} a e = subst (λ l. Has l s t held passes links (accepted v e)) (ap (λ l. more l e) a.lists_are) (resting a [] v.loose v.rights (more v.lists e) refl a.quiet.loose a.quiet.rights)
 
 -- and it is connected
 connected_has : {lists : List (List Entry)} {s : ℕ} {t : List Mark} {held : List HeldLife} {passes links : List ℕ} {v : View} → Has lists s t held passes links v → (q before : ℕ)
     → Has lists s t held passes links (without_loose (record v { loose = (record { request = q; before = before }) ∷ v.loose }) q)
-connected_has {v = v} a q before = record {
-  rest = a.rest;
-  idle = a.idle;
-  here = a.here;
-  other = a.other;
-  passes_are = a.passes_are;
-  hands_are = a.hands_are;
-  lists_are = a.lists_are;
-  quiet = record {
-    claims = a.quiet.claims;
-    loose = ap (λ l. filter (λ (x : Loose). not (eqb x.request q)) ((record { request = q; before = before }) ∷ l)) a.quiet.loose ∙ ap (λ b. cond (not b) ((record { request = q; before = before }) ∷ []) []) (eq-eqb q q refl);
-    rights = a.quiet.rights;
-  };
-}
+connected_has {lists} {s} {t} {held} {passes} {links} {v} a q before = let x : Loose = record { request = q; before = before } in
+    subst (λ l. Has l s t held passes links (without_loose (record v { loose = x ∷ v.loose }) q)) a.lists_are (resting a v.claims (filter (λ (y : Loose). not (eqb y.request q)) (x ∷ v.loose)) v.rights v.lists a.quiet.claims
+    (ap (λ l. filter (λ (y : Loose). not (eqb y.request q)) (x ∷ l)) a.quiet.loose ∙ ap (λ b. cond (not b) (x ∷ []) []) (eq-eqb q q refl)) a.quiet.rights)
 
 module _ (p : Plan) (made : List Entry) {held : List HeldLife} {passes : List ℕ} (id : ℕ) (inside : socket_id_slot id < p.slots) (few : length held ≤ 4096) (requests : p.requests ≤ 4096)
     (after : Program)

@@ -136,29 +136,19 @@ open_asks all ns x (Open name shape) n k e =
 open_asks all ns x other n k e = absurd (cc)
 
 pub send_asks : (all : List Numbered) (ns : List (List ℕ)) (x : Numbered) (item : Item) (n : ℕ) (bytes : List ℕ) → op_of all ns x item ≡ Some (ops.Send n bytes) → (name : List ℕ) × (item ≡ Send name bytes) × (n ≡ name_number ns name)
-send_asks all ns x (Send name given) n bytes e =
-    let same : ops.Send (name_number ns name) given ≡ ops.Send n bytes = some_is _ (ops.Send n bytes) e in
-    let bytes_are : given ≡ bytes = cc in
-    (name, ap (Send name) bytes_are, cc)
+send_asks all ns x (Send name given) n bytes e = let same : ops.Send (name_number ns name) given ≡ ops.Send n bytes = some_is _ (ops.Send n bytes) e in let bytes_are : given ≡ bytes = cc in (name, ap (Send name) bytes_are, cc)
 send_asks all ns x other n bytes e = absurd (cc)
 
 pub hold_asks : (all : List Numbered) (ns : List (List ℕ)) (x : Numbered) (item : Item) (n : ℕ) → op_of all ns x item ≡ Some (ops.Hold n) → (name : List ℕ) × (item ≡ Hold name) × (n ≡ name_number ns name)
-hold_asks all ns x (Hold name) n e =
-    let same : ops.Hold (name_number ns name) ≡ ops.Hold n = some_is _ (ops.Hold n) e in
-    (name, refl, cc)
+hold_asks all ns x (Hold name) n e = let same : ops.Hold (name_number ns name) ≡ ops.Hold n = some_is _ (ops.Hold n) e in (name, refl, cc)
 hold_asks all ns x other n e = absurd (cc)
 
 pub fail_asks : (all : List Numbered) (ns : List (List ℕ)) (x : Numbered) (item : Item) (n c : ℕ) → op_of all ns x item ≡ Some (ops.Fail n c) → (name : List ℕ) × (item ≡ Fail name c) × (n ≡ name_number ns name)
-fail_asks all ns x (Fail name code) n c e =
-    let same : ops.Fail (name_number ns name) code ≡ ops.Fail n c = some_is _ (ops.Fail n c) e in
-    let code_is : code ≡ c = cc in
-    (name, ap (Fail name) code_is, cc)
+fail_asks all ns x (Fail name code) n c e = let same : ops.Fail (name_number ns name) code ≡ ops.Fail n c = some_is _ (ops.Fail n c) e in let code_is : code ≡ c = cc in (name, ap (Fail name) code_is, cc)
 fail_asks all ns x other n c e = absurd (cc)
 
 pub drop_asks : (all : List Numbered) (ns : List (List ℕ)) (x : Numbered) (item : Item) (n : ℕ) → op_of all ns x item ≡ Some (ops.Drop n) → (name : List ℕ) × (item ≡ Drop name) × (n ≡ name_number ns name)
-drop_asks all ns x (Drop name) n e =
-    let same : ops.Drop (name_number ns name) ≡ ops.Drop n = some_is _ (ops.Drop n) e in
-    (name, refl, cc)
+drop_asks all ns x (Drop name) n e = let same : ops.Drop (name_number ns name) ≡ ops.Drop n = some_is _ (ops.Drop n) e in (name, refl, cc)
 drop_asks all ns x other n e = absurd (cc)
 
 pub call_asks : (all : List Numbered) (ns : List (List ℕ)) (x : Numbered) (item : Item) (asked : Asked) → op_of all ns x item ≡ Some (ops.Call asked) → (call : CallLine) × (item ≡ Call call) × (asked ≡ asked_of ns x.number call)

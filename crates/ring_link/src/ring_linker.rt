@@ -1,6 +1,6 @@
 ghost use Rattle.std.specs.Prelude.{◌≡◌, ◌≢◌, ◌+◌, ◌<◌, ◌∷◌, ◌++◌, false, true, None, Ok, [], length, IfOk, IsErrOf, OnErr, OnOk};
-ghost use Rattle.sock_io.specs.Linker.{shape_asked};
 ghost use Rattle.sock_io.specs.Link.{IsFresh, IsSettled, IsUnused, connection_of, end_of};
+ghost use Rattle.sock_io.specs.Linker.{shape_asked};
 ghost use Rattle.sock_io.specs.Meeting.{AreEnds, IsAskedPeer, MeetOut, MeetStep};
 ghost use Rattle.sock_io.specs.Peer.{IsNewPeer, has_ended};
 ghost use Rattle.sock_io.specs.Shape.{shaped_out};
@@ -10,18 +10,10 @@ use crate::open::{open_connection, open_ring};
 use crate::ring_in::RingIn;
 use crate::ring_out::RingOut;
 use crate::ring_peer::RingPeer;
-use ghosts::Ghosts;
-use sock_io::{Ends, LinkSpec, Linker, NoMemory, OpenFault, Shape, Shaped};
+use sock_io::{Ends, LinkSpec, Linker, NoMemory, NotedLinks, OpenFault, Shape, Shaped};
 use std::marker::Model;
 
 type Link = Ends<Shaped<RingOut>, RingIn, RingPeer>;
-
-/// The halves of a connection, as it was given back.
-#[derive(Drop)]
-struct Connection {
-    out: Shaped<RingOut>,
-    inn: RingIn,
-}
 
 /// Links over two rings, whatever the mode: each end may go to a thread of its own. The other end is `Ends::peer`, which
 /// whoever has it serves: the built-in server, where it is asked for, or one that gives nothing. The reading half of a
@@ -34,24 +26,19 @@ pub struct RingLinker<R: AllocGlobal + Drop> {
     rt: R,
     opened: u16,
     accepted: u16,
-    /// What was asked of each link, and what was given back, for the proofs.
-    asked: Ghosts<LinkSpec>,
-    links: Ghosts<Link>,
-    connections: Ghosts<Connection>,
+    /// What was asked of each link, and what was given back.
+    notes: NotedLinks<Shaped<RingOut>, RingIn, RingPeer>,
 }
 
 impl<R: AllocGlobal + Drop> Model for RingLinker<R> {
-    ghost use Rattle.std.specs.Prelude.{◌≡◌, length, map};
-    ghost use Rattle.sock_io.specs.Link.{connection_of, end_of};
-    ghost use Rattle.sock_io.specs.Shape.{shaped_out};
-    ghost use Rattle.ring_link.specs.Halves.{ring_in};
+    ghost use Rattle.std.specs.Prelude.{◌≡◌, length};
     ghost use Rattle.ring_link.specs.Linker.{RingLinkerState};
 
     ghost Value = { RingLinkerState };
 
-    ghost view = { λ l. record { asked = l.asked.list; accepted = l.accepted; back = map (λ e. end_of (shaped_out e.out) (ring_in e.inn)) l.links.list; done = map (λ c. connection_of (shaped_out c.out) (ring_in c.inn)) l.connections.list } };
+    ghost view = { λ l. record { asked = l.notes.asked; accepted = l.accepted; back = l.notes.back; done = l.notes.done } };
 
-    ghost invariant = { λ l. length l.asked.list ≡ l.opened };
+    ghost invariant = { λ l. length l.notes.asked ≡ l.opened };
 }
 
 impl<R: AllocGlobal + Drop> RingLinker<R> {
@@ -63,9 +50,7 @@ impl<R: AllocGlobal + Drop> RingLinker<R> {
             rt,
             opened: 0,
             accepted: 0,
-            asked: Ghosts::of(&0u8),
-            links: Ghosts::of(&0u8),
-            connections: Ghosts::of(&0u8),
+            notes: NotedLinks::new(),
         }
     }
 
@@ -75,9 +60,7 @@ impl<R: AllocGlobal + Drop> RingLinker<R> {
         ensures { self.new ≡ record self.old { asked = self.old.asked ++ spec.now ∷ [] } }
     {
         self.opened += 1;
-        let before: Ghosts<LinkSpec> = Ghosts::of(&self.asked);
-        let with = (before, *spec);
-        self.asked = Ghosts::of(&with);
+        self.notes.ask(spec);
     }
 }
 
@@ -119,12 +102,7 @@ impl<R: AllocGlobal + Drop> Linker for RingLinker<R> {
             return Err(OpenFault::NoMemory);
         };
         let Ends { out, inn, peer } = ends;
-        let shape = Shape {
-            piece: spec.piece,
-            again: spec.again,
-            fail: spec.fail,
-        };
-        match Shaped::new(self.rt.alloc(), out, shape) {
+        match Shaped::new(self.rt.alloc(), out, Shape::asked(spec)) {
             Ok(out) => {
                 self.note(spec);
                 Ok(Ends { out, inn, peer })
@@ -163,12 +141,7 @@ impl<R: AllocGlobal + Drop> Linker for RingLinker<R> {
         let Ok((out, inn)) = open_connection(self.rt.alloc()) else {
             return Err(OpenFault::NoMemory);
         };
-        let shape = Shape {
-            piece: u32::MAX,
-            again: 0,
-            fail: 0,
-        };
-        match Shaped::new(self.rt.alloc(), out, shape) {
+        match Shaped::new(self.rt.alloc(), out, Shape::plain()) {
             Ok(out) => {
                 self.accepted += 1;
                 Ok((out, inn))
@@ -181,17 +154,13 @@ impl<R: AllocGlobal + Drop> Linker for RingLinker<R> {
         requires { length self.old.done < self.old.accepted }
         ensures { self.new ≡ record self.old { done = self.old.done ++ connection_of (shaped_out out) (ring_in inn) ∷ [] } }
     {
-        let before: Ghosts<Connection> = Ghosts::of(&self.connections);
-        let with = (before, Connection { out, inn });
-        self.connections = Ghosts::of(&with);
+        self.notes.done(out, inn);
     }
 
     fn back(&mut self, _link: u16, ends: Link)
         requires { length self.old.back < length self.old.asked }
         ensures { self.new ≡ record self.old { back = self.old.back ++ end_of (shaped_out ends.out) (ring_in ends.inn) ∷ [] } }
     {
-        let before: Ghosts<Link> = Ghosts::of(&self.links);
-        let with = (before, ends);
-        self.links = Ghosts::of(&with);
+        self.notes.back(ends);
     }
 }

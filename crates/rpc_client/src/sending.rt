@@ -16,12 +16,14 @@ pub fn refuse<O: Out>(table: &SockTable<O>, seat: &mut SockSeat<O>, refused: Ref
     ensures by { RefusedAs refused result seat.old.me.0 seat.new.me.0 }
 {
     match refused {
-        Refused::Failed(sock, _, found) => {
+        Refused::Failed(sock, msg, found) => {
             table.release(seat, sock);
+            drop(msg);
             Outcome::Gone { found }
         }
-        Refused::Full(sock, _) => {
+        Refused::Full(sock, msg) => {
             table.release(seat, sock);
+            drop(msg);
             Outcome::Full
         }
     }

@@ -85,6 +85,7 @@ impl AnswerSeat {
     {
         if self.told.reserve(1).is_err() {
             self.starved = true;
+            drop(outcome);
             return;
         }
         self.told.push_reserved(Told { number, outcome });
@@ -98,8 +99,14 @@ impl AnswerSeat {
     {
         let ending = on_response(frame);
         match outcome(self.alloc, id, &ending) {
-            Ok(outcome) => self.tell(number, outcome),
-            Err(_) => self.starved = true,
+            Ok(outcome) => {
+                self.tell(number, outcome);
+                drop(ending);
+            }
+            Err(_) => {
+                self.starved = true;
+                drop(ending);
+            }
         }
     }
 
@@ -110,6 +117,7 @@ impl AnswerSeat {
     {
         if self.early.reserve(1).is_err() {
             self.starved = true;
+            drop(frame);
             return;
         }
         self.early.push_reserved(frame);

@@ -31,6 +31,7 @@ pub fn end_answered(ids: &IdTable<Call>, calls: &mut AnswerSeat, lock: IdLock<Ca
     let id = lock.id();
     let call = ids.destroy(&mut calls.seat, lock);
     calls.tell_response(call.operation, id, frame);
+    drop(call);
 }
 
 /// The call of the lock ends with this code.
@@ -45,4 +46,5 @@ pub fn end_failed(ids: &IdTable<Call>, calls: &mut AnswerSeat, lock: IdLock<Call
     let id = lock.id();
     let lost = ids.destroy(&mut calls.seat, lock);
     calls.tell(lost.operation, Outcome::CallFailed { id, code });
+    drop(lost);
 }

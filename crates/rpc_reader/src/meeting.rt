@@ -27,6 +27,7 @@ pub fn meet<R: Wait>(rt: &R, ids: &IdTable<Call>, calls: &mut AnswerSeat, frame:
     ensures met { FrameMet ids.now.plan.slots frame (books calls.old) (books calls.new) }
 {
     if !is_asked(&frame, ids.plan.slots) {
+        drop(frame);
         return;
     }
     let version = frame.meta.correlation_id;
@@ -36,6 +37,8 @@ pub fn meet<R: Wait>(rt: &R, ids: &IdTable<Call>, calls: &mut AnswerSeat, frame:
             let word = IdWord::from_word(gone.found);
             if is_early(word, (version % 4_294_967_296) as u32) {
                 calls.keep(frame);
+            } else {
+                drop(frame);
             }
         }
     }

@@ -156,6 +156,7 @@ impl<O: Out> Reader<O> {
         fail_if(socks, &mut self.seat, id, how);
         post_all(rt, ids, &mut self.calls, self.link, how.code(), calls);
         throw_if(rt, inn, how, intake.total, ending);
+        drop(intake);
         calm(self.calls.starved, how)
     }
 

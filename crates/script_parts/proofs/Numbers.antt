@@ -1,6 +1,5 @@
 -- The numbers of the operations of one sort are below that of operations, and no more than they are.
-use Rattle.std.proofs.Common.{◌≡◌, ℕ, suc, ◌+◌, ◌<◌, ◌≤◌, Bool, true, false, List, [], ◌∷◌, ◌++◌, length, take, drop, get_or, filter_map, Option, Some, None, Ok, refl, sym, subst, ap, arith, cond}
-use Rattle.std.specs.Prelude.{unwrap_or}
+use Rattle.std.proofs.Common.{◌≡◌, ℕ, ◌+◌, ◌<◌, ◌≤◌, Bool, true, false, List, [], ◌∷◌, ◌++◌, length, take, drop, get_or, filter_map, Some, None, Ok, sym, subst, ap, arith, cond}
 use Rattle.std.specs.List.{All, AllByRecursion, cons_option}
 use Rattle.std.proofs.lemmas.List.Elements.{All-from_recursion}
 use Rattle.brpc_model.specs.Items.{Item, is_open, is_call}
@@ -8,35 +7,24 @@ use Rattle.brpc_model.specs.Operations.{Operation, operations}
 use Rattle.brpc_model.specs.Script.{script_of}
 use Rattle.sock_words.specs.declared.plain.Plan.{Plan}
 use Rattle.corr_core.specs.declared.marks.Plan.{Plan as IdPlan}
+use Rattle.report_fits.proofs.Lists.{filter_map_short}
+use Rattle.report_fits.proofs.Numbering.{numbered_length}
 use Rattle.report_fits.proofs.Sizes.{keeps_limits}
 use Rattle.seat_programs.specs.Tasks.{Numbered, numbered_from, opens, calls, plan_of}
 use Rattle.call_run.specs.Threads.{ids_of}
 
 module _ (sort : Item → Bool) where
-  more_low : (found : Option ℕ) (os : List ℕ) (n : ℕ) → AllByRecursion (λ (o : ℕ). o < n) os → ((o : ℕ) → found ≡ Some o → o < n) → AllByRecursion (λ (o : ℕ). o < n) (cons_option found os)
-  more_low None os n all one = all
-  more_low (Some o) os n all one = (one o refl, all)
-
-  one_low : (b : Bool) (number o n : ℕ) → number < n → cond b (Some number) None ≡ Some o → o < n
-  one_low true number o n less e = subst (λ x. x < n) (ap (λ (q : Option ℕ). unwrap_or q 0) e) less
-  one_low false number o n less e = cc
+  more_low : (b : Bool) (number : ℕ) (os : List ℕ) (n : ℕ) → AllByRecursion (λ (o : ℕ). o < n) os → number < n → AllByRecursion (λ (o : ℕ). o < n) (cons_option (cond b (Some number) None) os)
+  more_low true number os n all less = (less, all)
+  more_low false number os n all less = all
 
   all_low : (number link : ℕ) (ops : List Operation) (n : ℕ) → number + length ops ≤ n → AllByRecursion (λ (o : ℕ). o < n) (filter_map (λ (x : Numbered). cond (sort x.op.item) (Some x.number) None) (numbered_from number link ops))
   all_low number link [] n e = tt
-  all_low number link (op ∷ ops) n e = more_low (cond (sort op.item) (Some number) None) (filter_map (λ (x : Numbered). cond (sort x.op.item) (Some x.number) None) (numbered_from (number + 1) (cond (is_open op.item) (link + 1) link) ops)) n
-      (all_low (number + 1) (cond (is_open op.item) (link + 1) link) ops n (omega (arith, e))) (λ o is. one_low (sort op.item) number o n (omega (arith, e)) is)
-
-  few_more : (found : Option ℕ) (os : List ℕ) → length (cons_option found os) ≤ suc (length os)
-  few_more None os = omega arith
-  few_more (Some o) os = omega arith
+  all_low number link (op ∷ ops) n e = more_low (sort op.item) number (filter_map (λ (x : Numbered). cond (sort x.op.item) (Some x.number) None) (numbered_from (number + 1) (cond (is_open op.item) (link + 1) link) ops)) n
+      (all_low (number + 1) (cond (is_open op.item) (link + 1) link) ops n (omega (arith, e))) (omega (arith, e))
 
   few_of : (number link : ℕ) (ops : List Operation) → length (filter_map (λ (x : Numbered). cond (sort x.op.item) (Some x.number) None) (numbered_from number link ops)) ≤ length ops
-  few_of number link [] = omega arith
-  few_of number link (op ∷ ops) = omega (
-    arith,
-    few_more (cond (sort op.item) (Some number) None) (filter_map (λ (x : Numbered). cond (sort x.op.item) (Some x.number) None) (numbered_from (number + 1) (cond (is_open op.item) (link + 1) link) ops)),
-    few_of (number + 1) (cond (is_open op.item) (link + 1) link) ops,
-  )
+  few_of number link ops = omega (arith, filter_map_short (λ (x : Numbered). cond (sort x.op.item) (Some x.number) None) (numbered_from number link ops), numbered_length number link ops)
 
 module _ (script : List Item) (p : Plan) (plan : p ≡ plan_of script) where
   -- a run takes these numbers

@@ -1,5 +1,6 @@
 -- The parts of a printed script, each as a text of whole lines.
-use Rattle.std.specs.Prelude.{ℕ, ◌||◌, Bool, not, if◌then◌else◌, List, [], ◌∷◌, ◌++◌, flat_map, filter}
+use Rattle.std.specs.Prelude.{ℕ, ◌==◌, ◌||◌, Bool, not, if◌then◌else◌, List, [], ◌∷◌, ◌++◌, flat_map, filter, decimal}
+use Rattle.sock_words.specs.Printed.{word}
 use Rattle.brpc_model.specs.Items.{Item, Slots, Requests, First, is_size, is_sched, is_turn}
 use Rattle.brpc_model.specs.Operations.{slots, requests, first_version}
 use Rattle.brpc_model.specs.ScriptText.{item_text, unless_default, scheduled}
@@ -15,6 +16,10 @@ line item = item_text item ++ 10 ∷ []
 -- a line of a text where it is wanted
 abbrev pub line_where : Bool → Item → List ℕ
 line_where wanted item = if wanted then line item else []
+
+-- the line of a size, where it differs from its default
+abbrev pub size_line : List ℕ → ℕ → ℕ → List ℕ
+size_line name default n = if n == default then [] else (name ++ word (decimal n)) ++ 10 ∷ []
 
 -- the lines of these items
 abbrev pub lines_text : List Item → List ℕ

@@ -11,7 +11,7 @@ const STEP: u64 = 1_442_695_040_888_963_407;
 
 /// Numbers drawn from a seed, one after another: with each draw the state x becomes
 /// `(x * FACTOR + STEP) mod 2^64`, and its upper 31 bits are the number drawn.
-#[derive(Debug, Drop)]
+#[derive(Drop)]
 pub struct Draws {
     pub state: u64,
 }

@@ -1,4 +1,4 @@
-ghost use Rattle.std.specs.Prelude.{◌≡◌, ◌++◌, ◌*◌, ◌^◌, ◌<◌, ◌≤◌, map, IfOk, OnOk};
+ghost use Rattle.std.specs.Prelude.{◌≡◌, ◌++◌, ◌∷◌, [], ◌*◌, ◌^◌, ◌<◌, ◌≤◌, map, IfOk, OnOk};
 ghost use Rattle.brpc_model.specs.Drawn.{call_of, gen_item, gen_size, gen_operations, gen_draws, generated, setup, shaped, state_behind};
 ghost use Rattle.brpc_model.specs.Items as model;
 ghost use Rattle.brpc_model.specs.Script.{script_of};
@@ -45,15 +45,31 @@ fn open_line(
     Ok(Line::Open(OpenLine { name, shape }))
 }
 
+/// Appends an `open`.
+fn push_link(
+    alloc: Global,
+    lines: &mut Vec<Line>,
+    name: &[u8],
+    piece: u32,
+    again: u32,
+    serve: bool,
+) -> Result<(), AllocError>
+    ensures { OnOk result (map item lines.new.items
+        ≡ map item lines.old.items ++ (model.Open name.now (shaped piece again serve) ∷ [])) }
+{
+    lines.push(open_line(alloc, name, piece, again, serve)?)?;
+    Ok(())
+}
+
 /// The four links of the setup.
 fn setup_lines(alloc: Global) -> Result<Vec<Line>, AllocError>
     ensures { IfOk result (λ lines. map item lines.items ≡ setup) }
 {
     let mut lines = Vec::new(alloc);
-    lines.push(open_line(alloc, b"a", 7, 0, false)?)?;
-    lines.push(open_line(alloc, b"b", 65_536, 2, false)?)?;
-    lines.push(open_line(alloc, b"c", 65_536, 0, true)?)?;
-    lines.push(open_line(alloc, b"d", 5, 0, true)?)?;
+    push_link(alloc, &mut lines, b"a", 7, 0, false)?;
+    push_link(alloc, &mut lines, b"b", 65_536, 2, false)?;
+    push_link(alloc, &mut lines, b"c", 65_536, 0, true)?;
+    push_link(alloc, &mut lines, b"d", 5, 0, true)?;
     Ok(lines)
 }
 

@@ -11,7 +11,7 @@ use sock_io::{Sink, write_all};
 use std::alloc::Global;
 
 /// Why a script wasn't printed whole.
-#[derive(Clone, Copy, Debug, PartialEq, Eq)]
+#[derive(Clone, Copy)]
 pub enum PrintFault {
     /// The sink failed, and has taken a front of the text.
     Sink,

@@ -4,9 +4,9 @@ ghost use Rattle.brpc_model.specs.Items.{is_turn};
 ghost use Rattle.brpc_model.specs.Operations.{slots, requests, first_version};
 ghost use Rattle.brpc_model.specs.ScriptText.{script_text};
 ghost use Rattle.script_items.specs.Meaning.{item};
-ghost use Rattle.script_print.specs.PrintedParts.{is_body, line, line_where, lines_text, size_items, body_items, schedule_items};
+ghost use Rattle.script_print.specs.PrintedParts.{is_body, line, line_where, size_line, lines_text, size_items, body_items, schedule_items};
 
-use crate::lines::push_line;
+use crate::lines::{push_line, push_size};
 use script_items::{Line, Script};
 use std::alloc::{AllocError, Global};
 
@@ -94,17 +94,31 @@ fn push_where(
     text.extend_from_slice(b"\n")
 }
 
+/// Appends the line of a size with its end, where the size differs from its default.
+fn push_size_line(
+    text: &mut Vec<u8>,
+    name: &[u8],
+    default: u32,
+    number: u32,
+) -> Result<(), AllocError>
+    ensures { OnOk result (
+        text.new.items ≡ text.old.items ++ size_line name.now default number) }
+{
+    if number == default {
+        return Ok(());
+    }
+    push_size(text, name, number)?;
+    text.extend_from_slice(b"\n")
+}
+
 /// Appends the lines of the sizes that differ from their defaults.
-fn push_sizes(alloc: Global, text: &mut Vec<u8>, lines: &[Line]) -> Result<(), AllocError>
+fn push_sizes(text: &mut Vec<u8>, lines: &[Line]) -> Result<(), AllocError>
     ensures { OnOk result (
         text.new.items ≡ text.old.items ++ lines_text (size_items (map item lines.now))) }
 {
-    let slots = slots_of(lines);
-    let requests = requests_of(lines);
-    let first = first_of(lines);
-    push_where(alloc, text, &Line::Slots(slots), slots != SLOTS)?;
-    push_where(alloc, text, &Line::Requests(requests), requests != REQUESTS)?;
-    push_where(alloc, text, &Line::First(first), first != FIRST)
+    push_size_line(text, b"slots", SLOTS, slots_of(lines))?;
+    push_size_line(text, b"requests", REQUESTS, requests_of(lines))?;
+    push_size_line(text, b"first", FIRST, first_of(lines))
 }
 
 /// Appends the setup and the clients.
@@ -160,7 +174,7 @@ pub fn text_of(alloc: Global, script: &Script) -> Result<Vec<u8>, AllocError>
 {
     let lines = script.lines();
     let mut text = Vec::new(alloc);
-    push_sizes(alloc, &mut text, lines)?;
+    push_sizes(&mut text, lines)?;
     push_body(alloc, &mut text, lines)?;
     push_schedule(alloc, &mut text, lines)?;
     Ok(text)

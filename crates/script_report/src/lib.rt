@@ -4,6 +4,7 @@
 mod links;
 mod operations;
 mod orders;
+mod said;
 mod summary;
 mod sums;
 mod told;
@@ -11,5 +12,6 @@ mod words;
 mod writing;
 
 pub use links::Accepted;
+pub use said::{say, untold};
 pub use summary::{Load, print_summary};
 pub use told::print_report;

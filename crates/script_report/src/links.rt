@@ -9,7 +9,7 @@ use std::alloc::{AllocError, Global};
 const HEAD: usize = 32;
 
 /// A message that a link accepted: the number of its operation in the whole script, counted from 0, and its attempt.
-#[derive(Clone, Copy, Debug, PartialEq, Eq)]
+#[derive(Clone, Copy)]
 pub struct Accepted {
     pub operation: usize,
     pub attempt: u8,

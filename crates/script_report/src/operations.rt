@@ -1,6 +1,6 @@
-ghost use Rattle.std.specs.Prelude.{◌≡◌, ◌++◌, map, decimal, IfOk, OnOk};
+ghost use Rattle.std.specs.Prelude.{◌≡◌, ◌++◌, map, codes, decimal, IfOk, OnOk};
 ghost use Rattle.sock_words.specs.OutcomeText.{outcome_text};
-ghost use Rattle.sock_words.specs.Printed.{word};
+ghost use Rattle.sock_words.specs.Printed.{word, hex_text};
 ghost use Rattle.brpc_model.specs.Items.{is_operation};
 ghost use Rattle.brpc_model.specs.Operations.{operations};
 ghost use Rattle.script_items.specs.Meaning.{item};
@@ -12,7 +12,7 @@ use sock_words::Outcome;
 use std::alloc::{AllocError, Global};
 
 /// An operation's client, 0 for the setup, and its number there, counted from 1.
-#[derive(Clone, Copy, Debug, PartialEq, Eq)]
+#[derive(Clone, Copy)]
 pub struct OperationPlace {
     pub client: usize,
     pub number: usize,
@@ -70,6 +70,34 @@ fn push_displayed(alloc: Global, text: &mut Vec<u8>, outcome: &Outcome) -> Resul
     text.extend_from_slice(words.as_bytes())
 }
 
+// A space, and the socket that an `open` made.
+fn push_opened(text: &mut Vec<u8>, slot: u32, version: u32, link: u16) -> Result<(), AllocError>
+    ensures { OnOk result (text.new.items ≡ text.old.items
+        ++ word (codes "open" ++ word (decimal slot) ++ word (decimal version) ++ word (decimal link))) }
+{
+    text.extend_from_slice(b" open ")?;
+    push_pair(text, u64::from(slot), b' ', u64::from(version))?;
+    push_number_word(text, u64::from(link))
+}
+
+// A space, and the answer to a call.
+fn push_answered(
+    alloc: Global,
+    text: &mut Vec<u8>,
+    id: u64,
+    payload: &[u8],
+    attachment: &[u8],
+) -> Result<(), AllocError>
+    ensures { OnOk result (text.new.items ≡ text.old.items
+        ++ word (codes "call" ++ word (decimal id) ++ codes " answered" ++ word (hex_text payload.now) ++ word (hex_text attachment.now))) }
+{
+    text.extend_from_slice(b" call ")?;
+    push_number(text, id)?;
+    text.extend_from_slice(b" answered")?;
+    push_hex_word(alloc, text, payload)?;
+    push_hex_word(alloc, text, attachment)
+}
+
 // A space and an outcome. Those that a run has by the thousand are written with no memory of their own.
 fn push_outcome(alloc: Global, text: &mut Vec<u8>, outcome: &Outcome) -> Result<(), AllocError>
     ensures { OnOk result (text.new.items ≡ text.old.items ++ word (outcome_text outcome.now)) }
@@ -79,11 +107,7 @@ fn push_outcome(alloc: Global, text: &mut Vec<u8>, outcome: &Outcome) -> Result<
             slot,
             version,
             link,
-        } => {
-            text.extend_from_slice(b" open ")?;
-            push_pair(text, u64::from(*slot), b' ', u64::from(*version))?;
-            push_number_word(text, u64::from(*link))
-        }
+        } => push_opened(text, *slot, *version, *link),
         Outcome::SlotsFull => text.extend_from_slice(b" slots full"),
         Outcome::Placed { link, position } => push_position(text, b" placed ", *link, *position),
         Outcome::Dropped { link, position } => push_position(text, b" dropped ", *link, *position),
@@ -91,13 +115,7 @@ fn push_outcome(alloc: Global, text: &mut Vec<u8>, outcome: &Outcome) -> Result<
             id,
             payload,
             attachment,
-        } => {
-            text.extend_from_slice(b" call ")?;
-            push_number(text, *id)?;
-            text.extend_from_slice(b" answered")?;
-            push_hex_word(alloc, text, payload.as_slice())?;
-            push_hex_word(alloc, text, attachment.as_slice())
-        }
+        } => push_answered(alloc, text, *id, payload.as_slice(), attachment.as_slice()),
         _ => push_displayed(alloc, text, outcome),
     }
 }

@@ -9,7 +9,7 @@ use sock_words::{Outcome, PlaceWord};
 use std::alloc::{AllocError, Global};
 
 /// Of which drawn script a run is summed up: `load SEED CLIENTS OPS`.
-#[derive(Clone, Copy, Debug, PartialEq, Eq)]
+#[derive(Clone, Copy)]
 pub struct Load {
     pub seed: u32,
     pub clients: u32,

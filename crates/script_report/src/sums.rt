@@ -13,7 +13,7 @@ use sock_words::{Outcome, PlaceWord};
 /// What became of the sends and the calls of a run: how many there were, how many sends were placed with how many bytes,
 /// how many calls were answered with how many bytes of payload, and how many operations other than an `open` have
 /// another outcome.
-#[derive(Clone, Copy, Debug, PartialEq, Eq)]
+#[derive(Clone, Copy)]
 pub struct Sums {
     pub sends: u64,
     pub placed: u64,
@@ -113,7 +113,11 @@ fn told_one(line: &Line, said: &Option<Outcome>, word: PlaceWord) -> Sums
     match said {
         Some(outcome) => one_of(line, outcome),
         None => match outcome_by_word(word) {
-            Some(outcome) => one_of(line, &outcome),
+            Some(outcome) => {
+                let sums = one_of(line, &outcome);
+                drop(outcome);
+                sums
+            }
             None => NONE,
         },
     }

@@ -31,7 +31,11 @@ fn push_told_line(
     match said {
         Some(outcome) => push_outcome_line(alloc, text, place, outcome),
         None => match outcome_by_word(first_word(words, operation)) {
-            Some(outcome) => push_outcome_line(alloc, text, place, &outcome),
+            Some(outcome) => {
+                let pushed = push_outcome_line(alloc, text, place, &outcome);
+                drop(outcome);
+                pushed
+            }
             None => Ok(()),
         },
     }

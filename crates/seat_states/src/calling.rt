@@ -16,7 +16,7 @@ use sock_words::{AtWord, IdWord, Outcome, SocketId, Vref};
 
 /// What a seat knows of the call in its hand: the number of its operation, that of the name of its first attempt, and how
 /// many versions its id has.
-#[derive(Clone, Copy, Debug, PartialEq, Eq)]
+#[derive(Clone, Copy)]
 pub struct Calling {
     pub operation: u16,
     pub name: u16,

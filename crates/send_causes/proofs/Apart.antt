@@ -46,6 +46,37 @@ total_two g (e ∷ l) (suc m) (suc n) a b x y ne = let t = total_two g l m n a b
 pair_self : (id n i m : ℕ) → i ≡ id → m ≡ n → pair_of id n i m ≡ 1
 pair_self id n i m e f = ap (λ b. cond b (cond (eqb m n) 1 0) 0) (eq-eqb i id e) ∙ ap (λ b. cond b 1 0) (eq-eqb m n f)
 
+pub heading_one : (id n : ℕ) (h : Heading) → h.owner ≢ 0 → h.owner ≡ id → h.attempt ≡ n → of_heading id n h ≡ 1
+heading_one id n h some_ a b = ap (λ z. cond z 0 (pair_of id n h.owner h.attempt)) (ne_eqb h.owner 0 some_) ∙ pair_self id n h.owner h.attempt a b
+
+module _ (is_call : Asked → Type 0) (ids : ℕ → ℕ) (vs : List View) (once : (id n : ℕ) → total (of_view id n) vs ≤ 1) where
+  -- two messages of one attempt would count twice
+  view_most : (i n : ℕ) (e : Entry) (h : HasSent vs i n e) (id a : ℕ) → total (of_entry id a) h.made ≤ of_view id a h.view
+  view_most i n e h id a = let z : total (total (of_entry id a)) h.view.lists ≡ total (of_entry id a) h.made + 0 = ap (total (total (of_entry id a))) h.lists in omega (arith, z)
+
+  pub calls_apart : (i j m n : ℕ) (d e : Entry) (h : HasSent vs i m d) (k : HasSent vs j n e) → IsOfCall is_call ids d.heading d.bytes → IsOfCall is_call ids e.heading e.bytes → d.heading.place ≡ e.heading.place → (i ≡ j) × (m ≡ n)
+  calls_apart i j m n d e h k f g same = dite (ℕ_discrete i j)
+      (λ ij. dite (ℕ_discrete m n) (λ mn. (ij, mn)) (λ ne. absurd (let stands = sent_in vs j n e h.view h.made k (sym (ap (get_elem? vs) ij) ∙ h.here) h.lists in
+      let two = total_two (of_entry id att) h.made m n d e h.stands stands ne in let most = view_most i m d h id att in let all = term_le (of_view id att) vs i h.view h.here in
+      let one = once id att in omega (arith, two, most, all, one, one_d, one_e))))
+      (λ ne. absurd (let two = total_two (of_view id att) vs i j h.view k.view h.here k.here ne in let a = term_le (of_entry id att) h.made m d h.stands in let b = term_le (of_entry id att) k.made n e k.stands in
+      let most_a = view_most i m d h id att in let most_b = view_most j n e k id att in let one = once id att in omega (arith, two, a, b, most_a, most_b, one, one_d, one_e)))
+    where
+      id : ℕ
+      id = d.heading.owner
+
+      att : ℕ
+      att = d.heading.attempt
+
+      op : d.heading.operation ≡ e.heading.operation
+      op = let a = f.2 in let b = g.2 in let x = f.3 in let y = g.3 in omega (arith, a, b, x, y, same)
+
+      one_d : of_entry id att d ≡ 1
+      one_d = heading_one d.heading.owner d.heading.attempt d.heading f.0 refl refl
+
+      one_e : of_entry id att e ≡ 1
+      one_e = heading_one d.heading.owner d.heading.attempt e.heading g.0 (sym g.1 ∙ (ap ids (sym op) ∙ f.1)) (let a = f.2 in let b = g.2 in let x = f.3 in let y = g.3 in omega (arith, a, b, x, y, same))
+
 module _ (p : Plan) (q : IdPlan) (is_call : Asked → Type 0) (ids : ℕ → ℕ) (clients : List (List Task)) (are : AreTasks p clients) (c : Core) (vs : List View) (es : List Event) (lost : List ℕ) (sound : Sound p c vs) (story : Story p clients true c vs es lost) (settled : AllRest c)
     (ts : List Trial) (law : LabelLaw is_call ids p q c vs ts) where
   fits : (i n : ℕ) (e : Entry) → HasSent vs i n e → EntryFits is_call ids p e
@@ -90,55 +121,10 @@ module _ (p : Plan) (q : IdPlan) (is_call : Asked → Type 0) (ids : ℕ → ℕ
   kinds_apart i j m n d e h k sd se same = let a = send_place i m d h sd in let f = of_call_fits j n e k se in let b = f.2 in let few = f.3 in let x = message i m d h sd in
       let op : d.heading.operation ≡ e.heading.operation = omega (arith, a, b, few, same) in spoken j n e k se i x.task x.asks (sym (send_number i m d h sd) ∙ op)
 
-  -- two messages of one attempt would count twice
-  here_once : (i n : ℕ) (e : Entry) (h : HasSent vs i n e) (id a : ℕ) → of_entry id a e ≤ total (of_entry id a) h.made
-  here_once i n e h id a = term_le (of_entry id a) h.made n e h.stands
-
-  view_most : (i n : ℕ) (e : Entry) (h : HasSent vs i n e) (id a : ℕ) → total (of_entry id a) h.made ≤ of_view id a h.view
-  view_most i n e h id a = let z : total (total (of_entry id a)) h.view.lists ≡ total (of_entry id a) h.made + 0 = ap (total (total (of_entry id a))) h.lists in omega (arith, z)
-
-  calls_apart : (i j m n : ℕ) (d e : Entry) (h : HasSent vs i m d) (k : HasSent vs j n e) → is_of_send d ≡ false → is_of_send e ≡ false → d.heading.place ≡ e.heading.place → (i ≡ j) × (m ≡ n)
-  calls_apart i j m n d e h k sd se same = dite (ℕ_discrete i j)
-      (λ ij. dite (ℕ_discrete m n) (λ mn. (ij, mn)) (λ ne. absurd (let stands = sent_in vs j n e h.view h.made k (sym (ap (get_elem? vs) ij) ∙ h.here) h.lists in
-      let two = total_two (of_entry id att) h.made m n d e h.stands stands ne in let most = view_most i m d h id att in let all = term_le (of_view id att) vs i h.view h.here in
-      let once = law.once id att in omega (arith, two, most, all, once, one_d, one_e))))
-      (λ ne. absurd (let two = total_two (of_view id att) vs i j h.view k.view h.here k.here ne in let a = here_once i m d h id att in let b = here_once j n e k id att in
-      let most_a = view_most i m d h id att in let most_b = view_most j n e k id att in let once = law.once id att in omega (arith, two, a, b, most_a, most_b, once, one_d, one_e)))
-    where
-      f : IsOfCall is_call ids d.heading d.bytes
-      f = of_call_fits i m d h sd
-
-      g : IsOfCall is_call ids e.heading e.bytes
-      g = of_call_fits j n e k se
-
-      id : ℕ
-      id = d.heading.owner
-
-      att : ℕ
-      att = d.heading.attempt
-
-      op : d.heading.operation ≡ e.heading.operation
-      op = let a = f.2 in let b = g.2 in let x = f.3 in let y = g.3 in omega (arith, a, b, x, y, same)
-
-      atts : e.heading.attempt ≡ d.heading.attempt
-      atts = let a = f.2 in let b = g.2 in let x = f.3 in let y = g.3 in omega (arith, a, b, x, y, same)
-
-      owners : e.heading.owner ≡ d.heading.owner
-      owners = sym g.1 ∙ (ap ids (sym op) ∙ f.1)
-
-      heading_one : (w : Heading) → w.owner ≢ 0 → w.owner ≡ d.heading.owner → w.attempt ≡ d.heading.attempt → of_heading d.heading.owner d.heading.attempt w ≡ 1
-      heading_one w some_ a b = ap (λ z. cond z 0 (pair_of d.heading.owner d.heading.attempt w.owner w.attempt)) (ne_eqb w.owner 0 some_) ∙ pair_self d.heading.owner d.heading.attempt w.owner w.attempt a b
-
-      one_d : of_entry id att d ≡ 1
-      one_d = heading_one d.heading f.0 refl refl
-
-      one_e : of_entry id att e ≡ 1
-      one_e = heading_one e.heading g.0 owners atts
-
   apart : (i j m n : ℕ) (d e : Entry) → HasSent vs i m d → HasSent vs j n e → d.heading.place ≡ e.heading.place → (i ≡ j) × (m ≡ n)
   apart i j m n d e h k same = ⊎_elim
       (λ sd. ⊎_elim (λ se. sends_apart i j m n d e h k sd se same) (λ se. absurd (kinds_apart i j m n d e h k sd se same)) (either_bool (is_of_send e)))
-      (λ sd. ⊎_elim (λ se. absurd (kinds_apart j i n m e d k h se sd (sym same))) (λ se. calls_apart i j m n d e h k sd se same) (either_bool (is_of_send e)))
+      (λ sd. ⊎_elim (λ se. absurd (kinds_apart j i n m e d k h se sd (sym same))) (λ se. calls_apart is_call ids vs (λ id n. let once = law.once id n in omega (arith, once)) i j m n d e h k (of_call_fits i m d h sd) (of_call_fits j n e k se) same) (either_bool (is_of_send e)))
       (either_bool (is_of_send d))
 
   -- no two accepted messages have one place word

@@ -36,14 +36,15 @@ use Rattle.seat_programs.specs.Cores.{Calls, Core, SeatState, word_of, found_at,
 use Rattle.seat_programs.specs.Ticks.{Moment, IsAnswered, fed, with_places, onto_first, taken, ticked}
 use Rattle.sock_runs.specs.Sound.{Sound, first_step}
 use Rattle.outcome_causes.proofs.Cases.{tick_cases}
-use Rattle.outcome_causes.proofs.Ticks.{elem_there}
 use Rattle.label_runs.specs.Labels.{FindsLabel}
 use Rattle.send_causes.specs.Counts.{word_of_id}
 use Rattle.send_causes.proofs.Words.{finds_label}
-use Rattle.send_causes.proofs.Ticks.{AreCalls, PutsCall, calls_behind, calls_waiting, few_of, ids_first, fits_as}
+use Rattle.outcome_causes.proofs.HomeCalls.{AreCalls, PutsAsked, calls_behind}
+use Rattle.send_causes.proofs.Ticks.{calls_waiting, few_of, fits_as}
 use Rattle.send_causes.proofs.AttemptedWords.{Rise, is_new, is_same, is_more, IsMakeAt, risen, Advances}
 use Rattle.send_causes.proofs.EndedTrails.{StoresNext, Of, NoCall, Makes, Knows, Trail, lost, Stays, GoesDo, GoesAside, Follows}
 use Rattle.send_causes.proofs.EndedNames.{follows_first, resolves}
+use Rattle.send_causes.proofs.SeatFacts.{seat_facts}
 use Rattle.send_causes.proofs.AttemptedFacts.{IsStored, IsStoring, IsOwn, Facts}
 
 -- what is known of a call
@@ -268,7 +269,7 @@ module _ (p : Plan) (q : IdPlan) (narrow : q.slots ≤ 65536) (is_call : Asked �
       finds_step (TakeCall k) answer found is may = law.calls k found is
       finds_step _ answer found is may = tt
 
-      puts_step : (step : Step) (after : Program) (found : Found step) (x : Trail) → GoesAside is_call t step after found x → PutsCall is_call step
+      puts_step : (step : Step) (after : Program) (found : Found step) (x : Trail) → GoesAside is_call t step after found x → PutsAsked is_call step
       puts_step (PutCall k asked) after found x g = g.1
       puts_step _ after found x g = tt
 
@@ -283,17 +284,7 @@ module _ (p : Plan) (q : IdPlan) (narrow : q.slots ≤ 65536) (is_call : Asked �
   -- ## A tick of any seat
 
   module _ (sound : Sound p c vs) (m : Moment) (answered : IsAnswered c m) (fitting : IsFittingIds p c m) where
-    trail_of : (seat : SeatState) → get_elem? c.seats m.seat ≡ some seat → (t : Trail) × (get_elem? ts m.seat ≡ some t)
-    trail_of seat at = elem_there c.seats ts m.seat seat law.each at
-
-    view_of : (seat : SeatState) → get_elem? c.seats m.seat ≡ some seat → (u : IdView) × (get_elem? us m.seat ≡ some u)
-    view_of seat at = elem_there c.seats us m.seat seat real_ids.each at
-
-    first_as : (seat : SeatState) (at : get_elem? c.seats m.seat ≡ some seat) (x : Program) → first_step seat.program ≡ x → Follows is_call (trail_of seat at).0 x
-    first_as seat at x is = let t = trail_of seat at in subst (Follows is_call t.0) is (follows_first is_call t.0 seat.program (law.programs m.seat seat t.0 at t.1))
-
-    may_as : (seat : SeatState) (at : get_elem? c.seats m.seat ≡ some seat) (x : Program) → first_step seat.program ≡ x → IdGoesOn p q (view_of seat at).0 x
-    may_as seat at x is = let u = view_of seat at in subst (IdGoesOn p q u.0) is (ids_first p q narrow u.0 seat.program (real_ids.seats m.seat seat u.0 at u.1))
+    open seat_facts (Follows is_call) (follows_first is_call) p q narrow c ts law.each law.programs us real_ids m.seat use {stand_of as trail_of, view_of, first_as, may_as}
 
     unchanged : (ws : List View) → After c ws
     unchanged ws = (ts, law, λ o id own. own)

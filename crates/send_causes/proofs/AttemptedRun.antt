@@ -1,7 +1,6 @@
 -- What each link accepted in a whole run of a script with calls.
 use Rattle.std.proofs.Common.{◌≡◌, ℕ, ◌<◌, List, length, sym, ap, ◌∙◌, subst}
 use Rattle.std.specs.List.{AllByRecursion}
-use Rattle.sock_model.specs.declared.view.View.{View}
 use Rattle.brpc_model.specs.Items.{Item}
 use Rattle.brpc_model.specs.Operations.{Turn}
 use Rattle.sock_message.specs.Asked.{Asked, name_of}
@@ -12,21 +11,20 @@ use Rattle.seat_programs.specs.Tasks.{opens, plan_of, id_plan_of}
 use Rattle.seat_programs.specs.Scripts.{all_tasks, IsRunWithCalls}
 use Rattle.seat_programs.specs.Told.{IsTask, Made}
 use Rattle.seat_programs.specs.ToldCalls.{Accepted, Fixed, IsSent}
-use Rattle.sock_runs.proofs.Whole.{views_ended, ended_sound, end_rests, AreFittingIn, Begins}
+use Rattle.sock_runs.proofs.Whole.{views_ended, ended_sound, end_rests}
 use Rattle.outcome_causes.specs.Causes.{Asks}
 use Rattle.outcome_causes.specs.Kept.{IsSpoken}
 use Rattle.outcome_causes.specs.PlainTasks.{told_tasks_of}
 use Rattle.outcome_causes.proofs.Lifted.{made_up}
 use Rattle.outcome_causes.proofs.Members.{contains_in}
 use Rattle.outcome_causes.proofs.Tasks.{one_task}
-use Rattle.call_causes.specs.joint_runs.proofs.Runs.{AreMade, first_views}
+use Rattle.call_causes.specs.joint_runs.proofs.Runs.{AreMade}
 use Rattle.report_fits.proofs.Reading.{InRange}
 use Rattle.report_fits.proofs.Targets.{AreThere}
 use Rattle.call_causes.specs.owed_calls.specs.Lives.{ClosesInRun}
 use Rattle.call_causes.specs.owed_calls.proofs.Known.{run_all_rest}
 use Rattle.call_causes.specs.Lists.{attempts_of_run}
 use Rattle.send_causes.proofs.Apart as apart
-use Rattle.send_causes.proofs.Early.{start, go, fitting}
 use Rattle.send_causes.specs.EndedCalls.{stores_of_run}
 use Rattle.send_causes.proofs.Runs.{AreLabelledIn, IsCallOf, end_law}
 use Rattle.send_causes.proofs.Sends.{owed, orders_of_run, narrow, opening_bare}
@@ -37,22 +35,13 @@ use Rattle.send_causes.proofs.DropWhole.{get_same}
 use Rattle.send_causes.proofs.EndedNamed.{tasks_are, end_named}
 use Rattle.send_causes.proofs.EndedLives.{all_named}
 use Rattle.send_causes.proofs.AttemptedStored.{ids_at, stored_run, words_stored}
-use Rattle.sock_runs.proofs.LinkTicks.{RetriesGo}
+use Rattle.send_causes.proofs.Grounds.{setting, grounds}
 use Rattle.report_fits.proofs.Lists.{all_map}
 
 module _ (script : List Item) (made : AreMade script) (there : AreThere script) (range : AllByRecursion InRange script) (turns : List Turn) (core : Core) (is : IsRunWithCalls script turns core) (closes : ClosesInRun script turns core is)
     (ids : ℕ → ℕ) (labelled : AreLabelledIn ids script turns core is) where
-  abbrev vs : List View
-  vs = first_views script
-
-  abbrev begins : Begins script (first_views script)
-  begins = start script made turns core is
-
-  abbrev goes : RetriesGo (plan_of script)
-  goes = go script made turns core is
-
-  abbrev fits : AreFittingIn script turns core is
-  fits = fitting script made turns core is
+  open setting script use {vs}
+  open grounds script made turns core is use {begins, goes, fits}
 
   -- the call of an operation is its task's
   pub one_asked : (a b : Asked) → IsCallOf script a → (c : ℕ) (t : Task) → IsTask (all_tasks script) core.outcomes c t → t.op ≡ ops.Call b → a.operation ≡ t.number → a ≡ b

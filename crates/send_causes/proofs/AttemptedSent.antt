@@ -19,7 +19,7 @@ use Rattle.seat_programs.specs.Scripts.{all_tasks, IsRunWithCalls}
 use Rattle.seat_programs.specs.Told.{AreTasks, IsTask, Made}
 use Rattle.seat_programs.specs.ToldCalls.{Accepted, Fixed, IsSent, OfSend, OfCall}
 use Rattle.sock_runs.specs.Sound.{Sound, AllRest}
-use Rattle.sock_runs.proofs.Whole.{views_ended, ended_sound, end_rests, AreFittingIn, IsOwed, Begins}
+use Rattle.sock_runs.proofs.Whole.{views_ended, ended_sound, end_rests, IsOwed}
 use Rattle.outcome_causes.specs.Causes.{Asks}
 use Rattle.outcome_causes.specs.Kept.{is_of_send, IsSpoken, Story}
 use Rattle.outcome_causes.specs.PlainTasks.{told_tasks_of}
@@ -31,7 +31,7 @@ use Rattle.outcome_causes.proofs.Members.{in_contains}
 use Rattle.outcome_causes.proofs.Messages.{each_made, message_of, number_of}
 use Rattle.outcome_causes.proofs.Scripts.{seats, final_told, story_end, run_told}
 use Rattle.outcome_causes.proofs.Senders.{HasSent, all_sent}
-use Rattle.call_causes.specs.joint_runs.proofs.Runs.{AreMade, first_views}
+use Rattle.call_causes.specs.joint_runs.proofs.Runs.{AreMade}
 use Rattle.report_fits.proofs.Reading.{InRange}
 use Rattle.report_fits.proofs.Targets.{AreThere}
 use Rattle.call_causes.specs.owed_calls.specs.Lives.{ClosesInRun}
@@ -39,15 +39,15 @@ use Rattle.call_causes.specs.Lists.{attempts_of_run}
 use Rattle.label_runs.specs.Labels.{Trial}
 use Rattle.send_causes.specs.Counts.{pair_of, of_heading, of_entry, of_view, times_of, LabelLaw}
 use Rattle.send_causes.proofs.Apart as apart
-use Rattle.send_causes.proofs.Early.{start, go, fitting, first_fresh}
+use Rattle.send_causes.proofs.Early.{first_fresh}
 use Rattle.send_causes.proofs.Runs.{AreLabelledIn, IsCallOf}
 use Rattle.send_causes.proofs.Sends.{owed, orders_of_run, narrow, opening_bare}
 use Rattle.send_causes.proofs.AttemptedIds.{AreRisingIn}
 use Rattle.send_causes.proofs.AttemptedRuns.{IsWithin, end_counted}
 use Rattle.send_causes.proofs.AttemptedCalls.{AreStored, single, shows}
-use Rattle.sock_runs.proofs.LinkTicks.{RetriesGo}
 use Rattle.send_causes.proofs.DropWhole.{get_same}
 use Rattle.send_causes.proofs.OwnDecisionsTicks.{pair_self}
+use Rattle.send_causes.proofs.Grounds.{setting, grounds}
 use Rattle.sock_runs.proofs.Recorded.{either_bool}
 
 -- ## Accepted messages
@@ -89,20 +89,8 @@ IsNamedOn script core k a = (client : ℕ) (t : Task) (asked : Asked) → IsTask
 module _ (script : List Item) (made : AreMade script) (there : AreThere script) (range : AllByRecursion InRange script) (turns : List Turn) (core : Core) (is : IsRunWithCalls script turns core) (closes : ClosesInRun script turns core is)
     (ids : ℕ → ℕ) (labelled : AreLabelledIn ids script turns core is) (rising : AreRisingIn ids script turns core is) (stored : AreStored ids script core)
     (named : (k : ℕ) → k < (plan_of script).links → AllByRecursion (λ (a : Accepted). IsSpoken (told_tasks_of script) a.operation → IsNamedOn script core k a) (orders_of_run script made turns core is closes k).accepted) where
-  abbrev p : Plan
-  p = plan_of script
-
-  abbrev vs : List View
-  vs = first_views script
-
-  abbrev begins : Begins script (first_views script)
-  begins = start script made turns core is
-
-  abbrev goes : RetriesGo (plan_of script)
-  goes = go script made turns core is
-
-  abbrev fits : AreFittingIn script turns core is
-  fits = fitting script made turns core is
+  open setting script use {p, vs}
+  open grounds script made turns core is use {begins, goes, fits}
 
   abbrev owes : IsOwed script turns core is
   owes = owed script made turns core is closes

@@ -1,11 +1,10 @@
 -- In a whole run the word of each call is that of its id as the run ends, and whoever stores an at word stores one of that id.
-use Rattle.std.proofs.Common.{◌≡◌, ◌≢◌, ℕ, zero, suc, ◌<◌, ◌≤◌, ◌⊎◌, inl, inr, ⊎_elim, List, [], ◌∷◌, ◌++◌, length, map, replicate, get_or, refl, sym, ap, ◌∙◌, subst, arith, length-set}
+use Rattle.std.proofs.Common.{◌≡◌, ◌≢◌, ℕ, zero, suc, ◌<◌, ◌≤◌, ◌⊎◌, inl, inr, ⊎_elim, List, [], ◌∷◌, ◌++◌, length, map, replicate, get_or, refl, sym, ap, ◌∙◌, subst, arith}
 use Rattle.std.specs.List.{AllByRecursion}
-use Rattle.std.proofs.lemmas.List.{append-nil, length-map, get_or_past}
+use Rattle.std.proofs.lemmas.List.{get_or_past}
 use mathlib.Core.Logic.{dite}
 use native.Mathlib.Decide.{dec_le}
-use mathlib.Core.Option.{some, some-injective, some-ne-none}
-use lib.ListN.{get_elem?}
+use mathlib.Core.Option.{some}
 use Rattle.sock_words.specs.declared.plain.Plan.{Plan}
 use Rattle.sock_words.specs.Words.{at_word, at_word_first, at_word_slot}
 use Rattle.sock_model.specs.declared.view.View.{View}
@@ -13,14 +12,13 @@ use Rattle.brpc_model.specs.Items.{Item}
 use Rattle.brpc_model.specs.Operations.{Turn}
 use Rattle.corr_core.specs.Word.{Parts}
 use Rattle.corr_core.specs.declared.marks.Plan.{Plan as IdPlan}
-use Rattle.id_rule.specs.Lawful.{call_index, newcomer}
-use Rattle.id_runs.specs.Goes.{IdGoesOn}
-use Rattle.id_runs.proofs.Opening.{unused, all_go}
+use Rattle.id_rule.specs.Lawful.{call_index}
+use Rattle.id_runs.proofs.Opening.{unused}
 use Rattle.sock_message.specs.Asked.{Asked}
 use Rattle.seat_programs.specs.Asides.{StoreCall, StoreAt, call_id, id_slot, id_first}
 use Rattle.seat_programs.specs.Calls.{Call, LoadName, FindLink, ClaimRequest}
 use Rattle.seat_programs.specs.Clients.{ending_of}
-use Rattle.seat_programs.specs.Cores.{Core, with_seat, next_step, resolved}
+use Rattle.seat_programs.specs.Cores.{Core, with_seat}
 use Rattle.seat_programs.specs.declared.task.Task.{Task}
 use Rattle.seat_programs.specs.Programs.{Program, Rest, Do, Aside}
 use Rattle.seat_programs.specs.Runs.{IsAtRest}
@@ -28,12 +26,11 @@ use Rattle.seat_programs.specs.Ticks.{Moment, AreAnswered, quiet, ticked, run}
 use Rattle.seat_programs.specs.Tasks.{opens, calls, plan_of, id_plan_of}
 use Rattle.seat_programs.specs.Scripts.{sizes_of, programs, readers_from, all_programs, all_tasks, opened, ending, set_up, played, is_ending, IsRunWithCalls}
 use Rattle.sock_runs.specs.Sound.{IsAhead, AllRest, first_step, views_after, views_along}
-use Rattle.sock_runs.proofs.Along.{seat_ahead, seat_rests, ticked_ahead, run_ahead, beginning_ahead}
-use Rattle.sock_runs.proofs.Quiets.{ticked_rests, run_rests, run_seats}
+use Rattle.sock_runs.proofs.Along.{seat_rests, ticked_ahead}
+use Rattle.sock_runs.proofs.Quiets.{ticked_rests, run_rests}
 use Rattle.sock_runs.proofs.Whole.{views_played, views_closed, set_up_answered, end_answered}
 use Rattle.outcome_causes.proofs.Final.{at_there}
 use Rattle.outcome_causes.proofs.Ticks.{elem_there}
-use Rattle.call_causes.specs.programs_allowed.proofs.Lasting.{length_all}
 use Rattle.call_causes.specs.joint_runs.proofs.Both.{BothSound, AreBoth, behind_both}
 use Rattle.call_causes.specs.joint_runs.proofs.Runs.{AreMade, first_views, joint_runs}
 use Rattle.report_fits.proofs.Reading.{InRange}
@@ -43,14 +40,14 @@ use Rattle.call_causes.specs.Scenes.{LeadsTo}
 use Rattle.call_causes.specs.Posts.{Post, posted_at}
 use Rattle.call_causes.specs.Stories.{HasStory}
 use Rattle.call_causes.proofs.Allowing.{allows}
-use Rattle.call_causes.proofs.Chains.{KeepsFew}
 use Rattle.call_causes.proofs.Claiming.{HaveSlots}
 use Rattle.call_causes.proofs.Leading.{run_leads}
 use Rattle.call_causes.proofs.Numbered.{AreNumbered}
 use Rattle.call_causes.proofs.Opening.{first_story}
 use Rattle.call_causes.proofs.Run.{ending_story, told_on}
+use Rattle.call_causes.proofs.RunFacts.{own_leads, run_facts, leadings}
 use Rattle.call_causes.proofs.Scripts as scripts
-use Rattle.call_causes.proofs.Ticks.{IsSetUp, keeps_few, story_ticks}
+use Rattle.call_causes.proofs.Ticks.{IsSetUp, story_ticks}
 use Rattle.label_runs.proofs.Loops.{id_back}
 use Rattle.send_causes.specs.Counts.{word_of_id, StoresOwn, AreLabelled}
 use Rattle.send_causes.proofs.Early.{start, go, fitting}
@@ -251,53 +248,8 @@ module _ (script : List Item) (made : AreMade script) (there : AreThere script) 
   abbrev Goes : Core → List Moment → Type 0
   Goes c ms = Ahead (plan_of script) (id_plan_of script) (all_tasks script) (given core) numbered slots small (IsCallOf script) c ms
 
-  length_is : length (all_programs (programs (sizes_of (plan_of script) (id_plan_of script)) (all_tasks script)) (readers_from (calls script) 0 (opens script))) ≡ (id_plan_of script).seats
-  length_is = let seats = made.seats in omega (arith, seats, length_all (plan_of script) (id_plan_of script) (all_tasks script) (calls script) (opens script) made.few_clients)
-
-  few_tries : (i : ℕ) (x : Program) → get_elem? (all_programs (programs (sizes_of (plan_of script) (id_plan_of script)) (all_tasks script)) (readers_from (calls script) 0 (opens script))) i ≡ some x → KeepsFew x
-  few_tries i x at = keeps_few (plan_of script) (id_plan_of script) newcomer x (at_place (all_programs (programs (sizes_of (plan_of script) (id_plan_of script)) (all_tasks script)) (readers_from (calls script) 0 (opens script))) i (all_go (plan_of script) (id_plan_of script) small made.operations (all_tasks script) (calls script) (opens script) (let are = made.are in are.fit) made.calls_in made.slots) at)
-    where
-      at_place : (xs : List Program) (i : ℕ) → AllByRecursion (IdGoesOn (plan_of script) (id_plan_of script) newcomer) xs → get_elem? xs i ≡ some x → IdGoesOn (plan_of script) (id_plan_of script) newcomer x
-      at_place [] i goes at = absurd (some-ne-none x (sym at))
-      at_place (y ∷ ys) zero goes at = subst (IdGoesOn (plan_of script) (id_plan_of script) newcomer) (some-injective y x at) goes.0
-      at_place (y ∷ ys) (suc i) goes at = at_place ys i goes.1 at
-
-  pub opened_ahead : IsAhead (opened script)
-  opened_ahead = beginning_ahead (plan_of script) (id_plan_of script) (all_programs (programs (sizes_of (plan_of script) (id_plan_of script)) (all_tasks script)) (readers_from (calls script) 0 (opens script)))
-
-  pub set_up_ahead : IsAhead (set_up script is.setup)
-  set_up_ahead = run_ahead (plan_of script) (opened script) (replicate is.setup (quiet 0)) opened_ahead
-
-  pub played_ahead : IsAhead (played script is.setup (is.scheduled ++ is.later))
-  played_ahead = run_ahead (plan_of script) (set_up script is.setup) (is.scheduled ++ is.later) set_up_ahead
-
-  pub ended_ahead : IsAhead is.ended
-  ended_ahead = subst IsAhead (sym is.is_ended) (run_ahead (plan_of script) (ending script (played script is.setup (is.scheduled ++ is.later))) (replicate is.last (quiet 0))
-      (let c = played script is.setup (is.scheduled ++ is.later) in seat_ahead c 0 (ending_of (opens script)) [] c.words c.homes played_ahead))
-
-  pub end_leads : Leads core
-  end_leads k = ([], append-nil (given core k))
-
-  pub ended_leads : Leads is.ended
-  ended_leads = run_leads (plan_of script) (id_plan_of script) (all_tasks script) (given core) is.final is.ended (subst Leads is.is_end end_leads)
-
-  pub told_leads : Leads (is_ending (run (plan_of script) (ending script (played script is.setup (is.scheduled ++ is.later))) (replicate is.last (quiet 0))))
-  told_leads = subst Leads is.is_ended ended_leads
-
-  pub closed_leads : Leads (run (plan_of script) (ending script (played script is.setup (is.scheduled ++ is.later))) (replicate is.last (quiet 0)))
-  closed_leads = λ k. told_leads k
-
-  pub ending_leads : Leads (ending script (played script is.setup (is.scheduled ++ is.later)))
-  ending_leads = run_leads (plan_of script) (id_plan_of script) (all_tasks script) (given core) (replicate is.last (quiet 0)) (ending script (played script is.setup (is.scheduled ++ is.later))) closed_leads
-
-  pub played_leads : Leads (played script is.setup (is.scheduled ++ is.later))
-  played_leads = λ k. ending_leads k
-
-  pub set_up_leads : Leads (set_up script is.setup)
-  set_up_leads = run_leads (plan_of script) (id_plan_of script) (all_tasks script) (given core) (is.scheduled ++ is.later) (set_up script is.setup) played_leads
-
-  opened_leads : Leads (opened script)
-  opened_leads = run_leads (plan_of script) (id_plan_of script) (all_tasks script) (given core) (replicate is.setup (quiet 0)) (opened script) set_up_leads
+  open run_facts script made turns core is use {length_is, few_tries, set_up_ahead, played_ahead, ended_ahead, many_played, many_closed}
+  open leadings script turns core is (given core) (own_leads script core) use {ended_leads, told_leads, closed_leads, ending_leads, played_leads, set_up_leads, opened_leads}
 
   first : Has (opened script)
   first = let n = begins_named (plan_of script) (id_plan_of script) (IsCallOf script) [] [] (all_programs (programs (sizes_of (plan_of script) (id_plan_of script)) (all_tasks script)) (readers_from (calls script) 0 (opens script)))
@@ -330,13 +282,6 @@ module _ (script : List Item) (made : AreMade script) (there : AreThere script) 
   pub some_seats : 0 < (id_plan_of script).seats
   some_seats = let seats = made.seats in omega (arith, seats)
 
-  pub many_played : length (played script is.setup (is.scheduled ++ is.later)).seats ≡ (id_plan_of script).seats
-  many_played = run_seats (plan_of script) (set_up script is.setup) (is.scheduled ++ is.later) ∙ (run_seats (plan_of script) (opened script) (replicate is.setup (quiet 0))
-      ∙ (length-map (all_programs (programs (sizes_of (plan_of script) (id_plan_of script)) (all_tasks script)) (readers_from (calls script) 0 (opens script))) (λ (program : Program). record { program = next_step (resolved [] program); hand = [] }) ∙ length_is))
-
-  pub many_closed : length (run (plan_of script) (ending script (played script is.setup (is.scheduled ++ is.later))) (replicate is.last (quiet 0))).seats ≡ (id_plan_of script).seats
-  many_closed = run_seats (plan_of script) (ending script (played script is.setup (is.scheduled ++ is.later))) (replicate is.last (quiet 0)) ∙ (length-set (played script is.setup (is.scheduled ++ is.later)).seats 0 _ ∙ many_played)
-
   begun : Has (ending script (played script is.setup (is.scheduled ++ is.later))) × ((o id : ℕ) → IsOwn (id_plan_of script) (played script is.setup (is.scheduled ++ is.later)) o id → IsOwn (id_plan_of script) (ending script (played script is.setup (is.scheduled ++ is.later))) o id)
   begun = ending_owns p q (all_tasks script) gives numbered slots small (IsCallOf script) (opens script) (played script is.setup (is.scheduled ++ is.later)) (views_played script turns core is (first_views script)) played_both (let m = many_played in let s = some_seats in omega (arith, m, s)) played_ahead
       (run_rests (plan_of script) (set_up script is.setup) (is.scheduled ++ is.later) 0 is.is_set_up) ending_leads clients_go.owns
@@ -355,7 +300,7 @@ module _ (script : List Item) (made : AreMade script) (there : AreThere script) 
 
   final_goes : Goes is.ended is.final
   final_goes = let s = joint_runs script turns core is made in along p q (all_tasks script) gives numbered slots small (IsCallOf script) is.final is.ended (views_closed script turns core is (first_views script)) s.final
-      is.answered_again (rests_set_up p is.final is.ended ended_ahead is.is_over) (subst Leads is.is_end end_leads) ended_owns.0
+      is.answered_again (rests_set_up p is.final is.ended ended_ahead is.is_over) (subst Leads is.is_end (own_leads script core)) ended_owns.0
 
   module _ (settled : AllRest core) where
     end_are : (o id : ℕ) → IsOwn (id_plan_of script) (run (plan_of script) is.ended is.final) o id → ids_at script core o ≡ id

@@ -8,7 +8,6 @@ use native.Mathlib.Decide.{dec_le}
 use lib.ListN.{get_elem?}
 use Rattle.chain_steps.proofs.Lists.{at_some}
 use Rattle.sock_words.specs.Words.{at_word_attempt}
-use Rattle.sock_words.specs.declared.plain.Plan.{Plan}
 use Rattle.sock_words.specs.declared.outcome.Outcome.TheVariants.{CallFailed}
 use Rattle.brpc_model.specs.Items.{Item}
 use Rattle.brpc_model.specs.Operations.{Turn}
@@ -23,7 +22,7 @@ use Rattle.seat_programs.specs.Cores.{Core}
 use Rattle.seat_programs.specs.Tasks.{opens, plan_of}
 use Rattle.seat_programs.specs.Scripts.{all_tasks, IsRunWithCalls}
 use Rattle.seat_programs.specs.Told.{IsTask, Became}
-use Rattle.seat_programs.specs.ToldCalls.{Fixed, Order, Gave, IsResponse, IsUnordered, StandsOn, WasFull, IsFailing, MayBeOn, EndedWith}
+use Rattle.seat_programs.specs.ToldCalls.{Gave, IsResponse, IsUnordered, StandsOn, WasFull, IsFailing, MayBeOn, EndedWith}
 use Rattle.outcome_causes.specs.Stories.{In}
 use Rattle.call_causes.specs.joint_runs.proofs.Runs.{AreMade}
 use Rattle.report_fits.proofs.Reading.{InRange}
@@ -37,7 +36,7 @@ use Rattle.call_causes.proofs.Decisions.{run_failed_decided}
 use Rattle.call_causes.proofs.HandledWhole.{PostedLate}
 use Rattle.send_causes.specs.EndedCalls.{AreStoredOnce, EndedSo, IsEndPost}
 use Rattle.send_causes.specs.PostCauses.{PostCause, OfLoss, OfWant, OfDrop, OfFail, OfFault, OfEnd}
-use Rattle.send_causes.proofs.Assembled.{last_in_run, fixed_in_run, orders_in_run}
+use Rattle.send_causes.proofs.Assembled.{last_in_run}
 use Rattle.send_causes.proofs.AttemptedRun.{one_asked, attempted_of_run}
 use Rattle.send_causes.proofs.AttemptedStored.{ids_at}
 use Rattle.send_causes.proofs.Beside.{gave_of_run}
@@ -53,19 +52,10 @@ use Rattle.send_causes.proofs.OwnDecisions.{own_decisions}
 use Rattle.send_causes.proofs.OwnIds.{labelled_at, would_at, single_at, some_id, own_id, whys_of_seat, DropAt, drop_post, drop_cause}
 use Rattle.send_causes.proofs.RefusedRun.{WhyPosted, PostedByReader, PostedByExpiry, PostedByRefusal, PostedByDrop}
 use Rattle.send_causes.proofs.Unanswered.{soon_where_late, unanswered_where_decided}
+use Rattle.send_causes.proofs.Laws.{laws}
 
 module _ (script : List Item) (made : AreMade script) (there : AreThere script) (range : AllByRecursion InRange script) (turns : List Turn) (core : Core) (is : IsRunWithCalls script turns core) (closes : ClosesInRun script turns core is) (bytes : List ℕ) (reads : script_of bytes ≡ Ok script) where
-  abbrev p : Plan
-  p = plan_of script
-
-  abbrev clients : List (List Task)
-  clients = all_tasks script
-
-  abbrev fixed : Fixed
-  fixed = fixed_in_run script made there range bytes reads turns core is closes
-
-  abbrev orders : ℕ → Order
-  orders = orders_in_run script made there range bytes reads turns core is closes
+  open laws script made there range bytes reads turns core is closes use {p, clients, fixed, orders}
 
   abbrev last : ℕ → ℕ
   last = last_in_run script made there range bytes reads turns core is closes

@@ -15,7 +15,6 @@ use Rattle.sock_message.specs.Asked.{Asked, name_of}
 use Rattle.seat_programs.specs.declared.task.Op.TheVariants as ops
 use Rattle.seat_programs.specs.declared.task.Task.{Task}
 use Rattle.seat_programs.specs.Cores.{Core}
-use Rattle.seat_programs.specs.Tasks.{plan_of}
 use Rattle.seat_programs.specs.Scripts.{all_tasks, IsRunWithCalls}
 use Rattle.seat_programs.specs.Told.{IsTask, Became}
 use Rattle.seat_programs.specs.ToldCalls.{Fixed, Order, IsUnordered, WhyLost, WasFailing, RunEnding, WasUnopened}
@@ -31,7 +30,6 @@ use Rattle.call_causes.specs.Posts.{Post, posts_of_run}
 use Rattle.send_causes.specs.EndedCalls.{reader_posts_of_run}
 use Rattle.send_causes.specs.PostCauses.{PostCause, OfLoss, OfWant, OfFault}
 use Rattle.send_causes.specs.Refused.{FoundNothing}
-use Rattle.send_causes.proofs.Assembled.{fixed_in_run, orders_in_run}
 use Rattle.send_causes.proofs.AttemptedRun.{one_asked}
 use Rattle.send_causes.proofs.AttemptedStored.{ids_at}
 use Rattle.send_causes.proofs.Beside.{gave_of_run}
@@ -39,6 +37,7 @@ use Rattle.send_causes.proofs.FoundNamesWhole.{found_lost}
 use Rattle.send_causes.proofs.OwnIds.{labelled_at, would_at, single_at, some_id, own_id, whys_of_seat, drop_post, drop_cause, reader_post}
 use Rattle.send_causes.proofs.PostSeats.{seat_of_post, reader_post_of}
 use Rattle.send_causes.proofs.RefusedRun.{IsOfRefusal, WhyPosted, PostedByReader, PostedByExpiry, PostedByRefusal, PostedByDrop}
+use Rattle.send_causes.proofs.Laws.{laws}
 
 -- an attempt's loss is none of what links gave
 lost_over : (p : Plan) (clients : List (List Task)) (outcomes : List (Option Outcome)) (fixed : Fixed) (gave took : ℕ → List ℕ) (orders : ℕ → Order) (c o n name : ℕ) → WhyLost p clients outcomes fixed gave orders c o n name → WhyLost p clients outcomes fixed took orders c o n name
@@ -47,17 +46,7 @@ lost_over p clients outcomes fixed gave took orders c o n name (RunEnding late) 
 lost_over p clients outcomes fixed gave took orders c o n name (WasUnopened later client m low high before none_) = WasUnopened later client m low high before (record { setup = none_.setup; own = none_.own })
 
 module _ (script : List Item) (made : AreMade script) (there : AreThere script) (range : AllByRecursion InRange script) (turns : List Turn) (core : Core) (is : IsRunWithCalls script turns core) (closes : ClosesInRun script turns core is) (bytes : List ℕ) (reads : script_of bytes ≡ Ok script) where
-  abbrev p : Plan
-  p = plan_of script
-
-  abbrev clients : List (List Task)
-  clients = all_tasks script
-
-  abbrev fixed : Fixed
-  fixed = fixed_in_run script made there range bytes reads turns core is closes
-
-  abbrev orders : ℕ → Order
-  orders = orders_in_run script made there range bytes reads turns core is closes
+  open laws script made there range bytes reads turns core is closes use {p, clients, fixed, orders}
 
   abbrev pub Lost : ℕ → ℕ → ℕ → ℕ → Type 0
   Lost c o n name = WhyLost p clients core.outcomes fixed (given core) orders c o n name

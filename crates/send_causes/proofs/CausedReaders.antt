@@ -31,7 +31,8 @@ use Rattle.send_causes.proofs.Early.{Any, ends_anyhow, start, go, fitting, known
 use Rattle.send_causes.proofs.EndedReads.{MayPost, post_more}
 use Rattle.send_causes.proofs.EndedRuns.{Keeping, finds, Seen, AllTold, told_along}
 use Rattle.send_causes.proofs.EndedTicks.{told_posts}
-use Rattle.send_causes.proofs.EndedWhole.{opened_keeps, opened_told, in_setup, in_clients, in_closing, h₁, h₂, h₃, h₄, setup_part, set_up_keeps, closing_keeps, closing_told, closed_keeps, closed_told, ended_so}
+use Rattle.call_causes.proofs.RunTicks.{in_setup, in_clients, in_closing, parts}
+use Rattle.send_causes.proofs.EndedWhole.{opened_keeps, opened_told, h₁, h₂, h₃, h₄, setup_part, set_up_keeps, closing_keeps, closing_told, closed_keeps, closed_told, ended_so}
 use Rattle.send_causes.proofs.ReaderRuns.{keeps_along}
 use Rattle.send_causes.proofs.Readings.{found_by}
 
@@ -88,17 +89,7 @@ module _ (script : List Item) (made : AreMade script) (turns : List Turn) (core 
     more : (h later : ℕ → List Taking) → Here h → Here (λ n. h n ++ later n)
     more h later y = may_more (plan_of script) (calls script) (opens script) in_script (loads_of_run script turns core is) k (h k) (later k) x y
 
-    abbrev l₁ : List Load
-    l₁ = shows_in loaded_at (plan_of script) (opened script) (in_setup script made turns core is)
-
-    abbrev l₂ : List Load
-    l₂ = shows_in loaded_at (plan_of script) (set_up script is.setup) (in_clients script made turns core is)
-
-    abbrev l₃ : List Load
-    l₃ = shows_in loaded_at (plan_of script) (closing_of script turns core is) (in_closing script made turns core is)
-
-    abbrev l₄ : List Load
-    l₄ = shows_in loaded_at (plan_of script) is.ended is.final
+    open parts loaded_at is use {setup as l₁, clients as l₂, closing as l₃, final as l₄}
 
     from_final : In x (shows_in (posted_by (32 + k)) (plan_of script) is.ended is.final) → Here (h₄ script made turns core is)
     from_final there = seat_may (plan_of script) (calls script) (opens script) in_script (loads_of_run script turns core is) k (IsListed script) (go script made turns core is) is.final is.ended (views_closed script turns core is (first_views script)) (h₃ script made turns core is)
@@ -106,33 +97,33 @@ module _ (script : List Item) (made : AreMade script) (turns : List Turn) (core 
         (recorded_closed script made.are (first_views script) (start script made turns core is) (go script made turns core is) turns core is (fitting script made turns core is)) (closed_keeps script made turns core is) (closed_told script made turns core is)
         (λ l z. in_right l₁ (l₂ ++ (l₃ ++ l₄)) l (in_right l₂ (l₃ ++ l₄) l (in_right l₃ l₄ l z))) x there
 
-    from_closing : In x (shows_in (posted_by (32 + k)) (plan_of script) (closing_of script turns core is) (in_closing script made turns core is)) → Here (h₄ script made turns core is)
+    from_closing : In x (shows_in (posted_by (32 + k)) (plan_of script) (closing_of script turns core is) (in_closing is)) → Here (h₄ script made turns core is)
     from_closing there = more (h₃ script made turns core is) (finds_in is.ended is.final)
-        (seat_may (plan_of script) (calls script) (opens script) in_script (loads_of_run script turns core is) k (IsListed script) (go script made turns core is) (in_closing script made turns core is) (closing_of script turns core is) (views_played script turns core is (first_views script)) (h₂ script made turns core is)
+        (seat_may (plan_of script) (calls script) (opens script) in_script (loads_of_run script turns core is) k (IsListed script) (go script made turns core is) (in_closing is) (closing_of script turns core is) (views_played script turns core is (first_views script)) (h₂ script made turns core is)
         (closing_sound script made.are (first_views script) (start script made turns core is) (go script made turns core is) turns core is (fitting script made turns core is))
         (end_answered script made.are (first_views script) (start script made turns core is) (go script made turns core is) turns core is (fitting script made turns core is)) (let f = fitting script made turns core is in f.of_closing)
         (recorded_closing script made.are (first_views script) (start script made turns core is) (go script made turns core is) turns core is (fitting script made turns core is)) (closing_keeps script made turns core is) (closing_told script made turns core is)
         (λ l z. in_right l₁ (l₂ ++ (l₃ ++ l₄)) l (in_right l₂ (l₃ ++ l₄) l (in_left l₃ l₄ l z))) x there)
 
-    from_clients : In x (shows_in (posted_by (32 + k)) (plan_of script) (set_up script is.setup) (in_clients script made turns core is)) → Here (h₄ script made turns core is)
-    from_clients there = more (h₃ script made turns core is) (finds_in is.ended is.final) (more (h₂ script made turns core is) (finds_in (closing_of script turns core is) (in_closing script made turns core is))
-        (seat_may (plan_of script) (calls script) (opens script) in_script (loads_of_run script turns core is) k (IsListed script) (go script made turns core is) (in_clients script made turns core is) (set_up script is.setup) (views_along (plan_of script) (opened script) (first_views script) (in_setup script made turns core is)) (h₁ script made turns core is)
+    from_clients : In x (shows_in (posted_by (32 + k)) (plan_of script) (set_up script is.setup) (in_clients is)) → Here (h₄ script made turns core is)
+    from_clients there = more (h₃ script made turns core is) (finds_in is.ended is.final) (more (h₂ script made turns core is) (finds_in (closing_of script turns core is) (in_closing is))
+        (seat_may (plan_of script) (calls script) (opens script) in_script (loads_of_run script turns core is) k (IsListed script) (go script made turns core is) (in_clients is) (set_up script is.setup) (views_along (plan_of script) (opened script) (first_views script) (in_setup is)) (h₁ script made turns core is)
         (set_up_sound script made.are (first_views script) (start script made turns core is) (go script made turns core is) turns core is (fitting script made turns core is)) is.answered (let f = fitting script made turns core is in f.of_played)
         (recorded_set_up script made.are (first_views script) (start script made turns core is) (go script made turns core is) turns core is (fitting script made turns core is)) (set_up_keeps script made turns core is) (setup_part script made turns core is).0
         (λ l z. in_right l₁ (l₂ ++ (l₃ ++ l₄)) l (in_left l₂ (l₃ ++ l₄) l z)) x there))
 
-    from_setup : In x (shows_in (posted_by (32 + k)) (plan_of script) (opened script) (in_setup script made turns core is)) → Here (h₄ script made turns core is)
-    from_setup there = more (h₃ script made turns core is) (finds_in is.ended is.final) (more (h₂ script made turns core is) (finds_in (closing_of script turns core is) (in_closing script made turns core is)) (more (h₁ script made turns core is) (finds_in (set_up script is.setup) (in_clients script made turns core is))
-        (seat_may (plan_of script) (calls script) (opens script) in_script (loads_of_run script turns core is) k (IsListed script) (go script made turns core is) (in_setup script made turns core is) (opened script) (first_views script) (λ n. [])
+    from_setup : In x (shows_in (posted_by (32 + k)) (plan_of script) (opened script) (in_setup is)) → Here (h₄ script made turns core is)
+    from_setup there = more (h₃ script made turns core is) (finds_in is.ended is.final) (more (h₂ script made turns core is) (finds_in (closing_of script turns core is) (in_closing is)) (more (h₁ script made turns core is) (finds_in (set_up script is.setup) (in_clients is))
+        (seat_may (plan_of script) (calls script) (opens script) in_script (loads_of_run script turns core is) k (IsListed script) (go script made turns core is) (in_setup is) (opened script) (first_views script) (λ n. [])
         (let s = start script made turns core is in s.sound) (set_up_answered script made.are (first_views script) (start script made turns core is) (go script made turns core is) turns core is (fitting script made turns core is)) (let f = fitting script made turns core is in f.of_setup)
         (recorded_opened script made.are (first_views script) (start script made turns core is) (go script made turns core is) turns core is (fitting script made turns core is)) (opened_keeps script made turns core is) (opened_told script made turns core is)
         (λ l z. in_left l₁ (l₂ ++ (l₃ ++ l₄)) l z) x there)))
 
     abbrev s₂ : List Post
-    s₂ = shows_in (posted_by (32 + k)) (plan_of script) (set_up script is.setup) (in_clients script made turns core is)
+    s₂ = shows_in (posted_by (32 + k)) (plan_of script) (set_up script is.setup) (in_clients is)
 
     abbrev s₃ : List Post
-    s₃ = shows_in (posted_by (32 + k)) (plan_of script) (closing_of script turns core is) (in_closing script made turns core is)
+    s₃ = shows_in (posted_by (32 + k)) (plan_of script) (closing_of script turns core is) (in_closing is)
 
     abbrev s₄ : List Post
     s₄ = shows_in (posted_by (32 + k)) (plan_of script) is.ended is.final
@@ -140,7 +131,7 @@ module _ (script : List Item) (made : AreMade script) (turns : List Turn) (core 
     in_run : In x (shows_in_run script turns core is (posted_by (32 + k))) → Here (h₄ script made turns core is)
     in_run there = ⊎_elim from_setup
         (λ l. ⊎_elim from_clients (λ l. ⊎_elim from_closing from_final (in_both s₃ s₄ x l)) (in_both s₂ (s₃ ++ s₄) x l))
-        (in_both (shows_in (posted_by (32 + k)) (plan_of script) (opened script) (in_setup script made turns core is)) (s₂ ++ (s₃ ++ s₄)) x there)
+        (in_both (shows_in (posted_by (32 + k)) (plan_of script) (opened script) (in_setup is)) (s₂ ++ (s₃ ++ s₄)) x there)
 
     -- each post by the reader of a link
     pub seat_end_posts : (bytes : List ℕ) → script_of bytes ≡ Ok script → In x (shows_in_run script turns core is (posted_by (32 + k))) → (o word code : ℕ) × (k < (plan_of script).links) × IsEndPost script turns core is k o word code x

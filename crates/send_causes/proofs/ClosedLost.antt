@@ -22,15 +22,13 @@ use Rattle.seat_programs.specs.Runs.{IsAtRest}
 use Rattle.seat_programs.specs.Tasks.{opens, calls, plan_of, id_plan_of}
 use Rattle.seat_programs.specs.Ticks.{Moment, AreAnswered, IsAlwaysReady, quiet, ticked, run, waits, waits_at}
 use Rattle.seat_programs.specs.Scripts.{sizes_of, all_tasks, opened, set_up, played, IsRunWithCalls}
-use Rattle.seat_programs.specs.Told.{AreTasks}
 use Rattle.seat_programs.specs.ToldCalls.{Accepted, StandsOn, IsUnordered, IsFailing, WasFull}
-use Rattle.sock_runs.specs.Sound.{Sound, AllRest, AreFitting, views_after, views_along}
+use Rattle.sock_runs.specs.Sound.{Sound, AreFitting, views_after, views_along}
 use Rattle.sock_runs.proofs.Along.{seat_rests, place_inside}
 use Rattle.sock_runs.proofs.LinkTicks.{RetriesGo}
 use Rattle.sock_runs.proofs.Ticks.{sound_ticks}
-use Rattle.sock_runs.proofs.Whole.{closing_of, views_played, views_closed, views_ended, set_up_answered, end_answered, rested_ahead, set_up_sound, played_sound, closing_sound, closed_sound, closed_ahead, ended_sound, end_rests}
+use Rattle.sock_runs.proofs.Whole.{closing_of, views_played, views_closed, set_up_answered, end_answered, rested_ahead, set_up_sound, played_sound, closing_sound, closed_sound, closed_ahead}
 use Rattle.outcome_causes.specs.Facts.{late_links_of_run, born_at, shown_in}
-use Rattle.outcome_causes.specs.Kept.{Story}
 use Rattle.outcome_causes.specs.PlainTasks.{told_tasks_of}
 use Rattle.outcome_causes.specs.Stories.{In}
 use Rattle.outcome_causes.proofs.Delivered.{accepted_of, requests_used}
@@ -38,8 +36,7 @@ use Rattle.outcome_causes.proofs.Final.{at_there}
 use Rattle.outcome_causes.proofs.Members.{in_contains, contains_in}
 use Rattle.outcome_causes.proofs.Messages.{each_made}
 use Rattle.outcome_causes.proofs.Plain.{in_both, in_left, in_right}
-use Rattle.outcome_causes.proofs.Runs.{Goes as ToldGoes}
-use Rattle.outcome_causes.proofs.Scripts.{seats, ended_told, final_told, story_end}
+use Rattle.outcome_causes.proofs.Scripts.{seats}
 use Rattle.outcome_causes.proofs.Senders.{sent_stands}
 use Rattle.outcome_causes.proofs.Ticks.{elem_there}
 use Rattle.call_causes.specs.joint_runs.proofs.Runs.{AreMade, first_views}
@@ -49,7 +46,7 @@ use Rattle.call_causes.specs.Posts.{Post}
 use Rattle.send_causes.specs.EndedCalls.{Store, stored_at, stores_of_run, loads_of_run, IsEndPost}
 use Rattle.send_causes.specs.Refused.{DidStep}
 use Rattle.send_causes.proofs.Beside.{fixed_of_run, gave_of_run, orders_here, failing_of_run}
-use Rattle.send_causes.proofs.Early.{start, go, fitting, first_fresh}
+use Rattle.send_causes.proofs.Early.{start, go, fitting}
 use Rattle.send_causes.proofs.EndedAttempts.{IsAttemptOn, ending, of_load, only_link}
 use Rattle.send_causes.proofs.EndedOnce.{run_stored_once}
 use Rattle.send_causes.proofs.LateEnding.{ended_past}
@@ -60,11 +57,12 @@ use Rattle.send_causes.proofs.RefusedClosing as closing
 use Rattle.send_causes.proofs.RefusedMeans.{IsSo, run_keeps}
 use Rattle.send_causes.proofs.Rests.{many, still}
 use Rattle.send_causes.proofs.Runs.{AreLabelledIn}
-use Rattle.send_causes.proofs.Sends.{owed}
+use Rattle.send_causes.proofs.ToldEnd.{told_end}
 use Rattle.send_causes.proofs.Whole.{quiet_there}
 use Rattle.send_causes.proofs.ClosedLostPrograms.{Mode, Free, Goes}
 use Rattle.send_causes.proofs.ClosedLostTicks.{Entered, Works, AreTaken, Ended, Fate, word_link, word_attempt}
 use Rattle.send_causes.proofs.ClosedLostRuns.{Behind, run_fates, run_entered, none_closing, AllFree, begins_free, rests_free, waits_free}
+use Rattle.send_causes.proofs.Grounds.{setting, stages}
 
 -- ## Lists
 
@@ -105,26 +103,12 @@ lives_along p base L retries (m ∷ ms) c vs sound answered fits born lives = li
 -- ## A whole run
 
 module _ (script : List Item) (made : AreMade script) (turns : List Turn) (core : Core) (is : IsRunWithCalls script turns core) where
-  abbrev p : Plan
-  p = plan_of script
+  open setting script use {p}
 
   abbrev goes : RetriesGo (plan_of script)
   goes = go script made turns core is
 
-  abbrev set_views : List View
-  set_views = views_along (plan_of script) (opened script) (first_views script) (replicate is.setup (quiet 0))
-
-  abbrev rested : Core
-  rested = played script is.setup (is.scheduled ++ is.later)
-
-  abbrev rested_views : List View
-  rested_views = views_played script turns core is (first_views script)
-
-  abbrev closed_views : List View
-  closed_views = views_closed script turns core is (first_views script)
-
-  abbrev end_views : List View
-  end_views = views_ended script turns core is (first_views script)
+  open stages script turns core is use {set_views, rested, rested_views, closed_views, end_views}
 
   abbrev rest_sound : Sound (plan_of script) rested rested_views
   rest_sound = played_sound script made.are (first_views script) (start script made turns core is) (go script made turns core is) turns core is (fitting script made turns core is)
@@ -240,21 +224,7 @@ module _ (script : List Item) (made : AreMade script) (turns : List Turn) (core 
         ⊎ (IsUnordered (plan_of script) (all_tasks script) core.outcomes (fixed_of_run script made turns core is closes) (gave_of_run script made turns core is closes) (orders_here script made turns core is closes) o n
         × WasFull (plan_of script) (all_tasks script) core.outcomes (fixed_of_run script made turns core is closes) (gave_of_run script made turns core is closes) (orders_here script made turns core is closes)))
 
-    abbrev told_run : ToldGoes (plan_of script) (told_tasks_of script) (seats script made.are (first_views script) (start script made turns core is) (first_fresh script) (go script made turns core is) turns core is (fitting script made turns core is)) true is.final is.ended
-        closed_views (ended_told script made.are (first_views script) (start script made turns core is) (first_fresh script) (go script made turns core is) turns core is (fitting script made turns core is))
-    told_run = final_told script made.are (first_views script) (start script made turns core is) (first_fresh script) (go script made turns core is) turns core is (fitting script made turns core is)
-
-    abbrev told_story : Story (plan_of script) (told_tasks_of script) true core end_views told_run.after.events told_run.after.lost
-    told_story = story_end script made.are (first_views script) (start script made turns core is) (first_fresh script) (go script made turns core is) turns core is (fitting script made turns core is) (owed script made turns core is closes)
-
-    abbrev told_seats : AreTasks (plan_of script) (told_tasks_of script)
-    told_seats = seats script made.are (first_views script) (start script made turns core is) (first_fresh script) (go script made turns core is) turns core is (fitting script made turns core is)
-
-    abbrev end_sound : Sound (plan_of script) core end_views
-    end_sound = ended_sound script made.are (first_views script) (start script made turns core is) (go script made turns core is) turns core is (fitting script made turns core is)
-
-    abbrev rests : AllRest core
-    rests = end_rests script made.are (first_views script) (start script made turns core is) (go script made turns core is) turns core is (fitting script made turns core is) (owed script made turns core is closes)
+    open told_end script made turns core is closes use {told_run, told_story, told_seats, end_sound, rests}
 
     -- what was accepted stands on some link
     pub entered_stands : (o n : ℕ) → Entered o n end_views → (l : ℕ) × Stands o n l

@@ -1,5 +1,5 @@
 -- A reader sets its socket failed only where the reading of its link ended, with the code of that end; it exchanges no head, and takes bytes of its own link alone.
-use Rattle.std.proofs.Common.{◌≡◌, ℕ, ◌+◌, ◌%◌, ◌≤◌, ◌==◌, ◌&&◌, ◌⊎◌, inl, inr, nat_lt, ltb-false, Bool, true, false, cond, List, [], ◌∷◌, ◌++◌, length, length-append, append-nil, append_assoc, refl, sym, ap, ◌∙◌, subst, arith}
+use Rattle.std.proofs.Common.{◌≡◌, ℕ, ◌+◌, ◌%◌, ◌≤◌, ◌==◌, ◌&&◌, ◌⊎◌, inl, inr, nat_lt, ltb-false, Bool, true, false, cond, List, [], ◌∷◌, ◌++◌, length, length-append, append-nil, refl, sym, ap, ◌∙◌, subst, arith}
 use Rattle.std.proofs.lemmas.Bool.{true≢false}
 use Rattle.std.proofs.lemmas.List.Concat.{flat_map-append}
 use Rattle.std.specs.Prelude.{Some, None}
@@ -21,7 +21,8 @@ use Rattle.outcome_causes.specs.Stories.{In}
 use Rattle.outcome_causes.proofs.Plain.{in_left, in_right}
 use Rattle.run_theorems.specs.Heard.{bytes_found, given_by}
 use Rattle.send_causes.proofs.ReaderParts.{is_freeing, is_of_id, is_loop, ReadsOn, PostsOn, release_on, unlocks_on, end_id_on, unlocked_on, locks_on, joins_on, responses_on, posts_on, post_each_on}
-use Rattle.send_causes.proofs.Faults.{Faults, fault_stays, fault_follows}
+use Rattle.brpc_model.specs.Causes.{HasFault}
+use Rattle.call_causes.proofs.Streams.{faults_more, faults_follow, tied_more}
 
 -- ## What takes gave
 
@@ -33,22 +34,22 @@ gave_none h t e = flat_map-append bytes_found h (t ∷ []) ∙ ap (λ l. given_b
 
 -- the code with which a reading ends that wasn't closed, by these takes
 abbrev pub Codes : List Taking → ℕ → Type 0
-Codes h code = ((code ≡ 1014) × (In AtEnd h ⊎ (In Broken h ⊎ (In NoMore h ⊎ (LIMIT ≤ length (given_by h)))))) ⊎ ((code ≡ 2002) × Faults 0 (given_by h))
+Codes h code = ((code ≡ 1014) × (In AtEnd h ⊎ (In Broken h ⊎ (In NoMore h ⊎ (LIMIT ≤ length (given_by h)))))) ⊎ ((code ≡ 2002) × HasFault (given_by h))
 
 pub codes_more : (h later : List Taking) (code : ℕ) → Codes h code → Codes (h ++ later) code
 codes_more h later code (inl (e, inl m)) = inl (e, inl (in_left h later AtEnd m))
 codes_more h later code (inl (e, inr (inl m))) = inl (e, inr (inl (in_left h later Broken m)))
 codes_more h later code (inl (e, inr (inr (inl m)))) = inl (e, inr (inr (inl (in_left h later NoMore m))))
 codes_more h later code (inl (e, inr (inr (inr l)))) = inl (e, inr (inr (inr (let z : length (given_by (h ++ later)) ≡ length (given_by h) + length (given_by later) = ap length (flat_map-append bytes_found h later) ∙ length-append (given_by h) (given_by later) in omega (arith, z, l)))))
-codes_more h later code (inr (e, f)) = inr (e, subst (Faults 0) (sym (flat_map-append bytes_found h later)) (fault_stays 0 (given_by h) (given_by later) f))
+codes_more h later code (inr (e, f)) = inr (e, subst HasFault (sym (flat_map-append bytes_found h later)) (faults_more (given_by h) (given_by later) f))
 
 -- by these takes a reading has ended
 abbrev pub IsOver : List Taking → Type 0
-IsOver h = (In AtEnd h ⊎ (Faults 0 (given_by h) ⊎ ((LIMIT ≤ length (given_by h)) ⊎ In Broken h))) ⊎ (In Closed h ⊎ In NoMore h)
+IsOver h = (In AtEnd h ⊎ (HasFault (given_by h) ⊎ ((LIMIT ≤ length (given_by h)) ⊎ In Broken h))) ⊎ (In Closed h ⊎ In NoMore h)
 
 pub over_more : (h later : List Taking) → IsOver h → IsOver (h ++ later)
 over_more h later (inl (inl m)) = inl (inl (in_left h later AtEnd m))
-over_more h later (inl (inr (inl f))) = inl (inr (inl (subst (Faults 0) (sym (flat_map-append bytes_found h later)) (fault_stays 0 (given_by h) (given_by later) f))))
+over_more h later (inl (inr (inl f))) = inl (inr (inl (subst HasFault (sym (flat_map-append bytes_found h later)) (faults_more (given_by h) (given_by later) f))))
 over_more h later (inl (inr (inr (inl l)))) = inl (inr (inr (inl (let z : length (given_by (h ++ later)) ≡ length (given_by h) + length (given_by later) = ap length (flat_map-append bytes_found h later) ∙ length-append (given_by h) (given_by later) in omega (arith, z, l)))))
 over_more h later (inl (inr (inr (inr m)))) = inl (inr (inr (inr (in_left h later Broken m))))
 over_more h later (inr (inl m)) = inr (inl (in_left h later Closed m))
@@ -65,7 +66,7 @@ module _ (k id : ℕ) (Odd : List Taking → Type 0) (Lasts : Type 0) where
     pub link : r.link ≡ k
     pub own : r.id ≡ id
     pub total : r.total ≡ length (given_by h)
-    pub tied : (more : List ℕ) → Faults 0 (r.rest ++ more) → Faults 0 (given_by h ++ more)
+    pub tied : (more : List ℕ) → HasFault (r.rest ++ more) → HasFault (given_by h ++ more)
 
   abbrev pub EndsSo : List Taking → Ended → Type 0
   EndsSo h how = (how.closed ≡ false → Odd h × Codes h how.code) × (how.reading.link ≡ k) × (how.reading.id ≡ id) × IsOver h
@@ -162,7 +163,7 @@ module _ (k id : ℕ) (Odd : List Taking → Type 0) (Lasts : Type 0) where
   -- what ends a reading lets the socket be set failed
   pub record Ends : Type 0 where
     pub most : (h : List Taking) → LIMIT ≤ length (given_by h) → Odd h
-    pub fault : (h : List Taking) → Faults 0 (given_by h) → Odd h
+    pub fault : (h : List Taking) → HasFault (given_by h) → Odd h
     pub at_end : (h : List Taking) → Odd (h ++ AtEnd ∷ [])
     pub broken : (h : List Taking) → Odd (h ++ Broken ∷ [])
     pub no_more : Lasts → (h : List Taking) → Odd (h ++ NoMore ∷ [])
@@ -182,9 +183,8 @@ module _ (k id : ℕ) (Odd : List Taking → Type 0) (Lasts : Type 0) where
       all_read bytes most = let l = ltb-false (r.total + length bytes) LIMIT most in let t = more_total bytes in omega (arith, l, t)
 
       -- a fault of the rest with what came is one of all that came
-      all_tied : (bytes more : List ℕ) → Faults 0 ((r.rest ++ bytes) ++ more) → Faults 0 (given_by (h ++ Bytes bytes ∷ []) ++ more)
-      all_tied bytes more f = subst (λ l. Faults 0 (l ++ more)) (sym (gave_more h bytes))
-          (subst (Faults 0) (sym (append_assoc (given_by h) bytes more)) (at.tied (bytes ++ more) (subst (Faults 0) (append_assoc r.rest bytes more) f)))
+      all_tied : (bytes more : List ℕ) → HasFault ((r.rest ++ bytes) ++ more) → HasFault (given_by (h ++ Bytes bytes ∷ []) ++ more)
+      all_tied bytes more f = subst (λ l. HasFault (l ++ more)) (sym (gave_more h bytes)) (tied_more r.rest (given_by h) bytes more at.tied f)
 
       abbrev with_rest : List ℕ → List Frame → ℕ → Reading
       with_rest bytes kept n = record { ids = r.ids; link = r.link; id = r.id; rest = last_of n (r.rest ++ bytes); total = r.total + length bytes; kept = kept }
@@ -193,16 +193,16 @@ module _ (k id : ℕ) (Odd : List Taking → Type 0) (Lasts : Type 0) where
       read_on_calm kept bytes (streams.Rest n) is = by (nat_lt (r.total + length bytes) LIMIT) refl
         where
           by : (b : Bool) → nat_lt (r.total + length bytes) LIMIT ≡ b → Calm false (h ++ Bytes bytes ∷ []) (cond b (Round (Reads (with_rest bytes kept n)) next) (next (ended_by 1014 false false (with_rest bytes kept n))))
-          by true less = (record { link = at.link; own = at.own; total = more_total bytes; tied = λ more f. all_tied bytes more (fault_follows (r.rest ++ bytes) more n is f) }, goes)
+          by true less = (record { link = at.link; own = at.own; total = more_total bytes; tied = λ more f. all_tied bytes more (faults_follow (r.rest ++ bytes) more n is f) }, goes)
           by false most = goes (ended_by 1014 false false (with_rest bytes kept n)) (h ++ Bytes bytes ∷ []) ((λ _. (ends.most (h ++ Bytes bytes ∷ []) (all_read bytes most), inl (refl, inr (inr (inr (all_read bytes most)))))), at.link, at.own, inl (inr (inr (inl (all_read bytes most)))))
-      read_on_calm kept bytes (streams.Fault start fault) is = let faulty : Faults 0 (given_by (h ++ Bytes bytes ∷ [])) = subst (Faults 0) (append-nil (given_by (h ++ Bytes bytes ∷ []))) (all_tied bytes [] (subst (Faults 0) (sym (append-nil (r.rest ++ bytes))) (start, fault, is))) in
+      read_on_calm kept bytes (streams.Fault start fault) is = let faulty : HasFault (given_by (h ++ Bytes bytes ∷ [])) = subst HasFault (append-nil (given_by (h ++ Bytes bytes ∷ []))) (all_tied bytes [] (subst HasFault (sym (append-nil (r.rest ++ bytes))) (start, fault, is))) in
           goes (ended_by 2002 false true (with_more bytes kept)) (h ++ Bytes bytes ∷ []) ((λ _. (ends.fault (h ++ Bytes bytes ∷ []) faulty, inr (refl, faulty))), at.link, at.own, inl (inr (inl faulty)))
 
       took_calm : (t : Taking) → (t ≡ NoMore → Lasts) → Calm false (h ++ t ∷ []) (took r next t)
       took_calm (Bytes bytes) some_ = responses_on (calm_on (h ++ Bytes bytes ∷ [])) r.ids (streams.stream (r.rest ++ bytes)).frames r.kept (λ kept. read_on (with_more bytes kept) (r.rest ++ bytes) (streams.stream (r.rest ++ bytes)).ending next)
           (λ kept. read_on_calm kept bytes (streams.stream (r.rest ++ bytes)).ending refl)
       took_calm Nothing some_ = (
-        record { link = at.link; own = at.own; total = at.total ∙ ap length (sym (gave_none h Nothing refl)); tied = λ more f. subst (λ l. Faults 0 (l ++ more)) (sym (gave_none h Nothing refl)) (at.tied more f) },
+        record { link = at.link; own = at.own; total = at.total ∙ ap length (sym (gave_none h Nothing refl)); tied = λ more f. subst (λ l. HasFault (l ++ more)) (sym (gave_none h Nothing refl)) (at.tied more f) },
         goes,
       )
       took_calm NoMore some_ = goes (ended_by 1014 false false r) (h ++ NoMore ∷ []) ((λ _. (ends.no_more (some_ refl) h, inl (refl, inr (inr (inl (last_in h NoMore)))))), at.link, at.own, inr (inr (last_in h NoMore)))

@@ -5,13 +5,12 @@ use Rattle.brpc_model.specs.Items.{Item}
 use Rattle.brpc_model.specs.Operations.{Turn}
 use Rattle.report_fits.proofs.Reading.{InRange}
 use Rattle.report_fits.proofs.Targets.{AreThere}
-use Rattle.sock_words.specs.declared.plain.Plan.{Plan}
 use Rattle.corr_core.specs.Word.{code_of, attempt_of}
 use Rattle.sock_message.specs.Asked.{name_of}
 use Rattle.seat_programs.specs.declared.task.Op.TheVariants as ops
 use Rattle.seat_programs.specs.declared.task.Task.{Task}
 use Rattle.seat_programs.specs.Cores.{Core}
-use Rattle.seat_programs.specs.Tasks.{plan_of, id_plan_of}
+use Rattle.seat_programs.specs.Tasks.{id_plan_of}
 use Rattle.seat_programs.specs.Scripts.{all_tasks, IsRunWithCalls}
 use Rattle.seat_programs.specs.Told.{IsTask, Made}
 use Rattle.seat_programs.specs.ToldCalls.{Accepted, Order, Fixed, StandsAt, IsSent, OfSend, OfCall, StandsOn, IsDropped, IsFailing, MayBeOn, IsFailedWith, WhyLost, WasFailing, FailedBy, BySocket, ByFail}
@@ -23,6 +22,7 @@ use Rattle.call_causes.specs.owed_calls.specs.Lives.{ClosesInRun}
 use Rattle.call_causes.specs.Posts.{Post}
 use Rattle.call_causes.proofs.Clients.{FitsOp}
 use Rattle.call_causes.proofs.Scripts.{begins}
+use Rattle.send_causes.proofs.Grounds.{setting}
 use Rattle.send_causes.specs.PostCauses.{PostCause, OfDrop, OfFail}
 use Rattle.send_causes.proofs.Beside.{orders_here}
 use Rattle.send_causes.proofs.Runs.{AreLabelledIn}
@@ -30,8 +30,7 @@ use Rattle.send_causes.proofs.Sends.{orders_are}
 use Rattle.send_causes.proofs.DropOfRun.{IsDroppedOn, IsFailedOn, DropOf}
 
 module _ (script : List Item) (made : AreMade script) (turns : List Turn) (core : Core) (is : IsRunWithCalls script turns core) (closes : ClosesInRun script turns core is) (ids : ℕ → ℕ) (labelled : AreLabelledIn ids script turns core is) (fixed : Fixed) (gave : ℕ → List ℕ) where
-  abbrev p : Plan
-  p = plan_of script
+  open setting script use {p}
 
   abbrev clients : List (List Task)
   clients = all_tasks script

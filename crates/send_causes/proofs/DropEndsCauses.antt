@@ -30,6 +30,7 @@ use Rattle.outcome_causes.specs.Stories.{In}
 use Rattle.outcome_causes.proofs.Members.{in_contains}
 use Rattle.call_causes.specs.joint_runs.proofs.Runs.{AreMade, first_views}
 use Rattle.call_causes.specs.owed_calls.specs.Lives.{ClosesInRun}
+use Rattle.call_causes.specs.owed_calls.proofs.Known.{opens_apart}
 use Rattle.call_causes.specs.owed_calls.proofs.WordsGiven.{Named, IsOfLink, run_named, named_ending, named_on}
 use Rattle.call_causes.specs.Lists.{given}
 use Rattle.call_causes.specs.Posts.{Post}
@@ -38,7 +39,7 @@ use Rattle.send_causes.proofs.Beside.{orders_here}
 use Rattle.send_causes.proofs.DropCauses.{fail_range, may_be_on, caused_by_drop}
 use Rattle.send_causes.proofs.DropEndsWhole.{WhoseIn, whose_of_run}
 use Rattle.send_causes.proofs.DropOfRun.{DropOf, ends, one_given, story_given}
-use Rattle.send_causes.proofs.Early.{start, go, fitting, known, named_set_up, opens_apart}
+use Rattle.send_causes.proofs.Early.{start, go, fitting, known, named_set_up}
 use Rattle.send_causes.proofs.EndedWhole.{h₄, ended_so}
 use Rattle.send_causes.proofs.Runs.{AreLabelledIn}
 

@@ -11,7 +11,6 @@ use Rattle.brpc_model.specs.Script.{script_of}
 use Rattle.report_fits.proofs.Reading.{InRange}
 use Rattle.report_fits.proofs.Targets.{AreThere}
 use Rattle.sock_words.specs.Words.{socket_id, socket_id_slot, socket_id_version}
-use Rattle.sock_words.specs.declared.plain.Plan.{Plan}
 use Rattle.sock_model.specs.declared.view.View.{View}
 use Rattle.sock_model.specs.Layout.{open_index}
 use Rattle.corr_core.specs.Word.{error_of, code_of, attempt_of}
@@ -23,8 +22,8 @@ use Rattle.seat_programs.specs.Cores.{Core, SeatState}
 use Rattle.seat_programs.specs.Programs.{Rest, NO_SOCKET}
 use Rattle.seat_programs.specs.Readers.{reader}
 use Rattle.seat_programs.specs.Tasks.{opens, calls, plan_of}
-use Rattle.seat_programs.specs.Scripts.{all_tasks, IsRunWithCalls}
-use Rattle.seat_programs.specs.ToldCalls.{Order, Fixed, IsSent, Gave, IsResponse, IsPlaced, StandsOn}
+use Rattle.seat_programs.specs.Scripts.{IsRunWithCalls}
+use Rattle.seat_programs.specs.ToldCalls.{IsSent, Gave, IsResponse, IsPlaced, StandsOn}
 use Rattle.sock_runs.specs.Sound.{first_step}
 use Rattle.sock_runs.proofs.Along.{place_inside}
 use Rattle.sock_runs.proofs.Whole.{IsListed, views_closed, views_ended, closed_sound, recorded_closed}
@@ -37,7 +36,7 @@ use Rattle.call_causes.specs.owed_calls.specs.Lives.{ClosesInRun}
 use Rattle.call_causes.specs.Lists.{given, early_of_run, closed_of_run, silent_of_run}
 use Rattle.call_causes.specs.Posts.{Post}
 use Rattle.send_causes.specs.PostCauses.{PostCause, OfEnd}
-use Rattle.send_causes.proofs.Assembled.{last_in_run, fixed_in_run, orders_in_run}
+use Rattle.send_causes.proofs.Assembled.{last_in_run}
 use Rattle.send_causes.proofs.Closers.{Calm, IsOver}
 use Rattle.send_causes.proofs.DropCauses.{may_be_on, stands_on}
 use Rattle.send_causes.proofs.DropEndsCauses.{own_link, cause_of_drop}
@@ -48,6 +47,7 @@ use Rattle.send_causes.proofs.Readings.{State}
 use Rattle.send_causes.proofs.ReaderRuns.{Keeps, keeps_along}
 use Rattle.send_causes.proofs.Runs.{AreLabelledIn}
 use Rattle.send_causes.proofs.Sends.{orders_are}
+use Rattle.send_causes.proofs.Laws.{laws}
 
 module _ (script : List Item) (made : AreMade script) (turns : List Turn) (core : Core) (is : IsRunWithCalls script turns core) (closes : ClosesInRun script turns core is) (ids : ℕ → ℕ) (labelled : AreLabelledIn ids script turns core is) where
   abbrev views : List View
@@ -60,19 +60,13 @@ module _ (script : List Item) (made : AreMade script) (turns : List Turn) (core 
       (closed_sound script made.are (first_views script) (start script made turns core is) (go script made turns core is) turns core is (fitting script made turns core is)) is.answered_again (let f = fitting script made turns core is in f.of_final)
       (recorded_closed script made.are (first_views script) (start script made turns core is) (go script made turns core is) turns core is (fitting script made turns core is)) (λ e. tt) (closed_keeps script made turns core is))
 
-  -- the reading of a link that a life was given has ended
-  pub reading_over : (j h k : ℕ) → WasGiven (ends script made turns core is closes ids labelled).events j h k → (k < (plan_of script).links) × IsOver (h₄ script made turns core is k)
-  reading_over j h k given_ = by (given_opened script made turns core is closes ids labelled j h k given_)
+  -- the life that a link was given is that of the link's own `open`
+  pub opened_link : (j h k : ℕ) → WasGiven (ends script made turns core is closes ids labelled).events j h k → (o : IsOpened script made turns core is closes ids labelled j h) × (j < 4294967296) × (get_or core.words (open_index (plan_of script) o.operation) 0 ≢ NO_SOCKET) × (o.link ≡ k)
+  opened_link j h k given_ = by (given_opened script made turns core is closes ids labelled j h k given_)
     where
-      by : IsOpened script made turns core is closes ids labelled j h → (k < (plan_of script).links) × IsOver (h₄ script made turns core is k)
-      by o = subst (λ n. (n < (plan_of script).links) × IsOver (h₄ script made turns core is n)) same (
-        (let many = (let k = known script made turns core is in k.as_many) in omega (arith, place, many)),
-        of_seat (at_there core.seats (32 + o.link) (let k = end_keeps in let many = k.many in omega (arith, place, many))),
-      )
+      by : (o : IsOpened script made turns core is closes ids labelled j h) → (o : IsOpened script made turns core is closes ids labelled j h) × (j < 4294967296) × (get_or core.words (open_index (plan_of script) o.operation) 0 ≢ NO_SOCKET) × (o.link ≡ k)
+      by o = (o, few, socket, same)
         where
-          place : o.link < length (opens script)
-          place = place_inside (opens script) o.link o.operation o.at
-
           few : j < 4294967296
           few = let s = o.inside in let m = made.limits in let l = m.slots in omega (arith, s, l)
 
@@ -81,6 +75,19 @@ module _ (script : List Item) (made : AreMade script) (turns : List Turn) (core 
 
           same : o.link ≡ k
           same = own_link script made turns core is closes ids labelled o.link o.operation (socket_id h j) j h k o.at o.word socket (let z : j ≡ socket_id_slot (h * 4294967296 + j) = omega (arith, few) in z) (let z : h ≡ socket_id_version (h * 4294967296 + j) = omega (arith, few) in z) given_
+
+  -- the reading of a link that a life was given has ended
+  pub reading_over : (j h k : ℕ) → WasGiven (ends script made turns core is closes ids labelled).events j h k → (k < (plan_of script).links) × IsOver (h₄ script made turns core is k)
+  reading_over j h k given_ = let x = opened_link j h k given_ in by x.0 x.1 x.2 x.3
+    where
+      by : (o : IsOpened script made turns core is closes ids labelled j h) → j < 4294967296 → get_or core.words (open_index (plan_of script) o.operation) 0 ≢ NO_SOCKET → o.link ≡ k → (k < (plan_of script).links) × IsOver (h₄ script made turns core is k)
+      by o few socket same = subst (λ n. (n < (plan_of script).links) × IsOver (h₄ script made turns core is n)) same (
+        (let many = (let k = known script made turns core is in k.as_many) in omega (arith, place, many)),
+        of_seat (at_there core.seats (32 + o.link) (let k = end_keeps in let many = k.many in omega (arith, place, many))),
+      )
+        where
+          place : o.link < length (opens script)
+          place = place_inside (opens script) o.link o.operation o.at
 
           of_seat : (seat : SeatState) × (get_elem? core.seats (32 + o.link) ≡ some seat) → IsOver (h₄ script made turns core is o.link)
           of_seat (seat, at) = let v = at_there views (32 + o.link) (let k = end_keeps in let many = k.many in let e = (end_sound script made turns core is closes ids labelled).each in omega (arith, place, many, e)) in
@@ -101,17 +108,7 @@ module _ (script : List Item) (made : AreMade script) (turns : List Turn) (core 
   ended_of_link bytes reads j h k given_ = let o = reading_over j h k given_ in ⊎_elim (λ a. a.1) (λ b. absurd (let e = b.0 in omega (arith, e))) (ended_so script made turns core is bytes reads k o.0 1014 (inl (refl, o.1)))
 
   module _ (there : AreThere script) (range : AllByRecursion InRange script) (bytes : List ℕ) (reads : script_of bytes ≡ Ok script) where
-    abbrev p : Plan
-    p = plan_of script
-
-    abbrev clients : List (List Task)
-    clients = all_tasks script
-
-    abbrev fixed : Fixed
-    fixed = fixed_in_run script made there range bytes reads turns core is closes
-
-    abbrev orders : ℕ → Order
-    orders = orders_in_run script made there range bytes reads turns core is closes
+    open laws script made there range bytes reads turns core is closes use {p, clients, fixed, orders}
 
     -- the dropped attempt isn't placed
     not_placed : (x : Post) (d : DropOf script made turns core is closes ids labelled x) → IsPlaced p clients core.outcomes fixed (given core) orders d.task.number (attempt_of x.error) → ⊥

@@ -35,7 +35,8 @@ use Rattle.send_causes.proofs.DropCodes.{NoFail, Stores, OwnsFail, client_codes,
 use Rattle.send_causes.proofs.DropEnds.{StoresThose, EndsLaw, EndsAlong, Whose, ends_along}
 use Rattle.send_causes.proofs.DropWhole.{get_same}
 use Rattle.send_causes.proofs.Early.{Any, ends_anyhow, start, go, fitting, known, before_readers}
-use Rattle.send_causes.proofs.EndedWhole.{opened_keeps, closing_keeps, h₁, h₂, h₃, h₄, in_setup, in_clients, in_closing}
+use Rattle.call_causes.proofs.RunTicks.{in_setup, in_clients, in_closing}
+use Rattle.send_causes.proofs.EndedWhole.{opened_keeps, closing_keeps, h₁, h₂, h₃, h₄}
 
 module _ (script : List Item) (made : AreMade script) (turns : List Turn) (core : Core) (is : IsRunWithCalls script turns core) (P : ℕ → Type 0) (gone : P 1009)
     (fits : (j : ℕ) (ts : List Task) → slice_get (all_tasks script) j ≡ Some ts → (t : Task) → In t ts → (name code : ℕ) → t.op ≡ ops.Fail name code → P code) where
@@ -103,14 +104,14 @@ module _ (script : List Item) (made : AreMade script) (turns : List Turn) (core 
   abbrev A : Core → List View → (ℕ → List Taking) → List Moment → Type 0
   A c ws h ms = EndsAlong (plan_of script) (calls script) (opens script) (let k = known script made turns core is in k.in_script) Any (Unit {0}) ends_anyhow P gone (IsListed script) (go script made turns core is) c ws h ms
 
-  setup_goes : A (opened script) (first_views script) (λ n. []) (in_setup script made turns core is)
-  setup_goes = ends_along (plan_of script) (calls script) (opens script) (let k = known script made turns core is in k.in_script) Any (Unit {0}) ends_anyhow P gone (IsListed script) (go script made turns core is) (in_setup script made turns core is) (opened script) (first_views script) (λ n. [])
+  setup_goes : A (opened script) (first_views script) (λ n. []) (in_setup is)
+  setup_goes = ends_along (plan_of script) (calls script) (opens script) (let k = known script made turns core is in k.in_script) Any (Unit {0}) ends_anyhow P gone (IsListed script) (go script made turns core is) (in_setup is) (opened script) (first_views script) (λ n. [])
       (let s = start script made turns core is in s.sound) (set_up_answered script made.are (first_views script) (start script made turns core is) (go script made turns core is) turns core is (fitting script made turns core is)) (let f = fitting script made turns core is in f.of_setup)
       (recorded_opened script made.are (first_views script) (start script made turns core is) (go script made turns core is) turns core is (fitting script made turns core is)) tt opened_law
 
-  clients_go : A (set_up script is.setup) (views_along (plan_of script) (opened script) (first_views script) (in_setup script made turns core is)) (h₁ script made turns core is) (in_clients script made turns core is)
-  clients_go = ends_along (plan_of script) (calls script) (opens script) (let k = known script made turns core is in k.in_script) Any (Unit {0}) ends_anyhow P gone (IsListed script) (go script made turns core is) (in_clients script made turns core is) (set_up script is.setup)
-      (views_along (plan_of script) (opened script) (first_views script) (in_setup script made turns core is)) (h₁ script made turns core is)
+  clients_go : A (set_up script is.setup) (views_along (plan_of script) (opened script) (first_views script) (in_setup is)) (h₁ script made turns core is) (in_clients is)
+  clients_go = ends_along (plan_of script) (calls script) (opens script) (let k = known script made turns core is in k.in_script) Any (Unit {0}) ends_anyhow P gone (IsListed script) (go script made turns core is) (in_clients is) (set_up script is.setup)
+      (views_along (plan_of script) (opened script) (first_views script) (in_setup is)) (h₁ script made turns core is)
       (set_up_sound script made.are (first_views script) (start script made turns core is) (go script made turns core is) turns core is (fitting script made turns core is)) is.answered (let f = fitting script made turns core is in f.of_played)
       (recorded_set_up script made.are (first_views script) (start script made turns core is) (go script made turns core is) turns core is (fitting script made turns core is)) tt setup_goes.after
 
@@ -141,8 +142,8 @@ module _ (script : List Item) (made : AreMade script) (turns : List Turn) (core 
           has = tt;
         }
 
-    closing_goes : A (closing_of script turns core is) (views_played script turns core is (first_views script)) (h₂ script made turns core is) (in_closing script made turns core is)
-    closing_goes = ends_along (plan_of script) (calls script) (opens script) (let k = known script made turns core is in k.in_script) Any (Unit {0}) ends_anyhow P gone (IsListed script) (go script made turns core is) (in_closing script made turns core is) (closing_of script turns core is)
+    closing_goes : A (closing_of script turns core is) (views_played script turns core is (first_views script)) (h₂ script made turns core is) (in_closing is)
+    closing_goes = ends_along (plan_of script) (calls script) (opens script) (let k = known script made turns core is in k.in_script) Any (Unit {0}) ends_anyhow P gone (IsListed script) (go script made turns core is) (in_closing is) (closing_of script turns core is)
         (views_played script turns core is (first_views script)) (h₂ script made turns core is)
         (closing_sound script made.are (first_views script) (start script made turns core is) (go script made turns core is) turns core is (fitting script made turns core is))
         (end_answered script made.are (first_views script) (start script made turns core is) (go script made turns core is) turns core is (fitting script made turns core is)) (let f = fitting script made turns core is in f.of_closing)
@@ -157,7 +158,7 @@ module _ (script : List Item) (made : AreMade script) (turns : List Turn) (core 
 
     ended_law : L is.ended (views_closed script turns core is (first_views script)) (h₃ script made turns core is)
     ended_law = subst (λ c. L c (views_closed script turns core is (first_views script)) (h₃ script made turns core is)) (sym is.is_ended)
-        (on_law (run (plan_of script) (closing_of script turns core is) (in_closing script made turns core is)) (views_closed script turns core is (first_views script)) (h₃ script made turns core is) closing_goes.after)
+        (on_law (run (plan_of script) (closing_of script turns core is) (in_closing is)) (views_closed script turns core is (first_views script)) (h₃ script made turns core is) closing_goes.after)
 
     final_goes : A is.ended (views_closed script turns core is (first_views script)) (h₃ script made turns core is) is.final
     final_goes = ends_along (plan_of script) (calls script) (opens script) (let k = known script made turns core is in k.in_script) Any (Unit {0}) ends_anyhow P gone (IsListed script) (go script made turns core is) is.final is.ended
@@ -170,8 +171,8 @@ module _ (script : List Item) (made : AreMade script) (turns : List Turn) (core 
     at_end : (i v code : ℕ) → WhoseIn is.ended (h₃ script made turns core is) i v code → WhoseIn core (h₄ script made turns core is) i v code
     at_end i v code w = subst (λ c. WhoseIn c (h₄ script made turns core is) i v code) (sym is.is_end) (final_goes.stay i v code w)
 
-    at_closed : (i v code : ℕ) → WhoseIn (run (plan_of script) (closing_of script turns core is) (in_closing script made turns core is)) (h₃ script made turns core is) i v code → WhoseIn core (h₄ script made turns core is) i v code
-    at_closed i v code w = at_end i v code (same_words (run (plan_of script) (closing_of script turns core is) (in_closing script made turns core is)) is.ended (ap (λ (c : Core). c.words) (sym is.is_ended)) (h₃ script made turns core is) i v code w)
+    at_closed : (i v code : ℕ) → WhoseIn (run (plan_of script) (closing_of script turns core is) (in_closing is)) (h₃ script made turns core is) i v code → WhoseIn core (h₄ script made turns core is) i v code
+    at_closed i v code w = at_end i v code (same_words (run (plan_of script) (closing_of script turns core is) (in_closing is)) is.ended (ap (λ (c : Core). c.words) (sym is.is_ended)) (h₃ script made turns core is) i v code w)
 
     at_rested : (i v code : ℕ) → WhoseIn (played script is.setup (is.scheduled ++ is.later)) (h₂ script made turns core is) i v code → WhoseIn core (h₄ script made turns core is) i v code
     at_rested i v code w = at_closed i v code (closing_goes.stay i v code (same_words (played script is.setup (is.scheduled ++ is.later)) (closing_of script turns core is) refl (h₂ script made turns core is) i v code w))

@@ -60,7 +60,7 @@ use Rattle.outcome_causes.proofs.Lives.{World, birth_means, task_of, given_made,
 use Rattle.outcome_causes.proofs.Members.{all_in, contains_in, in_contains}
 use Rattle.outcome_causes.proofs.Tasks.{one_task}
 use Rattle.call_causes.specs.programs_allowed.specs.Openings.{all_seats}
-use Rattle.call_causes.specs.programs_allowed.proofs.Fresh.{opening_fresh}
+use Rattle.call_causes.specs.programs_allowed.proofs.Fresh.{opening_fresh, opening_claims}
 use Rattle.call_causes.specs.joint_runs.proofs.Runs.{AreMade, first_views, joint_runs, joint_bounded}
 use Rattle.call_causes.specs.owed_calls.specs.Lives.{ClosesInRun}
 use Rattle.call_causes.specs.Posts.{Post}
@@ -68,7 +68,7 @@ use Rattle.send_causes.specs.Refused.{Deed, DidStep, DidRound, DidInRun, IsDrop}
 use Rattle.send_causes.proofs.Beside.{gave_of_run, fixed_of_run, orders_here}
 use Rattle.send_causes.proofs.Early.{start, go, fitting}
 use Rattle.send_causes.proofs.Runs.{AreLabelledIn, IsCallOf, end_law}
-use Rattle.send_causes.proofs.Sends.{owed, narrow, opening_claims, orders_are}
+use Rattle.send_causes.proofs.Sends.{owed, narrow, orders_are}
 use Rattle.send_causes.proofs.DropCodes.{IsOtherCode}
 use Rattle.send_causes.proofs.DropPlaces.{log_few}
 use Rattle.send_causes.proofs.DropRuns.{IsCalls, IsDropAt, Tells}

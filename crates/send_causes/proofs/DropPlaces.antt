@@ -1,11 +1,9 @@
 -- The place word of a call's message, once it is written, stays: no other message has this word.
-use Rattle.std.proofs.Common.{◌≡◌, ◌≢◌, ℕ, ◌+◌, ◌*◌, ◌<◌, ◌≤◌, ◌⊎◌, inl, inr, ⊎_elim, Bool, true, false, cond, eqb, eq-eqb, ne_eqb, List, [], ◌∷◌, ◌++◌, get_or, get_or-set_other, refl, sym, ap, ◌∙◌, subst, arith}
+use Rattle.std.proofs.Common.{◌≡◌, ◌≢◌, ℕ, ◌+◌, ◌*◌, ◌<◌, ◌≤◌, ◌⊎◌, inl, inr, ⊎_elim, Bool, true, false, eqb, List, [], ◌∷◌, ◌++◌, get_or, get_or-set_other, refl, sym, ap, ◌∙◌, subst, arith}
 use Rattle.std.proofs.lemmas.Bool.{true≢false}
 use Rattle.std.specs.List.{AllByRecursion}
 use Rattle.std.specs.Prelude.{slice_get, Some}
-use mathlib.Core.Logic.{dite}
 use mathlib.Core.Option.{some, some-injective}
-use native.Mathlib.Decide.{ℕ_discrete}
 use lib.ListN.{get_elem?}
 use lib.Seq.{set-get_or}
 use Rattle.sock_words.specs.Words.{socket_id_slot}
@@ -18,12 +16,10 @@ use Rattle.sock_model.specs.declared.view.View.{View}
 use Rattle.sock_model.specs.Deliveries.{ShownAt, no_place, one_place}
 use Rattle.sock_model.specs.Entries.{ticket, on}
 use Rattle.sock_model.specs.Layout.{tag_index, ref_index, link_index, head_index, code_index, name_index, open_index, request_index, next_index, place_index}
-use Rattle.sock_model.specs.Weights.{total}
 use Rattle.sock_steps.proofs.RightSteps.{right_in, right_alone}
 use Rattle.chain_steps.proofs.Frames.{in_log}
 use Rattle.chain_steps.proofs.Letters.{writes_room}
 use Rattle.chain_steps.proofs.Lists.{at_some, distinct_filter}
-use Rattle.slot_steps.proofs.Sums.{term_le}
 use Rattle.corr_core.specs.declared.marks.Plan.{Plan as IdPlan}
 use Rattle.sock_message.specs.Asked.{Asked}
 use Rattle.seat_programs.specs.declared.task.Task.{Task}
@@ -48,8 +44,8 @@ use Rattle.outcome_causes.proofs.Seats.{undo_done, undo_in}
 use Rattle.outcome_causes.proofs.Senders.{HasSent, sent_in, each_of, apart_by}
 use Rattle.outcome_causes.proofs.Ticks.{get_of}
 use Rattle.label_runs.specs.Labels.{Trial}
-use Rattle.send_causes.specs.Counts.{pair_of, of_heading, of_entry, of_view, IsOfCall, EntryFits, LabelLaw}
-use Rattle.send_causes.proofs.Apart.{total_two}
+use Rattle.send_causes.specs.Counts.{IsOfCall, EntryFits, LabelLaw}
+use Rattle.send_causes.proofs.Apart.{calls_apart}
 
 -- ## Messages of tasks
 
@@ -77,9 +73,6 @@ module _ (es : List Event) (c : ℕ) where
       (ends_either t m.0 made (swapped (trace_of c t.number es)) m.1 e there)
 
 -- ## Two places of one list count twice
-
-pub heading_one : (id n : ℕ) (h : Heading) → h.owner ≢ 0 → h.owner ≡ id → h.attempt ≡ n → of_heading id n h ≡ 1
-heading_one id n h some_ a b = ap (λ z. cond z 0 (pair_of id n h.owner h.attempt)) (ne_eqb h.owner 0 some_) ∙ (ap (λ z. cond z (cond (eqb h.attempt n) 1 0) 0) (eq-eqb h.owner id a) ∙ ap (λ z. cond z 1 0) (eq-eqb h.attempt n b))
 
 -- ## At any time of a run
 
@@ -135,33 +128,6 @@ module _ (p : Plan) (q : IdPlan) (is_call : Asked → Type 0) (ids : ℕ → ℕ
       let e = at_some (on r.link sound.lawful.log) (sound.lawful.places r.link) (writes_room sound.lawful.chains r.link r now kl alone stage) in let l = in_log sound.lawful.chains r.link (sound.lawful.places r.link) e.0 e.1 in
       (l.0, e.0, l.1, (sound.lawful.messages.in_hand r.link r e.0 kl alone taken e.1).0)
 
-  -- two messages of one attempt would count twice
-  view_most : (i n : ℕ) (e : Entry) (h : HasSent vs i n e) (id a : ℕ) → total (of_entry id a) h.made ≤ of_view id a h.view
-  view_most i n e h id a = let z : total (total (of_entry id a)) h.view.lists ≡ total (of_entry id a) h.made + 0 = ap (total (total (of_entry id a))) h.lists in omega (arith, z)
-
-  calls_apart : (i j m n : ℕ) (d e : Entry) (h : HasSent vs i m d) (k : HasSent vs j n e) → IsOfCall is_call ids d.heading d.bytes → IsOfCall is_call ids e.heading e.bytes → d.heading.place ≡ e.heading.place → (i ≡ j) × (m ≡ n)
-  calls_apart i j m n d e h k f g same = dite (ℕ_discrete i j)
-      (λ ij. dite (ℕ_discrete m n) (λ mn. (ij, mn)) (λ ne. absurd (let stands = sent_in vs j n e h.view h.made k (sym (ap (get_elem? vs) ij) ∙ h.here) h.lists in
-      let two = total_two (of_entry id att) h.made m n d e h.stands stands ne in let most = view_most i m d h id att in let all = term_le (of_view id att) vs i h.view h.here in
-      let once = law.once id att in omega (arith, two, most, all, once, one_d, one_e))))
-      (λ ne. absurd (let two = total_two (of_view id att) vs i j h.view k.view h.here k.here ne in let a = term_le (of_entry id att) h.made m d h.stands in let b = term_le (of_entry id att) k.made n e k.stands in
-      let most_a = view_most i m d h id att in let most_b = view_most j n e k id att in let once = law.once id att in omega (arith, two, a, b, most_a, most_b, once, one_d, one_e)))
-    where
-      id : ℕ
-      id = d.heading.owner
-
-      att : ℕ
-      att = d.heading.attempt
-
-      op : d.heading.operation ≡ e.heading.operation
-      op = let a = f.2 in let b = g.2 in let x = f.3 in let y = g.3 in omega (arith, a, b, x, y, same)
-
-      one_d : of_entry id att d ≡ 1
-      one_d = heading_one d.heading.owner d.heading.attempt d.heading f.0 refl refl
-
-      one_e : of_entry id att e ≡ 1
-      one_e = heading_one d.heading.owner d.heading.attempt e.heading g.0 (sym g.1 ∙ (ap ids (sym op) ∙ f.1)) (let a = f.2 in let b = g.2 in let x = f.3 in let y = g.3 in omega (arith, a, b, x, y, same))
-
   -- of an operation that is no task's, attempt n
   module _ (o n l : ℕ) (spoken : IsSpoken clients o) (few : n < 8) (label : l ≡ 8 * o + n) where
     is_calls : (i m : ℕ) (e : Entry) → HasSent vs i m e → e.heading.place ≡ l → is_of_send e ≡ false
@@ -174,7 +140,7 @@ module _ (p : Plan) (q : IdPlan) (is_call : Asked → Type 0) (ids : ℕ → ℕ
     -- one message at most has this place word
     one_labelled : (r s : ℕ) (d e : Entry) → get_elem? sound.lawful.log r ≡ some d → get_elem? sound.lawful.log s ≡ some e → d.heading.place ≡ l → e.heading.place ≡ l → r ≡ s
     one_labelled r s d e at_d at_e is_d is_e = apart_by p c vs sound.lawful each_made (λ (x y : Entry). (x.heading.place ≡ l) × (y.heading.place ≡ l))
-        (λ i j m k x y h g both. calls_apart i j m k x y h g (call_message i m x h (is_calls i m x h both.0)).0 (call_message j k y g (is_calls j k y g both.1)).0 (both.0 ∙ sym both.1)) r s d e at_d at_e (is_d, is_e)
+        (λ i j m k x y h g both. calls_apart is_call ids vs (λ id n. let once = law.once id n in omega (arith, once)) i j m k x y h g (call_message i m x h (is_calls i m x h both.0)).0 (call_message j k y g (is_calls j k y g both.1)).0 (both.0 ∙ sym both.1)) r s d e at_d at_e (is_d, is_e)
 
     -- where its word is written, no other seat is to write it
     module _ (i : ℕ) (v : View) (at : get_elem? vs i ≡ some v) (r : Right) (has : get_elem? v.rights 0 ≡ some r) (now : ℕ) (stage : r.stage ≡ Writes now) (taken : r.taken ≡ true) (place : r.heading.place ≡ l) (low : l < 8 * p.operations) where

@@ -37,14 +37,7 @@ first_numbered o w trace t ts h = let same : t ≡ h.task = first_is h.is in ap 
 
 module _ (slots requests : ℕ) (calls : ℕ → Type 0) (o : ℕ) (no_call : calls o → ⊥) where
   shorter : (w : Way) (call : Call) (found : ℕ) (trace : List Entry) (todo : List Task) → ((i : ℕ) → call ≡ SetOdd i → ⊥) → IsInHand o w (step call found ∷ trace) todo → IsInHand o w trace todo
-  shorter w call found trace todo other h = record {
-    own = h.own;
-    task = h.task;
-    others = h.others;
-    is = h.is;
-    numbered = h.numbered;
-    failed = λ name code op. let x = h.failed name code op in (x.0, x.1, ⊎_elim (λ e. absurd (other x.0 (sym (ap (λ (y : Entry). y.call) e)))) (λ m. m) x.2, x.3);
-  }
+  shorter w call found trace todo other h = record { own = h.own; task = h.task; others = h.others; is = h.is; numbered = h.numbered; failed = λ name code op. let x = h.failed name code op in (x.0, x.1, ⊎_elim (λ e. absurd (other x.0 (sym (ap (λ (y : Entry). y.call) e)))) (λ m. m) x.2, x.3) }
 
   here : (done : List Done) (trace : List Entry) (t : Task) (ts : List Task) (x : ℕ) (outcome : Outcome) → x ≡ t.number → x ≡ o → outcome ≡ Failed → Explained slots requests done trace t.op (Some outcome) → IsInHand o Own trace (t ∷ ts)
   here done trace t ts x outcome own is failed e = record {

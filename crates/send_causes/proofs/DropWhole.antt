@@ -18,8 +18,7 @@ use Rattle.seat_programs.specs.declared.task.Sizes.{Sizes}
 use Rattle.seat_programs.specs.declared.task.Task.{Task}
 use Rattle.seat_programs.specs.Clients.{client_from, ending_of}
 use Rattle.seat_programs.specs.Cores.{Core, SeatState, resolved, waiting_at, next_step}
-use Rattle.seat_programs.specs.Programs.{Program, Rest}
-use Rattle.seat_programs.specs.Readers.{reader}
+use Rattle.seat_programs.specs.Programs.{Program}
 use Rattle.seat_programs.specs.Scripts.{sizes_of, programs, readers_from, all_programs, all_tasks, opened, set_up, played, is_ending, IsRunWithCalls}
 use Rattle.seat_programs.specs.Tasks.{opens, calls, plan_of, id_plan_of}
 use Rattle.seat_programs.specs.Ticks.{quiet, run}
@@ -28,7 +27,7 @@ use Rattle.sock_runs.specs.Sound.{state, Sound, views_along}
 use Rattle.sock_runs.proofs.Along.{seat_rests}
 use Rattle.sock_runs.proofs.Bounds.{law}
 use Rattle.sock_runs.proofs.LinkTicks.{RetriesGo}
-use Rattle.sock_runs.proofs.Opening.{mapped, appended}
+use Rattle.sock_runs.proofs.Opening.{mapped}
 use Rattle.sock_runs.proofs.Whole.{Begins, AreFittingIn, closing_of, rested_of, views_played, views_closed, views_ended, set_up_answered, end_answered, rested_ahead, rested_idle, closing_sound, closed_sound}
 use Rattle.outcome_causes.specs.Explains.{is_plain}
 use Rattle.outcome_causes.specs.Kept.{Story}
@@ -42,6 +41,7 @@ use Rattle.outcome_causes.proofs.Openings.{are_seats, all_explained}
 use Rattle.outcome_causes.proofs.Runs.{set_up_over, ending_story, is_ending_story}
 use Rattle.outcome_causes.proofs.Scripts.{own_from}
 use Rattle.call_causes.specs.joint_runs.proofs.Both.{AreBounded}
+use Rattle.send_causes.proofs.Beginnings.{all_begin}
 use Rattle.send_causes.specs.Refused.{Deed, DidInRun}
 use Rattle.send_causes.proofs.DropCodes.{Failing, NoFail, Stores, OwnsFail, IsOtherCode, client_codes, ending_codes, reader_codes, codes_next}
 use Rattle.send_causes.proofs.DropRuns.{Tells, tells_on, Scene, Along, seats_along, setup_along}
@@ -55,16 +55,6 @@ pub get_same : {A : Type 0} (xs : List A) (i : ℕ) (x : A) → get_elem? xs i �
 get_same [] i x e = absurd (some-ne-none x (sym e))
 get_same (y ∷ xs) zero x e = ap (λ z. Some z) (some-injective y x e)
 get_same (y ∷ xs) (suc i) x e = get_same xs i x e
-
-readers_codes : (mine : ℕ → ℕ → Type 0) (calls os : List ℕ) (k i : ℕ) (x : Program) → get_elem? (readers_from calls k os) i ≡ some x → Stores mine IsOtherCode NoFail x
-readers_codes mine calls [] k i x at = absurd (some-ne-none x (sym at))
-readers_codes mine calls (o ∷ os) k zero x at = subst (Stores mine IsOtherCode NoFail) (some-injective (reader calls k o) x at) (reader_codes mine IsOtherCode (inl refl) (λ code other. other) calls k o)
-readers_codes mine calls (o ∷ os) k (suc i) x at = readers_codes mine calls os (k + 1) i x at
-
-others_codes : (mine : ℕ → ℕ → Type 0) (n : ℕ) (calls os : List ℕ) (i : ℕ) (x : Program) → get_elem? (replicate n Rest ++ readers_from calls 0 os) i ≡ some x → Stores mine IsOtherCode NoFail x
-others_codes mine zero calls os i x at = readers_codes mine calls os 0 i x at
-others_codes mine (suc n) calls os zero x at = subst (Stores mine IsOtherCode NoFail) (some-injective Rest x at) tt
-others_codes mine (suc n) calls os (suc i) x at = others_codes mine n calls os i x at
 
 module _ (script : List Item) (are : AreTasks (plan_of script) (all_tasks script)) where
   -- each `fail` of a client is one that is told
@@ -80,9 +70,8 @@ module _ (script : List Item) (are : AreTasks (plan_of script) (all_tasks script
       subst (Stores (IsFailOf (told_tasks_of script) j) IsOtherCode NoFail) t.2 (client_codes (IsFailOf (told_tasks_of script) j) IsOtherCode (inl refl) sizes t.0 [] (all_of (λ (u : Task). OwnsFail (IsFailOf (told_tasks_of script) j) IsOtherCode (inl refl) u.number u.op) t.0 (owns_fail j t.0 (get_same (all_tasks script) j t.0 t.1))))
 
   all_codes : (j : ℕ) (x : Program) → get_elem? (all_programs (programs (sizes_of (plan_of script) (id_plan_of script)) (all_tasks script)) (readers_from (calls script) 0 (opens script))) j ≡ some x → Stores (IsFailOf (told_tasks_of script) j) IsOtherCode NoFail x
-  all_codes j x at = let ps : List Program = programs (sizes_of (plan_of script) (id_plan_of script)) (all_tasks script) in
-      ⊎_elim (λ a. clients_codes j x a) (λ b. others_codes (IsFailOf (told_tasks_of script) j) (32 - length ps) (calls script) (opens script) b.0 x b.1)
-      (appended ps (replicate (32 - length ps) Rest ++ readers_from (calls script) 0 (opens script)) j x at)
+  all_codes j x at = all_begin (Stores (IsFailOf (told_tasks_of script) j) IsOtherCode NoFail) tt (calls script) (λ k o. reader_codes (IsFailOf (told_tasks_of script) j) IsOtherCode (inl refl) (λ code other. other) (calls script) k o)
+      (programs (sizes_of (plan_of script) (id_plan_of script)) (all_tasks script)) (opens script) j x (λ a. clients_codes j x a) at
 
   -- no life has failed
   pub opening_codes : (vs : List View) (lost : List ℕ) → Sound (plan_of script) (opened script) vs → Story (plan_of script) (told_tasks_of script) false (opened script) vs [] lost → CodesLaw (told_tasks_of script) (plan_of script) (opened script) vs []
@@ -141,15 +130,7 @@ module _ (script : List Item) (are : AreTasks (plan_of script) (all_tasks script
 
   pub over_scene : (s : SceneOf (set_up script is.setup) views_set) × (s.events ≡ setup_goes.after.events)
   over_scene = let t = setup_goes.after in let o = set_up_over (plan_of script) (told_tasks_of script) seats (set_up script is.setup) views_set (record { events = t.events; lost = t.lost; sound = t.sound; story = t.story }) is.is_set_up in (
-    record {
-      events = o.0.events;
-      lost = o.0.lost;
-      sound = o.0.sound;
-      story = o.0.story;
-      trials = t.trials;
-      labels = t.labels;
-      codes = subst (CodesLaw (told_tasks_of script) (plan_of script) (set_up script is.setup) views_set) (sym o.1) t.codes;
-    },
+    record { events = o.0.events; lost = o.0.lost; sound = o.0.sound; story = o.0.story; trials = t.trials; labels = t.labels; codes = subst (CodesLaw (told_tasks_of script) (plan_of script) (set_up script is.setup) views_set) (sym o.1) t.codes },
     o.1,
   )
 

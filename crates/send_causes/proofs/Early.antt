@@ -1,30 +1,25 @@
 -- In a run a socket that was closed before the ending is that of a link whose reading ended early.
-use Rattle.std.proofs.Common.{◌≡◌, ℕ, zero, suc, ◌+◌, ◌-◌, ◌<◌, ◌≤◌, ◌==◌, ◌⊎◌, Bool, true, false, cond, List, [], ◌∷◌, ◌++◌, length, length-append, length-set, map, filter, replicate, get_or, set, inl, inr, ⊎_elim, refl, sym, ap, ◌∙◌, subst, arith}
+use Rattle.std.proofs.Common.{Bool, ◌≡◌, ℕ, zero, suc, ◌+◌, ◌-◌, ◌<◌, ◌≤◌, ◌==◌, ◌⊎◌, true, false, List, [], ◌∷◌, ◌++◌, length, length-append, length-set, map, filter, replicate, get_or, set, inl, inr, ⊎_elim, refl, sym, ap, ◌∙◌, subst, arith}
 use Rattle.std.proofs.lemmas.Bool.{true≢false}
 use Rattle.std.proofs.lemmas.List.{length-map}
 use Rattle.std.proofs.lemmas.List.Concat.{flat_map-append}
-use Rattle.std.specs.Prelude.{Contains, slice_get, Some, None}
+use Rattle.std.specs.Prelude.{Contains, slice_get}
 use Rattle.std.specs.List.{AllByRecursion}
-use mathlib.Core.Logic.{dite}
 use mathlib.Core.Option.{Option, none, some, some-injective, some-ne-none}
-use native.Mathlib.Decide.{ℕ_discrete, dec_le}
 use lib.ListN.{get_elem?}
 use Rattle.atomic_table.proofs.Lists.{at_set, set_else}
 use Rattle.sock_words.specs.declared.plain.Plan.{Plan}
 use Rattle.sock_model.specs.declared.view.View.{View}
 use Rattle.sock_model.specs.Layout.{open_index}
-use Rattle.sock_model.specs.Seats.{newcomer, below}
 use Rattle.brpc_model.specs.Causes.{HasFault, reading_limit}
-use Rattle.brpc_model.specs.Items.{Item, is_open}
+use Rattle.brpc_model.specs.Items.{Item}
 use Rattle.brpc_model.specs.Operations.{Turn, operations, link_names}
-use Rattle.brpc_model.specs.Order.{EachBefore}
-use Rattle.report_fits.proofs.Lists.{Has, some_is, before_from, before_at, before_filter_map}
-use Rattle.report_fits.proofs.Numbering.{is_numbered}
+use Rattle.report_fits.proofs.Lists.{Has}
 use Rattle.seat_programs.specs.declared.task.Op.{Op}
 use Rattle.seat_programs.specs.declared.task.Op.TheVariants as ops
 use Rattle.seat_programs.specs.declared.task.Task.{Task}
 use Rattle.seat_programs.specs.declared.task.Sizes.{Sizes}
-use Rattle.seat_programs.specs.Asides.{Taking, Bytes, Nothing, NoMore, AtEnd, Closed, Broken}
+use Rattle.seat_programs.specs.Asides.{Taking, AtEnd, Broken}
 use Rattle.seat_programs.specs.Beside.{at_last}
 use Rattle.seat_programs.specs.Calls.{Call, SetOdd}
 use Rattle.seat_programs.specs.Drops.{call_in}
@@ -33,7 +28,7 @@ use Rattle.seat_programs.specs.Readers.{LIMIT, reader}
 use Rattle.seat_programs.specs.Heads.{Retry}
 use Rattle.seat_programs.specs.Clients.{operation, client_from, ending_of}
 use Rattle.seat_programs.specs.Cores.{Core, SeatState, word_of, found_at, resolved, next_step, still_waiting, waiting_at}
-use Rattle.seat_programs.specs.Tasks.{Numbered, numbered, opens, calls, plan_of, id_plan_of}
+use Rattle.seat_programs.specs.Tasks.{opens, calls, plan_of, id_plan_of}
 use Rattle.seat_programs.specs.Ticks.{Answer, Unasked, Moment, quiet, tick_with, ticked}
 use Rattle.seat_programs.specs.Scripts.{sizes_of, programs, readers_from, all_programs, all_tasks, opened, set_up, played, IsRunWithCalls}
 use Rattle.seat_programs.specs.Told.{IsOpen}
@@ -51,31 +46,30 @@ use Rattle.outcome_causes.specs.Stories.{In}
 use Rattle.outcome_causes.proofs.Members.{in_contains}
 use Rattle.outcome_causes.proofs.Plain.{in_left, in_right, in_both}
 use Rattle.call_causes.specs.programs_allowed.proofs.Beginning as clients_begin
-use Rattle.call_causes.specs.programs_allowed.specs.Openings.{links_of_all, without_passes, client_view, opening_views, all_seats}
+use Rattle.call_causes.specs.programs_allowed.specs.Openings.{all_seats}
 use Rattle.call_causes.specs.programs_allowed.proofs.Retrying.{retries_go}
 use Rattle.call_causes.specs.joint_runs.proofs.Runs.{AreMade, first_views, begins, are_fitting_in, joint_runs}
 use Rattle.call_causes.specs.owed_calls.proofs.EndsStill.{run_ending}
-use Rattle.call_causes.specs.owed_calls.proofs.Known.{known_of}
+use Rattle.call_causes.specs.owed_calls.proofs.Known.{known_of, opens_apart}
 use Rattle.call_causes.specs.owed_calls.proofs.Owed.{IsKnown, tasks_own, opened_seats}
-use Rattle.call_causes.specs.owed_calls.proofs.OpensStored.{place_at}
 use Rattle.call_causes.specs.owed_calls.proofs.WordsGiven.{Named, names_others, beginning_named, run_named}
 use Rattle.run_theorems.specs.Heard.{as_taken, bytes_found, taken_link, taken_at, taken_in, heard_takes, given_by}
 use Rattle.run_theorems.proofs.HeardRuns.{taken_append}
-use Rattle.send_causes.proofs.Faults.{Faults, fault_stays}
+use Rattle.call_causes.proofs.Streams.{faults_more}
 use Rattle.send_causes.proofs.Closers.{Ends}
 use Rattle.send_causes.proofs.ReaderRuns.{Keeps, founds, keeps_same, keeps_along, closes_along}
 use Rattle.send_causes.proofs.Takeless.{NoTakes, TakesNone, client_takes, ending_takes, takes_next}
-use Rattle.call_causes.specs.programs_allowed.proofs.Fresh.{opening_fresh}
+use Rattle.call_causes.specs.programs_allowed.proofs.Fresh.{opening_fresh, opening_rights}
 
 -- ## How a reading ends early
 
 -- by these takes: the link gave its end, or a frame with a fault, or as much as is read of it, or it failed
 abbrev pub EndedBy : List Taking → Type 0
-EndedBy h = In AtEnd h ⊎ (Faults 0 (given_by h) ⊎ ((LIMIT ≤ length (given_by h)) ⊎ In Broken h))
+EndedBy h = In AtEnd h ⊎ (HasFault (given_by h) ⊎ ((LIMIT ≤ length (given_by h)) ⊎ In Broken h))
 
 pub ended_more : (h later : List Taking) → EndedBy h → EndedBy (h ++ later)
 ended_more h later (inl m) = inl (in_left h later AtEnd m)
-ended_more h later (inr (inl f)) = inr (inl (subst (Faults 0) (sym (flat_map-append bytes_found h later)) (fault_stays 0 (given_by h) (given_by later) f)))
+ended_more h later (inr (inl f)) = inr (inl (subst HasFault (sym (flat_map-append bytes_found h later)) (faults_more (given_by h) (given_by later) f)))
 ended_more h later (inr (inr (inl l))) = inr (inr (inl (let e : length (given_by (h ++ later)) ≡ length (given_by h) + length (given_by later) = ap length (flat_map-append bytes_found h later) ∙ length-append (given_by h) (given_by later) in omega (arith, e, l))))
 ended_more h later (inr (inr (inr m))) = inr (inr (inr (in_left h later Broken m)))
 
@@ -99,17 +93,6 @@ pub ends_anyhow : (n id : ℕ) → Ends n id Any (Unit {0})
 ends_anyhow n id = record { most = λ h l. tt; fault = λ h f. tt; at_end = λ h. tt; broken = λ h. tt; no_more = λ e h. tt }
 
 -- ## How a run begins
-
--- no seat has a right
-views_bare : (p : Plan) (clients : List (List Task)) (i : ℕ) (v : View) → get_elem? (map (client_view p) clients) i ≡ some v → v.rights ≡ []
-views_bare p [] i v e = absurd (some-ne-none v (sym e))
-views_bare p (ts ∷ clients) zero v e = subst (λ (u : View). u.rights ≡ []) (some-injective (client_view p ts) v e) refl
-views_bare p (ts ∷ clients) (suc i) v e = views_bare p clients i v e
-
-pub opening_rights : (p : Plan) (clients : List (List Task)) (i : ℕ) (v : View) → get_elem? (opening_views p clients) i ≡ some v → v.rights ≡ []
-opening_rights p [] i v e = absurd (some-ne-none v (sym e))
-opening_rights p (ts ∷ clients) zero v e = subst (λ (u : View). u.rights ≡ []) (some-injective (newcomer p (without_passes (links_of_all clients) (below p.links)) (511 - length clients)) v e) refl
-opening_rights p (ts ∷ clients) (suc i) v e = views_bare p clients i v e
 
 -- before the readers stand the clients, and seats with nothing to do
 pub before_readers : (xs : List Program) (n : ℕ) (rs : List Program) (j : ℕ) (x : Program) → j < length xs + n → get_elem? (xs ++ (replicate n Rest ++ rs)) j ≡ some x → (get_elem? xs j ≡ some x) ⊎ (x ≡ Rest)
@@ -200,27 +183,23 @@ none_closed_in p (suc n) c o x m = ⊎_elim (λ a. none_closed c o x a) (λ a. n
 
 -- ## What was found is what was answered
 
-quiet_founds : (p : Plan) (calls os : List ℕ) (in_os : (k o : ℕ) → get_elem? os k ≡ some o → o < p.operations) (Odd : List Taking → Type 0) (Lasts : Type 0) (ends : (n id : ℕ) → Ends n id Odd Lasts) (c : Core) (n k : ℕ) → founds p calls os in_os Odd Lasts ends c (replicate n (quiet 0)) k ≡ []
-quiet_founds p calls os in_os Odd Lasts ends c zero k = refl
-quiet_founds p calls os in_os Odd Lasts ends c (suc n) k = ap (λ l. l ++ founds p calls os in_os Odd Lasts ends (ticked p c (quiet 0)) (replicate n (quiet 0)) k) (by_seat (get_elem? c.seats 0)) ∙ quiet_founds p calls os in_os Odd Lasts ends (ticked p c (quiet 0)) n k
+-- a seat that is asked nothing takes nothing
+none_taken : (ending : Bool) (k : ℕ) (s : Option SeatState) → map (at_last ending) (as_taken (elim s as (λ o. List Answer) [ none ↦ [] | some s ↦ map (λ (k : ℕ). Unasked) (filter (λ j. j == k) (taken_link s.program)) ])) ≡ []
+none_taken ending k none = refl
+none_taken ending k (some s) = ap (map (at_last ending)) (none_answered (filter (λ j. j == k) (taken_link s.program)))
   where
     none_answered : (ks : List ℕ) → as_taken (map (λ (k : ℕ). Unasked) ks) ≡ []
     none_answered [] = refl
     none_answered (x ∷ ks) = none_answered ks
 
-    by_seat : (s : Option SeatState) → map (at_last c.calls.ending) (as_taken (elim s as (λ o. List Answer) [ none ↦ [] | some s ↦ map (λ (k : ℕ). Unasked) (filter (λ j. j == k) (taken_link s.program)) ])) ≡ []
-    by_seat none = refl
-    by_seat (some s) = ap (map (at_last c.calls.ending)) (none_answered (filter (λ j. j == k) (taken_link s.program)))
+pub quiet_founds : (p : Plan) (calls os : List ℕ) (in_os : (k o : ℕ) → get_elem? os k ≡ some o → o < p.operations) (Odd : List Taking → Type 0) (Lasts : Type 0) (ends : (n id : ℕ) → Ends n id Odd Lasts) (c : Core) (n k : ℕ) → founds p calls os in_os Odd Lasts ends c (replicate n (quiet 0)) k ≡ []
+quiet_founds p calls os in_os Odd Lasts ends c zero k = refl
+quiet_founds p calls os in_os Odd Lasts ends c (suc n) k = ap (λ l. l ++ founds p calls os in_os Odd Lasts ends (ticked p c (quiet 0)) (replicate n (quiet 0)) k) (none_taken c.calls.ending k (get_elem? c.seats 0)) ∙ quiet_founds p calls os in_os Odd Lasts ends (ticked p c (quiet 0)) n k
 
 -- before the ending nothing is made of an answer
 as_it_is : (ts : List Taking) → map (at_last false) ts ≡ ts
 as_it_is [] = refl
-as_it_is (Bytes bytes ∷ ts) = ap (λ l. Bytes bytes ∷ l) (as_it_is ts)
-as_it_is (Nothing ∷ ts) = ap (λ l. Nothing ∷ l) (as_it_is ts)
-as_it_is (NoMore ∷ ts) = ap (λ l. NoMore ∷ l) (as_it_is ts)
-as_it_is (AtEnd ∷ ts) = ap (λ l. AtEnd ∷ l) (as_it_is ts)
-as_it_is (Closed ∷ ts) = ap (λ l. Closed ∷ l) (as_it_is ts)
-as_it_is (Broken ∷ ts) = ap (λ l. Broken ∷ l) (as_it_is ts)
+as_it_is (t ∷ ts) = ap (λ l. t ∷ l) (as_it_is ts)
 
 founds_heard : (p : Plan) (calls os : List ℕ) (in_os : (k o : ℕ) → get_elem? os k ≡ some o → o < p.operations) (Odd : List Taking → Type 0) (Lasts : Type 0) (ends : (n id : ℕ) → Ends n id Odd Lasts) (ms : List Moment) (c : Core) (k : ℕ) → c.calls.ending ≡ false
     → founds p calls os in_os Odd Lasts ends c ms k ≡ as_taken (taken_in p c ms k)
@@ -232,27 +211,7 @@ founds_heard p calls os in_os Odd Lasts ends (m ∷ ms) c k e = ap (λ b. map (a
 
 -- ## A run
 
--- no operation is the `open` of two links
-pub opens_apart : (script : List Item) (k l o : ℕ) → get_elem? (opens script) k ≡ some o → get_elem? (opens script) l ≡ some o → k ≡ l
-opens_apart script k l o at_k at_l = dite (ℕ_discrete k l) (λ e. e)
-    (λ far. dite (dec_le (suc k) l) (λ less. absurd (let z = before k l (omega (arith, less)) at_k at_l in omega (arith, z))) (λ more. absurd (let z = before l k (omega (arith, far, more)) at_l at_k in omega (arith, z))))
-  where
-    numbers : EachBefore (λ (x y : Numbered). x.number < y.number) (numbered script)
-    numbers = before_from (λ (x y : Numbered). x.number < y.number) (numbered script) (λ i j x y less at_x at_y. let a = is_numbered 0 0 (operations script) i x at_x in let b = is_numbered 0 0 (operations script) j y at_y in
-        let m = a.number in let n = b.number in omega (arith, less, m, n))
-
-    of_open : (x : Numbered) (v : ℕ) (b : Bool) → cond b (Some x.number) None ≡ Some v → x.number ≡ v
-    of_open x v true e = some_is x.number v e
-    of_open x v false e = absurd (let z : None ≡ Some v = e in cc)
-
-    increasing : EachBefore (λ (m n : ℕ). m < n) (opens script)
-    increasing = before_filter_map (λ (x y : Numbered). x.number < y.number) (λ (m n : ℕ). m < n) (λ (x : Numbered). cond (is_open x.op.item) (Some x.number) None)
-        (λ x y v w less e f. let a = of_open x v (is_open x.op.item) e in let b = of_open y w (is_open y.op.item) f in omega (arith, less, a, b)) (numbered script) numbers
-
-    before : (i j : ℕ) → i < j → get_elem? (opens script) i ≡ some o → get_elem? (opens script) j ≡ some o → o < o
-    before i j less at_i at_j = before_at (λ (m n : ℕ). m < n) (opens script) increasing i j o o less (place_at (opens script) i o at_i) (place_at (opens script) j o at_j)
-
--- nor has one taken anything
+-- a view has taken nothing yet
 pub first_fresh : (script : List Item) (i : ℕ) (v : View) → get_elem? (first_views script) i ≡ some v → v.lists ≡ [] ∷ []
 first_fresh script = opening_fresh (plan_of script) (all_seats (all_tasks script) (length (opens script)))
 

@@ -7,7 +7,6 @@ use mathlib.Core.Option.{Option, none, some, some-injective, some-ne-none}
 use lib.ListN.{get_elem?}
 use Rattle.sock_words.specs.declared.plain.Plan.{Plan}
 use Rattle.sock_words.specs.Words.{at_word, at_word_first, at_word_slot, at_word_link, at_word_attempt}
-use Rattle.sock_model.specs.declared.view.View.{View}
 use Rattle.corr_core.specs.Word.{error_of}
 use Rattle.corr_core.specs.declared.marks.Plan.{Plan as IdPlan}
 use Rattle.brpc_model.specs.Items.{Item}
@@ -25,8 +24,7 @@ use Rattle.seat_programs.specs.Scripts.{all_tasks, opened, set_up, IsRunWithCall
 use Rattle.seat_programs.specs.Told.{AreTasks, Made}
 use Rattle.seat_programs.specs.ToldCalls.{Accepted, Fixed, StandsOn, MayBeOn, GaveFault}
 use Rattle.sock_runs.specs.Sound.{first_step}
-use Rattle.sock_runs.proofs.LinkTicks.{RetriesGo}
-use Rattle.sock_runs.proofs.Whole.{Begins, AreFittingIn, closing_of, views_ended, ended_sound, end_rests}
+use Rattle.sock_runs.proofs.Whole.{closing_of, views_ended, ended_sound, end_rests}
 use Rattle.outcome_causes.specs.Explains.{is_plain}
 use Rattle.outcome_causes.specs.Kept.{IsSpoken}
 use Rattle.outcome_causes.specs.PlainTasks.{told_tasks_of}
@@ -35,7 +33,7 @@ use Rattle.outcome_causes.proofs.Lifted.{up, made_up}
 use Rattle.outcome_causes.proofs.Members.{in_contains, contains_in}
 use Rattle.outcome_causes.proofs.Plain.{in_both}
 use Rattle.outcome_causes.proofs.Tasks.{one_task}
-use Rattle.call_causes.specs.joint_runs.proofs.Runs.{AreMade, first_views}
+use Rattle.call_causes.specs.joint_runs.proofs.Runs.{AreMade}
 use Rattle.call_causes.specs.owed_calls.specs.Lives.{ClosesInRun}
 use Rattle.run_theorems.proofs.Gave.{gave_heard}
 use Rattle.call_causes.specs.Lists.{shows_in}
@@ -44,7 +42,6 @@ use Rattle.send_causes.specs.Counts.{AreLabelled}
 use Rattle.send_causes.specs.EndedCalls.{Store, stores_by, stored_at, stores_of_run, reader_posts_of_run, AreStoredOnce, EndedSo, IsEndPost}
 use Rattle.send_causes.proofs.Apart as apart
 use Rattle.send_causes.proofs.Beside.{gave_of_run}
-use Rattle.send_causes.proofs.Early.{start, go, fitting}
 use Rattle.send_causes.proofs.Runs.{AreLabelledIn, IsCallOf, end_law}
 use Rattle.send_causes.proofs.Sends.{owed, orders_of_run, narrow, opening_bare}
 use Rattle.send_causes.proofs.EndedLives.{at_made, all_over}
@@ -52,6 +49,7 @@ use Rattle.send_causes.proofs.EndedNamed.{tasks_are, EndNamed, end_named}
 use Rattle.send_causes.proofs.EndedNames.{StoredFor}
 use Rattle.send_causes.proofs.EndedWhole.{run_end_posts}
 use Rattle.call_causes.proofs.Posts.{id_back}
+use Rattle.send_causes.proofs.Grounds.{setting, grounds}
 
 -- ## Numbers
 
@@ -93,17 +91,8 @@ module _ (ids : ℕ → ℕ) (p : Plan) (q : IdPlan) where
 -- ## A whole run
 
 module _ (script : List Item) (made : AreMade script) (turns : List Turn) (core : Core) (is : IsRunWithCalls script turns core) (closes : ClosesInRun script turns core is) (ids : ℕ → ℕ) (labelled : AreLabelledIn ids script turns core is) where
-  abbrev vs : List View
-  vs = first_views script
-
-  abbrev begins : Begins script (first_views script)
-  begins = start script made turns core is
-
-  abbrev goes : RetriesGo (plan_of script)
-  goes = go script made turns core is
-
-  abbrev fits : AreFittingIn script turns core is
-  fits = fitting script made turns core is
+  open setting script use {vs}
+  open grounds script made turns core is use {begins, goes, fits}
 
   pub own_store : (x : Store) → In x (stores_of_run script turns core is) → IsOwn ids (plan_of script) (id_plan_of script) x
   own_store x there = ⊎_elim (λ a. ticks_own ids (plan_of script) (id_plan_of script) (replicate is.setup (quiet 0)) (opened script) labelled.of_setup x a)

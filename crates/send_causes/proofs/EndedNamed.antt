@@ -3,7 +3,7 @@ use Rattle.std.proofs.Common.{◌≡◌, ◌≢◌, ℕ, zero, suc, ◌+◌, ◌
 use Rattle.std.specs.List.{AllByRecursion}
 use Rattle.std.specs.Prelude.{Bool}
 use Rattle.std.proofs.lemmas.List.{length-map}
-use mathlib.Core.Option.{some, some-injective, some-ne-none}
+use mathlib.Core.Option.{some}
 use lib.ListN.{get_elem?}
 use Rattle.atomic_table.proofs.Lists.{set_again}
 use Rattle.sock_words.specs.declared.plain.Plan.{Plan}
@@ -16,8 +16,7 @@ use Rattle.seat_programs.specs.Clients.{client_from, ending_of}
 use Rattle.seat_programs.specs.Cores.{Core, SeatState, resolved, next_step}
 use Rattle.seat_programs.specs.declared.task.Sizes.{Sizes}
 use Rattle.seat_programs.specs.declared.task.Task.{Task}
-use Rattle.seat_programs.specs.Programs.{Program, Rest}
-use Rattle.seat_programs.specs.Readers.{reader}
+use Rattle.seat_programs.specs.Programs.{Program}
 use Rattle.seat_programs.specs.Ticks.{Moment, AreAnswered, quiet, ticked, run}
 use Rattle.seat_programs.specs.Tasks.{opens, calls, plan_of, id_plan_of}
 use Rattle.seat_programs.specs.Scripts.{sizes_of, programs, readers_from, all_programs, all_tasks, beginning, opened, set_up, IsRunWithCalls}
@@ -25,7 +24,7 @@ use Rattle.seat_programs.specs.Told.{AreTasks}
 use Rattle.sock_runs.specs.Sound.{Sound, AreFitting, views_after, views_along}
 use Rattle.sock_runs.proofs.Along.{seat_rests}
 use Rattle.sock_runs.proofs.LinkTicks.{RetriesGo}
-use Rattle.sock_runs.proofs.Opening.{mapped, appended}
+use Rattle.sock_runs.proofs.Opening.{mapped}
 use Rattle.sock_runs.proofs.Ticks.{sound_ticks}
 use Rattle.sock_runs.proofs.Whole.{Begins, AreFittingIn, closing_of, rested_of, views_played, views_closed, views_ended, set_up_answered, end_answered, set_up_sound, played_sound, closing_sound, closed_sound, rested_ahead, rested_idle}
 use Rattle.outcome_causes.specs.Kept.{Story}
@@ -42,9 +41,10 @@ use Rattle.label_runs.proofs.Operations.{OpCalls}
 use Rattle.id_rule.specs.Lawful.{at_index}
 use Rattle.call_causes.specs.Lists.{shows_in}
 use Rattle.id_runs.proofs.Opening.{unused}
+use Rattle.send_causes.proofs.Beginnings.{all_begin}
 use Rattle.send_causes.specs.Counts.{AreLabelled}
 use Rattle.send_causes.specs.EndedCalls.{Load, loaded_at, loads_of_run, Store, stored_at, stores_of_run}
-use Rattle.send_causes.proofs.RunTicks.{in_setup, in_clients, in_closing}
+use Rattle.call_causes.proofs.RunTicks.{in_setup, in_clients, in_closing, parts}
 use Rattle.send_causes.proofs.Runs.{AreLabelledIn, IsCallOf, behind_ids, asked_by, none_home}
 use Rattle.send_causes.proofs.EndedTrails.{Trail, lost, Follows}
 use Rattle.send_causes.proofs.EndedPrograms.{client_goes, ending_goes, reader_goes}
@@ -52,21 +52,9 @@ use Rattle.send_causes.proofs.EndedNames.{NameLaw, StoredFor, for_up, lost_true,
 
 -- ## How a run begins
 
-clients_follow : (is_call : Asked → Type 0) (sizes : Sizes) (cs : List (List Task)) → ((i : ℕ) (ts : List Task) → get_elem? cs i ≡ some ts → AllByRecursion (λ (t : Task). OpCalls is_call t.op) ts) → (i : ℕ) (x : Program) → get_elem? (programs sizes cs) i ≡ some x → Follows is_call lost x
-clients_follow is_call sizes cs asks i x e = let t = mapped (client_from sizes []) cs i x e in subst (Follows is_call lost) t.2 (client_goes is_call sizes [] t.0 (asks i t.0 t.1))
-
-readers_follow : (is_call : Asked → Type 0) (calls os : List ℕ) (k i : ℕ) (x : Program) → get_elem? (readers_from calls k os) i ≡ some x → Follows is_call lost x
-readers_follow is_call calls [] k i x at = absurd (some-ne-none x (sym at))
-readers_follow is_call calls (o ∷ os) k zero x at = subst (Follows is_call lost) (some-injective (reader calls k o) x at) (reader_goes is_call calls k o)
-readers_follow is_call calls (o ∷ os) k (suc i) x at = readers_follow is_call calls os (k + 1) i x at
-
-others_follow : (is_call : Asked → Type 0) (n : ℕ) (calls os : List ℕ) (k i : ℕ) (x : Program) → get_elem? (replicate n Rest ++ readers_from calls k os) i ≡ some x → Follows is_call lost x
-others_follow is_call zero calls os k i x at = readers_follow is_call calls os k i x at
-others_follow is_call (suc n) calls os k zero x at = subst (Follows is_call lost) (some-injective Rest x at) tt
-others_follow is_call (suc n) calls os k (suc i) x at = others_follow is_call n calls os k i x at
-
 pub all_follow : (is_call : Asked → Type 0) (sizes : Sizes) (cs : List (List Task)) → ((i : ℕ) (ts : List Task) → get_elem? cs i ≡ some ts → AllByRecursion (λ (t : Task). OpCalls is_call t.op) ts) → (calls os : List ℕ) (i : ℕ) (x : Program) → get_elem? (all_programs (programs sizes cs) (readers_from calls 0 os)) i ≡ some x → Follows is_call lost x
-all_follow is_call sizes cs asks calls os i x e = ⊎_elim (λ a. clients_follow is_call sizes cs asks i x a) (λ b. others_follow is_call (32 - length (programs sizes cs)) calls os 0 b.0 x b.1) (appended (programs sizes cs) (replicate (32 - length (programs sizes cs)) Rest ++ readers_from calls 0 os) i x e)
+all_follow is_call sizes cs asks calls os i x e = all_begin (Follows is_call lost) tt calls (λ k o. reader_goes is_call calls k o) (programs sizes cs) os i x
+    (λ a. let t = mapped (client_from sizes []) cs i x a in subst (Follows is_call lost) t.2 (client_goes is_call sizes [] t.0 (asks i t.0 t.1))) e
 
 module _ (p : Plan) (q : IdPlan) (is_call : Asked → Type 0) (seen : List Store) (es : List Event) where
   pub begins_named : (xs : List Program) → ((i : ℕ) (x : Program) → get_elem? xs i ≡ some x → Follows is_call lost x) → (vs : List View) → ((i : ℕ) (v : View) → get_elem? vs i ≡ some v → (v.claims ≡ []) × (v.lists ≡ [] ∷ []))
@@ -150,17 +138,7 @@ module _ (script : List Item) (are : AreTasks (plan_of script) (all_tasks script
   abbrev After : Bool → List Event → Core → List View → List Moment → Type 0
   After over before c ws ms = Behind (plan_of script) (id_plan_of script) narrow (IsCallOf script) (stores_of_run script turns core is) (told_tasks_of script) tasks_are ids over before c ws ms
 
-  abbrev s₁ : List Store
-  s₁ = shows_in stored_at (plan_of script) (opened script) (in_setup is)
-
-  abbrev s₂ : List Store
-  s₂ = shows_in stored_at (plan_of script) (set_up script is.setup) (in_clients is)
-
-  abbrev s₃ : List Store
-  s₃ = shows_in stored_at (plan_of script) (closing_of script turns core is) (in_closing is)
-
-  abbrev s₄ : List Store
-  s₄ = shows_in stored_at (plan_of script) is.ended is.final
+  open parts stored_at is use {setup as s₁, clients as s₂, closing as s₃, final as s₄}
 
   abbrev first : Keeps false (opened script) vs
   first = record {

@@ -23,7 +23,7 @@ use Rattle.sock_model.specs.SlotRows.{met_link}
 use Rattle.corr_core.specs.declared.marks.Plan.{Plan as IdPlan}
 use Rattle.id_rule.specs.Lawful as ids
 use Rattle.id_runs.specs.Held.{IdView, MayId}
-use Rattle.id_runs.specs.Goes.{FitsRetryId, FitsSock, IdGoesOn, SoundIds, IsFittingIds}
+use Rattle.id_runs.specs.Goes.{FitsRetryId, FitsSock, SoundIds, IsFittingIds}
 use Rattle.id_runs.proofs.Steps.{finds_ids}
 use Rattle.seat_programs.specs.Asides.{Step, Found, ClaimId, PutCall, MakeId, StoreCall, StoreAt, LoadAt, LockId, PostId, UnlockId, EndId, FreeId, TakeCall, TakeBytes, Taking, Bytes, id_slot, id_first}
 use Rattle.sock_message.specs.Asked.{Asked, name_of}
@@ -45,14 +45,15 @@ use Rattle.outcome_causes.proofs.Cases.{tick_cases}
 use Rattle.outcome_causes.proofs.Events.{event, marked_given, given_by, last_some}
 use Rattle.outcome_causes.proofs.Means.{held_given}
 use Rattle.outcome_causes.proofs.Tests.{split}
-use Rattle.outcome_causes.proofs.Ticks.{elem_there}
 use Rattle.label_runs.specs.Labels.{FindsLabel}
 use Rattle.send_causes.specs.EndedCalls.{Load, loads_by, loaded_with, loaded_at, Store, stores_by, stored_at}
 use Rattle.send_causes.proofs.Words.{finds_label, makes_new}
-use Rattle.send_causes.proofs.Ticks.{few_more, few_of, AreCalls, PutsCall, calls_behind, calls_waiting, ids_first, fits_as}
+use Rattle.outcome_causes.proofs.HomeCalls.{AreCalls, PutsAsked, calls_behind}
+use Rattle.send_causes.proofs.Ticks.{few_more, few_of, calls_waiting, fits_as}
 use Rattle.call_causes.proofs.Chains.{AreFewTries as AreTries}
 use Rattle.send_causes.proofs.Views.{row_same}
 use Rattle.send_causes.proofs.EndedTrails.{Of, NoCall, Makes, Knows, Trail, lost, Stays, IsOwnStore, MayAttempt, GoesDo, GoesAside, Follows}
+use Rattle.send_causes.proofs.SeatFacts.{seat_facts}
 use Rattle.send_causes.proofs.EndedPrograms.{follows_round, block_goes, retry_goes}
 use Rattle.report_fits.proofs.Lists.{all_map}
 
@@ -340,7 +341,7 @@ module _ (p : Plan) (q : IdPlan) (narrow : q.slots ≤ 65536) (is_call : Asked �
       finds_step (TakeCall k) t' found is may = law.calls k found is
       finds_step _ t' found is may = tt
 
-      puts_step : (step : Step) (after : Program) (found : Found step) (x : Trail) → GoesAside is_call t step after found x → PutsCall is_call step
+      puts_step : (step : Step) (after : Program) (found : Found step) (x : Trail) → GoesAside is_call t step after found x → PutsAsked is_call step
       puts_step (PutCall k asked) after found x g = g.1
       puts_step _ after found x g = tt
 
@@ -381,22 +382,7 @@ module _ (p : Plan) (q : IdPlan) (narrow : q.slots ≤ 65536) (is_call : Asked �
           (λ far. at_one (ids.at_index c.calls.plan o) w n (λ e. far (omega (arith, e))) low some_)
         where
           now : StoredFor is_call seen fs o w
-          now = for_up is_call seen es fs up o w record {
-            asked = own.asked;
-            called = own.called;
-            operation = own.operation;
-            id = own.id;
-            attempt = own.attempt;
-            link = own.link;
-            socket = own.socket;
-            word = own.word;
-            slot = subst (HasSlot is_call seen es) own.knows true_here.4;
-            small = own.small;
-            few = own.few;
-            named = (subst (AllByRecursion (IsNamed is_call seen es)) own.name true_here.0).0;
-            given = true_here.2 (name_of own.asked own.attempt) own.socket own.link own.name own.linked;
-            stored = shown;
-          }
+          now = for_up is_call seen es fs up o w record { asked = own.asked; called = own.called; operation = own.operation; id = own.id; attempt = own.attempt; link = own.link; socket = own.socket; word = own.word; slot = subst (HasSlot is_call seen es) own.knows true_here.4; small = own.small; few = own.few; named = (subst (AllByRecursion (IsNamed is_call seen es)) own.name true_here.0).0; given = true_here.2 (name_of own.asked own.attempt) own.socket own.link own.name own.linked; stored = shown }
 
       pub ats_behind : (step : Step) (after : Program) (found : Found step) (x : Trail) → MayId p q u step → IsShown step → GoesAside is_call t step after found x → AtsFor is_call seen fs (calls_after step found c.calls)
       ats_behind (ClaimId k) after found x may shown g = at_else (ids.tag_index k) 1 (λ o _. λ e. omega (arith, e))
@@ -427,17 +413,7 @@ module _ (p : Plan) (q : IdPlan) (narrow : q.slots ≤ 65536) (is_call : Asked �
 
   -- a tick of any seat
   module _ (m : Moment) (answered : IsAnswered c m) (fitting : IsFittingIds p c m) (stores : (x : Store) → In x (stored_at c m) → In x seen) where
-    trail_of : (seat : SeatState) → get_elem? c.seats m.seat ≡ some seat → (t : Trail) × (get_elem? ts m.seat ≡ some t)
-    trail_of seat at = elem_there c.seats ts m.seat seat law.each at
-
-    view_of : (seat : SeatState) → get_elem? c.seats m.seat ≡ some seat → (u : IdView) × (get_elem? us m.seat ≡ some u)
-    view_of seat at = elem_there c.seats us m.seat seat real_ids.each at
-
-    first_as : (seat : SeatState) (at : get_elem? c.seats m.seat ≡ some seat) (x : Program) → first_step seat.program ≡ x → Follows is_call (trail_of seat at).0 x
-    first_as seat at x is = let t = trail_of seat at in subst (Follows is_call t.0) is (follows_first is_call t.0 seat.program (law.programs m.seat seat t.0 at t.1))
-
-    may_as : (seat : SeatState) (at : get_elem? c.seats m.seat ≡ some seat) (x : Program) → first_step seat.program ≡ x → IdGoesOn p q (view_of seat at).0 x
-    may_as seat at x is = let u = view_of seat at in subst (IdGoesOn p q u.0) is (ids_first p q narrow u.0 seat.program (real_ids.seats m.seat seat u.0 at u.1))
+    open seat_facts (Follows is_call) (follows_first is_call) p q narrow c ts law.each law.programs us real_ids m.seat use {stand_of as trail_of, view_of, first_as, may_as}
 
     unchanged : After c vs
     unchanged = (ts, record { views = λ j v e. view_up is_call seen es fs up v (law.views j v e); trails = λ j v t a b. true_up is_call seen es fs up v t (law.trails j v t a b); calls = law.calls; ats = λ o low some_. for_up is_call seen es fs up o (std.slice_index c.calls.words (ids.at_index c.calls.plan o)) (law.ats o low some_); each = law.each; programs = law.programs })

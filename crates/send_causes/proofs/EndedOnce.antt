@@ -1,8 +1,7 @@
 -- In a whole run no attempt has two at words.
-use Rattle.std.proofs.Common.{◌≡◌, ℕ, zero, suc, ◌+◌, ◌-◌, ◌≤◌, ⊎_elim, List, [], ◌∷◌, ◌++◌, length, map, replicate, refl, sym, ◌∙◌, subst, arith}
-use Rattle.std.specs.List.{AllByRecursion}
+use Rattle.std.proofs.Common.{◌≡◌, ℕ, ◌+◌, ◌-◌, ◌≤◌, ⊎_elim, List, [], ◌∷◌, ◌++◌, length, map, refl, sym, ◌∙◌, subst, arith}
 use Rattle.std.proofs.lemmas.List.{length-map}
-use mathlib.Core.Option.{some, some-injective}
+use mathlib.Core.Option.{some}
 use lib.ListN.{get_elem?}
 use Rattle.sock_words.specs.declared.plain.Plan.{Plan}
 use Rattle.sock_model.specs.declared.view.View.{View}
@@ -13,15 +12,13 @@ use Rattle.corr_core.specs.declared.marks.Plan.{Plan as IdPlan}
 use Rattle.sock_message.specs.Asked.{Asked}
 use Rattle.seat_programs.specs.Clients.{ending_of}
 use Rattle.seat_programs.specs.Cores.{Core, SeatState, resolved, next_step}
-use Rattle.seat_programs.specs.declared.task.Sizes.{Sizes}
-use Rattle.seat_programs.specs.declared.task.Task.{Task}
-use Rattle.seat_programs.specs.Programs.{Program, Say, Sent, Rest, Keep, Retries}
+use Rattle.seat_programs.specs.Programs.{Program, Say, Sent, Keep, Retries}
 use Rattle.seat_programs.specs.Ticks.{Moment, AreAnswered, ticked, run}
 use Rattle.seat_programs.specs.Tasks.{opens, calls, plan_of, id_plan_of}
 use Rattle.seat_programs.specs.Scripts.{sizes_of, programs, readers_from, all_programs, all_tasks, beginning, opened, set_up, played, IsRunWithCalls}
 use Rattle.sock_runs.specs.Sound.{Sound, AreFitting, views_after, views_along}
 use Rattle.sock_runs.proofs.LinkTicks.{RetriesGo}
-use Rattle.sock_runs.proofs.Opening.{mapped, appended}
+use Rattle.sock_runs.proofs.Opening.{mapped}
 use Rattle.sock_runs.proofs.Ticks.{sound_ticks}
 use Rattle.sock_runs.proofs.Whole.{closing_of, views_played, views_closed, set_up_answered, end_answered, set_up_sound, closing_sound, closed_sound}
 use Rattle.outcome_causes.specs.Stories.{In}
@@ -31,28 +28,19 @@ use Rattle.outcome_causes.proofs.Plain.{in_left, in_right, in_both}
 use Rattle.outcome_causes.proofs.Ticks.{elem_there}
 use Rattle.call_causes.specs.joint_runs.proofs.Runs.{AreMade, first_views}
 use Rattle.label_runs.specs.Labels.{Trial, Idle, Labels}
-use Rattle.label_runs.proofs.Operations.{OpCalls}
 use Rattle.label_runs.proofs.Programs.{ending_goes}
 use Rattle.call_causes.specs.owed_calls.specs.Lives.{ClosesInRun}
 use Rattle.call_causes.specs.Lists.{shows_in}
 use Rattle.send_causes.specs.Counts.{AreLabelled}
 use Rattle.send_causes.specs.EndedCalls.{Store, stored_at, stores_of_run, AreStoredOnce}
-use Rattle.send_causes.proofs.RunTicks.{in_setup, in_clients, in_closing}
+use Rattle.call_causes.proofs.RunTicks.{in_setup, in_clients, in_closing}
 use Rattle.send_causes.proofs.Early.{start, go, fitting}
-use Rattle.send_causes.proofs.Runs.{AreLabelledIn, IsCallOf, behind_ids, asked_by, clients_go, readers_go, none_waits, none_home}
+use Rattle.send_causes.proofs.Runs.{AreLabelledIn, IsCallOf, behind_ids, asked_by, programs_go, none_waits, none_home}
 use Rattle.send_causes.proofs.Sends.{narrow}
 use Rattle.send_causes.proofs.EndedTryTicks.{of_try, OnceLaw, moves, once_ticks}
 use Rattle.send_causes.proofs.EndedWhole.{seats_played}
 
 -- ## How a run begins
-
-others_stow : (is_call : Asked → Type 0) (n : ℕ) (calls os : List ℕ) (k i : ℕ) (x : Program) → get_elem? (replicate n Rest ++ readers_from calls k os) i ≡ some x → Labels is_call Idle x
-others_stow is_call zero calls os k i x at = readers_go is_call calls os k i x at
-others_stow is_call (suc n) calls os k zero x at = subst (Labels is_call Idle) (some-injective Rest x at) tt
-others_stow is_call (suc n) calls os k (suc i) x at = others_stow is_call n calls os k i x at
-
-all_stow : (is_call : Asked → Type 0) (sizes : Sizes) (cs : List (List Task)) → ((i : ℕ) (ts : List Task) → get_elem? cs i ≡ some ts → AllByRecursion (λ (t : Task). OpCalls is_call t.op) ts) → (calls os : List ℕ) (i : ℕ) (x : Program) → get_elem? (all_programs (programs sizes cs) (readers_from calls 0 os)) i ≡ some x → Labels is_call Idle x
-all_stow is_call sizes cs asks calls os i x e = ⊎_elim (λ a. clients_go is_call sizes cs asks i x a) (λ b. others_stow is_call (32 - length (programs sizes cs)) calls os 0 b.0 x b.1) (appended (programs sizes cs) (replicate (32 - length (programs sizes cs)) Rest ++ readers_from calls 0 os) i x e)
 
 none_try : (id n : ℕ) (xs : List Program) → total (of_try id n) (map (λ (x : Program). Idle) xs) ≡ 0
 none_try id n [] = refl
@@ -117,7 +105,7 @@ module _ (script : List Item) (made : AreMade script) (turns : List Turn) (core 
       (set_up_answered script made.are vs (start script made turns core is) (go script made turns core is) turns core is (fitting script made turns core is)) (let f = fitting script made turns core is in f.of_setup) labelled.of_setup []
       (map (λ (x : Program). Idle) (all_programs (programs (sizes_of (plan_of script) (id_plan_of script)) (all_tasks script)) (readers_from (calls script) 0 (opens script))))
       (begins_once (plan_of script) (id_plan_of script) (narrow script made turns core is closes) (IsCallOf script) ids (all_programs (programs (sizes_of (plan_of script) (id_plan_of script)) (all_tasks script)) (readers_from (calls script) 0 (opens script)))
-      (all_stow (IsCallOf script) (sizes_of (plan_of script) (id_plan_of script)) (all_tasks script) (asked_by script) (calls script) (opens script)))
+      (programs_go (IsCallOf script) (sizes_of (plan_of script) (id_plan_of script)) (all_tasks script) (asked_by script) (calls script) (opens script)))
 
   clients_part : B setup_part.all (set_up script is.setup) (in_clients is) (played script is.setup (in_clients is))
   clients_part = run_once (plan_of script) (id_plan_of script) (narrow script made turns core is closes) (IsCallOf script) ids (go script made turns core is) (in_clients is) (set_up script is.setup) (views_along (plan_of script) (opened script) vs (in_setup is))

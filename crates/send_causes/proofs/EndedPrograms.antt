@@ -80,13 +80,7 @@ module _ (is_call : Asked → Type 0) where
   -- one round of each loop
   pub follows_round : (t : Trail) (head : Head) (k : Exit head → Program) → Follows is_call t (Round head k) → Follows is_call t (round head k)
   follows_round t (Posts id e from) k x = round_goes tracks t (Posts id e from) k x.0 x.1
-  follows_round t (Unlocks i from advance) k x = round_goes tracks t (Unlocks i from advance) k x.0 x.1
-  follows_round t (Decides id asked word e) k x = round_goes tracks t (Decides id asked word e) k x.0 x.1
-  follows_round t (Locks i sought from) k x = round_goes tracks t (Locks i sought from) k x.0 x.1
-  follows_round t (Joins id) k x = round_goes tracks t (Joins id) k x.0 x.1
-  follows_round t (Opens o) k x = round_goes tracks t (Opens o) k x.0 x.1
-  follows_round t (Reads r) k x = round_goes tracks t (Reads r) k x.0 x.1
-  follows_round t (Discards l total) k x = round_goes tracks t (Discards l total) k x.0 x.1
+  follows_round t head k x = round_goes tracks t head k x.0 x.1
 
   pub block_goes : (t : Trail) (w : Writing) (after : Program) → Follows is_call t (Write w after) → Follows is_call t (block w after)
   block_goes t w after goes = kept.block_goes tracks t w after goes
@@ -217,10 +211,10 @@ module _ (is_call : Asked → Type 0) where
   -- ## Seats
 
   pub client_goes : (sizes : Sizes) (held : List HeldLife) (ts : List Task) → AllByRecursion (λ (t : Task). OpCalls is_call t.op) ts → Follows is_call lost (client_from sizes held ts)
-  client_goes sizes held ts all = kept.client_goes tracks call_goes sizes held ts all
+  client_goes = kept.client_goes tracks call_goes
 
   pub ending_goes : (os : List ℕ) → Follows is_call lost (ending_of os)
-  ending_goes os = kept.ending_goes tracks os
+  ending_goes = kept.ending_goes tracks
 
   pub reader_goes : (calls : List ℕ) (k o : ℕ) → Follows is_call lost (reader calls k o)
-  reader_goes calls k o = kept.reader_goes tracks calls k o
+  reader_goes = kept.reader_goes tracks

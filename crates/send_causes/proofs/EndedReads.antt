@@ -1,5 +1,5 @@
 -- A reader posts errors only behind the end of its reading, and for at words that it loaded which name its link.
-use Rattle.std.proofs.Common.{◌≡◌, ◌≢◌, ℕ, ◌+◌, ◌-◌, ◌%◌, ◌==◌, ◌&&◌, ◌⊎◌, inl, inr, not, nat_lt, ltb-false, eqb-true, eq-eqb, Bool, true, false, cond, List, [], ◌∷◌, ◌++◌, length, length-append, append-nil, append_assoc, refl, sym, ap, ◌∙◌, subst, arith}
+use Rattle.std.proofs.Common.{◌≡◌, ◌≢◌, ℕ, ◌+◌, ◌-◌, ◌%◌, ◌==◌, ◌&&◌, ◌⊎◌, inl, inr, not, nat_lt, ltb-false, eqb-true, eq-eqb, Bool, true, false, cond, List, [], ◌∷◌, ◌++◌, length, length-append, append-nil, refl, sym, ap, ◌∙◌, subst, arith}
 use Rattle.std.proofs.lemmas.Bool.{true≢false}
 use Rattle.std.proofs.lemmas.List.Concat.{flat_map-append}
 use Rattle.std.specs.Prelude.{Some, None}
@@ -21,7 +21,8 @@ use Rattle.outcome_causes.specs.Stories.{In}
 use Rattle.outcome_causes.proofs.Plain.{in_left}
 use Rattle.run_theorems.specs.Heard.{bytes_found, given_by}
 use Rattle.send_causes.proofs.ReaderParts.{is_of_id, is_loop, ReadsOn, release_on, unlocks_on, end_id_on, unlocked_on, locks_on, joins_on, responses_on, posted_last_on}
-use Rattle.send_causes.proofs.Faults.{Faults, fault_stays, fault_follows}
+use Rattle.brpc_model.specs.Causes.{HasFault}
+use Rattle.call_causes.proofs.Streams.{faults_more, faults_follow, tied_more}
 use Rattle.send_causes.proofs.Closers.{gave_more, gave_none, last_in}
 use Rattle.send_causes.proofs.Early.{EndedBy, ended_more}
 
@@ -29,13 +30,13 @@ use Rattle.send_causes.proofs.Early.{EndedBy, ended_more}
 
 -- with this code, by these takes
 abbrev pub WasOver : ℕ → List Taking → Type 0
-WasOver code h = ((code ≡ 1014) × (EndedBy h ⊎ (In Closed h ⊎ In NoMore h))) ⊎ ((code ≡ 2002) × Faults 0 (given_by h))
+WasOver code h = ((code ≡ 1014) × (EndedBy h ⊎ (In Closed h ⊎ In NoMore h))) ⊎ ((code ≡ 2002) × HasFault (given_by h))
 
 pub over_more : (code : ℕ) (h later : List Taking) → WasOver code h → WasOver code (h ++ later)
 over_more code h later (inl (e, inl x)) = inl (e, inl (ended_more h later x))
 over_more code h later (inl (e, inr (inl x))) = inl (e, inr (inl (in_left h later Closed x)))
 over_more code h later (inl (e, inr (inr x))) = inl (e, inr (inr (in_left h later NoMore x)))
-over_more code h later (inr (e, f)) = inr (e, subst (Faults 0) (sym (flat_map-append bytes_found h later)) (fault_stays 0 (given_by h) (given_by later) f))
+over_more code h later (inr (e, f)) = inr (e, subst HasFault (sym (flat_map-append bytes_found h later)) (faults_more (given_by h) (given_by later) f))
 
 -- ## Programs
 
@@ -44,7 +45,7 @@ module _ (k : ℕ) (At : ℕ → ℕ → Type 0) where
   pub record IsReading (h : List Taking) (r : Reading) : Type 0 where
     pub link : r.link ≡ k
     pub total : r.total ≡ length (given_by h)
-    pub tied : (more : List ℕ) → Faults 0 (r.rest ++ more) → Faults 0 (given_by h ++ more)
+    pub tied : (more : List ℕ) → HasFault (r.rest ++ more) → HasFault (given_by h ++ more)
 
   abbrev pub EndsSo : List Taking → Ended → Type 0
   EndsSo h how = WasOver how.code h × (how.reading.link ≡ k)
@@ -178,25 +179,24 @@ module _ (k : ℕ) (At : ℕ → ℕ → Type 0) where
     more_total bytes = let a = at.total in let b = ap length (gave_more h bytes) in let d = length-append (given_by h) bytes in omega (arith, a, b, d)
 
     -- a fault of the rest with what came is one of all that came
-    all_tied : (bytes more : List ℕ) → Faults 0 ((r.rest ++ bytes) ++ more) → Faults 0 (given_by (h ++ Bytes bytes ∷ []) ++ more)
-    all_tied bytes more f = subst (λ l. Faults 0 (l ++ more)) (sym (gave_more h bytes))
-        (subst (Faults 0) (sym (append_assoc (given_by h) bytes more)) (at.tied (bytes ++ more) (subst (Faults 0) (append_assoc r.rest bytes more) f)))
+    all_tied : (bytes more : List ℕ) → HasFault ((r.rest ++ bytes) ++ more) → HasFault (given_by (h ++ Bytes bytes ∷ []) ++ more)
+    all_tied bytes more f = subst (λ l. HasFault (l ++ more)) (sym (gave_more h bytes)) (tied_more r.rest (given_by h) bytes more at.tied f)
 
     abbrev with_rest : List ℕ → List Frame → ℕ → Reading
     with_rest bytes kept n = record { ids = r.ids; link = r.link; id = r.id; rest = last_of n (r.rest ++ bytes); total = r.total + length bytes; kept = kept }
 
     tell_read_on : (kept : List Frame) (bytes : List ℕ) (s : streams.Ending) → (streams.stream (r.rest ++ bytes)).ending ≡ s → Tells (h ++ Bytes bytes ∷ []) (read_on (with_more bytes kept) (r.rest ++ bytes) s next)
     tell_read_on kept bytes (streams.Rest n) is = way (h ++ Bytes bytes ∷ []) (nat_lt (r.total + length bytes) LIMIT) (Round (Reads (with_rest bytes kept n)) next) (next (ended_by 1014 false false (with_rest bytes kept n)))
-        (λ less. (record { link = at.link; total = more_total bytes; tied = λ more f. all_tied bytes more (fault_follows (r.rest ++ bytes) more n is f) }, goes))
+        (λ less. (record { link = at.link; total = more_total bytes; tied = λ more f. all_tied bytes more (faults_follow (r.rest ++ bytes) more n is f) }, goes))
         (λ most. goes (ended_by 1014 false false (with_rest bytes kept n)) (h ++ Bytes bytes ∷ []) (inl (refl, inl (inr (inr (inl (let l = ltb-false (r.total + length bytes) LIMIT most in let t = more_total bytes in omega (arith, l, t)))))), at.link))
     tell_read_on kept bytes (streams.Fault start fault) is = goes (ended_by 2002 false true (with_more bytes kept)) (h ++ Bytes bytes ∷ [])
-        (inr (refl, subst (Faults 0) (append-nil (given_by (h ++ Bytes bytes ∷ []))) (all_tied bytes [] (subst (Faults 0) (sym (append-nil (r.rest ++ bytes))) (start, fault, is)))), at.link)
+        (inr (refl, subst HasFault (append-nil (given_by (h ++ Bytes bytes ∷ []))) (all_tied bytes [] (subst HasFault (sym (append-nil (r.rest ++ bytes))) (start, fault, is)))), at.link)
 
     tell_took : (t : Taking) → Tells (h ++ t ∷ []) (took r next t)
     tell_took (Bytes bytes) = responses_on (tell_on (h ++ Bytes bytes ∷ [])) r.ids (streams.stream (r.rest ++ bytes)).frames r.kept (λ kept. read_on (with_more bytes kept) (r.rest ++ bytes) (streams.stream (r.rest ++ bytes)).ending next)
         (λ kept. tell_read_on kept bytes (streams.stream (r.rest ++ bytes)).ending refl)
     tell_took Nothing = (
-      record { link = at.link; total = at.total ∙ ap length (sym (gave_none h Nothing refl)); tied = λ more f. subst (λ l. Faults 0 (l ++ more)) (sym (gave_none h Nothing refl)) (at.tied more f) },
+      record { link = at.link; total = at.total ∙ ap length (sym (gave_none h Nothing refl)); tied = λ more f. subst (λ l. HasFault (l ++ more)) (sym (gave_none h Nothing refl)) (at.tied more f) },
       goes,
     )
     tell_took NoMore = goes (ended_by 1014 false false r) (h ++ NoMore ∷ []) (inl (refl, inr (inr (last_in h NoMore))), at.link)

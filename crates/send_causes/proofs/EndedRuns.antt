@@ -8,7 +8,7 @@ use lib.ListN.{get_elem?}
 use Rattle.chain_steps.proofs.Lists.{at_some}
 use Rattle.sock_words.specs.declared.plain.Plan.{Plan}
 use Rattle.sock_model.specs.declared.view.View.{View}
-use Rattle.seat_programs.specs.Asides.{Taking, Bytes, Nothing, NoMore, AtEnd, Closed, Broken}
+use Rattle.seat_programs.specs.Asides.{Taking, Bytes}
 use Rattle.seat_programs.specs.Beside.{at_last, taking_in}
 use Rattle.seat_programs.specs.Cores.{Core, SeatState}
 use Rattle.seat_programs.specs.Ticks.{Answer, Unasked, OfPut, OfReady, OfTake, Moment, AreAnswered, quiet, taken, ticked, run}
@@ -27,9 +27,8 @@ use Rattle.send_causes.specs.EndedCalls.{Load, loaded_at, reader_posts_at}
 use Rattle.send_causes.proofs.Early.{Any, ends_anyhow}
 use Rattle.send_causes.proofs.EndedReads.{MayPost, post_more}
 use Rattle.send_causes.proofs.EndedTicks.{HasTold, LoadsSo, told_ticks, told_posts}
-use Rattle.send_causes.proofs.ReaderRuns.{Keeps, founds, keeps_same, keeps_along}
+use Rattle.send_causes.proofs.ReaderRuns.{Keeps, founds, keeps_same, keeps_ticks, keeps_along, reader_of, others_none}
 use Rattle.send_causes.proofs.Readings.{found_by, takes_own, takes_or_not}
-use Rattle.send_causes.proofs.Takeless.{none_taken}
 
 module _ (p : Plan) (calls os : List ℕ) (in_os : (k o : ℕ) → get_elem? os k ≡ some o → o < p.operations) where
   abbrev pub Keeping : Core → List View → (ℕ → List Taking) → Type 0
@@ -37,18 +36,6 @@ module _ (p : Plan) (calls os : List ℕ) (in_os : (k o : ℕ) → get_elem? os 
 
   abbrev pub finds : Core → List Moment → ℕ → List Taking
   finds c ms n = founds p calls os in_os Any (Unit {0}) ends_anyhow c ms n
-
-  -- the link of a reader's seat
-  reader_of : (c : Core) (vs : List View) (h : ℕ → List Taking) → Keeping c vs h → (j : ℕ) (seat : SeatState) → get_elem? c.seats j ≡ some seat → 32 ≤ j → (n : ℕ) × (o : ℕ) × (j ≡ 32 + n) × (get_elem? os n ≡ some o)
-  reader_of c vs h k j seat at high = let many = k.many in let x = at_some os (j - 32) (let l = place_inside c.seats j seat at in omega (arith, l, many, high)) in (j - 32, x.0, omega (arith, high), x.1)
-
-  -- no seat but its reader takes bytes of a link
-  others_none : (c : Core) (vs : List View) (h : ℕ → List Taking) → Sound p c vs → Keeping c vs h → (j : ℕ) (seat : SeatState) → get_elem? c.seats j ≡ some seat → (n : ℕ) → j ≢ 32 + n → filter (λ l. l == n) (taken_link seat.program) ≡ []
-  others_none c vs h sound k j seat at n far = dite (dec_le 32 j)
-      (λ high. let r = reader_of c vs h k j seat at high in let v = at_some vs j (let l = place_inside c.seats j seat at in let e = sound.each in omega (arith, l, e)) in ⊎_elim (λ e. ap (filter (λ l. l == n)) e)
-      (λ t. ap (filter (λ l. l == n)) t.1 ∙ ap (λ b. cond b (t.0 ∷ []) []) (ne_eqb t.0 n (λ e. far (r.2 ∙ ap (λ x. 32 + x) (sym t.2 ∙ e)))))
-      (takes_own p calls r.0 r.1 (in_os r.0 r.1 r.3) Any (Unit {0}) (ends_anyhow r.0) _ (h r.0) seat.program v.0 (k.readers r.0 r.1 r.3 seat v.0 (sym (ap (get_elem? c.seats) r.2) ∙ at) (sym (ap (get_elem? vs) r.2) ∙ v.1))))
-      (λ low. ap (filter (λ l. l == n)) (none_taken (Unit {0}) seat.program (k.clients j (omega (arith, low)) seat at)))
 
   module _ (seen : List Load) where
     abbrev pub Seen : ℕ → ℕ → ℕ → Type 0
@@ -72,7 +59,7 @@ module _ (p : Plan) (calls os : List ℕ) (in_os : (k o : ℕ) → get_elem? os 
       where
         by_state : 32 ≤ m.seat → In x (posted_at c m) → (o : Option SeatState) → get_elem? c.seats m.seat ≡ o → IsPostOf h x
         by_state high there none e = absurd (subst (λ o. In x (elim o as (λ o. List Post) [ none ↦ [] | some seat ↦ posted_with c.calls (taken m.answer) (Rattle.id_runs.specs.Goes.first_of seat.program) ])) e there)
-        by_state high there (some seat) e = let r = reader_of c vs h k m.seat seat e high in record { link = r.0; inside = place_inside os r.0 r.1 r.3; may = told_posts p r.0 (Seen r.0) (h r.0) c m (told r.0) r.2 x there }
+        by_state high there (some seat) e = let r = reader_of p calls os in_os Any (Unit {0}) ends_anyhow c vs h k m.seat seat e high in record { link = r.0; inside = place_inside os r.0 r.1 r.3; may = told_posts p r.0 (Seen r.0) (h r.0) c m (told r.0) r.2 x there }
 
         by_seat : (b : Bool) → nat_le 32 m.seat ≡ b → In x (cond b (posted_at c m) []) → IsPostOf h x
         by_seat true e there = by_state (leb-true 32 m.seat e) there (get_elem? c.seats m.seat) refl
@@ -83,8 +70,7 @@ module _ (p : Plan) (calls os : List ℕ) (in_os : (k o : ℕ) → get_elem? os 
 
     module _ (Q : ℕ → ℕ → Type 0) (go : RetriesGo p) where
       keeps_tick : (c : Core) (vs : List View) (m : Moment) (ms : List Moment) (h : ℕ → List Taking) → Sound p c vs → AreAnswered p c (m ∷ ms) → AreFitting p c (m ∷ ms) → Recorded p Q c vs → Keeping c vs h → Keeping (ticked p c m) (views_after p c vs m) (λ n. h n ++ found_by c m n)
-      keeps_tick c vs m ms h sound answered fitting recorded k = keeps_same p calls os in_os Any (Unit {0}) ends_anyhow (ticked p c m) (views_after p c vs m) (λ n. h n ++ finds c (m ∷ []) n) (λ n. h n ++ found_by c m n) (λ n. ap (λ l. h n ++ l) (append-nil (found_by c m n)))
-          (keeps_along p calls os in_os Any (Unit {0}) ends_anyhow Q go (m ∷ []) c vs h sound (answered.0, tt) (fitting.0, tt) recorded (λ e. tt) k)
+      keeps_tick c vs m ms h sound answered fitting recorded k = keeps_ticks p calls os in_os Any (Unit {0}) ends_anyhow Q go c vs m h sound answered.0 fitting.0 recorded (λ e. tt) k
 
       joined : (c : Core) (vs : List View) (m : Moment) (ms : List Moment) (h : ℕ → List Taking) → Keeping c vs h → AllTold h c
           → AllTold (λ n. (h n ++ found_by c m n) ++ finds (ticked p c m) ms n) (run p (ticked p c m) ms) × ((x : Post) → In x (shows_in reader_posts_at p (ticked p c m) ms) → IsPostOf (λ n. (h n ++ found_by c m n) ++ finds (ticked p c m) ms n) x)
@@ -103,7 +89,7 @@ module _ (p : Plan) (calls os : List ℕ) (in_os : (k o : ℕ) → get_elem? os 
       told_along (m ∷ ms) c vs h sound answered fitting recorded k told loads = joined c vs m ms h k told
           (told_along ms (ticked p c m) (views_after p c vs m) (λ n. h n ++ found_by c m n) (sound_ticks p go c vs m sound answered.0 fitting.0) answered.1 fitting.1 (recorded_ticks p Q c vs m sound answered.0 fitting.0 recorded)
           (keeps_tick c vs m ms h sound answered fitting recorded k)
-          (λ n. told_ticks p n (Seen n) (h n) c m (told n) (loads_so c m (λ l there. loads l (in_left (loaded_at c m) (shows_in loaded_at p (ticked p c m) ms) l there)) n) (λ seat at far. others_none c vs h sound k m.seat seat at n far))
+          (λ n. told_ticks p n (Seen n) (h n) c m (told n) (loads_so c m (λ l there. loads l (in_left (loaded_at c m) (shows_in loaded_at p (ticked p c m) ms) l there)) n) (λ seat at far. others_none p calls os in_os Any (Unit {0}) ends_anyhow c vs h sound k m.seat seat at n far))
           (λ l there. loads l (in_right (loaded_at c m) (shows_in loaded_at p (ticked p c m) ms) l there)))
 
   -- ## What was found
@@ -145,33 +131,12 @@ module _ (p : Plan) (calls os : List ℕ) (in_os : (k o : ℕ) → get_elem? os 
     where
       by : (b : Bool) (t : Taking) → given_by (map (at_last b) ts) ≡ given_by ts → given_by (map (at_last b) (t ∷ ts)) ≡ given_by (t ∷ ts)
       by true (Bytes bytes) e = ap (λ l. bytes ++ l) e
-      by true Nothing e = e
-      by true NoMore e = e
-      by true AtEnd e = e
-      by true Closed e = e
-      by true Broken e = e
       by false (Bytes bytes) e = ap (λ l. bytes ++ l) e
-      by false Nothing e = e
-      by false NoMore e = e
-      by false AtEnd e = e
-      by false Closed e = e
-      by false Broken e = e
+      by true other e = e
+      by false other e = e
 
   pub finds_give : (ms : List Moment) (c : Core) (n : ℕ) → given_by (finds c ms n) ≡ given_by (as_taken (taken_in p c ms n))
   finds_give [] c n = refl
   finds_give (m ∷ ms) c n = flat_map-append bytes_found (found_by c m n) (finds (ticked p c m) ms n)
       ∙ (ap (λ l. l ++ given_by (finds (ticked p c m) ms n)) (last_gives c.calls.ending (as_taken (taken_at c m n))) ∙ (ap (λ l. given_by (as_taken (taken_at c m n)) ++ l) (finds_give ms (ticked p c m) n)
       ∙ (sym (flat_map-append bytes_found (as_taken (taken_at c m n)) (as_taken (taken_in p (ticked p c m) ms n))) ∙ ap given_by (sym (taken_append (taken_at c m n) (taken_in p (ticked p c m) ms n))))))
-
-  -- nothing in ticks that ask no link
-  pub quiet_finds : (k : ℕ) (c : Core) (n : ℕ) → finds c (replicate k (quiet 0)) n ≡ []
-  quiet_finds zero c n = refl
-  quiet_finds (suc k) c n = ap (λ l. l ++ finds (ticked p c (quiet 0)) (replicate k (quiet 0)) n) (by_seat (get_elem? c.seats 0)) ∙ quiet_finds k (ticked p c (quiet 0)) n
-    where
-      none_answered : (ks : List ℕ) → as_taken (map (λ (k : ℕ). Unasked) ks) ≡ []
-      none_answered [] = refl
-      none_answered (x ∷ ks) = none_answered ks
-
-      by_seat : (s : Option SeatState) → map (at_last c.calls.ending) (as_taken (elim s as (λ o. List Answer) [ none ↦ [] | some s ↦ map (λ (j : ℕ). Unasked) (filter (λ j. j == n) (taken_link s.program)) ])) ≡ []
-      by_seat none = refl
-      by_seat (some s) = ap (map (at_last c.calls.ending)) (none_answered (filter (λ j. j == n) (taken_link s.program)))

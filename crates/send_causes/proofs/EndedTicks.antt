@@ -20,7 +20,7 @@ use Rattle.seat_programs.specs.Beside.{at_last, taking_in, found_in}
 use Rattle.seat_programs.specs.Heads.{Decides, Locks}
 use Rattle.seat_programs.specs.Posts.{ends_call}
 use Rattle.seat_programs.specs.Writings.{Puts, Waits, Empties, Walks}
-use Rattle.seat_programs.specs.Programs.{Program, Do, TakeMessage, TakeHome, PutHome, PutBytes, AskReady, Write, Aside, Round, Retries}
+use Rattle.seat_programs.specs.Programs.{Program, Do, TakeMessage, TakeHome, PutHome, PutBytes, AskReady, Write, Aside, Round, Say, Sent, Rest, Keep}
 use Rattle.seat_programs.specs.Cores.{Core, SeatState, word_of, found_at, waiting_at}
 use Rattle.seat_programs.specs.Ticks.{Answer, OfPut, OfReady, OfTake, Moment, taken, with_message, with_link, with_put, with_ready, with_found, step_with, tick_with, ticked}
 use Rattle.sock_runs.specs.Sound.{first_step}
@@ -131,14 +131,12 @@ module _ (p : Plan) (n : ℕ) (At : ℕ → ℕ → Type 0) where
       own_step (Aside (PostId i from e) next) is x = beside (PostId i from e) next x.1 (found_in (PostId i from e) c.calls (taken m.answer))
       own_step (Aside step next) is x = beside step next x (found_in step c.calls (taken m.answer))
       own_step (Do call next) is x = still (step_with p m.seat seat c m.answer (Do call next)) (λ s at_s. set_own h _ (tell_next n At h (waiting_at c.calls.waiting m.seat) (next (found_at c.words (word_of p call))) (x (found_at c.words (word_of p call)))) s at_s)
-      own_step (TakeMessage q next) is x = absurd x
-      own_step (TakeHome k next) is x = absurd x
-      own_step (PutHome k l after) is x = absurd x
-      own_step (PutBytes k asked bytes next) is x = absurd x
-      own_step (AskReady k next) is x = absurd x
-      own_step (Write w after) is x = absurd x
-      own_step (Retries requests after) is x = absurd x
-      own_step _ is x = still c before
+      own_step (Say o outcome next) is x = still c before
+      own_step (Sent o next) is x = still c before
+      own_step Rest is x = still c before
+      own_step (Round head next) is x = still c before
+      own_step (Keep r next) is x = still c before
+      own_step _ is x = absurd x
 
       own_tick : HasTold (h ++ map (at_last c.calls.ending) (as_taken (map (λ (j : ℕ). m.answer) (filter (λ j. j == n) (taken_link seat.program))))) (tick_with p m.seat seat c m.answer seat.program)
       own_tick = subst (λ d. HasTold (h ++ map (at_last c.calls.ending) (as_taken (map (λ (j : ℕ). m.answer) (filter (λ j. j == n) (taken_link seat.program))))) d) (sym (ticks_first p m.seat seat c m.answer seat.program))

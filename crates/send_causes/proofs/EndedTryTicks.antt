@@ -16,7 +16,7 @@ use Rattle.slot_steps.proofs.Sums.{term_le, total-append, total-set}
 use Rattle.corr_core.specs.Word.{parts}
 use Rattle.corr_core.specs.declared.marks.Plan.{Plan as IdPlan}
 use Rattle.id_runs.specs.Held.{IdView, MayId}
-use Rattle.id_runs.specs.Goes.{FindsId, IdGoesOn, SoundIds, IsFittingIds}
+use Rattle.id_runs.specs.Goes.{FindsId, SoundIds, IsFittingIds}
 use Rattle.id_runs.proofs.Steps.{finds_ids}
 use Rattle.seat_programs.specs.Asides.{Step, Found, PutCall, MakeId, StoreCall, StoreAt, UnlockId, TakeCall, Taking, call_id, id_slot, id_first}
 use Rattle.sock_message.specs.Asked.{Asked}
@@ -29,15 +29,16 @@ use Rattle.seat_programs.specs.Ticks.{Moment, IsAnswered, fed, with_places, onto
 use Rattle.sock_runs.specs.Sound.{Sound, first_step}
 use Rattle.outcome_causes.specs.Stories.{In}
 use Rattle.outcome_causes.proofs.Cases.{tick_cases}
-use Rattle.outcome_causes.proofs.Ticks.{elem_there}
 use Rattle.label_runs.specs.Labels.{Trial, Idle, Tries, put_behind, Kept, Storing, unlocked_trial, Labels}
 use Rattle.send_causes.specs.Counts.{pair_of, of_retry, WasMade, WasNow, StoresOwn}
 use Rattle.send_causes.specs.EndedCalls.{Store, stores_by, stored_at}
 use Rattle.send_causes.proofs.Words.{made_on, finds_label, words_forward, makes_new, advances_new}
 use Rattle.send_causes.proofs.Readings.{ticks_first}
-use Rattle.send_causes.proofs.Ticks.{few_more, few_of, AreCalls, PutsCall, calls_behind, calls_waiting, ids_first, fits_as, pair_one, pair_same, waits_set, labels_first}
+use Rattle.outcome_causes.proofs.HomeCalls.{AreCalls, PutsAsked, calls_behind}
+use Rattle.send_causes.proofs.Ticks.{few_more, few_of, calls_waiting, fits_as, pair_one, pair_same, waits_set, labels_first}
 use Rattle.call_causes.proofs.Chains.{AreFewTries as AreTries}
 use Rattle.label_runs.proofs.Programs.{retry_goes}
+use Rattle.send_causes.proofs.SeatFacts.{seat_facts}
 use Rattle.send_causes.proofs.OwnDecisionsTicks.{pair_self}
 
 -- ## Attempts that are tried
@@ -195,7 +196,7 @@ module _ (p : Plan) (q : IdPlan) (narrow : q.slots ≤ 65536) (is_call : Asked �
     pub moves : (x : Program) (hand : List Home) (hs : List (Option Home)) → Labels is_call Idle x → After (with_seat i x hand c.words hs (record c { calls = c.calls })) Idle none_new
     moves x hand hs g = leaves x hand c.words hs Idle (λ id n. omega arith) g
 
-    module _ (u : IdView) (at : get_elem? us i ≡ some u) (step : Step) (next : Found step → Program) (found : Found step) (answer : Option Taking) (is : found_in step c.calls answer ≡ some found) (may : MayId p q u step) (puts : PutsCall is_call step) where
+    module _ (u : IdView) (at : get_elem? us i ≡ some u) (step : Step) (next : Found step → Program) (found : Found step) (answer : Option Taking) (is : found_in step c.calls answer ≡ some found) (may : MayId p q u step) (puts : PutsAsked is_call step) where
       finds : FindsId p q u step found
       finds = finds_ids p q c.calls real_ids.plan us real_ids.rule i u at (real_ids.real i u at) (real_ids.called, real_ids.placed) real_ids.homes step answer found is may
 
@@ -287,15 +288,7 @@ module _ (p : Plan) (q : IdPlan) (narrow : q.slots ≤ 65536) (is_call : Asked �
         stored : End ((record { operation = o; word = w }) ∷ done) (with_seat i (next found) seat.hand c.words c.homes (record c { calls = calls_after (StoreAt o w) found c.calls }))
         stored = let l = b.behind in (
           b.trials,
-          record {
-            once = l.once;
-            made = l.made;
-            calls = l.calls;
-            each = l.each;
-            programs = l.programs;
-            gone = λ y there. ⊎_elim (λ e. subst (IsGone is_call ids q d b.trials) (sym e) now) (λ m. l.gone y m) there;
-            single = single_now;
-          },
+          record { once = l.once; made = l.made; calls = l.calls; each = l.each; programs = l.programs; gone = λ y there. ⊎_elim (λ e. subst (IsGone is_call ids q d b.trials) (sym e) now) (λ m. l.gone y m) there; single = single_now },
         )
 
       -- each step aside
@@ -323,17 +316,7 @@ module _ (p : Plan) (q : IdPlan) (narrow : q.slots ≤ 65536) (is_call : Asked �
     abbrev Result : Core → Type 0
     Result d = (xs : List Trial) × OnceLaw is_call ids q (stored_at c m ++ done) d xs
 
-    trial_of : (seat : SeatState) → get_elem? c.seats m.seat ≡ some seat → (t : Trial) × (get_elem? ts m.seat ≡ some t)
-    trial_of seat at = elem_there c.seats ts m.seat seat law.each at
-
-    view_of : (seat : SeatState) → get_elem? c.seats m.seat ≡ some seat → (u : IdView) × (get_elem? us m.seat ≡ some u)
-    view_of seat at = elem_there c.seats us m.seat seat real_ids.each at
-
-    first_as : (seat : SeatState) (at : get_elem? c.seats m.seat ≡ some seat) (x : Program) → first_step seat.program ≡ x → Labels is_call (trial_of seat at).0 x
-    first_as seat at x is = let t = trial_of seat at in subst (Labels is_call t.0) is (labels_first is_call t.0 seat.program (law.programs m.seat seat t.0 at t.1))
-
-    may_as : (seat : SeatState) (at : get_elem? c.seats m.seat ≡ some seat) (x : Program) → first_step seat.program ≡ x → IdGoesOn p q (view_of seat at).0 x
-    may_as seat at x is = let u = view_of seat at in subst (IdGoesOn p q u.0) is (ids_first p q narrow u.0 seat.program (real_ids.seats m.seat seat u.0 at u.1))
+    open seat_facts (Labels is_call) (labels_first is_call) p q narrow c ts law.each law.programs us real_ids m.seat use {stand_of as trial_of, view_of, first_as, may_as}
 
     -- what the tick stores
     as_stored : (seat : SeatState) → get_elem? c.seats m.seat ≡ some seat → (x : Program) → first_step seat.program ≡ x → (d : Core) → (xs : List Trial) × OnceLaw is_call ids q (stores_by x ++ done) d xs → Result d

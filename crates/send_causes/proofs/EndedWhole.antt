@@ -1,10 +1,8 @@
 -- Each post by a reader in a whole run: the reading of its link ended, and it loaded an at word that names its link.
-use Rattle.std.proofs.Common.{◌≡◌, ℕ, zero, suc, ◌+◌, ◌-◌, ◌<◌, ◌≤◌, ◌==◌, ◌&&◌, ◌||◌, eq-eqb, Bool, true, false, cond, nat_le, le-leb, List, [], ◌∷◌, ◌++◌, length, length-set, replicate, append-nil, inl, inr, ⊎_elim, ◌⊎◌, Ok, refl, sym, ap, ◌∙◌, subst, arith}
+use Rattle.std.proofs.Common.{◌≡◌, ℕ, ◌+◌, ◌-◌, ◌<◌, ◌==◌, ◌&&◌, ◌||◌, eq-eqb, Bool, true, false, cond, nat_le, le-leb, List, [], ◌∷◌, ◌++◌, length, length-set, append-nil, inl, inr, ⊎_elim, ◌⊎◌, Ok, refl, sym, ap, ◌∙◌, subst, arith}
 use Rattle.std.proofs.lemmas.List.Concat.{flat_map-append}
 use Rattle.std.specs.Prelude.{Contains}
-use Rattle.std.specs.List.{filter, list_any}
-use mathlib.Core.Logic.{dite}
-use native.Mathlib.Decide.{ℕ_discrete}
+use Rattle.std.specs.List.{filter}
 use Rattle.atomic_table.proofs.Lists.{at_set, set_else}
 use Rattle.chain_steps.proofs.Lists.{at_some}
 use Rattle.sock_model.specs.declared.view.View.{View}
@@ -18,7 +16,7 @@ use Rattle.seat_programs.specs.Cores.{Core, SeatState}
 use Rattle.seat_programs.specs.Readers.{LIMIT}
 use Rattle.seat_programs.specs.Runs.{from_to}
 use Rattle.seat_programs.specs.Tasks.{opens, calls, plan_of}
-use Rattle.seat_programs.specs.Ticks.{Moment, quiet, ticked, run}
+use Rattle.seat_programs.specs.Ticks.{Moment, ticked, run}
 use Rattle.seat_programs.specs.Scripts.{all_tasks, opened, set_up, played, IsRunWithCalls}
 use Rattle.sock_runs.specs.Sound.{views_along}
 use Rattle.sock_runs.proofs.Along.{place_inside}
@@ -28,6 +26,7 @@ use Rattle.outcome_causes.proofs.Lifted.{filtered_in}
 use Rattle.outcome_causes.proofs.Members.{in_contains}
 use Rattle.outcome_causes.proofs.Plain.{in_left, in_right, in_both}
 use Rattle.call_causes.specs.programs_allowed.specs.Openings.{all_seats}
+use Rattle.call_causes.proofs.RunTicks.{in_setup, in_clients, in_closing, parts}
 use Rattle.call_causes.specs.joint_runs.proofs.Runs.{AreMade, first_views}
 use Rattle.call_causes.specs.owed_calls.proofs.Owed.{opened_seats}
 use Rattle.run_theorems.specs.Heard.{as_taken, bytes_found, taken_in, heard_takes, given_by}
@@ -35,11 +34,13 @@ use Rattle.run_theorems.proofs.Gave.{gave_heard}
 use Rattle.run_theorems.proofs.HeardRuns.{taken_append}
 use Rattle.call_causes.specs.Lists.{Take, takes_at, given, shows_in, takes_of_run, is_last, is_closed, is_no_more, found_so, is_fault, early_of_run}
 use Rattle.call_causes.specs.Posts.{Post, posted_at, posts_of_run}
-use Rattle.send_causes.specs.EndedCalls.{Load, loaded_at, reader_posts_at, client_posts_at, loads_of_run, reader_posts_of_run, client_posts_of_run, EndedSo, IsEndPost}
-use Rattle.send_causes.proofs.Early.{EndedBy, Any, ends_anyhow, opening_rights, start, go, fitting, known, begins_at, opened_takes}
+use Rattle.call_causes.specs.programs_allowed.proofs.Fresh.{opening_rights}
+use Rattle.send_causes.specs.EndedCalls.{loaded_at, reader_posts_at, client_posts_at, loads_of_run, reader_posts_of_run, client_posts_of_run, EndedSo, IsEndPost}
+use Rattle.send_causes.proofs.Early.{EndedBy, Any, ends_anyhow, start, go, fitting, known, begins_at, opened_takes, quiet_founds}
 use Rattle.send_causes.proofs.EndedReads.{WasOver, Tells, reader_tells}
-use Rattle.send_causes.proofs.EndedRuns.{Keeping, finds, Seen, AllTold, IsPostOf, more_post, told_along, finds_taken, finds_give, quiet_finds}
+use Rattle.send_causes.proofs.EndedRuns.{Keeping, finds, Seen, AllTold, IsPostOf, more_post, told_along, finds_taken, finds_give}
 use Rattle.send_causes.proofs.ReaderRuns.{keeps_along}
+use Rattle.send_causes.proofs.Lists.{any_in, in_range}
 use Rattle.send_causes.proofs.Takeless.{NoTakes, ending_takes, takes_next}
 
 module _ (script : List Item) (made : AreMade script) (turns : List Turn) (core : Core) (is : IsRunWithCalls script turns core) where
@@ -68,87 +69,68 @@ module _ (script : List Item) (made : AreMade script) (turns : List Turn) (core 
   opened_told n seat at = let o = at_some (opens script) n (let l = place_inside (opened script).seats (32 + n) seat at in let m = opened_seats script (let k = known script made turns core is in k.few) in omega (arith, l, m)) in
       subst (Tells n (Seen (plan_of script) (calls script) (opens script) (let k = known script made turns core is in k.in_script) (loads_of_run script turns core is) n) []) (sym (begins_at script made turns core is n o.0 o.1 seat at)) (reader_tells n (Seen (plan_of script) (calls script) (opens script) (let k = known script made turns core is in k.in_script) (loads_of_run script turns core is) n) (calls script) o.0)
 
-  abbrev pub in_setup : List Moment
-  in_setup = replicate is.setup (quiet 0)
-
-  abbrev pub in_clients : List Moment
-  in_clients = is.scheduled ++ is.later
-
-  abbrev pub in_closing : List Moment
-  in_closing = replicate is.last (quiet 0)
-
   abbrev pub h₁ : ℕ → List Taking
-  h₁ n = [] ++ F (opened script) in_setup n
+  h₁ n = [] ++ F (opened script) (in_setup is) n
 
   abbrev pub h₂ : ℕ → List Taking
-  h₂ n = h₁ n ++ F (set_up script is.setup) in_clients n
+  h₂ n = h₁ n ++ F (set_up script is.setup) (in_clients is) n
 
   abbrev pub h₃ : ℕ → List Taking
-  h₃ n = h₂ n ++ F (closing_of script turns core is) in_closing n
+  h₃ n = h₂ n ++ F (closing_of script turns core is) (in_closing is) n
 
   abbrev pub h₄ : ℕ → List Taking
   h₄ n = h₃ n ++ F is.ended is.final n
 
   -- what the parts load
-  abbrev l₁ : List Load
-  l₁ = shows_in loaded_at (plan_of script) (opened script) in_setup
-
-  abbrev l₂ : List Load
-  l₂ = shows_in loaded_at (plan_of script) (set_up script is.setup) in_clients
-
-  abbrev l₃ : List Load
-  l₃ = shows_in loaded_at (plan_of script) (closing_of script turns core is) in_closing
-
-  abbrev l₄ : List Load
-  l₄ = shows_in loaded_at (plan_of script) is.ended is.final
+  open parts loaded_at is use {setup as l₁, clients as l₂, closing as l₃, final as l₄}
 
   -- ## What is said of the parts
 
-  pub setup_part : T h₁ (set_up script is.setup) × ((x : Post) → In x (shows_in reader_posts_at (plan_of script) (opened script) in_setup) → P h₁ x)
-  setup_part = told_along (plan_of script) (calls script) (opens script) (let k = known script made turns core is in k.in_script) (loads_of_run script turns core is) (IsListed script) (go script made turns core is) in_setup (opened script) (first_views script) (λ n. [])
+  pub setup_part : T h₁ (set_up script is.setup) × ((x : Post) → In x (shows_in reader_posts_at (plan_of script) (opened script) (in_setup is)) → P h₁ x)
+  setup_part = told_along (plan_of script) (calls script) (opens script) (let k = known script made turns core is in k.in_script) (loads_of_run script turns core is) (IsListed script) (go script made turns core is) (in_setup is) (opened script) (first_views script) (λ n. [])
       (let s = start script made turns core is in s.sound) (set_up_answered script made.are (first_views script) (start script made turns core is) (go script made turns core is) turns core is (fitting script made turns core is)) (let f = fitting script made turns core is in f.of_setup)
       (recorded_opened script made.are (first_views script) (start script made turns core is) (go script made turns core is) turns core is (fitting script made turns core is)) opened_keeps opened_told
       (λ l there. in_left l₁ (l₂ ++ (l₃ ++ l₄)) l there)
 
-  pub set_up_keeps : K (set_up script is.setup) (views_along (plan_of script) (opened script) (first_views script) in_setup) h₁
-  set_up_keeps = keeps_along (plan_of script) (calls script) (opens script) (let k = known script made turns core is in k.in_script) Any (Unit {0}) ends_anyhow (IsListed script) (go script made turns core is) in_setup (opened script) (first_views script) (λ n. [])
+  pub set_up_keeps : K (set_up script is.setup) (views_along (plan_of script) (opened script) (first_views script) (in_setup is)) h₁
+  set_up_keeps = keeps_along (plan_of script) (calls script) (opens script) (let k = known script made turns core is in k.in_script) Any (Unit {0}) ends_anyhow (IsListed script) (go script made turns core is) (in_setup is) (opened script) (first_views script) (λ n. [])
       (let s = start script made turns core is in s.sound) (set_up_answered script made.are (first_views script) (start script made turns core is) (go script made turns core is) turns core is (fitting script made turns core is)) (let f = fitting script made turns core is in f.of_setup)
       (recorded_opened script made.are (first_views script) (start script made turns core is) (go script made turns core is) turns core is (fitting script made turns core is)) (λ e. tt) opened_keeps
 
-  pub clients_part : T h₂ (played script is.setup in_clients) × ((x : Post) → In x (shows_in reader_posts_at (plan_of script) (set_up script is.setup) in_clients) → P h₂ x)
-  clients_part = told_along (plan_of script) (calls script) (opens script) (let k = known script made turns core is in k.in_script) (loads_of_run script turns core is) (IsListed script) (go script made turns core is) in_clients (set_up script is.setup) (views_along (plan_of script) (opened script) (first_views script) in_setup) h₁
+  pub clients_part : T h₂ (played script is.setup (in_clients is)) × ((x : Post) → In x (shows_in reader_posts_at (plan_of script) (set_up script is.setup) (in_clients is)) → P h₂ x)
+  clients_part = told_along (plan_of script) (calls script) (opens script) (let k = known script made turns core is in k.in_script) (loads_of_run script turns core is) (IsListed script) (go script made turns core is) (in_clients is) (set_up script is.setup) (views_along (plan_of script) (opened script) (first_views script) (in_setup is)) h₁
       (set_up_sound script made.are (first_views script) (start script made turns core is) (go script made turns core is) turns core is (fitting script made turns core is)) is.answered (let f = fitting script made turns core is in f.of_played)
       (recorded_set_up script made.are (first_views script) (start script made turns core is) (go script made turns core is) turns core is (fitting script made turns core is)) set_up_keeps setup_part.0
       (λ l there. in_right l₁ (l₂ ++ (l₃ ++ l₄)) l (in_left l₂ (l₃ ++ l₄) l there))
 
-  played_keeps : K (played script is.setup in_clients) (views_played script turns core is (first_views script)) h₂
-  played_keeps = keeps_along (plan_of script) (calls script) (opens script) (let k = known script made turns core is in k.in_script) Any (Unit {0}) ends_anyhow (IsListed script) (go script made turns core is) in_clients (set_up script is.setup) (views_along (plan_of script) (opened script) (first_views script) in_setup) h₁
+  played_keeps : K (played script is.setup (in_clients is)) (views_played script turns core is (first_views script)) h₂
+  played_keeps = keeps_along (plan_of script) (calls script) (opens script) (let k = known script made turns core is in k.in_script) Any (Unit {0}) ends_anyhow (IsListed script) (go script made turns core is) (in_clients is) (set_up script is.setup) (views_along (plan_of script) (opened script) (first_views script) (in_setup is)) h₁
       (set_up_sound script made.are (first_views script) (start script made turns core is) (go script made turns core is) turns core is (fitting script made turns core is)) is.answered (let f = fitting script made turns core is in f.of_played)
       (recorded_set_up script made.are (first_views script) (start script made turns core is) (go script made turns core is) turns core is (fitting script made turns core is)) (λ e. tt) set_up_keeps
 
-  pub seats_played : length (played script is.setup in_clients).seats ≡ 32 + length (opens script)
+  pub seats_played : length (played script is.setup (in_clients is)).seats ≡ 32 + length (opens script)
   seats_played = let k = played_keeps in k.many
 
   -- seat 0 alone gets a program for the ending
   pub closing_keeps : K (closing_of script turns core is) (views_played script turns core is (first_views script)) h₂
   closing_keeps = let k = played_keeps in record {
-    readers = λ n o at seat v at_seat at_view. k.readers n o at seat v (sym (set_else (played script is.setup in_clients).seats 0 (32 + n) _ (λ e. let z : ⊥ = omega (arith, e) in z)) ∙ at_seat) at_view;
-    clients = λ j low seat at. ⊎_elim (λ a. subst (λ (s : SeatState). NoTakes (Unit {0}) s.program) a.1 (takes_next (Unit {0}) _ (ending_of (opens script)) (ending_takes (Unit {0}) (opens script)))) (λ a. k.clients j low seat a.1) (at_set (played script is.setup in_clients).seats 0 j _ seat at);
-    many = length-set (played script is.setup in_clients).seats 0 _ ∙ k.many;
+    readers = λ n o at seat v at_seat at_view. k.readers n o at seat v (sym (set_else (played script is.setup (in_clients is)).seats 0 (32 + n) _ (λ e. let z : ⊥ = omega (arith, e) in z)) ∙ at_seat) at_view;
+    clients = λ j low seat at. ⊎_elim (λ a. subst (λ (s : SeatState). NoTakes (Unit {0}) s.program) a.1 (takes_next (Unit {0}) _ (ending_of (opens script)) (ending_takes (Unit {0}) (opens script)))) (λ a. k.clients j low seat a.1) (at_set (played script is.setup (in_clients is)).seats 0 j _ seat at);
+    many = length-set (played script is.setup (in_clients is)).seats 0 _ ∙ k.many;
   }
 
   pub closing_told : T h₂ (closing_of script turns core is)
-  closing_told n seat at = clients_part.0 n seat (sym (set_else (played script is.setup in_clients).seats 0 (32 + n) _ (λ e. let z : ⊥ = omega (arith, e) in z)) ∙ at)
+  closing_told n seat at = clients_part.0 n seat (sym (set_else (played script is.setup (in_clients is)).seats 0 (32 + n) _ (λ e. let z : ⊥ = omega (arith, e) in z)) ∙ at)
 
-  closing_part : T h₃ (run (plan_of script) (closing_of script turns core is) in_closing) × ((x : Post) → In x (shows_in reader_posts_at (plan_of script) (closing_of script turns core is) in_closing) → P h₃ x)
-  closing_part = told_along (plan_of script) (calls script) (opens script) (let k = known script made turns core is in k.in_script) (loads_of_run script turns core is) (IsListed script) (go script made turns core is) in_closing (closing_of script turns core is) (views_played script turns core is (first_views script)) h₂
+  closing_part : T h₃ (run (plan_of script) (closing_of script turns core is) (in_closing is)) × ((x : Post) → In x (shows_in reader_posts_at (plan_of script) (closing_of script turns core is) (in_closing is)) → P h₃ x)
+  closing_part = told_along (plan_of script) (calls script) (opens script) (let k = known script made turns core is in k.in_script) (loads_of_run script turns core is) (IsListed script) (go script made turns core is) (in_closing is) (closing_of script turns core is) (views_played script turns core is (first_views script)) h₂
       (closing_sound script made.are (first_views script) (start script made turns core is) (go script made turns core is) turns core is (fitting script made turns core is))
       (end_answered script made.are (first_views script) (start script made turns core is) (go script made turns core is) turns core is (fitting script made turns core is)) (let f = fitting script made turns core is in f.of_closing)
       (recorded_closing script made.are (first_views script) (start script made turns core is) (go script made turns core is) turns core is (fitting script made turns core is)) closing_keeps closing_told
       (λ l there. in_right l₁ (l₂ ++ (l₃ ++ l₄)) l (in_right l₂ (l₃ ++ l₄) l (in_left l₃ l₄ l there)))
 
-  run_keeps : K (run (plan_of script) (closing_of script turns core is) in_closing) (views_closed script turns core is (first_views script)) h₃
-  run_keeps = keeps_along (plan_of script) (calls script) (opens script) (let k = known script made turns core is in k.in_script) Any (Unit {0}) ends_anyhow (IsListed script) (go script made turns core is) in_closing (closing_of script turns core is) (views_played script turns core is (first_views script)) h₂
+  run_keeps : K (run (plan_of script) (closing_of script turns core is) (in_closing is)) (views_closed script turns core is (first_views script)) h₃
+  run_keeps = keeps_along (plan_of script) (calls script) (opens script) (let k = known script made turns core is in k.in_script) Any (Unit {0}) ends_anyhow (IsListed script) (go script made turns core is) (in_closing is) (closing_of script turns core is) (views_played script turns core is (first_views script)) h₂
       (closing_sound script made.are (first_views script) (start script made turns core is) (go script made turns core is) turns core is (fitting script made turns core is))
       (end_answered script made.are (first_views script) (start script made turns core is) (go script made turns core is) turns core is (fitting script made turns core is)) (let f = fitting script made turns core is in f.of_closing)
       (recorded_closing script made.are (first_views script) (start script made turns core is) (go script made turns core is) turns core is (fitting script made turns core is)) (λ e. tt) closing_keeps
@@ -172,66 +154,43 @@ module _ (script : List Item) (made : AreMade script) (turns : List Turn) (core 
   -- each post by a reader, by all that was taken of its link
   all_posts : (x : Post) → In x (reader_posts_of_run script turns core is) → P h₄ x
   all_posts x there = ⊎_elim
-      (λ a. more h₃ (F is.ended is.final) x (more h₂ (F (closing_of script turns core is) in_closing) x (more h₁ (F (set_up script is.setup) in_clients) x (setup_part.1 x a))))
-      (λ b. ⊎_elim (λ a. more h₃ (F is.ended is.final) x (more h₂ (F (closing_of script turns core is) in_closing) x (clients_part.1 x a)))
+      (λ a. more h₃ (F is.ended is.final) x (more h₂ (F (closing_of script turns core is) (in_closing is)) x (more h₁ (F (set_up script is.setup) (in_clients is)) x (setup_part.1 x a))))
+      (λ b. ⊎_elim (λ a. more h₃ (F is.ended is.final) x (more h₂ (F (closing_of script turns core is) (in_closing is)) x (clients_part.1 x a)))
       (λ b. ⊎_elim (λ a. more h₃ (F is.ended is.final) x (closing_part.1 x a)) (λ a. final_part.1 x a)
-      (in_both (shows_in reader_posts_at (plan_of script) (closing_of script turns core is) in_closing) (shows_in reader_posts_at (plan_of script) is.ended is.final) x b))
-      (in_both (shows_in reader_posts_at (plan_of script) (set_up script is.setup) in_clients) (shows_in reader_posts_at (plan_of script) (closing_of script turns core is) in_closing ++ shows_in reader_posts_at (plan_of script) is.ended is.final) x b))
-      (in_both (shows_in reader_posts_at (plan_of script) (opened script) in_setup) (shows_in reader_posts_at (plan_of script) (set_up script is.setup) in_clients ++ (shows_in reader_posts_at (plan_of script) (closing_of script turns core is) in_closing ++ shows_in reader_posts_at (plan_of script) is.ended is.final)) x there)
+      (in_both (shows_in reader_posts_at (plan_of script) (closing_of script turns core is) (in_closing is)) (shows_in reader_posts_at (plan_of script) is.ended is.final) x b))
+      (in_both (shows_in reader_posts_at (plan_of script) (set_up script is.setup) (in_clients is)) (shows_in reader_posts_at (plan_of script) (closing_of script turns core is) (in_closing is) ++ shows_in reader_posts_at (plan_of script) is.ended is.final) x b))
+      (in_both (shows_in reader_posts_at (plan_of script) (opened script) (in_setup is)) (shows_in reader_posts_at (plan_of script) (set_up script is.setup) (in_clients is) ++ (shows_in reader_posts_at (plan_of script) (closing_of script turns core is) (in_closing is) ++ shows_in reader_posts_at (plan_of script) is.ended is.final)) x there)
 
   -- ## What was taken
 
   -- each take of a reader is one of the run
   all_taken : (n : ℕ) (t : Taking) → In t (h₄ n) → In (record { link = n; found = t }) (takes_of_run script turns core is)
   all_taken n t there = ⊎_elim
-      (λ a. ⊎_elim (λ a. ⊎_elim (λ a. in_left s₁ (s₂ ++ (s₃ ++ s₄)) x (finds_taken (plan_of script) (calls script) (opens script) (let k = known script made turns core is in k.in_script) in_setup (opened script) n t a))
-      (λ b. in_right s₁ (s₂ ++ (s₃ ++ s₄)) x (in_left s₂ (s₃ ++ s₄) x (finds_taken (plan_of script) (calls script) (opens script) (let k = known script made turns core is in k.in_script) in_clients (set_up script is.setup) n t b)))
-      (in_both (h₁ n) (F (set_up script is.setup) in_clients n) t a))
-      (λ b. in_right s₁ (s₂ ++ (s₃ ++ s₄)) x (in_right s₂ (s₃ ++ s₄) x (in_left s₃ s₄ x (finds_taken (plan_of script) (calls script) (opens script) (let k = known script made turns core is in k.in_script) in_closing (closing_of script turns core is) n t b))))
-      (in_both (h₂ n) (F (closing_of script turns core is) in_closing n) t a))
+      (λ a. ⊎_elim (λ a. ⊎_elim (λ a. in_left s₁ (s₂ ++ (s₃ ++ s₄)) x (finds_taken (plan_of script) (calls script) (opens script) (let k = known script made turns core is in k.in_script) (in_setup is) (opened script) n t a))
+      (λ b. in_right s₁ (s₂ ++ (s₃ ++ s₄)) x (in_left s₂ (s₃ ++ s₄) x (finds_taken (plan_of script) (calls script) (opens script) (let k = known script made turns core is in k.in_script) (in_clients is) (set_up script is.setup) n t b)))
+      (in_both (h₁ n) (F (set_up script is.setup) (in_clients is) n) t a))
+      (λ b. in_right s₁ (s₂ ++ (s₃ ++ s₄)) x (in_right s₂ (s₃ ++ s₄) x (in_left s₃ s₄ x (finds_taken (plan_of script) (calls script) (opens script) (let k = known script made turns core is in k.in_script) (in_closing is) (closing_of script turns core is) n t b))))
+      (in_both (h₂ n) (F (closing_of script turns core is) (in_closing is) n) t a))
       (λ b. in_right s₁ (s₂ ++ (s₃ ++ s₄)) x (in_right s₂ (s₃ ++ s₄) x (in_right s₃ s₄ x (finds_taken (plan_of script) (calls script) (opens script) (let k = known script made turns core is in k.in_script) is.final is.ended n t b))))
       (in_both (h₃ n) (F is.ended is.final n) t there)
     where
       x : Take
       x = record { link = n; found = t }
 
-      s₁ : List Take
-      s₁ = shows_in takes_at (plan_of script) (opened script) in_setup
-
-      s₂ : List Take
-      s₂ = shows_in takes_at (plan_of script) (set_up script is.setup) in_clients
-
-      s₃ : List Take
-      s₃ = shows_in takes_at (plan_of script) (closing_of script turns core is) in_closing
-
-      s₄ : List Take
-      s₄ = shows_in takes_at (plan_of script) is.ended is.final
+      open parts takes_at is use {setup as s₁, clients as s₂, closing as s₃, final as s₄}
 
   -- the bytes are those that the link gave
   all_given : (n : ℕ) → given_by (h₄ n) ≡ given_by (heard_takes is n)
-  all_given n = ap (λ l. given_by (((l ++ F (set_up script is.setup) in_clients n) ++ F (closing_of script turns core is) in_closing n) ++ F is.ended is.final n)) (quiet_finds (plan_of script) (calls script) (opens script) (let k = known script made turns core is in k.in_script) is.setup (opened script) n)
-      ∙ (ap (λ l. given_by ((F (set_up script is.setup) in_clients n ++ l) ++ F is.ended is.final n)) (quiet_finds (plan_of script) (calls script) (opens script) (let k = known script made turns core is in k.in_script) is.last (closing_of script turns core is) n)
-      ∙ (ap (λ l. given_by (l ++ F is.ended is.final n)) (append-nil (F (set_up script is.setup) in_clients n))
-      ∙ (flat_map-append bytes_found (F (set_up script is.setup) in_clients n) (F is.ended is.final n)
-      ∙ (ap (λ l. l ++ given_by (F is.ended is.final n)) (finds_give (plan_of script) (calls script) (opens script) (let k = known script made turns core is in k.in_script) in_clients (set_up script is.setup) n)
-      ∙ (ap (λ l. given_by (as_taken (taken_in (plan_of script) (set_up script is.setup) in_clients n)) ++ l) (finds_give (plan_of script) (calls script) (opens script) (let k = known script made turns core is in k.in_script) is.final is.ended n)
-      ∙ (sym (flat_map-append bytes_found (as_taken (taken_in (plan_of script) (set_up script is.setup) in_clients n)) (as_taken (taken_in (plan_of script) is.ended is.final n)))
-      ∙ ap given_by (sym (taken_append (taken_in (plan_of script) (set_up script is.setup) in_clients n) (taken_in (plan_of script) is.ended is.final n)))))))))
+  all_given n = ap (λ l. given_by (((l ++ F (set_up script is.setup) (in_clients is) n) ++ F (closing_of script turns core is) (in_closing is) n) ++ F is.ended is.final n)) (quiet_founds (plan_of script) (calls script) (opens script) (let k = known script made turns core is in k.in_script) Any (Unit {0}) ends_anyhow (opened script) is.setup n)
+      ∙ (ap (λ l. given_by ((F (set_up script is.setup) (in_clients is) n ++ l) ++ F is.ended is.final n)) (quiet_founds (plan_of script) (calls script) (opens script) (let k = known script made turns core is in k.in_script) Any (Unit {0}) ends_anyhow (closing_of script turns core is) is.last n)
+      ∙ (ap (λ l. given_by (l ++ F is.ended is.final n)) (append-nil (F (set_up script is.setup) (in_clients is) n))
+      ∙ (flat_map-append bytes_found (F (set_up script is.setup) (in_clients is) n) (F is.ended is.final n)
+      ∙ (ap (λ l. l ++ given_by (F is.ended is.final n)) (finds_give (plan_of script) (calls script) (opens script) (let k = known script made turns core is in k.in_script) (in_clients is) (set_up script is.setup) n)
+      ∙ (ap (λ l. given_by (as_taken (taken_in (plan_of script) (set_up script is.setup) (in_clients is) n)) ++ l) (finds_give (plan_of script) (calls script) (opens script) (let k = known script made turns core is in k.in_script) is.final is.ended n)
+      ∙ (sym (flat_map-append bytes_found (as_taken (taken_in (plan_of script) (set_up script is.setup) (in_clients is) n)) (as_taken (taken_in (plan_of script) is.ended is.final n)))
+      ∙ ap given_by (sym (taken_append (taken_in (plan_of script) (set_up script is.setup) (in_clients is) n) (taken_in (plan_of script) is.ended is.final n)))))))))
 
   -- ## The lists
-
-  in_range : (a n k : ℕ) → a ≤ k → k < a + n → In k (from_to a n)
-  in_range a zero k low high = absurd (let z : ⊥ = omega (arith, low, high) in z)
-  in_range a (suc n) k low high = dite (ℕ_discrete k a) (λ e. inl e) (λ far. inr (in_range (a + 1) n k (omega (arith, low, far)) (omega (arith, high))))
-
-  any_in : (f : Take → Bool) (xs : List Take) (x : Take) → In x xs → f x ≡ true → list_any f xs ≡ true
-  any_in f [] x m good = absurd m
-  any_in f (y ∷ xs) x (inl e) good = ap (λ b. b || list_any f xs) (ap f (sym e) ∙ good)
-  any_in f (y ∷ xs) x (inr m) good = by (f y) (any_in f xs x m good)
-    where
-      by : (b : Bool) → list_any f xs ≡ true → (b || list_any f xs) ≡ true
-      by true e = refl
-      by false e = e
 
   -- a take of the link found so
   found_here : (holds : Taking → Bool) (k : ℕ) (t : Taking) → In t (h₄ k) → holds t ≡ true → found_so script turns core is holds k ≡ true
@@ -307,38 +266,17 @@ module _ (script : List Item) (made : AreMade script) (turns : List Turn) (core 
 
   -- each post is one by a client, or one by a reader
   pub posts_split : (x : Post) → In x (posts_of_run script turns core is) → In x (client_posts_of_run script turns core is) ⊎ In x (reader_posts_of_run script turns core is)
-  posts_split x there = ⊎_elim (λ a. first_ (split in_setup (opened script) a))
-      (λ b. ⊎_elim (λ a. second (split in_clients (set_up script is.setup) a))
-      (λ b. ⊎_elim (λ a. third (split in_closing (closing_of script turns core is) a)) (λ a. fourth (split is.final is.ended a)) (in_both (shows_in posted_at (plan_of script) (closing_of script turns core is) in_closing) (shows_in posted_at (plan_of script) is.ended is.final) x b))
-      (in_both (shows_in posted_at (plan_of script) (set_up script is.setup) in_clients) (shows_in posted_at (plan_of script) (closing_of script turns core is) in_closing ++ shows_in posted_at (plan_of script) is.ended is.final) x b))
-      (in_both (shows_in posted_at (plan_of script) (opened script) in_setup) (shows_in posted_at (plan_of script) (set_up script is.setup) in_clients ++ (shows_in posted_at (plan_of script) (closing_of script turns core is) in_closing ++ shows_in posted_at (plan_of script) is.ended is.final)) x there)
+  posts_split x there = ⊎_elim (λ a. first_ (split (in_setup is) (opened script) a))
+      (λ b. ⊎_elim (λ a. second (split (in_clients is) (set_up script is.setup) a))
+      (λ b. ⊎_elim (λ a. third (split (in_closing is) (closing_of script turns core is) a)) (λ a. fourth (split is.final is.ended a)) (in_both (shows_in posted_at (plan_of script) (closing_of script turns core is) (in_closing is)) (shows_in posted_at (plan_of script) is.ended is.final) x b))
+      (in_both (shows_in posted_at (plan_of script) (set_up script is.setup) (in_clients is)) (shows_in posted_at (plan_of script) (closing_of script turns core is) (in_closing is) ++ shows_in posted_at (plan_of script) is.ended is.final) x b))
+      (in_both (shows_in posted_at (plan_of script) (opened script) (in_setup is)) (shows_in posted_at (plan_of script) (set_up script is.setup) (in_clients is) ++ (shows_in posted_at (plan_of script) (closing_of script turns core is) (in_closing is) ++ shows_in posted_at (plan_of script) is.ended is.final)) x there)
     where
       split : (ms : List Moment) (c : Core) → In x (shows_in posted_at (plan_of script) c ms) → In x (shows_in client_posts_at (plan_of script) c ms) ⊎ In x (shows_in reader_posts_at (plan_of script) c ms)
       split ms c a = ticks_split ms c x a
 
-      c₁ : List Post
-      c₁ = shows_in client_posts_at (plan_of script) (opened script) in_setup
-
-      c₂ : List Post
-      c₂ = shows_in client_posts_at (plan_of script) (set_up script is.setup) in_clients
-
-      c₃ : List Post
-      c₃ = shows_in client_posts_at (plan_of script) (closing_of script turns core is) in_closing
-
-      c₄ : List Post
-      c₄ = shows_in client_posts_at (plan_of script) is.ended is.final
-
-      r₁ : List Post
-      r₁ = shows_in reader_posts_at (plan_of script) (opened script) in_setup
-
-      r₂ : List Post
-      r₂ = shows_in reader_posts_at (plan_of script) (set_up script is.setup) in_clients
-
-      r₃ : List Post
-      r₃ = shows_in reader_posts_at (plan_of script) (closing_of script turns core is) in_closing
-
-      r₄ : List Post
-      r₄ = shows_in reader_posts_at (plan_of script) is.ended is.final
+      open parts client_posts_at is use {setup as c₁, clients as c₂, closing as c₃, final as c₄}
+      open parts reader_posts_at is use {setup as r₁, clients as r₂, closing as r₃, final as r₄}
 
       first_ : In x c₁ ⊎ In x r₁ → In x (client_posts_of_run script turns core is) ⊎ In x (reader_posts_of_run script turns core is)
       first_ (inl a) = inl (in_left c₁ (c₂ ++ (c₃ ++ c₄)) x a)

@@ -1,5 +1,5 @@
 -- In a whole run each client has its sends and first attempts accepted in the order of its operations.
-use Rattle.std.proofs.Common.{◌≡◌, ◌≢◌, ℕ, zero, suc, ◌+◌, ◌-◌, ◌%◌, ◌<◌, ◌≤◌, ◌==◌, true, false, cond, eq-eqb, ne_eqb, nat_lt, List, [], ◌∷◌, ◌++◌, length, replicate, get_or, set, get_or-set_other, ⊎_elim, refl, sym, ap, ◌∙◌, subst, arith}
+use Rattle.std.proofs.Common.{◌≡◌, ◌≢◌, ℕ, zero, suc, ◌+◌, ◌-◌, ◌%◌, ◌<◌, ◌≤◌, ◌==◌, true, false, cond, eq-eqb, ne_eqb, nat_lt, List, [], ◌∷◌, ◌++◌, replicate, get_or, set, get_or-set_other, ⊎_elim, refl, sym, ap, ◌∙◌, subst, arith}
 use Rattle.std.proofs.lemmas.Bool.{true≢false}
 use Rattle.std.specs.List.{AllByRecursion}
 use mathlib.Core.Logic.{dite}
@@ -27,8 +27,7 @@ use Rattle.seat_programs.specs.Calls.{Call, ClaimRequest, PutMessage, Unconnect,
 use Rattle.seat_programs.specs.Clients.{client_from, ending_of}
 use Rattle.seat_programs.specs.Cores.{Calls, Core, SeatState, word_of, found_at, words_after, word_after, homes_after, hand_after, lies_at, first_of, others_of, link_place, resolved, still_waiting, waiting_at, next_step, with_seat}
 use Rattle.seat_programs.specs.Heads.{Retry}
-use Rattle.seat_programs.specs.Programs.{Program, Do, TakeMessage, TakeHome, PutHome, PutBytes, AskReady, Aside, Rest}
-use Rattle.seat_programs.specs.Readers.{reader}
+use Rattle.seat_programs.specs.Programs.{Program, Do, TakeMessage, TakeHome, PutHome, PutBytes, AskReady, Aside}
 use Rattle.seat_programs.specs.Scripts.{sizes_of, programs, readers_from, all_programs, all_tasks, opened, set_up, is_ending, IsRunWithCalls}
 use Rattle.seat_programs.specs.Tasks.{opens, calls, plan_of, id_plan_of}
 use Rattle.seat_programs.specs.Ticks.{Moment, IsAnswered, AreAnswered, fed, with_places, onto_first, quiet, ticked, run}
@@ -40,7 +39,7 @@ use Rattle.sock_runs.specs.Sound.{Sound, first_step, AreFitting, views_after, vi
 use Rattle.sock_runs.proofs.Cases.{with_rights, right_rights, put_rights}
 use Rattle.sock_runs.proofs.Leaves.{claim_way}
 use Rattle.sock_runs.proofs.LinkTicks.{RetriesGo}
-use Rattle.sock_runs.proofs.Opening.{mapped, appended}
+use Rattle.sock_runs.proofs.Opening.{mapped}
 use Rattle.sock_runs.proofs.Ticks.{sound_ticks}
 use Rattle.sock_runs.proofs.Whole.{Begins, AreFittingIn, closing_of, rested_of, views_played, views_closed, views_ended, set_up_answered, end_answered, set_up_sound, closing_sound, closed_sound, ended_sound}
 use Rattle.outcome_causes.specs.Causes.{Asks}
@@ -53,6 +52,7 @@ use Rattle.outcome_causes.proofs.Scripts.{own_from}
 use Rattle.outcome_causes.proofs.Senders.{HasSent, sent_in, each_before}
 use Rattle.outcome_causes.proofs.Tasks.{one_task, sorted_of}
 use Rattle.outcome_causes.proofs.Tests.{split}
+use Rattle.send_causes.proofs.Beginnings.{all_begin}
 use Rattle.send_causes.proofs.Firsts.{behind, Firsts, AreLater, client_firsts, ending_firsts, reader_firsts, firsts_first, firsts_next}
 use Rattle.send_causes.proofs.Ticks.{calls_waiting}
 use Rattle.send_causes.proofs.Views.{Same, row_same}
@@ -279,16 +279,6 @@ none_waits mine (suc n) (suc j) = none_waits mine n j
 abbrev pub IsOwnOperation : List (List Task) → ℕ → ℕ → Type 0
 IsOwnOperation clients j o = (t : Task) × Asks clients j t × (t.number ≡ o)
 
-readers_firsts : (mine : ℕ → Type 0) (calls os : List ℕ) (k i : ℕ) (x : Program) → get_elem? (readers_from calls k os) i ≡ some x → Firsts mine 0 x
-readers_firsts mine calls [] k i x at = absurd (some-ne-none x (sym at))
-readers_firsts mine calls (o ∷ os) k zero x at = subst (Firsts mine 0) (some-injective (reader calls k o) x at) (reader_firsts mine 0 calls k o)
-readers_firsts mine calls (o ∷ os) k (suc i) x at = readers_firsts mine calls os (k + 1) i x at
-
-others_firsts : (mine : ℕ → Type 0) (n : ℕ) (calls os : List ℕ) (i : ℕ) (x : Program) → get_elem? (replicate n Rest ++ readers_from calls 0 os) i ≡ some x → Firsts mine 0 x
-others_firsts mine zero calls os i x at = readers_firsts mine calls os 0 i x at
-others_firsts mine (suc n) calls os zero x at = subst (Firsts mine 0) (some-injective Rest x at) tt
-others_firsts mine (suc n) calls os (suc i) x at = others_firsts mine n calls os i x at
-
 module _ (script : List Item) (are : AreTasks (plan_of script) (all_tasks script)) where
   clients_firsts : (j : ℕ) (x : Program) → get_elem? (programs (sizes_of (plan_of script) (id_plan_of script)) (all_tasks script)) j ≡ some x → Firsts (IsOwnOperation (all_tasks script) j) 0 x
   clients_firsts j x at = let sizes : Sizes = sizes_of (plan_of script) (id_plan_of script) in let t = mapped (client_from sizes []) (all_tasks script) j x at in
@@ -298,9 +288,8 @@ module _ (script : List Item) (are : AreTasks (plan_of script) (all_tasks script
       (all_of (λ (u : Task). (0 ≤ u.number) × IsOwnOperation (all_tasks script) j u.number) t.0 (λ u m. (omega arith, (u, (t.0, here, m), refl)))))
 
   all_firsts : (j : ℕ) (x : Program) → get_elem? (all_programs (programs (sizes_of (plan_of script) (id_plan_of script)) (all_tasks script)) (readers_from (calls script) 0 (opens script))) j ≡ some x → Firsts (IsOwnOperation (all_tasks script) j) 0 x
-  all_firsts j x at = let ps : List Program = programs (sizes_of (plan_of script) (id_plan_of script)) (all_tasks script) in
-      ⊎_elim (λ a. clients_firsts j x a) (λ b. others_firsts (IsOwnOperation (all_tasks script) j) (32 - length ps) (calls script) (opens script) b.0 x b.1)
-      (appended ps (replicate (32 - length ps) Rest ++ readers_from (calls script) 0 (opens script)) j x at)
+  all_firsts j x at = all_begin (Firsts (IsOwnOperation (all_tasks script) j) 0) tt (calls script) (λ k o. reader_firsts (IsOwnOperation (all_tasks script) j) 0 (calls script) k o)
+      (programs (sizes_of (plan_of script) (id_plan_of script)) (all_tasks script)) (opens script) j x (λ a. clients_firsts j x a) at
 
   module _ (vs : List View) (begins : Begins script vs) (go : RetriesGo (plan_of script)) (turns : List Turn) (core : Core) (is : IsRunWithCalls script turns core)
       (fitting : AreFittingIn script turns core is) (bare : (i : ℕ) (v : View) → get_elem? vs i ≡ some v → (v.claims ≡ []) × (v.lists ≡ [] ∷ [])) (j : ℕ) where

@@ -35,12 +35,13 @@ use Rattle.call_causes.specs.Says.{Mark}
 use Rattle.call_causes.specs.Stories.{HasStory}
 use Rattle.call_causes.proofs.End.{HasEnded, contains_in, listed_or, one_outcome, undo_done}
 use Rattle.call_causes.proofs.Over.{has_ended}
-use Rattle.call_causes.proofs.Run.{many_seats, ending_lasts, told_lasts}
-use Rattle.call_causes.proofs.Scripts.{are_ascending, begins}
+use Rattle.call_causes.proofs.Run.{ending_lasts, told_lasts}
+use Rattle.call_causes.proofs.RunFacts.{own_leads, run_facts, leadings}
+use Rattle.call_causes.proofs.Scripts.{are_ascending}
 use Rattle.call_causes.proofs.Whys.{AreAscending, ascending_undo}
 use Rattle.send_causes.specs.Refused.{DidMiss, DidIn, FoundNothing}
 use Rattle.send_causes.proofs.Runs.{IsCallOf}
-use Rattle.send_causes.proofs.AttemptedStored.{alone_set_up, rests_set_up, numbered, slots, small, Leads, set_up_ahead, played_ahead, ended_ahead, end_leads, told_leads, closed_leads, ending_leads, played_leads, setup_goes, played_both, some_seats, many_played, many_closed}
+use Rattle.send_causes.proofs.AttemptedStored.{alone_set_up, rests_set_up, numbered, slots, small, Leads, setup_goes, played_both, some_seats}
 use Rattle.send_causes.proofs.FoundNamesRuns.{Since, then_since, since_change, since_ticks, Finds, find_along}
 use Rattle.send_causes.proofs.FoundNamesSetup.{none_in_setup, none_beside, none_at_rest, begins_setup, begins_at_rest}
 use Rattle.send_causes.proofs.FoundNames.{Missed}
@@ -92,6 +93,9 @@ module _ (script : List Item) (made : AreMade script) (there : AreThere script) 
   abbrev q : IdPlan
   q = id_plan_of script
 
+  open run_facts script made turns core is use {set_up_ahead, played_ahead, ended_ahead, many_played, many_closed, many_seats}
+  open leadings script turns core is (given core) (own_leads script core) use {told_leads, closed_leads, ending_leads, played_leads}
+
   abbrev Later_ : Scene → Core → Type 0
   Later_ w c = Since (plan_of script) (id_plan_of script) (all_tasks script) (given core) (numbered script made there range turns core is) (slots script made there range turns core is) (small script made there range turns core is) w c
 
@@ -103,7 +107,7 @@ module _ (script : List Item) (made : AreMade script) (there : AreThere script) 
 
   played_finds : Finds (plan_of script) (id_plan_of script) (all_tasks script) (given core) (numbered script made there range turns core is) (slots script made there range turns core is) (small script made there range turns core is) (IsCallOf script) set_scene (set_up script is.setup) (is.scheduled ++ is.later)
   played_finds = let s = joint_runs script turns core is made in find_along p q (all_tasks script) (given core) (numbered script made there range turns core is) (slots script made there range turns core is) (small script made there range turns core is) (IsCallOf script) (is.scheduled ++ is.later) (set_up script is.setup)
-      (views_along (plan_of script) (opened script) (first_views script) (replicate is.setup (quiet 0))) s.clients is.answered (rests_set_up p (is.scheduled ++ is.later) (set_up script is.setup) (set_up_ahead script made there range turns core is) is.is_set_up) (played_leads script made there range turns core is)
+      (views_along (plan_of script) (opened script) (first_views script) (replicate is.setup (quiet 0))) s.clients is.answered (rests_set_up p (is.scheduled ++ is.later) (set_up script is.setup) set_up_ahead is.is_set_up) played_leads
       (setup_goes script made there range turns core is).owns
 
   abbrev rested : Core
@@ -115,22 +119,22 @@ module _ (script : List Item) (made : AreMade script) (there : AreThere script) 
   begun : (ps : List Post) (ns : List ℕ) (h : Has ps ns rested) → Later_ h.scene (ending script rested)
   begun ps ns h = since_change p q (all_tasks script) (given core) (numbered script made there range turns core is) (slots script made there range turns core is) (small script made there range turns core is) h.scene h.scene.decisions ps ns (ending script rested)
       (ending_lasts p q (all_tasks script) (given core) (numbered script made there range turns core is) (slots script made there range turns core is) (small script made there range turns core is) (opens script) ps ns rested (views_played script turns core is (first_views script)) (played_both script made there range turns core is)
-      (let m = many_played script made there range turns core is in let s = some_seats script made there range turns core is in omega (arith, m, s)) (played_ahead script made there range turns core is) (run_rests (plan_of script) (set_up script is.setup) (is.scheduled ++ is.later) 0 is.is_set_up)
-      (ending_leads script made there range turns core is) h)
+      (let m = many_played in let s = some_seats script made there range turns core is in omega (arith, m, s)) played_ahead (run_rests (plan_of script) (set_up script is.setup) (is.scheduled ++ is.later) 0 is.is_set_up)
+      ending_leads h)
 
   closing : (ps : List Post) (ns : List ℕ) (h : Has ps ns (ending script rested)) → Later_ h.scene closed
   closing ps ns h = let s = joint_runs script turns core is made in since_ticks p q (all_tasks script) (given core) (numbered script made there range turns core is) (slots script made there range turns core is) (small script made there range turns core is) (replicate is.last (quiet 0)) (ending script rested)
-      (views_played script turns core is (first_views script)) s.closing (alone_set_up p is.last (ending script rested)) (closed_leads script made there range turns core is) ps ns h
+      (views_played script turns core is (first_views script)) s.closing (alone_set_up p is.last (ending script rested)) closed_leads ps ns h
 
   ended : (ps : List Post) (ns : List ℕ) (h : Has ps ns closed) → Later_ h.scene is.ended
   ended ps ns h = let s = joint_runs script turns core is made in let both = behind_both p q (ending script rested) (views_played script turns core is (first_views script)) (replicate is.last (quiet 0)) s.closing in
       subst (λ c. Later_ h.scene c) (sym is.is_ended) (since_change p q (all_tasks script) (given core) (numbered script made there range turns core is) (slots script made there range turns core is) (small script made there range turns core is) h.scene h.scene.decisions ps ns (is_ending closed)
       (told_lasts p q (all_tasks script) (given core) (numbered script made there range turns core is) (slots script made there range turns core is) (small script made there range turns core is) ps ns closed (views_closed script turns core is (first_views script)) both
-      (let m = many_closed script made there range turns core is in let s = some_seats script made there range turns core is in omega (arith, m, s)) (told_leads script made there range turns core is) h))
+      (let m = many_closed in let s = some_seats script made there range turns core is in omega (arith, m, s)) told_leads h))
 
   final : (ps : List Post) (ns : List ℕ) (h : Has ps ns is.ended) → Later_ h.scene core
   final ps ns h = let s = joint_runs script turns core is made in subst (λ c. Later_ h.scene c) (sym is.is_end) (since_ticks p q (all_tasks script) (given core) (numbered script made there range turns core is) (slots script made there range turns core is) (small script made there range turns core is) is.final is.ended
-      (views_closed script turns core is (first_views script)) s.final (rests_set_up p is.final is.ended (ended_ahead script made there range turns core is) is.is_over) (subst (Leads script made there range turns core is) is.is_end (end_leads script made there range turns core is)) ps ns h)
+      (views_closed script turns core is (first_views script)) s.final (rests_set_up p is.final is.ended ended_ahead is.is_over) (subst (Leads script made there range turns core is) is.is_end (own_leads script core)) ps ns h)
 
   abbrev ThenSince : (w : Scene) (c d : Core) → Later_ w c → ((ps : List Post) (ns : List ℕ) (h : Has ps ns c) → Later_ h.scene d) → Later_ w d
   ThenSince w c d s on = then_since (plan_of script) (id_plan_of script) (all_tasks script) (given core) (numbered script made there range turns core is) (slots script made there range turns core is) (small script made there range turns core is) w c d s on
@@ -151,7 +155,7 @@ module _ (script : List Item) (made : AreMade script) (there : AreThere script) 
     at_end_over = let h = at_end.story in has_ended (plan_of script) (id_plan_of script) (all_tasks script) (given core) h.scene h.marks h.story
         (subst AllRest (sym h.is) (run_all_rest script made turns core is closes))
         (λ i inside. subst (λ (d : Core). (parts (get_or d.calls.words (id_index i) 0)).state ≡ 0) (sym h.is) (run_all_ended script made turns core is closes i inside))
-        (let many = ap (λ (d : Core). length d.seats) h.is ∙ many_seats script made (given core) (numbered script made there range turns core is) (slots script made there range turns core is) (begins script made there range (given core)) turns core is (end_leads script made there range turns core is) in
+        (let many = ap (λ (d : Core). length d.seats) h.is ∙ many_seats in
         let seats = made.seats in let few = made.few_clients in omega (arith, many, seats, few))
 
     -- only seats of clients look for a socket before the ending, and none does in the setup
@@ -162,12 +166,12 @@ module _ (script : List Item) (made : AreMade script) (there : AreThere script) 
         other : j ≢ 0
         other first = ⊎_elim
             (λ x. none_in_setup p is.setup (opened script) (begins_setup p q (sizes_of p q) (all_tasks script) (readers_from (calls script) 0 (opens script)) (let are = made.are in are.some_) (let are = made.are in are.setup)) name o id n (subst (λ i. DidIn p (opened script) (replicate is.setup (quiet 0)) i (DidMiss name o id n)) first x))
-            (λ x. none_at_rest p (is.scheduled ++ is.later) (set_up script is.setup) 0 (set_up_ahead script made there range turns core is) is.is_set_up name o id n (subst (λ i. DidIn p (set_up script is.setup) (is.scheduled ++ is.later) i (DidMiss name o id n)) first x)) did
+            (λ x. none_at_rest p (is.scheduled ++ is.later) (set_up script is.setup) 0 set_up_ahead is.is_set_up name o id n (subst (λ i. DidIn p (set_up script is.setup) (is.scheduled ++ is.later) i (DidMiss name o id n)) first x)) did
 
         inside : j < length (all_tasks script)
         inside = dite (dec_le (length (all_tasks script)) j)
             (λ past. absurd (⊎_elim (λ x. none_beside p is.setup (opened script) j other name o id n x)
-            (λ x. none_at_rest p (is.scheduled ++ is.later) (set_up script is.setup) j (set_up_ahead script made there range turns core is)
+            (λ x. none_at_rest p (is.scheduled ++ is.later) (set_up script is.setup) j set_up_ahead
             (run_rests p (opened script) (replicate is.setup (quiet 0)) j (begins_at_rest p q (sizes_of p q) (all_tasks script) (readers_from (calls script) 0 (opens script)) j past low)) name o id n x) did))
             (λ less. omega (arith, less))
 

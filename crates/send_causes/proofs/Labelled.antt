@@ -30,6 +30,7 @@ use Rattle.call_causes.specs.owed_calls.proofs.Owed.{opened_seats}
 use Rattle.send_causes.specs.Counts.{StoresOwn, AreLabelled}
 use Rattle.send_causes.specs.Refused.{WouldStore, WouldOwn, AllWouldOwn}
 use Rattle.send_causes.proofs.Runs.{AreLabelledIn}
+use Rattle.send_causes.proofs.Grounds.{setting}
 
 -- the first step of a round
 owns_first : (has : ℕ → ℕ) (mine : ℕ → Bool) (b : Behind) (program : Program) → Owns has mine b program → (d : Behind) × Owns has mine d (first_step program)
@@ -94,14 +95,7 @@ module _ (p : Plan) (q : IdPlan) (narrow : q.slots ≤ 65536) (calls : List ℕ)
   }
 
 module _ (script : List Item) (made : AreMade script) (turns : List Turn) (core : Core) (is : IsRunWithCalls script turns core) (narrow : (id_plan_of script).slots ≤ 65536) (few : length (all_tasks script) ≤ 32) where
-  abbrev p : Plan
-  p = plan_of script
-
-  abbrev q : IdPlan
-  q = id_plan_of script
-
-  abbrev vs : List View
-  vs = first_views script
+  open setting script use {p, q, vs}
 
   abbrev Goes : Core → List Moment → (ℕ → ℕ) → Type 0
   Goes c ms has = Ahead (plan_of script) (id_plan_of script) narrow (calls script) c ms has

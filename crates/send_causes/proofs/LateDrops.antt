@@ -18,7 +18,6 @@ use Rattle.seat_programs.specs.declared.task.Op.TheVariants as ops
 use Rattle.seat_programs.specs.declared.task.Task.{Task}
 use Rattle.seat_programs.specs.Calls.{DropPlace}
 use Rattle.seat_programs.specs.Cores.{Core}
-use Rattle.seat_programs.specs.Programs.{NO_SOCKET}
 use Rattle.seat_programs.specs.Tasks.{opens, plan_of, id_plan_of}
 use Rattle.seat_programs.specs.Scripts.{all_tasks, IsRunWithCalls}
 use Rattle.seat_programs.specs.Writings.{Holder, Puts}
@@ -37,7 +36,8 @@ use Rattle.send_causes.proofs.AttemptedStored.{ids_at}
 use Rattle.send_causes.proofs.Beside.{fixed_of_run}
 use Rattle.send_causes.proofs.DropCauses.{fail_range}
 use Rattle.send_causes.proofs.DropEndsCauses.{own_link}
-use Rattle.send_causes.proofs.DropOfRun.{ends, DropOf, IsDroppedOn, IsOpened, given_opened, story_given, dropped_of_run}
+use Rattle.send_causes.proofs.DropEndsOver.{opened_link}
+use Rattle.send_causes.proofs.DropOfRun.{ends, DropOf, IsDroppedOn, story_given, dropped_of_run}
 use Rattle.send_causes.proofs.DropRuns.{IsCalls}
 use Rattle.send_causes.proofs.DropWhole.{get_same}
 use Rattle.send_causes.proofs.LateDropsEnding.{IsNew, IsOfNew, drops_of_new}
@@ -66,19 +66,8 @@ module _ (script : List Item) (made : AreMade script) (there : AreThere script) 
     few : j < 4294967296
 
   opened_by : (j h k : ℕ) → Given j h k → OpenedBy j h k
-  opened_by j h k given_ = by (given_opened script made turns core is closes ids labelled j h k given_)
-    where
-      by : IsOpened script made turns core is closes ids labelled j h → OpenedBy j h k
-      by o = record { operation = o.operation; at = subst (λ n. get_elem? (opens script) n ≡ some o.operation) same o.at; word = o.word; few = few }
-        where
-          few : j < 4294967296
-          few = let s = o.inside in let m = made.limits in let l = m.slots in omega (arith, s, l)
-
-          socket : get_or core.words (open_index (plan_of script) o.operation) 0 ≢ NO_SOCKET
-          socket e = let w : h * 4294967296 + j + 1 ≡ 18446744073709551615 = sym o.word ∙ e in let low = o.low in omega (arith, w, low, few)
-
-          same : o.link ≡ k
-          same = own_link script made turns core is closes ids labelled o.link o.operation (socket_id h j) j h k o.at o.word socket (let z : j ≡ socket_id_slot (h * 4294967296 + j) = omega (arith, few) in z) (let z : h ≡ socket_id_version (h * 4294967296 + j) = omega (arith, few) in z) given_
+  opened_by j h k given_ = let x = opened_link script made turns core is closes ids labelled j h k given_ in let o = x.0 in
+      record { operation = o.operation; at = subst (λ n. get_elem? (opens script) n ≡ some o.operation) x.3 o.at; word = o.word; few = x.1 }
 
   -- a link has one life
   one_life : (j h i g k : ℕ) → Given j h k → Given i g k → (j ≡ i) × (h ≡ g)

@@ -23,7 +23,7 @@ use Rattle.outcome_causes.specs.Stories.{In}
 use Rattle.outcome_causes.proofs.Ticks.{elem_there}
 use Rattle.call_causes.specs.Posts.{Post, posts_by, posted_with, posted_at}
 use Rattle.send_causes.specs.Refused.{Deed, Charge, NoCharge, IsRefused, HasDropped, Doing, IsChargeOf, IsPostOf, IsDrop, ChargeFits, ChargeLaw}
-use Rattle.send_causes.proofs.Ticks.{AreCalls}
+use Rattle.outcome_causes.proofs.HomeCalls.{AreCalls}
 use Rattle.call_causes.specs.owed_calls.proofs.OwingRuns.{same_first}
 use Rattle.send_causes.proofs.RefusedTicks.{Then, First, first_as}
 

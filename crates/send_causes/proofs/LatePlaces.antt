@@ -1,5 +1,5 @@
 -- While a run is ending only whoever writes the link of a life that was made then changes a place word.
-use Rattle.std.proofs.Common.{◌≡◌, ℕ, ◌+◌, ◌*◌, ◌<◌, ◌⊎◌, Bool, true, false, List, [], ◌∷◌, get_or, get_or-set_other, get_or-set_same, inl, inr, ⊎_elim, refl, sym, ap, ◌∙◌, subst, arith}
+use Rattle.std.proofs.Common.{◌≡◌, ℕ, ◌*◌, ◌<◌, ◌⊎◌, Bool, true, false, List, [], ◌∷◌, get_or, get_or-set_other, get_or-set_same, inl, inr, ⊎_elim, refl, sym, ap, ◌∙◌, subst, arith}
 use mathlib.Core.Logic.{dite}
 use mathlib.Core.Option.{some}
 use native.Mathlib.Decide.{ℕ_discrete}
@@ -61,15 +61,7 @@ module _ (p : Plan) (base : Core) (L : ℕ → Type 0) where
     place_stored : (dropped : Bool) (n k position : ℕ) → L k → k < p.links → position < MOST_PLACES
         → (get_or (Rattle.std.proofs.Common.set c.words (place_index p n) (place_value dropped k position)) (place_index p l) 0 ≡ get_or c.words (place_index p l) 0) ⊎ IsOfLate (get_or (Rattle.std.proofs.Common.set c.words (place_index p n) (place_value dropped k position)) (place_index p l) 0)
     place_stored dropped n k position late inside small = dite (ℕ_discrete l n)
-        (λ e. inr record {
-          dropped = dropped;
-          link = k;
-          position = position;
-          late = late;
-          inside = inside;
-          small = small;
-          is = ap (λ x. get_or (Rattle.std.proofs.Common.set c.words (place_index p n) (place_value dropped k position)) (place_index p x) 0) e ∙ get_or-set_same c.words (place_index p n) (place_value dropped k position) 0 (let sized = sound.lawful.references.sized in omega (arith, sized, low, e));
-        })
+        (λ e. inr record { dropped = dropped; link = k; position = position; late = late; inside = inside; small = small; is = ap (λ x. get_or (Rattle.std.proofs.Common.set c.words (place_index p n) (place_value dropped k position)) (place_index p x) 0) e ∙ get_or-set_same c.words (place_index p n) (place_value dropped k position) 0 (let sized = sound.lawful.references.sized in omega (arith, sized, low, e)) })
         (λ far. inl (get_or-set_other c.words (place_index p n) (place_index p l) (place_value dropped k position) 0 (λ e. far (omega (arith, e)))))
 
     place_after : (call : Call) → May p v call → After call

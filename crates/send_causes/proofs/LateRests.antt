@@ -36,11 +36,11 @@ use Rattle.sock_runs.proofs.Waiting.{StandsAside}
 use Rattle.sock_runs.proofs.Whole.{closing_of, views_played, views_closed, set_up_answered, end_answered, set_up_sound, played_sound, closing_sound, closed_sound, rested_ahead, closed_ahead}
 use Rattle.call_causes.specs.programs_allowed.specs.Openings.{all_seats}
 use Rattle.call_causes.specs.joint_runs.proofs.Runs.{AreMade, first_views}
-use Rattle.send_causes.proofs.Early.{start, go, fitting, opening_rights}
+use Rattle.call_causes.specs.programs_allowed.proofs.Fresh.{opening_rights, opening_claims}
+use Rattle.send_causes.proofs.Early.{start, go, fitting}
 use Rattle.send_causes.proofs.LateLooks.{Mode, Idle, Looks, client_looks, reader_looks, looks_next}
 use Rattle.send_causes.proofs.LateSeats.{Claiming, Righted, Never, Stands, AllStand, Tells, stand_ticks}
 use Rattle.send_causes.proofs.Rests.{still, aside}
-use Rattle.send_causes.proofs.Sends.{opening_claims}
 
 all_both : {A : Type 0} (P : A → Type 0) (xs ys : List A) → AllByRecursion P xs → AllByRecursion P ys → AllByRecursion P (xs ++ ys)
 all_both P [] ys a b = b

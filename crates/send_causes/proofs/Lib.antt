@@ -1,11 +1,12 @@
 pub mod Words
+pub mod SeatFacts
+pub mod Beginnings
 pub mod Views
 pub mod Ticks
 pub mod Runs
 pub mod Apart
 pub mod Whole
 pub mod Labelled
-pub mod Faults
 pub mod Takeless
 pub mod ReaderParts
 pub mod Closers
@@ -13,11 +14,13 @@ pub mod Readings
 pub mod SeatTicks
 pub mod ReaderRuns
 pub mod Early
+pub mod Grounds
 pub mod Places
 pub mod Rests
 pub mod Standing
 pub mod Dropped
 pub mod Sends
+pub mod ToldEnd
 pub mod Plain
 pub mod Lists
 pub mod Firsts
@@ -32,6 +35,7 @@ pub mod LatePlaces
 pub mod LateDropped
 pub mod ByPosts
 pub mod Assembled
+pub mod Laws
 pub mod DropPlaces
 pub mod DropCodes
 pub mod DropWords
@@ -63,7 +67,6 @@ pub mod EndedWhole
 pub mod EndedTrails
 pub mod EndedPrograms
 pub mod EndedNames
-pub mod RunTicks
 pub mod EndedNamed
 pub mod EndedLives
 pub mod EndedAttempts

@@ -14,7 +14,7 @@ use Rattle.brpc_model.specs.Operations.{Turn}
 use Rattle.brpc_model.specs.Script.{script_of}
 use Rattle.brpc_model.specs.Frame.{FrameFault}
 use Rattle.brpc_model.specs.Stream.{Ending, Rest, Fault, stream}
-use Rattle.seat_programs.specs.Asides.{Taking, Bytes, Nothing, NoMore, AtEnd, Closed, Broken}
+use Rattle.seat_programs.specs.Asides.{Taking, Nothing, AtEnd, Closed, Broken}
 use Rattle.seat_programs.specs.Beside.{at_last, taking_in}
 use Rattle.seat_programs.specs.Readers.{LIMIT}
 use Rattle.seat_programs.specs.Cores.{Core, SeatState}
@@ -40,7 +40,7 @@ any_append f (x ∷ xs) ys = by (f x) (any_append f xs ys)
     by true e = refl
     by false e = e
 
-any_in : {A : Type 0} (f : A → Bool) (xs : List A) (x : A) → In x xs → f x ≡ true → list_any f xs ≡ true
+pub any_in : {A : Type 0} (f : A → Bool) (xs : List A) (x : A) → In x xs → f x ≡ true → list_any f xs ≡ true
 any_in f [] x m is = absurd m
 any_in f (y ∷ xs) x (inl e) is = ap (λ b. b || list_any f xs) (ap f (sym e) ∙ is)
 any_in f (y ∷ xs) x (inr m) is = by (f y) (any_in f xs x m is)
@@ -56,6 +56,15 @@ any_some {A = A} f (y ∷ xs) is = by (f y) refl is (any_some f xs)
     by : (b : Bool) → f y ≡ b → (b || list_any f xs) ≡ true → (list_any f xs ≡ true → (x : A) × In x xs × (f x ≡ true)) → (x : A) × In x (y ∷ xs) × (f x ≡ true)
     by true e is again = (y, inl refl, e)
     by false e is again = let r = again is in (r.0, inr r.1, r.2)
+
+pub in_range : (a n k : ℕ) → a ≤ k → k < a + n → In k (from_to a n)
+in_range a zero k low high = absurd (let z : ⊥ = omega (arith, low, high) in z)
+in_range a (suc n) k low high = dite (ℕ_discrete k a) (λ e. inl e) (λ far. inr (in_range (a + 1) n k (omega (arith, low, far)) (omega (arith, high))))
+
+of_range : (a n k : ℕ) → In k (from_to a n) → k < a + n
+of_range a zero k m = absurd m
+of_range a (suc n) k (inl e) = omega (arith, e)
+of_range a (suc n) k (inr m) = let r = of_range (a + 1) n k m in omega (arith, r)
 
 -- ## Ticks
 
@@ -136,32 +145,12 @@ module _ (holds : Taking → Bool) (as_told : (b : Bool) (t : Taking) → holds 
 
 module _ (script : List Item) (turns : List Turn) (core : Core) (is : IsRunWithCalls script turns core) where
   last_told : (b : Bool) (t : Taking) → is_last script turns core is (at_last b t) ≡ is_last script turns core is t
-  last_told true (Bytes bytes) = refl
   last_told true Nothing = refl
-  last_told true NoMore = refl
-  last_told true AtEnd = refl
-  last_told true Closed = refl
-  last_told true Broken = refl
-  last_told false (Bytes bytes) = refl
-  last_told false Nothing = refl
-  last_told false NoMore = refl
-  last_told false AtEnd = refl
-  last_told false Closed = refl
-  last_told false Broken = refl
+  last_told ending t = refl
 
   closed_told : (b : Bool) (t : Taking) → is_closed script turns core is (at_last b t) ≡ is_closed script turns core is t
-  closed_told true (Bytes bytes) = refl
   closed_told true Nothing = refl
-  closed_told true NoMore = refl
-  closed_told true AtEnd = refl
-  closed_told true Closed = refl
-  closed_told true Broken = refl
-  closed_told false (Bytes bytes) = refl
-  closed_told false Nothing = refl
-  closed_told false NoMore = refl
-  closed_told false AtEnd = refl
-  closed_told false Closed = refl
-  closed_told false Broken = refl
+  closed_told ending t = refl
 
   -- the tests that the list of early readings makes
   abbrev Gone : ℕ → Bool
@@ -169,15 +158,6 @@ module _ (script : List Item) (turns : List Turn) (core : Core) (is : IsRunWithC
 
   abbrev Spoilt : ℕ → Bool
   Spoilt k = is_fault script turns core is (stream (given core k)).ending || nat_le LIMIT (length (given core k))
-
-  in_range : (a n k : ℕ) → a ≤ k → k < a + n → In k (from_to a n)
-  in_range a zero k low high = absurd (let z : ⊥ = omega (arith, low, high) in z)
-  in_range a (suc n) k low high = dite (ℕ_discrete k a) (λ e. inl e) (λ far. inr (in_range (a + 1) n k (omega (arith, low, far)) (omega (arith, high))))
-
-  of_range : (a n k : ℕ) → In k (from_to a n) → k < a + n
-  of_range a zero k m = absurd m
-  of_range a (suc n) k (inl e) = omega (arith, e)
-  of_range a (suc n) k (inr m) = let r = of_range (a + 1) n k m in omega (arith, r)
 
   module _ (bytes : List ℕ) (reads : script_of bytes ≡ Ok script) where
     -- the reading of a link ended so: it is in the list

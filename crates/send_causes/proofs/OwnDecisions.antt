@@ -22,7 +22,7 @@ use Rattle.report_fits.proofs.Reading.{InRange}
 use Rattle.report_fits.proofs.Targets.{AreThere}
 use Rattle.call_causes.specs.owed_calls.specs.Lives.{ClosesInRun}
 use Rattle.call_causes.specs.Decided.{posted_by, Decision, decided_by}
-use Rattle.call_causes.specs.Lists.{given, shows_in, shows_in_run}
+use Rattle.call_causes.specs.Lists.{advanced_at, given, shows_in, shows_in_run}
 use Rattle.call_causes.specs.Posts.{Post, posted_at}
 use Rattle.call_causes.specs.Scenes.{In, LeadsTo}
 use Rattle.call_causes.proofs.Claiming.{HaveSlots}
@@ -30,7 +30,8 @@ use Rattle.call_causes.proofs.Numbered.{AreNumbered}
 use Rattle.call_causes.proofs.Opening.{Begins}
 use Rattle.call_causes.proofs.Run as runs
 use Rattle.call_causes.proofs.Scripts.{are_numbered, have_slots, begins}
-use Rattle.send_causes.proofs.RunTicks.{in_setup, in_clients, in_closing}
+use Rattle.call_causes.proofs.RunTicks.{in_setup, in_clients, in_closing, parts}
+use Rattle.call_causes.proofs.RunFacts.{run_facts, leadings}
 use Rattle.send_causes.proofs.Rests.{many}
 use Rattle.send_causes.proofs.Sends.{narrow}
 use Rattle.send_causes.proofs.OwnDecisionsPrograms.{ending_goes}
@@ -58,34 +59,30 @@ module _ (script : List Item) (made : AreMade script) (there : AreThere script) 
 
   -- ## The ticks of each part
 
-  abbrev posts_in_setup : List Post
-  posts_in_setup = shows_in posted_at (plan_of script) (opened script) (in_setup is)
-
-  abbrev posts_in_clients : List Post
-  posts_in_clients = shows_in posted_at (plan_of script) (set_up script is.setup) (in_clients is)
-
-  abbrev posts_in_closing : List Post
-  posts_in_closing = shows_in posted_at (plan_of script) (closing_of script turns core is) (in_closing is)
+  open parts posted_at is use {setup as posts_in_setup, clients as posts_in_clients, closing as posts_in_closing}
+  open parts advanced_at is use {setup as advanced_in_setup, clients as advanced_in_clients, closing as advanced_in_closing}
+  open run_facts script made turns core is use {set_up_ahead, ended_ahead}
+  open leadings script turns core is (given core) leads use {set_up_leads, played_leads, closed_leads}
 
   queued_setup : AllQueued (id_plan_of script) (plan_of script) [] (opened script) (in_setup is)
   queued_setup = let s = sound in setup_queued (plan_of script) (id_plan_of script) (all_tasks script) (given core) numbered slots (runs.small script made (given core) numbered slots fit turns core is leads) is.setup [] [] (opened script) (first_views script) s.setup
-      (runs.set_up_leads script made (given core) numbered slots fit turns core is leads) (runs.first_tale script made (given core) numbered slots fit turns core is leads).0
+      set_up_leads (runs.first_tale script made (given core) numbered slots fit turns core is leads).0
 
   queued_clients : AllQueued (id_plan_of script) (plan_of script) posts_in_setup (set_up script is.setup) (in_clients is)
   queued_clients = let s = sound in played_queued (plan_of script) (id_plan_of script) (all_tasks script) (given core) numbered slots (runs.small script made (given core) numbered slots fit turns core is leads) (in_clients is) posts_in_setup
-      (runs.in_setup script made (given core) numbered slots fit turns core is leads) (set_up script is.setup) (views_along (plan_of script) (opened script) (first_views script) (in_setup is)) s.clients
-      (runs.set_up_ahead script made (given core) numbered slots fit turns core is leads) is.is_set_up (runs.played_leads script made (given core) numbered slots fit turns core is leads) (runs.set_up_tale script made (given core) numbered slots fit turns core is leads).0
+      advanced_in_setup (set_up script is.setup) (views_along (plan_of script) (opened script) (first_views script) (in_setup is)) s.clients
+      set_up_ahead is.is_set_up played_leads (runs.set_up_tale script made (given core) numbered slots fit turns core is leads).0
 
   queued_closing : AllQueued (id_plan_of script) (plan_of script) (posts_in_setup ++ posts_in_clients) (closing_of script turns core is) (in_closing is)
   queued_closing = let s = sound in setup_queued (plan_of script) (id_plan_of script) (all_tasks script) (given core) numbered slots (runs.small script made (given core) numbered slots fit turns core is leads) is.last (posts_in_setup ++ posts_in_clients)
-      (runs.in_setup script made (given core) numbered slots fit turns core is leads ++ runs.in_clients script made (given core) numbered slots fit turns core is leads) (closing_of script turns core is) (views_played script turns core is (first_views script)) s.closing
-      (runs.closed_leads script made (given core) numbered slots fit turns core is leads) (runs.ending_tale script made (given core) numbered slots fit turns core is leads).0
+      (advanced_in_setup ++ advanced_in_clients) (closing_of script turns core is) (views_played script turns core is (first_views script)) s.closing
+      closed_leads (runs.ending_tale script made (given core) numbered slots fit turns core is leads).0
 
   queued_final : AllQueued (id_plan_of script) (plan_of script) ((posts_in_setup ++ posts_in_clients) ++ posts_in_closing) is.ended is.final
   queued_final = let s = sound in played_queued (plan_of script) (id_plan_of script) (all_tasks script) (given core) numbered slots (runs.small script made (given core) numbered slots fit turns core is leads) is.final ((posts_in_setup ++ posts_in_clients) ++ posts_in_closing)
-      ((runs.in_setup script made (given core) numbered slots fit turns core is leads ++ runs.in_clients script made (given core) numbered slots fit turns core is leads) ++ runs.in_closing script made (given core) numbered slots fit turns core is leads)
+      ((advanced_in_setup ++ advanced_in_clients) ++ advanced_in_closing)
       is.ended (views_closed script turns core is (first_views script)) s.final
-      (runs.ended_ahead script made (given core) numbered slots fit turns core is leads) is.is_over (subst (LeadsTo (plan_of script) (id_plan_of script) (all_tasks script) (given core)) is.is_end leads) (runs.ended_tale script made (given core) numbered slots fit turns core is leads).0
+      ended_ahead is.is_over (subst (LeadsTo (plan_of script) (id_plan_of script) (all_tasks script) (given core)) is.is_end leads) (runs.ended_tale script made (given core) numbered slots fit turns core is leads).0
 
   -- ## The parts one after another
 

@@ -1,5 +1,5 @@
 -- Whatever a seat does on the sockets, what holds of the headings of all messages goes on.
-use Rattle.std.proofs.Common.{◌≡◌, ℕ, ⊎_elim, List, [], ◌∷◌, ◌++◌, set, refl, sym, ap, subst}
+use Rattle.std.proofs.Common.{◌≡◌, ℕ, ⊎_elim, List, [], ◌∷◌, ◌++◌, set, refl, sym, subst}
 use Rattle.std.specs.List.{AllByRecursion}
 use mathlib.Core.Option.{Option, none, some, some-injective, some-ne-none}
 use lib.ListN.{get_elem?}
@@ -10,8 +10,6 @@ use Rattle.sock_io.specs.declared.link.Put.TheVariants as puts
 use Rattle.sock_model.specs.declared.chain.Heading.{Heading}
 use Rattle.sock_model.specs.declared.home.Home.{Home}
 use Rattle.sock_model.specs.declared.home.Home.TheVariants.{Empty, Link, Message}
-use Rattle.sock_model.specs.Messages.{Letter}
-use Rattle.sock_model.specs.Reads.{letter_of, shown}
 use Rattle.seat_programs.specs.Calls.{Call, TakeLink, FinishLink, PutLink, PutMessage}
 use Rattle.seat_programs.specs.Cores.{homes_after, hand_after, lies_at, first_of, others_of, finished, link_place}
 use Rattle.seat_programs.specs.Ticks.{fed, with_places, onto_first}
@@ -34,13 +32,6 @@ home_more F G f (Link k took next done) fit = tt
 pub hand_more : (F G : Heading → Type 0) → ((h : Heading) → F h → G h) → (hand : List Home) → HandFits F hand → HandFits G hand
 hand_more F G f [] fit = tt
 hand_more F G f (x ∷ xs) fit = (home_more F G f x fit.0, hand_more F G f xs fit.1)
-
-pub message_there : (x : Option (Option Home)) (letter : Letter) → letter_of (shown (λ (home : Home). home) x) ≡ some letter → x ≡ some (some (Message letter.0 letter.1))
-message_there none letter e = absurd (some-ne-none letter (sym e))
-message_there (some none) letter e = absurd (some-ne-none letter (sym e))
-message_there (some (some Empty)) letter e = absurd (some-ne-none letter (sym e))
-message_there (some (some (Link k took next done))) letter e = absurd (some-ne-none letter (sym e))
-message_there (some (some (Message l cs))) letter e = ap (λ (z : Letter). some (some (Message z.0 z.1))) (some-injective (l, cs) letter e)
 
 module _ (F : Heading → Type 0) where
   pub home_set : (hs : List (Option Home)) (i : ℕ) (x : Option Home) → ((y : Home) → x ≡ some y → FitsHome F y) → HomesFit F hs → HomesFit F (set hs i x)

@@ -1,7 +1,7 @@
 -- Along the ticks of a run: errors that wait were posted before, and each seat decides on its own, but for those that are for the whole call.
 use Rattle.std.proofs.Common.{◌≡◌, ◌≢◌, ℕ, zero, suc, ◌+◌, ◌-◌, ◌<◌, ◌≤◌, ◌==◌, ◌⊎◌, inl, inr, ⊎_elim, Bool, true, false, cond, eqb-true, append_assoc, List, [], ◌∷◌, ◌++◌, length, map, replicate, refl, sym, ap, ◌∙◌, subst, arith}
 use Rattle.std.proofs.lemmas.List.{length-map, append-nil}
-use mathlib.Core.Option.{some, some-injective, some-ne-none}
+use mathlib.Core.Option.{some}
 use lib.ListN.{get_elem?}
 use Rattle.sock_words.specs.declared.plain.Plan.{Plan}
 use Rattle.sock_model.specs.declared.home.Home.TheVariants.{Empty, Link, Message}
@@ -22,14 +22,13 @@ use Rattle.seat_programs.specs.Asides.{call_id, id_slot, id_first}
 use Rattle.seat_programs.specs.Clients.{client_from}
 use Rattle.seat_programs.specs.Cores.{Core, SeatState, resolved, next_step}
 use Rattle.seat_programs.specs.Posts.{WHOLE}
-use Rattle.seat_programs.specs.Programs.{Program, Say, Sent, Rest, Keep, Retries}
-use Rattle.seat_programs.specs.Readers.{reader}
+use Rattle.seat_programs.specs.Programs.{Program, Say, Sent, Keep, Retries}
 use Rattle.seat_programs.specs.Runs.{IsAtRest}
 use Rattle.seat_programs.specs.Scripts.{opening_homes, programs, readers_from, all_programs, beginning}
 use Rattle.seat_programs.specs.Ticks.{Moment, quiet, ticked, run}
 use Rattle.sock_runs.specs.Sound.{IsAhead, views_after}
 use Rattle.sock_runs.proofs.Along.{seat_rests, ticked_ahead}
-use Rattle.sock_runs.proofs.Opening.{mapped, appended}
+use Rattle.sock_runs.proofs.Opening.{mapped}
 use Rattle.sock_runs.proofs.Quiets.{ticked_rests}
 use Rattle.call_causes.specs.joint_runs.proofs.Both.{BothSound, AreBoth}
 use Rattle.call_causes.specs.Decided.{posted_by, Decision, decided_at, decided_by}
@@ -42,6 +41,7 @@ use Rattle.call_causes.proofs.Claiming.{HaveSlots}
 use Rattle.call_causes.proofs.Leading.{run_leads}
 use Rattle.call_causes.proofs.Numbered.{AreNumbered}
 use Rattle.call_causes.proofs.Run.{Story, one_tick, in_either}
+use Rattle.send_causes.proofs.Beginnings.{all_begin}
 use Rattle.send_causes.specs.Counts.{word_of_id}
 use Rattle.send_causes.proofs.OwnDecisionsHomes.{HandFits, HomesFit}
 use Rattle.send_causes.proofs.OwnDecisionsPrograms.{client_goes, reader_goes}
@@ -170,19 +170,9 @@ module _ (p : Plan) (q : IdPlan) (narrow : q.slots ≤ 65536) where
 
 -- ## How a run begins
 
-others_aim : (n : ℕ) (calls os : List ℕ) (k i : ℕ) (x : Program) → get_elem? (replicate n Rest ++ readers_from calls k os) i ≡ some x → Aims Calm x
-others_aim zero calls os k i x at = readers_aim os k i at
-  where
-    readers_aim : (os : List ℕ) (k i : ℕ) → get_elem? (readers_from calls k os) i ≡ some x → Aims Calm x
-    readers_aim [] k i at = absurd (some-ne-none x (sym at))
-    readers_aim (o ∷ os) k zero at = subst (Aims Calm) (some-injective (reader calls k o) x at) (reader_goes calls k o)
-    readers_aim (o ∷ os) k (suc i) at = readers_aim os (k + 1) i at
-others_aim (suc n) calls os k zero x at = subst (Aims Calm) (some-injective Rest x at) tt
-others_aim (suc n) calls os k (suc i) x at = others_aim n calls os k i x at
-
 pub all_aim : (sizes : Sizes) (cs : List (List Task)) (calls os : List ℕ) (i : ℕ) (x : Program) → get_elem? (all_programs (programs sizes cs) (readers_from calls 0 os)) i ≡ some x → Aims Calm x
-all_aim sizes cs calls os i x e = ⊎_elim (λ a. (let t = mapped (client_from sizes []) cs i x a in subst (Aims Calm) t.2 (client_goes sizes [] t.0)))
-    (λ b. others_aim (32 - length (programs sizes cs)) calls os 0 b.0 x b.1) (appended (programs sizes cs) (replicate (32 - length (programs sizes cs)) Rest ++ readers_from calls 0 os) i x e)
+all_aim sizes cs calls os i x e = all_begin (Aims Calm) tt calls (λ k o. reader_goes calls k o) (programs sizes cs) os i x
+    (λ a. let t = mapped (client_from sizes []) cs i x a in subst (Aims Calm) t.2 (client_goes sizes [] t.0)) e
 
 none_try : (id n : ℕ) (xs : List Program) → total (of_stand id n) (map (λ (x : Program). Calm) xs) ≡ 0
 none_try id n [] = refl

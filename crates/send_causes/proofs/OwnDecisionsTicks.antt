@@ -39,13 +39,15 @@ use Rattle.call_causes.specs.Decided.{posted_by, Decision, decision_in, decided_
 use Rattle.call_causes.specs.Posts.{Post, posts_by, posted_with, posted_at}
 use Rattle.call_causes.specs.Scenes.{In}
 use Rattle.outcome_causes.proofs.Ticks.{elem_there}
+use Rattle.call_causes.specs.owed_calls.proofs.OwingTicks.{message_there}
 use Rattle.send_causes.specs.Counts.{pair_of, of_retry, word_of_id, WasMade, WasNow}
 use Rattle.send_causes.proofs.Words.{made_on, finds_label, words_forward, makes_new, advances_new}
 use Rattle.send_causes.proofs.Readings.{ticks_first}
-use Rattle.send_causes.proofs.Ticks.{few_more, few_of, ids_first, calls_waiting, pair_one, pair_same, waits_set}
+use Rattle.send_causes.proofs.SeatFacts.{ids_first}
+use Rattle.send_causes.proofs.Ticks.{few_more, few_of, calls_waiting, pair_one, pair_same, waits_set}
 use Rattle.call_causes.proofs.Chains.{AreFewTries as AreTries}
 use Rattle.label_runs.proofs.Loops.{id_back}
-use Rattle.send_causes.proofs.OwnDecisionsHomes.{HandFits, HomesFit, PutFits, hand_more, home_more, message_there, home_set, home_away, first_fits, others_fit, lies_fit, fed_fits, places_fit, hand_fits, homes_fit}
+use Rattle.send_causes.proofs.OwnDecisionsHomes.{HandFits, HomesFit, PutFits, hand_more, home_more, home_set, home_away, first_fits, others_fit, lies_fit, fed_fits, places_fit, hand_fits, homes_fit}
 use Rattle.send_causes.proofs.OwnDecisionsStands.{Stand, Calm, Trying, Past, Posted, Eases, MayPut, MayPost, MayAside, Stowing, unlocked_stand, Aims}
 use Rattle.send_causes.proofs.OwnDecisionsLoops.{aims_round}
 use Rattle.send_causes.proofs.OwnDecisionsPrograms.{block_goes, retry_goes}

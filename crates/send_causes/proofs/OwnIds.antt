@@ -21,7 +21,7 @@ use Rattle.seat_programs.specs.Cores.{Core}
 use Rattle.seat_programs.specs.Tasks.{plan_of, id_plan_of}
 use Rattle.seat_programs.specs.Scripts.{all_tasks, IsRunWithCalls}
 use Rattle.seat_programs.specs.Told.{IsTask, Became}
-use Rattle.seat_programs.specs.ToldCalls.{Accepted, Fixed, Order, IsSent, Gave, IsResponse, StandsOn, MayBeOn}
+use Rattle.seat_programs.specs.ToldCalls.{Accepted, IsSent, Gave, IsResponse, StandsOn, MayBeOn}
 use Rattle.outcome_causes.specs.Stories.{In}
 use Rattle.call_causes.specs.joint_runs.proofs.Runs.{AreMade}
 use Rattle.report_fits.proofs.Reading.{InRange}
@@ -38,7 +38,7 @@ use Rattle.call_causes.proofs.Whole.{run_has_story, run_has_ended}
 use Rattle.send_causes.specs.EndedCalls.{reader_posts_of_run, EndedSo}
 use Rattle.send_causes.specs.PostCauses.{PostCause}
 use Rattle.send_causes.specs.Refused.{Deed, DidInRun, IsDrop, RunWouldOwn}
-use Rattle.send_causes.proofs.Assembled.{last_in_run, fixed_in_run, orders_in_run}
+use Rattle.send_causes.proofs.Assembled.{last_in_run}
 use Rattle.send_causes.proofs.AttemptedCalls.{single, shows}
 use Rattle.send_causes.proofs.AttemptedRun.{attempted_of_run}
 use Rattle.send_causes.proofs.AttemptedStored.{ids_at, stored_run, would_run, words_stored}
@@ -47,6 +47,7 @@ use Rattle.send_causes.proofs.DropOfRun.{DropOf, drop_of_run}
 use Rattle.send_causes.proofs.EndedCauses.{EndedOn, run_ended_on}
 use Rattle.send_causes.proofs.RefusedRun.{WhyPosted, refused_of_seat}
 use Rattle.send_causes.proofs.Runs.{AreLabelledIn}
+use Rattle.send_causes.proofs.Laws.{laws}
 
 -- ## Words of calls
 
@@ -107,17 +108,7 @@ module _ (script : List Item) (made : AreMade script) (there : AreThere script) 
   -- ## Posts
 
   module _ (bytes : List ℕ) (reads : script_of bytes ≡ Ok script) where
-    abbrev p : Plan
-    p = plan_of script
-
-    abbrev clients : List (List Task)
-    clients = all_tasks script
-
-    abbrev fixed : Fixed
-    fixed = fixed_in_run script made there range bytes reads turns core is closes
-
-    abbrev orders : ℕ → Order
-    orders = orders_in_run script made there range bytes reads turns core is closes
+    open laws script made there range bytes reads turns core is closes use {p, clients, fixed, orders}
 
     -- why each error was posted that an id took from a seat
     pub whys_of_seat : (j : ℕ) (x : Post) → In x (shows_in_run script turns core is (posted_by j)) → WhyPosted script made turns core is closes (ids_at script core) labelled_at would_at bytes reads j x

@@ -87,7 +87,7 @@ module _ (p : Plan) (calls os : List ℕ) (in_os : (k o : ℕ) → get_elem? os 
   reader_rights c vs taken k j seat v at at_view high = (state_at c vs taken k j seat v at at_view (reader_of c vs taken k j seat at high)).0
 
   -- no seat but its reader takes bytes of a link
-  others_none : (c : Core) (vs : List View) (taken : ℕ → List Taking) → Sound p c vs → Keeps c vs taken → (j : ℕ) (seat : SeatState) → get_elem? c.seats j ≡ some seat → (n : ℕ) → j ≢ 32 + n → filter (λ l. l == n) (taken_link seat.program) ≡ []
+  pub others_none : (c : Core) (vs : List View) (taken : ℕ → List Taking) → Sound p c vs → Keeps c vs taken → (j : ℕ) (seat : SeatState) → get_elem? c.seats j ≡ some seat → (n : ℕ) → j ≢ 32 + n → filter (λ l. l == n) (taken_link seat.program) ≡ []
   others_none c vs taken sound k j seat at n far = dite (dec_le 32 j)
       (λ high. let r = reader_of c vs taken k j seat at high in let v = view_at c vs sound j seat at in ⊎_elim (λ e. ap (filter (λ l. l == n)) e)
       (λ t. ap (filter (λ l. l == n)) t.1 ∙ ap (λ b. cond b (t.0 ∷ []) []) (ne_eqb t.0 n (λ e. far (r.2 ∙ ap (λ x. 32 + x) (sym t.2 ∙ e)))))

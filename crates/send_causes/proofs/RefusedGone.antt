@@ -15,31 +15,27 @@ use Rattle.seat_programs.specs.Cores.{Core}
 use Rattle.seat_programs.specs.Tasks.{opens, plan_of, id_plan_of}
 use Rattle.seat_programs.specs.Scripts.{all_tasks, IsRunWithCalls}
 use Rattle.seat_programs.specs.ToldCalls.{Accepted, IsUnordered}
-use Rattle.seat_programs.specs.Told.{AreTasks}
-use Rattle.sock_runs.specs.Sound.{Sound, AllRest}
-use Rattle.sock_runs.proofs.Whole.{views_closed, views_ended, ended_sound, end_rests}
+use Rattle.sock_runs.proofs.Whole.{views_ended}
 use Rattle.outcome_causes.specs.Causes.{Asks}
 use Rattle.outcome_causes.specs.Explains.{is_plain}
-use Rattle.outcome_causes.specs.Kept.{is_of_send, Story}
+use Rattle.outcome_causes.specs.Kept.{is_of_send}
 use Rattle.outcome_causes.specs.PlainTasks.{told_tasks_of}
 use Rattle.outcome_causes.proofs.Lifted.{up}
 use Rattle.outcome_causes.proofs.Messages.{each_made, message_of, number_of}
-use Rattle.outcome_causes.proofs.Runs.{Goes}
-use Rattle.outcome_causes.proofs.Scripts.{seats, ended_told, final_told, story_end}
 use Rattle.outcome_causes.proofs.Senders.{HasSent, all_sent}
 use Rattle.outcome_causes.proofs.Tasks.{one_task}
 use Rattle.call_causes.specs.joint_runs.proofs.Runs.{AreMade, first_views}
 use Rattle.call_causes.specs.owed_calls.specs.Lives.{ClosesInRun}
 use Rattle.send_causes.specs.Counts.{of_entry, of_view}
 use Rattle.send_causes.specs.Refused.{RunWouldOwn}
-use Rattle.send_causes.proofs.Apart.{of_call_fits}
+use Rattle.send_causes.proofs.Apart.{heading_one, of_call_fits}
 use Rattle.send_causes.proofs.Beside.{fixed_of_run, gave_of_run, orders_here}
-use Rattle.send_causes.proofs.Early.{start, go, fitting, first_fresh}
+use Rattle.send_causes.proofs.Early.{start, go, fitting}
 use Rattle.send_causes.proofs.Runs.{AreLabelledIn, IsCallOf, Lawful_, end_law}
-use Rattle.send_causes.proofs.Sends.{narrow, owed, opening_bare}
+use Rattle.send_causes.proofs.ToldEnd.{told_end}
+use Rattle.send_causes.proofs.Sends.{narrow, opening_bare}
 use Rattle.send_causes.proofs.DropWhole.{get_same}
 use Rattle.send_causes.proofs.RefusedWhole.{IsGone}
-use Rattle.send_causes.proofs.DropPlaces.{heading_one}
 
 module _ (script : List Item) (made : AreMade script) (turns : List Turn) (core : Core) (is : IsRunWithCalls script turns core) (closes : ClosesInRun script turns core is) (ids : ℕ → ℕ) (labelled : AreLabelledIn ids script turns core is) (would : RunWouldOwn ids script turns core is) where
   abbrev vs : List View
@@ -53,21 +49,7 @@ module _ (script : List Item) (made : AreMade script) (turns : List Turn) (core 
     end_labels : Lawful_ (plan_of script) (id_plan_of script) (narrow script made turns core is closes) (IsCallOf script) ids core vs
     end_labels = end_law script made.are (first_views script) (start script made turns core is) (go script made turns core is) turns core is (fitting script made turns core is) (narrow script made turns core is closes) (opening_bare script) ids labelled
 
-    abbrev told_run : Goes (plan_of script) (told_tasks_of script) (seats script made.are (first_views script) (start script made turns core is) (first_fresh script) (go script made turns core is) turns core is (fitting script made turns core is)) true is.final is.ended
-        (views_closed script turns core is (first_views script)) (ended_told script made.are (first_views script) (start script made turns core is) (first_fresh script) (go script made turns core is) turns core is (fitting script made turns core is))
-    told_run = final_told script made.are (first_views script) (start script made turns core is) (first_fresh script) (go script made turns core is) turns core is (fitting script made turns core is)
-
-    abbrev told_story : Story (plan_of script) (told_tasks_of script) true core vs told_run.after.events told_run.after.lost
-    told_story = story_end script made.are (first_views script) (start script made turns core is) (first_fresh script) (go script made turns core is) turns core is (fitting script made turns core is) (owed script made turns core is closes)
-
-    abbrev told_seats : AreTasks (plan_of script) (told_tasks_of script)
-    told_seats = seats script made.are (first_views script) (start script made turns core is) (first_fresh script) (go script made turns core is) turns core is (fitting script made turns core is)
-
-    abbrev end_sound : Sound (plan_of script) core vs
-    end_sound = ended_sound script made.are (first_views script) (start script made turns core is) (go script made turns core is) turns core is (fitting script made turns core is)
-
-    abbrev rests : AllRest core
-    rests = end_rests script made.are (first_views script) (start script made turns core is) (go script made turns core is) turns core is (fitting script made turns core is) (owed script made turns core is closes)
+    open told_end script made turns core is closes use {told_run, told_story, told_seats, end_sound, rests}
 
     none_counts : (i m : ℕ) (e : Entry) → HasSent vs i m e → of_entry id n e ≡ 0
     none_counts i m e h = let one = term_le (of_entry id n) h.made m e h.stands in

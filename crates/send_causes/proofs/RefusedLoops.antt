@@ -13,7 +13,8 @@ use Rattle.seat_programs.specs.Programs.{Program, Say, Aside, Round}
 use Rattle.seat_programs.specs.Readers.{answer, answered, responses, read_on, took, discarded, last_of, slot_in, version_in, has_response, ending_of, is_early, ended_by as how_ended, LIMIT}
 use Rattle.seat_programs.specs.Rounds.{round}
 use Rattle.label_runs.specs.Labels.{Trial, Idle, Tries, Kept, LeavesLabel, LeavesLock, LeavesUnlock, unlocks_trial, unlocked_trial, locked_trial, IsSoughtWord, FindsLabel}
-use Rattle.label_runs.proofs.Loops.{id_back, not_true, not_equal, and_left, locked_parts}
+use Rattle.label_runs.proofs.Programs.{hit_is, miss_is, found_is}
+use Rattle.label_runs.proofs.Loops.{first_as, id_back, not_true, not_equal, and_left, locked_parts}
 use Rattle.send_causes.specs.Refused.{Deed, NoCharge, Doing, idle, Moves, Remembers, IsPostOf, Charges, LeavesCode}
 use Rattle.send_causes.proofs.Words.{unlocked_is}
 
@@ -130,22 +131,6 @@ module _ (requests : ℕ) (is_call : Asked → Type 0) (reads : Bool) where
     abbrev after : ℕ
     after = packed (unlocked_word (parts from) (advance_of advance))
 
-    hit_is : (b : Bool) (found : ℕ) → eqb found from ≡ true → unlocks_trial i from b t ≡ unlocked_trial i from b found t
-    hit_is true found hit = sym (ap (λ z. cond z (Tries (call_id i (parts from).first) ((parts from).attempt + 1)) t) hit)
-    hit_is false found hit = refl
-
-    miss_is : (b : Bool) (found : ℕ) → eqb found from ≡ false → t ≡ unlocked_trial i from b found t
-    miss_is true found miss = sym (ap (λ z. cond z (Tries (call_id i (parts from).first) ((parts from).attempt + 1)) t) miss)
-    miss_is false found miss = refl
-
-    found_is : (b : Bool) (found : ℕ) → (parts found).first ≡ (parts from).first → (parts found).attempt ≡ (parts from).attempt → unlocks_trial i from b t ≡ unlocks_trial i found b t
-    found_is true found f a = ap (λ x. Tries (call_id i x) ((parts from).attempt + 1)) (sym f) ∙ ap (λ x. Tries (call_id i (parts found).first) (x + 1)) (sym a)
-    found_is false found f a = refl
-
-    first_as : (x y : ℕ) → x ≡ y → (exit : Unlocking) → LeavesUnlock x exit → LeavesUnlock y exit
-    first_as x y e (HasNext w error) l = l ∙ e
-    first_as x y e (IsOpen w) l = tt
-
     pops : (low : (parts from).attempt + advance_of advance ≤ 6) → Goes (bare (unlocks_trial i from advance t) ds) (popped i (parts from).oldest after k)
     pops low = let first : (parts after).first ≡ (parts from).first = ap (λ (w : Parts). w.first) (unlocked_is from advance low) in let s : Doing = bare (unlocks_trial i from advance t) ds in
         way (bare (unlocks_trial i from advance t) ds) (eqb (parts from).oldest 0) (k (IsOpen after)) (cond (is_stale (parts from).oldest (parts after)) (Round (Unlocks i after false) k) (k (HasNext after (parts from).oldest)))
@@ -159,11 +144,11 @@ module _ (requests : ℕ) (is_call : Asked → Type 0) (reads : Bool) where
       where
         by : (found : ℕ) → FindsLabel is_call (UnlockId i from advance) found → (b : Bool) → eqb found from ≡ b
             → (u : Doing) × ((u.trial ≡ unlocked_trial i from advance found t) × Remembers requests is_call reads ds (bare t ds) u) × Goes u (cond b (popped i (parts from).oldest after k) (Round (Unlocks i found advance) k))
-        by found f true hit = (bare (unlocks_trial i from advance t) ds, (hit_is advance found hit, inl (refl, refl)), pops f.1)
+        by found f true hit = (bare (unlocks_trial i from advance t) ds, (hit_is t i from advance found hit, inl (refl, refl)), pops f.1)
         by found f false miss = let same = f.2 (not_equal found from miss) in (
           bare t ds,
-          (miss_is advance found miss, inl (refl, refl)),
-          ((tt, refl), λ exit l _. subst (λ x. Goes (bare x ds) (k exit)) (found_is advance found same.0 same.1) (goes exit (f.1, first_as (parts found).first (parts from).first same.0 exit l.1))),
+          (miss_is t i from advance found miss, inl (refl, refl)),
+          ((tt, refl), λ exit l _. subst (λ x. Goes (bare x ds) (k exit)) (found_is t i from found advance same.0 same.1) (goes exit (f.1, first_as (parts found).first (parts from).first same.0 exit l.1))),
         )
 
   -- ## Locks

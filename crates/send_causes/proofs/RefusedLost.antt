@@ -20,12 +20,12 @@ use Rattle.seat_programs.specs.Writings.{Puts, Waits, Empties, Walks}
 use Rattle.seat_programs.specs.Cores.{Core}
 use Rattle.seat_programs.specs.Tasks.{opens, calls, plan_of, id_plan_of}
 use Rattle.seat_programs.specs.Ticks.{Moment, quiet, ticked, run}
-use Rattle.seat_programs.specs.Scripts.{all_tasks, opened, set_up, played, IsRunWithCalls}
+use Rattle.seat_programs.specs.Scripts.{all_tasks, opened, set_up, IsRunWithCalls}
 use Rattle.seat_programs.specs.Told.{AreTasks}
 use Rattle.seat_programs.specs.ToldCalls.{WhyLost, WasFailing, RunEnding}
-use Rattle.sock_runs.specs.Sound.{Sound, first_step, state, views_along}
+use Rattle.sock_runs.specs.Sound.{Sound, first_step, state}
 use Rattle.sock_runs.proofs.Along.{seat_rests}
-use Rattle.sock_runs.proofs.Whole.{closing_of, views_played, views_closed, views_ended, set_up_answered, end_answered, rested_ahead, rested_idle, set_up_sound, played_sound, closing_sound, closed_sound, ended_sound, end_rests}
+use Rattle.sock_runs.proofs.Whole.{closing_of, set_up_answered, end_answered, rested_ahead, rested_idle, set_up_sound, played_sound, closing_sound, closed_sound, ended_sound, end_rests}
 use Rattle.outcome_causes.specs.Facts.{put_by, put_at, shown_in, late_of_run}
 use Rattle.outcome_causes.specs.Kept.{Story}
 use Rattle.outcome_causes.specs.PlainTasks.{told_tasks_of}
@@ -46,6 +46,7 @@ use Rattle.send_causes.proofs.Early.{start, go, fitting, first_fresh}
 use Rattle.send_causes.proofs.Sends.{owed}
 use Rattle.send_causes.proofs.RefusedNames.{IsNamed, named_more, Named, Then, seats_named, setup_named, named_life}
 use Rattle.send_causes.proofs.RefusedWhys.{early_so, all_in}
+use Rattle.send_causes.proofs.Grounds.{setting, stages}
 
 -- ## Calls that are put into their homes
 
@@ -84,8 +85,7 @@ put_shown p (m ∷ ms) c j asked (inl x) = in_left (put_at c m) (shown_in put_at
     (subst (In asked.operation) (sym (ap put_first x.5) ∙ same_put x.1.program) (inl refl)))
 
 module _ (script : List Item) (made : AreMade script) (turns : List Turn) (core : Core) (is : IsRunWithCalls script turns core) (closes : ClosesInRun script turns core is) where
-  abbrev p : Plan
-  p = plan_of script
+  open setting script use {p}
 
   told_are : AreTasks (plan_of script) (told_tasks_of script)
   told_are = are_seats (plan_of script) (all_tasks script) made.are (length (opens script))
@@ -93,20 +93,7 @@ module _ (script : List Item) (made : AreMade script) (turns : List Turn) (core 
   abbrev Keeps : Bool → Core → List View → Type 0
   Keeps over c ws = Named (plan_of script) (told_tasks_of script) told_are over c ws
 
-  abbrev set_views : List View
-  set_views = views_along (plan_of script) (opened script) (first_views script) (replicate is.setup (quiet 0))
-
-  abbrev rested : Core
-  rested = played script is.setup (is.scheduled ++ is.later)
-
-  abbrev rested_views : List View
-  rested_views = views_played script turns core is (first_views script)
-
-  abbrev closed_views : List View
-  closed_views = views_closed script turns core is (first_views script)
-
-  abbrev end_views : List View
-  end_views = views_ended script turns core is (first_views script)
+  open stages script turns core is use {set_views, rested, rested_views, closed_views, end_views}
 
   -- ## The story of the run
 

@@ -21,7 +21,7 @@ use Rattle.outcome_causes.specs.Stories.{In}
 use Rattle.outcome_causes.proofs.Ticks.{elem_there}
 use Rattle.call_causes.specs.Posts.{Post, posts_by, posted_with, posted_at}
 use Rattle.send_causes.specs.Refused.{Deed, Charge, NoCharge, IsRefused, HasDropped, Doing, IsChargeOf, IsPostOf, ChargeFits, ChargeLaw, IsSpent, PostKind, ByReader, ByExpiry, ByRefusal, ByDrop}
-use Rattle.send_causes.proofs.Ticks.{AreCalls}
+use Rattle.outcome_causes.proofs.HomeCalls.{AreCalls}
 use Rattle.send_causes.proofs.RefusedTicks.{Then, First, first_as}
 use Rattle.call_causes.specs.owed_calls.proofs.OwingRuns.{same_first}
 

@@ -207,21 +207,7 @@ module _ (requests : ℕ) (is_call : Asked → Type 0) (reads : Bool) where
               (passed_goes mine (one_more h) now (tell_drop heading code) after (λ x g. tell_none heading code x none_ g) goes))
               (λ some_. (
                 due (HasDropped heading code) (DidStep (DropPlace heading.place h.link h.places) found ∷ DidStep (LoadCode (socket_id_slot h.id) (socket_id_version h.id)) code ∷ ds),
-                inr (inr (record {
-                  holder = h;
-                  now = now;
-                  heading = heading;
-                  left = left;
-                  taken = taken;
-                  asked = asked;
-                  code = code;
-                  is = refl;
-                  round = inr round;
-                  load = inl refl;
-                  gives_up = refl;
-                  charge = refl;
-                  deeds = refl;
-                })),
+                inr (inr (record { holder = h; now = now; heading = heading; left = left; taken = taken; asked = asked; code = code; is = refl; round = inr round; load = inl refl; gives_up = refl; charge = refl; deeds = refl })),
                 passed_keeps (HasDropped heading code) mine (DidStep (DropPlace heading.place h.link h.places) found ∷ DidStep (LoadCode (socket_id_slot h.id) (socket_id_version h.id)) code ∷ ds) (one_more h) now (tell_drop heading code) after
                     (λ es x g. tell_goes heading code es x some_ g) goes,
               )),

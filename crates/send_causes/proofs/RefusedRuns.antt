@@ -70,16 +70,7 @@ module _ (p : Plan) (q : IdPlan) (narrow : q.slots ≤ 65536) (is_call : Asked �
   all_more Did Done j f (d ∷ ds) a = (f d a.0, all_more Did Done j f ds a.1)
 
   pub law_more : (Did Done : ℕ → Deed → Type 0) → ((j : ℕ) (d : Deed) → Did j d → Done j d) → (c : Core) (vs : List View) (ss : List Doing) → Law Did c vs ss → Law Done c vs ss
-  law_more Did Done f c vs ss law = record {
-    once = law.once;
-    made = law.made;
-    each = law.each;
-    later = law.later;
-    trials = law.trials;
-    did = λ j s at. all_more Did Done j (f j) s.deeds (law.did j s at);
-    due = law.due;
-    programs = law.programs;
-  }
+  law_more Did Done f c vs ss law = record { once = law.once; made = law.made; each = law.each; later = law.later; trials = law.trials; did = λ j s at. all_more Did Done j (f j) s.deeds (law.did j s at); due = law.due; programs = law.programs }
 
   -- ## Ticks one after another
 

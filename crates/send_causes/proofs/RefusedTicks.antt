@@ -1,5 +1,5 @@
 -- Each tick keeps the law of charges: whoever is refused an attempt gives it up, and nothing is left of it.
-use Rattle.std.proofs.Common.{◌≡◌, ◌≢◌, ℕ, zero, suc, ◌+◌, ◌<◌, ◌≤◌, ◌⊎◌, inl, inr, ⊎_elim, Bool, true, false, cond, eqb, eqb-true, eq-eqb, nat_le, List, [], ◌∷◌, ◌++◌, length-set, map, set, refl, sym, ap, ◌∙◌, subst, arith}
+use Rattle.std.proofs.Common.{◌≡◌, ◌≢◌, ℕ, zero, suc, ◌+◌, ◌<◌, ◌≤◌, ◌⊎◌, inl, inr, ⊎_elim, Bool, true, false, cond, eqb, eqb-true, nat_le, List, [], ◌∷◌, ◌++◌, length-set, map, set, refl, sym, ap, ◌∙◌, subst, arith}
 use Rattle.std.specs.List.{AllByRecursion}
 use mathlib.Core.Logic.{dite}
 use native.Mathlib.Decide.{ℕ_discrete}
@@ -36,11 +36,13 @@ use Rattle.sock_runs.proofs.Cases.{with_rights, right_rights, put_rights}
 use Rattle.outcome_causes.proofs.Cases.{tick_cases}
 use Rattle.outcome_causes.proofs.Ticks.{elem_there}
 use Rattle.call_causes.specs.owed_calls.proofs.EndsStill.{mapped_at}
-use Rattle.label_runs.specs.Labels.{Trial, Idle, Tries, Sends, IsOfTrial, MayPut, put_behind, Kept, Storing, unlocked_trial}
+use Rattle.label_runs.specs.Labels.{Trial, Idle, Tries, Sends, put_behind, Kept, Storing, unlocked_trial}
 use Rattle.send_causes.specs.Counts.{pair_of, of_trial, of_retry, of_view, times_of, WasMade, WasNow, TrialFits, StoresOwn}
 use Rattle.send_causes.specs.Refused.{Deed, DidStep, DidPut, Charge, NoCharge, IsRefused, HasDropped, Doing, idle, begins, trial_in, FoundTaken, FoundLost, WasOther, WasOdd, WasNone, WhyRefused, WouldStore, WouldOwn, IsTrying, IsLast, Refuses, Moves, Remembers, Charges, did_aside, DidAt, IsRefusal, IsDrop, IsSpent, ChargeFits, ChargeLaw}
-use Rattle.send_causes.proofs.Ticks.{few_more, few_of, AreCalls, calls_waiting, fits_as, ids_first, kept_count, kept_fits, pair_one, pair_same, waits_set}
-use Rattle.send_causes.proofs.Views.{put_of, row_count, rights_count}
+use Rattle.send_causes.proofs.SeatFacts.{ids_first}
+use Rattle.outcome_causes.proofs.HomeCalls.{AreCalls}
+use Rattle.send_causes.proofs.Ticks.{put_count, few_more, few_of, calls_waiting, fits_as, kept_count, kept_fits, pair_one, pair_same, waits_set}
+use Rattle.send_causes.proofs.Views.{row_count, rights_count}
 use Rattle.send_causes.proofs.Words.{made_on, finds_label, words_forward, makes_new, advances_new}
 use Rattle.send_causes.proofs.RefusedLoops.{bare, charges_round}
 use Rattle.send_causes.proofs.RefusedPrograms.{block_goes, retry_goes}
@@ -181,16 +183,7 @@ module _ (p : Plan) (q : IdPlan) (narrow : q.slots ≤ 65536) (is_call : Asked �
   nothing : After c vs
   nothing = (
     ss,
-    record {
-      once = law.once;
-      made = law.made;
-      each = law.each;
-      later = law.later;
-      trials = law.trials;
-      did = λ j s at. all_map (Did j) (Then j) (λ d x. inl x) s.deeds (law.did j s at);
-      due = law.due;
-      programs = law.programs;
-    },
+    record { once = law.once; made = law.made; each = law.each; later = law.later; trials = law.trials; did = λ j s at. all_map (Did j) (Then j) (λ d x. inl x) s.deeds (law.did j s at); due = law.due; programs = law.programs },
     λ id n x. x,
   )
 
@@ -341,22 +334,6 @@ module _ (p : Plan) (q : IdPlan) (narrow : q.slots ≤ 65536) (is_call : Asked �
 
     -- ## Steps on the sockets
 
-    -- a message of a call takes the attempt with it
-    put_count : (id n : ℕ) (t : Trial) (call : Call) → MayPut is_call t call → of_trial id n (put_behind t call) + put_of v id n call ≤ of_trial id n t
-    put_count id n t (PutMessage r heading bytes) may = ⊎_elim
-        (λ none_. (let z : cond (eqb heading.owner 0) 0 (pair_of id n heading.owner heading.attempt) ≡ 0 = ap (λ b. cond b 0 (pair_of id n heading.owner heading.attempt)) (eq-eqb heading.owner 0 none_.0) in omega (arith, z)))
-        (λ h. by (eqb heading.owner 0) (as_trial t h)) may
-      where
-        as_trial : (t : Trial) → IsOfTrial is_call t heading bytes → pair_of id n heading.owner heading.attempt ≤ of_trial id n t
-        as_trial (Sends o j k) h = let z : pair_of id n heading.owner heading.attempt ≡ pair_of id n j k = ap (λ (x : Heading). pair_of id n x.owner x.attempt) h.3 in omega (arith, z)
-        as_trial Idle h = absurd h
-        as_trial (Tries j k) h = absurd h
-
-        by : (b : Bool) → pair_of id n heading.owner heading.attempt ≤ of_trial id n t → 0 + cond b 0 (pair_of id n heading.owner heading.attempt) ≤ of_trial id n t
-        by true a = omega arith
-        by false a = omega (arith, a)
-    put_count id n t _ may = omega arith
-
     behind_fits : (t : Trial) (call : Call) → TrialFits ids t → TrialFits ids (put_behind t call)
     behind_fits t (PutMessage r heading bytes) f = tt
     behind_fits t _ f = f
@@ -408,7 +385,7 @@ module _ (p : Plan) (q : IdPlan) (narrow : q.slots ≤ 65536) (is_call : Asked �
         last_now o id n deed (inr x) = subst (Then m.seat) (sym x.3) (inr (refl, seat, next, at_seat, is ∙ ap (λ (y : Call). Do y next) x.1, ap (λ (y : Call). found_at c.words (word_of p y)) (sym x.1) ∙ (sym found_is ∙ x.2), subst (WouldStore o id n) (sym is) x.4))
 
         no_less : (id n : ℕ) (u : Doing) → u.trial ≡ Idle → of_trial id n u.trial + of_view id n w ≤ of_trial id n s.trial + of_view id n v + 0
-        no_less id n u e = let z : of_trial id n u.trial ≡ 0 = ap (of_trial id n) e in let a = row_count v id n p found hand call in let b = put_count id n d.trial call f.goes.0 in let x = f.fewer id n in omega (arith, z, a, b, x)
+        no_less id n u e = let z : of_trial id n u.trial ≡ 0 = ap (of_trial id n) e in let a = row_count v id n p found hand call in let b = put_count is_call v id n d.trial call f.goes.0 in let x = f.fewer id n in omega (arith, z, a, b, x)
 
         refused : (u : Doing) (x : Refuses p.requests is_call reads call next found d u) → IsRefusal p.requests is_call ids x.id x.attempt x.code u.deeds
         refused u x = subst (IsRefusal p.requests is_call ids x.id x.attempt x.code) (sym x.deeds)
@@ -416,7 +393,7 @@ module _ (p : Plan) (q : IdPlan) (narrow : q.slots ≤ 65536) (is_call : Asked �
 
         given_up : (u : Doing) (x : Refuses p.requests is_call reads call next found d u) → of_trial x.id x.attempt u.trial + of_view x.id x.attempt w + 1 ≤ of_trial x.id x.attempt s.trial + of_view x.id x.attempt v
         given_up u x = let z : of_trial x.id x.attempt u.trial ≡ 0 = ap (of_trial x.id x.attempt) x.gives_up in let a = row_count v x.id x.attempt p found hand call in
-            let b = put_count x.id x.attempt d.trial call f.goes.0 in let still : of_trial x.id x.attempt (put_behind d.trial call) ≡ of_trial x.id x.attempt d.trial = ap (of_trial x.id x.attempt) x.still in
+            let b = put_count is_call v x.id x.attempt d.trial call f.goes.0 in let still : of_trial x.id x.attempt (put_behind d.trial call) ≡ of_trial x.id x.attempt d.trial = ap (of_trial x.id x.attempt) x.still in
             let one = counts d.trial x.asked.operation x.id x.attempt x.trying in let y = f.fewer x.id x.attempt in omega (arith, z, a, b, still, one, y)
 
         after_move : (u : Doing) → Moves p.requests is_call reads call next found d u → Charges p.requests is_call reads u (next found) → Goes c.calls (next found) u w
@@ -427,7 +404,7 @@ module _ (p : Plan) (q : IdPlan) (narrow : q.slots ≤ 65536) (is_call : Asked �
           fits = kept_fits ids (put_behind d.trial call) u.trial k.0 (behind_fits d.trial call f.fits);
           did = ⊎_elim (λ e. did_more u e.1) (λ e. subst (AllByRecursion (Then m.seat)) (sym e.1) tt) k.1;
           new = λ id n. 0;
-          fewer = λ id n. (let a = row_count v id n p found hand call in let b = put_count id n d.trial call f.goes.0 in let e = kept_count id n (put_behind d.trial call) u.trial k.0 in let x = f.fewer id n in omega (arith, a, b, e, x));
+          fewer = λ id n. (let a = row_count v id n p found hand call in let b = put_count is_call v id n d.trial call f.goes.0 in let e = kept_count id n (put_behind d.trial call) u.trial k.0 in let x = f.fewer id n in omega (arith, a, b, e, x));
           fresh = λ id n z. absurd (omega (arith, z));
           due = inl (⊎_elim (same_due u) (λ e. none_due u e.0) k.1);
         }

@@ -57,6 +57,7 @@ use Rattle.send_causes.proofs.RefusedPosts.{kind_more}
 use Rattle.send_causes.proofs.RefusedPrograms.{ending_goes}
 use Rattle.send_causes.proofs.RefusedRuns.{law_more, Behind, run_charges, none_did, begins_charges, seats_charge, none_done, inside}
 use Rattle.send_causes.proofs.RefusedTicks.{moves}
+use Rattle.send_causes.proofs.Grounds.{setting}
 
 -- ## Seats that wait
 
@@ -193,14 +194,7 @@ module _ (script : List Item) (made : AreMade script) (turns : List Turn) (core 
 
 -- the calls have these ids, and whoever stores an at word, or would store one, has its own operation's
 module _ (script : List Item) (made : AreMade script) (turns : List Turn) (core : Core) (is : IsRunWithCalls script turns core) (closes : ClosesInRun script turns core is) (ids : ℕ → ℕ) (labelled : AreLabelledIn ids script turns core is) (would : RunWouldOwn ids script turns core is) where
-  abbrev p : Plan
-  p = plan_of script
-
-  abbrev q : IdPlan
-  q = id_plan_of script
-
-  abbrev vs : List View
-  vs = first_views script
+  open setting script use {p, q, vs}
 
   abbrev pub few_slots : (id_plan_of script).slots ≤ 65536
   few_slots = narrow script made turns core is closes

@@ -8,10 +8,10 @@ use Rattle.seat_programs.specs.Calls.{AddRef, LookWord, ClaimRequest}
 use Rattle.seat_programs.specs.Cores.{Core}
 use Rattle.seat_programs.specs.Tasks.{plan_of}
 use Rattle.seat_programs.specs.Ticks.{quiet, run}
-use Rattle.seat_programs.specs.Scripts.{all_tasks, opened, set_up, played, is_ending, IsRunWithCalls}
+use Rattle.seat_programs.specs.Scripts.{all_tasks, opened, set_up, is_ending, IsRunWithCalls}
 use Rattle.seat_programs.specs.ToldCalls.{WasFull}
-use Rattle.sock_runs.specs.Sound.{Sound, views_along}
-use Rattle.sock_runs.proofs.Whole.{closing_of, views_played, views_closed, set_up_answered, end_answered, set_up_sound, closing_sound, closed_sound, ended_sound, end_rests}
+use Rattle.sock_runs.specs.Sound.{Sound}
+use Rattle.sock_runs.proofs.Whole.{closing_of, set_up_answered, end_answered, set_up_sound, closing_sound, closed_sound, ended_sound, end_rests}
 use Rattle.outcome_causes.specs.Stories.{In}
 use Rattle.outcome_causes.proofs.Delivered.{requests_used}
 use Rattle.call_causes.specs.joint_runs.proofs.Runs.{AreMade, first_views}
@@ -23,6 +23,7 @@ use Rattle.send_causes.proofs.Sends.{owed}
 use Rattle.send_causes.proofs.Whole.{quiet_there}
 use Rattle.send_causes.proofs.RefusedMeans.{IsSo, run_keeps, run_so}
 use Rattle.send_causes.proofs.RefusedWhole.{end_views}
+use Rattle.send_causes.proofs.Grounds.{stages}
 
 pub all_in : (P : Deed → Type 0) (ds : List Deed) (d : Deed) → AllByRecursion P ds → In d ds → P d
 all_in P [] d all m = absurd m
@@ -30,17 +31,7 @@ all_in P (x ∷ ds) d all (inl e) = subst P (sym e) all.0
 all_in P (x ∷ ds) d all (inr m) = all_in P ds d all.1 m
 
 module _ (script : List Item) (made : AreMade script) (turns : List Turn) (core : Core) (is : IsRunWithCalls script turns core) (closes : ClosesInRun script turns core is) where
-  abbrev set_views : List View
-  set_views = views_along (plan_of script) (opened script) (first_views script) (replicate is.setup (quiet 0))
-
-  abbrev rested : Core
-  rested = played script is.setup (is.scheduled ++ is.later)
-
-  abbrev rested_views : List View
-  rested_views = views_played script turns core is (first_views script)
-
-  abbrev closed_views : List View
-  closed_views = views_closed script turns core is (first_views script)
+  open stages script turns core is use {set_views, rested, rested_views, closed_views}
 
   -- ## What was done before the ending
 

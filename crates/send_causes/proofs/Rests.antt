@@ -35,15 +35,16 @@ first_half : {A : Type 0} (P : A → Type 0) (xs ys : List A) → AllByRecursion
 first_half P [] ys all = tt
 first_half P (x ∷ xs) ys all = (all.0, first_half P xs ys all.1)
 
-module _ (script : List Item) (made : AreMade script) (turns : List Turn) (core : Core) (is : IsRunWithCalls script turns core) where
+module _ (script : List Item) (turns : List Turn) (core : Core) (is : IsRunWithCalls script turns core) where
   -- the round that moved nothing
-  abbrev before_last : Core
+  abbrev pub before_last : Core
   before_last = let s = is.settles in run (plan_of script) (played script is.setup is.scheduled) (ticks_of s.moving)
 
-  rested_still : played script is.setup (is.scheduled ++ is.later) ≡ before_last
+  pub rested_still : played script is.setup (is.scheduled ++ is.later) ≡ before_last
   rested_still = let s = is.settles in run_parts (plan_of script) (set_up script is.setup) is.scheduled is.later ∙ (ap (run (plan_of script) (played script is.setup is.scheduled)) s.all
       ∙ (run_parts (plan_of script) (played script is.setup is.scheduled) (ticks_of s.moving) s.last ∙ all_still (plan_of script) before_last s.last s.still))
 
+module _ (script : List Item) (made : AreMade script) (turns : List Turn) (core : Core) (is : IsRunWithCalls script turns core) where
   prompt_last : AllByRecursion IsAlwaysReady (let s = is.settles in s.last)
   prompt_last = let s = is.settles in second_part IsAlwaysReady (ticks_of s.moving) s.last (subst (AllByRecursion IsAlwaysReady) s.all (second_part IsAlwaysReady is.scheduled is.later (first_half IsAlwaysReady (is.scheduled ++ is.later) is.final is.always_ready)))
 
@@ -74,8 +75,8 @@ module _ (script : List Item) (made : AreMade script) (turns : List Turn) (core 
       by_round : ((0 < i) × (i ≤ clients script)) ⊎ ((32 ≤ i) × (i < 32 + length (link_names script))) → IsAtRest (played script is.setup (is.scheduled ++ is.later)) i
           ⊎ ((m : Moment) × (m.seat ≡ i) × IsAlwaysReady m × (waits (plan_of script) (played script is.setup (is.scheduled ++ is.later)) m ≡ true))
       by_round h = let s = is.settles in let n = in_round (clients script) (length (link_names script)) i h in
-          subst (λ d. IsAtRest d i ⊎ ((m : Moment) × (m.seat ≡ i) × IsAlwaysReady m × (waits (plan_of script) d m ≡ true))) (sym rested_still)
-          (one_of_still (plan_of script) before_last s.last s.still prompt_last n.0 i (ap (λ (l : List ℕ). get_elem? l n.0) s.one_more ∙ n.1))
+          subst (λ d. IsAtRest d i ⊎ ((m : Moment) × (m.seat ≡ i) × IsAlwaysReady m × (waits (plan_of script) d m ≡ true))) (sym (rested_still script turns core is))
+          (one_of_still (plan_of script) (before_last script turns core is) s.last s.still prompt_last n.0 i (ap (λ (l : List ℕ). get_elem? l n.0) s.one_more ∙ n.1))
 
   -- and then it waits at the head of a loop aside of the sockets
   pub aside : (i : ℕ) → i < length (played script is.setup (is.scheduled ++ is.later)).seats → IsAtRest (played script is.setup (is.scheduled ++ is.later)) i ⊎ StandsAside (played script is.setup (is.scheduled ++ is.later)) i

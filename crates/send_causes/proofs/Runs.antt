@@ -1,9 +1,9 @@
 -- A whole run keeps the law of attempts.
-use Rattle.std.proofs.Common.{◌≡◌, ℕ, zero, suc, ◌+◌, ◌-◌, ◌≤◌, ⊎_elim, List, [], ◌∷◌, ◌++◌, length, map, replicate, refl, sym, ap, ◌∙◌, subst, arith}
+use Rattle.std.proofs.Common.{◌≡◌, ℕ, zero, suc, ◌+◌, ◌-◌, ◌≤◌, List, [], ◌∷◌, ◌++◌, length, map, replicate, refl, sym, ap, ◌∙◌, subst, arith}
 use Rattle.std.specs.List.{AllByRecursion}
 use Rattle.std.proofs.lemmas.List.{length-map}
 use Rattle.std.proofs.Common.{length-set}
-use mathlib.Core.Option.{some, some-injective, some-ne-none}
+use mathlib.Core.Option.{some, some-ne-none}
 use lib.ListN.{get_elem?}
 use Rattle.atomic_table.proofs.Lists.{set_again}
 use Rattle.sock_words.specs.declared.plain.Plan.{Plan}
@@ -21,12 +21,12 @@ use Rattle.seat_programs.specs.declared.task.Op.TheVariants as ops
 use Rattle.outcome_causes.specs.Stories.{In}
 use Rattle.outcome_causes.proofs.Members.{all_in, all_of}
 use Rattle.outcome_causes.proofs.Messages.{in_of_at}
-use Rattle.send_causes.proofs.Ticks.{none_asked}
+use Rattle.send_causes.proofs.Beginnings.{all_begin}
+use Rattle.outcome_causes.proofs.HomeCalls.{none_asked}
 use Rattle.seat_programs.specs.declared.task.Sizes.{Sizes}
 use Rattle.seat_programs.specs.declared.task.Task.{Task}
-use Rattle.seat_programs.specs.Programs.{Program, Say, Sent, Rest, Keep, Retries}
+use Rattle.seat_programs.specs.Programs.{Program, Say, Sent, Keep, Retries}
 use Rattle.seat_programs.specs.Clients.{client_from, ending_of}
-use Rattle.seat_programs.specs.Readers.{reader}
 use Rattle.seat_programs.specs.Cores.{Core, SeatState, resolved, next_step}
 use Rattle.seat_programs.specs.Ticks.{Moment, AreAnswered, quiet, ticked, run}
 use Rattle.seat_programs.specs.Tasks.{opens, calls, plan_of, id_plan_of}
@@ -35,7 +35,7 @@ use Rattle.seat_programs.specs.Told.{AreTasks}
 use Rattle.sock_runs.specs.Sound.{Sound, AreFitting, views_after, views_along}
 use Rattle.sock_runs.proofs.LinkTicks.{RetriesGo}
 use Rattle.sock_runs.proofs.Ticks.{sound_ticks}
-use Rattle.sock_runs.proofs.Opening.{mapped, appended}
+use Rattle.sock_runs.proofs.Opening.{mapped}
 use Rattle.sock_runs.proofs.Whole.{Begins, AreFittingIn, closing_of, rested_of, views_played, views_closed, views_ended, set_up_answered, end_answered, set_up_sound, closing_sound, closed_sound}
 use Rattle.label_runs.specs.Labels.{Trial, Idle, Labels}
 use Rattle.label_runs.proofs.Operations.{OpCalls}
@@ -116,21 +116,9 @@ module _ (p : Plan) (q : IdPlan) (narrow : q.slots ≤ 65536) (is_call : Asked �
     none_at xs vs bare,
   )
 
-pub clients_go : (is_call : Asked → Type 0) (sizes : Sizes) (cs : List (List Task)) → ((i : ℕ) (ts : List Task) → get_elem? cs i ≡ some ts → AllByRecursion (λ (t : Task). OpCalls is_call t.op) ts) → (i : ℕ) (x : Program) → get_elem? (programs sizes cs) i ≡ some x → Labels is_call Idle x
-clients_go is_call sizes cs asks i x e = let t = mapped (client_from sizes []) cs i x e in subst (Labels is_call Idle) t.2 (client_goes is_call sizes [] t.0 (asks i t.0 t.1))
-
-pub readers_go : (is_call : Asked → Type 0) (calls os : List ℕ) (k i : ℕ) (x : Program) → get_elem? (readers_from calls k os) i ≡ some x → Labels is_call Idle x
-readers_go is_call calls [] k i x at = absurd (some-ne-none x (sym at))
-readers_go is_call calls (o ∷ os) k zero x at = subst (Labels is_call Idle) (some-injective (reader calls k o) x at) (reader_goes is_call calls k o)
-readers_go is_call calls (o ∷ os) k (suc i) x at = readers_go is_call calls os (k + 1) i x at
-
-others_go : (is_call : Asked → Type 0) (n : ℕ) (calls os : List ℕ) (k i : ℕ) (x : Program) → get_elem? (replicate n Rest ++ readers_from calls k os) i ≡ some x → Labels is_call Idle x
-others_go is_call zero calls os k i x at = readers_go is_call calls os k i x at
-others_go is_call (suc n) calls os k zero x at = subst (Labels is_call Idle) (some-injective Rest x at) tt
-others_go is_call (suc n) calls os k (suc i) x at = others_go is_call n calls os k i x at
-
 pub programs_go : (is_call : Asked → Type 0) (sizes : Sizes) (cs : List (List Task)) → ((i : ℕ) (ts : List Task) → get_elem? cs i ≡ some ts → AllByRecursion (λ (t : Task). OpCalls is_call t.op) ts) → (calls os : List ℕ) (i : ℕ) (x : Program) → get_elem? (all_programs (programs sizes cs) (readers_from calls 0 os)) i ≡ some x → Labels is_call Idle x
-programs_go is_call sizes cs asks calls os i x e = ⊎_elim (λ a. clients_go is_call sizes cs asks i x a) (λ b. others_go is_call (32 - length (programs sizes cs)) calls os 0 b.0 x b.1) (appended (programs sizes cs) (replicate (32 - length (programs sizes cs)) Rest ++ readers_from calls 0 os) i x e)
+programs_go is_call sizes cs asks calls os i x e = all_begin (Labels is_call Idle) tt calls (λ k o. reader_goes is_call calls k o) (programs sizes cs) os i x
+    (λ a. let t = mapped (client_from sizes []) cs i x a in subst (Labels is_call Idle) t.2 (client_goes is_call sizes [] t.0 (asks i t.0 t.1))) e
 
 -- at words are the operations' own in all of a run
 pub record AreLabelledIn (ids : ℕ → ℕ) (script : List Item) (turns : List Turn) (core : Core) (is : IsRunWithCalls script turns core) : Type 0 where

@@ -1,17 +1,16 @@
 -- What a whole run tells of each `open`, `send`, `hold`, `drop` and `fail`, and of the links: in runs with calls all but three things, in runs without calls all.
-use Rattle.std.proofs.Common.{◌≡◌, ◌≢◌, ℕ, zero, suc, ◌-◌, ◌*◌, ◌<◌, ◌≤◌, ◌⊎◌, true, List, [], ◌∷◌, ◌++◌, length, length-set, map, flat_map, replicate, get_or, inl, inr, ⊎_elim, refl, sym, ap, ◌∙◌, subst, arith}
+use Rattle.std.proofs.Common.{◌≡◌, ◌≢◌, ℕ, ◌-◌, ◌*◌, ◌<◌, ◌≤◌, ◌⊎◌, true, List, [], ◌∷◌, ◌++◌, length, length-set, replicate, get_or, inl, inr, ⊎_elim, refl, sym, ap, ◌∙◌, subst, arith}
 use Rattle.std.proofs.lemmas.Bool.{true≢false}
 use Rattle.std.specs.Prelude.{Contains, Option, None}
 use Rattle.std.specs.List.{AllByRecursion}
 use mathlib.Core.Logic.{dite}
-use mathlib.Core.Option.{none, some, some-injective, some-ne-none}
+use mathlib.Core.Option.{none, some}
 use native.Mathlib.Decide.{ℕ_discrete}
 use lib.ListN.{get_elem?}
 use Rattle.atomic_table.proofs.Lists.{set_else}
 use Rattle.sock_words.specs.declared.plain.Plan.{Plan}
 use Rattle.sock_model.specs.declared.view.View.{View}
 use Rattle.sock_model.specs.Layout.{place_index}
-use Rattle.sock_model.specs.Seats.{newcomer, below}
 use Rattle.sock_model.specs.Links.{Failed}
 use Rattle.brpc_model.specs.Items.{Item}
 use Rattle.brpc_model.specs.Operations.{Turn}
@@ -24,40 +23,40 @@ use Rattle.seat_programs.specs.Cores.{Core, SeatState, resolved, next_step, wait
 use Rattle.sock_words.specs.declared.kind.Kind.{Kind}
 use Rattle.seat_programs.specs.Runs.{IsAtRest, kind_in}
 use Rattle.seat_programs.specs.Tasks.{opens, calls, plan_of, id_plan_of}
-use Rattle.seat_programs.specs.Ticks.{Moment, quiet, broken_in}
-use Rattle.seat_programs.specs.Scripts.{all_tasks, opened, set_up, played, IsRunWithCalls}
+use Rattle.seat_programs.specs.Ticks.{Moment, quiet}
+use Rattle.seat_programs.specs.Scripts.{all_tasks, played, IsRunWithCalls}
 use Rattle.seat_programs.specs.Told.{AreTasks, IsTask}
 use Rattle.seat_programs.specs.ToldCalls.{Accepted, Order, Fixed, AreOrders, IsSent, InOwnOrder, IsFailing}
 use Rattle.sock_runs.specs.Sound.{state}
 use Rattle.sock_runs.proofs.Along.{seat_rests}
 use Rattle.sock_runs.proofs.Bounded.{IsBounded}
-use Rattle.sock_runs.proofs.LinkTicks.{RetriesGo}
 use Rattle.sock_runs.proofs.Quiets.{run_seats, run_rests}
-use Rattle.sock_runs.proofs.Whole.{Begins, AreFittingIn, IsOwed, IsListed, closing_of, views_played, views_closed, views_ended, end_answered, played_sound, closing_sound, closed_sound, ended_sound, rested_ahead, rested_idle, closed_ahead, recorded_closed}
-use Rattle.outcome_causes.specs.Explains.{is_plain, plain_tasks}
-use Rattle.outcome_causes.specs.Facts.{shown_in, broken_of_run, closed_before_ending, late_links_of_run, late_of_run, is_said_late, numbers_of, CallsFoundNone, ToldPlain, ToldSends}
-use Rattle.outcome_causes.specs.Losses.{closed_at, lost_in}
+use Rattle.sock_runs.proofs.Whole.{IsOwed, IsListed, closing_of, views_played, views_closed, views_ended, end_answered, played_sound, closing_sound, closed_sound, ended_sound, rested_ahead, rested_idle, closed_ahead, recorded_closed}
+use Rattle.outcome_causes.specs.Explains.{is_plain}
+use Rattle.outcome_causes.specs.Facts.{broken_of_run, closed_before_ending, late_of_run, CallsFoundNone, ToldPlain, ToldSends}
 use Rattle.outcome_causes.specs.PlainTasks.{told_tasks_of}
 use Rattle.outcome_causes.specs.Stories.{In}
 use Rattle.outcome_causes.specs.TaskCauses as causes
 use Rattle.outcome_causes.specs.TaskCauses.{ToldTasks}
-use Rattle.outcome_causes.proofs.Members.{in_contains, contains_in}
-use Rattle.outcome_causes.proofs.Lifted.{filtered_in, task_down, why_lifted, told_lifted, are_lifted, lives_lifted}
-use Rattle.outcome_causes.proofs.Plain.{in_left, in_right, in_both, in_numbers, in_all}
+use Rattle.outcome_causes.proofs.Lifted.{task_down, why_lifted, told_lifted, are_lifted, lives_lifted}
+use Rattle.outcome_causes.proofs.Plain as plain_run
+use Rattle.outcome_causes.proofs.Plain.{fixed_with}
 pub use Rattle.outcome_causes.proofs.Plain.{lost_so}
 use Rattle.outcome_causes.proofs.Scripts.{lost_of_run, lost_before, late, orders, run_tells, failed_early}
-use Rattle.call_causes.specs.programs_allowed.specs.Openings.{links_of_all, without_passes, client_view, opening_views, all_seats}
+use Rattle.call_causes.specs.programs_allowed.proofs.Fresh.{opening_claims}
+use Rattle.call_causes.specs.programs_allowed.specs.Openings.{all_seats}
 use Rattle.call_causes.specs.joint_runs.proofs.Both.{AreBounded}
 use Rattle.call_causes.specs.joint_runs.proofs.Runs.{AreMade, first_views, joint_runs, joint_bounded}
 use Rattle.call_causes.specs.owed_calls.specs.Lives.{ClosesInRun}
 use Rattle.call_causes.specs.owed_calls.proofs.Known.{run_owed_of}
 use Rattle.send_causes.specs.Sent.{IsAttempt}
 use Rattle.send_causes.proofs.Dropped.{ending_begins, ending_places, resting_places, failed_before}
-use Rattle.send_causes.proofs.Early.{start, go, fitting, known, Any, ends_anyhow, closed_keeps, first_fresh}
+use Rattle.send_causes.proofs.Early.{known, Any, ends_anyhow, closed_keeps, first_fresh}
 use Rattle.send_causes.proofs.Labelled.{ids_of_run, run_labelled}
 use Rattle.send_causes.proofs.Rests.{clients_rest}
 use Rattle.send_causes.proofs.Runs.{AreLabelledIn}
 use Rattle.send_causes.proofs.Whole.{run_orders, run_sent}
+use Rattle.send_causes.proofs.Grounds.{setting, grounds}
 use Rattle.report_fits.proofs.Lists.{all_map}
 
 before_map : {A : Type 0} (P Q : A → A → Type 0) → ((x y : A) → P x y → Q x y) → (xs : List A) → EachBefore P xs → EachBefore Q xs
@@ -68,38 +67,16 @@ first_bounded : (p : Plan) (most : ℕ) (ms : List Moment) (c : Core) (vs : List
 first_bounded p most [] c vs b = b
 first_bounded p most (m ∷ ms) c vs b = b.0
 
--- no seat has a claim as a run begins
-clients_claim : (p : Plan) (clients : List (List Task)) (i : ℕ) (v : View) → get_elem? (map (client_view p) clients) i ≡ some v → v.claims ≡ []
-clients_claim p [] i v e = absurd (some-ne-none v (sym e))
-clients_claim p (ts ∷ clients) zero v e = subst (λ (u : View). u.claims ≡ []) (some-injective (client_view p ts) v e) refl
-clients_claim p (ts ∷ clients) (suc i) v e = clients_claim p clients i v e
-
-pub opening_claims : (p : Plan) (clients : List (List Task)) (i : ℕ) (v : View) → get_elem? (opening_views p clients) i ≡ some v → v.claims ≡ []
-opening_claims p [] i v e = absurd (some-ne-none v (sym e))
-opening_claims p (ts ∷ clients) zero v e = subst (λ (u : View). u.claims ≡ []) (some-injective (newcomer p (without_passes (links_of_all clients) (below p.links)) (511 - length clients)) v e) refl
-opening_claims p (ts ∷ clients) (suc i) v e = clients_claim p clients i v e
-
 pub opening_bare : (script : List Item) (i : ℕ) (v : View) → get_elem? (first_views script) i ≡ some v → (v.claims ≡ []) × (v.lists ≡ [] ∷ [])
 opening_bare script i v at = (opening_claims (plan_of script) (all_seats (all_tasks script) (length (opens script))) i v at, first_fresh script i v at)
 
 module _ (script : List Item) (made : AreMade script) (turns : List Turn) (core : Core) (is : IsRunWithCalls script turns core) (closes : ClosesInRun script turns core is) where
-  abbrev p : Plan
-  p = plan_of script
+  open setting script use {p, vs}
 
   abbrev are : AreTasks (plan_of script) (all_tasks script)
   are = made.are
 
-  abbrev vs : List View
-  vs = first_views script
-
-  abbrev begins : Begins script (first_views script)
-  begins = start script made turns core is
-
-  abbrev goes : RetriesGo (plan_of script)
-  goes = go script made turns core is
-
-  abbrev fits : AreFittingIn script turns core is
-  fits = fitting script made turns core is
+  open grounds script made turns core is use {begins, goes, fits}
 
   pub narrow : (id_plan_of script).slots ≤ 65536
   narrow = let k = known script made turns core is in k.narrow
@@ -143,32 +120,14 @@ module _ (script : List Item) (made : AreMade script) (turns : List Turn) (core 
   module _ (early closed silent : List ℕ) (soon : List (ℕ × ℕ)) (gave : ℕ → List ℕ) (last : ℕ → ℕ) where
     -- what the run fixes
     abbrev pub fixed : Fixed
-    fixed = record {
-      broken = broken_of_run script turns core is;
-      early = early;
-      closed = closed;
-      silent = silent;
-      late = late_of_run script turns core is;
-      late_links = late_links_of_run script turns core is;
-      soon = soon;
-      fails = fails_of_run;
-    }
+    fixed = fixed_with script turns core is early closed silent soon fails_of_run
 
     lates : (c : ℕ) (t : Task) → IsTask (all_tasks script) core.outcomes c t → is_plain t.op ≡ true → late script are vs begins (first_fresh script) goes turns core is fits t.number → Contains (late_of_run script turns core is) t.number
-    lates c t it plain_ l = in_contains (late_of_run script turns core is) t.number (in_left _ _ t.number
-        (filtered_in (is_said_late script turns core is) (flat_map (numbers_of script turns core is) (all_tasks script)) t.number
-        (in_all (numbers_of script turns core is) (all_tasks script) c t.number it.0 it.1
-        (in_numbers (plain_tasks it.0) t (filtered_in (λ (t : Task). is_plain t.op) it.0 t (contains_in it.0 t it.2) plain_))) l))
+    lates = plain_run.lates script are vs begins (first_fresh script) goes turns core is fits owed early closed silent soon gave last
 
     module _ (ends_early : (k : ℕ) → In k (closed_before_ending script turns core is) → Contains early k) where
       failing : (k : ℕ) → Contains few k → Contains (broken_of_run script turns core is) k ⊎ Contains early k
-      failing k m = let ones = replicate is.setup (quiet 0) in let twos = is.scheduled ++ is.later in
-          ⊎_elim
-          (λ a. ⊎_elim (λ b. inl (in_contains (broken_of_run script turns core is) k (in_left (broken_in p (opened script) ones) _ k b)))
-          (λ b. inr (ends_early k (in_left (shown_in closed_at p (opened script) ones) _ k b))) (lost_so p (opened script) ones k a))
-          (λ a. ⊎_elim (λ b. inl (in_contains (broken_of_run script turns core is) k (in_right (broken_in p (opened script) ones) _ k (in_left (broken_in p (set_up script is.setup) twos) _ k b))))
-          (λ b. inr (ends_early k (in_right (shown_in closed_at p (opened script) ones) _ k b))) (lost_so p (set_up script is.setup) twos k a))
-          (in_both (lost_in p (opened script) ones) (lost_in p (set_up script is.setup) twos) k (contains_in few k m))
+      failing = plain_run.failing script are vs begins (first_fresh script) goes turns core is fits owed early closed silent soon gave last ends_early
 
       abbrev later : ℕ → Type 0
       later = late script are vs begins (first_fresh script) goes turns core is fits
@@ -243,15 +202,4 @@ module _ (script : List Item) (made : AreMade script) (turns : List Turn) (core 
 
         -- all that is told of a run but what is on calls
         pub run_sends : ToldSends (plan_of script) (all_tasks script) core.outcomes fixed gave orders_of_run last core
-        run_sends = let t = told_plain (λ c t u asked n it iu seeks became less op. absurd (no_call c u asked iu op)) in record {
-          are_orders = orders_are;
-          told = t.told;
-          are = t.are;
-          once = t.once;
-          lives = t.lives;
-          why = t.why;
-          again = λ c t asked it op. absurd (no_call c t asked it op);
-          sent = sends_are;
-          own_order = in_order;
-          dropped = drops;
-        }
+        run_sends = let t = told_plain (λ c t u asked n it iu seeks became less op. absurd (no_call c u asked iu op)) in record { are_orders = orders_are; told = t.told; are = t.are; once = t.once; lives = t.lives; why = t.why; again = λ c t asked it op. absurd (no_call c t asked it op); sent = sends_are; own_order = in_order; dropped = drops }

@@ -1,10 +1,9 @@
 -- Each tick keeps the law of attempts: none stands in two places, and none before it is made.
 use Rattle.std.proofs.Common.{◌≡◌, ◌≢◌, ℕ, zero, suc, ◌+◌, ◌*◌, ◌<◌, ◌≤◌, ◌⊎◌, inl, inr, ⊎_elim, Bool, true, false, cond, eqb, eqb-true, eq-eqb, List, [], ◌∷◌, ◌++◌, length-set, get_or, set, refl, sym, ap, ◌∙◌, subst, arith}
 use Rattle.std.specs.List.{AllByRecursion}
-use Rattle.std.specs.Prelude as std
 use mathlib.Core.Logic.{dite}
 use native.Mathlib.Decide.{ℕ_discrete}
-use mathlib.Core.Option.{Option, some, none, some-injective, some-ne-none}
+use mathlib.Core.Option.{Option, some, none}
 use lib.ListN.{get_elem?}
 use Rattle.atomic_table.proofs.Lists.{at_set, set_again}
 use Rattle.sock_words.specs.declared.plain.Plan.{Plan}
@@ -18,14 +17,12 @@ use Rattle.slot_steps.proofs.Sums.{term_le, total-append, total-set}
 use Rattle.corr_core.specs.Word.{parts}
 use Rattle.corr_core.specs.declared.marks.Plan.{Plan as IdPlan}
 use Rattle.id_runs.specs.Held.{IdView, MayId}
-use Rattle.id_runs.specs.Goes.{FitsRetryId, FitsSock, FindsId, IdGoesOn, SoundIds, FitsFirst, IsFittingIds}
+use Rattle.id_runs.specs.Goes.{FitsRetryId, FitsSock, FindsId, SoundIds, FitsFirst, IsFittingIds}
 use Rattle.id_runs.specs.Goes as goes
 use Rattle.id_runs.proofs.Steps.{finds_ids}
-use Rattle.id_runs.proofs.Loops.{ids_round}
-use Rattle.id_runs.proofs.Programs as id_programs
 use Rattle.seat_programs.specs.Asides.{Step, Found, PutCall, MakeId, StoreAt, UnlockId, TakeCall, TakeBytes, Taking, Bytes, call_id, id_slot, id_first}
 use Rattle.sock_message.specs.Asked.{Asked, frame_of}
-use Rattle.seat_programs.specs.Beside.{found_in, calls_after, call_at, more_given}
+use Rattle.seat_programs.specs.Beside.{found_in, calls_after}
 use Rattle.seat_programs.specs.Calls.{Call, PutMessage}
 use Rattle.seat_programs.specs.Heads.{Retry}
 use Rattle.seat_programs.specs.Programs.{Program, Do, Say, Sent, Rest, TakeMessage, TakeHome, PutHome, PutBytes, AskReady, Write, Aside, Round, Keep, Retries}
@@ -36,12 +33,13 @@ use Rattle.sock_runs.specs.Rows.{row, hand_at, took_message, link_away, link_hom
 use Rattle.sock_runs.specs.Sound.{Sound, first_step, views_after}
 use Rattle.sock_runs.proofs.Cases.{with_rights, right_rights, put_rights}
 use Rattle.outcome_causes.proofs.Cases.{tick_cases}
-use Rattle.outcome_causes.proofs.Ticks.{elem_there}
 use Rattle.sock_model.specs.ChainRows.{taken_right}
-use Rattle.label_runs.specs.Labels.{Trial, Idle, Tries, Sends, IsOfTrial, put_behind, Kept, Storing, unlocked_trial, Labels}
+use Rattle.label_runs.specs.Labels.{Trial, Idle, Tries, Sends, IsOfTrial, MayPut, put_behind, Kept, Storing, unlocked_trial, Labels}
 use Rattle.label_runs.proofs.Programs.{labels_round, block_goes, retry_goes}
 use Rattle.send_causes.specs.Counts.{pair_of, of_trial, of_retry, of_view, times_of, WasMade, WasNow, ViewFits, TrialFits, IsOfCall, LabelLaw, StoresOwn}
 use Rattle.send_causes.proofs.Words.{made_on, finds_label, words_forward, makes_new, advances_new}
+use Rattle.outcome_causes.proofs.HomeCalls.{AreCalls, PutsAsked, calls_behind}
+use Rattle.send_causes.proofs.SeatFacts.{seat_facts}
 use Rattle.send_causes.proofs.Views.{put_of, row_count, rights_count, PutsFit, row_fits, rights_fit}
 use Rattle.call_causes.proofs.Chains.{AreFewTries}
 
@@ -124,11 +122,6 @@ labels_first is_call t (Write w after) g = block_goes is_call t w after g
 labels_first is_call t (Round head next) g = labels_round is_call t head next g
 labels_first is_call t _ g = g
 
-pub ids_first : (p : Plan) (q : IdPlan) → q.slots ≤ 65536 → (u : IdView) (program : Program) → IdGoesOn p q u program → IdGoesOn p q u (first_step program)
-ids_first p q narrow u (Write w after) g = id_programs.block_goes p q narrow u w after g
-ids_first p q narrow u (Round head next) g = ids_round p q u head next g
-ids_first p q narrow u _ g = g
-
 -- what is found of a step on the sockets
 pub fits_as : (p : Plan) (c : Core) (program : Program) (call : Call) (next : ℕ → Program) → first_step program ≡ Do call next → FitsFirst p c (goes.first_of program) → FitsSock call (found_at c.words (word_of p call))
 fits_as p c program call next e f = by program e f
@@ -136,44 +129,6 @@ fits_as p c program call next e f = by program e f
     by : (program : Program) → first_step program ≡ Do call next → FitsFirst p c (goes.first_of program) → FitsSock call (found_at c.words (word_of p call))
     by (Write w after) e f = subst (FitsFirst p c) e f
     by _ e f = subst (FitsFirst p c) e f
-
--- ## Calls at home
-
-abbrev pub AreCalls : (Asked → Type 0) → Calls → Type 0
-AreCalls is_call a = (k : ℕ) (asked : Asked) → call_at (get_elem? a.homes k) ≡ some asked → is_call asked
-
-abbrev pub PutsCall : (Asked → Type 0) → Step → Type 0
-PutsCall is_call (PutCall i asked) = is_call asked
-PutsCall is_call other = Unit {0}
-
-home_is : (x : Option (Option (std.Option Asked))) (asked : Asked) → call_at x ≡ some asked → x ≡ some (some (std.Some asked))
-home_is none asked e = absurd (some-ne-none asked (sym e))
-home_is (some none) asked e = absurd (some-ne-none asked (sym e))
-home_is (some (some std.None)) asked e = absurd (some-ne-none asked (sym e))
-home_is (some (some (std.Some a))) asked e = ap (λ (z : Asked). some (some (std.Some z))) (some-injective a asked e)
-
-one_asked : (a b : Asked) → some (std.Some a) ≡ some (std.Some b) → a ≡ b
-one_asked a b e = cc
-
-abbrev pub none_asked : std.Option Asked
-none_asked = std.None
-
-no_asked : (a : Asked) → some none_asked ≡ some (std.Some a) → ⊥
-no_asked a e = cc
-
-calls_given : (is_call : Asked → Type 0) (k : ℕ) (t : Taking) (a : Calls) → AreCalls is_call a → AreCalls is_call (more_given k t a)
-calls_given is_call k (Bytes bytes) a h = h
-calls_given is_call k _ a h = h
-
-pub calls_behind : (is_call : Asked → Type 0) (x : Step) (found : Found x) (a : Calls) → PutsCall is_call x → AreCalls is_call a → AreCalls is_call (calls_after x found a)
-calls_behind is_call (PutCall i asked) found a puts h = λ n other at. ⊎_elim
-    (λ r. subst is_call (one_asked asked other r.1) puts) (λ r. h n other (ap call_at r.1))
-    (at_set a.homes i n (some (std.Some asked)) (some (std.Some other)) (home_is (get_elem? (set a.homes i (some (std.Some asked))) n) other at))
-calls_behind is_call (TakeCall i) found a puts h = λ n other at. ⊎_elim
-    (λ r. absurd (no_asked other r.1)) (λ r. h n other (ap call_at r.1))
-    (at_set a.homes i n (some std.None) (some (std.Some other)) (home_is (get_elem? (set a.homes i (some std.None)) n) other at))
-calls_behind is_call (TakeBytes k room) found a puts h = calls_given is_call k found a h
-calls_behind is_call _ found a puts h = h
 
 -- ## Retries that wait
 
@@ -190,8 +145,23 @@ pub kept_fits : (ids : ℕ → ℕ) (t u : Trial) → Kept t u → TrialFits ids
 kept_fits ids t u (inl e) f = subst (TrialFits ids) (sym e) f
 kept_fits ids t u (inr e) f = subst (TrialFits ids) (sym e) tt
 
--- ## A tick
+-- a message of a call takes the attempt with it
+pub put_count : (is_call : Asked → Type 0) (v : View) (id n : ℕ) (t : Trial) (call : Call) → MayPut is_call t call → of_trial id n (put_behind t call) + put_of v id n call ≤ of_trial id n t
+put_count is_call v id n t (PutMessage r heading bytes) may = ⊎_elim
+    (λ none_. (let z : cond (eqb heading.owner 0) 0 (pair_of id n heading.owner heading.attempt) ≡ 0 = ap (λ b. cond b 0 (pair_of id n heading.owner heading.attempt)) (eq-eqb heading.owner 0 none_.0) in omega (arith, z)))
+    (λ h. by (eqb heading.owner 0) (as_trial t h)) may
+  where
+    as_trial : (t : Trial) → IsOfTrial is_call t heading bytes → pair_of id n heading.owner heading.attempt ≤ of_trial id n t
+    as_trial (Sends o j m) h = let z : pair_of id n heading.owner heading.attempt ≡ pair_of id n j m = ap (λ (x : Heading). pair_of id n x.owner x.attempt) h.3 in omega (arith, z)
+    as_trial Idle h = absurd h
+    as_trial (Tries j m) h = absurd h
 
+    by : (b : Bool) → pair_of id n heading.owner heading.attempt ≤ of_trial id n t → 0 + cond b 0 (pair_of id n heading.owner heading.attempt) ≤ of_trial id n t
+    by true a = omega arith
+    by false a = omega (arith, a)
+put_count is_call v id n t _ may = omega arith
+
+-- ## A tick
 module _ (p : Plan) (q : IdPlan) (narrow : q.slots ≤ 65536) (is_call : Asked → Type 0) (ids : ℕ → ℕ) (c : Core) (vs : List View) (ts : List Trial) (law : LabelLaw is_call ids p q c vs ts) (us : List IdView) (real_ids : SoundIds p q c us) where
   abbrev pub After : Core → List View → Type 0
   After c' vs' = (ts' : List Trial) × LabelLaw is_call ids p q c' vs' ts'
@@ -265,23 +235,7 @@ module _ (p : Plan) (q : IdPlan) (narrow : q.slots ≤ 65536) (is_call : Asked �
       fresh = λ id n z. absurd (omega (arith, z));
     }
 
-    -- a message of a call takes the attempt with it
-    put_count : (id n : ℕ) (call : Call) → Rattle.label_runs.specs.Labels.MayPut is_call t call → of_trial id n (put_behind t call) + put_of v id n call ≤ of_trial id n t
-    put_count id n (PutMessage r heading bytes) may = ⊎_elim
-        (λ none_. (let z : cond (eqb heading.owner 0) 0 (pair_of id n heading.owner heading.attempt) ≡ 0 = ap (λ b. cond b 0 (pair_of id n heading.owner heading.attempt)) (eq-eqb heading.owner 0 none_.0) in omega (arith, z)))
-        (λ h. by (eqb heading.owner 0) (as_trial t h)) may
-      where
-        as_trial : (t : Trial) → IsOfTrial is_call t heading bytes → pair_of id n heading.owner heading.attempt ≤ of_trial id n t
-        as_trial (Sends o j m) h = let z : pair_of id n heading.owner heading.attempt ≡ pair_of id n j m = ap (λ (x : Heading). pair_of id n x.owner x.attempt) h.3 in omega (arith, z)
-        as_trial Idle h = absurd h
-        as_trial (Tries j m) h = absurd h
-
-        by : (b : Bool) → pair_of id n heading.owner heading.attempt ≤ of_trial id n t → 0 + cond b 0 (pair_of id n heading.owner heading.attempt) ≤ of_trial id n t
-        by true a = omega arith
-        by false a = omega (arith, a)
-    put_count id n _ may = omega arith
-
-    put_fits : (call : Call) → Rattle.label_runs.specs.Labels.MayPut is_call t call → PutsFit v is_call ids p fits_view call
+    put_fits : (call : Call) → MayPut is_call t call → PutsFit v is_call ids p fits_view call
     put_fits (PutMessage r heading bytes) may = ⊎_elim (λ none_. inl none_) (λ h. inr (of_t t h fits_trial)) may
       where
         of_t : (t : Trial) → IsOfTrial is_call t heading bytes → TrialFits ids t → IsOfCall is_call ids heading bytes
@@ -316,13 +270,13 @@ module _ (p : Plan) (q : IdPlan) (narrow : q.slots ≤ 65536) (is_call : Asked �
           calls = law.calls;
           view = row_fits v is_call ids p fits_view (found_at c.words (word_of p call)) (hand_at p c.words c.homes call) call may (put_fits call g.0);
           new = λ id n. 0;
-          fewer = λ id n. (let a = row_count v id n p (found_at c.words (word_of p call)) (hand_at p c.words c.homes call) call in let b = put_count id n call g.0 in let d = kept_count id n (put_behind t call) u.0 u.1 in omega (arith, a, b, d));
+          fewer = λ id n. (let a = row_count v id n p (found_at c.words (word_of p call)) (hand_at p c.words c.homes call) call in let b = put_count is_call v id n t call g.0 in let d = kept_count id n (put_behind t call) u.0 u.1 in omega (arith, a, b, d));
           fresh = λ id n z. absurd (omega (arith, z));
         }
 
     module _ (u : IdView) (at : get_elem? us i ≡ some u) where
       -- a step aside
-      module _ (step : Step) (next : Found step → Program) (found : Found step) (answer : Option Taking) (is : found_in step c.calls answer ≡ some found) (may : MayId p q u step) (puts : PutsCall is_call step) where
+      module _ (step : Step) (next : Found step → Program) (found : Found step) (answer : Option Taking) (is : found_in step c.calls answer ≡ some found) (may : MayId p q u step) (puts : PutsAsked is_call step) where
         finds : FindsId p q u step found
         finds = finds_ids p q c.calls real_ids.plan us real_ids.rule i u at (real_ids.real i u at) (real_ids.called, real_ids.placed) real_ids.homes step answer found is may
 
@@ -400,17 +354,7 @@ module _ (p : Plan) (q : IdPlan) (narrow : q.slots ≤ 65536) (is_call : Asked �
 
   -- a tick of any seat
   module _ (sound : Sound p c vs) (m : Moment) (answered : IsAnswered c m) (fitting : IsFittingIds p c m) (own : StoresOwn ids c m) where
-    trial_of : (seat : SeatState) → get_elem? c.seats m.seat ≡ some seat → (t : Trial) × (get_elem? ts m.seat ≡ some t)
-    trial_of seat at = elem_there c.seats ts m.seat seat law.each at
-
-    view_of : (seat : SeatState) → get_elem? c.seats m.seat ≡ some seat → (u : IdView) × (get_elem? us m.seat ≡ some u)
-    view_of seat at = elem_there c.seats us m.seat seat real_ids.each at
-
-    first_as : (seat : SeatState) (at : get_elem? c.seats m.seat ≡ some seat) (x : Program) → first_step seat.program ≡ x → Labels is_call (trial_of seat at).0 x
-    first_as seat at x is = let t = trial_of seat at in subst (Labels is_call t.0) is (labels_first is_call t.0 seat.program (law.programs m.seat seat t.0 at t.1))
-
-    may_as : (seat : SeatState) (at : get_elem? c.seats m.seat ≡ some seat) (x : Program) → first_step seat.program ≡ x → IdGoesOn p q (view_of seat at).0 x
-    may_as seat at x is = let u = view_of seat at in subst (IdGoesOn p q u.0) is (ids_first p q narrow u.0 seat.program (real_ids.seats m.seat seat u.0 at u.1))
+    open seat_facts (Labels is_call) (labels_first is_call) p q narrow c ts law.each law.programs us real_ids m.seat use {stand_of as trial_of, view_of, first_as, may_as}
 
     pub label_ticks : After (ticked p c m) (views_after p c vs m)
     label_ticks = tick_cases p c vs m sound answered After (ts, law, λ id n some_. inl some_)

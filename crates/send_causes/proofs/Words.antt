@@ -1,16 +1,14 @@
 -- A step aside leaves made what was made: an id word only goes forward.
-use Rattle.std.proofs.Common.{◌≡◌, ◌≢◌, ℕ, ◌+◌, ◌<◌, ◌≤◌, ◌⊎◌, inl, inr, ⊎_elim, Bool, true, false, cond, eqb, eqb-true, eq-eqb, List, [], ◌∷◌, length, set, get_or, get_or-set_same, get_or-set_other, refl, sym, ap, ◌∙◌, subst, arith}
+use Rattle.std.proofs.Common.{◌≡◌, ◌≢◌, ℕ, ◌+◌, ◌<◌, ◌≤◌, ◌⊎◌, inl, inr, ⊎_elim, Bool, true, false, cond, eqb, eqb-true, eq-eqb, List, [], length, set, get_or, get_or-set_same, get_or-set_other, refl, sym, ap, ◌∙◌, subst, arith}
 use mathlib.Core.Logic.{dite}
 use native.Mathlib.Decide.{ℕ_discrete}
 use mathlib.Core.Option.{Option, some, some-injective}
 use lib.ListN.{get_elem?}
 use Rattle.sock_words.specs.declared.plain.Plan.{Plan}
 use Rattle.corr_core.specs.Word.{Parts, parts, made_word, locked_word, posted_word, unlocked_word, free_word}
-use Rattle.corr_core.specs.Law.{Births, Local, Stands, vacant, retired, claimed, opened, locked, leaving}
 use Rattle.corr_core.specs.declared.marks.Plan.{Plan as IdPlan}
-use Rattle.corr_core.specs.declared.marks.Hand.{Hand}
 use Rattle.corr_core.specs.declared.marks.Hand.TheVariants.{Full}
-use Rattle.corr_core.specs.declared.marks.Token.TheVariants.{Claimed, Locked}
+use Rattle.corr_core.specs.declared.marks.Token.TheVariants.{Claimed}
 use Rattle.id_rule.specs.Lawful.{local, id_index, tag_index, call_index, at_index, all_words}
 use Rattle.id_rule.specs.Plays.{Longer}
 use Rattle.id_rule.proofs.Allowed as allowed
@@ -24,6 +22,7 @@ use Rattle.seat_programs.specs.Cores.{Core}
 use Rattle.seat_programs.specs.Posts.{packed, advance_of}
 use Rattle.label_runs.specs.Labels.{FindsLabel}
 use Rattle.send_causes.specs.Counts.{word_of_id, WasMade, WasNow}
+use Rattle.call_causes.specs.owed_calls.proofs.IdFacts.{claimed_free}
 use Rattle.call_causes.specs.owed_calls.proofs.Words.{Forward}
 
 abbrev pub AnyCall : Asked → Type 0
@@ -76,14 +75,6 @@ made_is first range low high = parts_packed (made_word first range) (omega arith
 
 made_forward : (found range : ℕ) → 2 ≤ range → range ≤ 8 → (parts found).state ≡ 0 → Forward (parts found) (parts (packed (made_word (parts found).first range)))
 made_forward found range low high free = inr (ap (λ (w : Parts). w.first) (made_is (parts found).first range low high), λ some_. absurd (omega (arith, free, some_)))
-
-claimed_free : (b : Births Asked) (l : Local Asked) (seen : ℕ) (h : Hand Asked) → Stands b l → l.tokens ≡ Claimed seen h ∷ [] → l.word.state ≡ 0
-claimed_free b l seen h (vacant t g s x y) has = s
-claimed_free b l seen h (retired t g s x y) has = s
-claimed_free b l seen h (claimed seen' h' t g s x y z) has = s
-claimed_free b l seen h (opened c t s live x y z) has = let e : [] ≡ Claimed seen h ∷ [] = sym t ∙ has in absurd cc
-claimed_free b l seen h (locked c x y h' t s live z w v) has = let e : Locked l.word.first l.word.range l.word.attempt c x y h' ∷ [] ≡ Claimed seen h ∷ [] = sym t ∙ has in absurd cc
-claimed_free b l seen h (leaving t g s x y) has = s
 
 module _ (p : Plan) (q : IdPlan) (c : Core) (us : List IdView) (ids : SoundIds p q c us) (i : ℕ) (u : IdView) (at : get_elem? us i ≡ some u) where
   abbrev Word : ℕ → ℕ

@@ -12,7 +12,7 @@ use Rattle.rpc_server.specs.Feeding.{has_fault, Replied}
 use Rattle.sock_io.specs.declared.link.Take.{Take}
 use Rattle.sock_io.specs.declared.link.Take.TheVariants as take_
 use Rattle.sock_io.specs.Causes.{Rose}
-use Rattle.sock_io.specs.Link.{OutState, InState, IsUnused, IsTakeCount, TakeStep, connection_of}
+use Rattle.sock_io.specs.Link.{OutState, InState, IsUnused, IsTakeCount, TakeStep, connection_of, given_of, taken_count}
 use Rattle.serve_port.specs.declared.service.Service.{Service}
 use Rattle.serve_port.specs.declared.service.ServiceEnd.{ServiceEnd}
 use Rattle.serve_port.specs.declared.service.ServiceEnd.TheVariants as end_
@@ -76,35 +76,26 @@ begins_talking c out inn u e = record {
 }
 
 -- a take that gave nothing
-pub waits : (left : ℕ) (c : Held) (out : OutState) (inn inn' : InState) (room : List ℕ) (t : Take) → Talks left c out inn → TakeStep inn inn' room t → (t ≡ take_.Empty) → Talks left c out inn'
-waits left c out inn inn' room t k s e =
-    let step = subst (TakeStep inn inn' room) e s in record {
+gave_none : (left : ℕ) (c : Held) (out : OutState) (inn inn' : InState) (room : List ℕ) (t : Take) → Talks left c out inn → TakeStep inn inn' room t → given_of room t ≡ [] → taken_count t ≡ 0 → t ≢ take_.Failed → Talks left c out inn'
+gave_none left c out inn inn' room t k s given counted fine =
+    let was = k.count in let now = s.gave in record {
       came = k.came;
       sum = k.sum;
-      gave = none_told inn.gave_bytes inn'.gave_bytes k.came step.bytes k.gave;
-      count = omega (arith, step.gave, k.count);
+      gave = none_told inn.gave_bytes inn'.gave_bytes k.came (s.bytes ∙ ap (append_known inn.gave_bytes) given) k.gave;
+      count = omega (arith, now, counted, was);
       took = k.took;
       puts = k.puts;
-      takes = step.kept (λ x. absurd (cc)) ∙ k.takes;
+      takes = s.kept fine ∙ k.takes;
       finished = k.finished;
       follows = k.follows;
       fine = k.fine;
     }
 
+pub waits : (left : ℕ) (c : Held) (out : OutState) (inn inn' : InState) (room : List ℕ) (t : Take) → Talks left c out inn → TakeStep inn inn' room t → (t ≡ take_.Empty) → Talks left c out inn'
+waits left c out inn inn' room t k s e = gave_none left c out inn inn' room t k s (ap (given_of room) e) (ap taken_count e) (λ x. cc)
+
 pub waits_closed : (left : ℕ) (c : Held) (out : OutState) (inn inn' : InState) (room : List ℕ) (t : Take) → Talks left c out inn → TakeStep inn inn' room t → (t ≡ take_.Closed) → Talks left c out inn'
-waits_closed left c out inn inn' room t k s e =
-    let step = subst (TakeStep inn inn' room) e s in record {
-      came = k.came;
-      sum = k.sum;
-      gave = none_told inn.gave_bytes inn'.gave_bytes k.came step.bytes k.gave;
-      count = omega (arith, step.gave, k.count);
-      took = k.took;
-      puts = k.puts;
-      takes = step.kept (λ x. absurd (cc)) ∙ k.takes;
-      finished = k.finished;
-      follows = k.follows;
-      fine = k.fine;
-    }
+waits_closed left c out inn inn' room t k s e = gave_none left c out inn inn' room t k s (ap (given_of room) e) (ap taken_count e) (λ x. cc)
 
 -- a piece that came and was answered
 module _ (left n : ℕ) (c c' : Held) (out out' : OutState) (inn inn' : InState) (room piece : List ℕ) (t : Take) (k : Talks left c out inn) (s : TakeStep inn inn' room t) (is : t ≡ take_.Took n) (piece_is : piece ≡ take n room) (within : length room ≤ left) where

@@ -119,19 +119,7 @@ module _ (bytes : List ℕ) (script : List Item) (reads : script_of bytes ≡ Ok
     whole k s broken = let low = link_low k s.0 s.1 in let e = end_of k low in let f = faultless k low in let x = shown.1 k e.end e.there e.is.numbered broken in let y = f.1 in let z : ⊥ = omega (arith, x, y) in z
 
     quiet : IsQuiet script turns core is fixed orders
-    quiet = record {
-      no_fail = no_fail;
-      no_end = no_end;
-      none_broken = none_broken;
-      whole = whole;
-      silent = λ k shape at none_. (unserved k shape (link_low k shape at) at none_).0;
-      few = few;
-      no_stray = no_stray;
-      unfull = unfull;
-      none_late = none_late;
-      no_late_link = timely.no_late_link;
-      in_time = timely.in_time;
-    }
+    quiet = record { no_fail = no_fail; no_end = no_end; none_broken = none_broken; whole = whole; silent = λ k shape at none_. (unserved k shape (link_low k shape at) at none_).0; few = few; no_stray = no_stray; unfull = unfull; none_late = none_late; no_late_link = timely.no_late_link; in_time = timely.in_time }
 
     early : AreEarly script turns core is fixed orders
     early k there = let e = shown.0 k there in by (gave_heard bytes script reads turns core is k e.0) e.1

@@ -1,12 +1,10 @@
 -- In the run that is reported each link that was served gave the replies to what it took, and each call's responses over a link that no `send` names are the replies to its own request.
-use Rattle.std.proofs.Common.{◌≡◌, ℕ, true, false, List, length, slice_get, option_and_then, Option, Some, None, IfSome, Ok, refl, sym, ap, ◌∙◌, subst, arith}
-use Rattle.std.specs.Prelude.{IsSome, Contains}
+use Rattle.std.proofs.Common.{◌≡◌, ℕ, List, length, slice_get, Some, Ok, refl, sym, ap, ◌∙◌, subst, arith}
+use Rattle.std.specs.Prelude.{Contains}
 use Rattle.std.specs.List.{AllByRecursion}
-use Rattle.sock_words.specs.declared.outcome.Outcome.{Outcome}
-use Rattle.sock_words.specs.declared.outcome.Outcome.TheVariants.{Opened, Answered, Peer, CallFailed}
+use Rattle.sock_words.specs.declared.outcome.Outcome.TheVariants.{Opened}
 use Rattle.brpc_model.specs.Items.{Item, Shape}
 use Rattle.brpc_model.specs.Link.{LinkEnd}
-use Rattle.brpc_model.specs.Messages.{id_at, shown_id}
 use Rattle.brpc_model.specs.Operations.{Turn}
 use Rattle.brpc_model.specs.Places.{names}
 use Rattle.brpc_model.specs.PlaceWords.{took_at}
@@ -21,7 +19,6 @@ use Rattle.report_fits.proofs.Lists.{within, has_from}
 use Rattle.report_fits.proofs.Lives as lives
 use Rattle.report_fits.proofs.Places.{known_of}
 use Rattle.report_fits.proofs.Reading.{InRange}
-use Rattle.report_fits.proofs.Reported.{is_said}
 use Rattle.report_fits.proofs.Sizes.{is_counted}
 use Rattle.report_fits.proofs.Targets.{AreThere, are_there}
 use Rattle.seat_programs.specs.declared.task.Op.TheVariants as ops
@@ -40,26 +37,8 @@ use Rattle.served_calls.specs.served_runs.specs.Served.{IsServed, took_in_all}
 use Rattle.served_calls.specs.served_runs.proofs.Model.{link_own_replies}
 use Rattle.served_calls.specs.served_runs.proofs.Served.{gives_replies}
 use Rattle.served_calls.specs.Quiet.{AreShown}
+use Rattle.served_calls.proofs.Shown.{shown_said, outcome_there, both_told}
 use Rattle.served_fits.specs.Shown.{TellTook}
-
--- the outcome that shows an id was said of its operation
-shown_said : (x : Outcome) (id : ℕ) → shown_id x ≡ Some id → is_said x ≡ true
-shown_said (Answered i payload attachment) id shows = refl
-shown_said (Peer i code) id shows = refl
-shown_said (CallFailed i code) id shows = refl
-shown_said other id shows = absurd (cc)
-
-outcome_there : (os : List Outcome) (i id : ℕ) → id_at os i ≡ Some id → (x : Outcome) × (slice_get os i ≡ Some x) × (shown_id x ≡ Some id)
-outcome_there os i id shows = by (slice_get os i) refl shows
-  where
-    by : (o : Option Outcome) → slice_get os i ≡ o → option_and_then shown_id o ≡ Some id → (x : Outcome) × (slice_get os i ≡ Some x) × (shown_id x ≡ Some id)
-    by None at e = absurd (cc)
-    by (Some x) at e = (x, at, e)
-
--- what is told both ways is the same
-both_told : (o : Option (List ℕ)) (a b : List ℕ) → IsSome o → IfSome o (λ bytes. a ≡ bytes) → IfSome o (λ bytes. bytes ≡ b) → a ≡ b
-both_told None a b some_ e f = absurd (let z : false ≡ true = some_ in cc)
-both_told (Some x) a b some_ e f = e ∙ f
 
 module _ (bytes : List ℕ) (script : List Item) (reads : script_of bytes ≡ Ok script) (turns : List Turn) (core : Core) (is : IsRunWithCalls script turns core) (closes : ClosesInRun script turns core is) (offers : OffersInRun script turns core is) (fixed : Fixed)
     (orders : ℕ → Order) (tells : ToldCalls (plan_of script) (all_tasks script) core.outcomes fixed (given core) orders core) (report : Report) (took : List (List ℕ)) (ends : List LinkEnd)
@@ -97,18 +76,7 @@ module _ (bytes : List ℕ) (script : List Item) (reads : script_of bytes ≡ Ok
 
   module _ (late : (k : ℕ) → Contains (late_links_of_run script turns core is) k → Contains fixed.late_links k) (shown : AreShown script turns core is fixed ends) where
     served : (k : ℕ) (shape : Shape) → model.IsServedLink reported k shape → IsServed script turns core is k shape
-    served k shape s = let b = s.lived in let life = made_at b.0 b.1 b.2 k b.3 in let (e, has, numbered, (unfailed, faultless, few)) = s.read in record {
-      opened = s.opened;
-      serves = s.serves;
-      name = life.name;
-      slot = life.slot;
-      version = life.version;
-      lived = life.life;
-      in_time = λ born. s.in_time (late k born);
-      whole = λ failed. let f = shown.1 k e has numbered failed in let z : ⊥ = omega (arith, f, unfailed) in z;
-      faultless = faultless;
-      few = let l = end_of k e has numbered in omega (arith, l, few);
-    }
+    served k shape s = let b = s.lived in let life = made_at b.0 b.1 b.2 k b.3 in let (e, has, numbered, (unfailed, faultless, few)) = s.read in record { opened = s.opened; serves = s.serves; name = life.name; slot = life.slot; version = life.version; lived = life.life; in_time = λ born. s.in_time (late k born); whole = λ failed. let f = shown.1 k e has numbered failed in let z : ⊥ = omega (arith, f, unfailed) in z; faultless = faultless; few = let l = end_of k e has numbered in omega (arith, l, few) }
 
     -- what is reported that it took is what it took, where the links tell it
     line_took : TellTook script ends → (k : ℕ) (shape : Shape) (line : LinkLine) → slice_get report.links k ≡ Some line → model.IsServedLink reported k shape → line.took ≡ took_in_all script turns core is k

@@ -20,7 +20,7 @@ use Rattle.send_causes.specs.Below.report_fits.proofs.Frames.{number_short, byte
 -- ## Streams of whole frames
 
 -- how many bytes a frame has
-framed_length : (meta payload attachment : List ℕ) → length (framed meta payload attachment) ≡ 12 + (length meta + length payload + length attachment)
+pub framed_length : (meta payload attachment : List ℕ) → length (framed meta payload attachment) ≡ 12 + (length meta + length payload + length attachment)
 framed_length meta payload attachment = sums (to_be_bytes w32 (length meta + length payload + length attachment)) (to_be_bytes w32 (length meta)) refl refl
   where
     sums : (x y : List ℕ) → length x ≡ 4 → length y ≡ 4 → length (magic ++ x ++ y ++ meta ++ payload ++ attachment) ≡ 12 + (length meta + length payload + length attachment)

@@ -9,6 +9,7 @@ pub mod Late
 pub mod Replies
 pub mod Opened
 pub mod Frames
+pub mod Requests
 pub mod Own
 pub mod Served
 pub mod Model

@@ -41,6 +41,7 @@ use Rattle.send_causes.proofs.AttemptedRun.{attempted_of_run}
 use Rattle.send_causes.proofs.Beside.{fixed_of_run, orders_here}
 use Rattle.send_causes.proofs.Early.{known}
 use Rattle.send_causes.proofs.Sends.{orders_are}
+use Rattle.served_runs.proofs.Requests.{IsRequestOf}
 use Rattle.served_runs.specs.Served.{request_with}
 use Rattle.served_runs.proofs.Frames.{IsPiece, piece_frames, pieces_end, IsSmall, request_is, reply_is}
 use Rattle.send_causes.specs.Below.report_fits.proofs.Lists.{all_map}
@@ -99,21 +100,8 @@ module _ (script : List Item) (made : AreMade script) (there : AreThere script) 
       subst (OpFits (plan_of script)) op (all_in (TaskFits (plan_of script)) it.0 t mine (contains_in it.0 t it.2)).1
 
   -- the frame is the request of an attempt of a call
-  pub record IsRequest (f : Frame) : Type 0 where
-    pub client : ℕ
-    pub task : Task
-    pub asked : Asked
-    pub outcome : Outcome
-    pub id : ℕ
-    pub attempt : ℕ
-    pub is_task : Task_ client task
-    pub op : task.op ≡ ops.Call asked
-    pub became : Became (all_tasks script) core.outcomes task.number outcome
-    pub shows : shown_id outcome ≡ Some id
-    pub few : attempt + 2 ≤ asked.range
-    pub tried : attempt ≤ attempts_of_run script turns core is task.number
-    pub small : IsSmall asked id attempt
-    pub frame : f ≡ request_of asked id attempt
+  abbrev pub IsRequest : Frame → Type 0
+  IsRequest f = IsRequestOf (all_tasks script) core.outcomes (attempts_of_run script turns core is) f
 
   module _ (k : ℕ) (low : k < (plan_of script).links) (unsent : (client : ℕ) (t : Task) (name slot version : ℕ) (bytes : List ℕ) → Task_ client t → t.op ≡ ops.Send name bytes → Made (all_tasks script) core.outcomes name k slot version → ⊥) where
     abbrev accepted : List Accepted

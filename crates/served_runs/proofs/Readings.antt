@@ -1,5 +1,5 @@
 -- Where the reader of a link comes to rest its reading is over: a take found its end, or what it gave ends the reading.
-use Rattle.std.proofs.Common.{◌≡◌, ℕ, ◌+◌, ◌%◌, ◌≤◌, ◌==◌, ◌&&◌, ◌||◌, ◌⊎◌, inl, inr, nat_lt, ltb-false, Bool, true, false, cond, List, [], ◌∷◌, ◌++◌, length, length-append, append-nil, append_assoc, refl, sym, ap, ◌∙◌, subst, arith}
+use Rattle.std.proofs.Common.{◌≡◌, ℕ, ◌+◌, ◌%◌, ◌≤◌, ◌==◌, ◌&&◌, ◌||◌, ◌⊎◌, inl, inr, nat_lt, ltb-false, Bool, true, false, cond, List, [], ◌∷◌, ◌++◌, length, length-append, append-nil, refl, sym, ap, ◌∙◌, subst, arith}
 use Rattle.std.proofs.lemmas.Bool.{true≢false}
 use Rattle.std.specs.Prelude.{Some, None}
 use Rattle.sock_words.specs.Words.{socket_id_version, socket_id_slot, vref_version}
@@ -17,13 +17,14 @@ use Rattle.seat_programs.specs.Cores.{resolved, next_step}
 use Rattle.sock_runs.specs.Sound.{first_step}
 use Rattle.send_causes.specs.Below.run_theorems.specs.Heard.{bytes_found}
 use Rattle.send_causes.proofs.ReaderParts.{is_of_id, is_loop, ReadsOn, PostsOn, release_on, unlocks_on, end_id_on, unlocked_on, locks_on, joins_on, responses_on, posts_on, post_each_on}
-use Rattle.send_causes.proofs.Faults.{Faults, fault_stays, fault_follows}
+use Rattle.brpc_model.specs.Causes.{HasFault}
+use Rattle.send_causes.specs.Below.call_causes.proofs.Streams.{faults_more, faults_follow, tied_more}
 
 -- ## How a reading ends
 
 -- by what the link gave: a frame fault, or as much as is read
 abbrev pub IsBad : List ℕ → Type 0
-IsBad g = Faults 0 g ⊎ (LIMIT ≤ length g)
+IsBad g = HasFault g ⊎ (LIMIT ≤ length g)
 
 -- or by a take that found so
 abbrev pub is_last : Taking → Bool
@@ -41,10 +42,10 @@ module _ (k : ℕ) where
   pub record IsReading (g : List ℕ) (r : Reading) : Type 0 where
     pub link : r.link ≡ k
     pub total : r.total ≡ length g
-    pub tied : (more : List ℕ) → Faults 0 (r.rest ++ more) → Faults 0 (g ++ more)
+    pub tied : (more : List ℕ) → HasFault (r.rest ++ more) → HasFault (g ++ more)
 
   abbrev pub EndsSo : List ℕ → Bool → Ended → Type 0
-  EndsSo g last how = IsOver g last × (how.reading.link ≡ k) × (how.fault ≡ true → Faults 0 g × (last ≡ false))
+  EndsSo g last how = IsOver g last × (how.reading.link ≡ k) × (how.fault ≡ true → HasFault g × (last ≡ false))
 
   -- where the link gave this, and a take found its end or none did so yet
   abbrev pub Goes : List ℕ → Bool → Program → Type 0
@@ -61,7 +62,7 @@ module _ (k : ℕ) where
   Goes g last (Aside (TakeBytes l room) next) = (l ≡ k) × (last ≡ false) × ((t : Taking) → Goes (g ++ bytes_found t) (last || is_last t) (next t))
   Goes g last (Aside step next) = (found : Found step) → Goes g last (next found)
   Goes g last (Round (Reads r) next) = (last ≡ false) × IsReading g r × ((how : Ended) (g' : List ℕ) (last' : Bool) → EndsSo g' last' how → Goes g' last' (next how))
-  Goes g last (Round (Discards l total) next) = (l ≡ k) × (last ≡ false) × Faults 0 g × ((n : ℕ) (g' : List ℕ) (last' : Bool) → Faults 0 g' → Goes g' last' (next n))
+  Goes g last (Round (Discards l total) next) = (l ≡ k) × (last ≡ false) × HasFault g × ((n : ℕ) (g' : List ℕ) (last' : Bool) → HasFault g' → Goes g' last' (next n))
   Goes g last (Round head next) = (exit : Exit head) → Goes g last (next exit)
   Goes g last (Keep r next) = Goes g last next
   Goes g last (Retries requests after) = ⊥
@@ -135,8 +136,8 @@ module _ (k : ℕ) where
     more_total bytes = let a = at.total in let d = length-append g bytes in omega (arith, a, d)
 
     -- a fault of the rest with what came is one of all that came
-    all_tied : (bytes more : List ℕ) → Faults 0 ((r.rest ++ bytes) ++ more) → Faults 0 ((g ++ bytes) ++ more)
-    all_tied bytes more f = subst (Faults 0) (sym (append_assoc g bytes more)) (at.tied (bytes ++ more) (subst (Faults 0) (append_assoc r.rest bytes more) f))
+    all_tied : (bytes more : List ℕ) → HasFault ((r.rest ++ bytes) ++ more) → HasFault ((g ++ bytes) ++ more)
+    all_tied bytes more f = tied_more r.rest g bytes more at.tied f
 
     abbrev with_rest : List ℕ → List Frame → ℕ → Reading
     with_rest bytes kept n = record { ids = r.ids; link = r.link; id = r.id; rest = last_of n (r.rest ++ bytes); total = r.total + length bytes; kept = kept }
@@ -145,9 +146,9 @@ module _ (k : ℕ) where
     go_read_on last' off kept bytes (streams.Rest n) is = by (nat_lt (r.total + length bytes) LIMIT) refl
       where
         by : (b : Bool) → nat_lt (r.total + length bytes) LIMIT ≡ b → Goes (g ++ bytes) last' (cond b (Round (Reads (with_rest bytes kept n)) next) (next (ended_by 1014 false false (with_rest bytes kept n))))
-        by true less = (off, record { link = at.link; total = more_total bytes; tied = λ more f. all_tied bytes more (fault_follows (r.rest ++ bytes) more n is f) }, ends)
+        by true less = (off, record { link = at.link; total = more_total bytes; tied = λ more f. all_tied bytes more (faults_follow (r.rest ++ bytes) more n is f) }, ends)
         by false most = ends (ended_by 1014 false false (with_rest bytes kept n)) (g ++ bytes) last' (inr (inr (let l = ltb-false (r.total + length bytes) LIMIT most in let t = more_total bytes in omega (arith, l, t))), at.link, λ e. absurd (true≢false (sym e)))
-    go_read_on last' off kept bytes (streams.Fault start fault) is = let f : Faults 0 (g ++ bytes) = subst (Faults 0) (append-nil (g ++ bytes)) (all_tied bytes [] (subst (Faults 0) (sym (append-nil (r.rest ++ bytes))) (start, fault, is))) in
+    go_read_on last' off kept bytes (streams.Fault start fault) is = let f : HasFault (g ++ bytes) = subst HasFault (append-nil (g ++ bytes)) (all_tied bytes [] (subst HasFault (sym (append-nil (r.rest ++ bytes))) (start, fault, is))) in
         ends (ended_by 2002 false true (with_more bytes kept)) (g ++ bytes) last' (inr (inl f), at.link, λ _. (f, off))
 
     same_reading : IsReading (g ++ []) r
@@ -165,11 +166,11 @@ module _ (k : ℕ) where
     go_took Closed = found_last true Closed refl
     go_took Broken = found_last false Broken refl
 
-  go_discarded : (g : List ℕ) (last : Bool) → last ≡ false → (l total : ℕ) (next : ℕ → Program) → l ≡ k → Faults 0 g → ((n : ℕ) (g' : List ℕ) (last' : Bool) → Faults 0 g' → Goes g' last' (next n)) → (t : Taking) → Goes (g ++ bytes_found t) (last || is_last t) (discarded l total next t)
+  go_discarded : (g : List ℕ) (last : Bool) → last ≡ false → (l total : ℕ) (next : ℕ → Program) → l ≡ k → HasFault g → ((n : ℕ) (g' : List ℕ) (last' : Bool) → HasFault g' → Goes g' last' (next n)) → (t : Taking) → Goes (g ++ bytes_found t) (last || is_last t) (discarded l total next t)
   go_discarded g last off l total next own f goes (Bytes bytes) = either_way (nat_lt (total + length bytes) LIMIT) (Round (Discards l (total + length bytes)) next) (next (total + length bytes)) (Goes (g ++ bytes) (last || false))
-      (own, ap (λ b. b || false) off, fault_stays 0 g bytes f, goes) (goes (total + length bytes) (g ++ bytes) (last || false) (fault_stays 0 g bytes f))
-  go_discarded g last off l total next own f goes Nothing = (own, ap (λ b. b || false) off, fault_stays 0 g [] f, goes)
-  go_discarded g last off l total next own f goes _ = goes total (g ++ []) (last || true) (fault_stays 0 g [] f)
+      (own, ap (λ b. b || false) off, faults_more g bytes f, goes) (goes (total + length bytes) (g ++ bytes) (last || false) (faults_more g bytes f))
+  go_discarded g last off l total next own f goes Nothing = (own, ap (λ b. b || false) off, faults_more g [] f, goes)
+  go_discarded g last off l total next own f goes _ = goes total (g ++ []) (last || true) (faults_more g [] f)
 
   -- one round of a loop
   go_round : (g : List ℕ) (last : Bool) (head : Head) (next : Exit head → Program) → Goes g last (Round head next) → Goes g last (round head next)

@@ -42,7 +42,7 @@ use Rattle.send_causes.specs.Below.call_causes.specs.Lists.{given}
 use Rattle.send_causes.proofs.Early.{Any, ends_anyhow, start, go, fitting, known, begins_at}
 use Rattle.send_causes.proofs.EndedWhole.{opened_keeps, closing_keeps, closed_keeps}
 use Rattle.send_causes.proofs.ReaderRuns.{founds, keeps_along}
-use Rattle.send_causes.proofs.RunTicks.{in_setup, in_clients, in_closing}
+use Rattle.send_causes.specs.Below.call_causes.proofs.RunTicks.{in_setup, in_clients, in_closing}
 use Rattle.served_runs.specs.Offered.{TookSoFar, offered_by, OffersInRun}
 use Rattle.served_runs.proofs.Ends.{IsOverSo, Holds}
 use Rattle.served_runs.proofs.Lasts.{Behind, lasts_along}

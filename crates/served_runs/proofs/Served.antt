@@ -79,21 +79,7 @@ module _ (script : List Item) (made : AreMade script) (there : AreThere script) 
   gives_no_fault k shape s fault = no_fault k shape s fault
 
   pub gives_call_replies : GivesCallReplies script turns core is
-  gives_call_replies k n shape frame s stands = let r = replied k shape s n frame stands in let m = r.made_so in record {
-    client = m.client;
-    task = m.task;
-    asked = m.asked;
-    outcome = m.outcome;
-    id = m.id;
-    attempt = m.attempt;
-    is_task = m.is_task;
-    op = m.op;
-    became = m.became;
-    shows = m.shows;
-    few = m.few;
-    made = m.tried;
-    replies = sym (ap reply m.frame) ∙ r.replied;
-  }
+  gives_call_replies k n shape frame s stands = let r = replied k shape s n frame stands in let m = r.made_so in record { client = m.client; task = m.task; asked = m.asked; outcome = m.outcome; id = m.id; attempt = m.attempt; is_task = m.is_task; op = m.op; became = m.became; shows = m.shows; few = m.few; made = m.tried; replies = sym (ap reply m.frame) ∙ r.replied }
 
   pub gives_own_replies : GivesOwnReplies script turns core is
   gives_own_replies k n id client shape frame t asked outcome s stands it op became shows above below =

@@ -1,5 +1,5 @@
 -- A link with the built-in server gives less than the most that is read: what it took is no more than the script's calls and sends, and the replies are little longer.
-use Rattle.std.proofs.Common.{◌≡◌, ℕ, zero, suc, ◌+◌, ◌*◌, ◌<◌, ◌≤◌, List, [], ◌∷◌, ◌++◌, length, take, drop, map, flat_map, filter_map, slice_get, slice_index_or, Option, Some, None, Ok, length-append, append-nil, append_assoc, refl, sym, ap, ◌∙◌, subst, arith}
+use Rattle.std.proofs.Common.{◌≡◌, ℕ, suc, ◌+◌, ◌*◌, ◌<◌, ◌≤◌, List, [], ◌∷◌, ◌++◌, length, take, drop, flat_map, filter_map, slice_get, slice_index_or, Option, Some, None, Ok, length-append, append-nil, append_assoc, refl, sym, ap, ◌∙◌, subst, arith}
 use Rattle.std.proofs.lemmas.Grind.{flat_map-append}
 use Rattle.std.proofs.lemmas.List.{take-append-drop}
 use Rattle.std.proofs.lemmas.Option.{slice_get_within}
@@ -8,12 +8,11 @@ use Rattle.std.specs.List.{AllByRecursion}
 use Rattle.seat_programs.specs.sock_model.specs.sock_words.specs.declared.outcome.Outcome.{Outcome}
 use Rattle.brpc_model.specs.Items.{Item, Shape, Open, Send, Call, attempts_of, opened_name, opened_shape}
 use Rattle.brpc_model.specs.Operations.{Operation, Turn, operations, link_names, link_shapes, attempts, requests}
-use Rattle.brpc_model.specs.Order.{EachBefore, IsCut}
+use Rattle.brpc_model.specs.Order.{EachBefore}
 use Rattle.brpc_model.specs.Places.{names}
 use Rattle.brpc_model.specs.Script.{script_of}
 use Rattle.brpc_model.specs.Served.{given_for}
 use Rattle.brpc_model.specs.Spelling.{number_field, bytes_field, request_bytes, where_not_0, meta_bytes}
-use Rattle.brpc_model.specs.Wire.{varint_bytes}
 use Rattle.report_fits.proofs.CallLines.{CallInRange}
 use Rattle.report_fits.proofs.LabelCounts.{Differ}
 use Rattle.report_fits.proofs.Lists.{all_at, all_from, before_from}
@@ -37,22 +36,15 @@ use Rattle.served_runs.specs.Below.call_causes.specs.Lists.{given}
 use Rattle.served_runs.specs.Offered.{OffersInRun}
 use Rattle.served_runs.specs.Served.{took_in_all}
 use Rattle.served_runs.proofs.Served.{gives_front}
+use Rattle.report_fits.proofs.Frames.{number_short, bytes_short, size_short}
+use Rattle.served_runs.proofs.Frames.{framed_length}
+use Rattle.served_runs.proofs.Own.{cut_more}
 use Rattle.served_sizes.specs.Bodies.{carried, all_carried}
 use Rattle.served_sizes.proofs.Texts.{carried_few}
-use Rattle.served_sizes.proofs.Replies.{varint_short, framed_length, replies_short}
+use Rattle.served_sizes.proofs.Replies.{replies_short}
 use Rattle.served_sizes.proofs.Weights.{weight_of, weight_at, all_few}
 
 -- ## Requests
-
-number_short : (number n : ℕ) → length (number_field number n) ≤ 20
-number_short number n = omega (arith, length-append (varint_bytes (number * 8)) (varint_bytes n), varint_short 10 (number * 8), varint_short 10 n)
-
-bytes_short : (number : ℕ) (bytes : List ℕ) → length (bytes_field number bytes) ≤ 20 + length bytes
-bytes_short number bytes = omega (arith, length-append (varint_bytes (number * 8 + 2) ++ varint_bytes (length bytes)) bytes, length-append (varint_bytes (number * 8 + 2)) (varint_bytes (length bytes)), varint_short 10 (number * 8 + 2), varint_short 10 (length bytes))
-
-size_short : (n : ℕ) → length (where_not_0 5 (pos n)) ≤ 20
-size_short zero = omega arith
-size_short (suc n) = number_short 5 (suc n)
 
 request_short : (service method : List ℕ) → length service ≤ 64 → length method ≤ 64 → length (request_bytes (record { service = service; method = method; log_id = None })) ≤ 168
 request_short service method s m = sums (bytes_field 1 service) (bytes_field 2 method) (bytes_short 1 service) (bytes_short 2 method)
@@ -86,10 +78,6 @@ shapes_many : (items : List Item) → length (filter_map opened_shape items) ≡
 shapes_many [] = refl
 shapes_many (Open name shape ∷ items) = ap suc (shapes_many items)
 shapes_many (item ∷ items) = shapes_many items
-
-cut_more : (cut : List ℕ) (next : List Accepted) → IsCut cut (map bytes_of next) → (more : List ℕ) × (cut ++ more ≡ flat_map bytes_of next)
-cut_more cut [] e = ([], append-nil cut ∙ e)
-cut_more cut (a ∷ rest) (more, some_, e) = (more ++ flat_map bytes_of rest, sym (append_assoc cut more (flat_map bytes_of rest)) ∙ ap (λ l. l ++ flat_map bytes_of rest) e)
 
 -- the messages of a link, of which it took some whole and then a cut
 taken_few : (o : Order) (took : List ℕ) → IsTaken o took → length took ≤ length (flat_map bytes_of o.accepted)

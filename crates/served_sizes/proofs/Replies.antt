@@ -3,16 +3,17 @@ use Rattle.std.proofs.Common.{◌≡◌, ℕ, zero, suc, ◌+◌, ◌-◌, ◌*�
 use Rattle.std.proofs.lemmas.List.{length-reverse}
 use Rattle.std.specs.Prelude.{codes, bytes_eq, reverse, option_map}
 use Rattle.std.specs.List.{cons_option}
-use Rattle.std.specs.Int.{w32, w64, to_be_bytes}
+use Rattle.std.specs.Int.{w64, to_be_bytes}
 use Rattle.sock_steps.proofs.Quiet.{either_way}
 use Rattle.brpc_model.specs.Items.{Shape}
 use Rattle.brpc_model.specs.Wire.{varint_up_to, varint_bytes}
 use Rattle.brpc_model.specs.Meta.{Meta, MetaFault, RequestMeta, read_meta}
 use Rattle.brpc_model.specs.Spelling.{number_field, bytes_field, response_bytes, where_not_0, meta_bytes}
-use Rattle.brpc_model.specs.Frame.{Frame, BadMagic, TooBig, MetaOver, AttachOver, Judged, NoneYet, Faulty, Begins, magic, framed, frame_bytes, high_first, matching, body_limit, with_attachment, body_judged, judged}
+use Rattle.brpc_model.specs.Frame.{Frame, BadMagic, TooBig, MetaOver, AttachOver, Judged, NoneYet, Faulty, Begins, frame_bytes, high_first, matching, body_limit, with_attachment, body_judged, judged}
 use Rattle.brpc_model.specs.Stream.{goes_on, stream_up_to}
 use Rattle.brpc_model.specs.Reply.{Answer, Gives, Refuses, echo, summing, served, response_with, answered_by, reply, reply_frames}
 use Rattle.brpc_model.specs.Served.{first_of, given_for}
+use Rattle.served_runs.proofs.Frames.{framed_length}
 
 -- ## Sizes of metas
 
@@ -30,13 +31,6 @@ id_short id = let one : length (varint_bytes 32) ≡ 1 = refl in let few = varin
 size_short : (n : ℕ) → length (where_not_0 5 (pos n)) ≤ 11
 size_short zero = omega arith
 size_short (suc n) = let one : length (varint_bytes 40) ≡ 1 = refl in let few = varint_short 10 (suc n) in let both = length-append (varint_bytes 40) (varint_bytes (suc n)) in omega (arith, one, few, both)
-
--- how many bytes a frame has
-pub framed_length : (meta payload attachment : List ℕ) → length (framed meta payload attachment) ≡ 12 + (length meta + length payload + length attachment)
-framed_length meta payload attachment = sums (to_be_bytes w32 (length meta + length payload + length attachment)) (to_be_bytes w32 (length meta)) refl refl
-  where
-    sums : (x y : List ℕ) → length x ≡ 4 → length y ≡ 4 → length (magic ++ x ++ y ++ meta ++ payload ++ attachment) ≡ 12 + (length meta + length payload + length attachment)
-    sums x y p q = omega (arith, p, q, length-append (magic ++ x ++ y ++ meta ++ payload) attachment, length-append (magic ++ x ++ y ++ meta) payload, length-append (magic ++ x ++ y) meta, length-append (magic ++ x) y, length-append magic x)
 
 -- that of a response with a code and a text that take so many bytes
 response_short : (id code : ℕ) (text payload attachment : List ℕ) (n m : ℕ) → length (bytes_field 2 (response_bytes (record { code = pos code; text = text }))) ≤ n → length (where_not_0 5 (pos (length attachment))) ≤ m

@@ -7,6 +7,7 @@ use lib.ListN.{get_elem?}
 use Rattle.sock_words.specs.declared.plain.Plan.{Plan}
 use Rattle.sock_words.specs.declared.outcome.Outcome.{Outcome}
 use Rattle.brpc_model.specs.Items.{Item}
+use Rattle.brpc_model.specs.Link.{LinkEnd}
 use Rattle.brpc_model.specs.Script.{script_of}
 use Rattle.brpc_model.specs.Operations.{clients, link_names}
 use Rattle.corr_core.specs.declared.marks.Plan.{Plan as IdPlan}
@@ -92,6 +93,10 @@ module _ {E : Type 0} (inn : E → InState) (es : List E) (l : LinksData) (inns 
 
   pub all_tell : AllByRecursion (λ (e : E). (inn e).closing ≢ None) es → TellClosing l
   all_tell all k i at = all_at (λ (i : InState). i.closing ≢ None) inn es all k i (inn_at k i at)
+
+-- the machine that begins with these parts
+abbrev pub machine_of_parts : (p : Plan) (ws : List ℕ) (letters : List (Option Letter)) (l : LinksData) (ids : SlotState) (cs : List ℕ) (ss : List SeatData) (rs : List ReaderData) (os : List ℕ) (outcomes : List (Option Outcome)) (ends : List LinkEnd) → MachineState
+machine_of_parts p ws letters l ids cs ss rs os outcomes ends = record { plan = p; words = ws; letters = letters; links = l; ids = ids; calls = cs; ending = false; seats = ss; readers = rs; opens = os; outcomes = outcomes; ends = ends; short = false }
 
 pub parts_new : (p : Plan) (q : IdPlan) (clients : List (List Task)) (cs opens : List ℕ) (l : LinksData) (ws : List ℕ) (letters : List (Option Letter)) (ids : SlotState) (ss : List SeatData) (rs : List ReaderData) (os : List (Option Outcome)) →
     AreParts p q clients cs opens ws letters l.holders l.nexts ids ss rs os → ((k : ℕ) (out : OutState) → get_elem? l.outs k ≡ core.some out → out.finished ≡ false) → AreNew p l letters

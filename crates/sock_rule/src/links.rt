@@ -34,6 +34,7 @@ impl<O: Out> RuleTable<O> {
         self.table
             .shared
             .compare_exchange_with::<TakeLast>(seat, word, 0, 0, &said);
+        drop(said);
         let slot = self.plan.requests as usize + link as usize;
         let value = self.table.shared.exchange(seat, slot, SockHome::Empty);
         let SockHome::Link(home) = value else {
@@ -56,6 +57,7 @@ impl<O: Out> RuleTable<O> {
         self.table
             .shared
             .compare_exchange_with::<SpendPass>(seat, 0, 0, 0, &said);
+        drop(said);
         let slot = self.plan.requests as usize + link as usize;
         let value = self.table.shared.exchange(seat, slot, SockHome::Empty);
         let SockHome::Link(home) = value else {
@@ -81,6 +83,7 @@ impl<O: Out> RuleTable<O> {
         let SockHome::Empty = place else {
             unreachable!();
         };
+        drop(place);
         self.table.shared.load::<PutLink>(seat, 0);
     }
 }

@@ -41,6 +41,7 @@ impl<O: Out> RuleTable<O> {
         self.table
             .shared
             .compare_exchange_with::<TakeOwn>(seat, word, 0, 0, &said);
+        drop(said);
         let slot = self.plan.requests as usize + link as usize;
         let value = self.table.shared.exchange(seat, slot, SockHome::Empty);
         let SockHome::Link(home) = value else {
@@ -131,6 +132,7 @@ impl<O: Out> RuleTable<O> {
         let SockHome::Empty = empty else {
             unreachable!();
         };
+        drop(empty);
         let word = 6 * self.plan.slots as usize
             + self.plan.names as usize
             + self.plan.operations as usize
@@ -191,6 +193,7 @@ impl<O: Out> RuleTable<O> {
         let SockHome::Empty = place else {
             unreachable!();
         };
+        drop(place);
         self.table.shared.load::<PutOwn>(seat, 0);
     }
 

@@ -1,4 +1,4 @@
-use Rattle.std.proofs.Common.{◌≡◌, refl, false, map, length, vec_capacity, ap, sym, ◌∙◌, arith}
+use Rattle.std.proofs.Common.{◌≡◌, refl, map, length, vec_capacity, ap, sym, ◌∙◌, arith}
 use Rattle.std.proofs.lemmas.List.{length-map}
 use Rattle.sock_io.specs.Link.{end_of}
 use Rattle.seat_programs.specs.Cores.{Calls}
@@ -7,7 +7,7 @@ use Rattle.sock_core.specs.Links.{LinksData}
 use Rattle.sock_core.specs.Letters.{letters_in}
 use Rattle.sock_core.specs.Machines.{MachineState}
 use Rattle.sock_core.proofs.Starting.{begins_core, machine_begins}
-use Rattle.sock_core.proofs.Making.{all_open, nothing_taken, nothing_given, none_closing, all_tell, all_prompt, parts_new, begins_plain}
+use Rattle.sock_core.proofs.Making.{all_open, nothing_taken, nothing_given, none_closing, all_tell, all_prompt, machine_of_parts, parts_new, begins_plain}
 use Rattle.sock_core.proofs.machine.Machine.start.Goals as goal
 
 pub parts_of-requires : goal.parts_of-requires
@@ -21,21 +21,7 @@ invariant_of-result g c =
     let clients = map (λ tasks. tasks.items) c.args.wanted.clients.items in
     let parts = c.in-Ok.ensures.parts c.args.wanted.calls.items in
     let l : LinksData = record { holders = c.in-Ok.parts.holders.items; nexts = c.in-Ok.parts.nexts.items; outs = map (λ e. g.O.Out.state e.out) c.args.ends.items; inns = map (λ e. g.I.In.state e.inn) c.args.ends.items } in
-    let m : MachineState = record {
-      plan = c.args.wanted.plan;
-      words = c.in-Ok.parts.words.items;
-      letters = letters_in c.in-Ok.parts.letters.items;
-      links = l;
-      ids = c.in-Ok.parts.ids;
-      calls = c.args.wanted.calls.items;
-      ending = false;
-      seats = map seat_data c.in-Ok.parts.seats.items;
-      readers = c.in-Ok.parts.readers.items;
-      opens = c.args.wanted.opens.items;
-      outcomes = c.in-Ok.parts.outcomes.items;
-      ends = map (λ e. end_of (g.O.Out.state e.out) (g.I.In.state e.inn)) c.args.ends.items;
-      short = false;
-    } in
+    let m : MachineState = machine_of_parts c.args.wanted.plan c.in-Ok.parts.words.items (letters_in c.in-Ok.parts.letters.items) l c.in-Ok.parts.ids c.args.wanted.calls.items (map seat_data c.in-Ok.parts.seats.items) c.in-Ok.parts.readers.items c.args.wanted.opens.items c.in-Ok.parts.outcomes.items (map (λ e. end_of (g.O.Out.state e.out) (g.I.In.state e.inn)) c.args.ends.items) in
     let ids = ap (λ (a : Calls). a.plan) (parts.ids_are 0) in
     let new_ = parts_new c.args.wanted.plan c.args.wanted.id_plan clients c.args.wanted.calls.items c.args.wanted.opens.items l _ m.letters _ _ _ _ parts (all_open (λ e. g.O.Out.state e.out) c.args.ends.items l refl c.requires.fresh) in
     let many = length-map c.args.wanted.clients.items (λ tasks. tasks.items) in
@@ -57,24 +43,9 @@ returns-clause-core g c =
     let clients = map (λ tasks. tasks.items) c.args.wanted.clients.items in
     let parts = c.in-Ok.ensures.parts c.args.wanted.calls.items in
     let l : LinksData = record { holders = c.in-Ok.parts.holders.items; nexts = c.in-Ok.parts.nexts.items; outs = map (λ e. g.O.Out.state e.out) c.args.ends.items; inns = map (λ e. g.I.In.state e.inn) c.args.ends.items } in
-    let m : MachineState = record {
-      plan = c.args.wanted.plan;
-      words = c.in-Ok.parts.words.items;
-      letters = letters_in c.in-Ok.parts.letters.items;
-      links = l;
-      ids = c.in-Ok.parts.ids;
-      calls = c.args.wanted.calls.items;
-      ending = false;
-      seats = map seat_data c.in-Ok.parts.seats.items;
-      readers = c.in-Ok.parts.readers.items;
-      opens = c.args.wanted.opens.items;
-      outcomes = c.in-Ok.parts.outcomes.items;
-      ends = map (λ e. end_of (g.O.Out.state e.out) (g.I.In.state e.inn)) c.args.ends.items;
-      short = false;
-    } in
-    let ids = ap (λ (a : Calls). a.plan) (parts.ids_are 0) in
+    let m : MachineState = machine_of_parts c.args.wanted.plan c.in-Ok.parts.words.items (letters_in c.in-Ok.parts.letters.items) l c.in-Ok.parts.ids c.args.wanted.calls.items (map seat_data c.in-Ok.parts.seats.items) c.in-Ok.parts.readers.items c.args.wanted.opens.items c.in-Ok.parts.outcomes.items (map (λ e. end_of (g.O.Out.state e.out) (g.I.In.state e.inn)) c.args.ends.items) in
     let new_ = parts_new c.args.wanted.plan c.args.wanted.id_plan clients c.args.wanted.calls.items c.args.wanted.opens.items l _ m.letters _ _ _ _ parts (all_open (λ e. g.O.Out.state e.out) c.args.ends.items l refl c.requires.fresh) in
-    begins_core c.args.wanted.plan c.args.wanted.id_plan clients m c.requires.for_ refl ids new_ parts.words_are parts.seats_are parts.readers_are parts.ids_are refl parts.outcomes_are
+    begins_core c.args.wanted.plan c.args.wanted.id_plan clients m c.requires.for_ refl (ap (λ (a : Calls). a.plan) (parts.ids_are 0)) new_ parts.words_are parts.seats_are parts.readers_are parts.ids_are refl parts.outcomes_are
 
 pub returns-clause-agrees : goal.returns-clause-agrees
 returns-clause-agrees g c =
@@ -86,24 +57,9 @@ returns-clause-plain g c =
     let clients = map (λ tasks. tasks.items) c.args.wanted.clients.items in
     let parts = c.in-Ok.ensures.parts c.args.wanted.calls.items in
     let l : LinksData = record { holders = c.in-Ok.parts.holders.items; nexts = c.in-Ok.parts.nexts.items; outs = map (λ e. g.O.Out.state e.out) c.args.ends.items; inns = map (λ e. g.I.In.state e.inn) c.args.ends.items } in
-    let m : MachineState = record {
-      plan = c.args.wanted.plan;
-      words = c.in-Ok.parts.words.items;
-      letters = letters_in c.in-Ok.parts.letters.items;
-      links = l;
-      ids = c.in-Ok.parts.ids;
-      calls = c.args.wanted.calls.items;
-      ending = false;
-      seats = map seat_data c.in-Ok.parts.seats.items;
-      readers = c.in-Ok.parts.readers.items;
-      opens = c.args.wanted.opens.items;
-      outcomes = c.in-Ok.parts.outcomes.items;
-      ends = map (λ e. end_of (g.O.Out.state e.out) (g.I.In.state e.inn)) c.args.ends.items;
-      short = false;
-    } in
-    let ids = ap (λ (a : Calls). a.plan) (parts.ids_are 0) in
+    let m : MachineState = machine_of_parts c.args.wanted.plan c.in-Ok.parts.words.items (letters_in c.in-Ok.parts.letters.items) l c.in-Ok.parts.ids c.args.wanted.calls.items (map seat_data c.in-Ok.parts.seats.items) c.in-Ok.parts.readers.items c.args.wanted.opens.items c.in-Ok.parts.outcomes.items (map (λ e. end_of (g.O.Out.state e.out) (g.I.In.state e.inn)) c.args.ends.items) in
     let new_ = parts_new c.args.wanted.plan c.args.wanted.id_plan clients c.args.wanted.calls.items c.args.wanted.opens.items l _ m.letters _ _ _ _ parts (all_open (λ e. g.O.Out.state e.out) c.args.ends.items l refl c.requires.fresh) in
-    begins_plain m c.args.wanted.plan c.args.wanted.id_plan clients refl ids c.requires.for_.are parts.seats_are
+    begins_plain m c.args.wanted.plan c.args.wanted.id_plan clients refl (ap (λ (a : Calls). a.plan) (parts.ids_are 0)) c.requires.for_.are parts.seats_are
 
 pub returns-clause-plan : goal.returns-clause-plan
 returns-clause-plan g c = (refl, ap (λ (a : Calls). a.plan) ((c.in-Ok.ensures.parts c.args.wanted.calls.items).ids_are 0))

@@ -1,0 +1,61 @@
+-- A run in which nothing went wrong, where each link has the server: the script, the run, and what is told and reported of it.
+use Rattle.std.proofs.Common.{◌≡◌, ℕ, ◌≤◌, List, length, Ok}
+use Rattle.std.specs.List.{AllByRecursion}
+use Rattle.std.specs.Prelude.{IsTrue, Contains}
+use Rattle.brpc_model.specs.Complete.{IsUntroubled}
+use Rattle.brpc_model.specs.Items.{Item, Shape, Open}
+use Rattle.brpc_model.specs.Link.{LinkEnd}
+use Rattle.brpc_model.specs.Operations.{Turn}
+use Rattle.brpc_model.specs.Report.{Report}
+use Rattle.brpc_model.specs.Script.{script_of}
+use Rattle.report_fits.specs.Ends.{AreEndsOf, AreTold}
+use Rattle.report_fits.proofs.Reading.{InRange}
+use Rattle.report_fits.proofs.Sizes.{is_counted}
+use Rattle.report_fits.proofs.Targets.{AreThere, are_there}
+use Rattle.seat_programs.specs.Cores.{Core}
+use Rattle.seat_programs.specs.Scripts.{Reports, all_tasks, IsRunWithCalls}
+use Rattle.seat_programs.specs.Tasks.{plan_of}
+use Rattle.seat_programs.specs.ToldCalls.{Order, Fixed, ToldCalls}
+use Rattle.outcome_causes.specs.Facts.{broken_of_run}
+use Rattle.owed_calls.specs.joint_runs.proofs.Runs.{AreMade}
+use Rattle.owed_calls.specs.Lives.{ClosesInRun}
+use Rattle.served_fits.specs.Below.run_theorems.proofs.Starts.{made}
+use Rattle.served_fits.specs.Below.call_causes.specs.Lists.{given}
+use Rattle.served_fits.specs.served_runs.specs.Offered.{OffersInRun}
+use Rattle.served_fits.specs.served_calls.specs.Quiet.{AreShown}
+
+pub record CalmRun : Type 0 where
+  pub bytes : List ℕ
+  pub script : List Item
+  pub reads : script_of bytes ≡ Ok script
+  pub short : length bytes ≤ 1048576
+  pub turns : List Turn
+  pub core : Core
+  pub is : IsRunWithCalls script turns core
+  pub closes : ClosesInRun script turns core is
+  pub offers : OffersInRun script turns core is
+  pub fixed : Fixed
+  pub orders : ℕ → Order
+  pub tells : ToldCalls (plan_of script) (all_tasks script) core.outcomes fixed (given core) orders core
+  pub report : Report
+  pub took : List (List ℕ)
+  pub ends : List LinkEnd
+  pub reports : Reports script core took report
+  pub told : AreTold ends took
+  pub given_back : AreEndsOf script core fixed (given core) ends
+  pub shown : AreShown script turns core is fixed ends
+  pub breaks : (k : ℕ) → Contains (broken_of_run script turns core is) k → Contains fixed.broken k
+  pub served : (name : List ℕ) (shape : Shape) → Contains script (Open name shape) → IsTrue shape.serve
+  pub untroubled : IsUntroubled script ends
+
+module _ (calm : CalmRun) where
+  open calm use {bytes, script, reads}
+
+  abbrev pub are_made : AreMade script
+  are_made = made bytes script reads
+
+  abbrev pub targets : AreThere script
+  targets = are_there bytes script reads
+
+  abbrev pub range : AllByRecursion InRange script
+  range = (is_counted bytes script reads).in_range
