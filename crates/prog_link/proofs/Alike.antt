@@ -11,6 +11,10 @@ pub count_most : (k : Kind) (specs : List LinkSpec) → count_kind k specs ≤ l
 count_most k [] = omega arith
 count_most k (s ∷ more) = let a = counted (is_kind k (kind_asked s.mode)) (count_kind k more) in let b = count_most k more in omega arith
 
+-- of no links none is
+pub none_counted : (k : Kind) (specs : List LinkSpec) → specs ≡ [] → count_kind k specs ≡ 0
+none_counted k specs none = ap (count_kind k) none
+
 step_all : (b c : Bool) (n l : ℕ) → n ≤ l → (if b then 1 else 0) + n ≡ l + 1 → (n ≡ l → c ≡ true) → b && c ≡ true
 step_all true c n l most e rest = rest (omega arith)
 step_all false c n l most e rest = absurd (omega arith)

@@ -56,6 +56,7 @@ impl<N: Net<Stream = TcpStream, Listener = TcpListener> + Drop> Model for ProgLi
 
 impl<N: Net<Stream = TcpStream, Listener = TcpListener> + Drop> ProgLinker<N> {
     /// A linker that opened and accepted nothing yet, over this network. It takes no memory.
+    #[tactic(auto, using(crate::proofs::Alike::none_counted))]
     pub fn new(net: N, alloc: Global) -> Self
         ensures { result ≡ record { asked = []; accepted = 0; back = []; done = []; faults = 0 } }
     {
@@ -114,7 +115,12 @@ impl<N: Net<Stream = TcpStream, Listener = TcpListener> + Drop> ProgLinker<N> {
             return Err(OpenFault::NoMemory);
         };
         let Ends { out, inn, peer } = ends;
-        match Shaped::new(self.alloc, out, Shape::asked(spec)) {
+        let shape = Shape {
+            piece: spec.piece,
+            again: spec.again,
+            fail: spec.fail,
+        };
+        match Shaped::new(self.alloc, out, shape) {
             Ok(out) => {
                 self.over_rings += 1;
                 self.notes.ask(spec);

@@ -1,5 +1,5 @@
 use Rattle.std.proofs.Common.{rules, arith, ◌≡◌, ◌++◌, ◌∷◌, [], inl, inr, false, refl, ap, sym, subst}
-use Rattle.sock_io.specs.Linker.{MemLinksState}
+use Rattle.sock_io.specs.Linker.{MemLinksState, NotedLinksState}
 use Rattle.prog_link.specs.Linker.{ProgLinkerState, InMemory, OverRings, OverTcp, are_kind}
 use Rattle.prog_link.proofs.Alike.{memory_alone, memory_not, one_longer, same_more, other_more}
 use Rattle.prog_link.proofs.prog_linker.ProgLinker.open_loop.Goals as goal
@@ -19,16 +19,16 @@ returns-in_err-out-clause-others g c others =
 pub invariant_of-self-2 : goal.invariant_of-self-2
 invariant_of-self-2 g c =
     let s = c.self.inside in let i = c.self.invariant in let spec = c.args.spec.now in
-    let more : c.ask.new.self.notes.asked ≡ s.notes.asked ++ spec ∷ [] = search rules in
-    let a = one_longer s.notes.asked c.ask.new.self.notes.asked spec more in let n = i.0 in
+    let more : c.ask.new.self.asked ≡ s.notes.asked ++ spec ∷ [] = ap (λ (n : NotedLinksState). n.asked) c.ask.ensures in
+    let a = one_longer s.notes.asked c.ask.new.self.asked spec more in let n = i.0 in
     let b = one_longer s.loops.asked c.open.new.self.asked spec (ap (λ (l : MemLinksState). l.asked) c.in_ok-out.ensures.linker) in let m = i.1 in (
       omega (arith, a, n),
       omega (arith, b, m),
       i.2,
       search rules,
-      same_more InMemory s.notes.asked c.ask.new.self.notes.asked spec s.in_memory more i.4 InMemory c.requires.mode refl,
-      other_more OverRings s.notes.asked c.ask.new.self.notes.asked spec s.over_rings more i.5 InMemory c.requires.mode refl,
-      other_more OverTcp s.notes.asked c.ask.new.self.notes.asked spec s.over_tcp more i.6 InMemory c.requires.mode refl,
+      same_more InMemory s.notes.asked c.ask.new.self.asked spec s.in_memory more i.4 InMemory c.requires.mode refl,
+      other_more OverRings s.notes.asked c.ask.new.self.asked spec s.over_rings more i.5 InMemory c.requires.mode refl,
+      other_more OverTcp s.notes.asked c.ask.new.self.asked spec s.over_tcp more i.6 InMemory c.requires.mode refl,
     )
 
 pub returns-clause-others : goal.returns-clause-others

@@ -1,4 +1,5 @@
 use Rattle.std.proofs.Common.{rules, arith, ◌≡◌, ◌++◌, ◌∷◌, [], inl, inr, false, refl, ap, sym, subst}
+use Rattle.sock_io.specs.Linker.{NotedLinksState}
 use Rattle.prog_link.specs.Linker.{ProgLinkerState, InMemory, OverRings, OverTcp, are_kind}
 use Rattle.prog_link.proofs.Alike.{rings_alone, rings_not, one_longer, same_more, other_more}
 use Rattle.prog_link.proofs.prog_linker.ProgLinker.open_rings.Goals as goal
@@ -18,15 +19,15 @@ returns-in_default-clause-others g c others =
 pub invariant_of-self : goal.invariant_of-self
 invariant_of-self g c =
     let s = c.self.inside in let i = c.self.invariant in let spec = c.args.spec.now in
-    let more : c.ask.new.self.notes.asked ≡ s.notes.asked ++ spec ∷ [] = search rules in
-    let a = one_longer s.notes.asked c.ask.new.self.notes.asked spec more in let n = i.0 in (
+    let more : c.ask.new.self.asked ≡ s.notes.asked ++ spec ∷ [] = ap (λ (n : NotedLinksState). n.asked) c.ask.ensures in
+    let a = one_longer s.notes.asked c.ask.new.self.asked spec more in let n = i.0 in (
       omega (arith, a, n),
       i.1,
       i.2,
       i.3,
-      other_more InMemory s.notes.asked c.ask.new.self.notes.asked spec s.in_memory more i.4 OverRings c.requires.mode refl,
-      same_more OverRings s.notes.asked c.ask.new.self.notes.asked spec s.over_rings more i.5 OverRings c.requires.mode refl,
-      other_more OverTcp s.notes.asked c.ask.new.self.notes.asked spec s.over_tcp more i.6 OverRings c.requires.mode refl,
+      other_more InMemory s.notes.asked c.ask.new.self.asked spec s.in_memory more i.4 OverRings c.requires.mode refl,
+      same_more OverRings s.notes.asked c.ask.new.self.asked spec s.over_rings more i.5 OverRings c.requires.mode refl,
+      other_more OverTcp s.notes.asked c.ask.new.self.asked spec s.over_tcp more i.6 OverRings c.requires.mode refl,
     )
 
 pub returns-in-Ok-new-clause-others : goal.returns-in-Ok-new-clause-others

@@ -1,4 +1,5 @@
 use Rattle.std.proofs.Common.{rules, arith, ◌≡◌, ◌++◌, ◌∷◌, [], false, refl, ap, sym, subst}
+use Rattle.sock_io.specs.Linker.{NotedLinksState}
 use Rattle.net_link.specs.Linker.{TcpLinkerState}
 use Rattle.prog_link.specs.Linker.{ProgLinkerState, InMemory, OverRings, OverTcp, are_kind}
 use Rattle.prog_link.proofs.Alike.{tcp_alone, one_longer, same_more, other_more}
@@ -12,16 +13,16 @@ returns-in_err-out-clause-others g c others =
 pub invariant_of-self-2 : goal.invariant_of-self-2
 invariant_of-self-2 g c =
     let s = c.self.inside in let i = c.self.invariant in let spec = c.args.spec.now in
-    let more : c.ask.new.self.notes.asked ≡ s.notes.asked ++ spec ∷ [] = search rules in
-    let a = one_longer s.notes.asked c.ask.new.self.notes.asked spec more in let n = i.0 in
+    let more : c.ask.new.self.asked ≡ s.notes.asked ++ spec ∷ [] = ap (λ (n : NotedLinksState). n.asked) c.ask.ensures in
+    let a = one_longer s.notes.asked c.ask.new.self.asked spec more in let n = i.0 in
     let b = one_longer s.streams.asked c.open.new.self.asked spec (ap (λ (l : TcpLinkerState). l.asked) c.in_ok-out.ensures.linker) in let m = i.2 in (
       omega (arith, a, n),
       i.1,
       omega (arith, b, m),
       i.3,
-      other_more InMemory s.notes.asked c.ask.new.self.notes.asked spec s.in_memory more i.4 OverTcp c.requires.mode refl,
-      other_more OverRings s.notes.asked c.ask.new.self.notes.asked spec s.over_rings more i.5 OverTcp c.requires.mode refl,
-      same_more OverTcp s.notes.asked c.ask.new.self.notes.asked spec s.over_tcp more i.6 OverTcp c.requires.mode refl,
+      other_more InMemory s.notes.asked c.ask.new.self.asked spec s.in_memory more i.4 OverTcp c.requires.mode refl,
+      other_more OverRings s.notes.asked c.ask.new.self.asked spec s.over_rings more i.5 OverTcp c.requires.mode refl,
+      same_more OverTcp s.notes.asked c.ask.new.self.asked spec s.over_tcp more i.6 OverTcp c.requires.mode refl,
     )
 
 pub returns-clause-others : goal.returns-clause-others

@@ -2,7 +2,7 @@ use Rattle.std.proofs.Common.{◌≡◌, ℕ, ◌-◌, ◌≤◌, List, [], fals
 use Rattle.std.specs.Io.KnownBytes.{Consumes}
 use Rattle.brpc_model.specs.Frame.{NoneYet, judged}
 use Rattle.frame_print.specs.Cutting.{CutPrinted}
-use Rattle.frame_print.proofs.print.print_all.Given as goal
+use Rattle.frame_print.proofs.print.print_each.Given as goal
 
 abbrev pub invariant-loop-read : goal.invariant-loop-read
 invariant-loop-read g l = record {
