@@ -18,7 +18,7 @@ use sock_words::{Outcome, PlaceWord};
 use std::alloc::{AllocError, Global};
 
 /// What is printed of a run.
-#[derive(Clone, Copy, Debug, PartialEq, Eq)]
+#[derive(Clone, Copy)]
 pub enum Print {
     /// Its report.
     Report,
