@@ -5,7 +5,7 @@ use mathlib.Core.Logic.{dite}
 use native.Mathlib.Decide.{ℕ_discrete, dec_lt}
 use Rattle.corr_core.specs.Law.{total, pair, is_advance, is_attempt}
 use Rattle.corr_core.specs.declared.marks.Note.{Note}
-use Rattle.corr_core.specs.declared.marks.Note.TheVariants.{Tried, Attempt}
+use Rattle.corr_core.specs.declared.marks.Note.TheVariants.{Attempt}
 use Rattle.corr_core.specs.declared.marks.Noted.{Noted}
 use Rattle.corr_core.proofs.Notes.{only_le, only-else, pair-same, pair-at, pair-else, pair-else_first}
 use Rattle.id_rule.specs.Lawful.{notes_of}
@@ -40,13 +40,12 @@ module _ (o : ℕ) (all : List (Noted Asked)) where
   counts f n x slot s y made = (λ i. advanced_to o (notes_of (s i) all) (y i)) ∙ ap (λ (b : Bool). cond b 0 n) (ne_eqb (total (is_made_for f o) (notes_of slot all)) 0 (λ z. omega (arith, z, made)))
 
   counted_by : (slot : ℕ) (y : Note Asked) → 0 < advanced_to o (notes_of slot all) y → (f : ℕ) × (y ≡ Attempt f (advanced_to o (notes_of slot all) y)) × (0 < total (is_made_for f o) (notes_of slot all))
-  counted_by slot Tried h = absurd (omega arith)
-  counted_by slot _ h = absurd (omega arith)
   counted_by slot (Attempt f m) h =
       let made : ℕ = total (is_made_for f o) (notes_of slot all) in
       dite (ℕ_discrete made 0)
       (λ z. absurd (let e : cond (eqb made 0) 0 m ≡ 0 = ap (λ (b : Bool). cond b 0 m) (eq-eqb made 0 z) in omega arith))
       (λ ne. (f, ap (Attempt f) (sym (ap (λ (b : Bool). cond b 0 m) (ne_eqb made 0 ne))), omega arith))
+  counted_by slot _ h = absurd (omega arith)
 
   -- none of these advances goes further
   pub none_further : (slot f n : ℕ) (ns : List (Noted Asked)) → 0 < total (is_made_for f o) (notes_of slot all) → 0 < total (is_attempt f n) (notes_of slot ns) → n ≤ last_among o all ns

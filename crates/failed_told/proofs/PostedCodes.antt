@@ -106,7 +106,6 @@ module _ {O : Type 0} {g : Ghosts O} {state : O → OutState} {readers : List (L
 
     by_answer : (answer : Posted Asked) → outcome.Crowded a b ≡ outcome_by answer → PostedAs slots answer (found_id q of h.id m.done.made.ready.calls) h.id ERPCTIMEDOUT None m.done.after.has.calls → PostedHere a × PostedHere b
     by_answer (HasLock k) e x = absurd (cc)
-    by_answer _ e x = absurd (cc)
     by_answer (Crowded first second) e x =
         let same = same_codes a b first second e in let word = x.post.1.0 in let was = x.post.1.1 in
         let saw = seen word x.view m.done.made.ready.calls.books x.handled was.0 in let taken : 0 < (parts word).state = (let s = was.2 in omega (arith, s)) in
@@ -115,6 +114,7 @@ module _ {O : Type 0} {g : Ghosts O} {state : O → OutState} {readers : List (L
           subst PostedHere (was.5 ∙ same.0) (queued_posted (slot_of h.id) (parts word).first (parts word).oldest oldest),
           subst PostedHere (was.6 ∙ same.1) (queued_posted (slot_of h.id) (parts word).first (parts word).second younger),
         )
+    by_answer _ e x = absurd (cc)
 
     -- both codes of a crowded id are posted
     pub crowded_posted : PostedHere a × PostedHere b
