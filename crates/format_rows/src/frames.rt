@@ -123,12 +123,15 @@ pub fn served(alloc: Global, bytes: &[u8], size: usize) -> Result<String, AllocE
 }
 
 /// How printing them ends.
-fn ended(
-    alloc: Global,
-    source: &mut MemSource,
-    out: &mut MemSink,
-) -> Result<StreamEnd, PrintFault> {
-    print_frames(alloc, source, out)
+fn ended(alloc: Global, source: &mut MemSource, out: &mut MemSink) -> &'static str {
+    match print_frames(alloc, source, out) {
+        Ok(StreamEnd::Rest) => "Ok(Rest)",
+        Ok(StreamEnd::Fault) => "Ok(Fault)",
+        Err(PrintFault::Source) => "Err(Source)",
+        Err(PrintFault::Sink) => "Err(Sink)",
+        Err(PrintFault::TooLong) => "Err(TooLong)",
+        Err(PrintFault::NoMemory) => "Err(NoMemory)",
+    }
 }
 
 /// How a stream of these bytes is printed where there is so much room, and how it ends.
@@ -139,7 +142,7 @@ pub fn printed(alloc: Global, bytes: Vec<u8>, room: usize) -> Result<String, All
     };
     let ended = ended(alloc, &mut source, &mut out);
     match str::from_utf8(out.bytes()) {
-        Ok(text) => format!(in alloc; "{text}{ended:?}"),
+        Ok(text) => format!(in alloc; "{text}{ended}"),
         Err(_) => String::from_str(alloc, "no text"),
     }
 }
