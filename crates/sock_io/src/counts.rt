@@ -23,7 +23,7 @@ pub(crate) fn is_listed(numbers: &[u64], number: u64) -> bool
     numbers.contains(&number)
 }
 
-/// The same among numbers of 32 bits.
+/// Whether the number stands among these, which are of 32 bits.
 pub fn is_counted(numbers: &[u32], number: u64) -> bool
     ensures { IsTrue result ↔ Contains numbers.now number }
 {
