@@ -1,4 +1,5 @@
-ghost use Rattle.std.specs.Prelude.{◌≡◌, ◌≤◌, pos, [], length, IfOk};
+ghost use Rattle.std.specs.Prelude.{◌≡◌, ◌+◌, ◌≤◌, pos, [], length, IfOk};
+ghost use Rattle.brpc_model.specs.Frame.{body_limit};
 ghost use Rattle.brpc_model.specs.Spelling.{meta_bytes};
 ghost use Rattle.rpc_meta.specs.Meaning.{meaning};
 ghost use Rattle.rpc_meta.specs.Writing.{HasPart};
@@ -45,6 +46,24 @@ fn payload(alloc: Global, pool: &mut BlockPool, size: usize) -> Result<IoBuf, No
     Ok(buf)
 }
 
+/// Encodes a frame and gives it back: how many bytes it had.
+fn encode_one(
+    alloc: Global,
+    pool: &mut BlockPool,
+    meta: &RpcMeta,
+    payload: &IoBuf,
+    attachment: &IoBuf,
+) -> Result<u64, NoMemory>
+    requires sized { meta.now.attachment_size ≡ pos (length attachment.now.items) }
+    requires part { HasPart (meaning meta.now) }
+    requires small { length (meta_bytes (meaning meta.now)) + length payload.now.items + length attachment.now.items ≤ body_limit }
+{
+    let frame = encode(alloc, pool, meta, payload, attachment)?;
+    let size = frame.len() as u64;
+    frame.recycle(pool);
+    Ok(size)
+}
+
 /// Encodes so many frames with payloads of so many bytes, and gives each back.
 pub fn encode_all(alloc: Global, size: u32, count: u32) -> Result<u64, NoMemory> {
     let mut pool = BlockPool::new(alloc);
@@ -53,23 +72,35 @@ pub fn encode_all(alloc: Global, size: u32, count: u32) -> Result<u64, NoMemory>
     let attachment = IoBuf::new(alloc);
     let mut sum = 0u64;
     for _ in 0..count {
-        let frame = encode(alloc, &mut pool, &meta, &payload, &attachment)?;
-        sum = sum.wrapping_add(frame.len() as u64);
-        frame.recycle(&mut pool);
+        let size = encode_one(alloc, &mut pool, &meta, &payload, &attachment)?;
+        sum = sum.wrapping_add(size);
     }
     Ok(sum)
 }
 
-/// A stream of frames, of a million bytes or one frame.
-fn stream(alloc: Global, pool: &mut BlockPool, size: usize) -> Result<Vec<u8>, NoMemory>
+/// The bytes of a buffer.
+fn copied(alloc: Global, buf: &IoBuf) -> Result<Vec<u8>, AllocError> {
+    let mut bytes = Vec::from_elem(alloc, 0, buf.len())?;
+    buf.copy_to(&mut bytes);
+    Ok(bytes)
+}
+
+/// Those of a frame.
+fn frame(alloc: Global, pool: &mut BlockPool, size: usize) -> Result<Vec<u8>, NoMemory>
     requires { size ≤ MOST }
 {
     let meta = echo_meta(alloc)?;
     let payload = payload(alloc, pool, size)?;
     let attachment = IoBuf::new(alloc);
     let frame = encode(alloc, pool, &meta, &payload, &attachment)?;
-    let mut bytes = Vec::from_elem(alloc, 0, frame.len())?;
-    frame.copy_to(&mut bytes);
+    Ok(copied(alloc, &frame)?)
+}
+
+/// A stream of frames, of a million bytes or one frame.
+fn stream(alloc: Global, pool: &mut BlockPool, size: usize) -> Result<Vec<u8>, NoMemory>
+    requires { size ≤ MOST }
+{
+    let bytes = frame(alloc, pool, size)?;
     let mut all = Vec::new(alloc);
     for _ in 0..MOST / (size + 50) {
         all.extend_from_slice(&bytes)?;
@@ -77,15 +108,23 @@ fn stream(alloc: Global, pool: &mut BlockPool, size: usize) -> Result<Vec<u8>, N
     Ok(all)
 }
 
+/// Cuts a frame, where one is whole: how many bytes its payload has.
+fn cut_one(cutter: &mut Cutter) -> Option<u64> {
+    match cutter.next() {
+        Ok(Some(frame)) => Some(frame.payload.len() as u64),
+        _ => None,
+    }
+}
+
 /// Feeds a piece, and cuts the frames that are whole; how many bytes their payloads have.
 fn cut_piece(cutter: &mut Cutter, pool: &mut BlockPool, piece: &[u8]) -> Result<u64, NoMemory> {
     cutter.feed(pool, piece)?;
     let mut sum = 0u64;
     for _ in 0..piece.len() {
-        let Ok(Some(frame)) = cutter.next() else {
+        let Some(size) = cut_one(cutter) else {
             return Ok(sum);
         };
-        sum = sum.wrapping_add(frame.payload.len() as u64);
+        sum = sum.wrapping_add(size);
     }
     Ok(sum)
 }

@@ -1,5 +1,5 @@
 use io_buf::NoMemory;
-use script_lang::{Script, read_script};
+use script_lang::{Line, Script, read_script};
 use script_report::print_report;
 use sock_words::{Outcome, PlaceWord};
 use std::alloc::{AllocError, Global};
@@ -45,23 +45,48 @@ pub fn read_all(alloc: Global, sends: u32, count: u32) -> Result<u64, NoMemory> 
     Ok(sum)
 }
 
+/// That nothing was accepted, for so many lines.
+fn nothing(alloc: Global, lines: usize) -> Result<Vec<Option<Outcome>>, AllocError> {
+    let mut said = Vec::new(alloc);
+    for _ in 0..lines {
+        said.push(Some(Outcome::SlotsFull))?;
+    }
+    Ok(said)
+}
+
+/// The place words for so many lines, none of which was accepted.
+fn no_places(alloc: Global, lines: usize) -> Result<Vec<PlaceWord>, AllocError> {
+    let mut words = Vec::new(alloc);
+    for _ in 0..lines {
+        for _ in 0..PLACES {
+            words.push(PlaceWord::NONE)?;
+        }
+    }
+    Ok(words)
+}
+
+/// Prints a report: how many bytes it has.
+fn print_one(
+    alloc: Global,
+    lines: &[Line],
+    said: &[Option<Outcome>],
+    words: &[PlaceWord],
+) -> Result<u64, AllocError> {
+    let report = print_report(alloc, lines, said, words, &[])?;
+    Ok(report.len() as u64)
+}
+
 /// Prints the report of such a script, in which nothing was accepted, so many times; how many bytes were printed.
 pub fn print_all(alloc: Global, sends: u32, count: u32) -> Result<u64, NoMemory> {
     let text = script_text(alloc, sends)?;
     let script = read(alloc, &text)?;
     let lines = script.lines();
-    let mut said = Vec::new(alloc);
-    let mut words = Vec::new(alloc);
-    for _ in lines {
-        said.push(Some(Outcome::SlotsFull))?;
-        for _ in 0..PLACES {
-            words.push(PlaceWord::NONE)?;
-        }
-    }
+    let said = nothing(alloc, lines.len())?;
+    let words = no_places(alloc, lines.len())?;
     let mut sum = 0u64;
     for _ in 0..count {
-        let report = print_report(alloc, lines, &said, &words, &[])?;
-        sum = sum.wrapping_add(report.len() as u64);
+        let size = print_one(alloc, lines, &said, &words)?;
+        sum = sum.wrapping_add(size);
     }
     Ok(sum)
 }

@@ -79,7 +79,8 @@ pub record Links : Type 1 where
   pub done : List ConnectionEnd
   pub faults : Faults
 
--- ## These over a call, by what they tell before and behind it
+-- ## These over a call, by what they tell before and behind it: of a linker, whether its links are always ready is read
+-- before, and what was asked, given back and accepted behind it
 
 abbrev pub faults_over : {T : Type 0} → (T → ℕ) → T → T → Faults
 faults_over faults_of old new = record { before = faults_of old; now = faults_of new }

@@ -171,6 +171,32 @@ pub gathered_lost_at : (old held new : List ℕ) (o p q : Option (List ℕ)) (li
 gathered_lost_at old held new o p q lines x y z e same g kept w =
     let P : List ℕ → Type 0 = λ l. CutStopped old o l q x z in subst P (sym same) (gathered_lost old held o p q lines x y z g kept w.front w.failed)
 
+-- the lines that waited were written, and no frame is whole
+pub cut_none_more : (old held new : List ℕ) (o p q : Option (List ℕ)) (lines : List ℕ) (x y z : ℕ) (t : Option code.Frame) → t ≡ None → Answers (judged held) held (Ok t) new → CutGathered old o held p lines → y ≡ x → Writes p q y z lines (Ok tt) →
+    CutsWhole old o x new q z (Ok None)
+cut_none_more old held new o p q lines x y z t is h g kept w =
+    let P : Option code.Frame → Type 0 = λ s. Answers (judged held) held (Ok s) new in
+    let k : Answers (judged held) held (Ok None) new = subst P is h in
+    let Q : List ℕ → Type 0 = λ l. CutPrinted old o l q × (judged l ≡ NoneYet) × (z ≡ x) in
+    let there : Q held = (gathered_written old held o p q lines g w.whole, k.0, w.kept ∙ kept) in
+    subst Q (sym k.1) there
+
+-- they were written, and there is a fault
+pub cut_to_fault : (old held new : List ℕ) (o p q : Option (List ℕ)) (lines : List ℕ) (x y z : ℕ) (n : NextFault) (met : Met) → n ≡ next.Frame met.fault → met.len ≡ length held → Answers (judged held) held (Err n) new → CutGathered old o held p lines → y ≡ x → Writes p q y z lines (Ok tt) →
+    CutsWhole old o x new q z (Ok (Some met))
+cut_to_fault old held new o p q lines x y z n met is len h g kept w =
+    let P : NextFault → Type 0 = λ f. Answers (judged held) held (Err f) new in
+    let k : Answers (judged held) held (Err (next.Frame met.fault)) new = subst P is h in
+    let Q : List ℕ → Type 0 = λ l. CutPrinted old o l q × IsFault (judged l) met.fault × (z ≡ x) × (met.len ≡ length l) in
+    let there : Q held = (gathered_written old held o p q lines g w.whole, k.0, w.kept ∙ kept, len) in
+    subst Q (sym k.1) there
+
+-- they were written, and memory ran out
+pub cut_to_memory : (old held new : List ℕ) (o p q : Option (List ℕ)) (lines : List ℕ) (y z : ℕ) (n : NextFault) → n ≡ next.NoMemory → Answers (judged held) held (Err n) new → CutGathered old o held p lines → Writes p q y z lines (Ok tt) → CutPrinted old o new q
+cut_to_memory old held new o p q lines y z n is h g w =
+    let Q : List ℕ → Type 0 = λ l. CutPrinted old o l q in
+    subst Q (sym (same_memory (judged held) held new n is h)) (gathered_written old held o p q lines g w.whole)
+
 -- the sink failed in the lines that waited
 pub gathers_lost : (o p : Option (List ℕ)) (x y : ℕ) (held now text : List ℕ) (e f : Failed) (r : Result (Unit {0}) Failed) → r ≡ Err f → Writes o p x y held (Err e) → Gathers o p x y held now text r
 gathers_lost o p x y held now text e f r is w =

@@ -16,7 +16,7 @@ const FRAMES_LIMIT: usize = 268_435_456;
 const ROOM: usize = 65_536;
 
 /// How a stream ended whose text was printed.
-#[derive(Clone, Copy, Debug, PartialEq, Eq)]
+#[derive(Clone, Copy, PartialEq, Eq)]
 pub enum StreamEnd {
     /// In a rest, at the end of the source.
     Rest,
@@ -25,7 +25,7 @@ pub enum StreamEnd {
 }
 
 /// Why printing stopped.
-#[derive(Clone, Copy, Debug, PartialEq, Eq)]
+#[derive(Clone, Copy, PartialEq, Eq)]
 pub enum PrintFault {
     /// A read failed.
     Source,
@@ -87,6 +87,31 @@ fn print_all<S: Source, K: Sink>(
 {
     let mut pool = BlockPool::new(alloc);
     let mut cutter = Cutter::new(alloc);
+    print_each(source, out, lines, &mut pool, &mut cutter)
+}
+
+// The same, with a cutter that holds nothing yet.
+fn print_each<S: Source, K: Sink>(
+    source: &mut S,
+    out: &mut K,
+    lines: &mut Lines,
+    pool: &mut BlockPool,
+    cutter: &mut Cutter,
+) -> Result<StreamEnd, PrintFault>
+    requires gathered { lines.old.bytes ≡ [] }
+    requires held { cutter.old.bytes ≡ [] }
+    requires untold { cutter.old.told ≡ false }
+    ensures { PrintsFrames (record {
+      given = S.left source.old;
+      left = S.left source.new;
+      read_faults = S.faults source.old;
+      read_faults_now = S.faults source.new;
+      before = K.contents out.old;
+      now = K.contents out.new;
+      write_faults = K.faults out.old;
+      write_faults_now = K.faults out.new;
+    }) result }
+{
     let mut room = [0; ROOM];
     let mut read = 0;
     loop {
@@ -102,13 +127,13 @@ fn print_all<S: Source, K: Sink>(
         if read == FRAMES_LIMIT {
             return Err(PrintFault::TooLong);
         }
-        if cutter.feed(&mut pool, &piece[..count]).is_err() {
+        if cutter.feed(pool, &piece[..count]).is_err() {
             return Err(PrintFault::NoMemory);
         }
         read += count;
-        let whole = match print_whole(&mut cutter, out, lines) {
+        let whole = match print_whole(cutter, out, lines) {
             Ok(whole) => whole,
-            Err(stopped) => return end_stopped(&mut cutter, stopped),
+            Err(stopped) => return end_stopped(cutter, stopped),
         };
         if let Some(met) = whole {
             let _ = print_fault(out, read - met.len, met.fault);
@@ -150,8 +175,10 @@ fn print_whole<K: Sink>(
         match cutter.next() {
             Ok(Some(frame)) => {
                 if lines.print(out, &FrameView::of(&frame)).is_err() {
+                    drop(frame);
                     return Err(PrintFault::Sink);
                 }
+                drop(frame);
             }
             Ok(None) => {
                 return match lines.flush(out) {
@@ -191,7 +218,7 @@ fn judge_whole(cutter: &mut Cutter) -> Result<StreamEnd, PrintFault>
 {
     loop {
         match cutter.next() {
-            Ok(Some(_frame)) => {}
+            Ok(Some(frame)) => drop(frame),
             Ok(None) => return Err(PrintFault::Sink),
             Err(NextFault::Frame(_)) => return Ok(StreamEnd::Fault),
             Err(NextFault::NoMemory) => return Err(PrintFault::NoMemory),

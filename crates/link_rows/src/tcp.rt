@@ -1,6 +1,7 @@
-ghost use Rattle.std.specs.Prelude.{◌≡◌, ◌≤◌, IfOk};
+ghost use Rattle.std.specs.Prelude.{◌≡◌, ◌<◌, ◌≤◌, IfOk, length};
 
-use net_link::{TcpHalf, TcpIn, TcpLinker, read_some, write_some};
+use crate::halves::{end_of, put_on, take_of};
+use net_link::{TcpLinker, read_some, write_some};
 use sock_io::{Failed, In, LinkSpec, Linker, Mode, OpenFault, Out, Put, Take};
 use std::alloc::Global;
 use std::io::{ErrorKind, Read, Write};
@@ -38,21 +39,50 @@ fn free_port<N: Net<Stream = TcpStream, Listener = TcpListener>>(net: &N) -> io:
     Ok(port)
 }
 
-// Accepts a connection, takes a message and its end, and then replies.
+// What is heard: whether it is the message, what the takes answered, and what the put of the reply did.
+type Heard = (bool, Take, Take, Put);
+
+// What is said: whether the reply came, what the put of the message answered, and what the takes did.
+type Said = (bool, Put, Take, Take);
+
+// Takes a message and its end, and then replies.
+fn hear_over<O: Out, I: In>(out: &mut O, inn: &mut I) -> Heard {
+    let mut room = [0; 64];
+    let message = take_of(inn, &mut room);
+    let end = take_of(inn, &mut [0; 8]);
+    let reply = put_on(out, b"reply");
+    end_of(out);
+    (room.starts_with(b"message"), message, end, reply)
+}
+
+// Accepts a connection and hears what comes over it.
 fn hear<N: Net<Stream = TcpStream, Listener = TcpListener>>(
     net: &N,
     alloc: Global,
     port: u16,
-) -> Option<(bool, Take, Take, Put)> {
+) -> Option<Heard> {
     let mut links = TcpLinker::new(net, alloc);
     let (mut out, mut inn) = links.accept(port).ok()?;
-    let mut room = [0; 64];
-    let message = inn.take(&mut room);
-    let end = inn.take(&mut [0; 8]);
-    let reply = out.put(b"reply");
-    out.finish();
+    let heard = hear_over(&mut out, &mut inn);
     links.done(out, inn);
-    Some((room.starts_with(b"message"), message, end, reply))
+    Some(heard)
+}
+
+// Puts a message and ends the link, which stays the one that it is.
+fn put_message<O: Out>(out: &mut O) -> Put
+    ensures { (O.state out.new).link ≡ (O.state out.old).link }
+{
+    let answer = out.put(b"message");
+    out.finish();
+    answer
+}
+
+// Takes the reply and its end.
+fn take_reply<I: In>(inn: &mut I) -> (bool, Take, Take) {
+    let mut room = [0; 64];
+    let reply = take_of(inn, &mut room);
+    let end = take_of(inn, &mut [0; 8]);
+    (room.starts_with(b"reply"), reply, end)
 }
 
 // Opens a link, puts a message and ends it, and then takes the reply; nothing where nobody listens yet.
@@ -60,16 +90,13 @@ fn say<N: Net<Stream = TcpStream, Listener = TcpListener>>(
     net: &N,
     alloc: Global,
     port: u16,
-) -> Option<(bool, Put, Take, Take)> {
+) -> Option<Said> {
     let mut links = TcpLinker::new(net, alloc);
     let mut ends = links.open(&asked(Mode::Tcp(port))).ok()?;
-    let mut room = [0; 64];
-    let message = ends.out.put(b"message");
-    ends.out.finish();
-    let reply = ends.inn.take(&mut room);
-    let end = ends.inn.take(&mut [0; 8]);
+    let message = put_message(&mut ends.out);
+    let (is_reply, reply, end) = take_reply(&mut ends.inn);
     links.back(0, ends);
-    Some((room.starts_with(b"reply"), message, reply, end))
+    Some((is_reply, message, reply, end))
 }
 
 // The same, as soon as somebody listens.
@@ -77,7 +104,7 @@ fn say_once_heard<N: Net<Stream = TcpStream, Listener = TcpListener>>(
     net: &N,
     alloc: Global,
     port: u16,
-) -> Option<(bool, Put, Take, Take)> {
+) -> Option<Said> {
     for _ in 0..1_000_000 {
         if let Some(said) = say(net, alloc, port) {
             return Some(said);
@@ -92,10 +119,7 @@ fn converse<R: Threads + Net<Stream = TcpStream, Listener = TcpListener> + Sync>
     rt: &R,
     alloc: Global,
     port: u16,
-) -> (
-    Option<(bool, Take, Take, Put)>,
-    Option<(bool, Put, Take, Take)>,
-) {
+) -> (Option<Heard>, Option<Said>) {
     thread::join(
         rt,
         move || hear(rt, alloc, port),
@@ -112,12 +136,21 @@ fn message_and_its_end_come_over(rt: HostRuntime) -> Result<(), Fail> {
     Ok(())
 }
 
+// Whether the first link of a linker isn't opened, in this mode.
+fn is_refused<N: Net<Stream = TcpStream, Listener = TcpListener>>(
+    net: &N,
+    alloc: Global,
+    mode: Mode,
+) -> bool {
+    let mut links = TcpLinker::new(net, alloc);
+    matches!(links.open(&asked(mode)), Err(OpenFault::Failed))
+}
+
 #[test]
 fn open_fails_where_nobody_listens(rt: HostRuntime) -> Result<(), Fail> {
     let port = free_port(&rt)?;
     for mode in [Mode::Tcp(port), Mode::Loop, Mode::Ring] {
-        let mut links = TcpLinker::new(&rt, rt.alloc());
-        assert!(rt; matches!(links.open(&asked(mode)), Err(OpenFault::Failed)));
+        assert!(rt; is_refused(&rt, rt.alloc(), mode));
     }
     Ok(())
 }
@@ -130,22 +163,47 @@ fn accept_fails_where_another_one_listens(rt: HostRuntime) -> Result<(), Fail> {
     Ok(())
 }
 
-// The other end goes away with bytes that it didn't read. The link fails then and from then on, and is not ended.
+// Whether the link fails now and from now on, and is not ended.
+fn is_lost<O: Out, I: In>(out: &mut O, inn: &mut I) -> bool {
+    let mut room = [0; 8];
+    let has_failed = take_of(inn, &mut room) == Take::Failed
+        && take_of(inn, &mut room) == Take::Failed
+        && put_on(out, b"message") == Put::Failed;
+    end_of(out);
+    has_failed
+}
+
+// The other end of the next connection goes away with bytes that it didn't read.
+fn lose_next(listener: &TcpListener) -> io::Result<()> {
+    let (far, _) = listener.accept()?;
+    far.peek(&mut [0; 8])?;
+    Ok(())
+}
+
+// The link fails then and from then on, and is not ended.
 #[test]
 fn lost_connection_fails(rt: HostRuntime) -> Result<(), Fail> {
     let (listener, port) = listen(&rt)?;
     let mut links = TcpLinker::new(&rt, rt.alloc());
-    let mut ends = links.open(&asked(Mode::Tcp(port))).ok().ok_or("memory")?;
-    assert!(rt; ends.out.put(b"message") == Put::Took(7));
-    let (far, _) = listener.accept()?;
-    let mut room = [0; 8];
-    far.peek(&mut room)?;
-    drop(far);
-    assert!(rt; ends.inn.take(&mut room) == Take::Failed);
-    assert!(rt; ends.inn.take(&mut room) == Take::Failed);
-    assert!(rt; ends.out.put(b"message") == Put::Failed);
-    ends.out.finish();
+    let Ok(mut ends) = links.open(&asked(Mode::Tcp(port))) else {
+        panic!(&rt; "no link");
+    };
+    assert!(rt; put_on(&mut ends.out, b"message") == Put::Took(7));
+    assert!(rt; lose_next(&listener).is_ok());
+    assert!(rt; is_lost(&mut ends.out, &mut ends.inn));
     Ok(())
+}
+
+// Whether it opens no link that isn't to go over TCP.
+fn opens_no_loop<L: Linker>(links: &mut L) -> bool
+    requires { length (L.asked links.old) < 256 }
+{
+    links.open(&asked(Mode::Loop)).is_err()
+}
+
+// Whether nothing more comes.
+fn is_at_end(far: &mut TcpStream) -> bool {
+    matches!(far.read(&mut [0; 8]), Ok(0))
 }
 
 // The linker is still there then.
@@ -153,11 +211,15 @@ fn lost_connection_fails(rt: HostRuntime) -> Result<(), Fail> {
 fn link_is_closed_as_it_is_given_back(rt: HostRuntime) -> Result<(), Fail> {
     let (listener, port) = listen(&rt)?;
     let mut links = TcpLinker::new(&rt, rt.alloc());
-    let ends = links.open(&asked(Mode::Tcp(port))).ok().ok_or("memory")?;
-    let (mut far, _) = listener.accept()?;
+    let Ok(ends) = links.open(&asked(Mode::Tcp(port))) else {
+        panic!(&rt; "no link");
+    };
+    let Ok((mut far, _)) = listener.accept() else {
+        panic!(&rt; "no connection");
+    };
     links.back(0, ends);
-    assert!(rt; far.read(&mut [0; 8])? == 0);
-    assert!(rt; links.open(&asked(Mode::Loop)).is_err());
+    assert!(rt; is_at_end(&mut far));
+    assert!(rt; opens_no_loop(&mut links));
     Ok(())
 }
 
@@ -213,11 +275,11 @@ fn interrupted_calls_are_made_again(rt: HostRuntime) {
 const LINK_ROOM: usize = 2_097_152;
 
 // Puts twice as many bytes as a link has room for, and tells how many were taken.
-fn flood(out: &mut TcpHalf) -> usize {
+fn flood<O: Out>(out: &mut O) -> usize {
     let piece = [97; 4_096];
     let mut put = 0usize;
     for _ in 0..1_024 {
-        match out.put(&piece) {
+        match put_on(out, &piece) {
             Put::Took(count) => put = put.saturating_add(count),
             Put::Again | Put::Failed => return put,
         }
@@ -226,11 +288,11 @@ fn flood(out: &mut TcpHalf) -> usize {
 }
 
 // Takes all that comes, and tells how many bytes came.
-fn drain(inn: &mut TcpIn) -> usize {
+fn drain<I: In>(inn: &mut I) -> usize {
     let mut room = [0; 4_096];
     let mut taken = 0usize;
     for _ in 0..10_000_000 {
-        match inn.take(&mut room) {
+        match take_of(inn, &mut room) {
             Take::Took(count) => taken = taken.saturating_add(count),
             _ => return taken,
         }
@@ -249,7 +311,7 @@ fn flood_next<N: Net<Stream = TcpStream, Listener = TcpListener>>(
         return 0;
     };
     let put = flood(&mut out);
-    out.finish();
+    end_of(&mut out);
     links.done(out, inn);
     put
 }

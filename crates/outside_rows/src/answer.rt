@@ -2,7 +2,7 @@
 ghost use Rattle.std.specs.Prelude.{◌≡◌, []};
 
 use brpc_eng::brpc;
-use sock_io::{Linker, MemSink, MemSource, OpenGate};
+use sock_io::{Gate, Linker, MemSink, MemSource};
 use std::alloc::{AllocError, Global};
 use std::str;
 use std::sync::Wait;
@@ -28,11 +28,12 @@ pub struct Answer {
     pub written: Vec<u8>,
 }
 
-/// The answer to it over these links.
-pub fn answered<R: Threads + Wait + Sync + Alloc<A = Global>, L: Linker>(
+/// The answer to it over these links, through this gate.
+pub fn answered<R: Threads + Wait + Sync + Alloc<A = Global>, L: Linker, G: Gate + Sync>(
     rt: &R,
     asked: Asked,
     links: &mut L,
+    gate: &G,
 ) -> Result<Answer, AllocError>
     requires asked { L.asked links.old ≡ [] }
     requires back { L.back links.old ≡ [] }
@@ -47,7 +48,7 @@ pub fn answered<R: Threads + Wait + Sync + Alloc<A = Global>, L: Linker>(
         return Err(AllocError);
     };
     let words = asked.words.as_slice();
-    let status = brpc(rt, alloc, words, &mut source, &mut out, links, &OpenGate);
+    let status = brpc(rt, alloc, words, &mut source, &mut out, links, gate);
     let written = Vec::from_slice(alloc, out.bytes())?;
     Ok(Answer { status, written })
 }

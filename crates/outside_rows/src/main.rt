@@ -1,20 +1,46 @@
 //! Rows of the top call: it answers each line of its standard input by the links that the line's first word names, and writes
-//! other lines as they are. What it has to answer stands in the file `stdout`. The rows are each command, an outside that isn't
-//! kind, links whose other ends give bytes that nobody would send, and outside calls that fail in turn, step by step and on
-//! threads, over links whose other ends move by themselves.
+//! comments as they are. What it has to answer stands in the file `stdout`. The rows are each command, an outside that isn't kind,
+//! links whose other ends give bytes that nobody would send, and outside calls that fail in turn, step by step and on threads, over
+//! links whose other ends move by themselves; clients on threads that make their operations at once; and a server and a client
+//! beside each other, over TCP.
 #![tactic(auto)]
 
 mod answer;
+mod crowd;
+mod held;
 mod noting;
 mod over;
+mod ports;
 mod rows;
 
+use crate::ports::over_ports;
+use crate::rows::said;
+use std::alloc::{AllocError, Global};
 use std::io;
+use std::net::{Net, TcpListener, TcpStream};
+use std::sync::Wait;
+use std::thread::Threads;
+use std::time::Clock;
+
+/// What is said of a row, or what `ports` says.
+fn answer_to<
+    R: Threads
+        + Wait
+        + Sync
+        + Clock
+        + Alloc<A = Global>
+        + Net<Stream = TcpStream, Listener = TcpListener>,
+>(rt: &R, row: &str) -> Result<String, AllocError> {
+    if row == "ports" {
+        return over_ports(rt);
+    }
+    said(rt, row)
+}
 
 fn main(rt: HostRuntime) -> io::Result<()> {
     for row in rt.lines(rt.alloc()) {
-        let said = rows::said(&rt, row?.as_str())?;
-        println!(rt; "{said}")?;
+        let answer = answer_to(&rt, row?.as_str())?;
+        println!(rt; "{answer}")?;
     }
     Ok(())
 }

@@ -2,12 +2,14 @@
 ghost use Rattle.std.specs.Prelude.{◌≡◌, []};
 
 use crate::answer::{Answer, Asked, answered, shown};
+use crate::crowd::is_of_crowd;
+use crate::held::{HeldGate, HeldLinker, is_done, new_flags};
 use crate::noting::Noting;
 use loop_link::LoopLinker;
 use ring_link::RingLinker;
-use sock_io::{GiveLinker, Linker, SinkLinker};
+use sock_io::{GiveLinker, Linker, OpenGate, SinkLinker};
 use std::alloc::{AllocError, Global};
-use std::sync::Wait;
+use std::sync::{Arc, Wait};
 use std::thread::Threads;
 
 /// Over links that take all, but for the calls that fail.
@@ -17,7 +19,7 @@ pub fn over_sinks<R: Threads + Wait + Sync + Alloc<A = Global>>(
 ) -> Result<String, AllocError> {
     let alloc = rt.alloc();
     let mut links = SinkLinker::new(alloc, vec![in alloc; asked.open]?, asked.put);
-    shown(alloc, &answered(rt, asked, &mut links)?)
+    shown(alloc, &answered(rt, asked, &mut links, &OpenGate)?)
 }
 
 fn in_memory<R: Threads + Wait + Sync + Alloc<A = Global>>(
@@ -25,7 +27,7 @@ fn in_memory<R: Threads + Wait + Sync + Alloc<A = Global>>(
     asked: Asked,
 ) -> Result<Answer, AllocError> {
     let mut links = LoopLinker::new(rt.alloc(), Vec::new(rt.alloc()));
-    answered(rt, asked, &mut links)
+    answered(rt, asked, &mut links, &OpenGate)
 }
 
 fn on_threads<R: Threads + Wait + Sync + Alloc<A = Global>>(
@@ -33,7 +35,7 @@ fn on_threads<R: Threads + Wait + Sync + Alloc<A = Global>>(
     asked: Asked,
 ) -> Result<Answer, AllocError> {
     let mut links = RingLinker::new(rt);
-    answered(rt, asked, &mut links)
+    answered(rt, asked, &mut links, &OpenGate)
 }
 
 /// Over links in memory whose other ends serve or end as their lines ask.
@@ -72,7 +74,7 @@ pub fn over_given<R: Threads + Wait + Sync + Alloc<A = Global>>(
     bytes: Vec<u8>,
 ) -> Result<String, AllocError> {
     let mut links = GiveLinker::new(rt.alloc(), 30, bytes);
-    shown(rt.alloc(), &answered(rt, asked, &mut links)?)
+    shown(rt.alloc(), &answered(rt, asked, &mut links, &OpenGate)?)
 }
 
 /// Over a connection that gives these bytes, with those that it took.
@@ -83,7 +85,7 @@ pub fn over_connection<R: Threads + Wait + Sync + Alloc<A = Global>>(
 ) -> Result<String, AllocError> {
     let alloc = rt.alloc();
     let mut links = Noting::new(alloc, GiveLinker::new(alloc, 0, bytes));
-    let said = shown(alloc, &answered(rt, asked, &mut links)?)?;
+    let said = shown(alloc, &answered(rt, asked, &mut links, &OpenGate)?)?;
     let digits = hex::encode(alloc, links.taken())?;
     format!(in alloc; "{said} took [{digits}]")
 }
@@ -101,7 +103,7 @@ fn given_back<R: Threads + Wait + Sync + Alloc<A = Global>, L: Linker + Drop>(
 {
     let alloc = rt.alloc();
     let mut links = links;
-    let status = answered(rt, asked, &mut links)?.status;
+    let status = answered(rt, asked, &mut links, &OpenGate)?.status;
     let noted = links.noted();
     format!(in alloc; "{status} {noted:?}")
 }
@@ -124,4 +126,33 @@ pub fn back_of_rings<R: Threads + Wait + Sync + Alloc<A = Global>>(
 ) -> Result<String, AllocError> {
     let links = Noting::failing(rt.alloc(), RingLinker::new(rt), asked.open);
     given_back(rt, asked, links)
+}
+
+/// Over links that tell what they took: whether a crowd's messages left whole, and each client's in its own order.
+pub fn over_crowd<R: Threads + Wait + Sync + Alloc<A = Global>>(
+    rt: &R,
+    asked: Asked,
+) -> Result<String, AllocError> {
+    let alloc = rt.alloc();
+    let mut links = HeldLinker::new(rt, alloc, new_flags(alloc, false)?);
+    let answer = answered(rt, asked, &mut links, &OpenGate)?;
+    let status = answer.status;
+    let is_whole = is_of_crowd(alloc, answer.written.as_slice(), links.took())?;
+    format!(in alloc; "{status} whole {is_whole}")
+}
+
+/// Over a link whose first put lasts until client 2 comes to its second operation: that, and whether it came there.
+pub fn over_held<R: Threads + Wait + Sync + Alloc<A = Global>>(
+    rt: &R,
+    asked: Asked,
+) -> Result<String, AllocError> {
+    let alloc = rt.alloc();
+    let flags = new_flags(alloc, true)?;
+    let gate = HeldGate {
+        flags: Arc::try_clone(&flags)?,
+    };
+    let mut links = HeldLinker::new(rt, alloc, Arc::try_clone(&flags)?);
+    let said = shown(alloc, &answered(rt, asked, &mut links, &gate)?)?;
+    let is_done = is_done(&flags);
+    format!(in alloc; "{said} done {is_done}")
 }

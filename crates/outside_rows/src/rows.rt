@@ -1,8 +1,8 @@
 //! What a row asks.
 use crate::answer::Asked;
 use crate::over::{
-    back_of_rings, back_of_sinks, both, over_connection, over_given, over_loops, over_rings,
-    over_sinks,
+    back_of_rings, back_of_sinks, both, over_connection, over_crowd, over_given, over_held,
+    over_loops, over_rings, over_sinks,
 };
 use std::alloc::{AllocError, Global};
 use std::sync::Wait;
@@ -13,22 +13,46 @@ pub fn said<R: Threads + Wait + Sync + Alloc<A = Global>>(
     rt: &R,
     row: &str,
 ) -> Result<String, AllocError> {
-    let alloc = rt.alloc();
     let Some((word, rest)) = row.split_once(" ") else {
-        return String::from_str(alloc, row);
+        return String::from_str(rt.alloc(), row);
     };
     match word {
-        "sinks" => over_sinks(rt, asked_by(alloc, rest)?),
-        "loops" => over_loops(rt, asked_by(alloc, rest)?),
-        "rings" => over_rings(rt, asked_by(alloc, rest)?),
+        "#" => String::from_str(rt.alloc(), row),
         "race" => one_of(rt, rest),
         "both" => both_said(rt, rest),
-        "back" => back_of_sinks(rt, asked_by(alloc, rest)?),
-        "back-rings" => back_of_rings(rt, asked_by(alloc, rest)?),
-        "bytes" => over_sinks(rt, asked_in(alloc, "frames", bytes_of(alloc, rest))?),
+        "bytes" => bytes_said(rt, rest),
         "given" => given_said(rt, rest),
         "connection" => connection_said(rt, rest),
-        _ => String::from_str(alloc, row),
+        _ => over(rt, word, asked_by(rt.alloc(), rest)?),
+    }
+}
+
+/// The same where the row states the words and the input.
+fn over<R: Threads + Wait + Sync + Alloc<A = Global>>(
+    rt: &R,
+    word: &str,
+    asked: Asked,
+) -> Result<String, AllocError> {
+    match word {
+        "sinks" => over_sinks(rt, asked),
+        "loops" => over_loops(rt, asked),
+        "rings" => over_rings(rt, asked),
+        _ => over_noting(rt, word, asked),
+    }
+}
+
+/// And where more is told than what is written.
+fn over_noting<R: Threads + Wait + Sync + Alloc<A = Global>>(
+    rt: &R,
+    word: &str,
+    asked: Asked,
+) -> Result<String, AllocError> {
+    match word {
+        "back" => back_of_sinks(rt, asked),
+        "back-rings" => back_of_rings(rt, asked),
+        "crowd" => over_crowd(rt, asked),
+        "held" => over_held(rt, asked),
+        _ => String::from_str(rt.alloc(), "no such links"),
     }
 }
 
@@ -50,7 +74,7 @@ fn words_of(alloc: Global, text: &str) -> Result<Vec<String>, AllocError> {
 }
 
 /// These words over this input, with room for all, where nothing fails.
-fn asked_in(alloc: Global, words: &str, input: Vec<u8>) -> Result<Asked, AllocError> {
+pub fn asked_in(alloc: Global, words: &str, input: Vec<u8>) -> Result<Asked, AllocError> {
     let words = words_of(alloc, words)?;
     Ok(Asked {
         read: 0,
@@ -150,6 +174,15 @@ fn one_of<R: Threads + Wait + Sync + Alloc<A = Global>>(
         }
     }
     Ok(said)
+}
+
+/// What is said of a stream of these bytes.
+fn bytes_said<R: Threads + Wait + Sync + Alloc<A = Global>>(
+    rt: &R,
+    digits: &str,
+) -> Result<String, AllocError> {
+    let alloc = rt.alloc();
+    over_sinks(rt, asked_in(alloc, "frames", bytes_of(alloc, digits))?)
 }
 
 /// How a script ends step by step and on threads.

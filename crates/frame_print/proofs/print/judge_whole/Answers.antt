@@ -10,7 +10,7 @@ loop-frame-init c = record { frames = []; cut = cut_none _ }
 pub loop-frame-preserved : goal.loop-frame-preserved
 loop-frame-preserved c = record {
   frames = _;
-  cut = cut_next _ _ _ c.loop-frame.invariant.frames c.in-Ok-Some._frame c.in-Ok-Some.field-0 c.loop-frame.invariant.cut c.in-Ok-Some.field-0-is c.in-Ok-Some.ensures.stream;
+  cut = cut_next _ _ _ c.loop-frame.invariant.frames c.in-Ok-Some.frame c.in-Ok-Some.field-0 c.loop-frame.invariant.cut c.in-Ok-Some.field-0-is c.in-Ok-Some.ensures.stream;
 }
 
 pub returns-in-Err-Frame : goal.returns-in-Err-Frame

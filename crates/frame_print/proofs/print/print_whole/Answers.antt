@@ -5,7 +5,8 @@ use Rattle.prpc_frame.specs.Meaning.{frame_of}
 use Rattle.prpc_frame.specs.declared.frame.Frame as code
 use Rattle.prpc_frame.proofs.Cuts.{cut_none, cut_next, cut_front}
 use Rattle.frame_print.specs.View.{frame_viewed}
-use Rattle.frame_print.proofs.Steps.{gathered_none, gathered_next, gather_stopped, gathered_lost_at, same_none, same_fault, same_memory}
+use Rattle.frame_print.proofs.Holding.{held_untold}
+use Rattle.frame_print.proofs.Steps.{gathered_none, gathered_next, gather_stopped, gathered_lost_at, same_none, same_fault, same_memory, cut_none_more, cut_to_fault, cut_to_memory}
 use Rattle.frame_print.proofs.print.print_whole.Goals as goal
 
 pub loop-frame-init : goal.loop-frame-init
@@ -64,3 +65,18 @@ returns-in-Err-flush-clause-cuts g c =
 pub returns-in-Err-flush-2-clause-cuts : goal.returns-in-Err-flush-2-clause-cuts
 returns-in-Err-flush-2-clause-cuts g c =
     gathered_lost_at _ _ _ _ _ _ c.loop-frame.lines.bytes _ _ _ _ (same_memory _ _ _ _ c.in-Err-NoMemory.field-0-is c.in-Err-NoMemory.ensures.exact) c.loop-frame.invariant.gathered c.loop-frame.invariant.kept c.in-Err-flush-2.ensures.writes
+
+-- ## The lines were written
+
+pub returns-in-Ok-clause-cuts : goal.returns-in-Ok-clause-cuts
+returns-in-Ok-clause-cuts g c =
+    cut_none_more _ _ _ _ _ _ c.loop-frame.lines.bytes _ _ _ _ c.in-Ok-None.field-0-is c.in-Ok-None.ensures.exact c.loop-frame.invariant.gathered c.loop-frame.invariant.kept c.in-Ok.ensures.writes
+
+pub returns-in-Ok-flush-clause-cuts : goal.returns-in-Ok-flush-clause-cuts
+returns-in-Ok-flush-clause-cuts g c =
+    cut_to_fault _ _ _ _ _ _ c.loop-frame.lines.bytes _ _ _ _ _ c.in-Err-Frame.field-0-is (c.held-len.ensures ∙ held_untold c.loop-frame.cutter c.loop-frame.invariant.untold) c.in-Err-Frame.ensures.exact c.loop-frame.invariant.gathered c.loop-frame.invariant.kept
+    c.in-Ok-flush.ensures.writes
+
+pub returns-in-Ok-flush-2-clause-cuts : goal.returns-in-Ok-flush-2-clause-cuts
+returns-in-Ok-flush-2-clause-cuts g c =
+    cut_to_memory _ _ _ _ _ _ c.loop-frame.lines.bytes _ _ _ c.in-Err-NoMemory.field-0-is c.in-Err-NoMemory.ensures.exact c.loop-frame.invariant.gathered c.in-Ok-flush-2.ensures.writes

@@ -1,0 +1,23 @@
+//! Rows of what is read and printed: it answers each line of its standard input by the call that the line's first word names,
+//! and writes other lines as they are. What it has to answer stands in the file `stdout`. Rows of what comes over a wire give
+//! bytes in hexadecimal, and those of scripts and reports their texts between quotes.
+#![tactic(auto)]
+
+mod bytes;
+mod expanded;
+mod frames;
+mod metas;
+mod reports;
+mod rows;
+mod scripts;
+mod wires;
+
+use std::io;
+
+fn main(rt: HostRuntime) -> io::Result<()> {
+    for row in rt.lines(rt.alloc()) {
+        let said = rows::answer(rt.alloc(), row?.as_str())?;
+        println!(rt; "{said}")?;
+    }
+    Ok(())
+}

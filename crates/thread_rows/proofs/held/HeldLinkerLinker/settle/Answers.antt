@@ -1,6 +1,0 @@
-use Rattle.sock_io.specs.Shape.{shaped_out}
-use Rattle.ring_link.proofs.Finding.{settled_still}
-use Rattle.thread_rows.proofs.held.HeldLinkerLinker.settle.Goals as goal
-
-pub returns-clause-settled : goal.returns-clause-settled
-returns-clause-settled g c = settled_still (shaped_out c.args._ends.now.out.half) c.args._ends.now.inn
