@@ -33,7 +33,7 @@ use Rattle.id_rule.specs.Lawful.{notes_of, call_index, with_kept}
 use Rattle.sock_message.specs.Asked.{Asked}
 use Rattle.corr_id.specs.declared.calls.IdLock.{IdLock}
 use Rattle.corr_id.specs.declared.posts.Posted.{Posted}
-use Rattle.corr_id.specs.declared.posts.Posted.TheVariants.{Locked as HasLock, Queued as IsQueued, Gone, Stale, Crowded}
+use Rattle.corr_id.specs.declared.posts.Posted.TheVariants.{Locked as HasLock, Queued as IsQueued, Gone, Crowded}
 use Rattle.corr_id.specs.declared.unlocks.Unlocked.{Unlocked}
 use Rattle.corr_id.specs.declared.unlocks.Unlocked.TheVariants.{Open, Next}
 use Rattle.corr_id.specs.Calls.{Did, Quiet, GotLock, Became, Found, one, is_saw, advance_note, slot_of, version_of, error_in}
@@ -134,9 +134,7 @@ unmoved_ended {n} at f v w b = unmoved_one at v w [] (Ended f n) (λ g m. refl) 
 pub unmoved_post : (slots : ℕ) (v w : View Asked) (id code : ℕ) (attempt : Maybe ℕ) (answer : Posted Asked) → PostOk slots v w id code attempt answer → Unmoved v w
 unmoved_post slots v w id code attempt (HasLock k) p = unmoved_got k.slot p.4.0 v w (parts k.word.0) k.content p.4.1
 unmoved_post slots v w id code attempt IsQueued p = unmoved_one (slot_of id) v w _ (Queued (version_of id) (error_in code attempt)) (λ f n. refl) p.0
-unmoved_post slots v w id code attempt (Gone found) p = unmoved_quiet v w p.0
-unmoved_post slots v w id code attempt (Stale current) p = unmoved_quiet v w p.0
-unmoved_post slots v w id code attempt (Crowded oldest second) p = unmoved_quiet v w p.0
+unmoved_post slots v w id code attempt _ p = unmoved_quiet v w p.0
 
 -- ## Advances
 
@@ -253,16 +251,11 @@ module _ (slots : ℕ) where
   post : (v w : View Asked) (id code : ℕ) (attempt : Maybe ℕ) (answer : Posted Asked) → PostOk slots v w id code attempt answer → Bounds v w
   post v w id code attempt (HasLock k) p = bounds_got k.slot p.4.0 v w (parts k.word.0) k.content p.4.1
   post v w id code attempt IsQueued p = bounds_one (slot_of id) v w _ (Queued (version_of id) (error_in code attempt)) (λ f n. refl) p.0
-  post v w id code attempt (Gone found) p = bounds_quiet v w p.0
-  post v w id code attempt (Stale current) p = bounds_quiet v w p.0
-  post v w id code attempt (Crowded oldest second) p = bounds_quiet v w p.0
+  post v w id code attempt _ p = bounds_quiet v w p.0
 
   handled : (id code : ℕ) (attempt : Maybe ℕ) (answer : Posted Asked) (u : View Asked) (s t : CallStand) → PostOk slots u s.view id code attempt answer → Handled code attempt answer s t → Here s t
   handled id code attempt (HasLock k) u s t p d = decided d (got_word slots k u s.view p.4.0 p.1 p.4.1)
-  handled id code attempt IsQueued u s t p e = same s t e
-  handled id code attempt (Gone found) u s t p e = same s t e
-  handled id code attempt (Stale current) u s t p e = same s t e
-  handled id code attempt (Crowded oldest second) u s t p e = same s t e
+  handled id code attempt _ u s t p e = same s t e
 
   posted : (s : CallStand) (id code : ℕ) (attempt : Maybe ℕ) (t : CallStand) → PostedBy slots s id code attempt t → Here s t
   posted s id code attempt t p =

@@ -5,7 +5,7 @@ use mathlib.Core.Logic.{dite}
 use native.Mathlib.Decide.{ℕ_discrete, dec_lt}
 use Rattle.corr_core.specs.Law.{total, pair, is_advance, is_attempt}
 use Rattle.corr_core.specs.declared.marks.Note.{Note}
-use Rattle.corr_core.specs.declared.marks.Note.TheVariants.{Tried, Made, Ended, Locker, Queued, Attempt, Saw}
+use Rattle.corr_core.specs.declared.marks.Note.TheVariants.{Attempt}
 use Rattle.corr_core.specs.declared.marks.Noted.{Noted}
 use Rattle.corr_core.proofs.Notes.{only_le, only-else, pair-same, pair-at, pair-else, pair-else_first}
 use Rattle.id_rule.specs.Lawful.{notes_of}
@@ -15,15 +15,10 @@ use Rattle.call_whys.specs.call_told.specs.call_places.proofs.Weights.{term, eac
 use Rattle.attempts_told.specs.Attempts.{advanced_to, last_among}
 
 attempt_is : (f n : ℕ) (y : Note Asked) → 0 < is_attempt f n y → y ≡ Attempt f n
-attempt_is f n Tried h = absurd (omega arith)
-attempt_is f n (Made g r c) h = absurd (omega arith)
-attempt_is f n (Ended g y) h = absurd (omega arith)
-attempt_is f n (Locker g c) h = absurd (omega arith)
-attempt_is f n (Queued g e) h = absurd (omega arith)
-attempt_is f n (Saw w) h = absurd (omega arith)
 attempt_is f n (Attempt g m) h = dite (ℕ_discrete g f)
     (λ e. dite (ℕ_discrete m n) (λ d. (λ i. Attempt (e i) (d i))) (λ ne. absurd (let k = pair-else f n g m ne in omega arith)))
     (λ ne. absurd (let k = pair-else_first f n g m ne in omega arith))
+attempt_is f n _ h = absurd (omega arith)
 
 -- what is counted behind another note
 behind : (i : ℕ) (f : Note Asked → ℕ) (x : Noted Asked) (xs : List (Noted Asked)) → total f (notes_of i xs) ≤ total f (notes_of i (x ∷ xs))
@@ -45,17 +40,12 @@ module _ (o : ℕ) (all : List (Noted Asked)) where
   counts f n x slot s y made = (λ i. advanced_to o (notes_of (s i) all) (y i)) ∙ ap (λ (b : Bool). cond b 0 n) (ne_eqb (total (is_made_for f o) (notes_of slot all)) 0 (λ z. omega (arith, z, made)))
 
   counted_by : (slot : ℕ) (y : Note Asked) → 0 < advanced_to o (notes_of slot all) y → (f : ℕ) × (y ≡ Attempt f (advanced_to o (notes_of slot all) y)) × (0 < total (is_made_for f o) (notes_of slot all))
-  counted_by slot Tried h = absurd (omega arith)
-  counted_by slot (Made g r c) h = absurd (omega arith)
-  counted_by slot (Ended g y) h = absurd (omega arith)
-  counted_by slot (Locker g c) h = absurd (omega arith)
-  counted_by slot (Queued g e) h = absurd (omega arith)
-  counted_by slot (Saw w) h = absurd (omega arith)
   counted_by slot (Attempt f m) h =
       let made : ℕ = total (is_made_for f o) (notes_of slot all) in
       dite (ℕ_discrete made 0)
       (λ z. absurd (let e : cond (eqb made 0) 0 m ≡ 0 = ap (λ (b : Bool). cond b 0 m) (eq-eqb made 0 z) in omega arith))
       (λ ne. (f, ap (Attempt f) (sym (ap (λ (b : Bool). cond b 0 m) (ne_eqb made 0 ne))), omega arith))
+  counted_by slot _ h = absurd (omega arith)
 
   -- none of these advances goes further
   pub none_further : (slot f n : ℕ) (ns : List (Noted Asked)) → 0 < total (is_made_for f o) (notes_of slot all) → 0 < total (is_attempt f n) (notes_of slot ns) → n ≤ last_among o all ns
@@ -126,12 +116,6 @@ each_sum f zero ns = all_zero (λ (x : Note Asked). sum_to (λ k. is_attempt f k
 each_sum f (suc m) ns = let a = each_sum f m ns in let b = total_sum (λ (x : Note Asked). sum_to (λ k. is_attempt f k x) m) (is_attempt f (suc m)) ns in omega arith
 
 one_sum : (f m : ℕ) (x : Note Asked) → ((n : ℕ) → 0 < is_attempt f n x → (0 < n) × (n ≤ m)) → is_advance f x ≤ sum_to (λ k. is_attempt f k x) m
-one_sum f m Tried h = omega arith
-one_sum f m (Made g r c) h = omega arith
-one_sum f m (Ended g y) h = omega arith
-one_sum f m (Locker g c) h = omega arith
-one_sum f m (Queued g e) h = omega arith
-one_sum f m (Saw w) h = omega arith
 one_sum f m (Attempt g n) h = dite (ℕ_discrete g f)
     (λ e.
     let one = pair-at f n g n e refl in
@@ -140,6 +124,7 @@ one_sum f m (Attempt g n) h = dite (ℕ_discrete g f)
     let same : sum_to (λ k. pair f k g n) m ≡ sum_to (λ k. pair f k f n) m = ap (λ (y : ℕ). sum_to (λ k. pair f k y n) m) e in
     let b = only_le f g in omega arith)
     (λ ne. let a = only-else f g ne in omega arith)
+one_sum f m _ h = omega arith
 
 -- no more than their numbers, of which none comes twice
 pub few_advances : (f m : ℕ) (ns : List (Note Asked)) → ((n : ℕ) → 0 < total (is_attempt f n) ns → (0 < n) × (n ≤ m)) → ((n : ℕ) → total (is_attempt f n) ns ≤ 1) → total (is_advance f) ns ≤ m

@@ -18,7 +18,7 @@ use Rattle.corr_core.specs.declared.marks.View.{View}
 use Rattle.id_rule.specs.Lawful.{at_index, with_kept}
 use Rattle.sock_message.specs.Asked.{Asked}
 use Rattle.corr_id.specs.declared.posts.Posted.{Posted}
-use Rattle.corr_id.specs.declared.posts.Posted.TheVariants.{Locked as HasLock, Queued as IsQueued, Gone, Stale, Crowded}
+use Rattle.corr_id.specs.declared.posts.Posted.TheVariants.{Locked as HasLock}
 use Rattle.corr_id.specs.Calls.{slot_of}
 use Rattle.call_whys.specs.call_told.specs.Below.call_run.specs.rpc_reader.specs.prpc_frame.specs.Meaning.{frame_of}
 use Rattle.call_whys.specs.call_told.specs.Below.call_run.specs.rpc_reader.specs.prpc_frame.specs.declared.frame.Frame.{Frame}
@@ -68,10 +68,7 @@ module _ (code : ℕ) where
 
   posted_to : (answer : Posted Asked) (b b' : Books) → PostedTo code answer b b' → Same b b'
   posted_to (HasLock k) b b' h = lost k.slot (parts k.word.0) k.content b b' h
-  posted_to IsQueued b b' h = same b b' h
-  posted_to (Gone found) b b' h = same b b' h
-  posted_to (Stale current) b b' h = same b b' h
-  posted_to (Crowded first second) b b' h = same b b' h
+  posted_to _ b b' h = same b b' h
 
   posted_if : (a : Bool) (slots w : ℕ) (b b' : Books) → PostedIf a slots code w b b' → Same b b'
   posted_if false slots w b b' h = same b b' h

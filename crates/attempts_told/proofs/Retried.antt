@@ -33,7 +33,7 @@ use Rattle.id_rule.specs.Lawful.{notes_of, call_index, with_kept}
 use Rattle.sock_message.specs.Asked.{Asked}
 use Rattle.corr_id.specs.declared.calls.IdLock.{IdLock}
 use Rattle.corr_id.specs.declared.posts.Posted.{Posted}
-use Rattle.corr_id.specs.declared.posts.Posted.TheVariants.{Locked as HasLock, Queued as IsQueued, Gone, Stale, Crowded}
+use Rattle.corr_id.specs.declared.posts.Posted.TheVariants.{Locked as HasLock, Gone, Crowded}
 use Rattle.corr_id.specs.declared.unlocks.Unlocked.{Unlocked}
 use Rattle.corr_id.specs.declared.unlocks.Unlocked.TheVariants.{Open, Next}
 use Rattle.corr_id.specs.Calls.{Did, one, advance_note, slot_of, version_of}
@@ -156,10 +156,7 @@ decided_moves (handling.goes_on s k code attempt t u l next of a b e rest) =
 
 handled_awaited : (code : ℕ) (attempt : Maybe ℕ) (answer : Posted Asked) (s t : CallStand) → Handled code attempt answer s t → Awaited s t
 handled_awaited code attempt (HasLock k) s t h = decided_awaited h
-handled_awaited code attempt IsQueued s t h = awaited_same s t h
-handled_awaited code attempt (Gone found) s t h = awaited_same s t h
-handled_awaited code attempt (Stale current) s t h = awaited_same s t h
-handled_awaited code attempt (Crowded first second) s t h = awaited_same s t h
+handled_awaited code attempt _ s t h = awaited_same s t h
 
 posted_awaited : (slots : ℕ) (s : CallStand) (id code : ℕ) (attempt : Maybe ℕ) (t : CallStand) → PostedBy slots s id code attempt t → Awaited s t
 posted_awaited slots s id code attempt t p = let x = p.1 in let u : CallStand = record { view = x.view; books = s.books } in

@@ -13,7 +13,7 @@ use Rattle.seat_programs.specs.declared.task.Task.{Task}
 use Rattle.corr_core.specs.Word.{Parts, parts}
 use Rattle.corr_core.specs.Law.{total, is_attempt, is_advance, is_ended}
 use Rattle.corr_core.specs.declared.marks.Note.{Note}
-use Rattle.corr_core.specs.declared.marks.Note.TheVariants.{Tried, Made, Ended, Locker, Queued, Attempt, Saw}
+use Rattle.corr_core.specs.declared.marks.Note.TheVariants.{Made, Attempt}
 use Rattle.corr_core.specs.declared.marks.Noted.{Noted}
 use Rattle.corr_core.specs.declared.marks.Plan as id_plan
 use Rattle.corr_core.specs.declared.marks.View.{View}
@@ -48,17 +48,12 @@ retry_is id n r some_ = dite (ℕ_discrete r.id id)
 
 -- an advance to an attempt is one
 attempt_advance : (f n : ℕ) (x : Note Asked) → is_attempt f n x ≤ is_advance f x
-attempt_advance f n Tried = omega arith
-attempt_advance f n (Made g r c) = omega arith
-attempt_advance f n (Ended g m) = omega arith
-attempt_advance f n (Locker g c) = omega arith
-attempt_advance f n (Queued g e) = omega arith
-attempt_advance f n (Saw w) = omega arith
 attempt_advance f n (Attempt g m) = dite (ℕ_discrete g f)
     (λ e. dite (ℕ_discrete m n)
     (λ y. let a = pair-at f n g m e y in let b = only-at f g e in omega (arith, a, b))
     (λ ne. let a = pair-else f n g m ne in omega (arith, a)))
     (λ ne. let a = pair-else_first f n g m ne in omega (arith, a))
+attempt_advance f n _ = omega arith
 
 attempts_few : (f n : ℕ) (ns : List (Note Asked)) → total (is_attempt f n) ns ≤ total (is_advance f) ns
 attempts_few f n ns = each_less (is_attempt f n) (is_advance f) ns (λ i x at. attempt_advance f n x)

@@ -22,7 +22,7 @@ use Rattle.seat_programs.specs.declared.task.Task.{Task}
 use Rattle.seat_programs.specs.ToldCalls.{Accepted}
 use Rattle.corr_core.specs.Law.{total, is_attempt}
 use Rattle.corr_core.specs.declared.marks.Note.{Note}
-use Rattle.corr_core.specs.declared.marks.Note.TheVariants.{Tried, Made, Ended, Locker, Queued, Attempt, Saw}
+use Rattle.corr_core.specs.declared.marks.Note.TheVariants.{Made}
 use Rattle.corr_core.specs.declared.marks.Noted.{Noted}
 use Rattle.corr_core.specs.declared.marks.Plan as id_plan
 use Rattle.corr_core.specs.declared.marks.View.{View}
@@ -197,15 +197,10 @@ module _ {O : Type 0} {g : Ghosts O} {state : O → OutState} {p : Plan} {q : id
 -- ## Ids that were made
 
 made_for : (f o : ℕ) (n : Note Asked) → 0 < is_made_for f o n → (r : ℕ) × (c : Asked) × (n ≡ Made f r c) × (c.operation ≡ o)
-made_for f o Tried h = absurd (omega arith)
-made_for f o (Ended g y) h = absurd (omega arith)
-made_for f o (Locker g c) h = absurd (omega arith)
-made_for f o (Queued g e) h = absurd (omega arith)
-made_for f o (Attempt g n) h = absurd (omega arith)
-made_for f o (Saw w) h = absurd (omega arith)
 made_for f o (Made g r c) h = dite (ℕ_discrete g f)
     (λ e. dite (ℕ_discrete c.operation o) (λ d. (r, c, ap (λ (x : ℕ). Made x r c) e, d)) (λ n. absurd (let k = pair-else f o g c.operation n in omega arith)))
     (λ n. absurd (let k = pair-else_first f o g c.operation n in omega arith))
+made_for f o _ h = absurd (omega arith)
 
 -- where one stands
 pub made_for_there : (f o : ℕ) (ns : List (Note Asked)) → 0 < total (is_made_for f o) ns → (r : ℕ) × (c : Asked) × (k : ℕ) × (get_elem? ns k ≡ some (Made f r c)) × (c.operation ≡ o)
@@ -300,12 +295,7 @@ module _ {O : Type 0} {g : Ghosts O} {state : O → OutState} {readers : List (L
       let is_ = subst (λ (o : ℕ). IsOperation tasks_all outcomes j o (ops.Call asked)) (sym own) is in
       of_call (own_attempt j asked a.0 0 e (omega arith) is_ id f (inl refl))
   acted_sent j number (ops.Call asked) (Some by) s t a is own v made within i e at = none_there i e at
-  acted_sent j number (ops.Open n k) by s t a is own v made within i e at = none_there i e at
-  acted_sent j number (ops.Expire o) by s t a is own v made within i e at = none_there i e at
-  acted_sent j number (ops.Join o) by s t a is own v made within i e at = none_there i e at
-  acted_sent j number (ops.Hold n) by s t a is own v made within i e at = none_there i e at
-  acted_sent j number (ops.Drop n) by s t a is own v made within i e at = none_there i e at
-  acted_sent j number (ops.Fail n code) by s t a is own v made within i e at = none_there i e at
+  acted_sent j number _ by s t a is own v made within i e at = none_there i e at
 
   -- by a deed of client j
   deed_sent : (j : ℕ) (c : Client g state p q) → get_elem? (all run) j ≡ some c → (k : ℕ) (d : Deed g state p q) → get_elem? (deeds_of c) k ≡ some d → (i : ℕ) (e : Entry) → get_elem? (entries_of d) i ≡ some e → SentBy (accepted_of e)

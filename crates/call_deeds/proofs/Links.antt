@@ -50,13 +50,7 @@ call_at p q (x ∷ xs) passes zero t m e = subst (λ (y : Task). IsOwnCall y.num
   where
     own : (op : Op) → Needs p q x.number op passes → IsOwnCall x.number op
     own (ops.Call asked) needs = needs.1
-    own (ops.Open n k) needs = tt
-    own (ops.Send n bytes) needs = tt
-    own (ops.Expire o) needs = tt
-    own (ops.Join o) needs = tt
-    own (ops.Hold n) needs = tt
-    own (ops.Drop n) needs = tt
-    own (ops.Fail n code) needs = tt
+    own _ needs = tt
 
 module _ {O : Type 0} {g : Ghosts O} (state : O → OutState) (p : Plan) (q : id_plan.Plan) where
   same_passes : (first : ℕ) (s t : Stand g) → t.passes ≡ s.passes → LinksDown first s.passes → LinksDown (first + 0) t.passes
@@ -79,12 +73,7 @@ module _ {O : Type 0} {g : Ghosts O} (state : O → OutState) (p : Plan) (q : id
   pub right_by : (first number : ℕ) (op : Op) (s t : Stand g) → LinksDown first s.passes → IsNextLink first op → IsOwnCall number op → IsRight number op s t
   right_by first number (ops.Open n k) s t d next own = λ pass e. (last_link first t.passes pass (subst (λ (l : List (LinkPass O g)). LinksDown first l) e d)).0 ∙ sym next
   right_by first number (ops.Call asked) s t d next own = own
-  right_by first number (ops.Send n bytes) s t d next own = tt
-  right_by first number (ops.Expire o) s t d next own = tt
-  right_by first number (ops.Join o) s t d next own = tt
-  right_by first number (ops.Hold n) s t d next own = tt
-  right_by first number (ops.Drop n) s t d next own = tt
-  right_by first number (ops.Fail n code) s t d next own = tt
+  right_by first number _ s t d next own = tt
 
   -- what is left behind the first n operations
   pub links_after : (first : ℕ) (xs : List Task) (n : ℕ) (s t : Course g) → LinksDown first s.has.passes → Ran state p q xs n s t → LinksDown (first + opens_of (take n xs)) t.has.passes

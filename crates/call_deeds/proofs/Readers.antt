@@ -29,11 +29,7 @@ use Rattle.call_deeds.proofs.Ends.{bare}
 coded : (h : How) → is_starved h ≡ false → IsReaderCode (code_of h)
 coded how.Fault calm = inr refl
 coded how.NoMemory calm = absurd (cc)
-coded how.End calm = inl refl
-coded how.Closed calm = inl refl
-coded how.Failed calm = inl refl
-coded how.Empty calm = inl refl
-coded how.Limit calm = inl refl
+coded _ calm = inl refl
 
 module _ {O : Type 0} (g : Ghosts O) (state : O → OutState) (p : Plan) (operation : ℕ) where
   -- all that it did, in the form of a reader's deeds

@@ -145,13 +145,8 @@ module _ {O : Type 0} (g : Ghosts O) (state : O → OutState) (p : Plan) (q : id
 is_said : (clients : List (List Task)) (outcomes : List (Option Outcome)) (number : ℕ) (op : Op) (by : Option Outcome) → ((o : Outcome) → by ≡ Some o → Became clients outcomes number o) → (by ≡ None → (n : ℕ) (bytes : List ℕ) → op ≡ ops.Send n bytes → slice_get outcomes number ≡ Some None) → (by ≡ None → Became clients outcomes number outcome.Unopened → ⊥) → IsSaid clients outcomes number op by
 is_said clients outcomes number (ops.Send n bytes) None said unsaid opened = unsaid refl n bytes refl
 is_said clients outcomes number (ops.Send n bytes) (Some o) said unsaid opened = said o refl
-is_said clients outcomes number (ops.Open n k) by said unsaid opened = said
 is_said clients outcomes number (ops.Call asked) by said unsaid opened = (said, opened)
-is_said clients outcomes number (ops.Expire o) by said unsaid opened = said
-is_said clients outcomes number (ops.Join o) by said unsaid opened = said
-is_said clients outcomes number (ops.Hold n) by said unsaid opened = said
-is_said clients outcomes number (ops.Drop n) by said unsaid opened = said
-is_said clients outcomes number (ops.Fail n code) by said unsaid opened = said
+is_said clients outcomes number _ by said unsaid opened = said
 
 -- ## The run
 

@@ -16,7 +16,7 @@ use Rattle.seat_programs.specs.declared.task.Task.{Task}
 use Rattle.corr_core.specs.Word.{Parts, parts}
 use Rattle.corr_core.specs.Law.{total, only, pair}
 use Rattle.corr_core.specs.declared.marks.Note.{Note}
-use Rattle.corr_core.specs.declared.marks.Note.TheVariants.{Tried, Made, Ended, Locker, Queued, Attempt, Saw}
+use Rattle.corr_core.specs.declared.marks.Note.TheVariants.{Made, Locker}
 use Rattle.corr_core.specs.declared.marks.Noted.{Noted}
 use Rattle.corr_core.specs.declared.marks.Plan as id_plan
 use Rattle.corr_core.specs.declared.marks.View.{View}
@@ -98,13 +98,8 @@ lock_stays k v w grows h = record {
 }
 
 locks_silent : (f o : ℕ) (x : Note Asked) → is_event x ≡ false → locks_for f o x ≡ 0
-locks_silent f o Tried e = refl
-locks_silent f o (Made a b c) e = refl
-locks_silent f o (Ended g y) e = refl
 locks_silent f o (Locker g c) e = let k : true ≡ false = e in cc
-locks_silent f o (Queued g d) e = refl
-locks_silent f o (Attempt g n) e = refl
-locks_silent f o (Saw w) e = refl
+locks_silent f o _ e = refl
 
 pub lock_known : (slots version : ℕ) (k : IdLock Asked) (v w : View Asked) → GotBy slots version k v w → KnowsLock k w
 lock_known slots version k v w g = record {

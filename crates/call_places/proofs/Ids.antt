@@ -10,7 +10,7 @@ use Rattle.corr_core.specs.Word.{parts}
 use Rattle.corr_core.specs.Law.{total, is_made, is_attempt}
 use Rattle.corr_core.specs.declared.marks.Kept.{Kept}
 use Rattle.corr_core.specs.declared.marks.Note.{Note}
-use Rattle.corr_core.specs.declared.marks.Note.TheVariants.{Tried, Made, Ended, Locker, Queued, Attempt, Saw}
+use Rattle.corr_core.specs.declared.marks.Note.TheVariants.{Made, Locker}
 use Rattle.corr_core.specs.declared.marks.Noted.{Noted}
 use Rattle.corr_core.specs.declared.marks.Plan as id_plan
 use Rattle.corr_core.specs.declared.marks.View.{View}
@@ -40,26 +40,16 @@ laws_of p notes kept words c = record { advanced_once = c.advanced_once; advance
 -- ## Notes by their weights
 
 pub locker_of : (f o : ℕ) (n : Note Asked) → 0 < locks_for f o n → (c : Asked) × (n ≡ Locker f c) × (c.operation ≡ o)
-locker_of f o Tried h = absurd (omega arith)
-locker_of f o (Made g r c) h = absurd (omega arith)
-locker_of f o (Ended g y) h = absurd (omega arith)
 locker_of f o (Locker g c) h = dite (ℕ_discrete g f)
     (λ e. dite (ℕ_discrete c.operation o)
     (λ d. (c, ap (λ (x : ℕ). Locker x c) e, d))
     (λ n. let k = pair-else f o g c.operation n in absurd (omega arith)))
     (λ n. let k = pair-else_first f o g c.operation n in absurd (omega arith))
-locker_of f o (Queued g e) h = absurd (omega arith)
-locker_of f o (Attempt g n) h = absurd (omega arith)
-locker_of f o (Saw w) h = absurd (omega arith)
+locker_of f o _ h = absurd (omega arith)
 
 made_of : (f : ℕ) (n : Note Asked) → 0 < is_made f n → (r : ℕ) × (c : Asked) × (n ≡ Made f r c)
-made_of f Tried h = absurd (omega arith)
 made_of f (Made g r c) h = dite (ℕ_discrete g f) (λ e. (r, c, ap (λ y. Made y r c) e)) (λ n. let k = only-else f g n in absurd (omega arith))
-made_of f (Ended g y) h = absurd (omega arith)
-made_of f (Locker g c) h = absurd (omega arith)
-made_of f (Queued g e) h = absurd (omega arith)
-made_of f (Attempt g n) h = absurd (omega arith)
-made_of f (Saw w) h = absurd (omega arith)
+made_of f _ h = absurd (omega arith)
 
 -- where they stand
 pub locker_there : (f o : ℕ) (ns : List (Note Asked)) → 0 < total (locks_for f o) ns → (c : Asked) × (k : ℕ) × (get_elem? ns k ≡ some (Locker f c)) × (c.operation ≡ o)

@@ -70,12 +70,7 @@ module _ {O : Type 0} (state : O → OutState) (p : Plan) (q : id_plan.Plan) (l 
   acted_place number (ops.Send n bytes) (Some by) s t a = omega arith
   acted_place number (ops.Call asked) None s t a = attempt_place a.1.socket _ a.1.at (both_of t) a.1.attempted
   acted_place number (ops.Call asked) (Some by) s t a = omega arith
-  acted_place number (ops.Open n k) by s t a = omega arith
-  acted_place number (ops.Expire of) by s t a = omega arith
-  acted_place number (ops.Join of) by s t a = omega arith
-  acted_place number (ops.Hold n) by s t a = omega arith
-  acted_place number (ops.Drop n) by s t a = omega arith
-  acted_place number (ops.Fail n code) by s t a = omega arith
+  acted_place number _ by s t a = omega arith
 
 abbrev pub labels : ℕ → Task → ℕ
 labels l x = label_in l x.number x.op

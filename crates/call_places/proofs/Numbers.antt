@@ -66,13 +66,7 @@ numbered_once p tss are o = once_of o tss are.in_order are.differ
 module _ (p : Plan) (q : id_plan.Plan) where
   own_call : (o number : ℕ) (op : Op) (passes : ℕ) → Needs p q number op passes → call_in o op ≤ only o number
   own_call o number (ops.Call asked) passes n = let e = ap (only o) n.1 in omega arith
-  own_call o number (ops.Open n k) passes h = omega arith
-  own_call o number (ops.Send n bytes) passes h = omega arith
-  own_call o number (ops.Expire of) passes h = omega arith
-  own_call o number (ops.Join of) passes h = omega arith
-  own_call o number (ops.Hold n) passes h = omega arith
-  own_call o number (ops.Drop n) passes h = omega arith
-  own_call o number (ops.Fail n code) passes h = omega arith
+  own_call o number _ passes h = omega arith
 
   -- a message's place index is eight times the number
   eight_times : (l number : ℕ) → only l (8 * number + 0) ≤ only (l / 8) number
@@ -83,12 +77,7 @@ module _ (p : Plan) (q : id_plan.Plan) where
   own_label : (l number : ℕ) (op : Op) (passes : ℕ) → Needs p q number op passes → label_in l number op ≤ only (l / 8) number
   own_label l number (ops.Call asked) passes n = let e = ap (only (l / 8)) n.1 in let x = eight_times l asked.operation in omega arith
   own_label l number (ops.Send n bytes) passes h = eight_times l number
-  own_label l number (ops.Open n k) passes h = omega arith
-  own_label l number (ops.Expire of) passes h = omega arith
-  own_label l number (ops.Join of) passes h = omega arith
-  own_label l number (ops.Hold n) passes h = omega arith
-  own_label l number (ops.Drop n) passes h = omega arith
-  own_label l number (ops.Fail n code) passes h = omega arith
+  own_label l number _ passes h = omega arith
 
   pub own_calls : (o : ℕ) (ts : List Task) (passes : ℕ) → MayMakeAll p q ts passes → total (λ (t : Task). call_in o t.op) ts ≤ total (numbered o) ts
   own_calls o [] passes m = omega arith
@@ -108,12 +97,7 @@ module _ (p : Plan) (q : id_plan.Plan) where
 no_label : (l number : ℕ) (op : Op) → 0 < l % 8 → label_in l number op ≡ 0
 no_label l number (ops.Send n bytes) some_ = only-else l (8 * number + 0) (λ e. omega (arith, e, some_))
 no_label l number (ops.Call asked) some_ = only-else l (8 * asked.operation + 0) (λ e. omega (arith, e, some_))
-no_label l number (ops.Open n k) some_ = refl
-no_label l number (ops.Expire of) some_ = refl
-no_label l number (ops.Join of) some_ = refl
-no_label l number (ops.Hold n) some_ = refl
-no_label l number (ops.Drop n) some_ = refl
-no_label l number (ops.Fail n code) some_ = refl
+no_label l number _ some_ = refl
 
 pub no_labels : (l : ℕ) (ts : List Task) → 0 < l % 8 → total (labels l) ts ≡ 0
 no_labels l [] some_ = refl

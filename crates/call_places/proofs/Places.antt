@@ -92,13 +92,7 @@ send_entry : {O : Type 0} {g : Ghosts O} (state : O → OutState) (p : Plan) (q 
     → (e : Entry) × (get_elem? (acted_entries state p q number op by s t a) 0 ≡ some e) × (e.heading.place ≡ 8 * number + 0) × (e.link < p.links)
 send_entry state p q number n bytes (ops.Send m bs) is None untold s t a = let x = a.0.delivered.accepted in (x.entry, refl, ap (λ (h : Heading). h.place) x.heading_is, x.inside)
 send_entry state p q number n bytes (ops.Send m bs) is (Some by) untold s t a = absurd (cc)
-send_entry state p q number n bytes (ops.Open m k) is by untold s t a = absurd (cc)
-send_entry state p q number n bytes (ops.Call asked) is by untold s t a = absurd (cc)
-send_entry state p q number n bytes (ops.Expire of) is by untold s t a = absurd (cc)
-send_entry state p q number n bytes (ops.Join of) is by untold s t a = absurd (cc)
-send_entry state p q number n bytes (ops.Hold m) is by untold s t a = absurd (cc)
-send_entry state p q number n bytes (ops.Drop m) is by untold s t a = absurd (cc)
-send_entry state p q number n bytes (ops.Fail m code) is by untold s t a = absurd (cc)
+send_entry state p q number n bytes _ is by untold s t a = absurd (cc)
 
 -- ## The clients of a run
 
@@ -130,6 +124,15 @@ module _ {O : Type 0} {g : Ghosts O} {state : O → OutState} {readers : List (L
   -- the setup's client and all others
   abbrev pub all : List (Client g state p (ids_of p slots))
   all = record { thread = run.ran.main; first = 0; is = run.ran.main_is } ∷ clients_from state p (ids_of p slots) (opened_names run.ran.main.ended.outcomes.items (openings setup)) (opens_of setup) run.ran.others run.ran.others_are
+
+  -- what the proofs on a run speak of: the plan of its ids, the tasks of its clients with the setup's, and the clients
+  pub record Crew : Type 0 where
+    pub q : id_plan.Plan
+    pub every : List (List Task)
+    pub crew : List (Client g state p q)
+
+  abbrev pub crew_of : Crew
+  crew_of = record { q = ids_of p slots; every = setup ∷ clients; crew = all }
 
   pub all_are : {B : Type 0} (f : Thread g → B) → map (λ (c : Client g state p (ids_of p slots)). f c.thread) all ≡ map f (run.ran.main ∷ run.ran.others)
   all_are f = ap (λ l. f run.ran.main ∷ l) (threads_are state p (ids_of p slots) f (opened_names run.ran.main.ended.outcomes.items (openings setup)) (opens_of setup) run.ran.others run.ran.others_are)

@@ -18,7 +18,7 @@ use Rattle.corr_core.specs.declared.marks.View.{View}
 use Rattle.id_rule.specs.Lawful.{notes_of, at_index, with_kept}
 use Rattle.sock_message.specs.Asked.{Asked}
 use Rattle.corr_id.specs.declared.posts.Posted.{Posted}
-use Rattle.corr_id.specs.declared.posts.Posted.TheVariants.{Locked as HasLock, Queued as IsQueued, Gone, Stale, Crowded}
+use Rattle.corr_id.specs.declared.posts.Posted.TheVariants.{Locked as HasLock, Queued as IsQueued}
 use Rattle.corr_id.specs.Calls.{slot_of, version_of, error_in, one, Quiet, Did, GotLock}
 use Rattle.corr_id.specs.Posts.{PostOk}
 use Rattle.corr_id.proofs.Doing.{became_grows}
@@ -61,9 +61,7 @@ none_got i v w word k c g = none_did i v w _ (one i (Locker k.first c)) g.did (�
 none_post : (slots : ℕ) (v w : View Asked) (id code : ℕ) (attempt : Option ℕ) (answer : Posted Asked) → PostOk slots v w id code attempt answer → MadeNone v w
 none_post slots v w id code attempt (HasLock k) p = none_got k.slot v w p.4.0 (parts k.word.0) k.content p.4.1
 none_post slots v w id code attempt IsQueued p = none_did (slot_of id) v w _ (one (slot_of id) (Queued (version_of id) (error_in code attempt))) p.0 (λ o. refl)
-none_post slots v w id code attempt (Gone found) p = none_quiet v w p.0
-none_post slots v w id code attempt (Stale current) p = none_quiet v w p.0
-none_post slots v w id code attempt (Crowded first second) p = none_quiet v w p.0
+none_post slots v w id code attempt _ p = none_quiet v w p.0
 
 none_ended : (slot : ℕ) (w : Parts) (call : Asked) (by : Outcome) (b b' : Books) → EndedAs slot w call by b b' → MadeNone b.view b'.view
 none_ended slot w call by b b' e = let one_end : List (Noted Asked) = one slot (Ended w.first w.attempt) in record {
@@ -96,10 +94,7 @@ module _ (code : ℕ) where
 
   none_posted_to : (answer : Posted Asked) (b b' : Books) → PostedTo code answer b b' → MadeNone b.view b'.view
   none_posted_to (HasLock k) b b' h = none_lost k.slot (parts k.word.0) k.content b b' h
-  none_posted_to IsQueued b b' h = none_same b b' h
-  none_posted_to (Gone found) b b' h = none_same b b' h
-  none_posted_to (Stale current) b b' h = none_same b b' h
-  none_posted_to (Crowded first second) b b' h = none_same b b' h
+  none_posted_to _ b b' h = none_same b b' h
 
   none_posted_if : (a : Bool) (slots w : ℕ) (b b' : Books) → PostedIf a slots code w b b' → MadeNone b.view b'.view
   none_posted_if false slots w b b' h = none_same b b' h

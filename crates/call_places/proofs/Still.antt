@@ -16,7 +16,7 @@ use Rattle.call_run.specs.call_client.specs.write_chain.specs.declared.right.Und
 use Rattle.corr_core.specs.Word.{Parts, parts}
 use Rattle.corr_core.specs.Law.{total, only, pair, is_attempt}
 use Rattle.corr_core.specs.declared.marks.Note.{Note}
-use Rattle.corr_core.specs.declared.marks.Note.TheVariants.{Tried, Made, Ended, Locker, Queued, Attempt, Saw}
+use Rattle.corr_core.specs.declared.marks.Note.TheVariants.{Made, Ended, Locker, Queued, Attempt}
 use Rattle.corr_core.specs.declared.marks.Noted.{Noted}
 use Rattle.corr_core.specs.declared.marks.Plan as id_plan
 use Rattle.corr_core.specs.declared.marks.Token.{Token}
@@ -26,7 +26,7 @@ use Rattle.id_rule.specs.Lawful.{notes_of, call_index, with_kept}
 use Rattle.sock_message.specs.Asked.{Asked}
 use Rattle.corr_id.specs.declared.calls.IdLock.{IdLock}
 use Rattle.corr_id.specs.declared.posts.Posted.{Posted}
-use Rattle.corr_id.specs.declared.posts.Posted.TheVariants.{Locked as HasLock, Queued as IsQueued, Gone, Stale, Crowded}
+use Rattle.corr_id.specs.declared.posts.Posted.TheVariants.{Locked as HasLock, Queued as IsQueued, Gone, Crowded}
 use Rattle.corr_id.specs.declared.unlocks.Unlocked.{Unlocked}
 use Rattle.corr_id.specs.declared.unlocks.Unlocked.TheVariants.{Open, Next}
 use Rattle.corr_id.specs.Calls.{Did, Quiet, GotLock, one, is_event, advance_note, slot_of, version_of, error_in}
@@ -104,22 +104,12 @@ pub makes_silent : (o : ℕ) (n : Noted Asked) → is_event n.note ≡ false →
 makes_silent o n e = by n.note e
   where
     by : (x : Note Asked) → is_event x ≡ false → makes_for o x ≡ 0
-    by Tried e = refl
     by (Made f r c) e = let k : true ≡ false = e in cc
-    by (Ended g y) e = refl
-    by (Locker g c) e = refl
-    by (Queued g d) e = refl
-    by (Attempt g m) e = refl
-    by (Saw w) e = refl
+    by _ e = refl
 
 pub attempt_silent : (f n : ℕ) (x : Note Asked) → is_event x ≡ false → is_attempt f n x ≡ 0
-attempt_silent f n Tried e = refl
-attempt_silent f n (Made a b c) e = refl
-attempt_silent f n (Ended g y) e = refl
-attempt_silent f n (Locker g c) e = refl
-attempt_silent f n (Queued g d) e = refl
 attempt_silent f n (Attempt g m) e = let k : true ≡ false = e in cc
-attempt_silent f n (Saw w) e = refl
+attempt_silent f n _ e = refl
 
 -- no id is made by these notes
 abbrev pub NoneMade : List (Noted Asked) → Type 0
@@ -221,16 +211,11 @@ decided_still (goes_on s k code attempt t u l next of a b e rest) = still_then s
 post_still : (slots : ℕ) (s t : CallStand) → t.books ≡ s.books → (id code : ℕ) (attempt : Maybe ℕ) (answer : Posted Asked) → PostOk slots s.view t.view id code attempt answer → Still s t
 post_still slots s t e id code attempt (HasLock k) p = got_still s t (ap (λ (b : Books). b.retries) e) k.slot p.4.0 (parts k.word.0) k.content p.4.1
 post_still slots s t e id code attempt IsQueued p = did_still s t (ap (λ (b : Books). b.retries) e) (slot_of id) _ (one (slot_of id) (Queued (version_of id) (error_in code attempt))) p.0 (λ o. refl)
-post_still slots s t e id code attempt (Gone found) p = quiet_still s t (ap (λ (b : Books). b.retries) e) p.0
-post_still slots s t e id code attempt (Stale current) p = quiet_still s t (ap (λ (b : Books). b.retries) e) p.0
-post_still slots s t e id code attempt (Crowded first second) p = quiet_still s t (ap (λ (b : Books). b.retries) e) p.0
+post_still slots s t e id code attempt _ p = quiet_still s t (ap (λ (b : Books). b.retries) e) p.0
 
 handled_still : (code : ℕ) (attempt : Maybe ℕ) (answer : Posted Asked) (s t : CallStand) → Handled code attempt answer s t → Still s t
 handled_still code attempt (HasLock k) s t h = decided_still h
-handled_still code attempt IsQueued s t h = still_same s t h
-handled_still code attempt (Gone found) s t h = still_same s t h
-handled_still code attempt (Stale current) s t h = still_same s t h
-handled_still code attempt (Crowded first second) s t h = still_same s t h
+handled_still code attempt _ s t h = still_same s t h
 
 pub posted_still : (slots : ℕ) (s : CallStand) (id code : ℕ) (attempt : Maybe ℕ) (t : CallStand) → PostedBy slots s id code attempt t → Still s t
 posted_still slots s id code attempt t p = let x = p.1 in let u : CallStand = record { view = x.view; books = s.books } in

@@ -17,7 +17,7 @@ use Rattle.corr_core.specs.declared.marks.Plan as id_plan
 use Rattle.sock_message.specs.Asked.{Asked}
 use Rattle.corr_id.specs.declared.calls.IdLock.{IdLock}
 use Rattle.corr_id.specs.declared.posts.Posted.{Posted}
-use Rattle.corr_id.specs.declared.posts.Posted.TheVariants.{Locked as HasLock, Queued as IsQueued, Gone, Stale, Crowded}
+use Rattle.corr_id.specs.declared.posts.Posted.TheVariants.{Locked as HasLock, Gone, Crowded}
 use Rattle.call_deeds.specs.Below.rpc_client.specs.declared.acting.Told.{Told}
 use Rattle.call_deeds.specs.Below.rpc_client.specs.declared.holding.Held.{Held}
 use Rattle.call_deeds.specs.Below.rpc_client.specs.Opening.{OpenedBy}
@@ -72,10 +72,7 @@ decided_fails (handling.goes_on s k code attempt t u l next of a b e rest) = fai
 
 handled_fails : (code : ℕ) (attempt : Maybe ℕ) (answer : Posted Asked) (s t : CallStand) → Handled code attempt answer s t → Fails s t
 handled_fails code attempt (HasLock k) s t d = decided_fails d
-handled_fails code attempt IsQueued s t e = fails_same s t (ap (λ (y : CallStand). y.books.told) e)
-handled_fails code attempt (Gone found) s t e = fails_same s t (ap (λ (y : CallStand). y.books.told) e)
-handled_fails code attempt (Stale current) s t e = fails_same s t (ap (λ (y : CallStand). y.books.told) e)
-handled_fails code attempt (Crowded first second) s t e = fails_same s t (ap (λ (y : CallStand). y.books.told) e)
+handled_fails code attempt _ s t e = fails_same s t (ap (λ (y : CallStand). y.books.told) e)
 
 changes_fail : {xs : List Task} {s t : CallStand} → Changes xs s t → Fails s t
 changes_fail (same s t e) = fails_same s t (ap (λ (y : CallStand). y.books.told) e)

@@ -79,12 +79,7 @@ module _ (q : id_plan.Plan) where
       acted_come x op is (Some by) s t old new h e = told_one x.number x by old new t.calls.view refl e
       acted_come x (ops.Send n bytes) is None s t old new h e = sends n bytes is
       acted_come x (ops.Call asked) is None s t old new h e = began asked h.0 is (made_begun asked h.0 (both_of s) (both_of t) h.1)
-      acted_come x (ops.Open n k) is None s t old new h e = elim h [ ]
-      acted_come x (ops.Expire of) is None s t old new h e = elim h [ ]
-      acted_come x (ops.Join of) is None s t old new h e = elim h [ ]
-      acted_come x (ops.Hold n) is None s t old new h e = elim h [ ]
-      acted_come x (ops.Drop n) is None s t old new h e = elim h [ ]
-      acted_come x (ops.Fail n code) is None s t old new h e = elim h [ ]
+      acted_come x _ is None s t old new h e = elim h [ ]
 
       one_come : (x : Task) (s t : Course g) → Made state p q x s t → HasCome q x t.told t.has.calls.view
       one_come x s t m = acted_come x x.op refl m.by m.ready t.has s.told t.told m.acted m.told

@@ -12,7 +12,7 @@ use Rattle.corr_core.specs.declared.marks.Plan.{Plan}
 use Rattle.corr_core.specs.declared.marks.View.{View}
 use Rattle.id_rule.specs.Lawful.{at_index, with_kept}
 use Rattle.corr_id.specs.declared.posts.Posted.{Posted}
-use Rattle.corr_id.specs.declared.posts.Posted.TheVariants.{Locked as HasLock, Queued as IsQueued, Gone, Stale, Crowded}
+use Rattle.corr_id.specs.declared.posts.Posted.TheVariants.{Locked as HasLock}
 use Rattle.corr_id.specs.Calls.{GotLock, slot_of}
 use Rattle.corr_id.specs.Posts.{PostOk}
 use Rattle.sock_message.specs.Asked.{Asked}
@@ -145,10 +145,7 @@ module _ (p : Plan) (links : ℕ) (gave : ℕ → List ℕ) where
 
     posted_to : (v : View Asked) (id : ℕ) (attempt : Option ℕ) (answer : Posted Asked) (b b' : Books) → PostOk p.slots v b.view id code attempt answer → PostedTo code answer b b' → Step b b'
     posted_to v id attempt (HasLock k) b b' post h = lost_step k.slot post.1 (parts k.word.0) k.content v post.4.0 b b' post.4.1 h
-    posted_to v id attempt IsQueued b b' post h = step_same b b' h
-    posted_to v id attempt (Gone found) b b' post h = step_same b b' h
-    posted_to v id attempt (Stale current) b b' post h = step_same b b' h
-    posted_to v id attempt (Crowded first second) b b' post h = step_same b b' h
+    posted_to v id attempt _ b b' post h = step_same b b' h
 
     posted_if : (a : Bool) (w : ℕ) (b b' : Books) → PostedIf a p.slots code w b b' → Step b b'
     posted_if false w b b' h = step_same b b' h

@@ -4,7 +4,7 @@ use Rattle.std.specs.List.{AllByRecursion}
 use Rattle.corr_core.specs.Word.{Parts}
 use Rattle.corr_core.specs.Law.{total, only}
 use Rattle.corr_core.specs.declared.marks.Note.{Note}
-use Rattle.corr_core.specs.declared.marks.Note.TheVariants.{Tried, Made, Ended, Locker, Queued, Attempt, Saw}
+use Rattle.corr_core.specs.declared.marks.Note.TheVariants.{Made, Locker}
 use Rattle.corr_core.specs.declared.marks.View.{View}
 use Rattle.corr_core.proofs.Notes.{pair-same}
 use Rattle.id_rule.specs.Lawful.{notes_of}
@@ -18,22 +18,12 @@ use Rattle.call_told.proofs.Lists.{all_then}
 
 -- only events count
 pub locked_silent : (first operation : ℕ) (n : Note Asked) → is_event n ≡ false → is_locked_for first operation n ≡ 0
-locked_silent first operation Tried e = refl
-locked_silent first operation (Saw w) e = refl
-locked_silent first operation (Made a b c) e = refl
-locked_silent first operation (Ended g y) e = refl
 locked_silent first operation (Locker g c) e = let k : true ≡ false = e in cc
-locked_silent first operation (Queued g d) e = refl
-locked_silent first operation (Attempt g n) e = refl
+locked_silent first operation _ e = refl
 
 pub made_silent : (first operation : ℕ) (n : Note Asked) → is_event n ≡ false → is_made_for first operation n ≡ 0
-made_silent first operation Tried e = refl
-made_silent first operation (Saw w) e = refl
 made_silent first operation (Made a b c) e = let k : true ≡ false = e in cc
-made_silent first operation (Ended g y) e = refl
-made_silent first operation (Locker g c) e = refl
-made_silent first operation (Queued g d) e = refl
-made_silent first operation (Attempt g n) e = refl
+made_silent first operation _ e = refl
 
 -- one note, in its own slot
 pub counted_here : (g : Note Asked → ℕ) (slot : ℕ) (n : Note Asked) → total g (notes_of slot (one slot n)) ≡ g n

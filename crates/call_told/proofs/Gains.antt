@@ -39,10 +39,7 @@ gains_then s m t a b x y = record {
 
 taken_length : (room : List ℕ) (answer : Take) → IsTakeCount room answer → length (given_of room answer) ≡ taken_count answer
 taken_length room (take_.Took n) c = length-take-le n room c.1
-taken_length room take_.Empty c = refl
-taken_length room take_.End c = refl
-taken_length room take_.Closed c = refl
-taken_length room take_.Failed c = refl
+taken_length room _ c = refl
 
 gains_take : (s t : InState) (room : List ℕ) (answer : Take) → TakeStep s t room answer → Gains s t (given_of room answer)
 gains_take s t room answer step = record { known = step.bytes; count = (let a = step.gave in let b = taken_length room answer step.count in omega arith) }

@@ -10,7 +10,7 @@ use Rattle.corr_core.specs.declared.marks.View.{View}
 use Rattle.id_rule.specs.Lawful.{notes_of, with_kept}
 use Rattle.sock_message.specs.Asked.{Asked}
 use Rattle.corr_id.specs.declared.posts.Posted.{Posted}
-use Rattle.corr_id.specs.declared.posts.Posted.TheVariants.{Locked as HasLock, Queued as IsQueued, Gone, Stale, Crowded}
+use Rattle.corr_id.specs.declared.posts.Posted.TheVariants.{Locked as HasLock, Queued as IsQueued}
 use Rattle.corr_id.specs.Calls.{Became, Did, Quiet}
 use Rattle.corr_id.specs.Posts.{PostOk}
 use Rattle.corr_id.proofs.Doing.{became_grows}
@@ -56,9 +56,7 @@ module _ (x : ℕ) where
   pub post_grows : (slots : ℕ) (v w : View Asked) (id code : ℕ) (attempt : Maybe ℕ) (answer : Posted Asked) → PostOk slots v w id code attempt answer → Grows x 0 v w
   post_grows slots v w id code attempt (HasLock k) p = did_grows k.slot v w _ _ p.4.1.did
   post_grows slots v w id code attempt IsQueued p = did_grows _ v w _ _ p.0
-  post_grows slots v w id code attempt (Gone found) p = quiet_grows v w p.0
-  post_grows slots v w id code attempt (Stale current) p = quiet_grows v w p.0
-  post_grows slots v w id code attempt (Crowded first second) p = quiet_grows v w p.0
+  post_grows slots v w id code attempt _ p = quiet_grows v w p.0
 
   -- one word more is kept in mind
   pub kept_grows : (n : ℕ) (v w : View Asked) (place : ℕ) (own : Bool) (word : ℕ) → w ≡ with_kept place own word v → own_at x (record { place = place; own = own; word = word }) ≤ n → Grows x n v w

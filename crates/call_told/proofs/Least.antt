@@ -10,7 +10,7 @@ use lib.ListN.{get_elem?}
 use Rattle.corr_core.specs.Law.{total, only, pair, is_made}
 use Rattle.corr_core.specs.declared.marks.Kept.{Kept}
 use Rattle.corr_core.specs.declared.marks.Note.{Note}
-use Rattle.corr_core.specs.declared.marks.Note.TheVariants.{Tried, Made, Ended, Locker, Queued, Attempt, Saw}
+use Rattle.corr_core.specs.declared.marks.Note.TheVariants.{Made, Locker}
 use Rattle.corr_core.specs.declared.marks.Noted.{Noted}
 use Rattle.corr_core.specs.declared.marks.Plan.{Plan}
 use Rattle.corr_core.specs.declared.marks.View.{View}
@@ -70,21 +70,11 @@ pair_apart f a b n g c = dite (ℕ_discrete c a)
 
 made_apart : (f a b : ℕ) → a ≢ b → (n : Note Asked) → is_made_for f a n + is_made_for f b n ≤ is_made f n
 made_apart f a b n (Made g r c) = pair_apart f a b n g c.operation
-made_apart f a b n Tried = omega arith
-made_apart f a b n (Ended g y) = omega arith
-made_apart f a b n (Locker g c) = omega arith
-made_apart f a b n (Queued g e) = omega arith
-made_apart f a b n (Attempt g m) = omega arith
-made_apart f a b n (Saw w) = omega arith
+made_apart f a b n _ = omega arith
 
 made_is : (f a : ℕ) (n : Note Asked) → is_made_for f a n ≤ is_made f n
 made_is f a (Made g r c) = pair_le f a g c.operation
-made_is f a Tried = omega arith
-made_is f a (Ended g y) = omega arith
-made_is f a (Locker g c) = omega arith
-made_is f a (Queued g e) = omega arith
-made_is f a (Attempt g m) = omega arith
-made_is f a (Saw w) = omega arith
+made_is f a _ = omega arith
 
 -- a seat stored one word at a place
 owned_apart : (x a b : ℕ) → a ≢ b → (own : Bool) (place word : ℕ) → cond own (pair x a place word) 0 + cond own (pair x b place word) 0 ≤ cond own (only x place) 0
@@ -105,12 +95,7 @@ pub lock_of : (f o : ℕ) (n : Note Asked) → 0 < is_locked_for f o n → (call
 lock_of f o (Locker g c) h = dite (ℕ_discrete g f)
     (λ e. dite (ℕ_discrete c.operation o) (λ d. (c, ap (λ (y : ℕ). Locker y c) e, d)) (λ n. absurd (let a = pair-else f o g c.operation n in omega arith)))
     (λ n. absurd (let a = pair-else_first f o g c.operation n in omega arith))
-lock_of f o Tried h = absurd (omega arith)
-lock_of f o (Made g r c) h = absurd (omega arith)
-lock_of f o (Ended g y) h = absurd (omega arith)
-lock_of f o (Queued g e) h = absurd (omega arith)
-lock_of f o (Attempt g m) h = absurd (omega arith)
-lock_of f o (Saw w) h = absurd (omega arith)
+lock_of f o _ h = absurd (omega arith)
 
 only_is : (a b : ℕ) → 0 < only a b → b ≡ a
 only_is a b h = dite (ℕ_discrete b a) (λ e. e) (λ n. absurd (let z = only-else a b n in omega arith))

@@ -16,13 +16,9 @@ use Rattle.call_told.proofs.Gains.{met_bytes, rest_bytes}
 use Rattle.call_told.proofs.Ending.{Step, step_then, frames_step, posted_all, rest_step}
 
 pub loss_of : (h : How) → IsLossCode (code_of h)
-loss_of how.End = at_end refl
-loss_of how.Closed = at_end refl
-loss_of how.Failed = at_end refl
-loss_of how.Empty = at_end refl
-loss_of how.Limit = at_end refl
 loss_of how.Fault = at_fault refl
 loss_of how.NoMemory = at_want refl
+loss_of _ = at_end refl
 
 -- ## One link
 

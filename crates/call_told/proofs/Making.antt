@@ -11,7 +11,7 @@ use Rattle.seat_programs.specs.declared.task.Task.{Task}
 use Rattle.corr_core.specs.Word.{Parts, parts}
 use Rattle.corr_core.specs.Law.{is_any_made}
 use Rattle.corr_core.specs.declared.marks.Note.{Note}
-use Rattle.corr_core.specs.declared.marks.Note.TheVariants.{Tried, Made, Ended, Locker, Queued, Attempt, Saw}
+use Rattle.corr_core.specs.declared.marks.Note.TheVariants.{Made, Attempt}
 use Rattle.corr_core.specs.declared.marks.Noted.{Noted}
 use Rattle.corr_core.specs.declared.marks.Plan as id_plan
 use Rattle.corr_core.specs.declared.marks.View.{View}
@@ -19,7 +19,7 @@ use Rattle.id_rule.specs.Lawful.{notes_of}
 use Rattle.sock_message.specs.Asked.{Asked}
 use Rattle.corr_id.specs.declared.calls.IdLock.{IdLock}
 use Rattle.corr_id.specs.declared.posts.Posted.{Posted}
-use Rattle.corr_id.specs.declared.posts.Posted.TheVariants.{Locked as HasLock, Queued as IsQueued, Gone, Stale, Crowded}
+use Rattle.corr_id.specs.declared.posts.Posted.TheVariants.{Locked as HasLock}
 use Rattle.corr_id.specs.declared.unlocks.Unlocked.{Unlocked}
 use Rattle.corr_id.specs.declared.unlocks.Unlocked.TheVariants.{Open, Next}
 use Rattle.corr_id.specs.Calls.{is_event, events, one, advance_note}
@@ -53,10 +53,7 @@ still_later s t e = later_same s.view t.view (ap (λ (y : CallStand). y.view.not
 
 handled_later : (code : ℕ) (attempt : Maybe ℕ) (answer : Posted Asked) (s t : CallStand) → Handled code attempt answer s t → Later s.view t.view
 handled_later code attempt (HasLock k) s t h = decided_later h
-handled_later code attempt IsQueued s t h = still_later s t h
-handled_later code attempt (Gone found) s t h = still_later s t h
-handled_later code attempt (Stale current) s t h = still_later s t h
-handled_later code attempt (Crowded first second) s t h = still_later s t h
+handled_later code attempt _ s t h = still_later s t h
 
 -- ## What is known of a range and its call
 
@@ -74,13 +71,8 @@ module _ (P : ℕ → Asked → Type 0) where
   SeatMade v = AllMade (events v.notes)
 
   none_fits : (n : Note Asked) → is_any_made n ≡ 0 → FitsMade n
-  none_fits Tried e = tt
   none_fits (Made f r asked) e = absurd (omega (arith, e))
-  none_fits (Ended f y) e = tt
-  none_fits (Locker f c) e = tt
-  none_fits (Queued f d) e = tt
-  none_fits (Attempt f n) e = tt
-  none_fits (Saw w) e = tt
+  none_fits _ e = tt
 
   none_fit : (ns : List (Noted Asked)) → NoneMade ns → AllMade ns
   none_fit [] h = tt
@@ -117,13 +109,8 @@ module _ (P : ℕ → Asked → Type 0) where
   -- ## All notes of a slot
 
   event_fits : (n : Note Asked) → is_event n ≡ false → FitsMade n
-  event_fits Tried e = tt
   event_fits (Made f r asked) e = let k : true ≡ false = e in absurd (cc)
-  event_fits (Ended f y) e = tt
-  event_fits (Locker f c) e = tt
-  event_fits (Queued f d) e = tt
-  event_fits (Attempt f n) e = tt
-  event_fits (Saw w) e = tt
+  event_fits _ e = tt
 
   all_by : (n : Noted Asked) (ns : List (Noted Asked)) → (AllMade (events ns) → AllMade ns) → (b : Bool) → is_event n.note ≡ b → AllMade (cond b (n ∷ events ns) (events ns)) → AllMade (n ∷ ns)
   all_by n ns rest true e h = (h.0, rest h.1)

@@ -44,13 +44,10 @@ use Rattle.call_told.proofs.Unanswered.{EndOf, WasMet, twice_never, ended_never}
 
 -- no whole frame is left, and no fault
 pub ends_whole : (h : How) (ending : Bool) (answer : Take) (left : List ℕ) (total : ℕ) → code_of h ≡ EEOF → EndsBy ending h answer left total → judged left ≡ NoneYet
-ends_whole how.End ending answer left total e x = x.1
-ends_whole how.Closed ending answer left total e x = x.1
-ends_whole how.Failed ending answer left total e x = x.1
 ends_whole how.Empty ending answer left total e x = x.2
-ends_whole how.Limit ending answer left total e x = x.1
 ends_whole how.Fault ending answer left total e x = absurd (omega (arith, e))
 ends_whole how.NoMemory ending answer left total e x = absurd (omega (arith, e))
+ends_whole _ ending answer left total e x = x.1
 
 mapped_at : (fs : List Frame) (n : ℕ) (x : model.Frame) → slice_get (map frame_of fs) n ≡ Some x → (f : Frame) × (get_elem? fs n ≡ some f) × (frame_of f ≡ x)
 mapped_at [] n x e = absurd (cc)

@@ -32,7 +32,7 @@ use Rattle.id_rule.specs.Lawful.{at_index, call_index, notes_of}
 use Rattle.sock_message.specs.Asked.{Asked}
 use Rattle.corr_id.specs.declared.calls.IdLock.{IdLock}
 use Rattle.corr_id.specs.declared.posts.Posted.{Posted}
-use Rattle.corr_id.specs.declared.posts.Posted.TheVariants.{Locked as HasLock, Queued as IsQueued, Gone, Stale, Crowded}
+use Rattle.corr_id.specs.declared.posts.Posted.TheVariants.{Locked as HasLock, Gone, Crowded}
 use Rattle.corr_id.specs.Calls.{slot_of, one}
 use Rattle.corr_id.specs.Posts.{PostOk}
 use Rattle.call_deeds.specs.Below.call_errors.specs.declared.retries.Retry.{Retry}
@@ -159,10 +159,7 @@ module _ (q : id_plan.Plan) (operation : ℕ) where
 
   handled : (id code : ℕ) (attempt : Maybe ℕ) (answer : Posted Asked) (u s t : CallStand) → PostOk q.slots u.view s.view id code attempt answer → Handled code attempt answer s t → Moves 0 s t
   handled id code attempt (HasLock k) u s t post d = decided d (post.1, got_locked k.slot u.view s.view post.4.0 (parts k.word.0) k.content post.4.1)
-  handled id code attempt IsQueued u s t post e = moves_same 0 s t e
-  handled id code attempt (Gone found) u s t post e = moves_same 0 s t e
-  handled id code attempt (Stale current) u s t post e = moves_same 0 s t e
-  handled id code attempt (Crowded first second) u s t post e = moves_same 0 s t e
+  handled id code attempt _ u s t post e = moves_same 0 s t e
 
   pub posted : (s : CallStand) (id code : ℕ) (attempt : Maybe ℕ) (t : CallStand) → PostedBy q.slots s id code attempt t → Moves 0 s t
   posted s id code attempt t p =

@@ -20,7 +20,7 @@ use Rattle.corr_core.specs.declared.marks.View.{View}
 use Rattle.corr_core.proofs.Notes.{only-same}
 use Rattle.id_rule.specs.Lawful.{at_index, notes_of, with_kept}
 use Rattle.corr_id.specs.declared.posts.Posted.{Posted}
-use Rattle.corr_id.specs.declared.posts.Posted.TheVariants.{Locked as HasLock, Queued as IsQueued, Gone, Stale, Crowded}
+use Rattle.corr_id.specs.declared.posts.Posted.TheVariants.{Locked as HasLock}
 use Rattle.corr_id.specs.Attempts.{LacksAttempt}
 use Rattle.corr_id.specs.Calls.{Became, one, slot_of, version_of, is_saw, Found, FoundUpTo, GotLock}
 use Rattle.corr_id.specs.Posts.{PostOk}
@@ -242,17 +242,11 @@ module _ (slots : ℕ) where
 
     pub post_grows : (v w : View Asked) (id : ℕ) (attempt : Option ℕ) (answer : Posted Asked) → PostOk slots v w id code attempt answer → NotesGrow v w
     post_grows v w id attempt (HasLock k) p = p.4.1.did.grows
-    post_grows v w id attempt IsQueued p = p.0.grows
-    post_grows v w id attempt (Gone found) p = p.0.grows
-    post_grows v w id attempt (Stale current) p = p.0.grows
-    post_grows v w id attempt (Crowded first second) p = p.0.grows
+    post_grows v w id attempt _ p = p.0.grows
 
     posted_to : (v : View Asked) (id : ℕ) (attempt : Option ℕ) (answer : Posted Asked) (b b' : Books) → PostOk slots v b.view id code attempt answer → PostedTo code answer b b' → Goes slots b b'
     posted_to v id attempt (HasLock k) b b' post h = lost_goes k.slot (parts k.word.0) k.content v post.4.0 b b' post.4.1 h
-    posted_to v id attempt IsQueued b b' post h = goes_same b b' h
-    posted_to v id attempt (Gone found) b b' post h = goes_same b b' h
-    posted_to v id attempt (Stale current) b b' post h = goes_same b b' h
-    posted_to v id attempt (Crowded first second) b b' post h = goes_same b b' h
+    posted_to v id attempt _ b b' post h = goes_same b b' h
 
     -- a response that was kept is met again
     again_goes : (w : ℕ) (b b' : Books) → MetKept slots w b b' → Goes slots b b'

@@ -13,14 +13,14 @@ use Rattle.sock_io.specs.Link.{InState}
 use Rattle.corr_core.specs.Word.{Parts, parts}
 use Rattle.corr_core.specs.Law.{only, is_ended}
 use Rattle.corr_core.specs.declared.marks.Note.{Note}
-use Rattle.corr_core.specs.declared.marks.Note.TheVariants.{Tried, Made, Ended, Locker, Queued, Attempt, Saw}
+use Rattle.corr_core.specs.declared.marks.Note.TheVariants.{Ended, Locker, Queued}
 use Rattle.corr_core.specs.declared.marks.Noted.{Noted}
 use Rattle.corr_core.specs.declared.marks.Plan.{Plan}
 use Rattle.corr_core.specs.declared.marks.Token.{Token}
 use Rattle.corr_core.specs.declared.marks.View.{View}
 use Rattle.id_rule.specs.Lawful.{at_index, call_index, with_kept}
 use Rattle.corr_id.specs.declared.posts.Posted.{Posted}
-use Rattle.corr_id.specs.declared.posts.Posted.TheVariants.{Locked as HasLock, Queued as IsQueued, Gone, Stale, Crowded}
+use Rattle.corr_id.specs.declared.posts.Posted.TheVariants.{Locked as HasLock, Queued as IsQueued}
 use Rattle.corr_id.specs.Calls.{slot_of, version_of, error_in, is_event, one, Quiet, Did, GotLock}
 use Rattle.corr_id.specs.Posts.{PostOk}
 use Rattle.sock_message.specs.Asked.{Asked}
@@ -80,13 +80,8 @@ tally_seen b v h grows = tally_quiet b (record b { view = v }) (λ s. s) refl h 
 -- ## No call ended by what the seat noted
 
 ended_silent : (first : ℕ) (n : Note Asked) → is_event n ≡ false → is_ended first n ≡ 0
-ended_silent first Tried e = refl
-ended_silent first (Saw w) e = refl
-ended_silent first (Made a b c) e = refl
 ended_silent first (Ended g y) e = let k : true ≡ false = e in cc
-ended_silent first (Locker g c) e = refl
-ended_silent first (Queued g d) e = refl
-ended_silent first (Attempt g n) e = refl
+ended_silent first _ e = refl
 
 quiet_ends : (v w : View Asked) → Quiet v w → SameEnds v.notes w.notes
 quiet_ends v w q slot first = quiet_total (is_ended first) (ended_silent first) v w q slot
@@ -100,9 +95,7 @@ got_ends at v w word k call got = one_ends at v w _ (Locker k.first call) got.di
 post_ends : (slots : ℕ) (v w : View Asked) (id code : ℕ) (attempt : Option ℕ) (answer : Posted Asked) → PostOk slots v w id code attempt answer → SameEnds v.notes w.notes
 post_ends slots v w id code attempt (HasLock k) p = got_ends k.slot v w p.4.0 (parts k.word.0) k.content p.4.1
 post_ends slots v w id code attempt IsQueued p = one_ends (slot_of id) v w _ (Queued (version_of id) (error_in code attempt)) p.0 (λ first. refl)
-post_ends slots v w id code attempt (Gone found) p = quiet_ends v w p.0
-post_ends slots v w id code attempt (Stale current) p = quiet_ends v w p.0
-post_ends slots v w id code attempt (Crowded first second) p = quiet_ends v w p.0
+post_ends slots v w id code attempt _ p = quiet_ends v w p.0
 
 -- ## A call ended
 
@@ -187,10 +180,7 @@ module _ (code : ℕ) where
 
   posted_to : (slots : ℕ) (v : View Asked) (id : ℕ) (attempt : Option ℕ) (answer : Posted Asked) (b b' : Books) → PostOk slots v b.view id code attempt answer → PostedTo code answer b b' → Tally b b'
   posted_to slots v id attempt (HasLock k) b b' post h = lost_tally k.slot (parts k.word.0) k.content b b' (let low = k.fits.low in omega arith) (got_locked k.slot v b.view post.4.0 (parts k.word.0) k.content post.4.1) h
-  posted_to slots v id attempt IsQueued b b' post h = tally_same b b' h
-  posted_to slots v id attempt (Gone found) b b' post h = tally_same b b' h
-  posted_to slots v id attempt (Stale current) b b' post h = tally_same b b' h
-  posted_to slots v id attempt (Crowded first second) b b' post h = tally_same b b' h
+  posted_to slots v id attempt _ b b' post h = tally_same b b' h
 
   posted_if : (a : Bool) (slots w : ℕ) (b b' : Books) → PostedIf a slots code w b b' → Tally b b'
   posted_if false slots w b b' h = tally_same b b' h

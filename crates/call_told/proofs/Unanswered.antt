@@ -15,7 +15,7 @@ use Rattle.corr_core.specs.declared.marks.Plan.{Plan}
 use Rattle.corr_core.specs.declared.marks.View.{View}
 use Rattle.id_rule.specs.Lawful.{at_index, notes_of, with_kept}
 use Rattle.corr_id.specs.declared.posts.Posted.{Posted}
-use Rattle.corr_id.specs.declared.posts.Posted.TheVariants.{Locked as HasLock, Queued as IsQueued, Gone, Stale, Crowded}
+use Rattle.corr_id.specs.declared.posts.Posted.TheVariants.{Locked as HasLock}
 use Rattle.corr_id.specs.Calls.{Became, one, slot_of, is_saw, Found, GotLock, HasId}
 use Rattle.corr_id.specs.Posts.{PostOk}
 use Rattle.corr_id.specs.Closing.{Closing}
@@ -197,10 +197,7 @@ module _ (slots : ℕ) (Given : Frame → Type 0) (asked : (f : Frame) → Given
 
     posted_to : (v : View Asked) (id : ℕ) (attempt : Option ℕ) (answer : Posted Asked) (b b' : Books) → PostOk slots v b.view id code attempt answer → AllMet b → (b.starved ≡ true → ⊥) → PostedTo code answer b b' → TellsEnds b b'
     posted_to v id attempt (HasLock k) b b' post all calm h = lost_tells k.slot post.1 (parts k.word.0) (let low = k.fits.low in omega (arith, low)) k.content v post.4.0 b b' post.4.1 all calm h
-    posted_to v id attempt IsQueued b b' post all calm h = tells_same b b' h
-    posted_to v id attempt (Gone found) b b' post all calm h = tells_same b b' h
-    posted_to v id attempt (Stale current) b b' post all calm h = tells_same b b' h
-    posted_to v id attempt (Crowded first second) b b' post all calm h = tells_same b b' h
+    posted_to v id attempt _ b b' post all calm h = tells_same b b' h
 
     -- told from a book that differs in its view and in what is kept
     from_other : (b c b' : Books) → c.told ≡ b.told → TellsEnds c b' → TellsEnds b b'

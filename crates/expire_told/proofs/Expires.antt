@@ -50,7 +50,7 @@ use Rattle.call_told.specs.call_places.specs.Counted.{HaveNotesOf}
 use Rattle.call_told.specs.call_places.proofs.Weights.{term, two_terms}
 use Rattle.call_told.specs.call_places.proofs.Numbers.{numbered_once}
 use Rattle.call_told.specs.call_places.proofs.Clients.{Client, total_map, view_of, tasks_of}
-use Rattle.call_told.specs.call_places.proofs.Places.{all as all_clients, all_are, views_are, tasks_are}
+use Rattle.call_told.specs.call_places.proofs.Places.{all_are, views_are, tasks_are, crew_of}
 use Rattle.call_told.specs.Least.{is_made_for, HasBegun}
 use Rattle.call_told.proofs.Balance.{noted_ends}
 use Rattle.call_told.proofs.Growing.{own_at}
@@ -108,14 +108,7 @@ module _ {O : Type 0} {g : Ghosts O} {state : O → OutState} {readers : List (L
     (run : RanWith g state readers p slots setup clients opens told ended places vrefs outs ids) (tasks : AreTasks p (setup ∷ clients)) (may : MayRunAll p (ids_of p slots) setup clients)
     (notes : List (Noted Asked)) (kept : List Kept) (words : List ℕ) (closing : Closing (ids_of p slots) notes kept words) (noted : HaveNotesOf ids notes) (keeps : HaveKeptOf ids kept)
     (outcomes : List (Option Outcome)) (said_own : AreSaid outcomes told) (said_ended : AreSaid outcomes ended) where
-  abbrev q : id_plan.Plan
-  q = ids_of p slots
-
-  abbrev every : List (List Task)
-  every = setup ∷ clients
-
-  abbrev crew : List (Client g state p q)
-  crew = all_clients run
+  open crew_of run use {q, every, crew}
 
   -- ## Clients and their tasks
 

@@ -15,7 +15,7 @@ use Rattle.id_rule.specs.Lawful.{call_index}
 use Rattle.sock_message.specs.Asked.{Asked}
 use Rattle.corr_id.specs.declared.calls.IdLock.{IdLock}
 use Rattle.corr_id.specs.declared.posts.Posted.{Posted}
-use Rattle.corr_id.specs.declared.posts.Posted.TheVariants.{Locked as HasLock, Queued as IsQueued, Gone, Stale, Crowded}
+use Rattle.corr_id.specs.declared.posts.Posted.TheVariants.{Locked as HasLock}
 use Rattle.corr_id.specs.Calls.{slot_of, version_of, one}
 use Rattle.call_told.specs.Below.call_table.specs.declared.errors.Decision.TheVariants as decisions
 use Rattle.call_told.specs.Below.call_errors.specs.Books.{Books, CallStand, starving, Tells, told, lost}
@@ -105,7 +105,4 @@ module _ (q : id_plan.Plan) where
             found = found;
             ended = once_more k ERPCTIMEDOUT s u t h.id p.post.0 p.post.2 (g.1.did.grows k.slot (is_ended (parts k.word.0).first)) end;
           }
-      by IsQueued e p = absurd (cc)
-      by (Gone f) e p = absurd (cc)
-      by (Stale f) e p = absurd (cc)
-      by (Crowded f g) e p = absurd (cc)
+      by _ e p = absurd (cc)

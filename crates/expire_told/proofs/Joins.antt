@@ -40,6 +40,7 @@ use Rattle.call_told.specs.Below.call_client.specs.Running.{Course, Made, begins
 use Rattle.call_told.specs.Below.call_run.specs.Readers.{LinkReader}
 use Rattle.call_told.specs.Below.call_run.specs.Threads.{RanWith, MayRunAll, ids_of}
 use Rattle.call_told.specs.call_places.specs.Counted.{HaveNotesOf}
+use Rattle.call_told.specs.call_places.proofs.Places.{crew_of}
 use Rattle.call_told.specs.call_places.proofs.Clients.{Client, view_of, tasks_of}
 use Rattle.call_told.specs.Least.{HasBegun}
 use Rattle.call_told.proofs.Lists.{all_at}
@@ -78,11 +79,7 @@ module _ {O : Type 0} {g : Ghosts O} {state : O → OutState} {readers : List (L
     (run : RanWith g state readers p slots setup clients opens told ended places vrefs outs ids) (tasks : AreTasks p (setup ∷ clients)) (may : MayRunAll p (ids_of p slots) setup clients)
     (notes : List (Noted Asked)) (kept : List Kept) (words : List ℕ) (closing : Closing (ids_of p slots) notes kept words) (noted : HaveNotesOf ids notes) (keeps : HaveKeptOf ids kept)
     (outcomes : List (Option Outcome)) (said_own : AreSaid outcomes told) (said_ended : AreSaid outcomes ended) where
-  abbrev q : id_plan.Plan
-  q = ids_of p slots
-
-  abbrev every : List (List Task)
-  every = setup ∷ clients
+  open crew_of run use {q, every}
 
   abbrev IsDone : ℕ → Task → Type 0
   IsDone c t = IsMade run tasks may notes kept words closing noted keeps outcomes said_own said_ended c t

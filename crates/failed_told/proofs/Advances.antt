@@ -15,7 +15,6 @@ use Rattle.corr_core.specs.Law.{total}
 use Rattle.corr_core.specs.Word.{Parts, parts, code_of}
 use Rattle.corr_core.specs.declared.marks.Kept.{Kept}
 use Rattle.corr_core.specs.declared.marks.Noted.{Noted}
-use Rattle.corr_core.specs.declared.marks.Plan as id_plan
 use Rattle.corr_core.specs.declared.marks.View.{View}
 use Rattle.sock_message.specs.Asked.{Asked}
 use Rattle.corr_id.specs.Closing.{Closing}
@@ -31,7 +30,7 @@ use Rattle.attempts_told.specs.call_whys.specs.expire_told.specs.Below.call_run.
 use Rattle.attempts_told.specs.call_whys.specs.expire_told.specs.call_places.specs.Counted.{HaveNotesOf}
 use Rattle.attempts_told.specs.call_whys.specs.expire_told.specs.call_places.specs.Deeds.{Deed}
 use Rattle.attempts_told.specs.call_whys.specs.expire_told.specs.call_places.proofs.Clients.{Client, view_of, tasks_of, deeds_of}
-use Rattle.attempts_told.specs.call_whys.specs.expire_told.specs.call_places.proofs.Places.{all as all_clients}
+use Rattle.attempts_told.specs.call_whys.specs.expire_told.specs.call_places.proofs.Places.{crew_of}
 use Rattle.attempts_told.specs.call_whys.specs.expire_told.specs.Said.{AreSaid}
 use Rattle.failed_told.specs.Missed.{missed_in, id_of, IsBacked, attempt_of}
 use Rattle.failed_told.specs.Reasons.{WasDropped, Reason, timed_out, missed, dropped, AdvancedFor}
@@ -73,11 +72,7 @@ module _ {O : Type 0} {g : Ghosts O} {state : O → OutState} {readers : List (L
     (notes : List (Noted Asked)) (kept : List Kept) (words : List ℕ) (closing : Closing (ids_of p slots) notes kept words) (noted : HaveNotesOf ids notes)
     -- whatever the clients didn't queue has a code with which whoever reads the links ends calls
     (others : (i first e : ℕ) → 0 < queued_in i first e notes → (0 < total (λ (v : View Asked). queued_in i first e v.notes) ids) ⊎ IsReadCode (code_of e)) where
-  abbrev q : id_plan.Plan
-  q = ids_of p slots
-
-  abbrev crew : List (Client g state p q)
-  crew = all_clients run
+  open crew_of run use {q, crew}
 
   -- the attempt came to nothing, as one of the clients' deeds
   pub record MissedAt (id n : ℕ) : Type 0 where

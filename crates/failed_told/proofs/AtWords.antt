@@ -31,7 +31,7 @@ use Rattle.id_rule.specs.Lawful.{at_index, call_index, is_stored, notes_of, with
 use Rattle.sock_message.specs.Asked.{Asked}
 use Rattle.corr_id.specs.declared.calls.IdLock.{IdLock}
 use Rattle.corr_id.specs.declared.posts.Posted.{Posted}
-use Rattle.corr_id.specs.declared.posts.Posted.TheVariants.{Locked as HasLock, Queued as IsQueued, Gone, Stale, Crowded}
+use Rattle.corr_id.specs.declared.posts.Posted.TheVariants.{Locked as HasLock, Gone, Crowded}
 use Rattle.corr_id.specs.Calls.{slot_of, version_of, one}
 use Rattle.corr_id.specs.Posts.{PostOk}
 use Rattle.attempts_told.specs.call_whys.specs.expire_told.specs.Below.write_chain.specs.declared.right.Undelivered.{Undelivered}
@@ -140,10 +140,7 @@ found_none at seen v place word = zero-add (stored_in place word v)
 
 post_keeps : (slots : ℕ) (v w : View Asked) (id code : ℕ) (attempt : Option ℕ) (answer : Posted Asked) → PostOk slots v w id code attempt answer → Keeps v w
 post_keeps slots v w id code attempt (HasLock k) p = p.4.1.did.kept
-post_keeps slots v w id code attempt IsQueued p = p.0.kept
-post_keeps slots v w id code attempt (Gone found) p = p.0.kept
-post_keeps slots v w id code attempt (Stale current) p = p.0.kept
-post_keeps slots v w id code attempt (Crowded first second) p = p.0.kept
+post_keeps slots v w id code attempt _ p = p.0.kept
 
 decided_keeps : {s : CallStand} {k : IdLock Asked} {code : ℕ} {attempt : Option ℕ} {t : CallStand} → Decided s k code attempt t → Keeps s.view t.view
 decided_keeps (handling.ends s k code attempt t a b e) = e.ended.kept
@@ -156,10 +153,7 @@ same_keeps s t e = ap (λ (y : CallStand). y.view.kept) e
 
 handled_keeps : (code : ℕ) (attempt : Option ℕ) (answer : Posted Asked) (s t : CallStand) → Handled code attempt answer s t → Keeps s.view t.view
 handled_keeps code attempt (HasLock k) s t d = decided_keeps d
-handled_keeps code attempt IsQueued s t e = same_keeps s t e
-handled_keeps code attempt (Gone found) s t e = same_keeps s t e
-handled_keeps code attempt (Stale current) s t e = same_keeps s t e
-handled_keeps code attempt (Crowded first second) s t e = same_keeps s t e
+handled_keeps code attempt _ s t e = same_keeps s t e
 
 posted_keeps : (slots : ℕ) (s : CallStand) (id code : ℕ) (attempt : Option ℕ) (t : CallStand) → PostedBy slots s id code attempt t → Keeps s.view t.view
 posted_keeps slots s id code attempt t b = handled_keeps code attempt b.0 (record { view = b.1.view; books = s.books }) t b.1.handled ∙ post_keeps slots s.view b.1.view id code attempt b.0 b.1.post

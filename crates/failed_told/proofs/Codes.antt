@@ -59,13 +59,7 @@ module _ {O : Type 0} (state : O → OutState) (p : Plan) (q : id_plan.Plan) (co
   acted_code : {g : Ghosts O} (number : ℕ) (op : Op) (by : Option Outcome) (s t : Stand g) (a : Acted state p q number op by s t) → acted_missed state p q number op by s t a ≡ Some code → IsMissCode code
   acted_code number (ops.Call asked) None s t a e = attempt_code a.1.socket _ a.1.at (both_of t) a.1.attempted e
   acted_code number (ops.Call asked) (Some by) s t a e = absurd (none-some code e)
-  acted_code number (ops.Open n k) by s t a e = absurd (none-some code e)
-  acted_code number (ops.Send n bytes) by s t a e = absurd (none-some code e)
-  acted_code number (ops.Expire of) by s t a e = absurd (none-some code e)
-  acted_code number (ops.Join of) by s t a e = absurd (none-some code e)
-  acted_code number (ops.Hold n) by s t a e = absurd (none-some code e)
-  acted_code number (ops.Drop n) by s t a e = absurd (none-some code e)
-  acted_code number (ops.Fail n c) by s t a e = absurd (none-some code e)
+  acted_code number _ by s t a e = absurd (none-some code e)
 
 pub deed_code : {O : Type 0} {g : Ghosts O} {state : O → OutState} {p : Plan} {q : id_plan.Plan} (d : Deed g state p q) (code : ℕ) → missed_in d ≡ Some code → IsMissCode code
 deed_code {state = state} {p = p} {q = q} (operates x by s t a) code e = acted_code state p q code x.number x.op by s t a e

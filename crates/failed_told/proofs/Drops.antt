@@ -30,11 +30,10 @@ use Rattle.seat_programs.specs.declared.task.Op.{Op}
 use Rattle.seat_programs.specs.declared.task.Op.TheVariants as ops
 use Rattle.seat_programs.specs.declared.task.Task.{Task}
 use Rattle.seat_programs.specs.Told.{AreTasks}
-use Rattle.seat_programs.specs.ToldCalls.{Accepted, Fixed, Order, MayBeOn, IsFailing, IsDropped, WhyLost, WasFailing, IsFailedWith, all_accepted}
+use Rattle.seat_programs.specs.ToldCalls.{Accepted, MayBeOn, IsFailing, IsDropped, WhyLost, WasFailing, IsFailedWith, all_accepted}
 use Rattle.corr_core.specs.declared.marks.Kept.{Kept}
 use Rattle.corr_core.specs.declared.marks.Note.TheVariants.{Made}
 use Rattle.corr_core.specs.declared.marks.Noted.{Noted}
-use Rattle.corr_core.specs.declared.marks.Plan as id_plan
 use Rattle.corr_core.specs.declared.marks.View.{View}
 use Rattle.id_rule.specs.Lawful.{notes_of}
 use Rattle.sock_message.specs.Asked.{Asked, name_of}
@@ -45,7 +44,7 @@ use Rattle.attempts_told.specs.call_whys.specs.expire_told.specs.Below.call_run.
 use Rattle.attempts_told.specs.call_whys.specs.expire_told.specs.call_places.specs.Counted.{HaveNotesOf}
 use Rattle.attempts_told.specs.call_whys.specs.expire_told.specs.call_places.proofs.Clients.{Client, deeds_of}
 use Rattle.attempts_told.specs.call_whys.specs.expire_told.specs.call_places.proofs.Ids.{IsIdOf}
-use Rattle.attempts_told.specs.call_whys.specs.expire_told.specs.call_places.proofs.Places.{all as all_clients}
+use Rattle.attempts_told.specs.call_whys.specs.expire_told.specs.call_places.proofs.Places.{crew_of}
 use Rattle.attempts_told.specs.call_whys.specs.expire_told.specs.Below.sock_deeds.specs.Left.{accepted_of}
 use Rattle.attempts_told.specs.call_whys.specs.expire_told.specs.Below.sock_deeds.specs.Deeds as socks
 use Rattle.attempts_told.specs.call_whys.specs.expire_told.specs.Below.sock_deeds.specs.Runs.{IsOperation, IsMessage, of_send, of_call, Seated, seat_of, early_of, DeedRun}
@@ -64,7 +63,7 @@ use Rattle.attempts_told.specs.call_whys.specs.expire_told.specs.Below.sock_deed
 use Rattle.attempts_told.specs.call_whys.specs.expire_told.specs.Below.sock_deeds.proofs.Sent.{sent_life}
 use Rattle.attempts_told.specs.call_whys.specs.expire_told.specs.Below.sock_deeds.proofs.Stores.{note_is}
 use Rattle.attempts_told.specs.call_whys.specs.expire_told.specs.Below.sock_deeds.proofs.Tasks.{same_task}
-use Rattle.attempts_told.specs.call_whys.specs.expire_told.specs.Below.sock_deeds.proofs.Whole.{fixed}
+use Rattle.attempts_told.specs.call_whys.specs.expire_told.specs.Below.sock_deeds.proofs.Whole.{laws_of}
 use Rattle.attempts_told.specs.Attempts.{last_attempt}
 use Rattle.failed_told.specs.Missed.{socks_behind}
 use Rattle.failed_told.specs.Reasons.{StillHas, WasDropped}
@@ -133,20 +132,8 @@ module _ {O : Type 0} {g : Ghosts O} {state : O → OutState} {readers : List (L
     (all_there : length (log drun) ≤ all_accepted p.links (orders drun differ)) (few : p.operations ≤ 65536) (few_links : p.links ≤ 65536)
     -- the codes that a `fail` may have in a script
     (bounds : (client number name code : ℕ) → IsOperation (setup ∷ clients) outcomes client number (ops.Fail name code) → (1500 ≤ code) × (code ≤ 1999)) where
-  abbrev q : id_plan.Plan
-  q = ids_of p slots
-
-  abbrev every : List (List Task)
-  every = setup ∷ clients
-
-  abbrev crew : List (Client g state p q)
-  crew = all_clients run
-
-  abbrev fixed_here : Fixed
-  fixed_here = fixed drun differ gave
-
-  abbrev orders_here : ℕ → Order
-  orders_here = orders drun differ
+  open crew_of run use {q, every, crew}
+  open laws_of drun differ gave use {fixed_here, orders_here}
 
   -- why the message of attempt n of this call was dropped with this code
   abbrev WhyDroppedWith : ℕ → Asked → ℕ → ℕ → Type 0

@@ -16,13 +16,12 @@ use Rattle.attempts_told.specs.call_whys.specs.expire_told.specs.Below.sock_rule
 use Rattle.seat_programs.specs.declared.task.Op.TheVariants as ops
 use Rattle.seat_programs.specs.declared.task.Task.{Task}
 use Rattle.seat_programs.specs.Told.{AreTasks, IsTask}
-use Rattle.seat_programs.specs.ToldCalls.{Accepted, Fixed, Order, IsDropped, IsFailedWith, WhyLost, FailedBy, BySocket, ByFail, all_accepted}
+use Rattle.seat_programs.specs.ToldCalls.{Accepted, IsDropped, IsFailedWith, WhyLost, FailedBy, BySocket, ByFail, all_accepted}
 use Rattle.corr_core.specs.Law.{total, is_attempt}
 use Rattle.corr_core.specs.Word.{parts, code_of}
 use Rattle.corr_core.specs.declared.marks.Kept.{Kept}
 use Rattle.corr_core.specs.declared.marks.Note.TheVariants.{Made}
 use Rattle.corr_core.specs.declared.marks.Noted.{Noted}
-use Rattle.corr_core.specs.declared.marks.Plan as id_plan
 use Rattle.corr_core.specs.declared.marks.View.{View}
 use Rattle.id_rule.specs.Lawful.{notes_of}
 use Rattle.sock_message.specs.Asked.{Asked, name_of}
@@ -39,7 +38,7 @@ use Rattle.attempts_told.specs.call_whys.specs.expire_told.specs.call_places.spe
 use Rattle.attempts_told.specs.call_whys.specs.expire_told.specs.call_places.proofs.Still.{advances}
 use Rattle.attempts_told.specs.call_whys.specs.expire_told.specs.call_places.proofs.Ids.{IsIdOf}
 use Rattle.attempts_told.specs.call_whys.specs.expire_told.specs.call_places.proofs.Clients.{Client, view_of, tasks_of, deeds_of}
-use Rattle.attempts_told.specs.call_whys.specs.expire_told.specs.call_places.proofs.Places.{all as all_clients, all_are}
+use Rattle.attempts_told.specs.call_whys.specs.expire_told.specs.call_places.proofs.Places.{all as all_clients, all_are, crew_of}
 use Rattle.attempts_told.specs.call_whys.specs.expire_told.specs.call_told.proofs.Lists.{all_at}
 use Rattle.attempts_told.specs.call_whys.specs.expire_told.specs.call_deeds.specs.Retried.{all_asked}
 use Rattle.attempts_told.specs.call_whys.specs.expire_told.specs.call_deeds.proofs.Ran.{AreLater}
@@ -48,7 +47,7 @@ use Rattle.attempts_told.specs.call_whys.specs.expire_told.specs.Below.sock_deed
 use Rattle.attempts_told.specs.call_whys.specs.expire_told.specs.Below.sock_deeds.proofs.Accepting.{log}
 use Rattle.attempts_told.specs.call_whys.specs.expire_told.specs.Below.sock_deeds.proofs.Orders.{orders, entry_on}
 use Rattle.attempts_told.specs.call_whys.specs.expire_told.specs.Below.sock_deeds.proofs.Tasks.{same_task}
-use Rattle.attempts_told.specs.call_whys.specs.expire_told.specs.Below.sock_deeds.proofs.Whole.{fixed, log_accepted}
+use Rattle.attempts_told.specs.call_whys.specs.expire_told.specs.Below.sock_deeds.proofs.Whole.{fixed, log_accepted, laws_of}
 use Rattle.attempts_told.specs.Attempts.{last_attempt}
 use Rattle.attempts_told.proofs.Told.{same_asked}
 use Rattle.failed_told.specs.Missed.{id_of, attempt_of}
@@ -99,17 +98,8 @@ module _ {O : Type 0} {g : Ghosts O} {state : O → OutState} {readers : List (L
     -- the last attempt of a call leaves its range
     (few : (client : ℕ) (t : Task) (asked : Asked) → IsTask (setup ∷ clients) outcomes client t → t.op ≡ ops.Call asked → last_attempt notes t.number + 2 ≤ asked.range)
     (dropped_why : TellsDrops run notes outcomes drun differ gave) where
-  abbrev q : id_plan.Plan
-  q = ids_of p slots
-
-  abbrev every : List (List Task)
-  every = setup ∷ clients
-
-  abbrev fixed_here : Fixed
-  fixed_here = fixed drun differ gave
-
-  abbrev orders_here : ℕ → Order
-  orders_here = orders drun differ
+  open crew_of run use {q, every}
+  open laws_of drun differ gave use {fixed_here, orders_here}
 
   -- an attempt that a link accepted is none behind the last one
   accepted_low : (o id n : ℕ) → n < 8 → IsIdOf slots notes o id → IsDropped p every outcomes fixed_here gave orders_here o n → n ≤ last_attempt notes o

@@ -24,13 +24,12 @@ use Rattle.seat_programs.specs.declared.task.Op.{Op}
 use Rattle.seat_programs.specs.declared.task.Op.TheVariants as ops
 use Rattle.seat_programs.specs.declared.task.Task.{Task}
 use Rattle.seat_programs.specs.Told.{AreTasks}
-use Rattle.seat_programs.specs.ToldCalls.{Accepted, Fixed, IsFailing, IsUnordered, WasFull, WhyLost, WasFailing, FailedBy, BySocket, ByRequests, all_accepted}
+use Rattle.seat_programs.specs.ToldCalls.{Accepted, IsFailing, IsUnordered, WasFull, WhyLost, WasFailing, FailedBy, BySocket, ByRequests, all_accepted}
 use Rattle.corr_core.specs.Law.{is_made}
 use Rattle.corr_core.specs.declared.marks.Kept.{Kept}
 use Rattle.corr_core.specs.declared.marks.Note.{Note}
 use Rattle.corr_core.specs.declared.marks.Note.TheVariants.{Made}
 use Rattle.corr_core.specs.declared.marks.Noted.{Noted}
-use Rattle.corr_core.specs.declared.marks.Plan as id_plan
 use Rattle.corr_core.specs.declared.marks.View.{View}
 use Rattle.corr_core.proofs.Notes.{only-at}
 use Rattle.id_rule.specs.Lawful.{notes_of}
@@ -46,7 +45,7 @@ use Rattle.attempts_told.specs.call_whys.specs.expire_told.specs.call_places.spe
 use Rattle.attempts_told.specs.call_whys.specs.expire_told.specs.call_places.proofs.Weights.{two_terms}
 use Rattle.attempts_told.specs.call_whys.specs.expire_told.specs.call_places.proofs.Ids.{IsIdOf}
 use Rattle.attempts_told.specs.call_whys.specs.expire_told.specs.call_places.proofs.Clients.{Client, view_of, deeds_of}
-use Rattle.attempts_told.specs.call_whys.specs.expire_told.specs.call_places.proofs.Places.{all as all_clients, all_are}
+use Rattle.attempts_told.specs.call_whys.specs.expire_told.specs.call_places.proofs.Places.{all_are, crew_of}
 use Rattle.attempts_told.specs.call_whys.specs.expire_told.specs.call_told.proofs.Lists.{all_at}
 use Rattle.attempts_told.specs.call_whys.specs.expire_told.specs.Below.sock_deeds.specs.Deeds as socks
 use Rattle.attempts_told.specs.call_whys.specs.expire_told.specs.Below.sock_deeds.specs.Runs.{IsOperation, Seated, seat_of, DeedRun}
@@ -56,7 +55,7 @@ use Rattle.attempts_told.specs.call_whys.specs.expire_told.specs.Below.sock_deed
 use Rattle.attempts_told.specs.call_whys.specs.expire_told.specs.Below.sock_deeds.proofs.Lives.{MadeHere, found_made}
 use Rattle.attempts_told.specs.call_whys.specs.expire_told.specs.Below.sock_deeds.proofs.Orders.{orders, entry_on}
 use Rattle.attempts_told.specs.call_whys.specs.expire_told.specs.Below.sock_deeds.proofs.Tasks.{fits}
-use Rattle.attempts_told.specs.call_whys.specs.expire_told.specs.Below.sock_deeds.proofs.Whole.{fixed}
+use Rattle.attempts_told.specs.call_whys.specs.expire_told.specs.Below.sock_deeds.proofs.Whole.{laws_of}
 use Rattle.failed_told.specs.Missed.{missed_in, id_of, IsBacked, attempt_of, socks_behind}
 use Rattle.failed_told.proofs.Losses.{SawDead, SawFull, dead_later, full_later, WhyMissed, was_dead, was_full, was_unopened, was_stray}
 use Rattle.failed_told.proofs.Reaching.{Reaches, deeds_reach}
@@ -146,17 +145,8 @@ module _ {O : Type 0} {g : Ghosts O} {state : O → OutState} {readers : List (L
     (drun : DeedRun g state p (setup ∷ clients) outcomes places vrefs outs) (seats : map seat_of drun.seats ≡ map (λ (x : Thread g). x.ended.seat) (run.ran.main ∷ run.ran.others)) (logged : log drun ≡ run.closed.ordered.log) (differ : PlacesDiffer (log drun)) (gave : ℕ → List ℕ)
     -- the links accepted all messages of the log
     (all_there : length (log drun) ≤ all_accepted p.links (orders drun differ)) where
-  abbrev q : id_plan.Plan
-  q = ids_of p slots
-
-  abbrev every : List (List Task)
-  every = setup ∷ clients
-
-  abbrev crew : List (Client g state p q)
-  crew = all_clients run
-
-  abbrev fixed_here : Fixed
-  fixed_here = fixed drun differ gave
+  open crew_of run use {q, every, crew}
+  open laws_of drun differ gave use {fixed_here}
 
   -- the seat of a client
   pub its_seat : (c : ℕ) (x : Client g state p q) → get_elem? crew c ≡ some x → (y : Seated g state p) × (get_elem? drun.seats c ≡ some y) × (y.ended.view ≡ x.thread.ended.seat.me.0)

@@ -19,7 +19,7 @@ use Rattle.seat_programs.specs.declared.task.Op.{Op}
 use Rattle.seat_programs.specs.declared.task.Op.TheVariants as ops
 use Rattle.seat_programs.specs.declared.task.Task.{Task}
 use Rattle.seat_programs.specs.Told.{AreTasks, Became}
-use Rattle.seat_programs.specs.ToldCalls.{Fixed, Order, IsUnordered, WhyLost, WasFailing, RunEnding, WasUnopened}
+use Rattle.seat_programs.specs.ToldCalls.{IsUnordered, WhyLost, WasFailing, RunEnding, WasUnopened}
 use Rattle.corr_core.specs.Law.{total, is_attempt, is_ended}
 use Rattle.corr_core.specs.declared.marks.Kept.{Kept}
 use Rattle.corr_core.specs.declared.marks.Note.TheVariants.{Made}
@@ -44,7 +44,7 @@ use Rattle.attempts_told.specs.call_whys.specs.expire_told.specs.call_places.pro
 use Rattle.attempts_told.specs.call_whys.specs.expire_told.specs.call_places.proofs.Own.{deed_of}
 use Rattle.attempts_told.specs.call_whys.specs.expire_told.specs.call_places.proofs.Ids.{IsIdOf}
 use Rattle.attempts_told.specs.call_whys.specs.expire_told.specs.call_places.proofs.Clients.{Client, total_map, view_of, tasks_of, deeds_of}
-use Rattle.attempts_told.specs.call_whys.specs.expire_told.specs.call_places.proofs.Places.{all as all_clients, views_are, noted_among, may_make}
+use Rattle.attempts_told.specs.call_whys.specs.expire_told.specs.call_places.proofs.Places.{all as all_clients, views_are, noted_among, may_make, crew_of}
 use Rattle.attempts_told.specs.call_whys.specs.expire_told.specs.call_told.specs.Least.{is_made_for}
 use Rattle.attempts_told.specs.call_whys.specs.expire_told.specs.call_told.proofs.Lists.{all_at}
 use Rattle.attempts_told.specs.call_whys.specs.expire_told.specs.call_deeds.specs.Retried.{all_asked}
@@ -54,9 +54,8 @@ use Rattle.attempts_told.specs.call_whys.specs.expire_told.specs.Below.report_fi
 use Rattle.attempts_told.specs.call_whys.specs.expire_told.specs.Said.{AreSaid}
 use Rattle.attempts_told.specs.call_whys.specs.expire_told.specs.Below.sock_deeds.specs.Runs.{IsOperation, seat_of, DeedRun}
 use Rattle.attempts_told.specs.call_whys.specs.expire_told.specs.Below.sock_deeds.proofs.Accepting.{log}
-use Rattle.attempts_told.specs.call_whys.specs.expire_told.specs.Below.sock_deeds.proofs.Orders.{orders}
 use Rattle.attempts_told.specs.call_whys.specs.expire_told.specs.Below.sock_deeds.proofs.Tasks.{same_task}
-use Rattle.attempts_told.specs.call_whys.specs.expire_told.specs.Below.sock_deeds.proofs.Whole.{fixed, log_accepted}
+use Rattle.attempts_told.specs.call_whys.specs.expire_told.specs.Below.sock_deeds.proofs.Whole.{log_accepted, laws_of}
 use Rattle.attempts_told.specs.Attempts.{last_attempt}
 use Rattle.attempts_told.proofs.Last.{IsReached, one_reached, none_further}
 use Rattle.attempts_told.proofs.RetriedLast.{WentFor, last_went}
@@ -98,13 +97,7 @@ module _ {O : Type 0} (state : O → OutState) (p : Plan) (q : id_plan.Plan) whe
   acted_low : {g : Ghosts O} (number : ℕ) (op : Op) (by : Option Outcome) (s t : Stand g) (a : Acted state p q number op by s t) (link : ℕ) → acted_link state p q number op by s t a ≡ Some link → link < p.links
   acted_low number (ops.Call asked) None s t a link is = attempt_low a.1.socket _ a.1.at (both_of t) a.1.attempted link is
   acted_low number (ops.Call asked) (Some by) s t a link is = absurd (none-some link is)
-  acted_low number (ops.Open n k) by s t a link is = absurd (none-some link is)
-  acted_low number (ops.Send n bytes) by s t a link is = absurd (none-some link is)
-  acted_low number (ops.Expire of) by s t a link is = absurd (none-some link is)
-  acted_low number (ops.Join of) by s t a link is = absurd (none-some link is)
-  acted_low number (ops.Hold n) by s t a link is = absurd (none-some link is)
-  acted_low number (ops.Drop n) by s t a link is = absurd (none-some link is)
-  acted_low number (ops.Fail n code) by s t a link is = absurd (none-some link is)
+  acted_low number _ by s t a link is = absurd (none-some link is)
 
   -- where none was, its socket was gone, or there was none
   attempt_nowhere : (socket : SocketId) (msg : Letter) (s t : Both) (a : AttemptedBy state p q socket msg s t) → attempt_link state p q socket msg s t a ≡ None → attempt_missed state p q socket msg s t a ≡ Some EFAILEDSOCKET
@@ -119,13 +112,7 @@ module _ {O : Type 0} (state : O → OutState) (p : Plan) (q : id_plan.Plan) whe
   acted_nowhere : {g : Ghosts O} (number : ℕ) (op : Op) (by : Option Outcome) (s t : Stand g) (a : Acted state p q number op by s t) (asked : Asked) → op ≡ ops.Call asked → by ≡ None → acted_link state p q number op by s t a ≡ None → acted_missed state p q number op by s t a ≡ Some EFAILEDSOCKET
   acted_nowhere number (ops.Call own) None s t a asked op tried is = attempt_nowhere a.1.socket _ a.1.at (both_of t) a.1.attempted is
   acted_nowhere number (ops.Call own) (Some by) s t a asked op tried is = absurd (none-some by (sym tried))
-  acted_nowhere number (ops.Open n k) by s t a asked op tried is = absurd (cc)
-  acted_nowhere number (ops.Send n bytes) by s t a asked op tried is = absurd (cc)
-  acted_nowhere number (ops.Expire of) by s t a asked op tried is = absurd (cc)
-  acted_nowhere number (ops.Join of) by s t a asked op tried is = absurd (cc)
-  acted_nowhere number (ops.Hold n) by s t a asked op tried is = absurd (cc)
-  acted_nowhere number (ops.Drop n) by s t a asked op tried is = absurd (cc)
-  acted_nowhere number (ops.Fail n code) by s t a asked op tried is = absurd (cc)
+  acted_nowhere number _ by s t a asked op tried is = absurd (cc)
 
 module _ {O : Type 0} {g : Ghosts O} {state : O → OutState} {p : Plan} {q : id_plan.Plan} where
   deed_low : (d : Deed g state p q) (link : ℕ) → link_in d ≡ Some link → link < p.links
@@ -158,23 +145,12 @@ module _ {O : Type 0} {g : Ghosts O} {state : O → OutState} {readers : List (L
     -- what the seats did at the table of sockets
     (drun : DeedRun g state p (setup ∷ clients) outcomes places vrefs outs) (seats : map seat_of drun.seats ≡ map (λ (x : Thread g). x.ended.seat) (run.ran.main ∷ run.ran.others)) (logged : log drun ≡ run.closed.ordered.log)
     (differ : PlacesDiffer (log drun)) (gave : ℕ → List ℕ) where
-  abbrev q : id_plan.Plan
-  q = ids_of p slots
-
-  abbrev every : List (List Task)
-  every = setup ∷ clients
-
-  abbrev crew : List (Client g state p q)
-  crew = all_clients run
+  open crew_of run use {q, every, crew}
 
   abbrev last : ℕ → ℕ
   last = last_attempt notes
 
-  abbrev fixed_here : Fixed
-  fixed_here = fixed drun differ gave
-
-  abbrev orders_here : ℕ → Order
-  orders_here = orders drun differ
+  open laws_of drun differ gave use {fixed_here, orders_here}
 
   abbrev LeftHere : ℕ → ℕ → Asked → ℕ → Type 0
   LeftHere client o asked n = LeftAt p every outcomes fixed_here gave orders_here client o asked n

@@ -129,13 +129,7 @@ module _ {O : Type 0} (state : O → OutState) (p : Plan) (q : id_plan.Plan) (co
   acted_why : {g : Ghosts O} (number : ℕ) (op : Op) (by : Option Outcome) (s t : Stand g) (a : Acted state p q number op by s t) → acted_missed state p q number op by s t a ≡ Some code → IsMissedFor (λ asked. op ≡ ops.Call asked) 0 t.me.0
   acted_why number (ops.Call asked) None s t a is = let b = a.1 in record { asked = asked; is = refl; why = attempt_why (name_of asked 0) asked.operation b.socket (letter_for asked a.0 0 zero-le) s.me.0 b.at (both_of t) b.made_for.found b.attempted is }
   acted_why number (ops.Call asked) (Some by) s t a is = absurd (none-some code is)
-  acted_why number (ops.Open n k) by s t a is = absurd (none-some code is)
-  acted_why number (ops.Send n bytes) by s t a is = absurd (none-some code is)
-  acted_why number (ops.Expire of) by s t a is = absurd (none-some code is)
-  acted_why number (ops.Join of) by s t a is = absurd (none-some code is)
-  acted_why number (ops.Hold n) by s t a is = absurd (none-some code is)
-  acted_why number (ops.Drop n) by s t a is = absurd (none-some code is)
-  acted_why number (ops.Fail n c) by s t a is = absurd (none-some code is)
+  acted_why number _ by s t a is = absurd (none-some code is)
 
 -- this was asked by the call of an attempt
 abbrev pub IsAskedIn : {O : Type 0} {g : Ghosts O} {state : O → OutState} {p : Plan} {q : id_plan.Plan} → Deed g state p q → Asked → Type 0

@@ -35,7 +35,7 @@ use Rattle.id_rule.specs.Lawful.{call_index, notes_of}
 use Rattle.sock_message.specs.Asked.{Asked}
 use Rattle.corr_id.specs.declared.calls.IdLock.{IdLock}
 use Rattle.corr_id.specs.declared.posts.Posted.{Posted}
-use Rattle.corr_id.specs.declared.posts.Posted.TheVariants.{Locked as HasLock, Queued as IsQueued, Gone, Stale, Crowded}
+use Rattle.corr_id.specs.declared.posts.Posted.TheVariants.{Locked as HasLock, Queued as IsQueued, Gone, Crowded}
 use Rattle.corr_id.specs.Calls.{is_saw, slot_of, version_of, error_in, one, Did, Quiet, Found, GotLock}
 use Rattle.corr_id.specs.Posts.{PostOk}
 use Rattle.corr_id.specs.Unlocks.{UnlockOk}
@@ -91,9 +91,7 @@ got_seen v w word k g = record {
 timed_by : (answer : Posted Asked) (by : Outcome) → by ≡ outcome_by answer → Counts answer → (by ≡ outcome.Expired) ⊎ (by ≡ outcome.Queued)
 timed_by (HasLock k) by e c = inl e
 timed_by IsQueued by e c = inr e
-timed_by (Gone found) by e c = elim c [ ]
-timed_by (Stale current) by e c = elim c [ ]
-timed_by (Crowded first second) by e c = elim c [ ]
+timed_by _ by e c = elim c [ ]
 
 -- its seat has the lock of a call that it had locked
 abbrev HasLockOf : IdLock Asked → View Asked → Type 0
@@ -127,13 +125,7 @@ module _ {O : Type 0} {g : Ghosts O} (state : O → OutState) (p : Plan) (q : id
   made_later : (v w : View Asked) → Later v w → (number : ℕ) (op : Op) (by : Maybe Outcome) (s t : Stand g) (a : Acted state p q number op by s t) → IsMadeBy state p q v number op by s t a → IsMadeBy state p q w number op by s t a
   made_later v w l number (ops.Call asked) None s t a h = let z = l.notes (slot_of a.0) (is_made_for (version_of a.0) asked.operation) in omega (arith, z, h)
   made_later v w l number (ops.Call asked) (Some by) s t a h = tt
-  made_later v w l number (ops.Open n k) by s t a h = tt
-  made_later v w l number (ops.Send n bytes) by s t a h = tt
-  made_later v w l number (ops.Expire of) by s t a h = tt
-  made_later v w l number (ops.Join of) by s t a h = tt
-  made_later v w l number (ops.Hold n) by s t a h = tt
-  made_later v w l number (ops.Drop n) by s t a h = tt
-  made_later v w l number (ops.Fail n code) by s t a h = tt
+  made_later v w l number _ by s t a h = tt
 
   backed_later : (v w : View Asked) → Later v w → (d : Deed g state p q) → IsBacked v d → IsBacked w d
   backed_later v w l (operates x by s t a) h = made_later v w l x.number x.op by s t a h
@@ -321,9 +313,7 @@ module _ {O : Type 0} {g : Ghosts O} (state : O → OutState) (p : Plan) (q : id
         origin = posted_so reason;
       }))
   posted_as s v id code attempt t IsQueued post e r = let u : CallStand = record { view = v; books = s.books } in in_turn s u t (caused_queued s u id code attempt _ post.0 refl (r tt)) (caused_same u t e)
-  posted_as s v id code attempt t (Gone found) post e r = seen_only s v t post.0 e
-  posted_as s v id code attempt t (Stale current) post e r = seen_only s v t post.0 e
-  posted_as s v id code attempt t (Crowded first second) post e r = seen_only s v t post.0 e
+  posted_as s v id code attempt t _ post e r = seen_only s v t post.0 e
 
   pub posted : (s : CallStand) (id code : ℕ) (attempt : Maybe ℕ) (t : CallStand) (b : PostedBy q.slots s id code attempt t) → (Counts b.0 → ReasonHere s.view id code attempt) → Caused s t
   posted s id code attempt t b why = posted_as s b.1.view id code attempt t b.0 b.1.post b.1.handled why

@@ -40,7 +40,7 @@ use Rattle.attempts_told.specs.call_whys.specs.expire_told.specs.call_places.spe
 use Rattle.attempts_told.specs.call_whys.specs.expire_told.specs.call_places.specs.Deeds.{Deed, operates, retries, delivered_entries, attempt_entries, went_entries, acted_entries, entries_of}
 use Rattle.attempts_told.specs.call_whys.specs.expire_told.specs.call_places.proofs.Clients.{Client, view_of, tasks_of, deeds_of, own_of}
 use Rattle.attempts_told.specs.call_whys.specs.expire_told.specs.call_places.proofs.Ids.{IsIdOf}
-use Rattle.attempts_told.specs.call_whys.specs.expire_told.specs.call_places.proofs.Places.{all as all_clients, lists_are, noted_among, own_behind}
+use Rattle.attempts_told.specs.call_whys.specs.expire_told.specs.call_places.proofs.Places.{lists_are, noted_among, own_behind, crew_of}
 use Rattle.attempts_told.specs.call_whys.specs.expire_told.specs.call_places.proofs.Log as log
 use Rattle.attempts_told.specs.call_whys.specs.expire_told.specs.call_told.specs.Least.{is_made_for}
 use Rattle.attempts_told.specs.call_whys.specs.expire_told.specs.call_told.proofs.Lists.{all_at}
@@ -71,11 +71,7 @@ module _ {O : Type 0} (state : O → OutState) (p : Plan) (q : id_plan.Plan) whe
 module _ {O : Type 0} {g : Ghosts O} {state : O → OutState} {readers : List (LinkReader g)} {p : Plan} {slots : ℕ} {setup : List Task} {clients : List (List Task)} {opens : List ℕ} {told ended : List (List Told)} {places : List PlaceWord} {vrefs : List Vref} {outs : List O} {ids : List (View Asked)}
     (run : RanWith g state readers p slots setup clients opens told ended places vrefs outs ids) (tasks : AreTasks p (setup ∷ clients)) (may : MayRunAll p (ids_of p slots) setup clients)
     (notes : List (Noted Asked)) (kept : List Kept) (words : List ℕ) (closing : Closing (ids_of p slots) notes kept words) (noted : HaveNotesOf ids notes) where
-  abbrev q : id_plan.Plan
-  q = ids_of p slots
-
-  abbrev crew : List (Client g state p q)
-  crew = all_clients run
+  open crew_of run use {q, crew}
 
   -- the message is an attempt of the call of the operation in its place index, whose id is its owner
   pub record IsOwned (e : Entry) : Type 0 where
@@ -102,12 +98,7 @@ module _ {O : Type 0} {g : Ghosts O} {state : O → OutState} {readers : List (L
       let b = a.1 in of_call asked a.0 0 zero-le e (attempt_head state p q b.socket _ b.at (both_of t) b.attempted m e h)
       (first_id run tasks may notes kept words closing noted asked.operation a.0 made.0 (let x = among (slot_of a.0) (is_made_for (version_of a.0) asked.operation) in let y = made.1 in omega (arith, x, y)))
   acted_owned v among number (ops.Call asked) (Some by) s t a made m e h = absurd (none_there m e h)
-  acted_owned v among number (ops.Open n k) by s t a made m e h = absurd (none_there m e h)
-  acted_owned v among number (ops.Expire of) by s t a made m e h = absurd (none_there m e h)
-  acted_owned v among number (ops.Join of) by s t a made m e h = absurd (none_there m e h)
-  acted_owned v among number (ops.Hold n) by s t a made m e h = absurd (none_there m e h)
-  acted_owned v among number (ops.Drop n) by s t a made m e h = absurd (none_there m e h)
-  acted_owned v among number (ops.Fail n code) by s t a made m e h = absurd (none_there m e h)
+  acted_owned v among number _ by s t a made m e h = absurd (none_there m e h)
 
   deed_owned : (c : ℕ) (x : Client g state p q) → get_elem? crew c ≡ some x → (i : ℕ) (d : Deed g state p q) → get_elem? (deeds_of x) i ≡ some d → (m : ℕ) (e : Entry) → get_elem? (entries_of d) m ≡ some e → Owned e
   deed_owned c x at i (operates y by s t a) there m e h =

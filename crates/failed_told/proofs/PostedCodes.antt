@@ -14,17 +14,16 @@ use Rattle.attempts_told.specs.call_whys.specs.expire_told.specs.Below.sock_rule
 use Rattle.seat_programs.specs.declared.task.Op.TheVariants as ops
 use Rattle.seat_programs.specs.declared.task.Task.{Task}
 use Rattle.seat_programs.specs.Told.{AreTasks, IsTask, Became}
-use Rattle.seat_programs.specs.ToldCalls.{Fixed, Order, IsPosted, WhyExpire, all_accepted}
+use Rattle.seat_programs.specs.ToldCalls.{IsPosted, WhyExpire, all_accepted}
 use Rattle.corr_core.specs.Word.{parts, code_of}
 use Rattle.corr_core.specs.Law.{total}
 use Rattle.corr_core.specs.declared.marks.Kept.{Kept}
 use Rattle.corr_core.specs.declared.marks.Noted.{Noted}
-use Rattle.corr_core.specs.declared.marks.Plan as id_plan
 use Rattle.corr_core.specs.declared.marks.View.{View}
 use Rattle.id_rule.specs.Lawful.{call_index, notes_of}
 use Rattle.sock_message.specs.Asked.{Asked}
 use Rattle.corr_id.specs.declared.posts.Posted.{Posted}
-use Rattle.corr_id.specs.declared.posts.Posted.TheVariants.{Locked as HasLock, Queued as IsQueued, Gone, Stale, Crowded}
+use Rattle.corr_id.specs.declared.posts.Posted.TheVariants.{Locked as HasLock, Crowded}
 use Rattle.corr_id.specs.Calls.{slot_of, is_saw}
 use Rattle.corr_id.specs.Closing.{Closing}
 use Rattle.attempts_told.specs.call_whys.specs.expire_told.specs.Below.rpc_client.specs.declared.acting.Told.{Told}
@@ -38,7 +37,7 @@ use Rattle.attempts_told.specs.call_whys.specs.expire_told.specs.call_told.proof
 use Rattle.attempts_told.specs.call_whys.specs.expire_told.specs.Below.sock_deeds.specs.Runs.{IsOperation, seat_of, DeedRun}
 use Rattle.attempts_told.specs.call_whys.specs.expire_told.specs.Below.sock_deeds.proofs.Accepting.{log}
 use Rattle.attempts_told.specs.call_whys.specs.expire_told.specs.Below.sock_deeds.proofs.Orders.{orders}
-use Rattle.attempts_told.specs.call_whys.specs.expire_told.specs.Below.sock_deeds.proofs.Whole.{fixed}
+use Rattle.attempts_told.specs.call_whys.specs.expire_told.specs.Below.sock_deeds.proofs.Whole.{laws_of}
 use Rattle.attempts_told.specs.call_whys.specs.expire_told.specs.Said.{AreSaid, HaveKeptOf, WhyExpired}
 use Rattle.attempts_told.specs.call_whys.specs.expire_told.proofs.Expires.{IsMade, made_of, expire_made, found_maker}
 use Rattle.attempts_told.specs.call_whys.specs.expire_told.proofs.Expiring.{timed_out_word}
@@ -46,7 +45,7 @@ use Rattle.failed_told.proofs.Codes.{IsReadCode}
 use Rattle.failed_told.proofs.Drops.{drop_code}
 use Rattle.failed_told.proofs.Queued.{read_posted, WasDropCode, queued_code}
 use Rattle.failed_told.proofs.Views.{queued_in}
-use Rattle.attempts_told.specs.call_whys.specs.expire_told.specs.call_places.proofs.Places.{noted_among}
+use Rattle.attempts_told.specs.call_whys.specs.expire_told.specs.call_places.proofs.Places.{noted_among, crew_of}
 
 -- the codes of a crowded id
 first_in : Outcome → ℕ
@@ -69,17 +68,8 @@ module _ {O : Type 0} {g : Ghosts O} {state : O → OutState} {readers : List (L
     (drun : DeedRun g state p (setup ∷ clients) outcomes places vrefs outs) (seats : map seat_of drun.seats ≡ map (λ (x : Thread g). x.ended.seat) (run.ran.main ∷ run.ran.others)) (logged : log drun ≡ run.closed.ordered.log) (differ : PlacesDiffer (log drun)) (gave : ℕ → List ℕ)
     (all_there : length (log drun) ≤ all_accepted p.links (orders drun differ)) (few : p.operations ≤ 65536) (few_links : p.links ≤ 65536)
     (bounds : (client number name code : ℕ) → IsOperation (setup ∷ clients) outcomes client number (ops.Fail name code) → (1500 ≤ code) × (code ≤ 1999)) where
-  abbrev q : id_plan.Plan
-  q = ids_of p slots
-
-  abbrev every : List (List Task)
-  every = setup ∷ clients
-
-  abbrev fixed_here : Fixed
-  fixed_here = fixed drun differ gave
-
-  abbrev orders_here : ℕ → Order
-  orders_here = orders drun differ
+  open crew_of run use {q, every}
+  open laws_of drun differ gave use {fixed_here, orders_here}
 
   abbrev PostedHere : ℕ → Type 0
   PostedHere code = IsPosted p every outcomes fixed_here gave orders_here code
@@ -116,9 +106,6 @@ module _ {O : Type 0} {g : Ghosts O} {state : O → OutState} {readers : List (L
 
     by_answer : (answer : Posted Asked) → outcome.Crowded a b ≡ outcome_by answer → PostedAs slots answer (found_id q of h.id m.done.made.ready.calls) h.id ERPCTIMEDOUT None m.done.after.has.calls → PostedHere a × PostedHere b
     by_answer (HasLock k) e x = absurd (cc)
-    by_answer IsQueued e x = absurd (cc)
-    by_answer (Gone found) e x = absurd (cc)
-    by_answer (Stale current) e x = absurd (cc)
     by_answer (Crowded first second) e x =
         let same = same_codes a b first second e in let word = x.post.1.0 in let was = x.post.1.1 in
         let saw = seen word x.view m.done.made.ready.calls.books x.handled was.0 in let taken : 0 < (parts word).state = (let s = was.2 in omega (arith, s)) in
@@ -127,6 +114,7 @@ module _ {O : Type 0} {g : Ghosts O} {state : O → OutState} {readers : List (L
           subst PostedHere (was.5 ∙ same.0) (queued_posted (slot_of h.id) (parts word).first (parts word).oldest oldest),
           subst PostedHere (was.6 ∙ same.1) (queued_posted (slot_of h.id) (parts word).first (parts word).second younger),
         )
+    by_answer _ e x = absurd (cc)
 
     -- both codes of a crowded id are posted
     pub crowded_posted : PostedHere a × PostedHere b

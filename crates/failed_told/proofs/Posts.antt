@@ -16,7 +16,7 @@ use Rattle.corr_core.proofs.Notes.{pair-same}
 use Rattle.id_rule.specs.Lawful.{at_index, call_index, with_kept}
 use Rattle.sock_message.specs.Asked.{Asked}
 use Rattle.corr_id.specs.declared.posts.Posted.{Posted}
-use Rattle.corr_id.specs.declared.posts.Posted.TheVariants.{Locked as HasLock, Queued as IsQueued, Gone, Stale, Crowded}
+use Rattle.corr_id.specs.declared.posts.Posted.TheVariants.{Locked as HasLock, Queued as IsQueued}
 use Rattle.corr_id.specs.Calls.{slot_of, version_of, error_in, one}
 use Rattle.corr_id.specs.Posts.{PostOk}
 use Rattle.attempts_told.specs.call_whys.specs.expire_told.specs.Below.call_run.specs.rpc_reader.specs.prpc_frame.specs.declared.frame.Frame.{Frame}
@@ -59,10 +59,7 @@ module _ (code : ℕ) where
 
   pub posted_stays : (answer : Posted Asked) (b b' : Books) → PostedTo code answer b b' → Stays b.view b'.view
   posted_stays (HasLock k) b b' h = lost_stays k.slot (parts k.word.0) k.content b b' h
-  posted_stays IsQueued b b' h = books_stay b b' h
-  posted_stays (Gone found) b b' h = books_stay b b' h
-  posted_stays (Stale current) b b' h = books_stay b b' h
-  posted_stays (Crowded first second) b b' h = books_stay b b' h
+  posted_stays _ b b' h = books_stay b b' h
 
   id_stays : (slots id : ℕ) (b b' : Books) → HadEnded slots id b b' ⊎ EndedLast slots code id b b' → Stays b.view b'.view
   id_stays slots id b b' (inl h) = quiet_stays b.view b'.view h.quiet
@@ -132,9 +129,7 @@ module _ (q : Plan) (link code : ℕ) where
     where
       later : Later v w
       later = did_later (slot_of (call_at word)) v w _ _ p.0
-  post_posts word v w (Gone found) post p = posts_none v w (quiet_stays v w p.0)
-  post_posts word v w (Stale current) post p = posts_none v w (quiet_stays v w p.0)
-  post_posts word v w (Crowded first second) post p = posts_none v w (quiet_stays v w p.0)
+  post_posts word v w _ post p = posts_none v w (quiet_stays v w p.0)
 
   posted_if : (a : Bool) (word : ℕ) (b b' : Books) → (a ≡ true → IsPost q link b.view word) → PostedIf a q.slots code word b b' → Posts b.view b'.view
   posted_if false word b b' post h = posts_none b.view b'.view (books_stay b b' h)

@@ -19,7 +19,7 @@ use Rattle.sock_message.specs.Asked.{Asked}
 use Rattle.sock_message.specs.brpc_model.specs.Frame as model
 use Rattle.sock_message.specs.brpc_model.specs.Meta.{ResponseMeta}
 use Rattle.corr_id.specs.declared.posts.Posted.{Posted}
-use Rattle.corr_id.specs.declared.posts.Posted.TheVariants.{Locked as HasLock, Queued as IsQueued, Gone, Stale, Crowded}
+use Rattle.corr_id.specs.declared.posts.Posted.TheVariants.{Locked as HasLock}
 use Rattle.corr_id.specs.Calls.{slot_of}
 use Rattle.attempts_told.specs.call_whys.specs.expire_told.specs.Below.call_run.specs.rpc_reader.specs.prpc_frame.specs.Meaning.{frame_of}
 use Rattle.attempts_told.specs.call_whys.specs.expire_told.specs.Below.call_run.specs.rpc_reader.specs.prpc_frame.specs.declared.frame.Frame.{Frame}
@@ -108,10 +108,7 @@ module _ (code : ℕ) (loss : IsReadCode code) where
 
   posted_to : (answer : Posted Asked) (b b' : Books) → PostedTo code answer b b' → TellsCodes b b'
   posted_to (HasLock k) b b' h = lost_codes k.slot (parts k.word.0) k.content b b' h
-  posted_to IsQueued b b' h = codes_same b b' h
-  posted_to (Gone found) b b' h = codes_same b b' h
-  posted_to (Stale current) b b' h = codes_same b b' h
-  posted_to (Crowded first second) b b' h = codes_same b b' h
+  posted_to _ b b' h = codes_same b b' h
 
   posted_if : (a : Bool) (slots w : ℕ) (b b' : Books) → PostedIf a slots code w b b' → TellsCodes b b'
   posted_if false slots w b b' h = codes_same b b' h

@@ -80,13 +80,7 @@ module _ {O : Type 0} (g : Ghosts O) (state : O → OutState) (p : Plan) (q : id
   unfolding name_in
   missed_seen code number (ops.Call call) None s t a is asked e = subst (λ (n : ℕ). SeenBy p n t.me.0) (ap name_in e) (begun_seen call a.0 s t a.1)
   missed_seen code number (ops.Call call) (Some by) s t a is asked e = absurd (none-some code is)
-  missed_seen code number (ops.Open n k) by s t a is asked e = absurd (none-some code is)
-  missed_seen code number (ops.Send n bytes) by s t a is asked e = absurd (none-some code is)
-  missed_seen code number (ops.Expire of) by s t a is asked e = absurd (none-some code is)
-  missed_seen code number (ops.Join of) by s t a is asked e = absurd (none-some code is)
-  missed_seen code number (ops.Hold n) by s t a is asked e = absurd (none-some code is)
-  missed_seen code number (ops.Drop n) by s t a is asked e = absurd (none-some code is)
-  missed_seen code number (ops.Fail n c) by s t a is asked e = absurd (none-some code is)
+  missed_seen code number _ by s t a is asked e = absurd (none-some code is)
 
   -- ## By waiting
 
@@ -120,13 +114,7 @@ module _ {O : Type 0} (g : Ghosts O) (state : O → OutState) (p : Plan) (q : id
   open_calls : (number : ℕ) (op : Op) (by : Option Outcome) (s t : Stand g) → IsOpen op → Acted state p q number op by s t → t.calls ≡ s.calls
   open_calls number (ops.Open n k) (Some by) s t is a = a.2
   open_calls number (ops.Open n k) None s t is a = elim a [ ]
-  open_calls number (ops.Send n bytes) by s t is a = elim is [ ]
-  open_calls number (ops.Call asked) by s t is a = elim is [ ]
-  open_calls number (ops.Expire of) by s t is a = elim is [ ]
-  open_calls number (ops.Join of) by s t is a = elim is [ ]
-  open_calls number (ops.Hold n) by s t is a = elim is [ ]
-  open_calls number (ops.Drop n) by s t is a = elim is [ ]
-  open_calls number (ops.Fail n c) by s t is a = elim is [ ]
+  open_calls number _ by s t is a = elim is [ ]
 
   ran_none : (xs : List Task) → ((k : ℕ) (x : Task) → get_elem? xs k ≡ some x → IsOpen x.op) → (n : ℕ) (s t : Course g) (h : Ran state p q xs n s t) → NoneWaits s.has.calls → NoneWaits t.has.calls × AllByRecursion NoRetry (ran_deeds state p q xs n s t h)
   ran_none xs opens zero s t h e = (ap (λ (c : Course g). c.has.calls.books.retries) h ∙ e, tt)

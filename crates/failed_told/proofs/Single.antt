@@ -24,7 +24,7 @@ use Rattle.seat_programs.specs.Told.{AreTasks}
 use Rattle.corr_core.specs.Law.{total, is_attempt}
 use Rattle.corr_core.specs.declared.marks.Kept.{Kept}
 use Rattle.corr_core.specs.declared.marks.Note.{Note}
-use Rattle.corr_core.specs.declared.marks.Note.TheVariants.{Tried, Made, Ended, Locker, Queued, Attempt, Saw}
+use Rattle.corr_core.specs.declared.marks.Note.TheVariants.{Made}
 use Rattle.corr_core.specs.declared.marks.Noted.{Noted}
 use Rattle.corr_core.specs.declared.marks.Plan as id_plan
 use Rattle.corr_core.specs.declared.marks.View.{View}
@@ -51,7 +51,7 @@ use Rattle.attempts_told.specs.call_whys.specs.expire_told.specs.call_places.pro
 use Rattle.attempts_told.specs.call_whys.specs.expire_told.specs.call_places.proofs.Numbers.{numbered, own_labels, no_labels}
 use Rattle.attempts_told.specs.call_whys.specs.expire_told.specs.call_places.proofs.Ids.{IdLaws, laws_of, IsIdOf, version_low, lock_id, one_id}
 use Rattle.attempts_told.specs.call_whys.specs.expire_told.specs.call_places.proofs.Clients.{Client, total_map, view_of, tasks_of, deeds_of, own_of}
-use Rattle.attempts_told.specs.call_whys.specs.expire_told.specs.call_places.proofs.Places.{all as all_clients, views_are, lists_are, noted_among, own_behind, may_make, one_number, made_once}
+use Rattle.attempts_told.specs.call_whys.specs.expire_told.specs.call_places.proofs.Places.{views_are, lists_are, noted_among, own_behind, may_make, one_number, made_once, crew_of}
 use Rattle.attempts_told.specs.call_whys.specs.expire_told.specs.call_places.proofs.Log as log
 use Rattle.attempts_told.specs.call_whys.specs.expire_told.specs.call_told.specs.Least.{is_made_for}
 use Rattle.attempts_told.specs.call_whys.specs.expire_told.specs.call_told.proofs.Lists.{all_at}
@@ -103,12 +103,7 @@ module _ {O : Type 0} (state : O → OutState) (p : Plan) (q : id_plan.Plan) whe
   acted_at number (ops.Send n bytes) (Some by) s t a m e h = absurd (none_there m e h)
   acted_at number (ops.Call asked) None s t a m e h = let z = only-at e.heading.place (8 * asked.operation + 0) (sym (attempt_at a.1.socket _ a.1.at (both_of t) a.1.attempted m e h)) in omega (arith, z)
   acted_at number (ops.Call asked) (Some by) s t a m e h = absurd (none_there m e h)
-  acted_at number (ops.Open n k) by s t a m e h = absurd (none_there m e h)
-  acted_at number (ops.Expire of) by s t a m e h = absurd (none_there m e h)
-  acted_at number (ops.Join of) by s t a m e h = absurd (none_there m e h)
-  acted_at number (ops.Hold n) by s t a m e h = absurd (none_there m e h)
-  acted_at number (ops.Drop n) by s t a m e h = absurd (none_there m e h)
-  acted_at number (ops.Fail n code) by s t a m e h = absurd (none_there m e h)
+  acted_at number _ by s t a m e h = absurd (none_there m e h)
 
   -- of an attempt that came to nothing there is none
   module _ (code : ℕ) where
@@ -142,13 +137,7 @@ module _ {O : Type 0} (state : O → OutState) (p : Plan) (q : id_plan.Plan) whe
       asks = λ other e. sym (call_operation asked other e);
     }
     acted_first v number (ops.Call asked) (Some by) s t a is made = absurd (none-some code is)
-    acted_first v number (ops.Open n k) by s t a is made = absurd (none-some code is)
-    acted_first v number (ops.Send n bytes) by s t a is made = absurd (none-some code is)
-    acted_first v number (ops.Expire of) by s t a is made = absurd (none-some code is)
-    acted_first v number (ops.Join of) by s t a is made = absurd (none-some code is)
-    acted_first v number (ops.Hold n) by s t a is made = absurd (none-some code is)
-    acted_first v number (ops.Drop n) by s t a is made = absurd (none-some code is)
-    acted_first v number (ops.Fail n c) by s t a is made = absurd (none-some code is)
+    acted_first v number _ by s t a is made = absurd (none-some code is)
 
 label_place : (l number : ℕ) (asked : Asked) → 0 < label_in l number (ops.Call asked) → l ≡ 8 * asked.operation + 0
 label_place l number asked h = dite (ℕ_discrete (8 * asked.operation + 0) l) (λ e. sym e) (λ ne. absurd (let z = only-else l (8 * asked.operation + 0) ne in omega (arith, z, h)))
@@ -165,23 +154,14 @@ pub made_note : (f o : ℕ) (n : Note Asked) → 0 < is_made_for f o n → (r : 
 made_note f o (Made g r asked) h = dite (ℕ_discrete g f)
     (λ e. dite (ℕ_discrete asked.operation o) (λ d. (r, asked, ap (λ (y : ℕ). Made y r asked) e, d)) (λ n. absurd (let a = pair-else f o g asked.operation n in omega (arith, a, h))))
     (λ n. absurd (let a = pair-else_first f o g asked.operation n in omega (arith, a, h)))
-made_note f o Tried h = absurd (omega (arith, h))
-made_note f o (Ended g y) h = absurd (omega (arith, h))
-made_note f o (Locker g c) h = absurd (omega (arith, h))
-made_note f o (Queued g e) h = absurd (omega (arith, h))
-made_note f o (Attempt g m) h = absurd (omega (arith, h))
-made_note f o (Saw w) h = absurd (omega (arith, h))
+made_note f o _ h = absurd (omega (arith, h))
 
 -- ## The run
 
 module _ {O : Type 0} {g : Ghosts O} {state : O → OutState} {readers : List (LinkReader g)} {p : Plan} {slots : ℕ} {setup : List Task} {clients : List (List Task)} {opens : List ℕ} {told ended : List (List Told)} {places : List PlaceWord} {vrefs : List Vref} {outs : List O} {ids : List (View Asked)}
     (run : RanWith g state readers p slots setup clients opens told ended places vrefs outs ids) (tasks : AreTasks p (setup ∷ clients)) (may : MayRunAll p (ids_of p slots) setup clients)
     (notes : List (Noted Asked)) (kept : List Kept) (words : List ℕ) (closing : Closing (ids_of p slots) notes kept words) (noted : HaveNotesOf ids notes) where
-  abbrev q : id_plan.Plan
-  q = ids_of p slots
-
-  abbrev crew : List (Client g state p q)
-  crew = all_clients run
+  open crew_of run use {q, crew}
 
   pub laws : IdLaws slots notes
   laws = laws_of q notes kept words closing

@@ -29,7 +29,7 @@ use Rattle.seat_programs.specs.declared.task.Op.{Op}
 use Rattle.seat_programs.specs.declared.task.Op.TheVariants as ops
 use Rattle.seat_programs.specs.declared.task.Task.{Task}
 use Rattle.seat_programs.specs.Told.{AreTasks}
-use Rattle.seat_programs.specs.ToldCalls.{Accepted, Fixed, Order, StandsOn, MayBeOn, all_accepted}
+use Rattle.seat_programs.specs.ToldCalls.{Accepted, StandsOn, MayBeOn, all_accepted}
 use Rattle.corr_core.specs.declared.marks.Kept.{Kept}
 use Rattle.corr_core.specs.declared.marks.Noted.{Noted}
 use Rattle.corr_core.specs.declared.marks.Plan as id_plan
@@ -49,7 +49,7 @@ use Rattle.attempts_told.specs.call_whys.specs.expire_told.specs.call_places.spe
 use Rattle.attempts_told.specs.call_whys.specs.expire_told.specs.call_places.specs.Deeds.{Deed, operates, retries, delivered_entries, attempt_entries, went_entries, acted_entries, entries_of}
 use Rattle.attempts_told.specs.call_whys.specs.expire_told.specs.call_places.proofs.Ids.{IsIdOf}
 use Rattle.attempts_told.specs.call_whys.specs.expire_told.specs.call_places.proofs.Clients.{Client, deeds_of, own_of}
-use Rattle.attempts_told.specs.call_whys.specs.expire_told.specs.call_places.proofs.Places.{all as all_clients, lists_are}
+use Rattle.attempts_told.specs.call_whys.specs.expire_told.specs.call_places.proofs.Places.{lists_are, crew_of}
 use Rattle.attempts_told.specs.call_whys.specs.expire_told.specs.call_deeds.proofs.Messages.{seen_through}
 use Rattle.attempts_told.specs.call_whys.specs.expire_told.specs.Below.sock_deeds.specs.Left.{accepted_of}
 use Rattle.attempts_told.specs.call_whys.specs.expire_told.specs.Below.sock_deeds.specs.Runs.{IsOperation, Seated, seat_of, DeedRun}
@@ -63,7 +63,7 @@ use Rattle.attempts_told.specs.call_whys.specs.expire_told.specs.Below.sock_deed
 use Rattle.attempts_told.specs.call_whys.specs.expire_told.specs.Below.sock_deeds.proofs.Lives.{MadeHere, found_made, linked_made}
 use Rattle.attempts_told.specs.call_whys.specs.expire_told.specs.Below.sock_deeds.proofs.Orders.{orders, accepted_there, entry_on}
 use Rattle.attempts_told.specs.call_whys.specs.expire_told.specs.Below.sock_deeds.proofs.Tasks.{fits}
-use Rattle.attempts_told.specs.call_whys.specs.expire_told.specs.Below.sock_deeds.proofs.Whole.{fixed}
+use Rattle.attempts_told.specs.call_whys.specs.expire_told.specs.Below.sock_deeds.proofs.Whole.{laws_of}
 use Rattle.failed_told.specs.Ends.{LostOn}
 use Rattle.failed_told.specs.Missed.{attempt_of, socks_behind}
 use Rattle.failed_told.proofs.AtWords.{attempt_link, went_link, acted_link, link_in}
@@ -147,13 +147,7 @@ module _ {O : Type 0} (state : O → OutState) (p : Plan) (q : id_plan.Plan) whe
       let b = a.1 in let own_over = attempt_over (name_of own 0) link b.socket (letter_for own a.0 0 zero-le) s.me.0 b.at (both_of t) b.made_for.found b.attempted is in
       subst (λ (n : ℕ). IsOver p n link t.me.0 (attempt_entries state p q b.socket (letter_for own a.0 0 zero-le) b.at (both_of t) b.attempted)) (same_name own asked 0 op) own_over
   acted_over link number (ops.Call own) (Some by) s t a is asked op = absurd (none-some link is)
-  acted_over link number (ops.Open n k) by s t a is asked op = absurd (none-some link is)
-  acted_over link number (ops.Send n bytes) by s t a is asked op = absurd (none-some link is)
-  acted_over link number (ops.Expire of) by s t a is asked op = absurd (none-some link is)
-  acted_over link number (ops.Join of) by s t a is asked op = absurd (none-some link is)
-  acted_over link number (ops.Hold n) by s t a is asked op = absurd (none-some link is)
-  acted_over link number (ops.Drop n) by s t a is asked op = absurd (none-some link is)
-  acted_over link number (ops.Fail n code) by s t a is asked op = absurd (none-some link is)
+  acted_over link number _ by s t a is asked op = absurd (none-some link is)
 
 deed_over : {O : Type 0} {g : Ghosts O} {state : O → OutState} {p : Plan} {q : id_plan.Plan} (d : Deed g state p q) (link : ℕ) → link_in d ≡ Some link → (asked : Asked) → IsAskedIn d asked → IsOver p (name_of asked (attempt_of d)) link (socks_behind d) (entries_of d)
 deed_over {state = state} {p = p} {q = q} (operates x by s t a) link is asked op = acted_over state p q link x.number x.op by s t a is asked op
@@ -168,20 +162,8 @@ module _ {O : Type 0} {g : Ghosts O} {state : O → OutState} {readers : List (L
     (notes : List (Noted Asked)) (kept : List Kept) (words : List ℕ) (closing : Closing (ids_of p slots) notes kept words) (noted : HaveNotesOf ids notes) (outcomes : List (Option Outcome))
     (drun : DeedRun g state p (setup ∷ clients) outcomes places vrefs outs) (seats : map seat_of drun.seats ≡ map (λ (x : Thread g). x.ended.seat) (run.ran.main ∷ run.ran.others)) (logged : log drun ≡ run.closed.ordered.log) (differ : PlacesDiffer (log drun)) (gave : ℕ → List ℕ)
     (all_there : length (log drun) ≤ all_accepted p.links (orders drun differ)) where
-  abbrev q : id_plan.Plan
-  q = ids_of p slots
-
-  abbrev every : List (List Task)
-  every = setup ∷ clients
-
-  abbrev crew : List (Client g state p q)
-  crew = all_clients run
-
-  abbrev fixed_here : Fixed
-  fixed_here = fixed drun differ gave
-
-  abbrev orders_here : ℕ → Order
-  orders_here = orders drun differ
+  open crew_of run use {q, every, crew}
+  open laws_of drun differ gave use {fixed_here, orders_here}
 
   module _ (c : ℕ) (x : Client g state p q) (at : get_elem? crew c ≡ some x) (i : ℕ) (d : Deed g state p q) (there : get_elem? (deeds_of x) i ≡ some d) where
     -- its frame was accepted; or none was, since the life had been failed, or each request was taken

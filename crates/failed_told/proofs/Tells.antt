@@ -16,7 +16,7 @@ use Rattle.id_rule.specs.Lawful.{at_index, call_index, notes_of, with_kept}
 use Rattle.sock_message.specs.Asked.{Asked}
 use Rattle.sock_message.specs.brpc_model.specs.Frame as model
 use Rattle.corr_id.specs.declared.posts.Posted.{Posted}
-use Rattle.corr_id.specs.declared.posts.Posted.TheVariants.{Locked as HasLock, Queued as IsQueued, Gone, Stale, Crowded}
+use Rattle.corr_id.specs.declared.posts.Posted.TheVariants.{Locked as HasLock, Queued as IsQueued}
 use Rattle.corr_id.specs.Calls.{is_saw, slot_of, Found, GotLock}
 use Rattle.corr_id.specs.Posts.{IsTimely, PostOk}
 use Rattle.attempts_told.specs.call_whys.specs.expire_told.specs.Below.call_run.specs.rpc_reader.specs.prpc_frame.specs.Meaning.{frame_of}
@@ -240,16 +240,12 @@ module _ (q : Plan) (links : ℕ) (gave : ℕ → List ℕ) (code link : ℕ) wh
       let whole = div-add-mod' (call_at word) 4294967296 in let slot = post.0 in let first = post.2 in
       lost_step q links gave code Known (for_later q link) k.slot post.1 (parts k.word.0) k.content v post.4.0 b b' post.4.1 (word, is, omega (arith, whole, slot, first), (let l = k.fits.low in omega (arith, l)), post.3) h
   posted_to v word IsQueued b b' is post h = same_by b b' h
-  posted_to v word (Gone found) b b' is post h = same_by b b' h
-  posted_to v word (Stale current) b b' is post h = same_by b b' h
-  posted_to v word (Crowded first second) b b' is post h = same_by b b' h
+  posted_to v word _ b b' is post h = same_by b b' h
 
   post_seen : (v w : View Asked) (word : ℕ) (answer : Posted Asked) → PostOk q.slots v w (call_at word) code (attempt_at word) answer → Later v w
   post_seen v w word (HasLock k) p = (got_stays k.slot v w p.4.0 (parts k.word.0) k.content p.4.1).later
   post_seen v w word IsQueued p = did_later (slot_of (call_at word)) v w _ _ p.0
-  post_seen v w word (Gone found) p = (quiet_stays v w p.0).later
-  post_seen v w word (Stale current) p = (quiet_stays v w p.0).later
-  post_seen v w word (Crowded first second) p = (quiet_stays v w p.0).later
+  post_seen v w word _ p = (quiet_stays v w p.0).later
 
   posted_if : (a : Bool) (word : ℕ) (b b' : Books) → (a ≡ true → IsPost q link b.view word) → PostedIf a q.slots code word b b' → Step_by b b'
   posted_if false word b b' is h = same_by b b' h

@@ -27,7 +27,6 @@ use Rattle.corr_core.specs.Law.{total}
 use Rattle.corr_core.specs.declared.marks.Kept.{Kept}
 use Rattle.corr_core.specs.declared.marks.Note.{Note}
 use Rattle.corr_core.specs.declared.marks.Noted.{Noted}
-use Rattle.corr_core.specs.declared.marks.Plan as id_plan
 use Rattle.corr_core.specs.declared.marks.View.{View}
 use Rattle.corr_core.proofs.Notes.{total_some}
 use Rattle.id_rule.specs.Lawful.{notes_of}
@@ -49,7 +48,7 @@ use Rattle.attempts_told.specs.call_whys.specs.expire_told.specs.call_places.pro
 use Rattle.attempts_told.specs.call_whys.specs.expire_told.specs.call_places.proofs.Counts.{locks_for, KnowsLock, Grows, lock_stays, lock_known}
 use Rattle.attempts_told.specs.call_whys.specs.expire_told.specs.call_places.proofs.Ids.{IsIdOf, some_made, version_low, locker_there, one_id}
 use Rattle.attempts_told.specs.call_whys.specs.expire_told.specs.call_places.proofs.Clients.{Client, view_of, tasks_of, deeds_of}
-use Rattle.attempts_told.specs.call_whys.specs.expire_told.specs.call_places.proofs.Places.{all as all_clients, all_are, views_are, noted_among, may_make, made_once}
+use Rattle.attempts_told.specs.call_whys.specs.expire_told.specs.call_places.proofs.Places.{all_are, views_are, noted_among, may_make, made_once, crew_of}
 use Rattle.attempts_told.specs.call_whys.specs.expire_told.specs.call_told.specs.Least.{is_made_for}
 use Rattle.attempts_told.specs.call_whys.specs.expire_told.specs.call_told.proofs.Lists.{all_at}
 use Rattle.attempts_told.specs.call_whys.specs.expire_told.specs.call_deeds.proofs.Ran.{Result}
@@ -103,14 +102,7 @@ module _ {O : Type 0} {g : Ghosts O} {state : O → OutState} {readers : List (L
     (run : RanWith g state readers p slots setup clients opens told ended places vrefs outs ids) (tasks : AreTasks p (setup ∷ clients)) (may : MayRunAll p (ids_of p slots) setup clients)
     (notes : List (Noted Asked)) (kept : List Kept) (words : List ℕ) (closing : Closing (ids_of p slots) notes kept words) (noted : HaveNotesOf ids notes)
     (outcomes : List (Option Outcome)) (said : AreSaid outcomes told) where
-  abbrev q : id_plan.Plan
-  q = ids_of p slots
-
-  abbrev crew : List (Client g state p q)
-  crew = all_clients run
-
-  abbrev every : List (List Task)
-  every = setup ∷ clients
+  open crew_of run use {q, crew, every}
 
   -- what a client told of an operation is what became of it
   became_of : (c : ℕ) (x : Client g state p q) → get_elem? crew c ≡ some x → (k : ℕ) (r : Result) → get_elem? (all_results x.thread x.is) k ≡ some r → (o : Outcome) → r.by ≡ Some o → Became every outcomes r.task.number o

@@ -7,7 +7,7 @@ use Rattle.corr_core.specs.Word.{Parts, parts}
 use Rattle.corr_core.specs.Law.{total, pair, is_queued, is_attempt, is_ended_at}
 use Rattle.corr_core.specs.declared.marks.Kept.{Kept}
 use Rattle.corr_core.specs.declared.marks.Note.{Note}
-use Rattle.corr_core.specs.declared.marks.Note.TheVariants.{Tried, Made, Ended, Locker, Queued, Attempt, Saw}
+use Rattle.corr_core.specs.declared.marks.Note.TheVariants.{Ended, Locker, Queued, Attempt}
 use Rattle.corr_core.specs.declared.marks.Noted.{Noted}
 use Rattle.corr_core.specs.declared.marks.Token.{Token}
 use Rattle.corr_core.specs.declared.marks.View.{View}
@@ -26,13 +26,8 @@ use Rattle.attempts_told.specs.call_whys.specs.expire_told.specs.call_told.proof
 
 -- only events count
 pub queued_silent : (first e : ℕ) (n : Note Asked) → is_event n ≡ false → is_queued first e n ≡ 0
-queued_silent first e Tried z = refl
-queued_silent first e (Saw w) z = refl
-queued_silent first e (Made a b c) z = refl
-queued_silent first e (Ended g y) z = refl
-queued_silent first e (Locker g c) z = refl
 queued_silent first e (Queued g d) z = let k : true ≡ false = z in cc
-queued_silent first e (Attempt g n) z = refl
+queued_silent first e _ z = refl
 
 -- how often an error of an id is noted as queued
 abbrev pub queued_in : ℕ → ℕ → ℕ → List (Noted Asked) → ℕ

@@ -14,7 +14,7 @@ use Rattle.corr_core.specs.declared.marks.View.{View}
 use Rattle.id_rule.specs.Lawful.{at_index, with_kept}
 use Rattle.sock_message.specs.Asked.{Asked}
 use Rattle.corr_id.specs.declared.posts.Posted.{Posted}
-use Rattle.corr_id.specs.declared.posts.Posted.TheVariants.{Locked as HasLock, Queued as IsQueued, Gone, Stale, Crowded}
+use Rattle.corr_id.specs.declared.posts.Posted.TheVariants.{Locked as HasLock, Queued as IsQueued}
 use Rattle.corr_id.specs.Calls.{is_saw, slot_of, version_of, error_in, one, Found, HasId}
 use Rattle.corr_id.specs.Posts.{PostOk}
 use Rattle.attempts_told.specs.call_whys.specs.expire_told.specs.Below.call_run.specs.rpc_reader.specs.prpc_frame.specs.declared.frame.Frame.{Frame}
@@ -86,9 +86,7 @@ module _ (slots : ℕ) (Given : Frame → Type 0) (asked : (f : Frame) → Given
           alone = λ f given is. ⊎_elim (λ s. absurd (calm s)) (λ h. h)
               (queued_met slots code b.view word none_.0 (record b { view = seen }) f p.1.1.5 none_.1.1.0 none_.2 is (all_met slots Given asked b (record b { view = seen }) (goes_view slots b seen later.notes) all f given));
         }
-    post_waits word b seen (Gone found) all calm p none_ = waits_none b.view seen (quiet_stays b.view seen p.0)
-    post_waits word b seen (Stale current) all calm p none_ = waits_none b.view seen (quiet_stays b.view seen p.0)
-    post_waits word b seen (Crowded first second) all calm p none_ = waits_none b.view seen (quiet_stays b.view seen p.0)
+    post_waits word b seen _ all calm p none_ = waits_none b.view seen (quiet_stays b.view seen p.0)
 
     if_waits : (a : Bool) (word : ℕ) (b b' : Books) → AllMet slots Given asked b → (b.starved ≡ true → ⊥) → PostedIf a slots code word b b' → Waits b.view b'.view
     if_waits false word b b' all calm h = waits_none b.view b'.view (books_stay b b' h)

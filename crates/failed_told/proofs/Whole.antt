@@ -18,7 +18,6 @@ use Rattle.corr_core.specs.Law.{total}
 use Rattle.corr_core.specs.Word.{parts, code_of}
 use Rattle.corr_core.specs.declared.marks.Kept.{Kept}
 use Rattle.corr_core.specs.declared.marks.Noted.{Noted}
-use Rattle.corr_core.specs.declared.marks.Plan as id_plan
 use Rattle.corr_core.specs.declared.marks.View.{View}
 use Rattle.sock_message.specs.Asked.{Asked}
 use Rattle.corr_id.specs.Calls.{slot_of}
@@ -29,7 +28,7 @@ use Rattle.attempts_told.specs.call_whys.specs.expire_told.specs.Below.call_run.
 use Rattle.attempts_told.specs.call_whys.specs.expire_told.specs.call_places.specs.Counted.{HaveNotesOf}
 use Rattle.attempts_told.specs.call_whys.specs.expire_told.specs.call_places.specs.Deeds.{Deed}
 use Rattle.attempts_told.specs.call_whys.specs.expire_told.specs.call_places.proofs.Clients.{Client, view_of, tasks_of, deeds_of}
-use Rattle.attempts_told.specs.call_whys.specs.expire_told.specs.call_places.proofs.Places.{all as all_clients}
+use Rattle.attempts_told.specs.call_whys.specs.expire_told.specs.call_places.proofs.Places.{all as all_clients, crew_of}
 use Rattle.attempts_told.specs.call_whys.specs.expire_told.specs.Said.{AreSaid, HaveKeptOf}
 use Rattle.attempts_told.specs.call_whys.specs.expire_told.specs.Below.sock_deeds.specs.Runs.{IsOperation, seat_of, DeedRun}
 use Rattle.attempts_told.specs.call_whys.specs.expire_told.specs.Below.sock_deeds.proofs.Accepting.{log}
@@ -57,11 +56,7 @@ module _ {O : Type 0} {g : Ghosts O} {state : O → OutState} {readers : List (L
     -- whatever was asked by a call of which an attempt was made is a task
     (asked_so : (c : ℕ) (x : Client g state p (ids_of p slots)) → get_elem? (all_clients run) c ≡ some x → (i : ℕ) (d : Deed g state p (ids_of p slots)) → get_elem? (deeds_of x) i ≡ some d → (asked : Asked) → IsAskedIn d asked
     → (client : ℕ) × IsOperation (setup ∷ clients) outcomes client asked.operation (ops.Call asked)) where
-  abbrev q : id_plan.Plan
-  q = ids_of p slots
-
-  abbrev every : List (List Task)
-  every = setup ∷ clients
+  open crew_of run use {q, every}
 
   module _ (c : ℕ) (x : Client g state p q) (at : get_elem? (all_clients run) c ≡ some x) (one : Told) (e : IsCaused state p q (tasks_of x) (Says run outcomes said_own) (deeds_of x) (view_of x) one) where
     abbrev MissedHere : Type 0

@@ -1,9 +1,8 @@
 -- In a run of which this is told, where links with the server gave the replies to what they took, each response that one of them gave to a call is the reply to the call's own request.
-use Rattle.std.proofs.Common.{◌≡◌, ℕ, ◌+◌, ◌<◌, ◌≤◌, true, false, List, [], length, slice_get, slice_index_or, option_and_then, Option, Some, None, IfSome, Ok, refl, sym, ap, ◌∙◌, subst, arith}
+use Rattle.std.proofs.Common.{◌≡◌, ℕ, ◌+◌, ◌<◌, ◌≤◌, List, [], length, slice_get, slice_index_or, Option, Some, None, Ok, refl, sym, ap, ◌∙◌, subst, arith}
 use Rattle.std.proofs.lemmas.Option.{slice_get_within}
-use Rattle.std.specs.Prelude.{IsSome, IsTrue, Contains}
+use Rattle.std.specs.Prelude.{IsTrue, Contains}
 use Rattle.sock_words.specs.declared.outcome.Outcome.{Outcome}
-use Rattle.sock_words.specs.declared.outcome.Outcome.TheVariants.{Answered, Peer, CallFailed}
 use Rattle.sock_words.specs.declared.place_word.PlaceWord.{PlaceWord}
 use Rattle.brpc_model.specs.Attempts.{IsResponse, attempt}
 use Rattle.brpc_model.specs.Causes.{HasFault}
@@ -22,7 +21,7 @@ use Rattle.brpc_model.specs.Served.{GivesReplies, GivesOwnReplies, given_for}
 use Rattle.brpc_model.specs.Stream.{stream}
 use Rattle.report_fits.specs.Ends.{AreEndsOf, AreTold}
 use Rattle.report_fits.proofs.Lists.{contains_from, has_from, within}
-use Rattle.report_fits.proofs.Reported.{is_said, outcome_told}
+use Rattle.report_fits.proofs.Reported.{outcome_told}
 use Rattle.report_fits.proofs.TaskLemmas.{numbers_at, operation_task}
 use Rattle.report_fits.proofs.Tasks.{tasks_of_script}
 use Rattle.sock_message.specs.Asked.{Asked}
@@ -35,28 +34,10 @@ use Rattle.seat_programs.specs.Told.{AreTasks, IsTask, Made}
 use Rattle.seat_programs.specs.ToldCalls.{Order, Fixed, AreOrders}
 use Rattle.attempts_told.specs.Attempts.{AreAttemptsTold}
 use Rattle.served_calls.specs.served_runs.proofs.Model.{unsent_of}
+use Rattle.served_calls.proofs.Shown.{shown_said, outcome_there, both_told}
 use Rattle.served_told.specs.Telling.{TellBytes, ShowSmallIds, HaveOwnVersions}
 use Rattle.served_told.proofs.Places.{placed_at}
 use Rattle.served_told.proofs.Requests.{faultless, replied_at, IsOwnReply, own_reply, placed_reply}
-
--- the outcome that shows an id was said of its operation
-shown_said : (x : Outcome) (id : ℕ) → shown_id x ≡ Some id → is_said x ≡ true
-shown_said (Answered i payload attachment) id shows = refl
-shown_said (Peer i code) id shows = refl
-shown_said (CallFailed i code) id shows = refl
-shown_said other id shows = absurd (cc)
-
-outcome_there : (os : List Outcome) (i id : ℕ) → id_at os i ≡ Some id → (x : Outcome) × (slice_get os i ≡ Some x) × (shown_id x ≡ Some id)
-outcome_there os i id shows = by (slice_get os i) refl shows
-  where
-    by : (o : Option Outcome) → slice_get os i ≡ o → option_and_then shown_id o ≡ Some id → (x : Outcome) × (slice_get os i ≡ Some x) × (shown_id x ≡ Some id)
-    by None at e = absurd (cc)
-    by (Some x) at e = (x, at, e)
-
--- what is told both ways is the same
-both_told : (o : Option (List ℕ)) (a b : List ℕ) → IsSome o → IfSome o (λ bytes. a ≡ bytes) → IfSome o (λ bytes. bytes ≡ b) → a ≡ b
-both_told None a b some_ e f = absurd (let z : false ≡ true = some_ in cc)
-both_told (Some x) a b some_ e f = e ∙ f
 
 module _ (bytes : List ℕ) (script : List Item) (reads : script_of bytes ≡ Ok script) (outcomes : List (Option Outcome)) (places : List PlaceWord) (text : List ℕ) (took : List (List ℕ)) (ends : List LinkEnd) (fixed : Fixed) (gave : ℕ → List ℕ) (orders : ℕ → Order) (core : Core)
     (words : place_words (plan_of script) core.words ≡ places) (are_orders : AreOrders (plan_of script) core orders) (ends_told : AreEndsOf script core fixed gave ends) (attempts : AreAttemptsTold (plan_of script) (all_tasks script) outcomes fixed gave orders)

@@ -29,6 +29,7 @@ use Rattle.served_calls.specs.Below.call_causes.proofs.Streams.{frames_stay}
 use Rattle.served_calls.specs.served_runs.specs.Served.{request_with}
 use Rattle.served_calls.specs.served_runs.proofs.Frames.{IsPiece, piece_frames, pieces_end, IsSmall, request_is, reply_is}
 use Rattle.served_calls.specs.served_runs.proofs.Own.{cut_more}
+use Rattle.served_calls.specs.served_runs.proofs.Requests.{IsRequestOf}
 use Rattle.served_calls.proofs.Frames.{take_at, piece_has, reply_to}
 use Rattle.served_told.specs.Telling.{ShowSmallIds, HaveOwnVersions}
 use Rattle.served_told.proofs.Places.{asked_fits}
@@ -58,21 +59,8 @@ module _ (script : List Item) (are : AreTasks (plan_of script) (all_tasks script
   -- ## Requests
 
   -- the frame is the request of an attempt that was made of a call, with the id that the call's outcome shows
-  pub record IsRequest (f : Frame) : Type 0 where
-    pub client : ℕ
-    pub task : Task
-    pub asked : Asked
-    pub outcome : Outcome
-    pub id : ℕ
-    pub attempt : ℕ
-    pub is_task : Task_ client task
-    pub op : task.op ≡ ops.Call asked
-    pub became : Became_ task.number outcome
-    pub shows : shown_id outcome ≡ Some id
-    pub tried : attempt ≤ attempts.last task.number
-    pub few : attempt + 2 ≤ asked.range
-    pub small : IsSmall asked id attempt
-    pub frame : f ≡ request_of asked id attempt
+  abbrev pub IsRequest : Frame → Type 0
+  IsRequest f = IsRequestOf (all_tasks script) outcomes attempts.last f
 
   -- such an attempt, whose frame is its request
   made_small : (client : ℕ) (t : Task) (asked : Asked) (outcome : Outcome) (id attempt : ℕ) → Task_ client t → t.op ≡ ops.Call asked → Became_ t.number outcome → shown_id outcome ≡ Some id → attempt ≤ attempts.last t.number → IsSmall asked id attempt

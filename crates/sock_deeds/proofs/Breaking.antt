@@ -1,5 +1,5 @@
 -- A link of which a seat noted a fault comes back with a count of faults that isn't 0.
-use Rattle.std.proofs.Common.{◌≡◌, ℕ, zero, suc, ◌<◌, List, flat_map, Option, Some, None, Contains, refl, sym, arith}
+use Rattle.std.proofs.Common.{◌≡◌, ℕ, zero, suc, ◌<◌, List, flat_map, Option, None, Contains, refl, sym, arith}
 use mathlib.Core.Option.{some, some-injective, some-ne-none}
 use lib.ListN.{get_elem?}
 use Rattle.sock_io.specs.declared.link.Out.{Ghosts}
@@ -20,7 +20,7 @@ use Rattle.report_fits.proofs.Lists.{has_from}
 use Rattle.rpc_client.specs.write_chain.specs.Noting.{Noted, nothing, finding, failing}
 use Rattle.rpc_client.specs.write_chain.proofs.Faulting.{slot_fault}
 use Rattle.sock_deeds.specs.Broken.{noted_links, faults_by, faults_of}
-use Rattle.sock_deeds.specs.Deeds.{Hand, Did, opens, sends, holds, drops, fails, waits, looks, takes, misses, sets, returns, DoneBy}
+use Rattle.sock_deeds.specs.Deeds.{Hand, Did, sends, DoneBy}
 use Rattle.sock_deeds.specs.Runs.{Seated, DeedRun}
 use Rattle.sock_deeds.proofs.Acts.{Act, All, did_of, done_of, has_marks}
 use Rattle.sock_deeds.proofs.Failing.{broken}
@@ -46,17 +46,7 @@ module _ {O : Type 0} (g : Ghosts O) (state : O → OutState) (p : Plan) where
       let came = w.became.here (is_fault k) in
       let back = (returned_grew id d.through.wrote t.view d.through.returned).marks (is_fault k) (λ h. refl) (socket_id_slot id) in
       (socket_id_slot id, omega arith)
-  fault_by (sends name number attempt msg (Some by)) s t b j k e = absurd (some-ne-none k (sym e))
-  fault_by (opens name number link by) s t b j k e = absurd (some-ne-none k (sym e))
-  fault_by (holds name number by) s t b j k e = absurd (some-ne-none k (sym e))
-  fault_by (drops name number by) s t b j k e = absurd (some-ne-none k (sym e))
-  fault_by (fails name number code by) s t b j k e = absurd (some-ne-none k (sym e))
-  fault_by (waits name) s t b j k e = absurd (some-ne-none k (sym e))
-  fault_by (looks number noted) s t b j k e = absurd (some-ne-none k (sym e))
-  fault_by (takes id) s t b j k e = absurd (some-ne-none k (sym e))
-  fault_by (misses id found) s t b j k e = absurd (some-ne-none k (sym e))
-  fault_by (sets id code by) s t b j k e = absurd (some-ne-none k (sym e))
-  fault_by (returns id) s t b j k e = absurd (some-ne-none k (sym e))
+  fault_by _ s t b j k e = absurd (some-ne-none k (sym e))
 
 module _ {O : Type 0} {g : Ghosts O} {state : O → OutState} {p : Plan} {clients : List (List Task)} {outcomes : List (Option Outcome)} {places : List PlaceWord} {vrefs : List Vref} {outs : List O} (run : DeedRun g state p clients outcomes places vrefs outs) where
   -- so all seats together have noted it

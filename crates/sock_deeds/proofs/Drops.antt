@@ -86,28 +86,17 @@ does_well n other b = true
 
 -- a deed that is no operation changes nothing
 quiet : (n : ℕ) (d : Did) (b : Bool) → own_number d ≡ None → (does_well n d b ≡ true) × (hand_behind n d b ≡ b)
-quiet n (opens name number link by) b e = (refl, refl)
-quiet n (sends name number attempt msg by) b e = (refl, refl)
 quiet n (holds name number by) b e = absurd (none-some number (sym e))
 quiet n (drops name number by) b e = absurd (none-some number (sym e))
-quiet n (fails name number code by) b e = (refl, refl)
-quiet n (waits name) b e = (refl, refl)
-quiet n (looks number x) b e = (refl, refl)
-quiet n (takes id) b e = (refl, refl)
-quiet n (misses id found) b e = (refl, refl)
-quiet n (sets id code by) b e = (refl, refl)
-quiet n (returns id) b e = (refl, refl)
+quiet n _ b e = (refl, refl)
 
 -- and one that is an operation changes what its task does
 alike : (clients : List (List Task)) (outcomes : List (Option Outcome)) (n number : ℕ) (op : Op) (d : Did) (b : Bool) → Does clients outcomes number op d → (does_well n d b ≡ goes_well n op b) × (hand_behind n d b ≡ in_hand_behind n op b)
-alike clients outcomes n number (ops.Open m k) d b e = (ap (λ x. does_well n x b) e.1, ap (λ x. hand_behind n x b) e.1)
 alike clients outcomes n number (ops.Send m bytes) d b e = (ap (λ x. does_well n x b) e.2, ap (λ x. hand_behind n x b) e.2)
 alike clients outcomes n number (ops.Call asked) d b e = (ap (λ x. does_well n x b) e.2, ap (λ x. hand_behind n x b) e.2)
-alike clients outcomes n number (ops.Hold m) d b e = (ap (λ x. does_well n x b) e.1, ap (λ x. hand_behind n x b) e.1)
-alike clients outcomes n number (ops.Drop m) d b e = (ap (λ x. does_well n x b) e.1, ap (λ x. hand_behind n x b) e.1)
-alike clients outcomes n number (ops.Fail m code) d b e = (ap (λ x. does_well n x b) e.1, ap (λ x. hand_behind n x b) e.1)
 alike clients outcomes n number (ops.Expire o) d b e = elim e [ ]
 alike clients outcomes n number (ops.Join o) d b e = elim e [ ]
+alike clients outcomes n number _ d b e = (ap (λ x. does_well n x b) e.1, ap (λ x. hand_behind n x b) e.1)
 
 both_true : (a b : Bool) → a ≡ true → b ≡ true → (a && b) ≡ true
 both_true true b e f = f

@@ -19,7 +19,7 @@ use Rattle.rpc_client.specs.sock_table.specs.Named.{NotedAs}
 use Rattle.rpc_client.specs.sock_table.specs.declared.finding.Noted.{Noted}
 use Rattle.rpc_client.specs.sock_table.specs.declared.finding.Noted.TheVariants as noteds
 use Rattle.rpc_client.proofs.Finding.{set_others}
-use Rattle.sock_deeds.specs.Deeds.{Hand, Did, opens, sends, holds, drops, fails, waits, looks, takes, misses, sets, returns, DoneBy, Deed, Chain}
+use Rattle.sock_deeds.specs.Deeds.{Hand, Did, sends, fails, looks, takes, misses, sets, returns, DoneBy, Deed, Chain}
 use Rattle.sock_deeds.specs.Broken.{faults_by}
 use Rattle.sock_deeds.specs.Runs.{IsById}
 use Rattle.sock_deeds.proofs.Sources.{IsOfLife, Source, by_open, by_fail, by_set, by_write, done_source}
@@ -45,12 +45,7 @@ module _ {O : Type 0} (g : Ghosts O) (state : O → OutState) (p : Plan) where
   id_kept (misses id found) s t is b = others_kept s.view t.view b.0.became.others
   id_kept (sets id code by) s t is b = others_kept s.view t.view (set_others id code by s.view t.view b.0)
   id_kept (returns id) s t is b = others_kept s.view t.view b.0.back.became.others
-  id_kept (opens name number link by) s t is b = elim is [ ]
-  id_kept (sends name number attempt msg by) s t is b = elim is [ ]
-  id_kept (holds name number by) s t is b = elim is [ ]
-  id_kept (drops name number by) s t is b = elim is [ ]
-  id_kept (fails name number code by) s t is b = elim is [ ]
-  id_kept (waits name) s t is b = elim is [ ]
+  id_kept _ s t is b = elim is [ ]
 
   -- one deed after the other
   pub ids_kept : (ds : List (Deed g state p)) (s t : Hand) → Chain g state p ds s t → ((k : ℕ) (d : Deed g state p) → get_elem? ds k ≡ some d → IsById d.did) → Keeps s.view t.view
@@ -68,12 +63,7 @@ module _ {O : Type 0} (g : Ghosts O) (state : O → OutState) (p : Plan) where
   no_faults (misses id found) s t b is = refl
   no_faults (sets id code by) s t b is = refl
   no_faults (returns id) s t b is = refl
-  no_faults (opens name number link by) s t b is = elim is [ ]
-  no_faults (sends name number attempt msg by) s t b is = elim is [ ]
-  no_faults (holds name number by) s t b is = elim is [ ]
-  no_faults (drops name number by) s t b is = elim is [ ]
-  no_faults (fails name number code by) s t b is = elim is [ ]
-  no_faults (waits name) s t b is = elim is [ ]
+  no_faults _ s t b is = elim is [ ]
 
   -- a life of this slot was set failed, of which no later version had been seen
   pub record SetNow (f : Mark → ℕ) (i : ℕ) (v : View) : Type 0 where

@@ -143,9 +143,7 @@ module _ {O : Type 0} {g : Ghosts O} {state : O → OutState} {p : Plan} {client
           | inr seen ↦ absurd (none_seen w.0 w.1 w.2 (subst (λ y. SeenBy p y (after run w.0)) same seen))
         ]
     seeks t (ops.Open x k) is less op same = elim same [ ]
-    seeks t (ops.Drop x) is less op same = elim same [ ]
-    seeks t (ops.Expire o) is less op same = elim same [ ]
-    seeks t (ops.Join o) is less op same = elim same [ ]
+    seeks t _ is less op same = elim same [ ]
 
     -- the operation found no socket of the name
     pub unopened_cause : 0 < b.c → FoundNone p clients outcomes fixed_ gave orders b.c m n

@@ -30,12 +30,7 @@ IsOnSockets other = Unit {0}
 at_sockets : (number : ℕ) (op : Op) → IsOnSockets op → get_elem? (number_at number op) 0 ≡ some number
 at_sockets number (ops.Expire o) on = elim on [ ]
 at_sockets number (ops.Join o) on = elim on [ ]
-at_sockets number (ops.Open n k) on = refl
-at_sockets number (ops.Send n bytes) on = refl
-at_sockets number (ops.Call asked) on = refl
-at_sockets number (ops.Hold n) on = refl
-at_sockets number (ops.Drop n) on = refl
-at_sockets number (ops.Fail n code) on = refl
+at_sockets number _ on = refl
 
 only_number : (number j m : ℕ) → get_elem? (number ∷ []) j ≡ some m → m ≡ number
 only_number number zero m e = sym (some-injective number m e)
@@ -44,25 +39,14 @@ only_number number (suc j) m e = absurd (some-ne-none m (sym e))
 number_is : (number : ℕ) (op : Op) (j m : ℕ) → get_elem? (number_at number op) j ≡ some m → m ≡ number
 number_is number (ops.Expire o) j m e = absurd (some-ne-none m (sym e))
 number_is number (ops.Join o) j m e = absurd (some-ne-none m (sym e))
-number_is number (ops.Open n k) j m e = only_number number j m e
-number_is number (ops.Send n bytes) j m e = only_number number j m e
-number_is number (ops.Call asked) j m e = only_number number j m e
-number_is number (ops.Hold n) j m e = only_number number j m e
-number_is number (ops.Drop n) j m e = only_number number j m e
-number_is number (ops.Fail n code) j m e = only_number number j m e
+number_is number _ j m e = only_number number j m e
 
 few_numbers : (t : Task) → length (numbers_at t) ≤ 1
 few_numbers t = by_op t.op
   where
     by_op : (op : Op) → length (number_at t.number op) ≤ 1
     by_op (ops.Expire o) = omega arith
-    by_op (ops.Join o) = omega arith
-    by_op (ops.Open n k) = omega arith
-    by_op (ops.Send n bytes) = omega arith
-    by_op (ops.Call asked) = omega arith
-    by_op (ops.Hold n) = omega arith
-    by_op (ops.Drop n) = omega arith
-    by_op (ops.Fail n code) = omega arith
+    by_op _ = omega arith
 
 listed_is : (o : Option ℕ) (j m : ℕ) → get_elem? (listed o) j ≡ some m → o ≡ Some m
 listed_is None j m e = absurd (some-ne-none m (sym e))

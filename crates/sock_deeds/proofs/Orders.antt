@@ -1,15 +1,14 @@
 -- The orders of the links are those that place words and links show; each accepted message is one that was sent, in its client's order.
-use Rattle.std.proofs.Common.{◌≡◌, ◌≢◌, ℕ, zero, suc, ◌+◌, ◌*◌, ◌/◌, ◌%◌, ◌<◌, ◌≤◌, inl, inr, ⊎_elim, true, false, eqb, nat_le, List, [], ◌∷◌, ◌++◌, length, flat_map, map, take, drop, get_or, replicate, append-nil, slice_get, Option, Some, None, refl, sym, ap, ◌∙◌, subst, arith}
+use Rattle.std.proofs.Common.{◌≡◌, ◌≢◌, ℕ, zero, suc, ◌+◌, ◌*◌, ◌/◌, ◌%◌, ◌<◌, ◌≤◌, inl, inr, ⊎_elim, true, false, eqb, nat_le, List, [], ◌∷◌, ◌++◌, length, flat_map, map, get_or, replicate, append-nil, slice_get, Option, Some, None, refl, sym, ap, ◌∙◌, subst, arith}
 use Rattle.std.specs.Prelude.{slice_index}
 use Rattle.std.specs.Option.{ForSome}
 use Rattle.std.proofs.lemmas.Bool.Decides.{nat_tests}
-use Rattle.std.proofs.lemmas.Option.{none-some, same_Some}
 use mathlib.Core.Logic.{dite}
 use native.Mathlib.Decide.{dec_lt}
 use mathlib.Core.Option as core
-use mathlib.Core.Option.{some, none, some-injective, some-ne-none}
+use mathlib.Core.Option.{some, none, some-injective}
 use lib.ListN.{get_elem?}
-use Rattle.brpc_model.specs.Order.{IsCut, EachBefore}
+use Rattle.brpc_model.specs.Order.{EachBefore}
 use Rattle.rpc_client.specs.message_parts.specs.Parcels.{parcel_of}
 use Rattle.sock_io.specs.declared.link.Out.{Ghosts}
 use Rattle.sock_io.specs.Link.{OutState}
@@ -20,7 +19,7 @@ use Rattle.sock_words.specs.declared.vref.Vref.{Vref}
 use Rattle.sock_model.specs.declared.chain.Entry.{Entry}
 use Rattle.sock_model.specs.declared.home.Home.{Home}
 use Rattle.sock_model.specs.declared.home.Home.TheVariants.{Link}
-use Rattle.sock_model.specs.Deliveries.{whole, Taken, place_value}
+use Rattle.sock_model.specs.Deliveries.{whole, place_value}
 use Rattle.sock_model.specs.Entries.{on}
 use Rattle.sock_model.specs.Fifo.{IsFifo}
 use Rattle.sock_model.specs.Layout.{place_index}
@@ -31,12 +30,14 @@ use Rattle.seat_programs.specs.Cores.{Core, link_place, lies_at}
 use Rattle.seat_programs.specs.Runs.{from_to}
 use Rattle.seat_programs.specs.Scripts.{taken_by, took_at_home}
 use Rattle.seat_programs.specs.Told.{IsTask}
-use Rattle.seat_programs.specs.ToldCalls.{Accepted, Order, Fixed, AreOrders, IsTaken, StandsAt, StandsOn, InOwnOrder, bytes_of, label}
+use Rattle.seat_programs.specs.ToldCalls.{Accepted, Order, Fixed, AreOrders, IsTaken, StandsAt, StandsOn, InOwnOrder, label}
 use Rattle.report_fits.proofs.Lists.{before_from}
 use Rattle.rpc_client.specs.sock_rule.specs.Closing.{LifeFailed, PlacesDiffer}
 use Rattle.rpc_client.specs.sock_rule.specs.declared.homes.Letter.{Letter}
 use Rattle.rpc_client.specs.sock_rule.specs.Faults.{faults_of}
 use Rattle.sock_message.specs.Asked.{Asked, frame_of}
+use Rattle.outcome_causes.proofs.Accepted as accepted
+use Rattle.outcome_causes.proofs.Ordered.{get_range}
 use Rattle.sock_deeds.specs.Deeds.{Did, sends}
 use Rattle.sock_deeds.specs.Left.{accepted_of, orders_of, homes_of}
 use Rattle.sock_deeds.specs.Runs.{IsMessage, of_send, of_call, DeedRun}
@@ -48,40 +49,6 @@ use Rattle.sock_deeds.proofs.Flats.{append_later}
 use Rattle.sock_deeds.proofs.Tasks.{fits, same_task}
 
 -- ## What a link took
-
-whole_of : (es : List Entry) (n : ℕ) → whole es n ≡ flat_map bytes_of (take n (map accepted_of es))
-whole_of [] zero = refl
-whole_of [] (suc n) = refl
-whole_of (e ∷ es) zero = refl
-whole_of (e ∷ es) (suc n) = ap (λ l. e.bytes ++ l) (whole_of es n)
-
-cut_none : (es : List Entry) (n : ℕ) → ((i : ℕ) (e : Entry) → get_elem? es i ≡ some e → 0 < length e.bytes) → IsCut [] (map bytes_of (drop n (map accepted_of es)))
-cut_none [] zero some_ = refl
-cut_none [] (suc n) some_ = refl
-cut_none (e ∷ es) zero some_ = (e.bytes, some_ 0 e refl, refl)
-cut_none (e ∷ es) (suc n) some_ = cut_none es n (λ i x g. some_ (suc i) x g)
-
-cut_some : (es : List Entry) (n : ℕ) (e : Entry) (part rest : List ℕ) → get_elem? es n ≡ some e → e.bytes ≡ part ++ rest → 0 < length rest → IsCut part (map bytes_of (drop n (map accepted_of es)))
-cut_some [] n e part after g is more = absurd (some-ne-none e (sym g))
-cut_some (x ∷ es) zero e part after g is more = (after, more, sym is ∙ ap (λ (y : Entry). y.bytes) (sym (some-injective x e g)))
-cut_some (x ∷ es) (suc n) e part after g is more = cut_some es n e part after g is more
-
-some_length : (bytes : List ℕ) → bytes ≢ [] → 0 < length bytes
-some_length [] n = absurd (n refl)
-some_length (b ∷ bs) n = omega arith
-
-taken_of : (es : List Entry) (n : ℕ) (took : List ℕ) → ((i : ℕ) (e : Entry) → get_elem? es i ≡ some e → e.bytes ≢ []) → Taken es n took → IsTaken (record { accepted = map accepted_of es; placed = n }) took
-taken_of es n took some_ t = record {
-  cut = t.part;
-  took_is = t.took_is ∙ ap (λ l. l ++ t.part) (whole_of es n);
-  is_cut = ⊎_elim (λ e. subst (λ l. IsCut l (map bytes_of (drop n (map accepted_of es)))) (sym e) (cut_none es n (λ i e g. some_length e.bytes (some_ i e g))))
-      (λ x. cut_some es n x.0 t.part x.1 x.2 x.3 (some_length x.1 x.4)) t.of_next;
-}
-
-get_range : {A : Type 0} (f : ℕ → A) (d : A) (a n k : ℕ) → k < n → get_or (map f (from_to a n)) k d ≡ f (a + k)
-get_range f d a zero k l = absurd (omega arith)
-get_range f d a (suc n) zero l = ap f (omega arith)
-get_range f d a (suc n) (suc k) l = get_range f d (a + 1) n k (omega arith) ∙ ap f (omega arith)
 
 range_at : {A : Type 0} (f : ℕ → A) (a n k : ℕ) → k < n → get_elem? (map f (from_to a n)) k ≡ some (f (a + k))
 range_at f a zero k l = absurd (omega arith)
@@ -109,15 +76,8 @@ module _ (p : Plan) (took : ℕ → List ℕ) (k : ℕ) (low : k < p.links) wher
 
 -- ## Messages as a link accepted them
 
-accepted_at : (es : List Entry) (i : ℕ) (a : Accepted) → slice_get (map accepted_of es) i ≡ Some a → (e : Entry) × (get_elem? es i ≡ some e) × (accepted_of e ≡ a)
-accepted_at [] i a h = absurd (none-some a h)
-accepted_at (e ∷ es) zero a h = (e, refl, same_Some (accepted_of e) a h)
-accepted_at (e ∷ es) (suc i) a h = accepted_at es i a h
-
 pub accepted_there : (es : List Entry) (i : ℕ) (e : Entry) → get_elem? es i ≡ some e → slice_get (map accepted_of es) i ≡ Some (accepted_of e)
-accepted_there [] i e h = absurd (some-ne-none e (sym h))
-accepted_there (x ∷ es) zero e h = ap (λ y. Some (accepted_of y)) (some-injective x e h)
-accepted_there (x ∷ es) (suc i) e h = accepted_there es i e h
+accepted_there = accepted.accepted_there (λ e. e.heading.place / 8) (λ e. e.heading.place % 8)
 
 label_is : (e : Entry) → label (accepted_of e) ≡ e.heading.place
 label_is e = omega arith
@@ -152,7 +112,7 @@ module _ {O : Type 0} {g : Ghosts O} {state : O → OutState} {p : Plan} {client
   -- ## Its messages
 
   pub entry_on : (k i : ℕ) (a : Accepted) → StandsAt orders k i a → (e : Entry) × (get_elem? (on k (log run)) i ≡ some e) × (accepted_of e ≡ a) × (q : ℕ) × (get_elem? (log run) q ≡ some e) × (e.link ≡ k)
-  entry_on k i a at = let w = accepted_at (on k (log run)) i a at in let f = from_on k (log run) i w.0 w.1 in (w.0, w.1, w.2, f.0, f.1, f.2)
+  entry_on k i a at = let w = accepted.accepted_at (λ e. e.heading.place / 8) (λ e. e.heading.place % 8) (on k (log run)) i a at in let f = from_on k (log run) i w.0 w.1 in (w.0, w.1, w.2, f.0, f.1, f.2)
 
   message_some : (c name number attempt : ℕ) (msg : Letter) → IsMessage clients outcomes c name number attempt msg None → (parcel_of msg.bytes).bytes ≢ []
   message_some c name number attempt msg (of_send bytes is first sent told) e = (fits run c record { number = number; op = ops.Send name bytes } is).1.1 (sym sent ∙ e)
@@ -189,7 +149,7 @@ module _ {O : Type 0} {g : Ghosts O} {state : O → OutState} {p : Plan} {client
     written = λ k i a low at. (let w = entry_on k i a at in ap (λ l. slice_index l (place_index p (label a))) left.words ∙ (ap (λ l. slice_index run.closed.words (place_index p l)) (ap label (sym w.2) ∙ label_is w.0) ∙ word_at k i w.0 low w.1));
     alone = λ l low. ⊎_elim (λ none_. inl (ap (λ ws. slice_index ws (place_index p l)) left.words ∙ none_)) (λ w. inr (w.link, w.position, accepted_of w.entry, w.inside, accepted_there (on w.link (log run)) w.position w.entry w.there, sym w.own ∙ sym (label_is w.entry))) (run.closed.shown l low);
     within = λ k low. (let c_ = (ends.1 k low).fifo.count in let n = map_long accepted_of (on k (log run)) in omega arith);
-    taken = λ k low. subst (λ hs. IsTaken (orders k) (get_or (took_at_home p hs) k [])) (sym left.homes) (subst (IsTaken (orders k)) (sym (took_home p took k low)) (taken_of (on k (log run)) (kept k) (took k) (λ i e at. (let w = from_on k (log run) i e at in has_bytes w.0 e w.1)) (ends.1 k low).fifo.took_is));
+    taken = λ k low. subst (λ hs. IsTaken (orders k) (get_or (took_at_home p hs) k [])) (sym left.homes) (subst (IsTaken (orders k)) (sym (took_home p took k low)) (accepted.taken_of (λ e. e.heading.place / 8) (λ e. e.heading.place % 8) (on k (log run)) (kept k) (took k) (λ i e at. (let w = from_on k (log run) i e at in has_bytes w.0 e w.1)) (ends.1 k low).fifo.took_is));
     apart = λ k l i j a b low_k low_l at bt same. (
         let v = entry_on k i a at in
         let w = entry_on l j b bt in

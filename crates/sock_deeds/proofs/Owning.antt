@@ -119,17 +119,7 @@ module _ {O : Type 0} (g : Ghosts O) (state : O → OutState) (p : Plan) where
   pub entry_source : (d : Did) (s t : Hand) (b : DoneBy g state p d s t) (j : ℕ) (e : Entry) → get_elem? (entries_by d s t b) j ≡ some e → IsSent d s t e
   entry_source (sends name number attempt msg None) s t b zero e at = record { name = name; number = number; attempt = attempt; msg = msg; did_is = refl; sent = b.0; entry = some-injective b.0.delivered.accepted.entry e at }
   entry_source (sends name number attempt msg None) s t b (suc j) e at = absurd (some-ne-none e (sym at))
-  entry_source (sends name number attempt msg (Some by)) s t b j e at = absurd (some-ne-none e (sym at))
-  entry_source (opens name number link by) s t b j e at = absurd (some-ne-none e (sym at))
-  entry_source (holds name number by) s t b j e at = absurd (some-ne-none e (sym at))
-  entry_source (drops name number by) s t b j e at = absurd (some-ne-none e (sym at))
-  entry_source (fails name number code by) s t b j e at = absurd (some-ne-none e (sym at))
-  entry_source (waits name) s t b j e at = absurd (some-ne-none e (sym at))
-  entry_source (looks number n) s t b j e at = absurd (some-ne-none e (sym at))
-  entry_source (takes id) s t b j e at = absurd (some-ne-none e (sym at))
-  entry_source (misses id found) s t b j e at = absurd (some-ne-none e (sym at))
-  entry_source (sets id code by) s t b j e at = absurd (some-ne-none e (sym at))
-  entry_source (returns id) s t b j e at = absurd (some-ne-none e (sym at))
+  entry_source _ s t b j e at = absurd (some-ne-none e (sym at))
 
   -- a message of which nothing came back was accepted
   pub entry_there : (name number attempt : ℕ) (msg : Letter) (d : Did) (s t : Hand) (b : DoneBy g state p d s t) → d ≡ sends name number attempt msg None → (e : Entry) × (get_elem? (entries_by d s t b) 0 ≡ some e)
@@ -138,17 +128,7 @@ module _ {O : Type 0} (g : Ghosts O) (state : O → OutState) (p : Plan) where
 
   pub entries_small : (d : Did) (s t : Hand) (b : DoneBy g state p d s t) → length (entries_by d s t b) ≤ 1
   entries_small (sends name number attempt msg None) s t b = omega arith
-  entries_small (sends name number attempt msg (Some by)) s t b = omega arith
-  entries_small (opens name number link by) s t b = omega arith
-  entries_small (holds name number by) s t b = omega arith
-  entries_small (drops name number by) s t b = omega arith
-  entries_small (fails name number code by) s t b = omega arith
-  entries_small (waits name) s t b = omega arith
-  entries_small (looks number n) s t b = omega arith
-  entries_small (takes id) s t b = omega arith
-  entries_small (misses id found) s t b = omega arith
-  entries_small (sets id code by) s t b = omega arith
-  entries_small (returns id) s t b = omega arith
+  entries_small _ s t b = omega arith
 
 abbrev pub entries_of : {O : Type 0} {g : Ghosts O} {state : O → OutState} {p : Plan} → Deed g state p → List Entry
 entries_of {g = g} {state = state} {p = p} d = entries_by g state p d.did d.before d.after d.done

@@ -10,7 +10,7 @@ use Rattle.sock_words.specs.declared.socket_id.SocketId.{SocketId}
 use Rattle.sock_model.specs.Seats.{newcomer}
 use Rattle.seat_programs.specs.declared.task.Task.{Task}
 use Rattle.rpc_client.specs.sock_table.specs.declared.finding.Noted.TheVariants as noted
-use Rattle.sock_deeds.specs.Deeds.{Hand, Did, opens, sends, holds, drops, fails, waits, looks, takes, misses, sets, returns, DoneBy, Deed, Chain}
+use Rattle.sock_deeds.specs.Deeds.{Hand, Did, looks, takes, misses, sets, returns, DoneBy, Deed, Chain}
 use Rattle.sock_deeds.specs.Runs.{IsById, IsReaderCode, DidRead, had_none, left_it, missed_it, set_it, did_in, ReaderSeat, early_of}
 use Rattle.sock_deeds.proofs.Places.{map_there}
 
@@ -99,12 +99,7 @@ module _ {O : Type 0} (g : Ghosts O) (state : O → OutState) (p : Plan) where
   id_held (misses id found) s t is b = b.1
   id_held (sets id code by) s t is b = b.1
   id_held (returns id) s t is b = b.1
-  id_held (opens name number link by) s t is b = elim is [ ]
-  id_held (sends name number attempt msg by) s t is b = elim is [ ]
-  id_held (holds name number by) s t is b = elim is [ ]
-  id_held (drops name number by) s t is b = elim is [ ]
-  id_held (fails name number code by) s t is b = elim is [ ]
-  id_held (waits name) s t is b = elim is [ ]
+  id_held _ s t is b = elim is [ ]
 
   ids_held : (ds : List (Deed g state p)) (s t : Hand) → Chain g state p ds s t → ((k : ℕ) (d : Deed g state p) → get_elem? ds k ≡ some d → IsById d.did) → t.held ≡ s.held
   ids_held [] s t c are = ap (λ (h : Hand). h.held) c

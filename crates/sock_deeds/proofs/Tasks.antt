@@ -23,7 +23,7 @@ use Rattle.outcome_causes.specs.Causes.{Asks}
 use Rattle.outcome_causes.proofs.Members.{all_in}
 use Rattle.outcome_causes.proofs.Tasks.{one_task, fits_of}
 use Rattle.report_fits.proofs.Lists.{has_from}
-use Rattle.sock_deeds.specs.Deeds.{Did, opens, sends, holds, drops, fails, waits, looks, takes, misses, sets, returns, own_number, Deed}
+use Rattle.sock_deeds.specs.Deeds.{Did, opens, sends, holds, drops, fails, looks, own_number, Deed}
 use Rattle.sock_deeds.specs.Runs.{IsOperation, IsMessage, of_send, of_call, IsFor, Seated, DeedRun}
 use Rattle.sock_deeds.proofs.Acts.{Act, did_of, same_seat, same_deed}
 use Rattle.sock_deeds.proofs.Numbered.{IsOnSockets, each_done, deeds_rise}
@@ -62,12 +62,7 @@ module _ (clients : List (List Task)) (outcomes : List (Option Outcome)) where
   does c (holds name n by) number e is = subst (λ x. DoesFor c x (holds name n by)) (same_Some n number e) (ops.Hold name, is.0, (by, refl, is.1))
   does c (drops name n by) number e is = subst (λ x. DoesFor c x (drops name n by)) (same_Some n number e) (ops.Drop name, is.0, (by, refl, is.1))
   does c (fails name n code by) number e is = subst (λ x. DoesFor c x (fails name n code by)) (same_Some n number e) (ops.Fail name code, is.0, (by, refl, is.1))
-  does c (waits name) number e is = absurd (none-some number e)
-  does c (looks n noted) number e is = absurd (none-some number e)
-  does c (takes id) number e is = absurd (none-some number e)
-  does c (misses id found) number e is = absurd (none-some number e)
-  does c (sets id code by) number e is = absurd (none-some number e)
-  does c (returns id) number e is = absurd (none-some number e)
+  does c _ number e is = absurd (none-some number e)
 
 -- the name under which a deed looks for a socket, or opens one
 abbrev pub name_in : Did → Option ℕ
@@ -111,12 +106,7 @@ module _ {O : Type 0} {g : Ghosts O} {state : O → OutState} {p : Plan} {client
   low_name c (holds name number by) n e is = subst (λ m. m < p.names) (same_Some name n e) (op_fits c number (ops.Hold name) is.0)
   low_name c (drops name number by) n e is = subst (λ m. m < p.names) (same_Some name n e) (op_fits c number (ops.Drop name) is.0)
   low_name c (fails name number code by) n e is = subst (λ m. m < p.names) (same_Some name n e) (op_fits c number (ops.Fail name code) is.0).0
-  low_name c (waits name) n e is = absurd (none-some n e)
-  low_name c (looks number noted) n e is = absurd (none-some n e)
-  low_name c (takes id) n e is = absurd (none-some n e)
-  low_name c (misses id found) n e is = absurd (none-some n e)
-  low_name c (sets id code by) n e is = absurd (none-some n e)
-  low_name c (returns id) n e is = absurd (none-some n e)
+  low_name c _ n e is = absurd (none-some n e)
 
   pub act_name : (a : Act run) (n : ℕ) → name_in (did_of run a) ≡ Some n → n < p.names
   act_name a n e = low_name a.c (did_of run a) n e (is_for a)

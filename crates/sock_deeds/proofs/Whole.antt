@@ -1,7 +1,6 @@
 -- All that is told of sockets in a run of deeds.
-use Rattle.std.proofs.Common.{◌≡◌, ◌≢◌, ◌⊎◌, ℕ, zero, suc, ◌+◌, ◌<◌, ◌≤◌, cond, inl, inr, List, [], ◌∷◌, length, map, sum_by, slice_get, Option, Some, None, eq-eqb, ne_eqb, refl, sym, ap, ◌∙◌, subst, arith}
+use Rattle.std.proofs.Common.{◌≡◌, ◌≢◌, ◌⊎◌, ℕ, ◌/◌, ◌%◌, ◌<◌, ◌≤◌, inl, inr, List, length, slice_get, Option, Some, None, sym, ap, ◌∙◌, subst, arith}
 use Rattle.std.proofs.lemmas.List.{length-map}
-use Rattle.std.proofs.lemmas.List.Sums.{sum_by-cons}
 use Rattle.std.proofs.lemmas.Option.{same_Some}
 use mathlib.Core.Logic.{dite}
 use native.Mathlib.Decide.{ℕ_discrete}
@@ -24,9 +23,9 @@ use Rattle.seat_programs.specs.declared.task.Op.{Op}
 use Rattle.seat_programs.specs.declared.task.Op.TheVariants as ops
 use Rattle.seat_programs.specs.declared.task.Task.{Task}
 use Rattle.seat_programs.specs.Cores.{Core}
-use Rattle.seat_programs.specs.Runs.{from_to}
 use Rattle.seat_programs.specs.Told.{IsTask, Became, IsOpen}
-use Rattle.seat_programs.specs.ToldCalls.{Fixed, StandsOn, FoundNone, FoundFailed, MayFail, IsFailing, Why, all_accepted}
+use Rattle.seat_programs.specs.ToldCalls.{Fixed, Order, StandsOn, FoundNone, FoundFailed, MayFail, IsFailing, Why, all_accepted}
+use Rattle.outcome_causes.proofs.Accepted as accepted
 use Rattle.outcome_causes.proofs.Tasks.{setup_opens}
 use Rattle.rpc_client.specs.Failing.{FailedBy as FailedAs}
 use Rattle.rpc_client.specs.Holding.{HeldBy}
@@ -49,45 +48,17 @@ use Rattle.sock_deeds.proofs.Orders.{orders, IsLeft, are_orders, accepted_stands
 use Rattle.sock_deeds.proofs.Sent.{whose}
 use Rattle.sock_deeds.proofs.Tasks.{Does, asks_of, same_task, one_outcome, fits, task_does}
 
--- ## How many messages there are
-
-abbrev size : ℕ → List Entry → ℕ
-size k l = length (map accepted_of (on k l))
-
-abbrev sizes : ℕ → ℕ → List Entry → ℕ
-sizes a n l = sum_by (λ k. size k l) (from_to a n)
-
-size_here : (k : ℕ) (e : Entry) (es : List Entry) → e.link ≡ k → size k (e ∷ es) ≡ suc (size k es)
-size_here k e es y = ap (λ b. length (map accepted_of (cond b (e ∷ on k es) (on k es)))) (eq-eqb e.link k y)
-
-size_else : (k : ℕ) (e : Entry) (es : List Entry) → e.link ≢ k → size k (e ∷ es) ≡ size k es
-size_else k e es n = ap (λ b. length (map accepted_of (cond b (e ∷ on k es) (on k es)))) (ne_eqb e.link k n)
-
-sizes_cons : (a n : ℕ) (l : List Entry) → sizes a (suc n) l ≡ size a l + sizes (a + 1) n l
-sizes_cons a n l = sum_by-cons (λ k. size k l) a (from_to (a + 1) n)
-
-sizes_else : (a n : ℕ) (e : Entry) (es : List Entry) → e.link < a → sizes a n (e ∷ es) ≡ sizes a n es
-sizes_else a zero e es l = refl
-sizes_else a (suc n) e es l = omega (arith, sizes_cons a n (e ∷ es), sizes_cons a n es, size_else a e es (λ q. omega arith), sizes_else (a + 1) n e es (omega arith))
-
-sizes_in : (a n : ℕ) (e : Entry) (es : List Entry) → a ≤ e.link → e.link < a + n → sizes a n (e ∷ es) ≡ suc (sizes a n es)
-sizes_in a zero e es low high = absurd (omega arith)
-sizes_in a (suc n) e es low high = dite (ℕ_discrete e.link a)
-    (λ y. omega (arith, sizes_cons a n (e ∷ es), sizes_cons a n es, size_here a e es y, sizes_else (a + 1) n e es (omega arith)))
-    (λ ne. omega (arith, sizes_cons a n (e ∷ es), sizes_cons a n es, size_else a e es ne, sizes_in (a + 1) n e es (omega arith) (omega arith)))
-
-sizes_none : (a n : ℕ) → sizes a n [] ≡ 0
-sizes_none a zero = refl
-sizes_none a (suc n) = omega (arith, sizes_cons a n [], sizes_none (a + 1) n)
-
--- the chains of all links are the log
-sizes_all : (n : ℕ) (l : List Entry) → ((i : ℕ) (e : Entry) → get_elem? l i ≡ some e → e.link < n) → sizes 0 n l ≡ length l
-sizes_all n [] below = sizes_none 0 n
-sizes_all n (e ∷ es) below = omega (arith, sizes_in 0 n e es (omega arith) (omega (arith, below 0 e refl)), sizes_all n es (λ i x g. below (suc i) x g))
-
 module _ {O : Type 0} {g : Ghosts O} {state : O → OutState} {p : Plan} {clients : List (List Task)} {outcomes : List (Option Outcome)} {places : List PlaceWord} {vrefs : List Vref} {outs : List O} (run : DeedRun g state p clients outcomes places vrefs outs) (differ : PlacesDiffer (log run)) (gave : ℕ → List ℕ) where
   abbrev pub fixed : Fixed
   fixed = fixed_by (broken run) (early run) (all_fails run)
+
+  -- with the orders of the links
+  pub record Laws : Type 0 where
+    pub fixed_here : Fixed
+    pub orders_here : ℕ → Order
+
+  abbrev pub laws_of : Laws
+  laws_of = record { fixed_here = fixed; orders_here = orders run differ }
 
   -- ## Lives that were failed
 
@@ -118,7 +89,7 @@ module _ {O : Type 0} {g : Ghosts O} {state : O → OutState} {p : Plan} {client
 
   -- each message of the log is one that a link accepted
   pub log_accepted : length (log run) ≤ all_accepted p.links (orders run differ)
-  log_accepted = omega (arith, sizes_all p.links (log run) links_low)
+  log_accepted = omega (arith, accepted.sizes_all (λ e. e.heading.place / 8) (λ e. e.heading.place % 8) p.links (log run) links_low)
 
   requests_full : (b : Act run) (n : ℕ) (msg : Letter) → SentOver state p n msg (Some outcome.Full) (before run b) (after run b) → p.requests ≤ all_accepted p.links (orders run differ)
   requests_full b n msg s = let full = was_full run b n msg s in omega (arith, log_accepted)
@@ -190,19 +161,13 @@ module _ {O : Type 0} {g : Ghosts O} {state : O → OutState} {p : Plan} {client
         let e = d.1 ∙ ap (fails n number code) (one_outcome run number d.0 o d.2 became) in
         why_fail a number n code o (fits run a.c record { number = number; op = ops.Fail n code } is).1.0 (is_client a.c number (ops.Fail n code) is (λ h. h)) is became e (as_did a (fails n number code o) e).0
     why_op a number (ops.Drop n) o is became on d = why_drop a number n o (d.1 ∙ ap (drops n number) (one_outcome run number d.0 o d.2 became))
-    why_op a number (ops.Call asked) o is became on d = elim on [ ]
-    why_op a number (ops.Expire t) o is became on d = elim on [ ]
-    why_op a number (ops.Join t) o is became on d = elim on [ ]
+    why_op a number _ o is became on d = elim on [ ]
 
     on_sockets : (op : Op) → IsOfSockets op → IsOnSockets op
-    on_sockets (ops.Open n k) on = tt
-    on_sockets (ops.Send n bytes) on = tt
-    on_sockets (ops.Hold n) on = tt
-    on_sockets (ops.Drop n) on = tt
-    on_sockets (ops.Fail n code) on = tt
     on_sockets (ops.Call asked) on = elim on [ ]
     on_sockets (ops.Expire t) on = elim on [ ]
     on_sockets (ops.Join t) on = elim on [ ]
+    on_sockets _ on = tt
 
     why : (c : ℕ) (t : Task) (o : Outcome) → IsTask clients outcomes c t → Became clients outcomes t.number o → IsOfSockets t.op → WhyHere c t.number t.op o
     why c t o is became on =
