@@ -138,8 +138,8 @@ impl Refs {
         mem::replace(&mut self.first, None)
     }
 
-    /// Gives each reference up, from the last to the first. Of two that aren't the last ones to their
-    /// blocks each is dropped where it lies, since moving it costs time.
+    /// Gives each reference up, from the last to the first. Where there are at most two, one that isn't the last to its
+    /// block is dropped where it lies, behind which no other is to be moved: moving it costs time.
     #[inline(always)]
     pub(crate) fn recycle(mut self, pool: &mut BlockPool)
         ensures { pool.old ≤ pool.new }

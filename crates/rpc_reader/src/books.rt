@@ -53,7 +53,7 @@ fn outcome(alloc: Global, id: u64, ending: &Ending) -> Result<Outcome, NoMemory>
     }
 }
 
-// Whether the frame has a response.
+/// Whether the frame has a response.
 pub fn has_response(frame: &Frame) -> bool
     ensures { result ≡ responds frame.now.meta.response }
 {

@@ -163,7 +163,7 @@ impl Reader {
         Ok(())
     }
 
-    /// Notes what such a line says.
+    /// Notes what a line says that stands where it may: all of `keep` but the line itself.
     fn note(&mut self, line: &Line) -> Result<(), AllocError>
         requires count { self.old.count + 1 < 2 ^ 32 }
         requires limits { IsWithinLimits self.old.counts }

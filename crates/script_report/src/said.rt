@@ -15,7 +15,7 @@ pub fn untold(alloc: Global, operations: u16) -> Result<Vec<Option<Outcome>>, Al
     Ok(said)
 }
 
-/// The outcome of an operation, if there is one of this number.
+/// Notes the outcome of the operation of this number, if there is one.
 pub fn say(said: &mut Vec<Option<Outcome>>, number: u16, outcome: Outcome)
     ensures { said.new.items ≡ slice_set said.old.items number (Some outcome) }
 {

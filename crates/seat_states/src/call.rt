@@ -84,7 +84,7 @@ pub fn request_place(plan: &Plan, request: u16) -> usize
     6 * plan.slots as usize + plan.names as usize + plan.operations as usize + request as usize
 }
 
-/// Where its next word stands.
+/// Where the next word of a request stands.
 fn next_place(plan: &Plan, request: u16) -> usize
     ensures { result ≡ next_index plan.now request }
 {

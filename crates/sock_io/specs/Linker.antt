@@ -40,7 +40,7 @@ shape_asked spec = record { piece = spec.piece; again = spec.again; fail = spec.
 abbrev pub shape_of : LinkSpec → (fail_put : ℕ) → Shape
 shape_of spec fail_put = record { piece = spec.piece; again = spec.again; fail = (if spec.fail == 0 then fail_put else spec.fail) }
 
--- no shape at all: a piece is never longer
+-- no shape at all: no put takes less for it, none pauses, none fails
 abbrev pub plain_shape : Shape
 plain_shape = record { piece = 4294967295; again = 0; fail = 0 }
 

@@ -10,7 +10,7 @@ pub fn risen(count: u64) -> u64
 }
 
 /// The number of the next call, from 1 on.
-pub fn next_call(calls: u64) -> u64
+pub(crate) fn next_call(calls: u64) -> u64
     ensures { result ≡ next_number calls }
 {
     calls.saturating_add(1)
@@ -23,8 +23,8 @@ pub(crate) fn is_listed(numbers: &[u64], number: u64) -> bool
     numbers.contains(&number)
 }
 
-/// The same among numbers of 32 bits.
-pub fn is_counted(numbers: &[u32], number: u64) -> bool
+/// Whether the number stands among these, which are of 32 bits.
+pub(crate) fn is_counted(numbers: &[u32], number: u64) -> bool
     ensures { IsTrue result ↔ Contains numbers.now number }
 {
     numbers.iter().any(|n| u64::from(*n) == number)

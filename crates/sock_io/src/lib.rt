@@ -20,7 +20,7 @@ mod stream;
 mod writing;
 
 pub use answered::Answered;
-pub use counts::{is_counted, next_call, risen};
+pub use counts::risen;
 pub use ending::Ending;
 pub use give_in::GiveIn;
 pub use give_linker::GiveLinker;
@@ -32,7 +32,7 @@ pub use mem_link::{MemIn, MemOut, NoPeer};
 pub use mem_links::MemLinks;
 pub use mem_sink::MemSink;
 pub use mem_source::MemSource;
-pub use noted_links::{NotedLinks, noted};
+pub use noted_links::NotedLinks;
 pub use shape::Shape;
 pub use shaped::Shaped;
 pub use sink_linker::SinkLinker;

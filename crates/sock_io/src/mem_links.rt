@@ -19,8 +19,8 @@ struct Connection<I: In> {
     inn: I,
 }
 
-/// The links of a linker in memory: it makes their writing halves, and keeps what was given back. It reserves the room for
-/// that as it opens, so that giving back takes no memory.
+/// The links of a linker in memory: it makes their writing halves, and keeps what was given back. It reserves the room
+/// for that as it opens and accepts, so that giving back takes no memory.
 ///
 /// Its `open` calls with the numbers in `fail_opens`, counted from 1, answer `Failed`.
 #[derive(Drop)]

@@ -6,7 +6,7 @@ use ghosts::Ghosts;
 use std::marker::Model;
 
 /// A list with one more behind.
-pub fn noted<V: Drop>(list: &Ghosts<V>, one: V) -> Ghosts<V>
+fn noted<V: Drop>(list: &Ghosts<V>, one: V) -> Ghosts<V>
     ensures { result.list ≡ list.now.list ++ one ∷ [] }
 {
     let before: Ghosts<V> = Ghosts::of(list);

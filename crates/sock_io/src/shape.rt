@@ -27,7 +27,7 @@ impl Shape {
         }
     }
 
-    /// No shape at all: a piece is never longer.
+    /// No shape at all: no put takes less for it, none pauses, none fails.
     pub fn plain() -> Self
         ensures { result ≡ plain_shape }
     {

@@ -38,6 +38,8 @@ impl Model for SinkLinker {
 }
 
 impl SinkLinker {
+    /// Nothing was opened or accepted yet. Its links fail from this put on where it isn't asked for otherwise; it takes no
+    /// memory.
     pub fn new(alloc: Global, fail_opens: Vec<u32>, fail_put: u32) -> Self
         ensures { result ≡ record { links = record { asked = []; accepted = 0; back = []; done = []; fail_opens = fail_opens.items; calls = 0; faults = 0 }; fail_put = fail_put } }
     {
