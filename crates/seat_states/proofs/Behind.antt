@@ -72,9 +72,7 @@ seeks_life a (aims.End o) found h =
 -- what was added to the word of another version is taken back
 pub seeks_gone : (a : Context) (aim : Aim) (i found : ℕ) → release_program a i (gone_then aim found) releases.SubRef ≡ release i (λ _. then_program a (gone_then aim found) false)
 seeks_gone a (aims.Hold o name) i found = refl
-seeks_gone a (aims.Send o name) i found = refl
-seeks_gone a (aims.Fail o name code) i found = refl
-seeks_gone a (aims.End o) i found = refl
+seeks_gone a _ i found = refl
 
 -- who wins the exchange loads the link of the slot
 pub recycles : (i : ℕ) (k : Bool → Program) (from : Vref) (found : ℕ) → found ≡ from.0 → release_on i k (releases.LoadLink (vref_version from.0 + 1)) ≡ after_word (release_on i k (releases.Recycle from)) found
@@ -168,11 +166,8 @@ posts a t n slot = refl
 
 -- a post that has no lock
 refuses : (id e : ℕ) (next : Program) (how : Posting) → IsRefused how → next ≡ posted id e next how
-refuses id e next WasGone r = refl
-refuses id e next WasStale r = refl
-refuses id e next (WasCrowded m n) r = refl
-refuses id e next WasQueued r = refl
 refuses id e next (HasLocked w) r = absurd r
+refuses id e next _ r = refl
 
 pub refused : (a : Context) (c : OnCall) (after : AfterStep) (how : Posting) → IsRefused how → refused_program a after (expire_outcome how) ≡ posted_program a c after how
 refused a c (afters.Attempt slot) how r = refuses (id_of c.id) c.error.0 (after_program a (afters.Attempt slot)) how r
