@@ -14,7 +14,7 @@ use Rattle.id_rule.specs.Lawful.{id_index, local}
 use Rattle.id_rule.proofs.Allowed as allowed
 use Rattle.sock_message.specs.Asked.{Asked}
 use Rattle.seat_programs.specs.Asides.{Step, PutCall, TakeCall}
-use Rattle.seat_programs.specs.Programs.{Program, Do, Say, Sent, Rest, TakeMessage, TakeHome, PutHome, PutBytes, AskReady, Write, Aside, Round, Keep, Retries}
+use Rattle.seat_programs.specs.Programs.{Program, Aside, Round}
 use Rattle.seat_programs.specs.Posts.{advance_of}
 use Rattle.seat_programs.specs.Rounds.{round}
 use Rattle.seat_programs.specs.Heads.{Retry}

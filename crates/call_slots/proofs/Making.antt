@@ -10,7 +10,7 @@ use Rattle.seat_programs.specs.Asides as asides
 use Rattle.seat_programs.specs.Beside.{call_at}
 use Rattle.seat_programs.specs.Heads.{Retry}
 use Rattle.call_points.specs.declared.aside.Aside as code
-use Rattle.call_points.specs.declared.aside.Aside.TheVariants.{ClaimId, PutCall, MakeId, StoreCall, LoadCall, StoreAt, LoadAt, LoadIdWord, LockId, PostId, UnlockId, EndId, FreeId, TakeCall, TakeBytes}
+use Rattle.call_points.specs.declared.aside.Aside.TheVariants.{PutCall, LoadCall, LoadAt, LoadIdWord, TakeCall, TakeBytes}
 use Rattle.call_points.specs.Steps.{step_of}
 use Rattle.call_slots.specs.Slots.{SlotState, calls_with, as_found}
 use Rattle.call_slots.specs.Words.{place_of, next_of, IsWithin}

@@ -11,7 +11,7 @@ use Rattle.corr_core.specs.Word.{parts}
 use Rattle.corr_core.specs.Law.{total, Each, born, is_made, is_ended, is_ended_at, is_attempt, is_tried, is_any_made, is_claim, SawFits, NoteFits, SlotLaw}
 use Rattle.corr_core.specs.declared.marks.Plan.{Plan}
 use Rattle.corr_core.specs.declared.marks.Note.{Note}
-use Rattle.corr_core.specs.declared.marks.Note.TheVariants.{Tried, Made, Ended, Locker, Queued, Attempt, Saw}
+use Rattle.corr_core.specs.declared.marks.Note.TheVariants.{Made, Locker, Attempt, Saw}
 use Rattle.corr_core.specs.declared.marks.Kept.{Kept}
 use Rattle.corr_core.specs.declared.marks.View.{View}
 use Rattle.corr_core.proofs.Notes.{each_at, total_some, only-else, pair-else, pair-else_first}

@@ -1,16 +1,16 @@
 -- Steps aside of the sockets, and attempts with their message in hand.
-use Rattle.std.proofs.Common.{◌≡◌, ℕ, Option, Some, None, option_map, refl, ap, subst}
+use Rattle.std.proofs.Common.{◌≡◌, ℕ, Some, option_map, refl, ap, subst}
 use Rattle.sock_words.specs.declared.socket_id.SocketId.{SocketId}
 use Rattle.seat_programs.specs.Asides.{Step}
 use Rattle.seat_programs.specs.Attempts.{attempt}
-use Rattle.seat_programs.specs.Programs.{Program, Do, Say, Sent, Rest, TakeMessage, TakeHome, PutHome, PutBytes, AskReady, Write, Aside, Round, Keep, Retries}
+use Rattle.seat_programs.specs.Programs.{Program, Aside, Round}
 use Rattle.seat_programs.specs.Rounds.{round}
 use Rattle.id_points.specs.Ids.{id_of, number_of}
 use Rattle.call_points.specs.Steps.{aside_of, aside_in}
 use Rattle.seat_states.specs.declared.point.Attempt.{Attempt}
 use Rattle.seat_states.specs.declared.point.AttemptStep.TheVariants as attempts
 use Rattle.seat_states.specs.Points.{Context, IsFramed, attempt_program, client_on, with_frame}
-use Rattle.seat_states.specs.Steps.{First, OfAside, first_of, first_in}
+use Rattle.seat_states.specs.Steps.{OfAside, first_of, first_in}
 
 of_aside : (p : Program) (s : Step) → aside_of p ≡ Some s → first_of p ≡ Some (OfAside s)
 of_aside (Aside step next) s e = ap (option_map OfAside) e

@@ -9,7 +9,7 @@ use Rattle.sock_io.specs.declared.link.Put.TheVariants as puts
 use Rattle.sock_model.specs.Entries.{ticket_of, slot_of}
 use Rattle.sock_words.specs.declared.outcome.Outcome.TheVariants.{Full}
 use Rattle.seat_programs.specs.Calls.{ClaimRequest}
-use Rattle.seat_programs.specs.Heads.{Posting, WasGone, WasStale, WasCrowded, WasQueued, HasLocked}
+use Rattle.seat_programs.specs.Heads.{Posting, HasLocked}
 use Rattle.seat_programs.specs.Posts.{post, posted}
 use Rattle.seat_programs.specs.sock_message.specs.Asked.{Asked}
 use Rattle.seat_programs.specs.Attempts.{claims_from, expire_outcome}
@@ -33,7 +33,6 @@ use Rattle.seat_states.specs.declared.point.OpenStep.TheVariants as opens
 use Rattle.seat_states.specs.declared.point.Aim.{Aim}
 use Rattle.seat_states.specs.declared.point.Aim.TheVariants as aims
 use Rattle.seat_states.specs.declared.point.SeekStep.TheVariants as seeks
-use Rattle.seat_states.specs.declared.point.Continuation.{Continuation}
 use Rattle.seat_states.specs.declared.point.ReleaseStep.TheVariants as releases
 use Rattle.sock_words.specs.declared.socket_id.SocketId.{SocketId}
 use Rattle.seat_states.specs.declared.point.Sending.{Sending}
