@@ -24,11 +24,12 @@ use Rattle.sock_rule.specs.OnKey.{LinkOnTop}
 use Rattle.sock_rule.specs.Plays.{TookLink}
 use Rattle.sock_rule.proofs.Ways.{own_number}
 
-abbrev number : Home → ℕ
+-- what a link's home shows
+abbrev pub number : Home → ℕ
 number (home.Link k took next done) = k
 number _ = 0
 
-abbrev bytes : Home → List ℕ
+abbrev pub bytes : Home → List ℕ
 bytes (home.Link k took next done) = took
 bytes _ = []
 
@@ -40,7 +41,7 @@ abbrev is_link : Home → ℕ
 is_link (home.Link k took next done) = 1
 is_link _ = 0
 
-abbrev is_done : Home → Bool
+abbrev pub is_done : Home → Bool
 is_done (home.Link k took next done) = done
 is_done _ = true
 
@@ -66,7 +67,7 @@ module _ {O : Type 0} {g : Ghosts O} {p : Plan} {ways : List (List ℕ)} {m n : 
   own_came t = record { value = t.value; shown = t.shown; inside = t.inside; view = t.view; known = t.known; slots = t.slots }
 
 -- what shows a link is one
-link_of : {O : Type 0} {g : Ghosts O} (p : Plan) (ways : List (List ℕ)) (k : ℕ) (took : List ℕ) (next : ℕ) (done : Bool) (x : SockHome O g) → shows_in p ways x ≡ home.Link k took next done → (h : LinkHome O g) × (x ≡ Link h)
+pub link_of : {O : Type 0} {g : Ghosts O} (p : Plan) (ways : List (List ℕ)) (k : ℕ) (took : List ℕ) (next : ℕ) (done : Bool) (x : SockHome O g) → shows_in p ways x ≡ home.Link k took next done → (h : LinkHome O g) × (x ≡ Link h)
 link_of p ways k took next done Empty e = let a = ap is_link e in absurd (omega arith)
 link_of p ways k took next done (Link h) e = (h, refl)
 link_of p ways k took next done (Message m) e = let a = ap is_link e in absurd (omega arith)

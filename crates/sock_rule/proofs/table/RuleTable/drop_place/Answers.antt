@@ -2,7 +2,6 @@ use Rattle.std.proofs.Common.{ℕ, ◌<◌, ◌∷◌, arith, refl, ◌∙◌, s
 use Rattle.atomic_table.specs.Table.{rest}
 use Rattle.sock_model.specs.declared.view.View.{View}
 use Rattle.sock_model.specs.ChainRows.{with_right, dropped_right}
-use Rattle.sock_model.specs.Layout.{place_index}
 use Rattle.sock_rule.specs.Rows.{dropped_at}
 use Rattle.sock_rule.specs.declared.homes.SockHome.TheVariants.{Empty, Link}
 use Rattle.sock_rule.specs.Holding.{MayDropPlace}
