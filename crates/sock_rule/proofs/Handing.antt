@@ -58,7 +58,7 @@ pub record Came {O : Type 0} {g : Ghosts O} (p : Plan) (ways : List (List ℕ)) 
   pub known : 0 < faults_of k m.0 → 0 < rose value
   pub slots : n.1 ≡ (m.0.plan.requests + k, value) ∷ m.1
 
-module _ {O : Type 0} {g : Ghosts O} {p : Plan} {ways : List (List ℕ)} {m n : Me (SockHome O g) View} where
+module _ {O : Type 0} {g : Ghosts O} (p : Plan) (ways : List (List ℕ)) {m n : Me (SockHome O g) View} where
   pub link_came : {k : ℕ} {row : List ℕ → ℕ → View} (t : TookLink (shows_in p ways) rose m n k row) → Came p ways m n 0 k t.took t.next t.done row
   link_came t = record { value = t.value; shown = t.shown; inside = t.inside; view = t.view; known = t.known; slots = t.slots }
 

@@ -12,3 +12,6 @@ unreachable-requires g c = c.in_default.not-Link c.requires.home.0 (sym (comes_b
 
 pub returns-clause-home : goal.returns-clause-home
 returns-clause-home g c = c.exchange-value.ensures.2 ∙ (λ i. (c.args.slot, c.in-Link.is i) ∷ rest c.args.seat.now.me.1)
+
+pub returns-clause-view : goal.returns-clause-view
+returns-clause-view g c = c.exchange-value.ensures.3
