@@ -7,7 +7,7 @@ ghost use Rattle.corr_id.specs.Seats.{Sits, Stays};
 ghost use Rattle.corr_id.specs.Calls.{slot_of, version_of, GotLock, Quiet, Found};
 ghost use Rattle.corr_id.specs.Attempts.{LacksAttempt, IsOutside, IsWithin, IsKnown};
 
-use crate::calls::{is_out_of, IdGone, Locking};
+use crate::calls::{IdGone, Locking, is_out_of};
 use crate::table::{IdSeat, IdTable};
 use sock_words::IdWord;
 use std::sync::Wait;

@@ -71,14 +71,14 @@ placed_same a b e = cc
 pub one_right : (v : View) (r r' : Right) → v.rights ≡ r ∷ [] → r'.link ≡ r.link → (with_right v r').rights ≡ r' ∷ []
 one_right v r r' one same = ap (λ (l : List Right). r' ∷ l) (ap (filter (λ (x : Right). not (eqb x.link r'.link))) one ∙ ap (λ b. cond (not b) (r ∷ []) []) (eq-eqb r.link r'.link (sym same)))
 
+abbrev turned_by : Right → ℕ → ℕ → ℕ → Bool → Right
+turned_by r top a before b = cond b (record r { last = top; stage = Writes a; turned = 0; noted = r.noted + suc r.turned }) (record r { stage = Walks top before a; turned = suc r.turned })
+
 -- a turn keeps the link of its right, and where that is
 turn_kept : (r : Right) (top a before : ℕ) → ((turned_right r top a before).link ≡ r.link) × ((turned_right r top a before).at_home ≡ r.at_home)
 turn_kept r top a before = by_case (eqb before r.last)
   where
-    abbrev turned : Bool → Right
-    turned b = cond b (record r { last = top; stage = Writes a; turned = 0; noted = r.noted + suc r.turned }) (record r { stage = Walks top before a; turned = suc r.turned })
-
-    by_case : (b : Bool) → ((turned b).link ≡ r.link) × ((turned b).at_home ≡ r.at_home)
+    by_case : (b : Bool) → ((turned_by r top a before b).link ≡ r.link) × ((turned_by r top a before b).at_home ≡ r.at_home)
     by_case true = (refl, refl)
     by_case false = (refl, refl)
 
