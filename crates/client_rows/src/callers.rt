@@ -6,6 +6,7 @@ ghost use Rattle.corr_id.specs.Opening.{AreNew};
 ghost use Rattle.call_client.specs.Acting.{MayGo};
 ghost use Rattle.call_client.specs.Running.{MayMakeAll};
 
+use crate::plans::ONE;
 use call_attempts::Tables;
 use call_client::{Caller, Spent};
 use corr_id::{IdSeat, IdTable};
@@ -46,11 +47,8 @@ fn begin(alloc: Global) -> Option<Made<Half>>
     let plan = Plan {
         slots: 2,
         links: 2,
-        requests: 4,
         names: 2,
-        operations: 3,
-        seats: 1,
-        first: 0,
+        ..ONE
     };
     let good = half(alloc, 0, 0)?;
     let bad = half(alloc, 1, 1)?;
