@@ -39,17 +39,19 @@ fn half(alloc: Global, link: u16, fail: u32) -> Option<Half>
     }
 }
 
+const PLAN: Plan = Plan {
+    slots: 2,
+    links: 2,
+    names: 2,
+    ..ONE
+};
+
 /// A table of two slots, two links and two names, with one seat. The link 1 fails at its first put.
 fn begin(alloc: Global) -> Option<Made<Half>>
     ensures plan { IfSome result (λ m. m.table.rule.plan ≡ record { slots = 2; links = 2; requests = 4; names = 2; operations = 3; seats = 1; first = 0 }) }
     ensures made { IfSome result (λ m. AreMade m.table.rule.table.shared.table_id m.table.rule.plan m.seats.items m.passes.items) }
 {
-    let plan = Plan {
-        slots: 2,
-        links: 2,
-        names: 2,
-        ..ONE
-    };
+    let plan = PLAN;
     let good = half(alloc, 0, 0)?;
     let bad = half(alloc, 1, 1)?;
     let Ok(outs) = vec![in alloc; good, bad] else {
