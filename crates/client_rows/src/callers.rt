@@ -24,6 +24,13 @@ use std::sync::Wait;
 
 type Half = Shaped<MemOut>;
 
+const PLAN: Plan = Plan {
+    slots: 2,
+    links: 2,
+    names: 2,
+    ..ONE
+};
+
 /// The writing half of a link whose puts from this number on fail, or none for 0.
 fn half(alloc: Global, link: u16, fail: u32) -> Option<Half>
     ensures { IfSome result (λ s. (s.inner.link ≡ link) × (s.inner.finished ≡ false) × (s.taken ≡ [])) }
@@ -38,13 +45,6 @@ fn half(alloc: Global, link: u16, fail: u32) -> Option<Half>
         Err(_) => None,
     }
 }
-
-const PLAN: Plan = Plan {
-    slots: 2,
-    links: 2,
-    names: 2,
-    ..ONE
-};
 
 /// A table of two slots, two links and two names, with one seat. The link 1 fails at its first put.
 fn begin(alloc: Global) -> Option<Made<Half>>
