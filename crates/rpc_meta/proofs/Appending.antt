@@ -19,9 +19,9 @@ behind first old new piece more (Ok u) e h = h ∙ ap (λ l. l ++ more) e ∙ ap
 behind first old new piece more (Err x) e h = kept first old new piece e h
 
 -- fields behind their number and their length
-pub headed : {E : Type 0} (number size : ℕ) (first old new fields : List ℕ) (r : Result (Unit {0}) E) → old ≡ first ++ (varint_bytes (number * 8 + 2) ++ varint_bytes size) → size ≡ length fields →
+pub headed : {E : Type 0} (number size : ℕ) (first old new fields : List ℕ) (r : Result (Unit {0}) E) → size ≡ length fields → old ≡ first ++ (varint_bytes (number * 8 + 2) ++ varint_bytes size) →
     Appends old fields r new → Appends first (bytes_field number fields) r new
-headed number size first old new fields r e same h =
+headed number size first old new fields r same e h =
     let head = e ∙ ap (λ (n : ℕ). first ++ (varint_bytes (number * 8 + 2) ++ varint_bytes n)) same in
     behind first old new (varint_bytes (number * 8 + 2) ++ varint_bytes (length fields)) fields r head h
 

@@ -16,7 +16,7 @@ mod words;
 
 pub use bytes::{Bytes, Name};
 pub use fault::LineFault;
-pub use line::{CallLine, Line, OpenLine, Seat, SendLine, Shape, Target};
+pub use line::{CallLine, Line, OpenLine, Seat, SendLine, Shape, Target, is_operation};
 pub use names::Names;
 pub use numbers::number;
 pub use read::read_line;

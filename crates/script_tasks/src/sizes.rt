@@ -3,7 +3,7 @@ ghost use Rattle.brpc_model.specs.Items.{is_call, is_client, is_open, is_operati
 ghost use Rattle.brpc_model.specs.Operations.{clients, slots, requests, first_version};
 ghost use Rattle.script_items.specs.Meaning.{item};
 
-use script_items::Line;
+use script_items::{Line, is_operation};
 
 /// How many slots the sockets have: 31 where none is given.
 pub fn slot_count(lines: &[Line]) -> u32
@@ -60,18 +60,6 @@ pub fn is_call(line: &Line) -> bool
     ensures { result ≡ is_call (item line.now) }
 {
     matches!(line, Line::Call(_))
-}
-
-/// Whether the line is an operation of a client or of the setup.
-pub fn is_operation(line: &Line) -> bool
-    ensures { result ≡ is_operation (item line.now) }
-{
-    match line {
-        Line::Slots(_) | Line::Requests(_) | Line::First(_) => false,
-        Line::Client | Line::Sched | Line::Tick { .. } | Line::To { .. } => false,
-        Line::Open(_) | Line::Send(_) | Line::Call(_) | Line::Expire(_) => true,
-        Line::Join(_) | Line::Fail { .. } | Line::Hold(_) | Line::Drop(_) => true,
-    }
 }
 
 /// How many clients there are, the setup not counted.
