@@ -12,12 +12,16 @@ mod options;
 mod parts;
 mod read;
 mod script;
+mod sizes;
 mod words;
 
 pub use bytes::{Bytes, Name};
 pub use fault::LineFault;
-pub use line::{CallLine, Line, OpenLine, Seat, SendLine, Shape, Target, is_operation};
+pub use line::{CallLine, Line, OpenLine, Seat, SendLine, Shape, Target};
 pub use names::Names;
 pub use numbers::number;
 pub use read::read_line;
 pub use script::Script;
+pub use sizes::{
+    client_count, first_version, is_client, is_operation, request_count, slot_count,
+};

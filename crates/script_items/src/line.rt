@@ -1,7 +1,3 @@
-ghost use Rattle.std.specs.Prelude.{◌≡◌};
-ghost use Rattle.brpc_model.specs.Items.{is_operation};
-ghost use Rattle.script_items.specs.Meaning.{item};
-
 use crate::bytes::{Bytes, Name};
 use crate::names::Names;
 use sock_words::Kind;
@@ -96,16 +92,4 @@ pub enum Line {
     Tick { seat: Seat, ticks: u32 },
     /// Ticks of a seat until one moved this kind of step.
     To { seat: Seat, kind: Kind },
-}
-
-/// Whether the line is an operation of a client or of the setup.
-pub fn is_operation(line: &Line) -> bool
-    ensures { result ≡ is_operation (item line.now) }
-{
-    match line {
-        Line::Slots(_) | Line::Requests(_) | Line::First(_) => false,
-        Line::Client | Line::Sched | Line::Tick { .. } | Line::To { .. } => false,
-        Line::Open(_) | Line::Send(_) | Line::Call(_) | Line::Expire(_) => true,
-        Line::Join(_) | Line::Fail { .. } | Line::Hold(_) | Line::Drop(_) => true,
-    }
 }
