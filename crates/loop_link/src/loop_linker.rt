@@ -59,15 +59,7 @@ impl Linker for LoopLinker {
 
     type P = NoPeer;
 
-    ghost asked = { λ l. l.asked };
-
-    ghost accepted = { λ l. l.accepted };
-
-    ghost back = { λ l. l.back };
-
-    ghost done = { λ l. l.done };
-
-    ghost faults = { λ l. l.faults };
+    ghost state = { λ l. record { asked = l.asked; accepted = l.accepted; back = l.back; done = l.done; faults = l.faults } };
 
     ghost always_ready = { λ _. true };
 

@@ -41,9 +41,9 @@ pub struct TcpLinker<N: Net<Stream = TcpStream, Listener = TcpListener> + Drop> 
 
 impl<N: Net<Stream = TcpStream, Listener = TcpListener> + Drop> Model for TcpLinker<N> {
     ghost use Rattle.std.specs.Prelude.{◌≡◌, length};
-    ghost use Rattle.net_link.specs.Linker.{TcpLinkerState};
+    ghost use Rattle.sock_io.specs.Link.{LinkerState};
 
-    ghost Value = { TcpLinkerState };
+    ghost Value = { LinkerState };
 
     ghost view = { λ l. record { asked = l.notes.asked; accepted = l.accepted; back = l.notes.back; done = l.notes.done; faults = l.faults } };
 
@@ -94,15 +94,7 @@ impl<N: Net<Stream = TcpStream, Listener = TcpListener> + Drop> Linker for TcpLi
 
     type P = NoPeer;
 
-    ghost asked = { λ l. l.asked };
-
-    ghost accepted = { λ l. l.accepted };
-
-    ghost back = { λ l. l.back };
-
-    ghost done = { λ l. l.done };
-
-    ghost faults = { λ l. l.faults };
+    ghost state = { λ l. l };
 
     ghost always_ready = { λ _. true };
 

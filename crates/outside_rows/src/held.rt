@@ -137,15 +137,7 @@ impl<R: AllocGlobal + Drop> Linker for HeldLinker<R> {
 
     type P = RingPeer;
 
-    ghost asked = { λ l. l.inner.asked };
-
-    ghost accepted = { λ l. l.inner.accepted };
-
-    ghost back = { λ l. l.inner.back };
-
-    ghost done = { λ l. l.inner.done };
-
-    ghost faults = { λ _. 0 };
+    ghost state = { λ l. record { asked = l.inner.asked; accepted = l.inner.accepted; back = l.inner.back; done = l.inner.done; faults = 0 } };
 
     ghost always_ready = { λ _. false };
 

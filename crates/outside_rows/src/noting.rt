@@ -55,15 +55,7 @@ impl<L: Linker + Drop> Linker for Noting<L> {
 
     type P = L::P;
 
-    ghost asked = { λ l. L.asked l.inner };
-
-    ghost accepted = { λ l. L.accepted l.inner };
-
-    ghost back = { λ l. L.back l.inner };
-
-    ghost done = { λ l. L.done l.inner };
-
-    ghost faults = { λ l. L.faults l.inner + l.failed };
+    ghost state = { λ l. record { asked = L.asked l.inner; accepted = L.accepted l.inner; back = L.back l.inner; done = L.done l.inner; faults = L.faults l.inner + l.failed } };
 
     ghost always_ready = { λ l. L.always_ready l.inner };
 

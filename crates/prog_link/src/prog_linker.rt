@@ -45,9 +45,10 @@ pub struct ProgLinker<N: Net<Stream = TcpStream, Listener = TcpListener> + Drop>
 
 impl<N: Net<Stream = TcpStream, Listener = TcpListener> + Drop> Model for ProgLinker<N> {
     ghost use Rattle.std.specs.Prelude.{◌≡◌, ◌+◌, [], length};
-    ghost use Rattle.prog_link.specs.Linker.{ProgLinkerState, InMemory, OverRings, OverTcp, count_kind};
+    ghost use Rattle.sock_io.specs.Link.{LinkerState};
+    ghost use Rattle.prog_link.specs.Linker.{InMemory, OverRings, OverTcp, count_kind};
 
-    ghost Value = { ProgLinkerState };
+    ghost Value = { LinkerState };
 
     ghost view = { λ l. record { asked = l.notes.asked; accepted = l.streams.accepted; back = l.notes.back; done = l.notes.done; faults = l.faults } };
 
@@ -178,15 +179,7 @@ impl<N: Net<Stream = TcpStream, Listener = TcpListener> + Drop> Linker for ProgL
 
     type P = ProgPeer;
 
-    ghost asked = { λ l. l.asked };
-
-    ghost accepted = { λ l. l.accepted };
-
-    ghost back = { λ l. l.back };
-
-    ghost done = { λ l. l.done };
-
-    ghost faults = { λ l. l.faults };
+    ghost state = { λ l. l };
 
     ghost always_ready = { λ _. true };
 

@@ -71,15 +71,7 @@ impl<R: AllocGlobal + Drop> Linker for RingLinker<R> {
 
     type P = RingPeer;
 
-    ghost asked = { λ l. l.asked };
-
-    ghost accepted = { λ l. l.accepted };
-
-    ghost back = { λ l. l.back };
-
-    ghost done = { λ l. l.done };
-
-    ghost faults = { λ _. 0 };
+    ghost state = { λ l. record { asked = l.asked; accepted = l.accepted; back = l.back; done = l.done; faults = 0 } };
 
     ghost always_ready = { λ _. false };
 

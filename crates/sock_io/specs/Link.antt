@@ -286,6 +286,15 @@ pub record ConnectionEnd : Type 0 where
   pub take_faults : ℕ
   pub gave_end : Bool
 
+-- what was asked of each link that a linker opened, in order, how many connections it accepted, the links and the connections given back, in order, and its
+-- count of faults
+pub record LinkerState : Type 0 where
+  pub asked : List LinkSpec
+  pub accepted : ℕ
+  pub back : List LinkEnd
+  pub done : List ConnectionEnd
+  pub faults : ℕ
+
 -- the connection that these halves are, as it is given back
 abbrev pub connection_of : OutState → InState → ConnectionEnd
 connection_of out inn = record { took = out.took; put_faults = out.faults; gave = inn.gave_bytes; gave_count = inn.gave; take_faults = inn.faults; gave_end = inn.gave_end }

@@ -2,7 +2,7 @@ ghost use Rattle.std.specs.Prelude.{◌≡◌, ◌≢◌, ℕ, ◌+◌, ◌<◌,
 ghost use Rattle.std.specs.List.{AllByRecursion};
 ghost use Rattle.brpc_model.specs.Link.{LinkEnd};
 ghost use Rattle.sock_io.specs.Causes.{Rose};
-ghost use Rattle.sock_io.specs.Link.{OutState, InState, PutStep, ReadyStep, FinishStep, TakeStep, SettleStep, IsSettled, IsNewOffer, IsFresh, IsUnused, ConnectionEnd, end_of, connection_of};
+ghost use Rattle.sock_io.specs.Link.{OutState, InState, PutStep, ReadyStep, FinishStep, TakeStep, SettleStep, IsSettled, IsNewOffer, IsFresh, IsUnused, ConnectionEnd, LinkerState, end_of, connection_of};
 ghost use Rattle.sock_io.specs.Meeting.{AreEnds, IsAskedPeer, MeetOut, MeetStep};
 ghost use Rattle.sock_io.specs.Peer.{PeerState, ServeStep, IsNewPeer};
 
@@ -172,19 +172,22 @@ pub trait Linker {
 
     type P: Peer + Send;
 
+    /// All that is told of it. Each of the next five is a part.
+    ghost state: { Self → LinkerState };
+
     /// What was asked of each link that was opened, in order.
-    ghost asked: { Self → List LinkSpec };
+    ghost asked: { Self → List LinkSpec } = { λ l. (state l).asked };
 
     /// How many connections were accepted.
-    ghost accepted: { Self → ℕ };
+    ghost accepted: { Self → ℕ } = { λ l. (state l).accepted };
 
     /// The links given back, in order.
-    ghost back: { Self → List LinkEnd };
+    ghost back: { Self → List LinkEnd } = { λ l. (state l).back };
 
     /// The connections given back, in order.
-    ghost done: { Self → List ConnectionEnd };
+    ghost done: { Self → List ConnectionEnd } = { λ l. (state l).done };
 
-    ghost faults: { Self → ℕ };
+    ghost faults: { Self → ℕ } = { λ l. (state l).faults };
 
     /// Whether `ready` never answers `NotYet` on its links in mode `Loop`.
     ghost always_ready: { Self → Bool };

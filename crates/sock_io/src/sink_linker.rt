@@ -58,15 +58,7 @@ impl Linker for SinkLinker {
 
     type P = NoPeer;
 
-    ghost asked = { λ l. l.links.asked };
-
-    ghost accepted = { λ l. l.links.accepted };
-
-    ghost back = { λ l. l.links.back };
-
-    ghost done = { λ l. l.links.done };
-
-    ghost faults = { λ l. l.links.faults };
+    ghost state = { λ l. record { asked = l.links.asked; accepted = l.links.accepted; back = l.links.back; done = l.links.done; faults = l.links.faults } };
 
     ghost always_ready = { λ _. true };
 
