@@ -1,5 +1,5 @@
 ghost use Rattle.std.specs.Prelude.{◌≡◌, ◌+◌, ◌≤◌, ◌<◌, ◌∷◌, ◌++◌, true, false, [], length, IfOk, IsErrOf, OnErr, Ok};
-ghost use Rattle.sock_io.specs.Causes.{Rose};
+ghost use Rattle.sock_io.specs.Causes.{OpenCause, Rose};
 ghost use Rattle.sock_io.specs.Link.{connection_of, end_of};
 ghost use Rattle.sock_io.specs.Linker.{shape_asked};
 ghost use Rattle.net_link.specs.Halves.{new_in, new_out, tcp_in};
@@ -108,9 +108,7 @@ impl<N: Net<Stream = TcpStream, Listener = TcpListener> + Drop> Linker for TcpLi
         ensures inn { IfOk result (λ ends. ends.inn ≡ new_in) }
         ensures linker { IfOk result (λ _. self.new ≡ record self.old { asked = self.old.asked ++ spec.now ∷ [] }) }
         ensures refused { OnErr result (self.new ≡ record self.old { faults = self.new.faults }) }
-        ensures later { self.old.faults ≤ self.new.faults }
-        ensures failed { IsErrOf result OpenFault.Failed → Rose self.old.faults self.new.faults }
-        ensures kept { (¬ IsErrOf result OpenFault.Failed) → self.new.faults ≡ self.old.faults }
+        ensures cause { OpenCause self.old.faults self.new.faults result }
     {
         let port = match spec.mode {
             Mode::Tcp(port) => port,
@@ -150,9 +148,7 @@ impl<N: Net<Stream = TcpStream, Listener = TcpListener> + Drop> Linker for TcpLi
         ensures inn { IfOk result (λ halves. halves.1 ≡ new_in) }
         ensures linker { IfOk result (λ _. self.new ≡ record self.old { accepted = self.old.accepted + 1 }) }
         ensures refused { OnErr result (self.new ≡ record self.old { faults = self.new.faults }) }
-        ensures later { self.old.faults ≤ self.new.faults }
-        ensures failed { IsErrOf result OpenFault.Failed → Rose self.old.faults self.new.faults }
-        ensures kept { (¬ IsErrOf result OpenFault.Failed) → self.new.faults ≡ self.old.faults }
+        ensures cause { OpenCause self.old.faults self.new.faults result }
     {
         match accept(&self.net, &mut self.listener, port) {
             Ok((out, inn)) => {

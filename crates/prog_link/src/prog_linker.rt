@@ -1,5 +1,5 @@
 ghost use Rattle.std.specs.Prelude.{◌≡◌, ◌≢◌, ◌+◌, ◌≤◌, ◌<◌, ◌∷◌, ◌++◌, [], true, false, length, IfOk, IsErrOf, OnErr};
-ghost use Rattle.sock_io.specs.Causes.{Rose};
+ghost use Rattle.sock_io.specs.Causes.{OpenCause, Rose};
 ghost use Rattle.sock_io.specs.Link.{connection_of, end_of};
 ghost use Rattle.prog_link.specs.Halves.{prog_in, prog_out};
 ghost use Rattle.prog_link.specs.Linker.{are_kind, IsOpened, InMemory, OverRings, OverTcp, kind_asked, tells_in_mode};
@@ -193,9 +193,7 @@ impl<N: Net<Stream = TcpStream, Listener = TcpListener> + Drop> Linker for ProgL
         ensures refused { OnErr result (self.new ≡ record self.old { faults = self.new.faults }) }
         ensures others { are_kind (kind_asked spec.now.mode) self.old.asked ≡ false → IsErrOf result OpenFault.Failed }
         ensures only_others { IsErrOf result OpenFault.Failed → kind_asked spec.now.mode ≢ OverTcp → are_kind (kind_asked spec.now.mode) self.old.asked ≡ false }
-        ensures later { self.old.faults ≤ self.new.faults }
-        ensures failed { IsErrOf result OpenFault.Failed → Rose self.old.faults self.new.faults }
-        ensures kept { (¬ IsErrOf result OpenFault.Failed) → self.new.faults ≡ self.old.faults }
+        ensures cause { OpenCause self.old.faults self.new.faults result }
     {
         let opened = match spec.mode {
             Mode::Loop => self.open_loop(spec),

@@ -1,5 +1,5 @@
-ghost use Rattle.std.specs.Prelude.{◌≡◌, ◌↔◌, ◌+◌, ◌≤◌, ◌<◌, ◌∷◌, ◌++◌, true, false, [], length, Contains, IfOk, IsErrOf, OnErr, Ok};
-ghost use Rattle.sock_io.specs.Causes.{Rose, next_number};
+ghost use Rattle.std.specs.Prelude.{◌≡◌, ◌↔◌, ◌+◌, ◌<◌, ◌∷◌, ◌++◌, true, false, [], length, Contains, IfOk, IsErrOf, OnErr, Ok};
+ghost use Rattle.sock_io.specs.Causes.{OpenCause, next_number};
 ghost use Rattle.sock_io.specs.Link.{connection_of, end_of};
 ghost use Rattle.sock_io.specs.Linker.{new_half, plain_shape, shape_of};
 ghost use Rattle.sock_io.specs.Memory.{closing, empty_in, mem_in};
@@ -71,9 +71,7 @@ impl Linker for SinkLinker {
         ensures inn { IfOk result (λ ends. ends.inn ≡ empty_in Ending.Open) }
         ensures linker { IfOk result (λ _. self.new ≡ record self.old { links = record self.old.links { asked = self.old.links.asked ++ spec.now ∷ []; calls = next_number self.old.links.calls } }) }
         ensures refused { OnErr result (self.new ≡ record self.old { links = record self.old.links { calls = next_number self.old.links.calls; faults = self.new.links.faults } }) }
-        ensures later { self.old.links.faults ≤ self.new.links.faults }
-        ensures failed { IsErrOf result OpenFault.Failed → Rose self.old.links.faults self.new.links.faults }
-        ensures kept { (¬ IsErrOf result OpenFault.Failed) → self.new.links.faults ≡ self.old.links.faults }
+        ensures cause { OpenCause self.old.links.faults self.new.links.faults result }
         ensures failed_at { IsErrOf result OpenFault.Failed ↔ Contains self.old.links.fail_opens (next_number self.old.links.calls) }
     {
         let fail = if spec.fail == 0 {
