@@ -8,7 +8,7 @@ use crate::inner::Inner;
 use crate::reader::RingReader;
 use ghosts::Ghosts;
 use loop_link::LoopIn;
-use sock_io::{Ending, In, Take};
+use sock_io::{Ending, In, Take, noted};
 use std::marker::Model;
 
 /// The reading half of a link over a ring. It tells all that it gave and answered. `Empty` comes only where the ring has
@@ -79,9 +79,7 @@ impl RingIn {
     fn note(&mut self, answer: Take)
         ensures { self.new ≡ record self.old { takes = self.old.takes ++ of_take answer ∷ [] } }
     {
-        let before: Ghosts<Take> = Ghosts::of(&self.takes);
-        let with = (before, answer);
-        self.takes = Ghosts::of(&with);
+        self.takes = noted(&self.takes, answer);
     }
 
     /// What its other end handed on is what this link in memory gave, where memory wasn't wanting. It learns that once the

@@ -32,7 +32,7 @@ pub use mem_link::{MemIn, MemOut, NoPeer};
 pub use mem_links::MemLinks;
 pub use mem_sink::MemSink;
 pub use mem_source::MemSource;
-pub use noted_links::NotedLinks;
+pub use noted_links::{NotedLinks, noted};
 pub use shape::Shape;
 pub use shaped::Shaped;
 pub use sink_linker::SinkLinker;

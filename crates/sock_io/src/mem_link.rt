@@ -6,6 +6,7 @@ ghost use Rattle.sock_io.specs.Peer.{no_peer};
 use crate::ending::Ending;
 use crate::link::{In, Out, Peer, Put, Ready, Served, Take};
 use crate::mem_source::{copy_front, from_place};
+use crate::noted_links::noted;
 use crate::stream::NoMemory;
 use ghosts::Ghosts;
 use std::alloc::Global;
@@ -158,9 +159,7 @@ impl MemIn {
     fn note(&mut self, answer: Take)
         ensures { self.new ≡ record self.old { takes = self.old.takes ++ of_take answer ∷ [] } }
     {
-        let before: Ghosts<Take> = Ghosts::of(&self.takes);
-        let with = (before, answer);
-        self.takes = Ghosts::of(&with);
+        self.takes = noted(&self.takes, answer);
     }
 }
 
