@@ -1,6 +1,6 @@
 ghost use Rattle.std.specs.Prelude.{◌≡◌, ℕ, ◌<◌, ◌++◌, ◌∷◌, [], Some, Ok, None, false, true, OnErr, OnOk, drop, length, take};
 ghost use Rattle.sock_io.specs.Link.{TakeStep, of_take};
-ghost use Rattle.sock_io.specs.Memory.{mem_in, empty_in, take_answer, closing};
+ghost use Rattle.sock_io.specs.Memory.{TakesWaiting, mem_in, empty_in, take_answer, closing};
 ghost use Rattle.sock_io.specs.Peer.{no_peer};
 
 use crate::ending::Ending;
@@ -168,10 +168,7 @@ impl In for MemIn {
 
     fn take(&mut self, room: &mut [u8]) -> Take
         requires { 0 < length room.old }
-        ensures step { TakeStep (mem_in self.old) (mem_in self.new) room.new result }
-        ensures answer { result ≡ take_answer self.old.waiting self.old.ending (length room.old) }
-        ensures bytes { self.new.given ++ self.new.waiting ≡ self.old.given ++ self.old.waiting }
-        ensures ending { self.new.ending ≡ self.old.ending }
+        ensures { TakesWaiting self.old self.new (length room.old) room.new result }
     {
         let answer = self.answer_take(room);
         self.note(answer);
