@@ -131,7 +131,11 @@ impl<N: Net<Stream = TcpStream, Listener = TcpListener> + Drop> ProgLinker<N> {
                     peer: ProgPeer::Ring(peer),
                 })
             }
-            Err(_) => Err(OpenFault::NoMemory),
+            Err(_) => {
+                drop(inn);
+                drop(peer);
+                Err(OpenFault::NoMemory)
+            }
         }
     }
 

@@ -99,7 +99,11 @@ impl<R: AllocGlobal + Drop> Linker for RingLinker<R> {
                 self.note(spec);
                 Ok(Ends { out, inn, peer })
             }
-            Err(_) => Err(OpenFault::NoMemory),
+            Err(_) => {
+                drop(inn);
+                drop(peer);
+                Err(OpenFault::NoMemory)
+            }
         }
     }
 
@@ -138,7 +142,10 @@ impl<R: AllocGlobal + Drop> Linker for RingLinker<R> {
                 self.accepted += 1;
                 Ok((out, inn))
             }
-            Err(_) => Err(OpenFault::NoMemory),
+            Err(_) => {
+                drop(inn);
+                Err(OpenFault::NoMemory)
+            }
         }
     }
 
