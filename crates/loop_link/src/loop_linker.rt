@@ -11,7 +11,7 @@ ghost use Rattle.loop_link.specs.Serving.{Settled, loop_in, new_in, offer_of};
 use crate::loop_in::LoopIn;
 use io_buf::BlockPool;
 use sock_io::{
-    Ends, LinkSpec, Linker, MemLinks, MemOut, NoMemory, NoPeer, OpenFault, Out, Shape, Shaped,
+    Ends, LinkSpec, Linker, LinkerTells, MemLinks, MemOut, NoMemory, NoPeer, OpenFault, Out, Shape, Shaped,
 };
 use std::alloc::Global;
 use std::marker::Model;
@@ -52,14 +52,16 @@ impl LoopLinker {
     }
 }
 
+impl LinkerTells for LoopLinker {
+    ghost state = { λ l. record { asked = l.asked; accepted = l.accepted; back = l.back; done = l.done; faults = l.faults } };
+}
+
 impl Linker for LoopLinker {
     type O = Shaped<MemOut>;
 
     type I = LoopIn;
 
     type P = NoPeer;
-
-    ghost state = { λ l. record { asked = l.asked; accepted = l.accepted; back = l.back; done = l.done; faults = l.faults } };
 
     ghost always_ready = { λ _. true };
 

@@ -10,7 +10,7 @@ use crate::streams::{accept, connect};
 use crate::tcp_half::TcpHalf;
 use crate::tcp_in::TcpIn;
 use sock_io::{
-    Ends, LinkSpec, Linker, Mode, NoMemory, NoPeer, NotedLinks, OpenFault, Shape, Shaped, risen,
+    Ends, LinkSpec, Linker, LinkerTells, Mode, NoMemory, NoPeer, NotedLinks, OpenFault, Shape, Shaped, risen,
 };
 use std::alloc::Global;
 use std::marker::Model;
@@ -87,14 +87,16 @@ impl<N: Net<Stream = TcpStream, Listener = TcpListener> + Drop> TcpLinker<N> {
     }
 }
 
+impl<N: Net<Stream = TcpStream, Listener = TcpListener> + Drop> LinkerTells for TcpLinker<N> {
+    ghost state = { λ l. l };
+}
+
 impl<N: Net<Stream = TcpStream, Listener = TcpListener> + Drop> Linker for TcpLinker<N> {
     type O = TcpHalf;
 
     type I = TcpIn;
 
     type P = NoPeer;
-
-    ghost state = { λ l. l };
 
     ghost always_ready = { λ _. true };
 

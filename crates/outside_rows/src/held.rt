@@ -6,7 +6,7 @@ ghost use Rattle.ring_link.specs.Halves.{ring_in};
 
 use crossbeam_utils::Backoff;
 use ring_link::{RingIn, RingLinker, RingOut, RingPeer};
-use sock_io::{Ends, Gate, LinkSpec, Linker, NoMemory, OpenFault, Out, Put, Ready, Shaped};
+use sock_io::{Ends, Gate, LinkSpec, Linker, LinkerTells, NoMemory, OpenFault, Out, Put, Ready, Shaped};
 use std::alloc::{AllocError, Global};
 use std::sync::atomic::{AtomicU64, Ordering};
 use std::sync::{Arc, Wait};
@@ -130,14 +130,16 @@ impl<R: AllocGlobal + Drop> HeldLinker<R> {
     }
 }
 
+impl<R: AllocGlobal + Drop> LinkerTells for HeldLinker<R> {
+    ghost state = { λ l. record { asked = l.inner.asked; accepted = l.inner.accepted; back = l.inner.back; done = l.inner.done; faults = 0 } };
+}
+
 impl<R: AllocGlobal + Drop> Linker for HeldLinker<R> {
     type O = HeldOut;
 
     type I = RingIn;
 
     type P = RingPeer;
-
-    ghost state = { λ l. record { asked = l.inner.asked; accepted = l.inner.accepted; back = l.inner.back; done = l.inner.done; faults = 0 } };
 
     ghost always_ready = { λ _. false };
 

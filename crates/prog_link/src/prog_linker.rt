@@ -12,7 +12,7 @@ use loop_link::LoopLinker;
 use net_link::TcpLinker;
 use ring_link::open_ring;
 use sock_io::{
-    Ends, LinkSpec, Linker, Mode, NoMemory, NotedLinks, OpenFault, Out, Shape, Shaped, risen,
+    Ends, LinkSpec, Linker, LinkerTells, Mode, NoMemory, NotedLinks, OpenFault, Out, Shape, Shaped, risen,
 };
 use std::alloc::Global;
 use std::marker::Model;
@@ -176,14 +176,16 @@ impl<N: Net<Stream = TcpStream, Listener = TcpListener> + Drop> ProgLinker<N> {
     }
 }
 
+impl<N: Net<Stream = TcpStream, Listener = TcpListener> + Drop> LinkerTells for ProgLinker<N> {
+    ghost state = { λ l. l };
+}
+
 impl<N: Net<Stream = TcpStream, Listener = TcpListener> + Drop> Linker for ProgLinker<N> {
     type O = ProgOut;
 
     type I = ProgIn;
 
     type P = ProgPeer;
-
-    ghost state = { λ l. l };
 
     ghost always_ready = { λ _. true };
 

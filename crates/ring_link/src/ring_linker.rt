@@ -10,7 +10,7 @@ use crate::open::{open_connection, open_ring};
 use crate::ring_in::RingIn;
 use crate::ring_out::RingOut;
 use crate::ring_peer::RingPeer;
-use sock_io::{Ends, LinkSpec, Linker, NoMemory, NotedLinks, OpenFault, Shape, Shaped};
+use sock_io::{Ends, LinkSpec, Linker, LinkerTells, NoMemory, NotedLinks, OpenFault, Shape, Shaped};
 use std::marker::Model;
 
 type Link = Ends<Shaped<RingOut>, RingIn, RingPeer>;
@@ -64,14 +64,16 @@ impl<R: AllocGlobal + Drop> RingLinker<R> {
     }
 }
 
+impl<R: AllocGlobal + Drop> LinkerTells for RingLinker<R> {
+    ghost state = { λ l. record { asked = l.asked; accepted = l.accepted; back = l.back; done = l.done; faults = 0 } };
+}
+
 impl<R: AllocGlobal + Drop> Linker for RingLinker<R> {
     type O = Shaped<RingOut>;
 
     type I = RingIn;
 
     type P = RingPeer;
-
-    ghost state = { λ l. record { asked = l.asked; accepted = l.accepted; back = l.back; done = l.done; faults = 0 } };
 
     ghost always_ready = { λ _. false };
 

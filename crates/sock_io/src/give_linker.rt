@@ -5,7 +5,7 @@ ghost use Rattle.sock_io.specs.Linker.{new_half, plain_shape, shape_asked};
 ghost use Rattle.sock_io.specs.Shape.{shaped_out};
 
 use crate::give_in::GiveIn;
-use crate::link::{Ends, LinkSpec, Linker, OpenFault, Out};
+use crate::link::{Ends, LinkSpec, Linker, LinkerTells, OpenFault, Out};
 use crate::mem_link::{MemOut, NoPeer};
 use crate::mem_links::MemLinks;
 use crate::shape::Shape;
@@ -55,14 +55,16 @@ impl GiveLinker {
     }
 }
 
+impl LinkerTells for GiveLinker {
+    ghost state = { λ l. record { asked = l.asked; accepted = l.accepted; back = l.back; done = l.done; faults = 0 } };
+}
+
 impl Linker for GiveLinker {
     type O = Shaped<MemOut>;
 
     type I = GiveIn;
 
     type P = NoPeer;
-
-    ghost state = { λ l. record { asked = l.asked; accepted = l.accepted; back = l.back; done = l.done; faults = 0 } };
 
     ghost always_ready = { λ _. true };
 

@@ -6,7 +6,7 @@ ghost use Rattle.sock_io.specs.Memory.{closing, empty_in, mem_in};
 ghost use Rattle.sock_io.specs.Shape.{shaped_out};
 
 use crate::ending::Ending;
-use crate::link::{Ends, LinkSpec, Linker, OpenFault};
+use crate::link::{Ends, LinkSpec, Linker, LinkerTells, OpenFault};
 use crate::mem_link::{MemIn, MemOut, NoPeer};
 use crate::mem_links::MemLinks;
 use crate::shape::Shape;
@@ -51,14 +51,16 @@ impl SinkLinker {
     }
 }
 
+impl LinkerTells for SinkLinker {
+    ghost state = { λ l. record { asked = l.links.asked; accepted = l.links.accepted; back = l.links.back; done = l.links.done; faults = l.links.faults } };
+}
+
 impl Linker for SinkLinker {
     type O = Shaped<MemOut>;
 
     type I = MemIn;
 
     type P = NoPeer;
-
-    ghost state = { λ l. record { asked = l.links.asked; accepted = l.links.accepted; back = l.links.back; done = l.links.done; faults = l.links.faults } };
 
     ghost always_ready = { λ _. true };
 

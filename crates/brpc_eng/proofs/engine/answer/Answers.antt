@@ -42,11 +42,11 @@ returns-in-Sim-clause-answers g c =
       tells = TellClosed g.L.I.In.state;
       offering = TellOffers g.L.O.Out.state g.L.I.In.state;
       tells_in = g.L.Linker.tells_in;
-      asked = g.L.Linker.asked c.replay-in-Sim.new.links;
-      ends = g.L.Linker.back c.replay-in-Sim.new.links;
-      accepted = g.L.Linker.accepted c.replay-in-Sim.new.links;
-      done = g.L.Linker.done c.replay-in-Sim.new.links;
-      faults = record { before = g.L.Linker.faults c.args.links.now; now = g.L.Linker.faults c.replay-in-Sim.new.links };
+      asked = g.L.LinkerTold.asked c.replay-in-Sim.new.links;
+      ends = g.L.LinkerTold.back c.replay-in-Sim.new.links;
+      accepted = g.L.LinkerTold.accepted c.replay-in-Sim.new.links;
+      done = g.L.LinkerTold.done c.replay-in-Sim.new.links;
+      faults = record { before = g.L.LinkerTold.faults c.args.links.now; now = g.L.LinkerTold.faults c.replay-in-Sim.new.links };
     } in
     simulated _ input out links (number_of c.replay-in-Sim.result) c.in-Some.command c.in-Sim.seed c.from.result c.in-Some.ensures c.in-Sim.is c.from.ensures c.replay-in-Sim.ensures.replayed
 
