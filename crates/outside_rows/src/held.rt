@@ -131,7 +131,7 @@ impl<R: AllocGlobal + Drop> HeldLinker<R> {
 }
 
 impl<R: AllocGlobal + Drop> LinkerTells for HeldLinker<R> {
-    ghost state = { λ l. record { asked = l.inner.asked; accepted = l.inner.accepted; back = l.inner.back; done = l.inner.done; faults = 0 } };
+    ghost state = { λ l. record { asked = l.inner.asked; accepted = l.inner.accepted; back = l.inner.back; done = l.inner.done; faults = 0; always_ready = false } };
 }
 
 impl<R: AllocGlobal + Drop> Linker for HeldLinker<R> {
@@ -140,10 +140,6 @@ impl<R: AllocGlobal + Drop> Linker for HeldLinker<R> {
     type I = RingIn;
 
     type P = RingPeer;
-
-    ghost always_ready = { λ _. false };
-
-    ghost tells_in = { λ _. false };
 
     fn open(&mut self, spec: &LinkSpec) -> Result<Link, OpenFault> {
         let Ok(flags) = Arc::try_clone(&self.flags) else {

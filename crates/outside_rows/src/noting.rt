@@ -49,7 +49,7 @@ impl<L: Linker + Drop> Noting<L> {
 }
 
 impl<L: Linker + Drop> LinkerTells for Noting<L> {
-    ghost state = { λ l. record { asked = L.asked l.inner; accepted = L.accepted l.inner; back = L.back l.inner; done = L.done l.inner; faults = L.faults l.inner + l.failed } };
+    ghost state = { λ l. record { asked = L.asked l.inner; accepted = L.accepted l.inner; back = L.back l.inner; done = L.done l.inner; faults = L.faults l.inner + l.failed; always_ready = L.always_ready l.inner } };
 }
 
 impl<L: Linker + Drop> Linker for Noting<L> {
@@ -58,8 +58,6 @@ impl<L: Linker + Drop> Linker for Noting<L> {
     type I = L::I;
 
     type P = L::P;
-
-    ghost always_ready = { λ l. L.always_ready l.inner };
 
     ghost tells_in = { L.tells_in };
 

@@ -1,5 +1,5 @@
 ghost use Rattle.std.specs.Prelude.{◌≡◌, ◌≢◌, ◌+◌, ◌<◌, ◌∷◌, ◌++◌, false, true, None, Ok, [], length, IfOk, IsErrOf, OnErr, OnOk};
-ghost use Rattle.sock_io.specs.Link.{IsFresh, IsSettled, IsUnused, connection_of, end_of};
+ghost use Rattle.sock_io.specs.Link.{IsFresh, IsSettled, IsUnused, MayOpen, connection_of, end_of};
 ghost use Rattle.sock_io.specs.Linker.{shape_asked};
 ghost use Rattle.sock_io.specs.Meeting.{AreEnds, IsAskedPeer, MeetOut, MeetStep};
 ghost use Rattle.sock_io.specs.Peer.{IsNewPeer, has_ended};
@@ -65,7 +65,7 @@ impl<R: AllocGlobal + Drop> RingLinker<R> {
 }
 
 impl<R: AllocGlobal + Drop> LinkerTells for RingLinker<R> {
-    ghost state = { λ l. record { asked = l.asked; accepted = l.accepted; back = l.back; done = l.done; faults = 0 } };
+    ghost state = { λ l. record { asked = l.asked; accepted = l.accepted; back = l.back; done = l.done; faults = 0; always_ready = false } };
 }
 
 impl<R: AllocGlobal + Drop> Linker for RingLinker<R> {
@@ -75,13 +75,10 @@ impl<R: AllocGlobal + Drop> Linker for RingLinker<R> {
 
     type P = RingPeer;
 
-    ghost always_ready = { λ _. false };
-
     ghost tells_in = { λ _. true };
 
     fn open(&mut self, spec: &LinkSpec) -> Result<Link, OpenFault>
-        requires piece { 0 < spec.now.piece }
-        requires few { length self.old.asked < 256 }
+        requires { MayOpen self.old.asked spec.now }
         ensures fresh { IfOk result (λ ends. IsFresh (shaped_out ends.out) (ring_in ends.inn) (length self.old.asked)) }
         ensures peer { IfOk result (λ ends. IsNewPeer (ring_peer ends.peer)) }
         ensures other { IfOk result (λ ends. IsAskedPeer spec.now (ring_peer ends.peer)) }
@@ -152,14 +149,12 @@ impl<R: AllocGlobal + Drop> Linker for RingLinker<R> {
     }
 
     fn done(&mut self, out: Shaped<RingOut>, inn: RingIn)
-        requires { length self.old.done < self.old.accepted }
         ensures { self.new ≡ record self.old { done = self.old.done ++ connection_of (shaped_out out) (ring_in inn) ∷ [] } }
     {
         self.notes.done(out, inn);
     }
 
     fn back(&mut self, _link: u16, ends: Link)
-        requires { length self.old.back < length self.old.asked }
         ensures { self.new ≡ record self.old { back = self.old.back ++ end_of (shaped_out ends.out) (ring_in ends.inn) ∷ [] } }
     {
         self.notes.back(ends);

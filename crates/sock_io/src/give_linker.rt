@@ -1,6 +1,6 @@
 ghost use Rattle.std.specs.Prelude.{false, ◌≡◌, ◌+◌, ◌<◌, ◌∷◌, ◌++◌, true, [], length, IfOk, IsErrOf, OnErr, OnOk};
 ghost use Rattle.sock_io.specs.Giving.{before_bytes, bytes_and_end, give_in, settled_in};
-ghost use Rattle.sock_io.specs.Link.{SettleStep, connection_of, end_of};
+ghost use Rattle.sock_io.specs.Link.{MayOpen, SettleStep, connection_of, end_of};
 ghost use Rattle.sock_io.specs.Linker.{new_half, plain_shape, shape_asked};
 ghost use Rattle.sock_io.specs.Shape.{shaped_out};
 
@@ -56,7 +56,7 @@ impl GiveLinker {
 }
 
 impl LinkerTells for GiveLinker {
-    ghost state = { λ l. record { asked = l.asked; accepted = l.accepted; back = l.back; done = l.done; faults = 0 } };
+    ghost state = { λ l. record { asked = l.asked; accepted = l.accepted; back = l.back; done = l.done; faults = 0; always_ready = true } };
 }
 
 impl Linker for GiveLinker {
@@ -66,13 +66,8 @@ impl Linker for GiveLinker {
 
     type P = NoPeer;
 
-    ghost always_ready = { λ _. true };
-
-    ghost tells_in = { λ _. false };
-
     fn open(&mut self, spec: &LinkSpec) -> Result<Link, OpenFault>
-        requires piece { 0 < spec.now.piece }
-        requires few { length self.old.asked < 256 }
+        requires { MayOpen self.old.asked spec.now }
         ensures out { IfOk result (λ ends. ends.out ≡ new_half (length self.old.asked) (shape_asked spec.now)) }
         ensures inn { IfOk result (λ ends. ends.inn ≡ before_bytes) }
         ensures linker { IfOk result (λ _. self.new ≡ record self.old { asked = self.old.asked ++ spec.now ∷ [] }) }

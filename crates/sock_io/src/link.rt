@@ -1,8 +1,8 @@
-ghost use Rattle.std.specs.Prelude.{◌≡◌, ◌≢◌, ℕ, ◌+◌, ◌<◌, ◌≤◌, ◌∷◌, ◌++◌, [], Bool, true, List, length, IfOk, IfSome, IsErrOf, OnErr, OnOk, IsTrue, None};
+ghost use Rattle.std.specs.Prelude.{◌≡◌, ◌≢◌, ℕ, ◌+◌, ◌<◌, ◌≤◌, ◌∷◌, ◌++◌, [], Bool, true, false, List, length, IfOk, IfSome, IsErrOf, OnErr, OnOk, IsTrue, None};
 ghost use Rattle.std.specs.List.{AllByRecursion};
 ghost use Rattle.brpc_model.specs.Link.{LinkEnd};
 ghost use Rattle.sock_io.specs.Causes.{Rose};
-ghost use Rattle.sock_io.specs.Link.{OutState, InState, PutStep, ReadyStep, FinishStep, TakeStep, SettleStep, IsSettled, IsNewOffer, IsFresh, IsUnused, ConnectionEnd, LinkerState, end_of, connection_of};
+ghost use Rattle.sock_io.specs.Link.{OutState, InState, PutStep, ReadyStep, FinishStep, TakeStep, SettleStep, IsSettled, IsNewOffer, IsFresh, IsUnused, ConnectionEnd, LinkerState, MayOpen, end_of, connection_of};
 ghost use Rattle.sock_io.specs.Meeting.{AreEnds, IsAskedPeer, MeetOut, MeetStep};
 ghost use Rattle.sock_io.specs.Peer.{PeerState, ServeStep, IsNewPeer};
 
@@ -181,6 +181,9 @@ pub trait LinkerTold {
     ghost done: { Self → List ConnectionEnd };
 
     ghost faults: { Self → ℕ };
+
+    /// Whether `ready` never answers `NotYet` on its links in mode `Loop`.
+    ghost always_ready: { Self → Bool };
 }
 
 impl<L: LinkerTells> LinkerTold for L {
@@ -193,6 +196,8 @@ impl<L: LinkerTells> LinkerTold for L {
     ghost done = { λ l. (L.state l).done };
 
     ghost faults = { λ l. (L.state l).faults };
+
+    ghost always_ready = { λ l. (L.state l).always_ready };
 }
 
 /// Opens links, numbered from 0, and accepts connections; and takes both back. At most 256 of each.
@@ -207,30 +212,26 @@ pub trait Linker: LinkerTold {
 
     type P: Peer + Send;
 
-    /// Whether `ready` never answers `NotYet` on its links in mode `Loop`.
-    ghost always_ready: { Self → Bool };
-
     /// Whether links in this mode have other ends inside this process, and tell what these offered once they have ended and
     /// the ends are compared (`meet`), but not before: which way their bytes come is known.
-    ghost tells_in: { Mode → Bool };
+    ghost tells_in: { Mode → Bool } = { λ _. false };
 
     /// Opens the next link, and reserves the room for its `back`.
     fn open(&mut self, spec: &LinkSpec) -> Result<Ends<Self::O, Self::I, Self::P>, OpenFault>
-        requires piece { 0 < spec.now.piece }
-        requires few { length (Self.asked self.old) < 256 }
+        requires { MayOpen (Self.asked self.old) spec.now }
         ensures fresh { IfOk result (λ ends. IsFresh (Self.O.state ends.out) (Self.I.state ends.inn) (length (Self.asked self.old))) }
         ensures peer { IfOk result (λ ends. IsNewPeer (Self.P.state ends.peer)) }
         ensures offer { IfOk result (λ ends. IfSome (Self.I.state ends.inn).offer (λ o. IsNewOffer spec.now o)) }
         ensures one { IfOk result (λ ends. AreEnds (Self.O.state ends.out) (Self.P.state ends.peer) (Self.I.state ends.inn)) }
         ensures other { IfOk result (λ ends. IsAskedPeer spec.now (Self.P.state ends.peer)) }
         ensures tells { IfOk result (λ ends. tells_in spec.now.mode ≡ true → ((Self.I.state ends.inn).way ≢ []) × ((Self.I.state ends.inn).offer ≡ None) × ((Self.P.state ends.peer).present ≡ true)) }
-        ensures always_ready { IfOk result (λ ends. always_ready self.old ≡ true → spec.now.mode ≡ Mode.Loop → (Self.O.state ends.out).always_ready ≡ true) }
+        ensures always_ready { IfOk result (λ ends. Self.always_ready self.old ≡ true → spec.now.mode ≡ Mode.Loop → (Self.O.state ends.out).always_ready ≡ true) }
         ensures asked { IfOk result (λ _. Self.asked self.new ≡ Self.asked self.old ++ spec.now ∷ []) }
         ensures refused { OnErr result (Self.asked self.new ≡ Self.asked self.old) }
         ensures accepted { Self.accepted self.new ≡ Self.accepted self.old }
         ensures back { Self.back self.new ≡ Self.back self.old }
         ensures done { Self.done self.new ≡ Self.done self.old }
-        ensures stays_prompt { always_ready self.new ≡ always_ready self.old }
+        ensures stays_prompt { Self.always_ready self.new ≡ Self.always_ready self.old }
         ensures later { Self.faults self.old ≤ Self.faults self.new }
         ensures failed { IsErrOf result OpenFault.Failed → Rose (Self.faults self.old) (Self.faults self.new) }
         ensures kept { (¬ IsErrOf result OpenFault.Failed) → Self.faults self.new ≡ Self.faults self.old };
@@ -248,7 +249,7 @@ pub trait Linker: LinkerTold {
         ensures accepted { Self.accepted self.new ≡ Self.accepted self.old }
         ensures back { Self.back self.new ≡ Self.back self.old }
         ensures done { Self.done self.new ≡ Self.done self.old }
-        ensures stays_prompt { always_ready self.new ≡ always_ready self.old }
+        ensures stays_prompt { Self.always_ready self.new ≡ Self.always_ready self.old }
         ensures faults { Self.faults self.new ≡ Self.faults self.old };
 
     /// Compares the ends of a link, once nobody else moves them: what its other end offers may become known by that.
@@ -263,7 +264,7 @@ pub trait Linker: LinkerTold {
         ensures accepted { Self.accepted self.new ≡ Self.accepted self.old }
         ensures back { Self.back self.new ≡ Self.back self.old }
         ensures done { Self.done self.new ≡ Self.done self.old }
-        ensures stays_prompt { always_ready self.new ≡ always_ready self.old }
+        ensures stays_prompt { Self.always_ready self.new ≡ Self.always_ready self.old }
         ensures faults { Self.faults self.new ≡ Self.faults self.old };
 
     /// Accepts the next connection, and reserves the room for its `done`. The first call listens on 127.0.0.1 at the
@@ -276,7 +277,7 @@ pub trait Linker: LinkerTold {
         ensures asked { Self.asked self.new ≡ Self.asked self.old }
         ensures back { Self.back self.new ≡ Self.back self.old }
         ensures done { Self.done self.new ≡ Self.done self.old }
-        ensures stays_prompt { always_ready self.new ≡ always_ready self.old }
+        ensures stays_prompt { Self.always_ready self.new ≡ Self.always_ready self.old }
         ensures later { Self.faults self.old ≤ Self.faults self.new }
         ensures failed { IsErrOf result OpenFault.Failed → Rose (Self.faults self.old) (Self.faults self.new) }
         ensures kept { (¬ IsErrOf result OpenFault.Failed) → Self.faults self.new ≡ Self.faults self.old };
@@ -288,7 +289,7 @@ pub trait Linker: LinkerTold {
         ensures asked { Self.asked self.new ≡ Self.asked self.old }
         ensures accepted { Self.accepted self.new ≡ Self.accepted self.old }
         ensures back { Self.back self.new ≡ Self.back self.old }
-        ensures stays_prompt { always_ready self.new ≡ always_ready self.old }
+        ensures stays_prompt { Self.always_ready self.new ≡ Self.always_ready self.old }
         ensures faults { Self.faults self.new ≡ Self.faults self.old };
 
     /// Takes a link back, which was opened and not given back before.
@@ -301,7 +302,7 @@ pub trait Linker: LinkerTold {
         ensures done { Self.done self.new ≡ Self.done self.old }
         ensures asked { Self.asked self.new ≡ Self.asked self.old }
         ensures accepted { Self.accepted self.new ≡ Self.accepted self.old }
-        ensures stays_prompt { always_ready self.new ≡ always_ready self.old }
+        ensures stays_prompt { Self.always_ready self.new ≡ Self.always_ready self.old }
         ensures faults { Self.faults self.new ≡ Self.faults self.old };
 }
 

@@ -1,6 +1,6 @@
 ghost use Rattle.std.specs.Prelude.{◌≡◌, ◌↔◌, ◌+◌, ◌<◌, ◌∷◌, ◌++◌, true, false, [], length, Contains, IfOk, IsErrOf, OnErr, Ok};
 ghost use Rattle.sock_io.specs.Causes.{OpenCause, next_number};
-ghost use Rattle.sock_io.specs.Link.{connection_of, end_of};
+ghost use Rattle.sock_io.specs.Link.{MayOpen, connection_of, end_of};
 ghost use Rattle.sock_io.specs.Linker.{new_half, plain_shape, shape_of};
 ghost use Rattle.sock_io.specs.Memory.{closing, empty_in, mem_in};
 ghost use Rattle.sock_io.specs.Shape.{shaped_out};
@@ -52,7 +52,7 @@ impl SinkLinker {
 }
 
 impl LinkerTells for SinkLinker {
-    ghost state = { λ l. record { asked = l.links.asked; accepted = l.links.accepted; back = l.links.back; done = l.links.done; faults = l.links.faults } };
+    ghost state = { λ l. record { asked = l.links.asked; accepted = l.links.accepted; back = l.links.back; done = l.links.done; faults = l.links.faults; always_ready = true } };
 }
 
 impl Linker for SinkLinker {
@@ -62,13 +62,8 @@ impl Linker for SinkLinker {
 
     type P = NoPeer;
 
-    ghost always_ready = { λ _. true };
-
-    ghost tells_in = { λ _. false };
-
     fn open(&mut self, spec: &LinkSpec) -> Result<Link, OpenFault>
-        requires piece { 0 < spec.now.piece }
-        requires few { length self.old.links.asked < 256 }
+        requires { MayOpen self.old.links.asked spec.now }
         ensures out { IfOk result (λ ends. ends.out ≡ new_half (length self.old.links.asked) (shape_of spec.now self.old.fail_put)) }
         ensures inn { IfOk result (λ ends. ends.inn ≡ empty_in Ending.Open) }
         ensures linker { IfOk result (λ _. self.new ≡ record self.old { links = record self.old.links { asked = self.old.links.asked ++ spec.now ∷ []; calls = next_number self.old.links.calls } }) }

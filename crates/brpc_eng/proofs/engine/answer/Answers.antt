@@ -38,7 +38,7 @@ returns-in-Sim-clause-answers g c =
       faults = record { before = g.K.Sink.faults c.args.out.now; now = g.K.Sink.faults c.replay-in-Sim.new.out };
     } in
     let links : answer.Links = record {
-      always_ready = g.L.Linker.always_ready c.args.links.now;
+      always_ready = g.L.LinkerTold.always_ready c.args.links.now;
       tells = TellClosed g.L.I.In.state;
       offering = TellOffers g.L.O.Out.state g.L.I.In.state;
       tells_in = g.L.Linker.tells_in;

@@ -11,6 +11,6 @@ invariant-meets g l = record {
   accepted : g.L.LinkerTold.accepted l.links ≡ g.L.LinkerTold.accepted l.fn.links;
   back : g.L.LinkerTold.back l.links ≡ g.L.LinkerTold.back l.fn.links;
   done : g.L.LinkerTold.done l.links ≡ g.L.LinkerTold.done l.fn.links;
-  always_ready : g.L.Linker.always_ready l.links ≡ g.L.Linker.always_ready l.fn.links;
+  always_ready : g.L.LinkerTold.always_ready l.links ≡ g.L.LinkerTold.always_ready l.fn.links;
   faults : g.L.LinkerTold.faults l.links ≡ g.L.LinkerTold.faults l.fn.links;
 }

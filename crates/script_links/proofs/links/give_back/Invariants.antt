@@ -16,5 +16,5 @@ invariant-loop-ends g l =
       whole : g.L.LinkerTold.back l.links ++ map (λ e. end_of (g.L.O.Out.state e.out) (g.L.I.In.state e.inn)) (into_iter_items l.ends-iterator) ≡ map (λ e. end_of (g.L.O.Out.state e.out) (g.L.I.In.state e.inn)) l.fn.ends.items;
       asked : g.L.LinkerTold.asked l.links ≡ g.L.LinkerTold.asked l.initial.links;
       faults : g.L.LinkerTold.faults l.links ≡ g.L.LinkerTold.faults l.initial.links;
-      always_ready : g.L.Linker.always_ready l.links ≡ g.L.Linker.always_ready l.initial.links;
+      always_ready : g.L.LinkerTold.always_ready l.links ≡ g.L.LinkerTold.always_ready l.initial.links;
     }

@@ -18,10 +18,10 @@ invariant-loop-line g l = record {
   fresh : AreUntouched 0 (map (λ e. end_of (g.L.O.Out.state e.out) (g.L.I.In.state e.inn)) l.ends.items);
   unfinished : AllByRecursion (λ (e : Ends g.row.L-O.Denot g.row.L-I.Denot g.row.L-P.Denot). (g.L.O.Out.state e.out).finished ≡ false) l.ends.items;
   unclosed : AllByRecursion (λ (e : Ends g.row.L-O.Denot g.row.L-I.Denot g.row.L-P.Denot). IfSome (g.L.I.In.state e.inn).closing (λ closing. closing ≡ false)) l.ends.items;
-  prompt_each : g.L.Linker.always_ready l.initial.links ≡ true → l.fn.mode ≡ mode.Loop → AllByRecursion (λ (e : Ends g.row.L-O.Denot g.row.L-I.Denot g.row.L-P.Denot). (g.L.O.Out.state e.out).always_ready ≡ true) l.ends.items;
+  prompt_each : g.L.LinkerTold.always_ready l.initial.links ≡ true → l.fn.mode ≡ mode.Loop → AllByRecursion (λ (e : Ends g.row.L-O.Denot g.row.L-I.Denot g.row.L-P.Denot). (g.L.O.Out.state e.out).always_ready ≡ true) l.ends.items;
   count : length l.ends.items ≡ count_by is_open_line (take l.line-index l.lines);
   back : g.L.LinkerTold.back l.links ≡ g.L.LinkerTold.back l.initial.links;
-  always_ready : g.L.Linker.always_ready l.links ≡ g.L.Linker.always_ready l.initial.links;
+  always_ready : g.L.LinkerTold.always_ready l.links ≡ g.L.LinkerTold.always_ready l.initial.links;
   later : g.L.LinkerTold.faults l.initial.links ≤ g.L.LinkerTold.faults l.links;
   kept : g.L.LinkerTold.faults l.links ≡ g.L.LinkerTold.faults l.initial.links;
 }

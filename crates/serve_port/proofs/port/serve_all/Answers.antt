@@ -1,5 +1,6 @@
 use Rattle.std.proofs.Common.{◌≡◌, sym, subst, rules}
-use Rattle.serve_port.specs.Serving.{LinkerState, ServesAll}
+use Rattle.sock_io.specs.Link.{LinkerState}
+use Rattle.serve_port.specs.Serving.{ServesAll}
 use Rattle.serve_port.specs.Steps.{HasServed, as_served}
 use Rattle.serve_port.proofs.Guests.{none_served, from_none, all_served}
 use Rattle.serve_port.proofs.port.serve_all.Goals as goal
@@ -18,7 +19,7 @@ returns g c =
       back = g.L.LinkerTold.back c.give_back-tally.new.links;
       done = g.L.LinkerTold.done c.give_back-tally.new.links;
       faults = g.L.LinkerTold.faults c.give_back-tally.new.links;
-      always_ready = g.L.Linker.always_ready c.give_back-tally.new.links;
+      always_ready = g.L.LinkerTold.always_ready c.give_back-tally.new.links;
     }) _ c.reverse.new.self.items c.serve_rest-accepted.result c.answer.result
     (from_none was c.from-count.result _ _ _ _ c.serve_rest-accepted.result c.in-Ok.ensures.items c.serve_rest-accepted.ensures.accepts)
     c.reverse.ensures.items
@@ -30,7 +31,7 @@ returns g c =
       back = g.L.LinkerTold.back c.args.links.now;
       done = g.L.LinkerTold.done c.args.links.now;
       faults = g.L.LinkerTold.faults c.args.links.now;
-      always_ready = g.L.Linker.always_ready c.args.links.now;
+      always_ready = g.L.LinkerTold.always_ready c.args.links.now;
     } in
     let new : LinkerState = record {
       asked = g.L.LinkerTold.asked c.links-1.given.0;
@@ -38,7 +39,7 @@ returns g c =
       back = g.L.LinkerTold.back c.links-1.given.0;
       done = g.L.LinkerTold.done c.links-1.given.0;
       faults = g.L.LinkerTold.faults c.links-1.given.0;
-      always_ready = g.L.Linker.always_ready c.links-1.given.0;
+      always_ready = g.L.LinkerTold.always_ready c.links-1.given.0;
     } in
     let turned : ServesAll c.from-count.result old new c.answer.result = subst (λ l. ServesAll c.from-count.result old (record {
       asked = g.L.LinkerTold.asked l;
@@ -46,6 +47,6 @@ returns g c =
       back = g.L.LinkerTold.back l;
       done = g.L.LinkerTold.done l;
       faults = g.L.LinkerTold.faults l;
-      always_ready = g.L.Linker.always_ready l;
+      always_ready = g.L.LinkerTold.always_ready l;
     }) c.answer.result) (sym links) all in
     subst (λ n. ServesAll n old new c.answer.result) c.from-count.ensures turned
