@@ -11,7 +11,8 @@ ghost use Rattle.loop_link.specs.Serving.{Settled, loop_in, new_in, offer_of};
 use crate::loop_in::LoopIn;
 use io_buf::BlockPool;
 use sock_io::{
-    Ends, LinkSpec, Linker, LinkerTells, MemLinks, MemOut, NoMemory, NoPeer, OpenFault, Out, Shape, Shaped,
+    Ends, LinkSpec, Linker, LinkerTells, MemLinks, MemOut, NoMemory, NoPeer, OpenFault, Out, Shape,
+    Shaped,
 };
 use std::alloc::Global;
 use std::marker::Model;

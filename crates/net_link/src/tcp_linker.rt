@@ -10,7 +10,8 @@ use crate::streams::{accept, connect};
 use crate::tcp_half::TcpHalf;
 use crate::tcp_in::TcpIn;
 use sock_io::{
-    Ends, LinkSpec, Linker, LinkerTells, Mode, NoMemory, NoPeer, NotedLinks, OpenFault, Shape, Shaped, risen,
+    Ends, LinkSpec, Linker, LinkerTells, Mode, NoMemory, NoPeer, NotedLinks, OpenFault, Shape,
+    Shaped, risen,
 };
 use std::alloc::Global;
 use std::marker::Model;

@@ -6,7 +6,9 @@ ghost use Rattle.ring_link.specs.Halves.{ring_in};
 
 use crossbeam_utils::Backoff;
 use ring_link::{RingIn, RingLinker, RingOut, RingPeer};
-use sock_io::{Ends, Gate, LinkSpec, Linker, LinkerTells, NoMemory, OpenFault, Out, Put, Ready, Shaped};
+use sock_io::{
+    Ends, Gate, LinkSpec, Linker, LinkerTells, NoMemory, OpenFault, Out, Put, Ready, Shaped,
+};
 use std::alloc::{AllocError, Global};
 use std::sync::atomic::{AtomicU64, Ordering};
 use std::sync::{Arc, Wait};

@@ -12,7 +12,8 @@ use loop_link::LoopLinker;
 use net_link::TcpLinker;
 use ring_link::open_ring;
 use sock_io::{
-    Ends, LinkSpec, Linker, LinkerTells, Mode, NoMemory, NotedLinks, OpenFault, Out, Shape, Shaped, risen,
+    Ends, LinkSpec, Linker, LinkerTells, Mode, NoMemory, NotedLinks, OpenFault, Out, Shape, Shaped,
+    risen,
 };
 use std::alloc::Global;
 use std::marker::Model;

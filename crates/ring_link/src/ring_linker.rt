@@ -10,7 +10,9 @@ use crate::open::{open_connection, open_ring};
 use crate::ring_in::RingIn;
 use crate::ring_out::RingOut;
 use crate::ring_peer::RingPeer;
-use sock_io::{Ends, LinkSpec, Linker, LinkerTells, NoMemory, NotedLinks, OpenFault, Shape, Shaped};
+use sock_io::{
+    Ends, LinkSpec, Linker, LinkerTells, NoMemory, NotedLinks, OpenFault, Shape, Shaped,
+};
 use std::marker::Model;
 
 type Link = Ends<Shaped<RingOut>, RingIn, RingPeer>;

@@ -10,12 +10,14 @@ invariant_of-self c =
     let before = sent c.self.inside.cells in
     let e = ending_of (c.args.mark ∷ []) in
     let put : sent c.push_reserved.new.self ≡ before ++ mark_cells e = c.push_reserved.ensures.sent.0 ∙ ap (λ t. before ++ t) (sym c.requires.mark) in
-    let o : IsOpen (ending_of before) = ap (λ (s : WriterState). s.ending) c.self.view_is ∙ c.requires.unmarked in
-    (subst IsWhole (sym put) (whole_shut before e c.self.invariant.0 o), λ unshut. (
-      let shut : mark_cells e ≡ [] = ap mark_cells (sym (ap ending_of put ∙ ending_shut before e o) ∙ unshut) in
-      let none : c.args.mark ∷ [] ≡ [] = sym c.requires.mark ∙ shut in
-      absurd (cc)
-    ))
+    let o : IsOpen (ending_of before) = ap (λ (s : WriterState). s.ending) c.self.view_is ∙ c.requires.unmarked in (
+      subst IsWhole (sym put) (whole_shut before e c.self.invariant.0 o),
+      λ unshut. (
+          let shut : mark_cells e ≡ [] = ap mark_cells (sym (ap ending_of put ∙ ending_shut before e o) ∙ unshut) in
+          let none : c.args.mark ∷ [] ≡ [] = sym c.requires.mark ∙ shut in
+          absurd (cc)
+          ),
+    )
 
 pub returns : goal.returns
 returns c =
