@@ -43,5 +43,5 @@ run_on-requires-clause-made g c κs within =
 
 pub returns-clause-text : goal.returns-clause-text
 returns-clause-text g c =
-    subst (λ (s : List Item). IfOk c.run_on.result (λ text. g.L.Linker.always_ready c.args.links.now ≡ true → TellClosed g.L.I.In.state → IsPrinted (TellOffers g.L.O.Out.state g.L.I.In.state) c.args.print s (turns_of s c.args.schedule) text.items (g.L.Linker.back c.run_on.new.links)))
+    subst (λ (s : List Item). IfOk c.run_on.result (λ text. g.L.LinkerTold.always_ready c.args.links.now ≡ true → TellClosed g.L.I.In.state → IsPrinted (TellOffers g.L.O.Out.state g.L.I.In.state) c.args.print s (turns_of s c.args.schedule) text.items (g.L.LinkerTold.back c.run_on.new.links)))
     c.in-Ok.ensures.1 c.run_on.ensures.text
