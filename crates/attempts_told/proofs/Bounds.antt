@@ -1,5 +1,5 @@
 -- What a client noted of attempts: each attempt to which an id advanced is a later one, and its range has it.
-use Rattle.std.proofs.Common.{◌≡◌, ℕ, zero, suc, ◌+◌, ◌<◌, ◌≤◌, Bool, true, false, cond, eqb, eq-eqb, ne_eqb, List, [], ◌∷◌, refl, sym, ap, ◌∙◌, subst, arith}
+use Rattle.std.proofs.Common.{◌≡◌, ℕ, ◌+◌, ◌<◌, ◌≤◌, Bool, true, false, cond, eqb, eq-eqb, ne_eqb, List, [], ◌∷◌, refl, sym, ap, ◌∙◌, subst, arith}
 use Rattle.std.specs.Prelude.{Option as Maybe, ◌||◌, if◌then◌else◌}
 use mathlib.Core.Logic.{dite}
 use native.Mathlib.Decide.{ℕ_discrete, dec_lt}
@@ -42,15 +42,15 @@ use Rattle.call_whys.specs.call_told.specs.Below.call_run.specs.call_client.spec
 use Rattle.call_whys.specs.call_told.specs.Below.call_run.specs.call_client.specs.call_attempts.specs.Both.{Both}
 use Rattle.call_whys.specs.call_told.specs.Below.call_run.specs.call_client.specs.call_attempts.specs.Attempting.{AttemptedBy}
 use Rattle.call_whys.specs.call_told.specs.Below.call_run.specs.call_client.specs.call_attempts.specs.Calling.{MadeFor}
-use Rattle.call_whys.specs.call_told.specs.Below.call_run.specs.call_client.specs.call_attempts.specs.Retrying.{without_oldest, RetriedBy, had_ended, overtaken, went_again, Retried, none_yet, one_more}
-use Rattle.call_whys.specs.call_told.specs.Below.call_run.specs.call_client.specs.Acting.{Stand, stand, both_of, Acted}
-use Rattle.call_whys.specs.call_told.specs.Below.call_run.specs.call_client.specs.Running.{Course, Ran, begins}
+use Rattle.call_whys.specs.call_told.specs.Below.call_run.specs.call_client.specs.call_attempts.specs.Retrying.{without_oldest, RetriedBy, had_ended, overtaken, went_again}
+use Rattle.call_whys.specs.call_told.specs.Below.call_run.specs.call_client.specs.Acting.{Stand, Acted}
 use Rattle.call_whys.specs.call_told.specs.Below.call_run.specs.call_client.proofs.Telling.{quiet_total, did_total, none_of_one}
 use Rattle.call_whys.specs.call_told.specs.Below.call_run.specs.Threads.{Thread, IsThread}
 use Rattle.call_whys.specs.call_told.proofs.Noting.{became_did}
 use Rattle.call_whys.specs.call_told.specs.call_places.proofs.Follows.{Follows, attempted_by, went_to, acted}
+use Rattle.call_whys.specs.call_told.specs.call_places.proofs.Walks.{Walks, run_walk}
 use Rattle.call_whys.specs.call_told.specs.call_places.proofs.Still.{advances, attempt_silent, advance_there}
-use Rattle.call_whys.specs.call_told.specs.call_places.proofs.Own.{came, end_is}
+use Rattle.call_whys.specs.call_told.specs.call_places.proofs.Own.{end_is}
 
 -- ## Words of locks
 
@@ -294,22 +294,19 @@ module _ (q : id_plan.Plan) where
         let x : CallStand = record { view = w.view; books = u.calls.books } in
         in_turn q.slots s.calls u.calls t.calls (locked r k s.calls.view u.calls.view l.got) (in_turn q.slots u.calls x t.calls (bounds_unlocked q.slots k u.calls.view w.view Open w.unlocked) (went_to q all_grow state p (kept q.slots true) _ _ (record { socks = u.socks; calls = x }) t w.went))
 
-    pub retried : (s t : Both) → Retried state p q s t → Grown s.calls t.calls
-    retried s _ none_yet = same q.slots s.calls s.calls refl
-    retried s _ (one_more u t r rest more_ e f by) = in_turn q.slots s.calls u.calls t.calls (retried s u more_) (retried_by r (without_oldest rest u) t by)
-
     -- ## A client's run
 
     module _ {g : Ghosts O} where
       pub acted_grows : (number : ℕ) (op : Op) (by : Maybe Outcome) (s t : Stand g) → Acted state p q number op by s t → Grown s.calls t.calls
       acted_grows = acted q all_grow state p (kept q.slots true) made_for
 
-      pub ran : (xs : List Task) (n : ℕ) (s t : Course g) → Ran state p q xs n s t → Grown s.has.calls t.has.calls
-      ran xs zero s t e = same q.slots s.has.calls t.has.calls (ap (λ (c : Course g). c.has.calls) e)
-      ran xs (suc n) s t h =
-          let m = h.4 in
-          in_turn q.slots s.has.calls h.0.has.calls t.has.calls (ran xs n s h.0 h.2)
-          (in_turn q.slots h.0.has.calls m.ready.calls t.has.calls (retried (both_of h.0.has) (both_of m.ready) m.retried.all.retried) (acted_grows h.1.number h.1.op m.by m.ready t.has m.acted))
+      all_bounds : (xs : List Task) → Walks {g = g} state p q xs (λ ds s t. Grown s.calls t.calls)
+      all_bounds xs = record {
+        none = λ s t e. same q.slots s.calls t.calls (ap (λ (y : Both). y.calls) e);
+        in_turn = λ ds es s u t. in_turn q.slots s.calls u.calls t.calls;
+        retry = λ u t r rest waits by. retried_by r (without_oldest rest u) t by;
+        operation = λ n x at by. acted_grows x.number x.op by;
+      }
 
 -- ## A whole run
 
@@ -317,9 +314,7 @@ module _ {O : Type 0} {g : Ghosts O} {state : O → OutState} {p : Plan} {q : id
   run_bounds : Bounds q.slots x.began.calls.seat.me.0 x.ended.calls.seat.me.0
   run_bounds =
       let end : stand_of x.ended.calls ≡ th.ran.last.calls = th.ran.calls ∙ ap (λ (s : Stand g). s.calls) (end_is x th) in
-      subst (λ (c : CallStand). Bounds q.slots x.began.calls.seat.me.0 c.view) (sym end)
-      (bounds_then q.slots x.began.calls.seat.me.0 th.ran.came.calls.seat.me.0 th.ran.last.calls.view (ran q state p x.tasks th.ran.made (begins x.began) (came x th) th.ran.ran.ran)
-      (retried q state p (both_of (stand th.ran.came)) (both_of th.ran.last) th.ran.ends.1.all.retried))
+      subst (λ (c : CallStand). Bounds q.slots x.began.calls.seat.me.0 c.view) (sym end) (run_walk x th (all_bounds q state p x.tasks))
 
   -- each advance that the client noted has its bounds
   pub all_bounded : (i f n : ℕ) → 0 < advances i f n x.ended.calls.seat.me.0 → IsBounded q.slots i f n x.ended.calls.seat.me.0
