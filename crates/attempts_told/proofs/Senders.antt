@@ -26,7 +26,7 @@ use Rattle.corr_core.specs.declared.marks.Note.TheVariants.{Made}
 use Rattle.corr_core.specs.declared.marks.Noted.{Noted}
 use Rattle.corr_core.specs.declared.marks.Plan as id_plan
 use Rattle.corr_core.specs.declared.marks.View.{View}
-use Rattle.corr_core.proofs.Notes.{pair-same, pair-at, pair-else, pair-else_first, total_some}
+use Rattle.corr_core.proofs.Notes.{pair-same, pair-else, pair-else_first, total_some}
 use Rattle.id_rule.specs.Lawful.{notes_of}
 use Rattle.sock_message.specs.Asked.{Asked, frame_of}
 use Rattle.corr_id.specs.Calls.{one, slot_of, version_of}
@@ -46,13 +46,11 @@ use Rattle.call_whys.specs.call_told.proofs.Ends.{made_silent, counted_here}
 use Rattle.call_whys.specs.call_told.proofs.Lists.{all_both, all_then, all_at}
 use Rattle.call_whys.specs.call_told.specs.call_places.specs.Counted.{HaveNotesOf}
 use Rattle.call_whys.specs.call_told.specs.call_places.specs.Deeds.{Deed, operates, retries, retries_of, ran_deeds, deeds, attempt_entries, went_entries, acted_entries, entries_of}
-use Rattle.call_whys.specs.call_told.specs.call_places.proofs.Weights.{term}
-use Rattle.call_whys.specs.call_told.specs.call_places.proofs.Still.{is_retry, advances, retried_still}
+use Rattle.call_whys.specs.call_told.specs.call_places.proofs.Still.{retried_still}
 use Rattle.call_whys.specs.call_told.specs.call_places.proofs.Walks.{Walks, run_walk}
 use Rattle.call_whys.specs.call_told.specs.call_places.proofs.Own.{came, end_is}
-use Rattle.call_whys.specs.call_told.specs.call_places.proofs.Counts.{by_retry, Knows, tried_few, all_known}
-use Rattle.call_whys.specs.call_told.specs.call_places.proofs.Ids.{IdLaws, IsIdOf, version_low, lock_id}
-use Rattle.call_whys.specs.call_told.specs.call_places.proofs.Clients.{Client, view_of, tasks_of, deeds_of, own_of}
+use Rattle.call_whys.specs.call_told.specs.call_places.proofs.Ids.{IdLaws, IsIdOf, version_low}
+use Rattle.call_whys.specs.call_told.specs.call_places.proofs.Clients.{Client, view_of, tasks_of, deeds_of, own_of, retry_noted, retry_id}
 use Rattle.call_whys.specs.call_told.specs.call_places.proofs.Places.{own_behind, all, noted_among, may_make, tasks_are, lists_are}
 use Rattle.call_whys.specs.call_told.specs.call_places.proofs.Log.{authored}
 use Rattle.call_whys.specs.call_told.specs.call_deeds.specs.Retried.{Again, asked_by, asked_in, asked_before, all_asked}
@@ -299,18 +297,12 @@ module _ {O : Type 0} {g : Ghosts O} {state : O → OutState} {readers : List (L
   deed_sent j c at k (retries r s t (overtaken l u a b)) there i e in_it = none_there i e in_it
   deed_sent j c at k (retries r s t (went_again l u lock w)) there i e in_it =
       let d : Deed g state p q = retries r s t (went_again l u lock w) in
-      let slot : ℕ = slot_of r.id in let version : ℕ = version_of r.id in
-      let whole : slot * 4294967296 + version ≡ r.id = div-add-mod' r.id 4294967296 in
-      let knows = all_at (Knows (view_of c)) (deeds_of c) k d (all_known c.thread c.is) there in
-      let counted = term (by_retry (is_retry (slot * 4294967296 + version) r.attempt)) (deeds_of c) k d there in
-      let one_ = pair-at (slot * 4294967296 + version) r.attempt r.id r.attempt (sym whole) refl in
-      let few = tried_few c.thread c.is slot version r.attempt (version_low r.id) in
-      let noted : 0 < advances slot version r.attempt (view_of c) = omega arith in
-      let its = lock_id laws r.id r.attempt l s.calls.view (view_of c) u.calls.view lock.got knows (noted_among run notes have j c at) noted in
+      let noted = retry_noted c k r s t l u lock w there in
+      let its = retry_id c k r s t l u lock w there laws (noted_among run notes have j c at) in
       let f = went_frame state p q l.content r.id r.attempt r.low _ _ t w.went i e in_it in
       let again = asked_there c.thread c.is k d 0 record { asked = l.content; attempt = r.attempt } there refl in
       let x = later j c at again.0 record { asked = l.content; attempt = r.attempt } again.1 in
-      of_call (own_attempt x.client l.content r.id r.attempt e r.low x.is its f (inr (let y = noted_among run notes have j c at slot (is_attempt version r.attempt) in omega arith)))
+      of_call (own_attempt x.client l.content r.id r.attempt e r.low x.is its f (inr (let y = noted_among run notes have j c at (slot_of r.id) (is_attempt (version_of r.id) r.attempt) in omega arith)))
 
   -- each message that a link accepted
   pub sent_by : (k : ℕ) (e : Entry) → get_elem? run.closed.ordered.log k ≡ some e → SentBy (accepted_of e)
