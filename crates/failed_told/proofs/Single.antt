@@ -65,13 +65,8 @@ use Rattle.attempts_told.specs.call_whys.specs.expire_told.specs.Below.sock_deed
 
 -- ## Frames of a deed
 
-operation_in : Op → ℕ
-operation_in (ops.Call asked) = asked.operation
-operation_in other = 0
-
 call_operation : (a b : Asked) → ops.Call a ≡ ops.Call b → a.operation ≡ b.operation
-unfolding operation_in
-call_operation a b e = ap operation_in e
+call_operation a b e = cc
 
 pub none_there : (m : ℕ) (e : Entry) → get_elem? [] m ≡ some e → ⊥
 none_there m e h = some-ne-none e (sym h)
