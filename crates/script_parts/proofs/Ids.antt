@@ -266,7 +266,7 @@ module _ {O : Type 0} {g : Ghosts O} {state : O → OutState} {readers : List (L
     is_told : (o id : ℕ) → IsIdOf slots v.notes o id → (by : Outcome) × Became asked_for became_all o by
     is_told o id h =
         let b = tellers_of.begun_of ran script tasks are v.notes have o (some_made o id h) in
-        let own : get_elem? asked_for b.place ≡ some (tasks_of b.client) = ap (λ (l : List (List Task)). get_elem? l b.place) (sym (of_clients ran)) ∙ map_there tasks_of (all_clients ran) b.place b.client b.at in
+        let own : get_elem? asked_for b.place ≡ some (tasks_of b.client) = ap (λ (l : List (List Task)). get_elem? l b.place) (sym (of_clients ran)) ∙ map_there tasks_of (crew_of ran).crew b.place b.client b.at in
         subst (λ (n : ℕ). (by : Outcome) × Became asked_for became_all n by) b.has.number_is
         (called b.place b.has.place (tasks_of b.client) b.has.result.task b.asked own (task_at b.client.thread b.client.is b.has.place b.has.result b.has.at) b.op)
 
