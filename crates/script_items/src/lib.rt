@@ -22,6 +22,4 @@ pub use names::Names;
 pub use numbers::number;
 pub use read::read_line;
 pub use script::Script;
-pub use sizes::{
-    client_count, first_version, is_client, is_operation, request_count, slot_count,
-};
+pub use sizes::{client_count, first_version, is_client, is_operation, request_count, slot_count};
