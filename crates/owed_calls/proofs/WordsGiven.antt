@@ -120,7 +120,7 @@ module _ (own : ℕ → ℕ → Type 0) where
 
   names_readers : (calls os : List ℕ) (k i : ℕ) (x : Program) → get_elem? (readers_from calls k os) i ≡ some x → G x
   names_readers calls [] k i x e = absurd (some-ne-none x (sym e))
-  names_readers calls (o ∷ os) k zero x e = subst G (some-injective (reader calls k o) x e) (through_reader any_end G names_passes.reads tt names_opens calls k o)
+  names_readers calls (o ∷ os) k zero x e = subst G (some-injective (reader calls k o) x e) (through_reader any_end G names_passes.reads (λ how e. through_any_failed G names_passes how.code) tt names_opens calls k o)
   names_readers calls (o ∷ os) k (suc i) x e = names_readers calls os (k + 1) i x e
 
   pub names_others : (n : ℕ) (calls os : List ℕ) (k i : ℕ) (x : Program) → get_elem? (std.replicate n Rest ++ readers_from calls k os) i ≡ some x → G x

@@ -26,7 +26,7 @@ use Rattle.seat_programs.specs.Readers.{reader}
 use Rattle.seat_programs.specs.Cores.{SeatState, resolved, next_step}
 use Rattle.seat_programs.specs.Scripts.{sizes_of, beginning, programs, readers_from}
 use Rattle.sock_runs.proofs.Ends.{none_has}
-use Rattle.sock_runs.proofs.Through.{any_end}
+use Rattle.sock_runs.proofs.Through.{any_end, through_any_failed}
 use Rattle.sock_runs.proofs.ThroughCalls.{through_reader, through_next}
 use Rattle.sock_runs.proofs.ThroughClients.{through_back, through_any}
 use Rattle.sock_runs.proofs.Opening.{mapped, appended}
@@ -55,7 +55,7 @@ module _ (own : ℕ → ℕ → Type 0) where
 
   readers_give : (calls os : List ℕ) (k i : ℕ) (x : Program) → get_elem? (readers_from calls k os) i ≡ some x → G x
   readers_give calls [] k i x at = absurd (some-ne-none x (sym at))
-  readers_give calls (o ∷ os) k zero x at = subst G (some-injective (reader calls k o) x at) (through_reader any_end G (gives_passes own).reads tt (gives_opens own) calls k o)
+  readers_give calls (o ∷ os) k zero x at = subst G (some-injective (reader calls k o) x at) (through_reader any_end G (gives_passes own).reads (λ how e. through_any_failed G (gives_passes own) how.code) tt (gives_opens own) calls k o)
   readers_give calls (o ∷ os) k (suc i) x at = readers_give calls os (k + 1) i x at
 
   pub others_give : (n : ℕ) (calls os : List ℕ) (k i : ℕ) (x : Program) → get_elem? (std.replicate n Rest ++ readers_from calls k os) i ≡ some x → G x

@@ -30,7 +30,7 @@ use Rattle.sock_runs.proofs.Ends.{none_has}
 use Rattle.seat_programs.specs.Readers.{reader}
 use Rattle.sock_runs.proofs.Records.{but, Records}
 use Rattle.sock_runs.proofs.Recorded.{Recorded, nothing, records_more}
-use Rattle.sock_runs.proofs.Through.{any_end, records_passes, records_opens, records_follow}
+use Rattle.sock_runs.proofs.Through.{any_end, through_any_failed, records_passes, records_opens, records_follow}
 use Rattle.sock_runs.proofs.ThroughCalls.{through_reader, through_next}
 use Rattle.sock_runs.proofs.ThroughClients.{through_back, through_any}
 
@@ -185,7 +185,7 @@ module _ (p : Plan) (clients : List (List Task)) (are : AreTasks p clients) wher
 -- neither a reader nor a seat that has nothing to do makes a life
 readers_still : (calls os : List ℕ) (k i : ℕ) (x : Program) → get_elem? (readers_from calls k os) i ≡ some x → Records nothing x
 readers_still calls [] k i x at = absurd (some-ne-none x (sym at))
-readers_still calls (o ∷ os) k zero x at = subst (Records nothing) (some-injective (reader calls k o) x at) (through_reader any_end (Records nothing) (records_passes nothing).reads tt (records_opens nothing) calls k o)
+readers_still calls (o ∷ os) k zero x at = subst (Records nothing) (some-injective (reader calls k o) x at) (through_reader any_end (Records nothing) (records_passes nothing).reads (λ how e. through_any_failed (Records nothing) (records_passes nothing) how.code) tt (records_opens nothing) calls k o)
 readers_still calls (o ∷ os) k (suc i) x at = readers_still calls os (k + 1) i x at
 
 pub others_still : (n : ℕ) (calls os : List ℕ) (k i : ℕ) (x : Program) → get_elem? (replicate n Rest ++ readers_from calls k os) i ≡ some x → Records nothing x

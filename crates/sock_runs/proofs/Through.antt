@@ -129,7 +129,6 @@ pub record PassesReads (Ends : Ended → Type 0) (G : Program → Type 0) : Type
   pub discards : (k total : ℕ) (next : ℕ → Program) → ((now : ℕ) → G (next now)) → G (Round (Discards k total) next)
   pub closed : (closed fault : Bool) (r : Reading) → Ends (ended_by 1014 closed fault r)
   pub faulted : (r : Reading) → Ends (ended_by 2002 false true r)
-  pub fails : (how : Ended) → Ends how → PassesFails G how.code
 
 -- the load of the word of an `open`, and a loop that waits for it, make no difference
 pub record PassesOpens (G : Program → Type 0) : Type 0 where
@@ -191,6 +190,39 @@ module _ (G : Program → Type 0) (g : PassesPlain G) where
 
   pub through_drop : (o id : ℕ) (next : Program) → G next → G (drop_held o id next)
   through_drop o id next after = through_release (socket_id_slot id) _ (λ freed. g.say o (cond freed Freed Kept) next after)
+
+-- where nothing is asked of a step that no message makes
+module _ (G : Program → Type 0) (others : (call : Call) (next : ℕ → Program) → is_of_message call ≡ false → ((found : ℕ) → G (next found)) → G (Do call next)) where
+  pub others_plain : PassesSteps is_plain G
+  others_plain (LookWord id) next is r = absurd (true≢false (sym is))
+  others_plain (ClaimRequest id q) next is r = absurd (true≢false (sym is))
+  others_plain (PutMessage q heading bytes) next is r = absurd (true≢false (sym is))
+  others_plain (SwapHead i own) next is r = absurd (true≢false (sym is))
+  others_plain (EmptyHead i last) next is r = absurd (true≢false (sym is))
+  others_plain call next is r = others call next refl r
+
+  pub others_failing : PassesSteps sets_failed G
+  others_failing (SetOdd i) next is r = others (SetOdd i) next refl r
+  others_failing (StoreCode i h c) next is r = others (StoreCode i h c) next refl r
+  others_failing _ next is r = absurd (true≢false (sym is))
+
+  pub others_make : PassesSteps makes_life G
+  others_make (CreateLife i k) next is r = others (CreateLife i k) next refl r
+  others_make (StoreOpen o w) next is r = others (StoreOpen o w) next refl r
+  others_make _ next is r = absurd (true≢false (sym is))
+
+-- where nothing is asked of loops, whatever is known of how a reading ends
+pub reads_any : (G : Program → Type 0) → PassesPlain G → ((head : Head) → awaits head ≡ none → (next : Exit head → Program) → ((exit : Exit head) → G (next exit)) → G (Round head next))
+    → ((k room : ℕ) (next : Taking → Program) → ((found : Taking) → G (next found)) → G (Aside (TakeBytes k room) next)) → PassesReads any_end G
+reads_any G plain looped take = record {
+  plain = plain;
+  locks = λ i sought w next r. looped (Locks i sought w) refl next r;
+  take = take;
+  reads = λ r next x. looped (Reads r) refl next (λ how. x how tt);
+  discards = λ k total next r. looped (Discards k total) refl next r;
+  closed = λ closed fault r. tt;
+  faulted = λ r. tt;
+}
 
 -- where nothing is asked of what sets a life failed
 pub through_any_failed : (G : Program → Type 0) (g : Passes G) (code : ℕ) → PassesFails G code
@@ -262,16 +294,7 @@ module _ {S : Type 0} (rest : Type 0) (calls : S → Call → (ℕ → Program) 
     failing = failing;
     stored = λ o w next r. r;
     joins = λ id next r. looped (Joins id) refl next r;
-    reads = record {
-      plain = bare;
-      locks = λ i sought w next r. looped (Locks i sought w) refl next r;
-      take = λ k room next r. r;
-      reads = λ r next x. looped (Reads r) refl next (λ how. x how tt);
-      discards = λ k total next r. looped (Discards k total) refl next r;
-      closed = λ closed fault r. tt;
-      faulted = λ r. tt;
-      fails = λ how e. fails how.code;
-    };
+    reads = reads_any A bare looped (λ k room next r. r);
   }
     where
       of_errors : (head : Head) (next : Exit head → Program) → is_of_errors head ≡ true → ((exit : Exit head) → A (next exit)) → A (Round head next)

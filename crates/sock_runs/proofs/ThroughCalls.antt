@@ -18,7 +18,7 @@ use Rattle.seat_programs.specs.Readers.{LIMIT, kept_for, ends_with, posted_last,
 use Rattle.seat_programs.specs.Rounds.{round}
 use Rattle.seat_programs.specs.Cores.{resolved, next_step}
 use Rattle.sock_runs.specs.Sound.{first_step}
-use Rattle.sock_runs.proofs.Through.{PassesPlain, PassesSends, PassesStores, PassesLocks, PassesJoins, PassesReads, PassesOpens, Passes, any_end, Follows, next_follows, through_release, through_address}
+use Rattle.sock_runs.proofs.Through.{PassesPlain, PassesFails, PassesSends, PassesStores, PassesLocks, PassesJoins, PassesReads, PassesOpens, Passes, any_end, Follows, next_follows, through_release, through_address}
 use Rattle.sock_runs.proofs.ThroughLoops.{through_post, through_post_with, through_posted, through_decide, through_decided, through_answer, through_opens, through_round}
 use Rattle.sock_runs.proofs.ThroughSends.{through_accept, through_block}
 
@@ -98,13 +98,13 @@ module _ (G : Program → Type 0) (g : PassesPlain G) where
       (through_post_with G g (call_id (at_word_slot w) (at_word_first w)) (error_of c (at_word_attempt w)) (posted_last (call_id (at_word_slot w) (at_word_first w)) (error_of c (at_word_attempt w)) kept (post_each os k c kept next))
       (through_posted_last (call_id (at_word_slot w) (at_word_first w)) (error_of c (at_word_attempt w)) kept (post_each os k c kept next) more)) more))
 
-module _ (Ends : Ended → Type 0) (G : Program → Type 0) (g : PassesReads Ends G) (rests : G Rest) where
+module _ (Ends : Ended → Type 0) (G : Program → Type 0) (g : PassesReads Ends G) (fails : (how : Ended) → Ends how → PassesFails G how.code) (rests : G Rest) where
   through_thrown_away : (how : Ended) → G (thrown_away how)
   through_thrown_away how = either_way (how.fault && nat_lt how.reading.total LIMIT) _ _ G (g.discards how.reading.link how.reading.total (λ _. Rest) (λ _. rests)) rests
 
   through_read : (calls : List ℕ) (how : Ended) → Ends how → G (read calls how)
   through_read calls how ends = let last = through_post_each G g.plain calls how.reading.link how.code how.reading.kept (thrown_away how) (through_thrown_away how) in either_way how.closed _ _ G last
-      (through_address G g.plain how.reading.id _ _ (g.fails how ends how.reading.id _ (λ _. through_release G g.plain (socket_id_slot how.reading.id) _ (λ _. last))) (λ _. last))
+      (through_address G g.plain how.reading.id _ _ (fails how ends how.reading.id _ (λ _. through_release G g.plain (socket_id_slot how.reading.id) _ (λ _. last))) (λ _. last))
 
   -- behind the word of its `open`
   pub through_reading : (calls : List ℕ) (k word : ℕ) → G (cond (word == NO_SOCKET) Rest (Round (Reads (record { ids = length calls; link = k; id = word - 1; rest = []; total = 0; kept = [] })) (read calls)))

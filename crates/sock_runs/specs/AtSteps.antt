@@ -38,3 +38,17 @@ module _ {S : Type 0} (asks : Asks S) where
   AtSteps s (Round head next) = asks.loop s head (λ t exit. AtSteps t (next exit))
   AtSteps s (Keep r next) = asks.kept s r (λ t. AtSteps t next)
   AtSteps s (Retries requests after) = asks.tried s requests (λ t. AtSteps t after)
+
+-- Nothing is asked but of a program's end, of steps on words and of loops; and this is known behind the other steps.
+abbrev pub asks_words : {S : Type 0} → (S → S) → Type 0 → (S → Call → (ℕ → Program) → (S → ℕ → Type 0) → Type 0) → ((head : Head) → (Exit head → Type 0) → Type 0) → Asks S
+asks_words stays rest words loops = record {
+  rest = λ s. rest;
+  word = words;
+  said = λ s behind. behind (stays s);
+  moved = λ s behind. behind (stays s);
+  written = λ s behind. behind (stays s);
+  beside = λ s step next behind. (found : Found step) → behind (stays s) found;
+  loop = λ s head behind. loops head (behind (stays s));
+  kept = λ s r behind. behind (stays s);
+  tried = λ s requests behind. behind (stays s);
+}
