@@ -1,14 +1,13 @@
 -- Over every run the word of a link's `open` names a life that was given this link.
 use Rattle.std.proofs.Common.{◌≡◌, ◌≢◌, ℕ, zero, suc, ◌+◌, ◌<◌, ◌⊎◌, inl, inr, ⊎_elim, ◌==◌, List, [], ◌∷◌, ◌++◌, length, get_or, set, get_or-set_other, get_or-set_same, refl, sym, ap, ◌∙◌, subst, arith}
 use Rattle.std.specs.Prelude as std
-use Rattle.std.specs.Prelude.{None, Some}
 use Rattle.std.specs.List.{AllByRecursion}
 use mathlib.Core.Logic.{dite}
 use mathlib.Core.Option.{Option, some, none, some-injective, some-ne-none}
 use native.Mathlib.Decide.{ℕ_discrete}
 use lib.ListN.{get_elem?}
 use Rattle.atomic_table.proofs.Lists.{at_set}
-use Rattle.sock_words.specs.Words.{socket_id, socket_id_slot, vref_version}
+use Rattle.sock_words.specs.Words.{socket_id, vref_version}
 use Rattle.sock_words.specs.declared.plain.Plan.{Plan}
 use Rattle.sock_model.specs.declared.chain.Right.{Right}
 use Rattle.sock_model.specs.declared.home.Home.{Home}
@@ -24,13 +23,11 @@ use Rattle.joint_runs.specs.slot_steps.proofs.Sums.{about-here}
 use Rattle.joint_runs.specs.slot_steps.proofs.Numbers.{pair-same}
 use Rattle.joint_runs.specs.sock_steps.proofs.Places.{counts, own_count}
 use Rattle.joint_runs.specs.sock_steps.proofs.Quiet.{either_way}
-use Rattle.seat_programs.specs.declared.task.Op.{Op}
-use Rattle.seat_programs.specs.declared.task.Op.TheVariants as ops
 use Rattle.seat_programs.specs.declared.task.Task.{Task}
 use Rattle.seat_programs.specs.declared.task.Sizes.{Sizes}
 use Rattle.seat_programs.specs.Calls.{Call, CreateLife, StoreOpen}
 use Rattle.seat_programs.specs.Programs.{Program, Do, Rest, NO_SOCKET, open_from, make_socket}
-use Rattle.seat_programs.specs.Clients.{HeldLife, held_under, without_name, give_back, drop_of, operation, client_from, ending_of}
+use Rattle.seat_programs.specs.Clients.{HeldLife, operation, client_from, ending_of}
 use Rattle.seat_programs.specs.Readers.{reader}
 use Rattle.seat_programs.specs.Cores.{Calls, Core, SeatState, word_of, word_after, found_at, words_after, homes_after, hand_after, resolved, next_step, waiting_at, with_seat, stepped}
 use Rattle.seat_programs.specs.Ticks.{Moment, ticked, run, IsAnswered, AreAnswered}

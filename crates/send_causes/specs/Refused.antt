@@ -6,8 +6,6 @@ use mathlib.Core.Option.{some}
 use lib.ListN.{get_elem?}
 use Rattle.sock_words.specs.declared.plain.Plan.{Plan}
 use Rattle.sock_words.specs.Words.{at_word, socket_id_slot, socket_id_version, vref_version}
-use Rattle.sock_io.specs.declared.link.Put.{Put}
-use Rattle.sock_io.specs.declared.link.Ready.{Ready}
 use Rattle.sock_model.specs.declared.chain.Heading.{Heading}
 use Rattle.brpc_model.specs.Items.{Item}
 use Rattle.brpc_model.specs.Operations.{Turn}
@@ -18,7 +16,7 @@ use Rattle.seat_programs.specs.Calls.{Call, AddRef, LoadName, LookWord, LoadCode
 use Rattle.seat_programs.specs.Heads.{Head, Exit, Retry, Posts, Unlocks, Locks, Reads}
 use Rattle.seat_programs.specs.Posts.{WHOLE}
 use Rattle.seat_programs.specs.Writings.{Holder, Writing, Puts}
-use Rattle.seat_programs.specs.Programs.{Program, Do, Say, Sent, Rest, TakeMessage, TakeHome, PutHome, PutBytes, AskReady, Write, Aside, Round, Keep, Retries}
+use Rattle.seat_programs.specs.Programs.{Program, Do, Write, Aside}
 use Rattle.seat_programs.specs.Cores.{Core, SeatState, word_of, found_at, waiting_at}
 use Rattle.seat_programs.specs.Ticks.{Moment, quiet, ticked}
 use Rattle.seat_programs.specs.Tasks.{plan_of}

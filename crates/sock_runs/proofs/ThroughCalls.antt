@@ -10,7 +10,7 @@ use Rattle.seat_programs.specs.brpc_model.specs.Frame.{Frame}
 use Rattle.seat_programs.specs.sock_message.specs.Asked.{Asked, name_of, frame_of}
 use Rattle.seat_programs.specs.Calls.{LookWord, FindLink, ClaimRequest, LoadName}
 use Rattle.seat_programs.specs.Asides.{ClaimId, PutCall, MakeId, StoreCall, LoadCall, StoreAt, LoadAt, TakeCall, call_id, id_slot, id_first}
-use Rattle.seat_programs.specs.Heads.{Head, Exit, First, Unlocks, Joins, Opens, Reads, Discards, Retry, Posting, HasLocked, Unlocking, IsOpen, HasNext, Locking, NotThere, Has, Ended}
+use Rattle.seat_programs.specs.Heads.{Head, Exit, First, Unlocks, Opens, Reads, Retry, Posting, HasLocked, Unlocking, IsOpen, HasNext, Locking, NotThere, Has, Ended}
 use Rattle.seat_programs.specs.Programs.{Program, Do, Say, Sent, Rest, Write, Aside, Round, Keep, Retries, NO_SOCKET, release, address}
 use Rattle.seat_programs.specs.Posts.{WHOLE, post, posted, decided}
 use Rattle.seat_programs.specs.Attempts.{claims_from, heading_for, attempt, begin_call, claim_id, call, tried_again, retry_locked, retry, expire_outcome, expire, join}
@@ -128,7 +128,7 @@ module _ (G : Program → Type 0) (g : Passes G) where
   through_head opened f _ x = x
 
   pub through_first : PassesOpens G → Follows G → (program : Program) → G program → G (first_step program)
-  through_first w f program x = through_head (λ o exits y. through_opens G w o exits (f.round (Opens o) exits y)) f program x
+  through_first w f program x = through_head (λ o exits y. through_opens G g.sends.plain w o exits (f.round (Opens o) exits y)) f program x
 
   -- whatever retries wait
   pub through_resolved : Follows G → (ws : List Retry) (program : Program) → G program → G (resolved ws program)
