@@ -83,12 +83,6 @@ module _ (k id : ℕ) (Odd : List Taking → Type 0) (Lasts : Type 0) where
   Calm held h (Say o outcome next) = Calm held h next
   Calm held h (Sent o next) = Calm held h next
   Calm held h Rest = IsOver h
-  Calm held h (TakeMessage q next) = ⊥
-  Calm held h (TakeHome l next) = ⊥
-  Calm held h (PutHome l n after) = ⊥
-  Calm held h (PutBytes l asked bytes next) = ⊥
-  Calm held h (AskReady l next) = ⊥
-  Calm held h (Write w after) = ⊥
   Calm held h (Aside (TakeBytes l room) next) = (l ≡ k) × ((t : Taking) → (t ≡ NoMore → Lasts) → Calm false (h ++ t ∷ []) (next t))
   Calm held h (Aside step next) = (found : Found step) → Calm false h (next found)
   Calm held h (Round (Opens o) next) = ⊥
@@ -96,7 +90,7 @@ module _ (k id : ℕ) (Odd : List Taking → Type 0) (Lasts : Type 0) where
   Calm held h (Round (Discards l total) next) = (l ≡ k) × IsOver h × ((n : ℕ) (h' : List Taking) → IsOver h' → Calm false h' (next n))
   Calm held h (Round head next) = (exit : Exit head) → Calm false h (next exit)
   Calm held h (Keep r next) = Calm held h next
-  Calm held h (Retries requests after) = ⊥
+  Calm held h other = ⊥
 
   -- ## Parts of programs
 
@@ -242,11 +236,8 @@ module _ (k id : ℕ) (Odd : List Taking → Type 0) (Lasts : Type 0) where
   calm_next held h ws (Say o outcome next) x = calm_next held h ws next x
   calm_next held h ws (Sent o next) x = calm_next held h ws next x
   calm_next held h ws (Keep r next) x = calm_next held h (ws ++ r ∷ []) next x
-  calm_next held h ws (Do call next) x = x
-  calm_next held h ws Rest x = x
-  calm_next held h ws (Aside step next) x = x
-  calm_next held h ws (Round head next) x = x
-  calm_next held h ws _ x = absurd x
+  calm_next held h ws (Retries requests after) x = absurd x
+  calm_next held h ws _ x = x
 
   -- where a reading begins
   pub begins_calm : Ends → (calls : List ℕ) → Calm false [] (Round (Reads (record { ids = length calls; link = k; id = id; rest = []; total = 0; kept = [] })) (read calls))
