@@ -20,7 +20,8 @@ use Rattle.joint_runs.specs.sock_runs.proofs.Bounds.{law, lives_le}
 use Rattle.joint_runs.specs.sock_runs.proofs.Records.{next_stores}
 use Rattle.joint_runs.specs.sock_runs.proofs.LinkTicks.{RetriesGo}
 use Rattle.joint_runs.specs.sock_runs.proofs.Quiets.{run_seats}
-use Rattle.joint_runs.specs.sock_runs.proofs.ThroughSends.{through_end}
+use Rattle.joint_runs.specs.sock_runs.proofs.Through.{through_any_failed}
+use Rattle.joint_runs.specs.sock_runs.proofs.ThroughSends.{through_ending}
 use Rattle.joint_runs.specs.sock_runs.proofs.ThroughCalls.{through_next}
 use Rattle.joint_runs.specs.sock_runs.proofs.Recorded.{Recorded}
 use Rattle.joint_runs.specs.sock_runs.proofs.LinksRecorded.{Gives, gives_passes, gives_opens, gives_follow, Stored, Stores, Linked, run_linked}
@@ -36,8 +37,7 @@ use Rattle.owed_calls.proofs.OwingEnding.{owing_ending, owing_on}
 -- ## The ending
 
 gives_ending : (own : ℕ → ℕ → Type 0) (os : List ℕ) → Gives own (ending_of os)
-gives_ending own [] = tt
-gives_ending own (o ∷ os) = through_end (Gives own) (gives_passes own) (gives_opens own) o (ending_of os) (gives_ending own os)
+gives_ending own os = through_ending (Gives own) (gives_passes own).sends.plain (through_any_failed (Gives own) (gives_passes own) 1014) (gives_opens own) tt os
 
 -- a seat that is at rest begins it
 pub linked_ending : (p : Plan) (own : ℕ → ℕ → Type 0) (os : List ℕ) (c : Core) (vs : List View) → Linked p own c vs → ((seat : SeatState) → get_elem? c.seats 0 ≡ some seat → seat.program ≡ Rest) → Linked p own (with_seat 0 (ending_of os) [] c.words c.homes c) vs
