@@ -10,6 +10,7 @@ ghost use Rattle.sock_io.specs.Causes.{Rose};
 ghost use Rattle.sock_io.specs.Link.{end_of};
 ghost use Rattle.sock_words.specs.declared.outcome.Outcome.{Outcome};
 ghost use Rattle.sock_core.specs.Finish.{told_from};
+ghost use Rattle.sock_core.specs.Linkers.{SaysAsBefore};
 ghost use Rattle.sock_core.specs.Links.{AreAlwaysReady, TellClosing};
 ghost use Rattle.sock_core.specs.Runs.{SameLinks};
 ghost use Rattle.script_links.specs.Given.{AreNumbered, AreUntouched, IsBeginning, has_piece, specs_of};
@@ -217,12 +218,7 @@ fn play<L: Linker>(
     ensures run { OnOk result (AreAlwaysReady machine.old.links → HasRun script.now (turns_of script.now schedule) machine.old machine.new) }
     ensures plan { OnOk result ((machine.new.plan ≡ machine.old.plan) × (machine.new.ids.plan ≡ machine.old.ids.plan)) }
     ensures ends { SameLinks machine.old machine.new }
-    ensures asked { L.asked links.new ≡ L.asked links.old }
-    ensures accepted { L.accepted links.new ≡ L.accepted links.old }
-    ensures back { L.back links.new ≡ L.back links.old }
-    ensures done { L.done links.new ≡ L.done links.old }
-    ensures faults { L.faults links.new ≡ L.faults links.old }
-    ensures always_ready { L.always_ready links.new ≡ L.always_ready links.old }
+    ensures says { SaysAsBefore L.asked L.accepted L.back L.done L.faults L.always_ready links.old links.new }
 {
     play_schedule(machine, links, script, schedule)?;
     machine.settle(links)

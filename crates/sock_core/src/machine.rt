@@ -8,6 +8,7 @@ ghost use Rattle.seat_programs.specs.Scripts.{beginning, programs, readers_from,
 ghost use Rattle.seat_programs.specs.Tasks.{plan_of, id_plan_of, opens, calls};
 ghost use Rattle.sock_core.specs.Finish.{told_from};
 ghost use Rattle.run_theorems.specs.joint_runs.proofs.Starts.{AreFor};
+ghost use Rattle.sock_core.specs.Linkers.{SaysAsBefore};
 ghost use Rattle.sock_core.specs.Links.{Taken, Given, Agrees, AgreesGave, AreAlwaysReady, StayOffered, TellClosing};
 ghost use Rattle.sock_core.specs.Machines.{MOST_LEFT as most_left, HasSizes, core_with, ending_by};
 ghost use Rattle.sock_core.specs.Runs.{SameLinks, SameTable, Ticked, Led, Still, HasMoved, PlayedOn, RanFirst, Settled};
@@ -162,12 +163,7 @@ impl<O: Out, I: In, P: Peer> Machine<O, I, P> {
         ensures same { SameTable self.old self.new × SameLinks self.old self.new }
         ensures rest { OnOk result (FirstRests self.old → FirstRests self.new) }
         ensures sizes { ∥ HasSizes self.new ∥₁ }
-        ensures asked { L.asked links.new ≡ L.asked links.old }
-        ensures accepted { L.accepted links.new ≡ L.accepted links.old }
-        ensures back { L.back links.new ≡ L.back links.old }
-        ensures done { L.done links.new ≡ L.done links.old }
-        ensures faults { L.faults links.new ≡ L.faults links.old }
-        ensures always_ready { L.always_ready links.new ≡ L.always_ready links.old }
+        ensures says { SaysAsBefore L.asked L.accepted L.back L.done L.faults L.always_ready links.old links.new }
     {
         let Some(step) = self.tables.next_read(link) else {
             return Ok(Tick::Idle);
@@ -188,12 +184,7 @@ impl<O: Out, I: In, P: Peer> Machine<O, I, P> {
         ensures same { SameTable self.old self.new × SameLinks self.old self.new }
         ensures rest { OnOk result (seat ≢ 0 → FirstRests self.old → FirstRests self.new) }
         ensures sizes { ∥ HasSizes self.new ∥₁ }
-        ensures asked { L.asked links.new ≡ L.asked links.old }
-        ensures accepted { L.accepted links.new ≡ L.accepted links.old }
-        ensures back { L.back links.new ≡ L.back links.old }
-        ensures done { L.done links.new ≡ L.done links.old }
-        ensures faults { L.faults links.new ≡ L.faults links.old }
-        ensures always_ready { L.always_ready links.new ≡ L.always_ready links.old }
+        ensures says { SaysAsBefore L.asked L.accepted L.back L.done L.faults L.always_ready links.old links.new }
     {
         if self.tables.short {
             return Err(NoMemory);
@@ -291,12 +282,7 @@ impl<O: Out, I: In, P: Peer> Machine<O, I, P> {
         ensures rest { OnOk result (FirstRests self.new) }
         ensures same { SameTable self.old self.new × SameLinks self.old self.new }
         ensures sizes { ∥ HasSizes self.new ∥₁ }
-        ensures asked { L.asked links.new ≡ L.asked links.old }
-        ensures accepted { L.accepted links.new ≡ L.accepted links.old }
-        ensures back { L.back links.new ≡ L.back links.old }
-        ensures done { L.done links.new ≡ L.done links.old }
-        ensures faults { L.faults links.new ≡ L.faults links.old }
-        ensures always_ready { L.always_ready links.new ≡ L.always_ready links.old }
+        ensures says { SaysAsBefore L.asked L.accepted L.back L.done L.faults L.always_ready links.old links.new }
     {
         if seat == 0 {
             if self.tables.short {
@@ -319,12 +305,7 @@ impl<O: Out, I: In, P: Peer> Machine<O, I, P> {
         ensures rest { OnOk result (FirstRests self.new) }
         ensures same { SameTable self.old self.new × SameLinks self.old self.new }
         ensures sizes { ∥ HasSizes self.new ∥₁ }
-        ensures asked { L.asked links.new ≡ L.asked links.old }
-        ensures accepted { L.accepted links.new ≡ L.accepted links.old }
-        ensures back { L.back links.new ≡ L.back links.old }
-        ensures done { L.done links.new ≡ L.done links.old }
-        ensures faults { L.faults links.new ≡ L.faults links.old }
-        ensures always_ready { L.always_ready links.new ≡ L.always_ready links.old }
+        ensures says { SaysAsBefore L.asked L.accepted L.back L.done L.faults L.always_ready links.old links.new }
     {
         for _ in 0..self.most_left()? {
             if self.tick(links, seat)?.is_last(kind) {
@@ -342,12 +323,7 @@ impl<O: Out, I: In, P: Peer> Machine<O, I, P> {
         ensures still { result ≡ Ok false → Still self.old self.new × (self.new.short ≡ false) }
         ensures rest { OnOk result (FirstRests self.new) }
         ensures same { SameTable self.old self.new × SameLinks self.old self.new }
-        ensures asked { L.asked links.new ≡ L.asked links.old }
-        ensures accepted { L.accepted links.new ≡ L.accepted links.old }
-        ensures back { L.back links.new ≡ L.back links.old }
-        ensures done { L.done links.new ≡ L.done links.old }
-        ensures faults { L.faults links.new ≡ L.faults links.old }
-        ensures always_ready { L.always_ready links.new ≡ L.always_ready links.old }
+        ensures says { SaysAsBefore L.asked L.accepted L.back L.done L.faults L.always_ready links.old links.new }
     {
         let mut moved = false;
         for seat in 1..self.clients() {
@@ -369,12 +345,7 @@ impl<O: Out, I: In, P: Peer> Machine<O, I, P> {
         ensures ok { OnOk result (PlayedOn self.old self.new × (self.new.short ≡ false)) }
         ensures rest { OnOk result (FirstRests self.new) }
         ensures same { SameTable self.old self.new × SameLinks self.old self.new }
-        ensures asked { L.asked links.new ≡ L.asked links.old }
-        ensures accepted { L.accepted links.new ≡ L.accepted links.old }
-        ensures back { L.back links.new ≡ L.back links.old }
-        ensures done { L.done links.new ≡ L.done links.old }
-        ensures faults { L.faults links.new ≡ L.faults links.old }
-        ensures always_ready { L.always_ready links.new ≡ L.always_ready links.old }
+        ensures says { SaysAsBefore L.asked L.accepted L.back L.done L.faults L.always_ready links.old links.new }
     {
         for _ in 0..self.most_left()? {
             if !self.round(links)? {
@@ -410,12 +381,7 @@ impl<O: Out, I: In, P: Peer> Machine<O, I, P> {
         ensures settled { OnOk result (Settled self.old self.new) }
         ensures plan { (self.new.plan ≡ self.old.plan) × (self.new.ids.plan ≡ self.old.ids.plan) }
         ensures ends { SameLinks self.old self.new }
-        ensures asked { L.asked links.new ≡ L.asked links.old }
-        ensures accepted { L.accepted links.new ≡ L.accepted links.old }
-        ensures back { L.back links.new ≡ L.back links.old }
-        ensures done { L.done links.new ≡ L.done links.old }
-        ensures faults { L.faults links.new ≡ L.faults links.old }
-        ensures always_ready { L.always_ready links.new ≡ L.always_ready links.old }
+        ensures says { SaysAsBefore L.asked L.accepted L.back L.done L.faults L.always_ready links.old links.new }
     {
         self.play_on(links)?;
         self.begin_ending();
