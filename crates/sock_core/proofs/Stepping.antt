@@ -114,89 +114,22 @@ behind_look : (a : Context) (other others : List ℕ) (author : Author) (id : �
 behind_look a other others (authors.Send o) id p = tt
 behind_look a other others (authors.Attempt t) id p = tt
 
-behind_judge : (a : Context) (other others : List ℕ) (p : Point) (ends : Bool) (x y : Program) → BehindPut (first_of x) a other others p → BehindPut (first_of y) a other others p → BehindPut (first_of (if ends then x else y)) a other others p
-behind_judge a other others p true x y f g = f
-behind_judge a other others p false x y f g = g
-
 behind_put : (a : Context) (other others : List ℕ) (p : Point) → BehindPut (first_in (point_program a p)) a other others p
-behind_put a other others points.Rest = tt
 behind_put a other others (points.Open g (opens.Claim i)) = tt
-behind_put a other others (points.Open g (opens.StoreLink i)) = tt
-behind_put a other others (points.Open g (opens.ResetHead i)) = tt
-behind_put a other others (points.Open g (opens.ClearCode i)) = tt
-behind_put a other others (points.Open g (opens.CreateLife i)) = tt
-behind_put a other others (points.Open g (opens.StoreOpen i v)) = tt
-behind_put a other others (points.Open g (opens.StoreName i v)) = tt
-behind_put a other others (points.Open g opens.TakeLink) = tt
-behind_put a other others (points.Open g opens.FinishLink) = tt
-behind_put a other others (points.Open g opens.PutLink) = tt
-behind_put a other others (points.Open g opens.StoreNone) = tt
-behind_put a other others (points.Seek (aims.Hold o n) seeks.Load) = tt
-behind_put a other others (points.Seek (aims.Send o n) seeks.Load) = tt
-behind_put a other others (points.Seek (aims.Fail o n code) seeks.Load) = tt
-behind_put a other others (points.Seek (aims.End o) seeks.Load) = tt
 behind_put a other others (points.Seek aim (seeks.AddRef id)) = tt
+behind_put a other others (points.Seek (aims.Hold o n) seeks.Load) = tt
 behind_put a other others (points.Fail f fails.SetOdd) = tt
-behind_put a other others (points.Fail f (fails.StoreCode w)) = tt
-behind_put a other others (points.Fail f (fails.ReleaseFirst w)) = tt
 behind_put a other others (points.Release i t releases.SubRef) = tt
-behind_put a other others (points.Release i t (releases.Recycle w)) = tt
-behind_put a other others (points.Release i t (releases.LoadLink w)) = tt
-behind_put a other others (points.Release i t (releases.TakeLink w k)) = tt
-behind_put a other others (points.Release i t (releases.FinishLink w k)) = tt
-behind_put a other others (points.Release i t (releases.PutLink w k)) = tt
-behind_put a other others (points.Release i t releases.FreeSlot) = tt
 behind_put a other others (points.Send s sends.Look) = behind_look a other others s.author s.id.0 (points.Send s sends.Look)
-behind_put a other others (points.Send s (sends.Claim q)) = tt
 behind_put a other others (points.Send s (sends.PutMessage q own)) = refl
-behind_put a other others (points.Send s (sends.Unconnect q own)) = tt
-behind_put a other others (points.Send s (sends.SwapHead q own)) = tt
-behind_put a other others (points.Send s (sends.Connect q before)) = tt
-behind_put a other others (points.Send s (sends.FindLink q own)) = tt
-behind_put a other others (points.Send s (sends.TakeHome q own k)) = tt
-behind_put a other others (points.Send s (sends.TakeMessage q own k n)) = tt
-behind_put a other others (points.Write w (writes.FirstLook m)) = tt
-behind_put a other others (points.Write w (writes.Look m asked)) = tt
-behind_put a other others (points.Write w (writes.Put m asked)) = tt
-behind_put a other others (points.Write w (writes.Ask m)) = tt
-behind_put a other others (points.Write w (writes.SetOdd m)) = tt
-behind_put a other others (points.Write w (writes.StoreCode m)) = tt
-behind_put a other others (points.Write w (writes.ReleaseFirst m)) = tt
-behind_put a other others (points.Write w (writes.StorePlace m)) = tt
-behind_put a other others (points.Write w (writes.LoadCode m)) = tt
-behind_put a other others (points.Write w (writes.DropPlace m n)) = tt
-behind_put a other others (points.Write w (writes.ReadNext now c)) = tt
-behind_put a other others (points.Write w (writes.Free now next c)) = tt
-behind_put a other others (points.Write w (writes.TakeMessage next)) = tt
 behind_put a other others (points.Write w writes.PutHome) = tt
-behind_put a other others (points.Write w writes.EmptyHead) = tt
-behind_put a other others (points.Write w (writes.TakeHome found)) = tt
-behind_put a other others (points.Write w (writes.Walk top at after)) = tt
-behind_put a other others (points.Write w (writes.Turn top at after before)) = tt
-behind_put a other others (points.Write w (writes.TakeFirst top at)) = tt
 behind_put a other others (points.Call begins.LoadName) = tt
-behind_put a other others (points.Call (begins.ClaimId i socket)) = tt
-behind_put a other others (points.Call (begins.PutCall i socket)) = tt
-behind_put a other others (points.Call (begins.MakeId i socket)) = tt
-behind_put a other others (points.Call (begins.StoreCall id socket)) = tt
 behind_put a other others (points.Attempt t socket attempts.AddRef) = tt
-behind_put a other others (points.Attempt t socket attempts.FindLink) = tt
-behind_put a other others (points.Attempt t socket (attempts.StoreAt k)) = tt
 behind_put a other others (points.Post c after posts.Load) = tt
-behind_put a other others (points.Post c after (posts.Exchange from)) = tt
-behind_put a other others (points.Decide c after (decides.Take w)) = tt
-behind_put a other others (points.Decide c after (decides.Judge w)) = behind_judge a other others (points.Decide c after (decides.Judge w)) (ends_call (parts w.0) c.error.0) (end_id (id_slot (id_of c.id)) (decided (id_of c.id) (after_program a after) (HasEnded a.asked.operation (code_of c.error.0)))) (Aside (PutCall (id_slot (id_of c.id)) a.asked) (λ _. Round (Unlocks (id_slot (id_of c.id)) w.0 true) (unlocked (record { id = id_of c.id; attempt = (parts w.0).attempt + 1 }) (decided (id_of c.id) (after_program a after))))) tt tt
-behind_put a other others (points.Decide c after (decides.Free o)) = tt
-behind_put a other others (points.Decide c after (decides.Unlock from advance n)) = tt
+behind_put a other others (points.Decide c after (decides.Judge w)) = elim (ends_call (parts w.0) c.error.0) as (λ (ends : Bool). BehindPut (first_of (if ends then end_id (id_slot (id_of c.id)) (decided (id_of c.id) (after_program a after) (HasEnded a.asked.operation (code_of c.error.0))) else Aside (PutCall (id_slot (id_of c.id)) a.asked) (λ _. Round (Unlocks (id_slot (id_of c.id)) w.0 true) (unlocked (record { id = id_of c.id; attempt = (parts w.0).attempt + 1 }) (decided (id_of c.id) (after_program a after)))))) a other others (points.Decide c after (decides.Judge w))) [ true ↦ tt | false ↦ tt ]
 behind_put a other others (points.Retry r (retries.Lock locks.Read)) = tt
-behind_put a other others (points.Retry r (retries.Lock (locks.Exchange from))) = tt
-behind_put a other others (points.Retry r (retries.TakeCall w)) = tt
-behind_put a other others (points.Retry r (retries.PutCall w)) = tt
-behind_put a other others (points.Retry r (retries.Unlock w advance)) = tt
-behind_put a other others (points.Retry r retries.LoadName) = tt
-behind_put a other others (points.Expire o t) = tt
-behind_put a other others (points.Join o (joins.LoadCall t)) = tt
 behind_put a other others (points.Join o (joins.Wait id)) = tt
+behind_put a other others _ = tt
 
 pub message_put : (s sizes : Sizes) (seat : SeatData) (message' : Option ParcelData) (n : Next) (q : ℕ) (heading : Heading) (bytes : List ℕ) → s ≡ sizes → first_in (seat_program sizes seat) ≡ Some (OfCall (calls.PutMessage q heading bytes)) →
     next_program (around s (record seat { message = message' })) n ≡ after_word (point_program (around s (record seat { message = message' })) seat.point) 0 → next_program (around s (record seat { message = message' })) n ≡ after_word (seat_program sizes seat) 0

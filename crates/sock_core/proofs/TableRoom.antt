@@ -15,7 +15,7 @@ use Rattle.sock_core.specs.Machines.{TableState, table_sizes}
 use Rattle.sock_core.specs.Driving.{PutsNone, AsksNone}
 use Rattle.sock_core.proofs.FirstSteps.{same_some}
 
-after_none : (program : Program) (found : ℕ) → AsksNone program → AsksNone (after_word program found)
+pub after_none : (program : Program) (found : ℕ) → AsksNone program → AsksNone (after_word program found)
 after_none (Do call next) found x = x.1 found
 after_none (Say o outcome next) found x = x
 after_none (Sent o next) found x = x
