@@ -1,5 +1,6 @@
 -- Where a seat goes on behind each kind of step.
 use Rattle.std.proofs.Common.{◌≡◌, refl, ℕ, zero, suc, ◌+◌, Bool, true, false, if◌then◌else◌, List, [], ◌∷◌, ◌++◌, length, map, take, Option, Some, ap, ap₂, sym, ◌∙◌, arith, subst}
+use Rattle.sock_words.specs.declared.outcome.Outcome.{Outcome}
 use Rattle.sock_io.specs.declared.link.Put.{Put}
 use Rattle.sock_io.specs.declared.link.Put.TheVariants as puts
 use Rattle.message_parts.specs.Frames.{OutgoingData, ParcelData}
@@ -44,7 +45,7 @@ use Rattle.sock_io.specs.Link.{OutState, InState, PutStep}
 use Rattle.seat_programs.specs.Parts.{part}
 use Rattle.sock_core.specs.Links.{LinksData}
 use Rattle.sock_core.specs.Machines.{TableState, table_sizes}
-use Rattle.sock_core.specs.Steps.{SameBase, Goes, Makes, IsNext, AskedAt, OutsAfter, left_behind, taken_behind}
+use Rattle.sock_core.specs.Steps.{SameBase, Goes, Makes, MadeFirst, IsNext, AskedAt, OutsAfter, left_behind, taken_behind}
 
 -- a list that was written whole
 pub written : {A : Type 0} (n : ℕ) (xs ys : List A) → length xs ≡ n → take n (xs ++ ys) ≡ xs
@@ -54,16 +55,17 @@ written (suc n) [] ys e = absurd (omega arith)
 written (suc n) (x ∷ xs) ys e = ap (λ (l : List _). x ∷ l) (written n xs ys (omega arith))
 
 -- the table as it lies in memory
-pub makes_along : {t u fresh : TableState} {i : ℕ} {seat seat' : SeatData} {step : Step} {answer : Answer} → t ≡ u → Makes t fresh i seat seat' step answer → Makes u fresh i seat seat' step answer
-makes_along {t} {u} {fresh} {i} {seat} {seat'} {step} {answer} e h = subst (λ (x : TableState). Makes x fresh i seat seat' step answer) e h
+pub makes_along : {t u fresh : TableState} {i : ℕ} {seat seat' : SeatData} {step : Step} {answer : Answer} → t ≡ u → MadeFirst t fresh i seat seat' step (step_as (around (table_sizes t) seat) step) answer → Makes u fresh i seat seat' step answer
+makes_along {t} {u} {fresh} {i} {seat} {seat'} {step} {answer} e h = subst (λ (x : TableState). Makes x fresh i seat seat' step answer) e (record { is = h })
 
--- the seat goes on with the program behind its step
-pub goes : {old fresh : TableState} {seat mid seat' : SeatData} {next : Program} {s : Sizes} (p : Program) → SameBase old fresh → s ≡ table_sizes old → FollowsOn s mid seat' p old.outcomes fresh.outcomes → mid.waiting ≡ seat.waiting → p ≡ next → Goes old fresh seat seat' next
-goes {old} {fresh} {seat} {mid} {seat'} {next} {s} p base sizes f same is = record {
+-- the seat goes on with the program behind its step, and the outcomes were written whole
+pub goes : {old fresh : TableState} {seat mid seat' : SeatData} {next : Program} {s : Sizes} {before behind : List (Option Outcome)} (p : Program) → SameBase old fresh → s ≡ table_sizes old → before ≡ old.outcomes → fresh.outcomes ≡ behind → FollowsOn s mid seat' p before behind
+    → mid.waiting ≡ seat.waiting → p ≡ next → Goes old fresh seat seat' next
+goes {old} {fresh} {seat} {mid} {seat'} {next} {s} p base sizes was wrote f same is = record {
   base = base;
   program = subst (λ (x : Sizes). seat_program x seat' ≡ next_step (resolved seat.waiting next)) sizes (f.next ∙ ap₂ (λ (w : List Retry) (q : Program). next_step (resolved w q)) same is);
   waiting = f.waiting ∙ ap₂ still_waiting same is;
-  told = f.told ∙ ap₂ (λ (w : List Retry) (q : Program). said (resolved w q) old.outcomes) same is;
+  told = wrote ∙ f.told ∙ ap (λ (os : List (Option Outcome)). said (resolved mid.waiting p) os) was ∙ ap₂ (λ (w : List Retry) (q : Program). said (resolved w q) old.outcomes) same is;
 }
 
 pub same_sizes : (s sizes : Sizes) (seat : SeatData) (f : Program → Program) → s ≡ sizes → f (point_program (around s seat) seat.point) ≡ f (seat_program sizes seat)

@@ -1,12 +1,14 @@
 -- A step aside of the sockets: what it finds, and how a seat goes on.
-use Rattle.std.proofs.Common.{◌≡◌, refl, ℕ, false, [], Some, ap, sym, ◌∙◌}
+use Rattle.std.proofs.Common.{◌≡◌, refl, ℕ, false, [], Some, ap, sym, ◌∙◌, subst}
 use mathlib.Core.Option as core
+use Rattle.corr_core.specs.declared.marks.Plan.{Plan as IdPlan}
 use Rattle.sock_message.specs.Asked.{Asked}
 use Rattle.seat_programs.specs.Asides as asides
 use Rattle.seat_programs.specs.Asides.{Step, Found, Bytes}
 use Rattle.seat_programs.specs.Beside.{calls_after}
 use Rattle.seat_programs.specs.Cores.{Calls}
 use Rattle.seat_programs.specs.Programs.{Program, Aside}
+use Rattle.seat_programs.specs.Ticks.{Unasked}
 use Rattle.sock_runs.specs.Sound.{first_step}
 use Rattle.call_slots.specs.Slots.{SlotState, calls_with}
 use Rattle.call_slots.specs.Steps as slots
@@ -17,14 +19,17 @@ use Rattle.call_points.specs.Steps as aside_steps
 use Rattle.call_points.specs.Steps.{after_word, after_call, word_behind, with_word}
 use Rattle.call_points.specs.declared.deciding.DecideStep.TheVariants as decides
 use Rattle.seat_states.specs.declared.point.RetryStep.TheVariants as retries
+use Rattle.seat_states.specs.declared.point.Step.TheVariants as firsts
 use Rattle.seat_states.specs.declared.point.Point.{Point}
 use Rattle.seat_states.specs.declared.point.Point.TheVariants as points
 use Rattle.seat_states.specs.Points.{Context, point_program, GoesByWord, TakesCall}
 use Rattle.seat_states.specs.Steps.{OfAside, first_in}
-use Rattle.sock_core.specs.Steps.{IsOnWord, FitsSlots}
-use Rattle.sock_core.specs.Machines.{TableState}
+use Rattle.client_seats.specs.Seats.{SeatData, seat_program, asked_of}
+use Rattle.sock_core.specs.Steps.{IsOnWord, FitsSlots, IsNext, Goes, Makes}
+use Rattle.sock_core.specs.Machines.{TableState, table_sizes}
 use Rattle.sock_core.proofs.FirstSteps.{IsBare, bare_first, after_first, step_is}
 use Rattle.sock_core.proofs.PointFacts.{GoesAside, goes_aside}
+use Rattle.sock_core.proofs.Stepping.{makes_along, next_along}
 
 -- ## A word that is found
 
@@ -127,3 +132,30 @@ plan_behind step (core.some found) a = plan_after step found a
 
 pub same_ids : (s s' : SlotState) (step : Step) (found : core.Option (Found step)) → slots.Makes s step found s' → s'.plan ≡ s.plan
 same_ids s s' step found m = ap (λ (c : Calls). c.plan) (m.changes [] [] false) ∙ plan_behind step found (calls_with s [] [] false)
+
+-- so do the slots that a table counts
+pub slots_kept : {n : ℕ} {s s' : SlotState} {step : Step} {found : core.Option (Found step)} → n ≡ s.plan.slots → slots.Makes s step found s' → n ≡ s'.plan.slots
+slots_kept {n} {s} {s'} {step} {found} e m = e ∙ ap (λ (p : IdPlan). p.slots) (sym (same_ids s s' step found m))
+
+-- ## A step that found a word is made
+
+pub made_aside : {t u fresh : TableState} {i : ℕ} {seat seat' : SeatData} (step : code.Aside) (word : ℕ) → t ≡ u → IsNext u seat (firsts.Aside step) → FindsWord (aside_steps.step_of (asked_of seat.call) step)
+    → slots.Makes t.ids (aside_steps.step_of (asked_of seat.call) step) (word_found (aside_steps.step_of (asked_of seat.call) step) word) fresh.ids → Goes t fresh seat seat' (after_word (seat_program (table_sizes t) seat) word)
+    → fresh.words ≡ t.words → fresh.letters ≡ t.letters → fresh.links ≡ t.links → fresh.ends ≡ t.ends → Makes u fresh i seat seat' (firsts.Aside step) Unasked
+made_aside {t} {u} {fresh} {i} {seat} {seat'} step word e n finds makes goes words letters links ends =
+    let aside = aside_steps.step_of (asked_of seat.call) step in
+    let next = behind_aside (seat_program (table_sizes t) seat) aside word (next_along seat (firsts.Aside step) e n) finds in
+    makes_along e (
+      refl,
+      record {
+        next = next.next;
+        is = next.is;
+        found = next.found;
+        ids = subst (λ (f : core.Option (Found aside)). slots.Makes t.ids aside f fresh.ids) next.found_is makes;
+        goes = subst (Goes t fresh seat seat') next.behind goes;
+        words = words;
+        letters = letters;
+        links = links;
+        ends = ends;
+      },
+    )
