@@ -136,13 +136,13 @@ module _ (p : Plan) (c : Core) where
 
 -- ## Ticks
 
-abbrev words_of : TableState → Core
+abbrev pub words_of : TableState → Core
 words_of t = record { words = t.words; homes = []; seats = []; outcomes = []; calls = beside t }
 
 next_is : (old : TableState) (seat : SeatData) (step step' : Step) → step ≡ step' → IsNext old seat step → IsNext old seat step'
 next_is old seat step step' e next = subst (λ (x : Step). IsNext old seat x) e next
 
-waits_for : (program : Program) (o : Option On) (on_ : On) → o ≡ Some on_ → IfSome o (IsWaitingFor program) → IsWaitingFor program on_
+pub waits_for : (program : Program) (o : Option On) (on_ : On) → o ≡ Some on_ → IfSome o (IsWaitingFor program) → IsWaitingFor program on_
 waits_for program o on_ some is = subst (λ (x : Option On). IfSome x (IsWaitingFor program)) some is
 
 call_waiting : (old : TableState) (seat : SeatData) (call : Call) (found : ℕ) (o : Option On) → IsNext old seat (firsts.Call call) → found ≡ found_at old.words (word_of old.plan (step_of call)) → is_some o ≡ waits_by (seat_program (table_sizes old) seat) found → is_waiting old Unasked (seat_program (table_sizes old) seat) ≡ is_some o
