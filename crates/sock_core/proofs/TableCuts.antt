@@ -16,6 +16,7 @@ use Rattle.sock_core.specs.Reading.{IsCutTable, IsCutShort, TakenFrom}
 use Rattle.sock_core.specs.Runs.{SameLink}
 use Rattle.sock_core.specs.Steps.{OutsAfter, holders_after}
 use Rattle.sock_core.proofs.Joining.{same_link_none}
+use Rattle.sock_core.proofs.Lengths.{length_holders, length_outs}
 
 -- a link that is the same
 each_same : (es es' : List LinkEnd) → es' ≡ es → (k : ℕ) (a b : LinkEnd) → slice_get es k ≡ Some a → slice_get es' k ≡ Some b → SameLink a b
@@ -34,12 +35,14 @@ cut_ids t u plan ids calls ending letters links ends outcomes = record {
   ids = ids;
   calls = calls;
   ending = ending;
-  letters = letters;
-  holders = ap (λ (l : LinksData). length l.holders) links;
-  nexts = ap (λ (l : LinksData). length l.nexts) links;
-  outs = ap (λ (l : LinksData). length l.outs) links;
-  inns = ap (λ (l : LinksData). length l.inns) links;
-  outcomes = outcomes;
+  many = record {
+    letters = letters;
+    holders = ap (λ (l : LinksData). length l.holders) links;
+    nexts = ap (λ (l : LinksData). length l.nexts) links;
+    outs = ap (λ (l : LinksData). length l.outs) links;
+    inns = ap (λ (l : LinksData). length l.inns) links;
+    outcomes = outcomes;
+  };
   as_many = ap length ends;
   each = each_same t.ends u.ends ends;
   always_ready = prompt_same t.links u.links (ap (λ (l : LinksData). l.outs) links);
@@ -54,12 +57,14 @@ cut_halves t u plan ids own ending letters holders nexts outs inns ends outcomes
   ids = ids;
   calls = own;
   ending = ending;
-  letters = letters;
-  holders = holders;
-  nexts = nexts;
-  outs = ap length outs;
-  inns = ap length inns;
-  outcomes = outcomes;
+  many = record {
+    letters = letters;
+    holders = holders;
+    nexts = nexts;
+    outs = ap length outs;
+    inns = ap length inns;
+    outcomes = outcomes;
+  };
   as_many = ap length ends;
   each = each_same t.ends u.ends ends;
   always_ready = prompt_same t.links u.links outs;
@@ -80,15 +85,6 @@ cut_along {s} {t} {u} e h = subst (λ (x : TableState). IsCutTable x u) e h
 
 -- ## Behind a step on a word
 
-holders_length : (i : ℕ) (call : calls.Call) (holders : List (Option ℕ)) → length (holders_after i call holders) ≡ length holders
-holders_length i (calls.TakeLink k) holders = length-set holders k (Some i)
-holders_length i (calls.PutLink k) holders = length-set holders k None
-holders_length i _ holders = refl
-
-outs_length : (call : calls.Call) (old fresh : List OutState) → OutsAfter call old fresh → length fresh ≡ length old
-outs_length (calls.FinishLink k) old fresh o = ap length o.3 ∙ length-set old k o.1
-outs_length _ old fresh o = ap length o
-
 prompt_set : (l l' : LinksData) (k : ℕ) (out out' : OutState) → get_elem? l.outs k ≡ core.some out → l'.outs ≡ slice_set l.outs k out' → out'.always_ready ≡ out.always_ready → AreAlwaysReady l → AreAlwaysReady l'
 prompt_set l l' k out out' at outs same always_ready j other there = ⊎_elim
     (λ a. subst (λ (o : OutState). o.always_ready ≡ true) a.1 (same ∙ always_ready k out at))
@@ -106,12 +102,14 @@ cut_call t u i call plan ids own ending letters holders nexts outs inns ends out
   ids = ids;
   calls = own;
   ending = ending;
-  letters = letters;
-  holders = ap length holders ∙ holders_length i call t.links.holders;
-  nexts = ap length nexts;
-  outs = outs_length call t.links.outs u.links.outs outs;
-  inns = ap length inns;
-  outcomes = outcomes;
+  many = record {
+    letters = letters;
+    holders = ap length holders ∙ length_holders i call t.links.holders;
+    nexts = ap length nexts;
+    outs = length_outs call t.links.outs u.links.outs outs;
+    inns = ap length inns;
+    outcomes = outcomes;
+  };
   as_many = ap length ends;
   each = each_same t.ends u.ends ends;
   always_ready = prompt_call call t.links u.links outs;
@@ -155,12 +153,14 @@ cut_take t u k n taking from plan ids own ending letters holders nexts outs outc
   ids = ids;
   calls = own;
   ending = ending;
-  letters = ap length letters;
-  holders = ap length holders;
-  nexts = ap length nexts;
-  outs = ap length outs;
-  inns = ap length from.inns_are ∙ length-set t.links.inns k from.inn';
-  outcomes = outcomes;
+  many = record {
+    letters = ap length letters;
+    holders = ap length holders;
+    nexts = ap length nexts;
+    outs = ap length outs;
+    inns = ap length from.inns_are ∙ length-set t.links.inns k from.inn';
+    outcomes = outcomes;
+  };
   as_many = ap length from.ends_are ∙ length-set t.ends k from.behind;
   each = each_set t.ends u.ends k from.before from.behind from.end_at from.ends_are from.same;
   always_ready = prompt_same t.links u.links outs;
@@ -177,14 +177,9 @@ cut_machine m fresh c short opens seats readers = record {
   calls = c.calls;
   ending = c.ending;
   opens = opens;
-  letters = c.letters;
-  holders = c.holders;
-  nexts = c.nexts;
-  outs = c.outs;
-  inns = c.inns;
+  many = c.many;
   seats = seats;
   readers = readers;
-  outcomes = c.outcomes;
   links = record { as_many = c.as_many; each = c.each; always_ready = c.always_ready; tell = c.tell };
 }
 

@@ -173,6 +173,15 @@ pub record IsSized (t : TableState) : Type 0 where
   pub outs_are : length t.links.outs ≡ t.plan.links
   pub inns_are : length t.links.inns ≡ t.plan.links
 
+-- as many letters, links and outcomes as before
+pub record AsMany (old fresh : TableState) : Type 0 where
+  pub letters : length fresh.letters ≡ length old.letters
+  pub holders : length fresh.links.holders ≡ length old.links.holders
+  pub nexts : length fresh.links.nexts ≡ length old.links.nexts
+  pub outs : length fresh.links.outs ≡ length old.links.outs
+  pub inns : length fresh.links.inns ≡ length old.links.inns
+  pub outcomes : length fresh.outcomes ≡ length old.outcomes
+
 -- ## What a step makes
 
 -- who has each link in hand, after a step that tells nothing
