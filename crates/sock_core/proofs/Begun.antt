@@ -110,7 +110,7 @@ item_last f xs x rest rest' all step is = ap (λ (l : List _). l ++ rest') (map_
 
 -- and where none is left these are all
 pub none_left : {B : Type 0} (xs rest all : List B) → xs ++ rest ≡ all → length rest ≡ 0 → xs ≡ all
-none_left xs [] all is none_ = sym (no_more xs) ∙ is
+none_left xs [] all is none_ = sym (append-nil xs) ∙ is
 none_left xs (y ∷ rest) all is none_ = absurd (omega (arith, none_))
 
 -- there are as many outcomes behind it
