@@ -1,15 +1,15 @@
-ghost use Rattle.std.specs.Prelude.{◌≡◌, ◌≢◌, ℕ, List, ◌+◌, ◌-◌, true, false, ◌<◌, ◌≤◌, [], Ok, IfOk, IfSome, OnOk, OnErr, IfErr, length, map, replicate, vec_len};
-ghost use Rattle.std.specs.List.{AllByRecursion};
+ghost use Rattle.std.specs.Prelude.{◌≡◌, ◌≢◌, ℕ, List, ◌+◌, ◌-◌, true, false, ◌<◌, ◌≤◌, [], Ok, IfOk, OnOk, OnErr, IfErr, length, map, vec_len};
 ghost use Rattle.brpc_model.specs.Link.{LinkEnd};
 ghost use Rattle.brpc_model.specs.Script.{script_of};
 ghost use Rattle.brpc_model.specs.Operations.{link_names};
 ghost use Rattle.sock_io.specs.Link.{OutState, InState, end_of};
-ghost use Rattle.seat_programs.specs.Scripts.{beginning, programs, readers_from, all_programs, set_up, sizes_of, place_words};
-ghost use Rattle.seat_programs.specs.Tasks.{plan_of, id_plan_of, opens, calls};
+ghost use Rattle.seat_programs.specs.Scripts.{beginning, programs, readers_from, all_programs, sizes_of, place_words};
+ghost use Rattle.seat_programs.specs.Tasks.{opens, calls};
 ghost use Rattle.sock_core.specs.Finish.{told_from};
 ghost use Rattle.run_theorems.specs.joint_runs.proofs.Starts.{AreFor};
+ghost use Rattle.sock_core.specs.Beginnings.{AreUnused, IsMade, IsOver};
 ghost use Rattle.sock_core.specs.Linkers.{SaysAsBefore};
-ghost use Rattle.sock_core.specs.Links.{Taken, Given, Agrees, AgreesGave, AreAlwaysReady, StayOffered, TellClosing};
+ghost use Rattle.sock_core.specs.Links.{Taken, Given, Agrees, AgreesGave};
 ghost use Rattle.sock_core.specs.Machines.{MOST_LEFT as most_left, HasSizes, core_with, ending_by};
 ghost use Rattle.sock_core.specs.Runs.{SameLinks, SameTable, Ticked, Led, Still, HasMoved, PlayedOn, RanFirst, Settled};
 ghost use Rattle.sock_core.specs.Driving.{LastsAtMost, LeavesFewer, Leaves, IsLast, IsOther, IsPlain, FirstRests, TickedFirst, told_ending};
@@ -402,20 +402,9 @@ impl<O: Out, I: In, P: Peer> Machine<O, I, P> {
     ) -> Result<Self, NotMade<O, I, P>>
         requires script { (bytes : List ℕ) × (script_of bytes ≡ Ok script.now) }
         requires links { length ends.items ≡ length (link_names script.now) }
-        requires fresh { AllByRecursion (λ (e : _). (O.state e.out).finished ≡ false) ends.items }
-        requires unused { AllByRecursion (λ (e : _). IfSome (O.state e.out).took (λ bytes. bytes ≡ [])) ends.items }
-        requires silent { AllByRecursion (λ (e : _). ((I.state e.inn).gave ≡ 0) × IfSome (I.state e.inn).gave_bytes (λ bytes. bytes ≡ [])) ends.items }
-        requires unclosed { AllByRecursion (λ (e : _). IfSome (I.state e.inn).closing (λ closing. closing ≡ false)) ends.items }
-        ensures plan { IfOk result (λ m. (m.plan ≡ plan_of script.now) × (m.ids.plan ≡ id_plan_of script.now)) }
-        ensures opens { IfOk result (λ m. (m.opens ≡ opens script.now) × (m.calls ≡ calls script.now)) }
-        ensures agrees { IfOk result (λ m. Agrees m.links (λ k. []) × AgreesGave m.links (λ k. [])) }
-        ensures core { IfOk result (λ m. (n : ℕ) × (core_with m (λ k. []) (λ k. []) ≡ set_up script.now n)) }
-        ensures rest { IfOk result FirstRests }
-        ensures enough { IfOk result (λ m. (m.short ≡ false) × (m.ending ≡ false)) }
-        ensures ends { IfOk result (λ m. m.ends ≡ map (λ (e : _). end_of (O.state e.out) (I.state e.inn)) ends.items) }
-        ensures outs { IfOk result (λ m. AllByRecursion (λ (e : _). (O.state e.out).always_ready ≡ true) ends.items → AreAlwaysReady m.links) }
-        ensures tell { IfOk result (λ m. AllByRecursion (λ (e : _). (I.state e.inn).closing ≢ None) ends.items → TellClosing m.links) }
-        ensures offers { IfOk result (λ m. StayOffered (map (λ (e : _). O.state e.out) ends.items) (map (λ (e : _). I.state e.inn) ends.items) m.links) }
+        requires unused { AreUnused (λ (e : _). O.state e.out) (λ (e : _). I.state e.inn) ends.items }
+        ensures made { IfOk result (IsMade script.now) }
+        ensures over { IfOk result (IsOver (λ (e : _). O.state e.out) (λ (e : _). I.state e.inn) ends.items) }
         ensures back { IfErr result (λ e. e.ends ≡ ends) }
     {
         let Ok(prepared) = Prepared::of(alloc, script) else {
@@ -432,20 +421,9 @@ impl<O: Out, I: In, P: Peer> Machine<O, I, P> {
     ) -> Result<Self, NotMade<O, I, P>>
         requires script { (bytes : List ℕ) × (script_of bytes ≡ Ok script) }
         requires links { length ends.items ≡ length (link_names script) }
-        requires fresh { AllByRecursion (λ (e : _). (O.state e.out).finished ≡ false) ends.items }
-        requires unused { AllByRecursion (λ (e : _). IfSome (O.state e.out).took (λ bytes. bytes ≡ [])) ends.items }
-        requires silent { AllByRecursion (λ (e : _). ((I.state e.inn).gave ≡ 0) × IfSome (I.state e.inn).gave_bytes (λ bytes. bytes ≡ [])) ends.items }
-        requires unclosed { AllByRecursion (λ (e : _). IfSome (I.state e.inn).closing (λ closing. closing ≡ false)) ends.items }
-        ensures plan { IfOk result (λ m. (m.plan ≡ plan_of script) × (m.ids.plan ≡ id_plan_of script)) }
-        ensures opens { IfOk result (λ m. (m.opens ≡ opens script) × (m.calls ≡ calls script)) }
-        ensures agrees { IfOk result (λ m. Agrees m.links (λ k. []) × AgreesGave m.links (λ k. [])) }
-        ensures core { IfOk result (λ m. (n : ℕ) × (core_with m (λ k. []) (λ k. []) ≡ set_up script n)) }
-        ensures rest { IfOk result FirstRests }
-        ensures enough { IfOk result (λ m. (m.short ≡ false) × (m.ending ≡ false)) }
-        ensures ends { IfOk result (λ m. m.ends ≡ map (λ (e : _). end_of (O.state e.out) (I.state e.inn)) ends.items) }
-        ensures outs { IfOk result (λ m. AllByRecursion (λ (e : _). (O.state e.out).always_ready ≡ true) ends.items → AreAlwaysReady m.links) }
-        ensures tell { IfOk result (λ m. AllByRecursion (λ (e : _). (I.state e.inn).closing ≢ None) ends.items → TellClosing m.links) }
-        ensures offers { IfOk result (λ m. StayOffered (map (λ (e : _). O.state e.out) ends.items) (map (λ (e : _). I.state e.inn) ends.items) m.links) }
+        requires unused { AreUnused (λ (e : _). O.state e.out) (λ (e : _). I.state e.inn) ends.items }
+        ensures made { IfOk result (IsMade script) }
+        ensures over { IfOk result (IsOver (λ (e : _). O.state e.out) (λ (e : _). I.state e.inn) ends.items) }
         ensures back { IfErr result (λ e. e.ends ≡ ends) }
     {
         let mut machine = Machine::start(alloc, script.into_wanted(), ends)?;
@@ -463,20 +441,13 @@ impl<O: Out, I: In, P: Peer> Machine<O, I, P> {
         requires for_ { AreFor wanted.plan wanted.id_plan (map (λ (tasks : _). tasks.items) wanted.clients.items) wanted.calls.items wanted.opens.items }
         requires seats { vec_len wanted.clients ≡ wanted.plan.seats }
         requires links { (vec_len ends ≡ wanted.plan.links) × (length wanted.opens.items ≡ wanted.plan.links) }
-        requires fresh { AllByRecursion (λ (e : _). (O.state e.out).finished ≡ false) ends.items }
-        requires unused { AllByRecursion (λ (e : _). IfSome (O.state e.out).took (λ bytes. bytes ≡ [])) ends.items }
-        requires silent { AllByRecursion (λ (e : _). ((I.state e.inn).gave ≡ 0) × IfSome (I.state e.inn).gave_bytes (λ bytes. bytes ≡ [])) ends.items }
-        requires unclosed { AllByRecursion (λ (e : _). IfSome (I.state e.inn).closing (λ closing. closing ≡ false)) ends.items }
+        requires unused { AreUnused (λ (e : _). O.state e.out) (λ (e : _). I.state e.inn) ends.items }
         ensures core { IfOk result (λ m. core_with m (λ k. []) (λ k. []) ≡ beginning wanted.plan wanted.id_plan (all_programs (programs (sizes_of wanted.plan wanted.id_plan) (map (λ (tasks : _). tasks.items) wanted.clients.items)) (readers_from wanted.calls.items 0 wanted.opens.items))) }
         ensures agrees { IfOk result (λ m. Agrees m.links (λ k. []) × AgreesGave m.links (λ k. [])) }
         ensures plain { IfOk result IsPlain }
         ensures plan { IfOk result (λ m. (m.plan ≡ wanted.plan) × (m.ids.plan ≡ wanted.id_plan)) }
         ensures opens { IfOk result (λ m. (m.opens ≡ wanted.opens.items) × (m.calls ≡ wanted.calls.items)) }
-        ensures enough { IfOk result (λ m. (m.short ≡ false) × (m.ending ≡ false)) }
-        ensures ends { IfOk result (λ m. m.ends ≡ map (λ (e : _). end_of (O.state e.out) (I.state e.inn)) ends.items) }
-        ensures outs { IfOk result (λ m. AllByRecursion (λ (e : _). (O.state e.out).always_ready ≡ true) ends.items → AreAlwaysReady m.links) }
-        ensures tell { IfOk result (λ m. AllByRecursion (λ (e : _). (I.state e.inn).closing ≢ None) ends.items → TellClosing m.links) }
-        ensures offers { IfOk result (λ m. StayOffered (map (λ (e : _). O.state e.out) ends.items) (map (λ (e : _). I.state e.inn) ends.items) m.links) }
+        ensures over { IfOk result (IsOver (λ (e : _). O.state e.out) (λ (e : _). I.state e.inn) ends.items) }
         ensures err { IfErr result (λ e. e.ends ≡ ends) }
     {
         let Wanted {
