@@ -4,7 +4,6 @@ ghost use Rattle.brpc_model.specs.Script.{script_of};
 ghost use Rattle.brpc_model.specs.Operations.{link_names};
 ghost use Rattle.sock_io.specs.Link.{OutState, InState, end_of};
 ghost use Rattle.seat_programs.specs.Scripts.{beginning, programs, readers_from, all_programs, sizes_of, place_words};
-ghost use Rattle.seat_programs.specs.Tasks.{opens, calls};
 ghost use Rattle.sock_core.specs.Finish.{told_from};
 ghost use Rattle.run_theorems.specs.joint_runs.proofs.Starts.{AreFor};
 ghost use Rattle.sock_core.specs.Beginnings.{AreUnused, IsMade, IsOver};
