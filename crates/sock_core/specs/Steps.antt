@@ -298,14 +298,3 @@ module _ (old fresh : TableState) (i : ℕ) (seat seat' : SeatData) where
 -- seat i makes this step
 pub record Makes (old fresh : TableState) (i : ℕ) (seat seat' : SeatData) (step : Step) (answer : Answer) : Type 0 where
   pub is : MadeFirst old fresh i seat seat' step (step_as (around (table_sizes old) seat) step) answer
-
--- a step of seat i, in which its link answered this
-pub record SteppedTo (old fresh : MachineState) (i : ℕ) (step : Step) (answer : Answer) : Type 0 where
-  pub seat : SeatData
-  pub at : get_elem? old.seats i ≡ core.some seat
-  pub seat' : SeatData
-  pub seats : fresh.seats ≡ slice_set old.seats i seat'
-  pub readers : fresh.readers ≡ old.readers
-  pub opens : fresh.opens ≡ old.opens
-  pub short : fresh.short ≡ old.short
-  pub made : MadeFirst (table_of old) (table_of fresh) i seat seat' step (step_as (around (machine_sizes old) seat) step) answer
