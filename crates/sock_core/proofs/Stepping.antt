@@ -45,7 +45,7 @@ use Rattle.sock_io.specs.Link.{OutState, InState, PutStep}
 use Rattle.seat_programs.specs.Parts.{part}
 use Rattle.sock_core.specs.Links.{LinksData}
 use Rattle.sock_core.specs.Machines.{TableState, table_sizes}
-use Rattle.sock_core.specs.Steps.{SameBase, Goes, Makes, MadeFirst, IsNext, AskedAt, OutsAfter, left_behind, taken_behind}
+use Rattle.sock_core.specs.Steps.{SameBase, Goes, Makes, MadeFirst, LinkAsked, IsNext, AskedAt, OutsAfter, left_behind, taken_behind}
 
 -- a list that was written whole
 pub written : {A : Type 0} (n : ℕ) (xs ys : List A) → length xs ≡ n → take n (xs ++ ys) ≡ xs
@@ -77,6 +77,11 @@ links_are os is e f = λ k. record { holders = e k; nexts = f k; outs = os; inns
 -- the step next to the table as it lies in memory
 pub next_along : {t u : TableState} (seat : SeatData) (step : Step) → t ≡ u → IsNext u seat step → first_in (seat_program (table_sizes t) seat) ≡ Some (step_as (around (table_sizes t) seat) step)
 next_along {t} {u} seat step e h = subst (λ (x : TableState). IsNext x seat step) (sym e) h
+
+-- the link was asked, and all but its writing half stays
+pub link_asked : {old fresh : TableState} {i : ℕ} {seat seat' : SeatData} {k : ℕ} {next : Program} {HasAnswered : OutState → OutState → Type 0} → Goes old fresh seat seat' next → AskedAt old.links.outs fresh.links.outs old.ends fresh.ends k HasAnswered
+    → fresh.words ≡ old.words → fresh.letters ≡ old.letters → fresh.links.holders ≡ old.links.holders → fresh.links.nexts ≡ old.links.nexts → fresh.ids ≡ old.ids → LinkAsked old fresh i seat seat' k next HasAnswered
+link_asked goes asked words letters holders nexts ids = record { goes = goes; words = words; letters = letters; holders = holders; nexts = nexts; ids = ids; asked = asked }
 
 -- links that were written whole
 pub asked_in : {A : Type 0} (f : A → OutState) (e : A → LinkEnd) {items before wrote news : List A} {k : ℕ} {HasAnswered : OutState → OutState → Type 0} → before ≡ items → wrote ≡ news → AskedAt (map f before) (map f news) (map e before) (map e news) k HasAnswered →

@@ -54,11 +54,10 @@ returns-clause-agrees g c =
 
 pub returns-clause-plain : goal.returns-clause-plain
 returns-clause-plain g c =
-    let clients = map (λ tasks. tasks.items) c.args.wanted.clients.items in
     let parts = c.in-Ok.ensures.parts c.args.wanted.calls.items in
     let l : LinksData = record { holders = c.in-Ok.parts.holders.items; nexts = c.in-Ok.parts.nexts.items; outs = map (λ e. g.O.Out.state e.out) c.args.ends.items; inns = map (λ e. g.I.In.state e.inn) c.args.ends.items } in
     let m : MachineState = machine_of_parts c.args.wanted.plan c.in-Ok.parts.words.items (letters_in c.in-Ok.parts.letters.items) l c.in-Ok.parts.ids c.args.wanted.calls.items (map seat_data c.in-Ok.parts.seats.items) c.in-Ok.parts.readers.items c.args.wanted.opens.items c.in-Ok.parts.outcomes.items (map (λ e. end_of (g.O.Out.state e.out) (g.I.In.state e.inn)) c.args.ends.items) in
-    begins_plain m c.args.wanted.plan c.args.wanted.id_plan clients refl (ap (λ (a : Calls). a.plan) (parts.ids_are 0)) c.requires.for_.are parts.seats_are
+    begins_plain m c.args.wanted.plan c.args.wanted.id_plan (map (λ tasks. tasks.items) c.args.wanted.clients.items) refl (ap (λ (a : Calls). a.plan) (parts.ids_are 0)) c.requires.for_.are parts.seats_are
 
 pub returns-clause-plan : goal.returns-clause-plan
 returns-clause-plan g c = (refl, ap (λ (a : Calls). a.plan) ((c.in-Ok.ensures.parts c.args.wanted.calls.items).ids_are 0))
