@@ -89,7 +89,7 @@ module _ (p : Plan) (c : Core) where
   waits_is (Write (heads.Walks h top at after) then_) = (refl, λ puts. absurd puts)
   waits_is (Round (Posts id e w) next) = λ found h. refl
   waits_is (Round (Unlocks i w advance) next) = λ found h. refl
-  waits_is (Round (Decides id asked w e) next) = elim (ends_call (parts w) e) as (λ (ends : Bool). WaitsIs (first_of (if ends then end_id (id_slot id) (next (HasEnded asked.operation (code_of e))) else Aside (PutCall (id_slot id) asked) (λ _. Round (Unlocks (id_slot id) w true) (unlocked (record { id = id; attempt = (parts w).attempt + 1 }) next)))) (Round (Decides id asked w e) next)) [ true ↦ λ found h. refl | false ↦ λ found h. refl ]
+  waits_is (Round (Decides id asked w e) next) = elim (ends_call (parts w) e) as (λ (ends : Bool). WaitsIs (first_of (if ends then end_id (id_slot id) (next (HasEnded asked.operation (code_of e))) else Aside (PutCall (id_slot id) asked) (λ _. Round (Unlocks (id_slot id) w true) (unlocked (record { id = id; attempt = (parts w).attempt + 1 }) next)))) (Round (Decides id asked w e) next)) [ true ↦ (λ found h. refl) | false ↦ (λ found h. refl) ]
   waits_is (Round (Locks i sought None) next) = λ found h. ap (λ (w : ℕ). is_sought sought (parts w) && not ((parts w).state == 1)) (core.some-injective _ found h)
   waits_is (Round (Locks i sought (Some w)) next) = λ found h. refl
   waits_is (Round (Joins id) next) = λ found h. ap (λ (w : ℕ). is_first (id_first id) (parts w)) (core.some-injective _ found h)
