@@ -68,6 +68,7 @@ MayMake p l i (OfLink k) = MayTake p l i k
 MayMake p l i (OfHome k n) = MayAsk p l i k
 MayMake p l i (kinds.OfPut k asked bytes) = MayAsk p l i k
 MayMake p l i (kinds.OfReady k) = MayAsk p l i k
+
 -- a step of seat i, in which its link answered this, over links that had taken and given that: a tick
 pub record SteppedWith (old fresh : MachineState) (i : ℕ) (answer : Answer) (took : Taken) (gave : Given) : Type 0 where
   pub later : Taken

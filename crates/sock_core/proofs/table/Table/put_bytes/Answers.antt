@@ -30,15 +30,15 @@ returns-clause-ok g c seat_number asked =
       put,
       refl,
       link_asked
-      (goes (next_program (around c.sizes.result (record seat { out = Some (outgoing_of c.put_bytes-answer.new.out) })) c.put_answered-next.result)
-      (record { plan = refl; id_plan = refl; calls = refl; ending = refl; inns = ap (map (λ e. g.I.In.state e.inn)) ends ∙ c.put_bytes-answer.ensures.inns ∙ ap (map (λ e. g.I.In.state e.inn)) c.deref_mut.ensures.value })
-      c.sizes.ensures c.deref_mut-2.ensures.value (written c.self.inside.outcomes.len c.follow.new.outcomes _ (omega (arith, c.self.inside.outcomes.ok))) c.follow.ensures refl
-      (put_is c.sizes.result (sizes_of c.self.inside.plan c.self.inside.ids.plan) seat (Some (outgoing_of c.put_bytes-answer.new.out)) c.put_answered-next.result put c.put_bytes-answer.result.1 c.sizes.ensures
-      (c.put_bytes-answer.ensures.left ∙ sym (ap (λ o. left_behind put (left_of o)) is))
-      (c.put_bytes-answer.ensures.taken ∙ sym (ap (λ o. taken_behind put (taken_of o)) is))
-      (c.put_bytes-answer.ensures.parts ∙ sym (ap left_parts_of is))
-      (c.put_bytes-answer.ensures.whole ∙ sym (ap (λ o. is_whole (left_of o) put) is))
-      c.put_answered-next.ensures.program))
-      (asked_in (λ e. g.O.Out.state e.out) (λ e. end_of (g.O.Out.state e.out) (g.I.In.state e.inn)) c.deref_mut.ensures.value ends (asked_bytes (sym (put_part seat.out out c.args.author is (c.is_of.ensures c.if-not-is_of.false))) c.put_bytes-answer.ensures.outs))
-      refl refl refl refl refl,
+          (goes (next_program (around c.sizes.result (record seat { out = Some (outgoing_of c.put_bytes-answer.new.out) })) c.put_answered-next.result)
+          (record { plan = refl; id_plan = refl; calls = refl; ending = refl; inns = ap (map (λ e. g.I.In.state e.inn)) ends ∙ c.put_bytes-answer.ensures.inns ∙ ap (map (λ e. g.I.In.state e.inn)) c.deref_mut.ensures.value })
+          c.sizes.ensures c.deref_mut-2.ensures.value (written c.self.inside.outcomes.len c.follow.new.outcomes _ (omega (arith, c.self.inside.outcomes.ok))) c.follow.ensures refl
+          (put_is c.sizes.result (sizes_of c.self.inside.plan c.self.inside.ids.plan) seat (Some (outgoing_of c.put_bytes-answer.new.out)) c.put_answered-next.result put c.put_bytes-answer.result.1 c.sizes.ensures
+          (c.put_bytes-answer.ensures.left ∙ sym (ap (λ o. left_behind put (left_of o)) is))
+          (c.put_bytes-answer.ensures.taken ∙ sym (ap (λ o. taken_behind put (taken_of o)) is))
+          (c.put_bytes-answer.ensures.parts ∙ sym (ap left_parts_of is))
+          (c.put_bytes-answer.ensures.whole ∙ sym (ap (λ o. is_whole (left_of o) put) is))
+          c.put_answered-next.ensures.program))
+          (asked_in (λ e. g.O.Out.state e.out) (λ e. end_of (g.O.Out.state e.out) (g.I.In.state e.inn)) c.deref_mut.ensures.value ends (asked_bytes (sym (put_part seat.out out c.args.author is (c.is_of.ensures c.if-not-is_of.false))) c.put_bytes-answer.ensures.outs))
+          refl refl refl refl refl,
     )
