@@ -11,7 +11,7 @@ give_back-requires-clause-numbered g c κs within = numbered_later c.args.machin
 
 pub give_back-requires-clause-opened : goal.give_back-requires-clause-opened
 give_back-requires-clause-opened g c κs within =
-    ap length c.play-played.ensures.asked ∙ c.requires.opened ∙ sym (count_later (λ e. end_of (g.L.O.Out.state e.out) (g.L.I.In.state e.inn)) c.args.machine c.play-played.new.machine c.finish-outcomes.result.ends.items c.play-played.ensures.ends c.finish-outcomes.ensures.ends)
+    ap length c.play-played.ensures.says.asked ∙ c.requires.opened ∙ sym (count_later (λ e. end_of (g.L.O.Out.state e.out) (g.L.I.In.state e.inn)) c.args.machine c.play-played.new.machine c.finish-outcomes.result.ends.items c.play-played.ensures.ends c.finish-outcomes.ensures.ends)
 
 pub give_back-requires-clause-few : goal.give_back-requires-clause-few
 give_back-requires-clause-few g c κs within =

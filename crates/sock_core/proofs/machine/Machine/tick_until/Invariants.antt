@@ -1,4 +1,4 @@
-use Rattle.sock_core.proofs.Linkers.{SaysAsBefore}
+use Rattle.sock_core.specs.Linkers.{SaysAsBefore}
 use Rattle.sock_core.proofs.Endings.{PassedSoFar}
 use Rattle.sock_core.proofs.machine.Machine.tick_until.Given as goal
 
