@@ -1,4 +1,4 @@
-use Rattle.std.proofs.Common.{ap, sym, subst, ◌∙◌}
+use Rattle.std.proofs.Common.{ap, sym, subst, ◌∙◌, arith}
 use Rattle.std.proofs.lemmas.List.{length-map}
 use Rattle.std.proofs.lemmas.List.Sorted.{All-permutation}
 use Rattle.sock_table.specs.Passes.{IsPass}
@@ -10,6 +10,9 @@ use Rattle.call_run.specs.Threads.{opens_of}
 use Rattle.call_run.specs.Hired.{IsNewId, AreHired}
 use Rattle.call_run.proofs.Manning.{enough, share}
 use Rattle.call_run.proofs.running.crew_of.Goals as goal
+
+pub next_seats-seat-requires : goal.next_seats-seat-requires
+next_seats-seat-requires g c = let many = c.requires.as_many in let a = many.0 in let b = many.1 in (omega arith, omega arith)
 
 pub hire-main-requires-clause-enough : goal.hire-main-requires-clause-enough
 hire-main-requires-clause-enough g c = enough c.args.tables.now.socks.rule.plan c.args.tables.now.ids.plan c.args.cast.main.tasks.items c.args.cast.rooms.items c.args.passes.items c.reverse.new.self.items c.requires.links c.requires.may c.reverse.ensures.items
