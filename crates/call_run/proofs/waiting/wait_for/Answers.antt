@@ -17,6 +17,9 @@ waits-preserved g c = let p = c.args.table.now.rule.plan in let w = c.waits.inva
       };
     }
 
+pub find-requires-clause-seat : goal.find-requires-clause-seat
+find-requires-clause-seat g c = c.waits.invariant.still.idle.seat
+
 pub returns-in-Some-find-clause-rest : goal.returns-in-Some-find-clause-rest
 returns-in-Some-find-clause-rest g c = let z = c.args.table.now.rule.table.shared.table_id in let p = c.args.table.now.rule.plan in let w = c.waits.invariant.still in let e = c.find.ensures in
     rest_waited z p c.args.seat.now c.waits.seat c.find.new.seat w (rest_same z p c.waits.seat c.find.new.seat w.idle e.seat e.slots (e.between w.idle.between) e.same)

@@ -18,6 +18,9 @@ waits-preserved g c = let w = c.waits.invariant.still in let e = c.noted.ensures
   };
 }
 
+pub noted-requires-clause-seat : goal.noted-requires-clause-seat
+noted-requires-clause-seat g c = c.waits.invariant.still.idle.seat
+
 pub returns-in-Id-clause-rest : goal.returns-in-Id-clause-rest
 returns-in-Id-clause-rest g c = let z = c.args.table.now.rule.table.shared.table_id in let p = c.args.table.now.rule.plan in let w = c.waits.invariant.still in let e = c.noted.ensures in
     rest_waited z p c.args.seat.now c.waits.seat c.noted.new.seat w (rest_same z p c.waits.seat c.noted.new.seat w.idle e.seat e.slots (e.between w.idle.between) e.same)
