@@ -22,6 +22,8 @@ use Rattle.sock_rule.specs.Shows.{heading_of}
 use Rattle.sock_rule.specs.declared.homes.Letter.{Letter}
 use Rattle.sock_model.specs.SlotRows.{marks_of}
 use Rattle.sock_model.specs.Weights.{is_ref}
+use Rattle.sock_rule.specs.Seated.{IsSeat}
+use Rattle.sock_table.specs.Refs.{IsBetween, SameTokens}
 use Rattle.sock_table.specs.Answers.{LinkOf}
 use Rattle.sock_table.specs.Named.{Found}
 use Rattle.sock_table.specs.declared.refs.SockRef.{SockRef}
@@ -34,17 +36,19 @@ use Rattle.id_rule.specs.Lawful.{tokens_in, with_kept}
 use Rattle.corr_id.specs.Seats.{Sits, Stays, IsFree}
 use Rattle.corr_id.proofs.Testing.{sits_on}
 use Rattle.sock_message.specs.Asked.{Asked}
-use Rattle.call_errors.specs.rpc_client.specs.Seats.{StaysSeen, SameRefs, OneMore}
+use Rattle.call_errors.specs.rpc_client.specs.Seats.{MayAct, StaysSeen, SameRefs, OneMore}
 use Rattle.call_errors.specs.rpc_client.specs.Acting.{OwnList}
 use Rattle.call_errors.specs.rpc_client.specs.Sending as sending
 use Rattle.call_errors.specs.rpc_client.proofs.Counting as counting
 use Rattle.call_errors.specs.rpc_client.proofs.Counting.{same_refs, refs_then, refs_none, then_more, given, gone_refs, finds_refs}
-use Rattle.call_errors.specs.rpc_client.proofs.Finding.{seen_same, seen_then, seen_became, seen_found}
+use Rattle.call_errors.specs.rpc_client.proofs.Finding.{rest_same, rest_then, seen_same, seen_then, seen_became, seen_found}
 use Rattle.call_errors.specs.rpc_client.proofs.Delivering.{accepted_refs, delivered_refs, delivered_share, delivered_seen, came_lists}
 use Rattle.call_errors.specs.declared.seats.CallSeat.{CallSeat}
 use Rattle.call_errors.specs.declared.retries.Retry.{Retry}
-use Rattle.call_errors.specs.Books.{Books, books_of, stand_of, starving}
-use Rattle.call_attempts.specs.Both.{Both, both, wanting, HasNoLock}
+use Rattle.call_errors.specs.Books.{Books, books_of, stand_of, starving, KeepsSeat}
+use Rattle.call_errors.proofs.Keeping.{keeps_then}
+use Rattle.call_writes.specs.Sending.{Rested}
+use Rattle.call_attempts.specs.Both.{Both, both, wanting}
 use Rattle.call_attempts.specs.Retrying.{TookNext, without_oldest, RetriedBy, GaveUp, Retried, one_more, RetriedAll, RanOut, for_frame, before_next}
 use Rattle.message_parts.specs.Parcels.{parcel_of}
 use Rattle.call_writes.proofs.Drains.{drained_refs, drained_same}
@@ -236,17 +240,31 @@ own_keeps n v w k o = record { made = o.made; taken_in = o.taken_in; lists = k.l
 pub none_keeps : (v : View) → Keeps v v
 none_keeps v = record { refs = record { refs = λ i. refl; lives = λ i h. refl }; seen = λ x h. h; share = refl; lists = refl }
 
+-- ## Both seats
+
+pub keeps_same : (z : TableId) (c d e : CallSeat) → KeepsSeat z c d → e.seat ≡ d.seat → KeepsSeat z c e
+keeps_same z c d e k same = record {
+  stays = subst (λ (s : Seat (Maybe Asked) (id_view.View Asked)). Stays c.seat s) (sym same) k.stays;
+  ids = subst (λ (s : Seat (Maybe Asked) (id_view.View Asked)). Sits z s × IsFree s.me.0) (sym same) k.ids;
+}
+
+module _ {S : Type 0} (z : TableId) (p : Plan) (y : TableId) where
+  -- nothing was done at the table of sockets
+  pub rested_still : (s : Seat S View) (c d : CallSeat) → MayAct z p s → KeepsSeat y c d → Rested z p y s s c d
+  rested_still s c d may keeps = let k = none_keeps s.me.0 in record { rest = record { idle = may.idle; share = refl }; refs = k.refs; seen = k.seen; keeps = keeps }
+
+  -- a name was read there
+  pub rested_found : (s t : Seat S View) (c d : CallSeat) → MayAct z p s → IsSeat z p t → t.me.1 ≡ s.me.1 → (IsBetween p s.me.0 → IsBetween p t.me.0) → SameTokens p s.me.0 t.me.0 → Keeps s.me.0 t.me.0 → KeepsSeat y c d → Rested z p y s t c d
+  rested_found s t c d may seat slots between same k keeps = record { rest = rest_same z p s t may.idle seat slots (between may.idle.between) same; refs = k.refs; seen = k.seen; keeps = keeps }
+
+  -- and what else the client has for calls changed
+  pub rested_same : (s t : Seat S View) (c d e : CallSeat) → Rested z p y s t c d → e.seat ≡ d.seat → Rested z p y s t c e
+  rested_same s t c d e r same = record { rest = r.rest; refs = r.refs; seen = r.seen; keeps = keeps_same y c d e r.keeps same }
+
+  pub rested_then : (s t u : Seat S View) (c d e : CallSeat) → Rested z p y s t c d → Rested z p y t u d e → Rested z p y s u c e
+  rested_then s t u c d e a b = record { rest = rest_then z p s t u a.rest b.rest; refs = refs_then s.me.0 t.me.0 u.me.0 a.refs b.refs; seen = seen_then s.me.0 t.me.0 u.me.0 a.seen b.seen; keeps = keeps_then y c d e a.keeps b.keeps }
+
 -- ## A client between two retries
-
-pub no_lock_same : (z : TableId) (c d : CallSeat) → d.seat ≡ c.seat → HasNoLock z c → HasNoLock z d
-no_lock_same z c d e h = subst (λ (s : Seat (Maybe Asked) (id_view.View Asked)). Sits z s × IsFree s.me.0) (sym e) h
-
--- a retry was taken out between the two
-pub stays_by : (c d e f : CallSeat) → Stays c.seat d.seat → e.seat ≡ d.seat → Stays e.seat f.seat → Stays c.seat f.seat
-stays_by c d e f a same b = let m = subst (λ (s : Seat (Maybe Asked) (id_view.View Asked)). Stays c.seat s) (sym same) a in (b.0 ∙ m.0, b.1 ∙ m.1, b.2 ∙ m.2)
-
-pub stays_then : (c d e : CallSeat) → Stays c.seat d.seat → e.seat ≡ d.seat → Stays c.seat e.seat
-stays_then c d e a same = subst (λ (s : Seat (Maybe Asked) (id_view.View Asked)). Stays c.seat s) (sym same) a
 
 pub own_room : (n : ℕ) (v : View) → OwnList n v → n < 33554431 → HasRoom v
 own_room n v o lt = record { made = o.made; taken_in = o.taken_in; lists = o.lists; room = (let few = o.few in omega arith) }

@@ -1,9 +1,7 @@
 -- What a client has at both tables.
 use Rattle.std.specs.Prelude.{◌≡◌, ℕ, ◌<◌, ◌≤◌, Some}
-use Rattle.atomic_table.specs.Seated.{TableId}
 use Rattle.corr_core.specs.Law.{LAST}
 use Rattle.corr_core.specs.declared.marks.Plan.{Plan}
-use Rattle.corr_id.specs.Seats.{Sits, IsFree}
 use Rattle.corr_id.specs.Calls.{slot_of, version_of}
 use Rattle.sock_model.specs.declared.view.View.{View}
 use Rattle.call_errors.specs.declared.seats.CallSeat.{CallSeat}
@@ -17,10 +15,6 @@ pub record Both : Type 0 where
 
 abbrev pub both : View → CallSeat → Both
 both v c = record { socks = v; calls = stand_of c }
-
--- its seat of the ids is one of this table, and has no lock
-abbrev pub HasNoLock : TableId → CallSeat → Type 0
-HasNoLock z c = Sits z c.seat × IsFree c.seat.me.0
 
 -- the id of a call in a slot of this table
 pub record IsCallId (q : Plan) (id : ℕ) : Type 0 where

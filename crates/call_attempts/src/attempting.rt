@@ -6,11 +6,12 @@ ghost use Rattle.sock_model.specs.SlotRows.{marks_of};
 ghost use Rattle.sock_table.specs.Answers.{Holds};
 ghost use Rattle.sock_table.specs.Refs.{Knows};
 ghost use Rattle.write_chain.specs.Sending.{HasRoom};
-ghost use Rattle.corr_id.specs.Seats.{Stays};
-ghost use Rattle.call_errors.specs.rpc_client.specs.Seats.{Idle, MayAct, AtRest, StaysSeen, SameRefs};
+ghost use Rattle.call_errors.specs.rpc_client.specs.Seats.{Idle, MayAct, AtRest};
 ghost use Rattle.call_errors.specs.rpc_client.specs.Acting.{OwnList};
 ghost use Rattle.call_errors.specs.rpc_client.specs.Sending.{RefusedHolds};
-ghost use Rattle.call_attempts.specs.Both.{both, HasNoLock, IsCallId};
+ghost use Rattle.call_errors.specs.Books.{HasNoLock, KeepsSeat};
+ghost use Rattle.call_writes.specs.Sending.{Rested};
+ghost use Rattle.call_attempts.specs.Both.{both, IsCallId};
 ghost use Rattle.call_attempts.specs.Attempting.{RefusedFor, DeliveredBy, AttemptedBy};
 
 use crate::tables::Tables;
@@ -35,8 +36,7 @@ fn refuse_frame<O: Out, R: Wait>(
     requires held { RefusedHolds tables.now.socks.rule.plan refused seat.old.me.0 }
     requires ids { HasNoLock tables.now.ids.table.shared.table_id calls.old }
     ensures rest { AtRest tables.now.socks.rule.table.shared.table_id tables.now.socks.rule.plan seat.old seat.new }
-    ensures ids { HasNoLock tables.now.ids.table.shared.table_id calls.new }
-    ensures same { Stays calls.old.seat calls.new.seat }
+    ensures keeps { KeepsSeat tables.now.ids.table.shared.table_id calls.old calls.new }
     ensures by { RefusedFor tables.now.ids.plan refused (both seat.old.me.0 calls.old) (both seat.new.me.0 calls.new) }
 {
     match refused {
@@ -71,8 +71,7 @@ fn deliver_frame<O: Out, R: Wait>(
     requires label { msg.label.place < 8 * tables.now.socks.rule.plan.operations }
     requires ids { HasNoLock tables.now.ids.table.shared.table_id calls.old }
     ensures idle { Idle tables.now.socks.rule.table.shared.table_id tables.now.socks.rule.plan seat.new }
-    ensures ids { HasNoLock tables.now.ids.table.shared.table_id calls.new }
-    ensures same { Stays calls.old.seat calls.new.seat }
+    ensures keeps { KeepsSeat tables.now.ids.table.shared.table_id calls.old calls.new }
     ensures by { DeliveredBy O.state tables.now.socks.rule.plan tables.now.ids.plan sock.id msg (both seat.old.me.0 calls.old) (both seat.new.me.0 calls.new) }
 {
     match start(&tables.socks, seat, sock, msg) {
@@ -101,12 +100,8 @@ pub fn attempt_one<O: Out, R: Wait>(
     requires operation { msg.label.operation < tables.now.ids.plan.operations }
     requires id { IsCallId tables.now.ids.plan msg.owner }
     requires label { msg.label.place < 8 * tables.now.socks.rule.plan.operations }
-    ensures rest { AtRest tables.now.socks.rule.table.shared.table_id tables.now.socks.rule.plan seat.old seat.new }
-    ensures ids { HasNoLock tables.now.ids.table.shared.table_id calls.new }
-    ensures same { Stays calls.old.seat calls.new.seat }
+    ensures rested { Rested tables.now.socks.rule.table.shared.table_id tables.now.socks.rule.plan tables.now.ids.table.shared.table_id seat.old seat.new calls.old calls.new }
     ensures by { AttemptedBy O.state tables.now.socks.rule.plan tables.now.ids.plan socket msg (both seat.old.me.0 calls.old) (both seat.new.me.0 calls.new) }
-    ensures refs { SameRefs seat.old.me.0 seat.new.me.0 }
-    ensures seen { StaysSeen seat.old.me.0 seat.new.me.0 }
     ensures own { (n : ℕ) → OwnList n seat.old.me.0 → OwnList (n + 1) seat.new.me.0 }
 {
     let attempt = msg.label.attempt;

@@ -2,10 +2,11 @@
 ghost use Rattle.std.specs.Prelude.{◌≡◌, ◌+◌, ◌<◌, ℕ, IfOk, IfErr};
 ghost use Rattle.sock_message.specs.Asked.{name_of};
 ghost use Rattle.write_chain.specs.Sending.{HasRoom};
-ghost use Rattle.corr_id.specs.Seats.{Stays};
-ghost use Rattle.call_errors.specs.rpc_client.specs.Seats.{MayAct, AtRest, StaysSeen, SameRefs};
+ghost use Rattle.call_errors.specs.rpc_client.specs.Seats.{MayAct};
 ghost use Rattle.call_errors.specs.rpc_client.specs.Acting.{OwnList};
-ghost use Rattle.call_attempts.specs.Both.{both, HasNoLock};
+ghost use Rattle.call_errors.specs.Books.{HasNoLock};
+ghost use Rattle.call_writes.specs.Sending.{Rested};
+ghost use Rattle.call_attempts.specs.Both.{both};
 ghost use Rattle.call_attempts.specs.Calling.{CalledBy, WantedBy};
 
 use crate::attempting::attempt_one;
@@ -44,13 +45,9 @@ pub fn call_one<O: Out, R: Wait>(
     requires ids { HasNoLock tables.now.ids.table.shared.table_id calls.old }
     requires name { name_of call 0 < tables.now.socks.rule.plan.names }
     requires operation { (call.operation < tables.now.socks.rule.plan.operations) × (call.operation < tables.now.ids.plan.operations) }
-    ensures rest { AtRest tables.now.socks.rule.table.shared.table_id tables.now.socks.rule.plan seat.old seat.new }
-    ensures ids { HasNoLock tables.now.ids.table.shared.table_id calls.new }
-    ensures same { Stays calls.old.seat calls.new.seat }
+    ensures rested { Rested tables.now.socks.rule.table.shared.table_id tables.now.socks.rule.plan tables.now.ids.table.shared.table_id seat.old seat.new calls.old calls.new }
     ensures by { IfOk result (λ c. CalledBy O.state tables.now.socks.rule.plan tables.now.ids.plan call c (both seat.old.me.0 calls.old) (both seat.new.me.0 calls.new)) }
     ensures wanted { IfErr result (λ _. WantedBy O.state tables.now.socks.rule.plan tables.now.ids.plan call (both seat.old.me.0 calls.old) (both seat.new.me.0 calls.new)) }
-    ensures refs { SameRefs seat.old.me.0 seat.new.me.0 }
-    ensures seen { StaysSeen seat.old.me.0 seat.new.me.0 }
     ensures own { (n : ℕ) → OwnList n seat.old.me.0 → OwnList (n + 1) seat.new.me.0 }
 {
     let Some(socket) = tables.socks.find(seat, call.name(0)) else {

@@ -1,11 +1,11 @@
 // Retries that a client keeps.
 ghost use Rattle.std.specs.Prelude.{◌≡◌, ◌+◌, ◌*◌, ◌<◌, ◌≤◌, ◌⊎◌, ℕ, true, false, IfOk, IfErr};
 ghost use Rattle.write_chain.specs.Sending.{HasRoom};
-ghost use Rattle.corr_id.specs.Seats.{Stays};
-ghost use Rattle.call_errors.specs.rpc_client.specs.Seats.{MayAct, AtRest, StaysSeen, SameRefs};
+ghost use Rattle.call_errors.specs.rpc_client.specs.Seats.{MayAct};
 ghost use Rattle.call_errors.specs.rpc_client.specs.Acting.{OwnList};
-ghost use Rattle.call_attempts.specs.Both.{both, HasNoLock, IsCallId};
-ghost use Rattle.call_errors.specs.Books.{books_of, starving};
+ghost use Rattle.call_errors.specs.Books.{books_of, starving, HasNoLock};
+ghost use Rattle.call_writes.specs.Sending.{Rested};
+ghost use Rattle.call_attempts.specs.Both.{both, IsCallId};
 ghost use Rattle.call_attempts.specs.Retrying.{IsStray, IsAtHome, TookNext, WentTo, RetriedBy, GaveUp, RetriedAll, RanOut};
 
 use crate::attempting::attempt_one;
@@ -47,12 +47,8 @@ fn go_to<O: Out, R: Wait>(
     requires ids { HasNoLock tables.now.ids.table.shared.table_id calls.old }
     requires id { IsCallId tables.now.ids.plan msg.owner }
     requires place { msg.label.place ≡ 8 * msg.label.operation + msg.label.attempt }
-    ensures rest { AtRest tables.now.socks.rule.table.shared.table_id tables.now.socks.rule.plan seat.old seat.new }
-    ensures ids { HasNoLock tables.now.ids.table.shared.table_id calls.new }
-    ensures same { Stays calls.old.seat calls.new.seat }
+    ensures rested { Rested tables.now.socks.rule.table.shared.table_id tables.now.socks.rule.plan tables.now.ids.table.shared.table_id seat.old seat.new calls.old calls.new }
     ensures by { WentTo O.state tables.now.socks.rule.plan tables.now.ids.plan name msg (both seat.old.me.0 calls.old) (both seat.new.me.0 calls.new) }
-    ensures refs { SameRefs seat.old.me.0 seat.new.me.0 }
-    ensures seen { StaysSeen seat.old.me.0 seat.new.me.0 }
     ensures own { (n : ℕ) → OwnList n seat.old.me.0 → OwnList (n + 1) seat.new.me.0 }
 {
     let attempt = Some(msg.label.attempt);
@@ -83,13 +79,9 @@ pub fn retry_one<O: Out, R: Wait>(
     requires may { MayAct tables.now.socks.rule.table.shared.table_id tables.now.socks.rule.plan seat.old }
     requires room { HasRoom seat.old.me.0 }
     requires ids { HasNoLock tables.now.ids.table.shared.table_id calls.old }
-    ensures rest { AtRest tables.now.socks.rule.table.shared.table_id tables.now.socks.rule.plan seat.old seat.new }
-    ensures ids { HasNoLock tables.now.ids.table.shared.table_id calls.new }
-    ensures same { Stays calls.old.seat calls.new.seat }
+    ensures rested { Rested tables.now.socks.rule.table.shared.table_id tables.now.socks.rule.plan tables.now.ids.table.shared.table_id seat.old seat.new calls.old calls.new }
     ensures by { IfOk result (λ _. RetriedBy O.state tables.now.socks.rule.plan tables.now.ids.plan retry (both seat.old.me.0 calls.old) (both seat.new.me.0 calls.new)) }
     ensures gave_up { IfErr result (λ _. GaveUp O.state tables.now.socks.rule.plan tables.now.ids.plan retry (both seat.old.me.0 calls.old) (both seat.new.me.0 calls.new)) }
-    ensures refs { SameRefs seat.old.me.0 seat.new.me.0 }
-    ensures seen { StaysSeen seat.old.me.0 seat.new.me.0 }
     ensures own { (n : ℕ) → OwnList n seat.old.me.0 → OwnList (n + 1) seat.new.me.0 }
 {
     let Retry { id, attempt: n } = retry;
@@ -151,14 +143,10 @@ pub fn retry_all<O: Out, R: Wait>(
     requires may { MayAct tables.now.socks.rule.table.shared.table_id tables.now.socks.rule.plan seat.old }
     requires own { OwnList sent.old seat.old.me.0 }
     requires ids { HasNoLock tables.now.ids.table.shared.table_id calls.old }
-    ensures rest { AtRest tables.now.socks.rule.table.shared.table_id tables.now.socks.rule.plan seat.old seat.new }
+    ensures rested { Rested tables.now.socks.rule.table.shared.table_id tables.now.socks.rule.plan tables.now.ids.table.shared.table_id seat.old seat.new calls.old calls.new }
     ensures own { OwnList sent.new seat.new.me.0 }
-    ensures ids { HasNoLock tables.now.ids.table.shared.table_id calls.new }
-    ensures same { Stays calls.old.seat calls.new.seat }
     ensures all { IfOk result (λ _. RetriedAll O.state tables.now.socks.rule.plan tables.now.ids.plan (both seat.old.me.0 calls.old) (both seat.new.me.0 calls.new)) }
     ensures ran_out { IfErr result (λ _. RanOut O.state tables.now.socks.rule.plan tables.now.ids.plan sent.new (both seat.old.me.0 calls.old) (both seat.new.me.0 calls.new)) }
-    ensures refs { SameRefs seat.old.me.0 seat.new.me.0 }
-    ensures seen { StaysSeen seat.old.me.0 seat.new.me.0 }
 {
     'retries: for _ in rt.forever() {
         let Some(retry) = next_retry(calls, *sent)? else {

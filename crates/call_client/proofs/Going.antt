@@ -23,9 +23,8 @@ use Rattle.rpc_client.specs.Holding.{is_there, IsHolder, HeldBy, DroppedBy}
 use Rattle.rpc_client.specs.Acting.{OwnList}
 use Rattle.rpc_client.proofs.Counting.{holder_same}
 use Rattle.rpc_client.proofs.Going.{sent_own, new_idle, new_holder, new_own}
-use Rattle.call_errors.specs.Books.{CallStand}
+use Rattle.call_errors.specs.Books.{CallStand, HasNoLock}
 use Rattle.call_attempts.specs.call_writes.specs.Sending.{SentCalling}
-use Rattle.call_attempts.specs.Both.{HasNoLock}
 use Rattle.call_client.specs.declared.caller.Caller.{Caller}
 use Rattle.call_client.specs.Acting.{MayGo}
 use Rattle.call_client.proofs.Knowing.{sent_plainly}

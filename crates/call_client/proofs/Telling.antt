@@ -9,7 +9,7 @@ use Rattle.seat_programs.specs.declared.task.Task.{Task}
 use Rattle.corr_core.specs.Word.{Parts, parts}
 use Rattle.corr_core.specs.Law.{total, is_ended}
 use Rattle.corr_core.specs.declared.marks.Note.{Note}
-use Rattle.corr_core.specs.declared.marks.Note.TheVariants.{Tried, Made, Ended, Locker, Queued, Attempt, Saw}
+use Rattle.corr_core.specs.declared.marks.Note.TheVariants.{Made, Locker, Attempt}
 use Rattle.corr_core.specs.declared.marks.Noted.{Noted}
 use Rattle.corr_core.specs.declared.marks.Plan as id_plan
 use Rattle.corr_core.specs.declared.marks.Token.{Token}
@@ -27,7 +27,7 @@ use Rattle.call_errors.specs.Ending.{EndedWith, failed}
 use Rattle.call_errors.specs.Handling.{Decided}
 use Rattle.call_errors.specs.Handling as handling
 use Rattle.call_errors.specs.Posting.{Handled}
-use Rattle.call_errors.proofs.Accounts.{told_ends, noted_ends, Accounts, accounts_ended, accounts_then, decided_accounts, posted_accounts}
+use Rattle.call_errors.proofs.Accounts.{told_ends, noted_ends, quiet_note, Accounts, accounts_ended, accounts_then, decided_accounts, posted_accounts}
 use Rattle.call_client.specs.declared.caller.Caller.{Caller}
 use Rattle.call_client.specs.Running.{RunBy}
 use Rattle.call_client.proofs.Changes.{Sees, keeps, finds, makes, locks, unlocks, Changes, same, in_turn, sees, ends, decides, posts, wants, shelves, run_changes}
@@ -67,27 +67,18 @@ module _ {C : Type 0} (g : Note C → ℕ) (silent : (n : Note C) → is_event n
 
 -- ## No call ended by what the seat noted
 
-ended_silent : (f : ℕ) (n : Note Asked) → is_event n ≡ false → is_ended f n ≡ 0
-ended_silent f Tried e = refl
-ended_silent f (Saw w) e = refl
-ended_silent f (Made a b c) e = refl
-ended_silent f (Ended g y) e = let k : true ≡ false = e in cc
-ended_silent f (Locker g c) e = refl
-ended_silent f (Queued g d) e = refl
-ended_silent f (Attempt g n) e = refl
-
 did_ends : (at : ℕ) (v w : View Asked) (ts : List (Token Asked)) (es : List (Noted Asked)) → Did at v w ts es → ((i f : ℕ) → total (is_ended f) (notes_of i es) ≡ 0) → (i f : ℕ) → noted_ends i f w ≡ noted_ends i f v
-did_ends at v w ts es d none i f = let a = did_total (is_ended f) (ended_silent f) at v w ts es d i in let b = none i f in omega arith
+did_ends at v w ts es d none i f = let a = did_total (is_ended f) (quiet_note f) at v w ts es d i in let b = none i f in omega arith
 
 advance_ends : (at : ℕ) (p q : Parts) (i f : ℕ) → total (is_ended f) (notes_of i (advance_note {C = Asked} at p q)) ≡ 0
 advance_ends at p q i f = elim (eqb p.attempt q.attempt) as (λ b. total (is_ended f) (notes_of i (cond b [] (one {C = Asked} at (Attempt p.first q.attempt)))) ≡ 0)
-    [ true ↦ refl | false ↦ none_of_one (is_ended f) (ended_silent f) at (Attempt p.first q.attempt) refl i ]
+    [ true ↦ refl | false ↦ none_of_one (is_ended f) (quiet_note f) at (Attempt p.first q.attempt) refl i ]
 
 sees_ends : {xs : List Task} {v w : View Asked} → Sees xs v w → (i f : ℕ) → noted_ends i f w ≡ noted_ends i f v
 sees_ends (keeps v w place own word e) i f = ap (λ (y : View Asked). noted_ends i f y) e
-sees_ends (finds v w q) i f = quiet_total (is_ended f) (ended_silent f) v w q i
-sees_ends (makes v w slots id asked own m) i f = did_ends (slot_of id) v w _ _ m.did (λ j h. none_of_one (is_ended h) (ended_silent h) (slot_of id) (Made (version_of id) asked.range asked) refl j) i f
-sees_ends (locks v w slots version k g) i f = did_ends k.slot v w _ _ g.got.did (λ j h. none_of_one (is_ended h) (ended_silent h) k.slot (Locker (parts k.word.0).first k.content) refl j) i f
+sees_ends (finds v w q) i f = quiet_total (is_ended f) (quiet_note f) v w q i
+sees_ends (makes v w slots id asked own m) i f = did_ends (slot_of id) v w _ _ m.did (λ j h. none_of_one (is_ended h) (quiet_note h) (slot_of id) (Made (version_of id) asked.range asked) refl j) i f
+sees_ends (locks v w slots version k g) i f = did_ends k.slot v w _ _ g.got.did (λ j h. none_of_one (is_ended h) (quiet_note h) k.slot (Locker (parts k.word.0).first k.content) refl j) i f
 sees_ends (unlocks v w k advance Open u) i f = did_ends k.slot v w _ _ u.4 (advance_ends k.slot (parts k.word.0) u.1) i f
 sees_ends (unlocks v w k advance (Next l code attempt) u) i f = did_ends k.slot v w _ _ u.3 (advance_ends k.slot (parts k.word.0) (parts l.word.0)) i f
 

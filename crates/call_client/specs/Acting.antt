@@ -25,11 +25,11 @@ use Rattle.rpc_client.specs.Opening.{OpenedBy}
 use Rattle.rpc_client.specs.Holding.{IsHolder, HeldBy, DroppedBy}
 use Rattle.rpc_client.specs.Failing.{FailedBy}
 use Rattle.rpc_client.specs.Acting.{OwnList}
-use Rattle.call_errors.specs.Books.{CallStand, stand_of}
+use Rattle.call_errors.specs.Books.{CallStand, stand_of, HasNoLock}
 use Rattle.call_errors.specs.Asking.{ExpiredBy, JoinedBy}
 use Rattle.call_attempts.specs.call_writes.specs.Sending.{SentCalling}
 use Rattle.call_attempts.specs.declared.calling.Called.TheVariants as called
-use Rattle.call_attempts.specs.Both.{Both, HasNoLock}
+use Rattle.call_attempts.specs.Both.{Both}
 use Rattle.call_attempts.specs.Calling.{CalledBy}
 use Rattle.call_attempts.specs.Letters.{attempt_label}
 use Rattle.call_client.specs.declared.caller.Caller.{Caller}

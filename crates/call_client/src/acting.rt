@@ -5,9 +5,8 @@ ghost use Rattle.sock_message.specs.Asked.{name_of};
 ghost use Rattle.corr_id.specs.Seats.{Stays};
 ghost use Rattle.rpc_client.specs.Seats.{MayAct, AtRest, StaysSeen, SameRefs};
 ghost use Rattle.rpc_client.specs.Acting.{OwnList};
-ghost use Rattle.call_errors.specs.Books.{stand_of};
-ghost use Rattle.call_attempts.specs.call_writes.specs.Sending.{SentCalling};
-ghost use Rattle.call_attempts.specs.Both.{HasNoLock};
+ghost use Rattle.call_errors.specs.Books.{stand_of, HasNoLock};
+ghost use Rattle.call_attempts.specs.call_writes.specs.Sending.{SentCalling, Rested};
 ghost use Rattle.call_client.specs.Acting.{letter_of, stand, OpenedNext, MayGo, Needs, Acted};
 ghost use Rattle.call_client.specs.Running.{NotCalled};
 ghost use Rattle.call_client.specs.Making.{NotMade};
@@ -76,13 +75,9 @@ fn send_message<O: Out, R: Wait>(
     requires ids { HasNoLock tables.now.ids.table.shared.table_id caller.old.calls }
     requires name { name < tables.now.socks.rule.plan.names }
     requires number { number < tables.now.socks.rule.plan.operations }
-    ensures rest { AtRest tables.now.socks.rule.table.shared.table_id tables.now.socks.rule.plan caller.old.seat caller.new.seat }
+    ensures rested { Rested tables.now.socks.rule.table.shared.table_id tables.now.socks.rule.plan tables.now.ids.table.shared.table_id caller.old.seat caller.new.seat caller.old.calls caller.new.calls }
     ensures own { OwnList caller.new.sent caller.new.seat.me.0 }
-    ensures ids { HasNoLock tables.now.ids.table.shared.table_id caller.new.calls }
-    ensures same { Stays caller.old.calls.seat caller.new.calls.seat }
     ensures by { SentCalling O.state tables.now.socks.rule.plan tables.now.ids.plan.slots name (letter_of number message) result caller.old.seat.me.0 (stand_of caller.old.calls) caller.new.seat.me.0 (stand_of caller.new.calls) }
-    ensures refs { SameRefs caller.old.seat.me.0 caller.new.seat.me.0 }
-    ensures seen { StaysSeen caller.old.seat.me.0 caller.new.seat.me.0 }
     ensures others { (caller.new.held ≡ caller.old.held) × (caller.new.passes ≡ caller.old.passes) × (caller.new.outcomes ≡ caller.old.outcomes) }
 {
     let msg = send_letter(number, message);
@@ -111,14 +106,10 @@ fn begin_call<O: Out, R: Wait>(
     requires ids { HasNoLock tables.now.ids.table.shared.table_id caller.old.calls }
     requires name { name_of call 0 < tables.now.socks.rule.plan.names }
     requires operation { (call.operation < tables.now.socks.rule.plan.operations) × (call.operation < tables.now.ids.plan.operations) }
-    ensures rest { AtRest tables.now.socks.rule.table.shared.table_id tables.now.socks.rule.plan caller.old.seat caller.new.seat }
+    ensures rested { Rested tables.now.socks.rule.table.shared.table_id tables.now.socks.rule.plan tables.now.ids.table.shared.table_id caller.old.seat caller.new.seat caller.old.calls caller.new.calls }
     ensures own { OwnList caller.new.sent caller.new.seat.me.0 }
-    ensures ids { HasNoLock tables.now.ids.table.shared.table_id caller.new.calls }
-    ensures same { Stays caller.old.calls.seat caller.new.calls.seat }
     ensures called { IfOk result (λ o. (number : ℕ) → Acted O.state tables.now.socks.rule.plan tables.now.ids.plan number (Op.Call call) o (stand caller.old) (stand caller.new)) }
     ensures not_called { IfErr result (λ _. NotCalled O.state tables.now.socks.rule.plan tables.now.ids.plan call (stand caller.old) (stand caller.new)) }
-    ensures refs { SameRefs caller.old.seat.me.0 caller.new.seat.me.0 }
-    ensures seen { StaysSeen caller.old.seat.me.0 caller.new.seat.me.0 }
     ensures others { (caller.new.held ≡ caller.old.held) × (caller.new.passes ≡ caller.old.passes) × (caller.new.outcomes ≡ caller.old.outcomes) }
 {
     caller.sent += 1;

@@ -7,8 +7,7 @@ ghost use Rattle.sock_table.specs.Passes.{IsPass};
 ghost use Rattle.sock_table.specs.Closed.{IsDoneSeat};
 ghost use Rattle.call_attempts.specs.sock_open.specs.Made.{IsNewSeat};
 ghost use Rattle.corr_id.specs.Seats.{Sits, Stays, IsFree};
-ghost use Rattle.call_errors.specs.Books.{books_of};
-ghost use Rattle.call_attempts.specs.Both.{HasNoLock};
+ghost use Rattle.call_errors.specs.Books.{books_of, HasNoLock};
 ghost use Rattle.call_client.specs.Acting.{MayGo};
 ghost use Rattle.call_client.specs.Running.{MayMakeAll, RunBy};
 

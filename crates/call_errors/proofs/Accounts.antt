@@ -57,7 +57,8 @@ Accounts s t = (t.books.starved ≡ true) ⊎ Accounted s t
 
 -- ## Notes
 
-quiet_note : (f : ℕ) (n : Note Asked) → is_event n ≡ false → is_ended f n ≡ 0
+-- a note that is no event is no end
+pub quiet_note : (f : ℕ) (n : Note Asked) → is_event n ≡ false → is_ended f n ≡ 0
 quiet_note f Tried e = refl
 quiet_note f (Saw w) e = refl
 quiet_note f (Made a b c) e = refl

@@ -1,6 +1,8 @@
 -- What stays as errors of calls are handled: what the seat keeps of operations, the seats for which it stands, and each of its notes.
 use Rattle.std.proofs.Common.{◌≡◌, ℕ, ◌≤◌, List, [], ◌∷◌, ◌++◌, refl, ◌∙◌, ap, sym, subst, arith}
 use Rattle.std.specs.Prelude.{Option as Maybe}
+use Rattle.atomic_table.specs.Seated.{TableId}
+use Rattle.atomic_table.specs.declared.shared.Seat.{Seat}
 use Rattle.corr_core.specs.Law.{total}
 use Rattle.corr_core.specs.declared.marks.Note.{Note}
 use Rattle.corr_core.specs.declared.marks.Noted.{Noted}
@@ -15,12 +17,24 @@ use Rattle.corr_id.specs.declared.unlocks.Unlocked.{Unlocked}
 use Rattle.corr_id.specs.declared.unlocks.Unlocked.TheVariants.{Open, Next}
 use Rattle.corr_id.specs.Calls.{Became, Did, Quiet}
 use Rattle.corr_id.specs.Posts.{PostOk}
+use Rattle.corr_id.specs.Seats.{Stays}
 use Rattle.corr_id.proofs.Seats.{total_append, notes_append}
 use Rattle.call_errors.specs.declared.retries.Retry.{Retry}
-use Rattle.call_errors.specs.Books.{CallStand}
+use Rattle.call_errors.specs.declared.seats.CallSeat.{CallSeat}
+use Rattle.call_errors.specs.Books.{CallStand, HasNoLock, KeepsSeat}
 use Rattle.call_errors.specs.Handling.{Advanced, Decided, ends, starves, waits, goes_on}
 use Rattle.call_errors.specs.Posting.{Handled, PostedBy}
 use Rattle.call_errors.specs.Starving.{GivenUp, was_gone, ended, AllGivenUp, StarvedBy}
+
+-- the same seat behind one step and the next
+pub stays_then : (s t u : Seat (Maybe Asked) (View Asked)) → Stays s t → Stays t u → Stays s u
+stays_then s t u a b = (b.0 ∙ a.0, b.1 ∙ a.1, b.2 ∙ a.2)
+
+pub keeps_none : (z : TableId) (c : CallSeat) → HasNoLock z c → KeepsSeat z c c
+keeps_none z c has = record { stays = (refl, refl, refl); ids = has }
+
+pub keeps_then : (z : TableId) (c d e : CallSeat) → KeepsSeat z c d → KeepsSeat z d e → KeepsSeat z c e
+keeps_then z c d e a b = record { stays = stays_then c.seat d.seat e.seat a.stays b.stays; ids = b.ids }
 
 -- a later view of the same seat
 pub record Behind (v w : View Asked) : Type 0 where

@@ -1,7 +1,9 @@
 -- What a client knows of calls: by its seat, and by its own books.
 use Rattle.std.specs.Prelude.{◌≡◌, ◌≢◌, ℕ, Bool, true, List, [], ◌∷◌, ◌++◌}
+use Rattle.atomic_table.specs.Seated.{TableId}
 use Rattle.corr_core.specs.declared.marks.View.{View}
 use Rattle.corr_id.specs.id_rule.specs.Lawful.{tokens_in}
+use Rattle.corr_id.specs.Seats.{Sits, Stays, IsFree}
 use Rattle.sock_message.specs.Asked.{Asked}
 use Rattle.rpc_client.specs.declared.acting.Told.{Told}
 use Rattle.call_errors.specs.declared.seats.CallSeat.{CallSeat}
@@ -22,6 +24,15 @@ pub record CallStand : Type 0 where
 
 abbrev pub stand_of : CallSeat → CallStand
 stand_of c = record { view = c.seat.me.0; books = books_of c }
+
+-- its seat of the ids is one of this table, and has no lock
+abbrev pub HasNoLock : TableId → CallSeat → Type 0
+HasNoLock z c = Sits z c.seat × IsFree c.seat.me.0
+
+-- behind a step it is the same seat, and has no lock again
+pub record KeepsSeat (z : TableId) (c d : CallSeat) : Type 0 where
+  pub stays : Stays c.seat d.seat
+  pub ids : HasNoLock z d
 
 -- memory is wanting from here on
 abbrev pub starving : Books → Books

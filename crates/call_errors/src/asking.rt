@@ -1,7 +1,6 @@
 // What a client asks of a call, by its operation.
 ghost use Rattle.std.specs.Prelude.{◌<◌};
-ghost use Rattle.corr_id.specs.Seats.{Sits, Stays, IsFree};
-ghost use Rattle.call_errors.specs.Books.{stand_of};
+ghost use Rattle.call_errors.specs.Books.{stand_of, HasNoLock, KeepsSeat};
 ghost use Rattle.call_errors.specs.Asking.{ExpiredBy, JoinedBy};
 
 use crate::handling::handle;
@@ -18,12 +17,9 @@ pub fn expire_one<R: Wait>(
     calls: &mut CallSeat,
     operation: u16,
 ) -> Outcome
-    requires seat { Sits ids.now.table.shared.table_id calls.old.seat }
-    requires free { IsFree calls.old.seat.me.0 }
+    requires ids { HasNoLock ids.now.table.shared.table_id calls.old }
     requires operation { operation < ids.now.plan.operations }
-    ensures seat { Stays calls.old.seat calls.new.seat }
-    ensures sits { Sits ids.now.table.shared.table_id calls.new.seat }
-    ensures free { IsFree calls.new.seat.me.0 }
+    ensures keeps { KeepsSeat ids.now.table.shared.table_id calls.old calls.new }
     ensures expired { ExpiredBy ids.now.plan operation result (stand_of calls.old) (stand_of calls.new) }
 {
     let Some(id) = ids.noted(&mut calls.seat, operation) else {
@@ -48,12 +44,9 @@ pub fn join_one<R: Wait>(
     calls: &mut CallSeat,
     operation: u16,
 ) -> Outcome
-    requires seat { Sits ids.now.table.shared.table_id calls.old.seat }
-    requires free { IsFree calls.old.seat.me.0 }
+    requires ids { HasNoLock ids.now.table.shared.table_id calls.old }
     requires operation { operation < ids.now.plan.operations }
-    ensures seat { Stays calls.old.seat calls.new.seat }
-    ensures sits { Sits ids.now.table.shared.table_id calls.new.seat }
-    ensures free { IsFree calls.new.seat.me.0 }
+    ensures keeps { KeepsSeat ids.now.table.shared.table_id calls.old calls.new }
     ensures joined { JoinedBy ids.now.plan operation result (stand_of calls.old) (stand_of calls.new) }
 {
     let Some(id) = ids.noted(&mut calls.seat, operation) else {

@@ -1,7 +1,6 @@
 // An error that is posted to the id of a call.
 ghost use Rattle.std.specs.Prelude.{◌≤◌, MatchOption};
-ghost use Rattle.corr_id.specs.Seats.{Sits, Stays, IsFree};
-ghost use Rattle.call_errors.specs.Books.{stand_of};
+ghost use Rattle.call_errors.specs.Books.{stand_of, HasNoLock, KeepsSeat};
 ghost use Rattle.call_errors.specs.Posting.{PostedBy};
 
 use crate::handling::handle;
@@ -20,13 +19,10 @@ pub fn post_error<R: Wait>(
     code: u16,
     attempt: Option<u8>,
 )
-    requires seat { Sits ids.now.table.shared.table_id calls.old.seat }
-    requires free { IsFree calls.old.seat.me.0 }
+    requires ids { HasNoLock ids.now.table.shared.table_id calls.old }
     requires code { (1 ≤ code) × (code ≤ 4095) }
     requires attempt { MatchOption attempt (Unit {0}) (λ n. n ≤ 6) }
-    ensures seat { Stays calls.old.seat calls.new.seat }
-    ensures sits { Sits ids.now.table.shared.table_id calls.new.seat }
-    ensures free { IsFree calls.new.seat.me.0 }
+    ensures keeps { KeepsSeat ids.now.table.shared.table_id calls.old calls.new }
     ensures posted { PostedBy ids.now.plan.slots (stand_of calls.old) id code attempt (stand_of calls.new) }
 {
     match ids.post(rt, &mut calls.seat, id, code, attempt) {

@@ -1,7 +1,6 @@
 // The retries that wait are given up for want of memory.
 ghost use Rattle.std.specs.Prelude.{◌≡◌};
-ghost use Rattle.corr_id.specs.Seats.{Sits, Stays, IsFree};
-ghost use Rattle.call_errors.specs.Books.{stand_of};
+ghost use Rattle.call_errors.specs.Books.{stand_of, HasNoLock, KeepsSeat};
 ghost use Rattle.call_errors.specs.Starving.{GivenUp, StarvedBy};
 
 use crate::ending::end_call;
@@ -15,11 +14,8 @@ use std::sync::Wait;
 
 /// The call with this id ends for want of memory, unless it has ended.
 pub fn give_up<R: Wait>(rt: &R, ids: &IdTable<Call>, calls: &mut CallSeat, id: u64)
-    requires seat { Sits ids.now.table.shared.table_id calls.old.seat }
-    requires free { IsFree calls.old.seat.me.0 }
-    ensures seat { Stays calls.old.seat calls.new.seat }
-    ensures sits { Sits ids.now.table.shared.table_id calls.new.seat }
-    ensures free { IsFree calls.new.seat.me.0 }
+    requires ids { HasNoLock ids.now.table.shared.table_id calls.old }
+    ensures keeps { KeepsSeat ids.now.table.shared.table_id calls.old calls.new }
     ensures given_up { GivenUp ids.now.plan.slots id (stand_of calls.old) (stand_of calls.new) }
 {
     if let Ok(lock) = ids.lock(rt, &mut calls.seat, id) {
@@ -29,11 +25,8 @@ pub fn give_up<R: Wait>(rt: &R, ids: &IdTable<Call>, calls: &mut CallSeat, id: u
 
 /// Memory is wanting: each call whose retry waits ends with that, unless it has ended.
 pub fn starve<R: Wait>(rt: &R, ids: &IdTable<Call>, calls: &mut CallSeat)
-    requires seat { Sits ids.now.table.shared.table_id calls.old.seat }
-    requires free { IsFree calls.old.seat.me.0 }
-    ensures seat { Stays calls.old.seat calls.new.seat }
-    ensures sits { Sits ids.now.table.shared.table_id calls.new.seat }
-    ensures free { IsFree calls.new.seat.me.0 }
+    requires ids { HasNoLock ids.now.table.shared.table_id calls.old }
+    ensures keeps { KeepsSeat ids.now.table.shared.table_id calls.old calls.new }
     ensures starved { StarvedBy ids.now.plan.slots (stand_of calls.old) (stand_of calls.new) }
 {
     calls.starved = true;

@@ -7,7 +7,7 @@ use Rattle.sock_words.specs.declared.plain.Plan.{Plan}
 use Rattle.sock_table.specs.Closed.{IsDoneSeat}
 use Rattle.corr_core.specs.declared.marks.Plan as id_plan
 use Rattle.corr_id.specs.Seats.{Stays}
-use Rattle.call_client.specs.call_attempts.specs.Both.{HasNoLock}
+use Rattle.call_client.specs.call_errors.specs.Books.{HasNoLock}
 use Rattle.call_client.specs.declared.caller.Caller.{Caller}
 use Rattle.call_client.specs.Acting.{MayGo}
 use Rattle.call_client.specs.Running.{MayMakeAll, RunBy}

@@ -1,5 +1,7 @@
 -- What becomes of a message of a client that has calls.
 use Rattle.std.specs.Prelude.{◌≡◌, ◌⊎◌, ℕ, List, [], ◌∷◌, Option, Some, None}
+use Rattle.atomic_table.specs.Seated.{TableId}
+use Rattle.atomic_table.specs.declared.shared.Seat.{Seat}
 use Rattle.sock_io.specs.Link.{OutState}
 use Rattle.sock_words.specs.declared.plain.Plan.{Plan}
 use Rattle.sock_words.specs.declared.outcome.Outcome.{Outcome}
@@ -16,9 +18,18 @@ use Rattle.write_chain.specs.declared.entry.Refused.TheVariants as refused
 use Rattle.write_chain.specs.Sending.{Accepted}
 use Rattle.call_errors.specs.rpc_client.specs.declared.reaching.Reached.TheVariants as reached
 use Rattle.call_errors.specs.rpc_client.specs.Reaching.{ReachedBy}
+use Rattle.call_errors.specs.rpc_client.specs.Seats.{AtRest, StaysSeen, SameRefs}
 use Rattle.call_errors.specs.rpc_client.specs.Sending.{Returned, CameBack}
-use Rattle.call_errors.specs.Books.{CallStand}
+use Rattle.call_errors.specs.declared.seats.CallSeat.{CallSeat}
+use Rattle.call_errors.specs.Books.{CallStand, KeepsSeat}
 use Rattle.call_writes.specs.Draining.{Drained}
+
+-- a client behind a step at both tables: its seat of the sockets is at rest, with the same references and all that it had seen, and that of the ids has no lock
+pub record Rested {S : Type 0} (z : TableId) (p : Plan) (y : TableId) (s t : Seat S View) (c d : CallSeat) : Type 0 where
+  pub rest : AtRest z p s t
+  pub refs : SameRefs s.me.0 t.me.0
+  pub seen : StaysSeen s.me.0 t.me.0
+  pub keeps : KeepsSeat y c d
 
 module _ {O : Type 0} (state : O → OutState) (p : Plan) (slots : ℕ) where
   -- whoever had the right wrote, and told calls what was dropped; and the reference was given back

@@ -2,8 +2,7 @@
 ghost use Rattle.std.specs.Prelude.{◌≡◌, ◌≤◌};
 ghost use Rattle.sock_rule.specs.Seated.{IsSeat};
 ghost use Rattle.write_chain.specs.Writing.{MayBegin, MayGoOn, GaveUp};
-ghost use Rattle.corr_id.specs.Seats.{Sits, Stays, IsFree};
-ghost use Rattle.call_errors.specs.Books.{stand_of};
+ghost use Rattle.call_errors.specs.Books.{stand_of, HasNoLock, KeepsSeat};
 ghost use Rattle.call_writes.specs.Draining.{ToldDrop, Drained};
 
 use call_errors::{CallSeat, post_error};
@@ -24,12 +23,9 @@ fn tell_dropped<R: Wait>(
     msg: Undelivered,
     code: u16,
 )
-    requires calls { Sits ids.now.table.shared.table_id calls.old.seat }
-    requires free { IsFree calls.old.seat.me.0 }
+    requires ids { HasNoLock ids.now.table.shared.table_id calls.old }
     requires code { (1 ≤ code) × (code ≤ 4095) }
-    ensures stays { Stays calls.old.seat calls.new.seat }
-    ensures calls { Sits ids.now.table.shared.table_id calls.new.seat }
-    ensures free { IsFree calls.new.seat.me.0 }
+    ensures keeps { KeepsSeat ids.now.table.shared.table_id calls.old calls.new }
     ensures told { ToldDrop ids.now.plan.slots msg code (stand_of calls.old) (stand_of calls.new) }
 {
     if msg.owner == 0 {
@@ -51,13 +47,10 @@ fn drain<O: Out, R: Wait>(
 ) -> SockRef
     requires seat { IsSeat table.now.rule.table.shared.table_id table.now.rule.plan seat.old }
     requires may { MayGoOn table.now.rule.plan table.now.rule.ways.list right seat.old.me }
-    requires calls { Sits ids.now.table.shared.table_id calls.old.seat }
-    requires free { IsFree calls.old.seat.me.0 }
+    requires ids { HasNoLock ids.now.table.shared.table_id calls.old }
     ensures seat { IsSeat table.now.rule.table.shared.table_id table.now.rule.plan seat.new }
     ensures gave { (result ≡ right.sock) × GaveUp table.now.rule.plan right.sock.id.0 seat.new.me }
-    ensures stays { Stays calls.old.seat calls.new.seat }
-    ensures calls { Sits ids.now.table.shared.table_id calls.new.seat }
-    ensures free { IsFree calls.new.seat.me.0 }
+    ensures keeps { KeepsSeat ids.now.table.shared.table_id calls.old calls.new }
     ensures drained { Drained O.state table.now.rule.plan ids.now.plan.slots right.sock.id.0 seat.old.me.0 (stand_of calls.old) seat.new.me.0 (stand_of calls.new) }
 {
     'drops: for _ in rt.forever() {
@@ -89,13 +82,10 @@ pub fn write_through<O: Out, R: Wait>(
 ) -> SockRef
     requires seat { IsSeat table.now.rule.table.shared.table_id table.now.rule.plan seat.old }
     requires may { MayBegin table.now.rule.plan right seat.old.me }
-    requires calls { Sits ids.now.table.shared.table_id calls.old.seat }
-    requires free { IsFree calls.old.seat.me.0 }
+    requires ids { HasNoLock ids.now.table.shared.table_id calls.old }
     ensures seat { IsSeat table.now.rule.table.shared.table_id table.now.rule.plan seat.new }
     ensures gave { (result ≡ right.sock) × GaveUp table.now.rule.plan right.sock.id.0 seat.new.me }
-    ensures stays { Stays calls.old.seat calls.new.seat }
-    ensures calls { Sits ids.now.table.shared.table_id calls.new.seat }
-    ensures free { IsFree calls.new.seat.me.0 }
+    ensures keeps { KeepsSeat ids.now.table.shared.table_id calls.old calls.new }
     ensures drained { Drained O.state table.now.rule.plan ids.now.plan.slots right.sock.id.0 seat.old.me.0 (stand_of calls.old) seat.new.me.0 (stand_of calls.new) }
 {
     match write_once(table, seat, right) {

@@ -7,12 +7,11 @@ ghost use Rattle.sock_rule.specs.Seated.{IsSeat};
 ghost use Rattle.sock_table.specs.Answers.{Holds};
 ghost use Rattle.write_chain.specs.Sending.{HasRoom};
 ghost use Rattle.write_chain.specs.Writing.{GaveUp, Begins};
-ghost use Rattle.call_errors.specs.rpc_client.specs.Seats.{Idle, MayAct, AtRest, StaysSeen, SameRefs};
+ghost use Rattle.call_errors.specs.rpc_client.specs.Seats.{Idle, MayAct};
 ghost use Rattle.call_errors.specs.rpc_client.specs.Sending.{sock_of};
-ghost use Rattle.corr_id.specs.Seats.{Sits, Stays, IsFree};
-ghost use Rattle.call_errors.specs.Books.{stand_of};
+ghost use Rattle.call_errors.specs.Books.{stand_of, HasNoLock, KeepsSeat};
 ghost use Rattle.call_writes.specs.Draining.{Drained};
-ghost use Rattle.call_writes.specs.Sending.{SeenCalling, DeliveredCalling, SentCalling};
+ghost use Rattle.call_writes.specs.Sending.{SeenCalling, DeliveredCalling, SentCalling, Rested};
 
 use crate::draining::write_through;
 use call_errors::{CallSeat, Reached, reach, refuse};
@@ -36,13 +35,10 @@ fn write_if<O: Out, R: Wait>(
 ) -> SockRef
     requires seat { IsSeat table.now.rule.table.shared.table_id table.now.rule.plan seat.old }
     requires begins { Begins table.now.rule.plan (sock_of started) started seat.old.me }
-    requires calls { Sits ids.now.table.shared.table_id calls.old.seat }
-    requires free { IsFree calls.old.seat.me.0 }
+    requires ids { HasNoLock ids.now.table.shared.table_id calls.old }
     ensures seat { IsSeat table.now.rule.table.shared.table_id table.now.rule.plan seat.new }
     ensures gave { (result ≡ sock_of started) × GaveUp table.now.rule.plan (sock_of started).id.0 seat.new.me }
-    ensures stays { Stays calls.old.seat calls.new.seat }
-    ensures calls { Sits ids.now.table.shared.table_id calls.new.seat }
-    ensures free { IsFree calls.new.seat.me.0 }
+    ensures keeps { KeepsSeat ids.now.table.shared.table_id calls.old calls.new }
     ensures drained { Drained O.state table.now.rule.plan ids.now.plan.slots (sock_of started).id.0 seat.old.me.0 (stand_of calls.old) seat.new.me.0 (stand_of calls.new) }
 {
     match started {
@@ -63,12 +59,9 @@ pub fn see_through_calling<O: Out, R: Wait>(
     requires seat { IsSeat table.now.rule.table.shared.table_id table.now.rule.plan seat.old }
     requires begins { Begins table.now.rule.plan (sock_of started) started seat.old.me }
     requires claims { (seat.old.me.0.claims ≡ []) × (seat.old.me.0.loose ≡ []) }
-    requires calls { Sits ids.now.table.shared.table_id calls.old.seat }
-    requires free { IsFree calls.old.seat.me.0 }
+    requires ids { HasNoLock ids.now.table.shared.table_id calls.old }
     ensures idle { Idle table.now.rule.table.shared.table_id table.now.rule.plan seat.new }
-    ensures stays { Stays calls.old.seat calls.new.seat }
-    ensures calls { Sits ids.now.table.shared.table_id calls.new.seat }
-    ensures free { IsFree calls.new.seat.me.0 }
+    ensures keeps { KeepsSeat ids.now.table.shared.table_id calls.old calls.new }
     ensures by { SeenCalling O.state table.now.rule.plan ids.now.plan.slots (sock_of started).id.0 seat.old.me.0 (stand_of calls.old) seat.new.me.0 (stand_of calls.new) }
 {
     let sock = write_if(rt, table, ids, seat, calls, started);
@@ -91,12 +84,9 @@ fn deliver<O: Out, R: Wait>(
     requires few { marks_of is_ref (socket_id_slot sock.id.0) seat.old.me.0 < 65540 }
     requires room { HasRoom seat.old.me.0 }
     requires label { msg.label.place < 8 * table.now.rule.plan.operations }
-    requires calls { Sits ids.now.table.shared.table_id calls.old.seat }
-    requires free { IsFree calls.old.seat.me.0 }
+    requires ids { HasNoLock ids.now.table.shared.table_id calls.old }
     ensures idle { Idle table.now.rule.table.shared.table_id table.now.rule.plan seat.new }
-    ensures stays { Stays calls.old.seat calls.new.seat }
-    ensures calls { Sits ids.now.table.shared.table_id calls.new.seat }
-    ensures free { IsFree calls.new.seat.me.0 }
+    ensures keeps { KeepsSeat ids.now.table.shared.table_id calls.old calls.new }
     ensures by { DeliveredCalling O.state table.now.rule.plan ids.now.plan.slots sock msg result seat.old.me.0 (stand_of calls.old) seat.new.me.0 (stand_of calls.new) }
 {
     match start(table, seat, sock, msg) {
@@ -124,15 +114,9 @@ pub fn send_calling<O: Out, R: Wait>(
     requires name { name < table.now.rule.plan.names }
     requires room { HasRoom seat.old.me.0 }
     requires label { msg.label.place < 8 * table.now.rule.plan.operations }
-    requires calls { Sits ids.now.table.shared.table_id calls.old.seat }
-    requires free { IsFree calls.old.seat.me.0 }
-    ensures rest { AtRest table.now.rule.table.shared.table_id table.now.rule.plan seat.old seat.new }
-    ensures stays { Stays calls.old.seat calls.new.seat }
-    ensures calls { Sits ids.now.table.shared.table_id calls.new.seat }
-    ensures free { IsFree calls.new.seat.me.0 }
+    requires ids { HasNoLock ids.now.table.shared.table_id calls.old }
+    ensures rested { Rested table.now.rule.table.shared.table_id table.now.rule.plan ids.now.table.shared.table_id seat.old seat.new calls.old calls.new }
     ensures by { SentCalling O.state table.now.rule.plan ids.now.plan.slots name msg result seat.old.me.0 (stand_of calls.old) seat.new.me.0 (stand_of calls.new) }
-    ensures refs { SameRefs seat.old.me.0 seat.new.me.0 }
-    ensures seen { StaysSeen seat.old.me.0 seat.new.me.0 }
 {
     match reach(table, seat, name) {
         Reached::Unopened => Some(Outcome::Unopened),

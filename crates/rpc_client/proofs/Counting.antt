@@ -1,5 +1,5 @@
 -- References, as they are counted behind each call.
-use Rattle.std.proofs.Common.{◌≡◌, ℕ, zero, suc, ◌+◌, ◌<◌, ◌≤◌, Bool, List, [], ◌∷◌, ◌++◌, length, get_or, take, drop, refl, sym, ap, ◌∙◌, subst, arith}
+use Rattle.std.proofs.Common.{◌≡◌, ℕ, zero, suc, ◌+◌, ◌<◌, ◌≤◌, Bool, true, false, List, [], ◌∷◌, ◌++◌, length, get_or, take, drop, refl, sym, ap, ◌∙◌, subst, arith}
 use mathlib.Core.Logic.{dite}
 use mathlib.Core.Option.{some}
 use lib.ListN.{get_elem?}
@@ -24,7 +24,8 @@ use Rattle.sock_table.specs.Passes.{Created, TriedTo}
 use Rattle.sock_table.specs.Answers.{Holds, GoneFrom}
 use Rattle.sock_table.specs.Answers as answers
 use Rattle.rpc_client.specs.declared.holding.Held.{Held}
-use Rattle.rpc_client.specs.Holding.{IsHolder, is_there, is_life}
+use Rattle.sock_words.specs.declared.outcome.Outcome.{Outcome}
+use Rattle.rpc_client.specs.Holding.{IsHolder, is_there, is_life, GaveOne, given_as, GivenBy}
 use Rattle.sock_table.specs.Named.{FindsId}
 use Rattle.write_chain.specs.sock_open.proofs.Testing.{ended_refs}
 use Rattle.rpc_client.specs.Seats.{SameRefs, OneMore}
@@ -131,6 +132,11 @@ pub removed_there : {A : Type 0} (h : List A) (at : ℕ) (x : A) → at < length
 removed_there [] at x lt e = absurd (omega arith)
 removed_there (y ∷ ys) zero x lt e = ap some (sym e)
 removed_there (y ∷ ys) (suc n) x lt e = removed_there ys n x (omega arith) e
+
+-- what is told of one that was given back
+pub given_by : (at : ℕ) (ended : Bool) (by : Outcome) (h : List Held) (v : View) (k : List Held) (w : View) → by ≡ given_as ended → GaveOne at ended h v k w → GivenBy at by h v k w
+given_by at true by h v k w e g = subst (λ (o : Outcome). GivenBy at o h v k w) (sym e) g
+given_by at false by h v k w e g = subst (λ (o : Outcome). GivenBy at o h v k w) (sym e) g
 
 module _ (p : Plan) (h : List Held) (v : View) (holder : IsHolder p h v) where
   -- one that came stands at the end

@@ -21,7 +21,7 @@ use Rattle.sock_table.specs.declared.refs.SockRef.{SockRef}
 use Rattle.sock_table.specs.Answers.{Held, Holds, GoneFrom, NoneLater}
 use Rattle.sock_table.specs.Named.{Found, FindsId}
 use Rattle.rpc_client.specs.declared.reaching.Reached.TheVariants.{Here}
-use Rattle.rpc_client.specs.Seats.{Idle, MayAct, AtRest, StaysSeen, SameRefs, OneMore}
+use Rattle.rpc_client.specs.Seats.{Idle, MayAct, AtRest, StillIdle, StaysSeen, SameRefs, OneMore}
 use Rattle.rpc_client.specs.Reaching.{ReachedBy}
 use Rattle.sock_words.specs.declared.outcome.Outcome.{Outcome}
 use Rattle.sock_words.specs.declared.outcome.Outcome.TheVariants as outcome
@@ -74,6 +74,10 @@ module _ {S : Type 0} (z : TableId) (p : Plan) where
     idle = record { seat = seat; slots = slots ∙ idle.slots; between = between; claims = b.claims ∙ idle.claims; loose = b.loose ∙ idle.loose };
     share = b.share;
   }
+
+  -- behind a wait
+  pub rest_waited : (s t u : Seat S View) → StillIdle z p s t → AtRest z p t u → AtRest z p s u
+  rest_waited s t u w r = record { idle = r.idle; share = r.share ∙ ap (λ m. m.0.share) w.same }
 
   pub may_still : (s t : Seat S View) → MayAct z p s → Idle z p t → SameRefs s.me.0 t.me.0 → MayAct z p t
   may_still s t may idle refs = record { idle = idle; room = λ i il. (let a = may.room i il in let b = refs.refs i in omega arith) }

@@ -43,6 +43,11 @@ pub record GaveOne (at : ℕ) (ended : Bool) (h : List Held) (v : View) (k : Lis
   pub left : k ≡ remove h at
   pub back : GaveBack (socket_id_slot held.id.0) v w (Hold (socket_id_version held.id.0)) ended
 
+-- the outcome of that
+abbrev pub given_as : Bool → Outcome
+given_as true = outcome.Freed
+given_as false = outcome.Kept
+
 abbrev pub GivenBy : ℕ → Outcome → List Held → View → List Held → View → Type 0
 GivenBy at outcome.Freed h v k w = GaveOne at true h v k w
 GivenBy at outcome.Kept h v k w = GaveOne at false h v k w

@@ -29,6 +29,11 @@ pub record AtRest {S : Type 0} (z : TableId) (p : Plan) (s t : Seat S View) : Ty
   pub idle : Idle z p t
   pub share : t.me.0.share ≡ s.me.0.share
 
+-- while it only waits, it is idle, and has and notes what it did
+pub record StillIdle {S : Type 0} (z : TableId) (p : Plan) (s t : Seat S View) : Type 0 where
+  pub idle : Idle z p t
+  pub same : t.me ≡ s.me
+
 -- what was found or stored other than 0 is known as such still
 abbrev pub StaysSeen : View → View → Type 0
 StaysSeen v w = (x : ℕ) → HasSeen x v → HasSeen x w

@@ -13,8 +13,8 @@ use sock_rule::SockSeat;
 use sock_table::{SockRef, SockTable};
 use sock_words::Outcome;
 
-/// A socket to which the seat has a reference is set failed, and the reference is given back.
-fn fail_socket<O: Out>(
+/// A socket to which the seat has a reference is set failed.
+pub fn fail_socket<O: Out>(
     table: &SockTable<O>,
     seat: &mut SockSeat<O>,
     sock: &SockRef,

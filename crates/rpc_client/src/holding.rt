@@ -1,7 +1,8 @@
 // References that a client keeps.
 ghost use Rattle.std.specs.Prelude.{◌≡◌, ◌+◌, ◌<◌, ◌==◌, length, vec_len, vec_capacity, position};
+ghost use Rattle.sock_table.specs.Answers.{is_freed};
 ghost use Rattle.rpc_client.specs.Seats.{Idle, MayAct, AtRest, StaysSeen};
-ghost use Rattle.rpc_client.specs.Holding.{IsHolder, HeldBy, GivenBy, DroppedBy};
+ghost use Rattle.rpc_client.specs.Holding.{IsHolder, HeldBy, given_as, GivenBy, DroppedBy};
 
 use crate::reaching::{Reached, reach};
 use sock_io::Out;
@@ -74,6 +75,16 @@ pub fn drop_one<O: Out>(
     give_back(table, seat, held, at)
 }
 
+/// What is told of a reference that was given back.
+fn told_of(released: Released) -> Outcome
+    ensures { result ≡ given_as (is_freed released) }
+{
+    match released {
+        Released::Freed => Outcome::Freed,
+        Released::Kept => Outcome::Kept,
+    }
+}
+
 /// Gives back the reference that stands there.
 pub fn give_back<O: Out>(
     table: &SockTable<O>,
@@ -93,8 +104,6 @@ pub fn give_back<O: Out>(
     ensures capacity { vec_capacity held.new ≡ vec_capacity held.old }
 {
     let gone = held.remove(at);
-    match table.release(seat, SockRef { id: gone.id }) {
-        Released::Freed => Outcome::Freed,
-        Released::Kept => Outcome::Kept,
-    }
+    let released = table.release(seat, SockRef { id: gone.id });
+    told_of(released)
 }

@@ -10,7 +10,7 @@ mod running;
 mod sending;
 
 pub use acting::Told;
-pub use failing::fail_one;
+pub use failing::{fail_one, fail_socket};
 pub use holding::{Held, drop_one, give_back, hold_one};
 pub use opening::{open_none, open_one};
 pub use reaching::{Reached, reach};

@@ -1,40 +1,14 @@
 // The socket of a link whose reading has ended is set failed.
 ghost use Rattle.std.specs.Prelude.{◌≡◌, ◌<◌};
-ghost use Rattle.sock_words.specs.Words.{socket_id_slot};
-ghost use Rattle.sock_model.specs.Weights.{is_ref};
-ghost use Rattle.sock_model.specs.SlotRows.{marks_of};
 ghost use Rattle.sock_table.specs.Refs.{Knows};
-ghost use Rattle.sock_table.specs.Answers.{Holds};
-ghost use Rattle.rpc_client.specs.Seats.{Idle, MayAct, AtRest, StaysSeen, SameRefs};
-ghost use Rattle.rpc_client.specs.Failing.{SetBy};
+ghost use Rattle.rpc_client.specs.Seats.{MayAct, AtRest, StaysSeen, SameRefs};
 ghost use Rattle.rpc_reader.specs.Failing.{FailedBy};
 
+use rpc_client::fail_socket;
 use sock_io::Out;
 use sock_rule::SockSeat;
-use sock_table::{SockRef, SockTable};
-use sock_words::{Outcome, SocketId};
-
-// A socket to which the seat has a reference is set failed.
-fn set_it_failed<O: Out>(
-    table: &SockTable<O>,
-    seat: &mut SockSeat<O>,
-    sock: &SockRef,
-    code: u16,
-) -> Outcome
-    requires idle { Idle table.now.rule.table.shared.table_id table.now.rule.plan seat.old }
-    requires held { Holds table.now.rule.plan seat.old.me.0 sock.now.id.0 }
-    requires room { marks_of is_ref (socket_id_slot sock.now.id.0) seat.old.me.0 < 65540 }
-    requires code { (0 < code) × (code < 4096) }
-    ensures rest { AtRest table.now.rule.table.shared.table_id table.now.rule.plan seat.old seat.new }
-    ensures by { SetBy sock.now.id.0 code result seat.old.me.0 seat.new.me.0 }
-{
-    match table.set_failed(seat, sock, code) {
-        Ok(()) => Outcome::Failed,
-        Err(already) => Outcome::Already {
-            found: already.found,
-        },
-    }
-}
+use sock_table::SockTable;
+use sock_words::SocketId;
 
 /// The socket of this id is set failed with this code, unless it is gone.
 /// bRPC's `SetFailed` (socket.cpp), as its reader calls it at the end of its input (io.md).
@@ -51,7 +25,7 @@ pub fn fail_id<O: Out>(table: &SockTable<O>, seat: &mut SockSeat<O>, id: SocketI
     match table.address(seat, id) {
         Err(_) => {}
         Ok(sock) => {
-            set_it_failed(table, seat, &sock, code);
+            fail_socket(table, seat, &sock, code);
             table.release(seat, sock);
         }
     }

@@ -79,22 +79,13 @@ fn id_at(word: AtWord) -> u64
 }
 
 // The code is posted to the id that this at word names, for its attempt. Its word was found before, and no response of it is kept.
-fn post_code<R: Wait>(
-    rt: &R,
-    ids: &IdTable<Call>,
-    calls: &mut AnswerSeat,
-    code: u16,
-    word: AtWord,
-    found: IdWord,
-)
+fn post_code<R: Wait>(rt: &R, ids: &IdTable<Call>, calls: &mut AnswerSeat, code: u16, word: AtWord)
     requires seat { IsOpen ids.now.table.shared.table_id calls.old.seat }
     requires code { (0 < code) × (code < 4096) }
-    requires found { FoundOf word.0 found.0 calls.old.seat.me.0 }
-    requires none_kept { kept_at word.0 found.0 calls.old.early.items ≡ None }
+    requires none_kept { (found : ℕ) × FoundOf word.0 found calls.old.seat.me.0 × (kept_at word.0 found calls.old.early.items ≡ None) }
     ensures rest { Rests calls.old.seat calls.new.seat }
     ensures posted { PostedLast ids.now.plan.slots code word.0 (books calls.old) (books calls.new) }
 {
-    let _ = found;
     let attempt = attempt_of(word);
     match ids.post(rt, &mut calls.seat, id_at(word), code, attempt) {
         Posted::Locked(lock) => end_lost(ids, calls, lock, code),
@@ -131,7 +122,7 @@ fn post_last<R: Wait>(rt: &R, ids: &IdTable<Call>, calls: &mut AnswerSeat, code:
             let frame = calls.early.remove(at);
             meet(rt, ids, calls, frame);
         }
-        None => post_code(rt, ids, calls, code, word, found),
+        None => post_code(rt, ids, calls, code, word),
     }
 }
 

@@ -4,10 +4,10 @@ use Rattle.sock_words.specs.declared.socket_id.SocketId.{SocketId}
 use Rattle.sock_model.specs.Weights.{is_ref}
 use Rattle.sock_model.specs.SlotRows.{marks_of}
 use Rattle.sock_table.specs.Answers.{Holds, LinkOf}
-use Rattle.call_errors.specs.rpc_client.specs.Seats.{AtRest}
 use Rattle.call_errors.specs.rpc_client.proofs.Counting.{one_more}
-use Rattle.call_errors.specs.rpc_client.proofs.Finding.{has_one, holds_still, rest_became, rest_then}
+use Rattle.call_errors.specs.rpc_client.proofs.Finding.{has_one, holds_still, rest_became}
 use Rattle.call_errors.specs.rpc_client.proofs.Delivering.{room_still}
+use Rattle.call_errors.proofs.Keeping.{stays_then}
 use Rattle.call_attempts.specs.Both.{both}
 use Rattle.call_attempts.specs.Attempting.{DeliveredBy, nowhere, over_link}
 use Rattle.call_attempts.proofs.Leaving.{kept_free, own_after, link_keeps, few_still, attempted_leaves}
@@ -58,14 +58,13 @@ returns-in-Ok-clause-by g c = let p = c.args.tables.now.socks.rule.plan in let q
     }
     (subst (λ (y : SocketId). DeliveredBy g.O.Out.state p q y c.args.msg u (both c.deliver_frame.new.seat.me.0 c.deliver_frame.new.calls)) c.in-Ok.ensures.held.0 c.deliver_frame.ensures.by)
 
-pub returns-in-Ok-clause-rest : goal.returns-in-Ok-clause-rest
-returns-in-Ok-clause-rest g c = record { idle = c.deliver_frame.ensures.idle; share = (attempted_leaves g.O.Out.state c.args.tables.now.socks.rule.plan c.args.tables.now.ids.plan c.args.socket c.args.msg (both c.args.seat.now.me.0 c.args.calls.now) (both c.deliver_frame.new.seat.me.0 c.deliver_frame.new.calls) (returns-in-Ok-clause-by g c)).share }
-
-pub returns-in-Ok-clause-refs : goal.returns-in-Ok-clause-refs
-returns-in-Ok-clause-refs g c = (attempted_leaves g.O.Out.state c.args.tables.now.socks.rule.plan c.args.tables.now.ids.plan c.args.socket c.args.msg (both c.args.seat.now.me.0 c.args.calls.now) (both c.deliver_frame.new.seat.me.0 c.deliver_frame.new.calls) (returns-in-Ok-clause-by g c)).refs
-
-pub returns-in-Ok-clause-seen : goal.returns-in-Ok-clause-seen
-returns-in-Ok-clause-seen g c = (attempted_leaves g.O.Out.state c.args.tables.now.socks.rule.plan c.args.tables.now.ids.plan c.args.socket c.args.msg (both c.args.seat.now.me.0 c.args.calls.now) (both c.deliver_frame.new.seat.me.0 c.deliver_frame.new.calls) (returns-in-Ok-clause-by g c)).seen
+pub returns-in-Ok-clause-rested : goal.returns-in-Ok-clause-rested
+returns-in-Ok-clause-rested g c = let e = c.deliver_frame.ensures in let l = attempted_leaves g.O.Out.state c.args.tables.now.socks.rule.plan c.args.tables.now.ids.plan c.args.socket c.args.msg (both c.args.seat.now.me.0 c.args.calls.now) (both c.deliver_frame.new.seat.me.0 c.deliver_frame.new.calls) (returns-in-Ok-clause-by g c) in record {
+  rest = record { idle = e.idle; share = l.share };
+  refs = l.refs;
+  seen = l.seen;
+  keeps = record { stays = stays_then c.args.calls.now.seat c.set_at.new.seat c.deliver_frame.new.calls.seat c.set_at.ensures.seat e.keeps.stays; ids = e.keeps.ids };
+}
 
 pub returns-in-Ok-clause-own : goal.returns-in-Ok-clause-own
 returns-in-Ok-clause-own g c = own_after c.args.seat.now.me.0 c.deliver_frame.new.seat.me.0 (attempted_leaves g.O.Out.state c.args.tables.now.socks.rule.plan c.args.tables.now.ids.plan c.args.socket c.args.msg (both c.args.seat.now.me.0 c.args.calls.now) (both c.deliver_frame.new.seat.me.0 c.deliver_frame.new.calls) (returns-in-Ok-clause-by g c))
@@ -73,14 +72,13 @@ returns-in-Ok-clause-own g c = own_after c.args.seat.now.me.0 c.deliver_frame.ne
 pub returns-in-Err-clause-by : goal.returns-in-Err-clause-by
 returns-in-Err-clause-by g c = nowhere record { found = c.in-Err._gone.found; gone = c.in-Err.ensures.gone; posted = c.post_error.ensures.posted }
 
-pub returns-in-Err-clause-rest : goal.returns-in-Err-clause-rest
-returns-in-Err-clause-rest g c = rest_became c.args.tables.now.socks.rule.table.shared.table_id c.args.tables.now.socks.rule.plan (socket_id_slot c.args.socket.0) c.args.seat.now c.address.new.seat _ _ c.requires.may.idle c.address.ensures.seat c.address.ensures.slots c.address.ensures.between c.in-Err.ensures.gone.became
-
-pub returns-in-Err-clause-refs : goal.returns-in-Err-clause-refs
-returns-in-Err-clause-refs g c = (attempted_leaves g.O.Out.state c.args.tables.now.socks.rule.plan c.args.tables.now.ids.plan c.args.socket c.args.msg (both c.args.seat.now.me.0 c.args.calls.now) (both c.address.new.seat.me.0 c.post_error.new.calls) (returns-in-Err-clause-by g c)).refs
-
-pub returns-in-Err-clause-seen : goal.returns-in-Err-clause-seen
-returns-in-Err-clause-seen g c = (attempted_leaves g.O.Out.state c.args.tables.now.socks.rule.plan c.args.tables.now.ids.plan c.args.socket c.args.msg (both c.args.seat.now.me.0 c.args.calls.now) (both c.address.new.seat.me.0 c.post_error.new.calls) (returns-in-Err-clause-by g c)).seen
+pub returns-in-Err-clause-rested : goal.returns-in-Err-clause-rested
+returns-in-Err-clause-rested g c = let l = attempted_leaves g.O.Out.state c.args.tables.now.socks.rule.plan c.args.tables.now.ids.plan c.args.socket c.args.msg (both c.args.seat.now.me.0 c.args.calls.now) (both c.address.new.seat.me.0 c.post_error.new.calls) (returns-in-Err-clause-by g c) in record {
+  rest = rest_became c.args.tables.now.socks.rule.table.shared.table_id c.args.tables.now.socks.rule.plan (socket_id_slot c.args.socket.0) c.args.seat.now c.address.new.seat _ _ c.requires.may.idle c.address.ensures.seat c.address.ensures.slots c.address.ensures.between c.in-Err.ensures.gone.became;
+  refs = l.refs;
+  seen = l.seen;
+  keeps = c.post_error.ensures.keeps;
+}
 
 pub returns-in-Err-clause-own : goal.returns-in-Err-clause-own
 returns-in-Err-clause-own g c = own_after c.args.seat.now.me.0 c.address.new.seat.me.0 (attempted_leaves g.O.Out.state c.args.tables.now.socks.rule.plan c.args.tables.now.ids.plan c.args.socket c.args.msg (both c.args.seat.now.me.0 c.args.calls.now) (both c.address.new.seat.me.0 c.post_error.new.calls) (returns-in-Err-clause-by g c))

@@ -1,7 +1,6 @@
 use Rattle.call_errors.specs.rpc_client.specs.Acting.{OwnList}
-use Rattle.call_errors.specs.rpc_client.specs.Seats.{AtRest, StaysSeen, SameRefs}
-use Rattle.corr_id.specs.Seats.{Stays}
-use Rattle.call_attempts.specs.Both.{both, HasNoLock}
+use Rattle.call_writes.specs.Sending.{Rested}
+use Rattle.call_attempts.specs.Both.{both}
 use Rattle.call_attempts.specs.Retrying.{Retried}
 use Rattle.call_attempts.proofs.retrying.retry_all.Given as goal
 
@@ -9,11 +8,7 @@ abbrev pub invariant-retries : goal.invariant-retries
 invariant-retries g l = record {
   can_go : (goal.iterator-retries g).can_next l.iterator';
   is_finite : (goal.iterator-retries g).is_finite l.iterator';
-  rest : AtRest l.tables.socks.rule.table.shared.table_id l.tables.socks.rule.plan l.fn.seat l.seat;
+  rested : Rested l.tables.socks.rule.table.shared.table_id l.tables.socks.rule.plan l.tables.ids.table.shared.table_id l.fn.seat l.seat l.fn.calls l.calls;
   own : OwnList l.sent l.seat.me.0;
-  ids : HasNoLock l.tables.ids.table.shared.table_id l.calls;
-  same : Stays l.fn.calls.seat l.calls.seat;
   retried : Retried g.O.Out.state l.tables.socks.rule.plan l.tables.ids.plan (both l.fn.seat.me.0 l.fn.calls) (both l.seat.me.0 l.calls);
-  refs : SameRefs l.fn.seat.me.0 l.seat.me.0;
-  seen : StaysSeen l.fn.seat.me.0 l.seat.me.0;
 }

@@ -1,5 +1,5 @@
 use Rattle.std.proofs.Common.{true, false, length, sym, subst, refl, arith}
-use Rattle.call_attempts.specs.Both.{HasNoLock}
+use Rattle.call_errors.specs.Books.{HasNoLock}
 use Rattle.call_client.specs.Making.{ComesTo, CameBy}
 use Rattle.call_client.proofs.Coursing.{ok_then, err_then, begins_same, came_before, roomless}
 use Rattle.call_client.proofs.Going.{same_go}

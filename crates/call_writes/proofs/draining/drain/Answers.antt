@@ -1,19 +1,17 @@
-use Rattle.std.proofs.Common.{refl, ◌∙◌, subst}
+use Rattle.std.proofs.Common.{refl, subst}
 use Rattle.sock_table.specs.declared.refs.SockRef.{SockRef}
 use Rattle.write_chain.specs.declared.keep.Kept.TheVariants as kept
 use Rattle.write_chain.specs.Keeping.{KeptBy, KeptWriting}
 use Rattle.call_errors.specs.Books.{stand_of}
+use Rattle.call_errors.proofs.Keeping.{keeps_none, keeps_then}
 use Rattle.call_writes.specs.Draining.{none, one_more}
 use Rattle.call_writes.proofs.draining.drain.Goals as goal
 
 pub drops-init : goal.drops-init
-drops-init g c = record { can_go = tt; is_finite = tt; seat = c.requires.seat; same = refl; may = c.requires.may; stays = (refl, refl, refl); sits = c.requires.calls; free = c.requires.free; dropped = none }
+drops-init g c = record { can_go = tt; is_finite = tt; seat = c.requires.seat; same = refl; may = c.requires.may; keeps = keeps_none c.args.ids.now.table.shared.table_id c.args.calls.now c.requires.ids; dropped = none }
 
-pub tell_dropped-requires-clause-calls : goal.tell_dropped-requires-clause-calls
-tell_dropped-requires-clause-calls g c = c.drops.invariant.sits
-
-pub tell_dropped-requires-clause-free : goal.tell_dropped-requires-clause-free
-tell_dropped-requires-clause-free g c = c.drops.invariant.free
+pub tell_dropped-requires-clause-ids : goal.tell_dropped-requires-clause-ids
+tell_dropped-requires-clause-ids g c = c.drops.invariant.keeps.ids
 
 pub tell_dropped-requires-clause-code : goal.tell_dropped-requires-clause-code
 tell_dropped-requires-clause-code g c = c.in-Dropped.ensures.kept.3.fits
@@ -21,17 +19,13 @@ tell_dropped-requires-clause-code g c = c.in-Dropped.ensures.kept.3.fits
 pub drops-preserved : goal.drops-preserved
 drops-preserved g c = let p = c.args.table.now.rule.plan in
     let w = subst (λ (y : SockRef). KeptBy p c.args.table.now.rule.ways.list y (kept.Dropped c.in-Dropped.next c.in-Dropped.msg c.in-Dropped.code) c.drops.seat.me.0 c.keep_write.new.seat.me) c.drops.invariant.same c.in-Dropped.ensures.kept in
-    let wrote = subst (λ (y : SockRef). KeptWriting p y (kept.Dropped c.in-Dropped.next c.in-Dropped.msg c.in-Dropped.code) c.drops.seat.me.0 c.keep_write.new.seat.me.0) c.drops.invariant.same c.in-Dropped.ensures.wrote in
-    let stays = c.drops.invariant.stays in
-    let now = c.tell_dropped.ensures.stays in record {
+    let wrote = subst (λ (y : SockRef). KeptWriting p y (kept.Dropped c.in-Dropped.next c.in-Dropped.msg c.in-Dropped.code) c.drops.seat.me.0 c.keep_write.new.seat.me.0) c.drops.invariant.same c.in-Dropped.ensures.wrote in record {
       can_go = tt;
       is_finite = tt;
       seat = c.keep_write.ensures.seat;
       same = w.0;
       may = w.1;
-      stays = (now.0 ∙ stays.0, now.1 ∙ stays.1, now.2 ∙ stays.2);
-      sits = c.tell_dropped.ensures.calls;
-      free = c.tell_dropped.ensures.free;
+      keeps = keeps_then c.args.ids.now.table.shared.table_id c.args.calls.now c.drops.calls c.tell_dropped.new.calls c.drops.invariant.keeps c.tell_dropped.ensures.keeps;
       dropped = one_more c.drops.seat.me.0 (stand_of c.drops.calls) c.keep_write.new.seat.me.0 (stand_of c.tell_dropped.new.calls) c.drops.invariant.dropped record {
         msg = c.in-Dropped.msg;
         code = c.in-Dropped.code;
@@ -45,14 +39,8 @@ drops-preserved g c = let p = c.args.table.now.rule.plan in
 pub returns-in-Done-clause-gave : goal.returns-in-Done-clause-gave
 returns-in-Done-clause-gave g c = let p = c.args.table.now.rule.plan in subst (λ (y : SockRef). KeptBy p c.args.table.now.rule.ways.list y (kept.Done c.in-Done.sock) c.drops.seat.me.0 c.keep_write.new.seat.me) c.drops.invariant.same c.in-Done.ensures.kept
 
-pub returns-in-Done-clause-stays : goal.returns-in-Done-clause-stays
-returns-in-Done-clause-stays g c = c.drops.invariant.stays
-
-pub returns-in-Done-clause-calls : goal.returns-in-Done-clause-calls
-returns-in-Done-clause-calls g c = c.drops.invariant.sits
-
-pub returns-in-Done-clause-free : goal.returns-in-Done-clause-free
-returns-in-Done-clause-free g c = c.drops.invariant.free
+pub returns-in-Done-clause-keeps : goal.returns-in-Done-clause-keeps
+returns-in-Done-clause-keeps g c = c.drops.invariant.keeps
 
 pub returns-in-Done-clause-drained : goal.returns-in-Done-clause-drained
 returns-in-Done-clause-drained g c = let p = c.args.table.now.rule.plan in record {

@@ -1,8 +1,7 @@
 use Rattle.std.proofs.Common.{◌≡◌}
 use Rattle.sock_rule.specs.Seated.{IsSeat}
 use Rattle.write_chain.specs.Writing.{MayGoOn}
-use Rattle.corr_id.specs.Seats.{Sits, Stays, IsFree}
-use Rattle.call_errors.specs.Books.{stand_of}
+use Rattle.call_errors.specs.Books.{stand_of, KeepsSeat}
 use Rattle.call_writes.specs.Draining.{DroppedAll}
 use Rattle.call_writes.proofs.draining.drain.Given as goal
 
@@ -13,8 +12,6 @@ invariant-drops g l = record {
   seat : IsSeat l.table.rule.table.shared.table_id l.table.rule.plan l.seat;
   same : l.right.sock ≡ l.fn.right.sock;
   may : MayGoOn l.table.rule.plan l.table.rule.ways.list l.right l.seat.me;
-  stays : Stays l.fn.calls.seat l.calls.seat;
-  sits : Sits l.ids.table.shared.table_id l.calls.seat;
-  free : IsFree l.calls.seat.me.0;
+  keeps : KeepsSeat l.ids.table.shared.table_id l.fn.calls l.calls;
   dropped : DroppedAll g.O.Out.state l.table.rule.plan l.ids.plan.slots l.fn.right.sock.id.0 l.fn.seat.me.0 (stand_of l.fn.calls) l.seat.me.0 (stand_of l.calls);
 }

@@ -2,6 +2,7 @@ use Rattle.std.proofs.Common.{◌∙◌, inl, refl}
 use Rattle.call_errors.specs.rpc_client.proofs.Finding.{has_one, here_inside, seen_then}
 use Rattle.call_errors.specs.rpc_client.proofs.Delivering.{delivered_refs, delivered_share, delivered_seen, room_still}
 use Rattle.call_errors.specs.Books.{stand_of}
+use Rattle.call_errors.proofs.Keeping.{keeps_none}
 use Rattle.call_writes.proofs.Delivering.{plainly, sent_calling}
 use Rattle.call_writes.proofs.sending.send_calling.Goals as goal
 
@@ -23,14 +24,20 @@ returns-in-Unopened-clause-by g c = (c.in-Unopened.ensures.reached, refl)
 pub returns-in-Gone-clause-by : goal.returns-in-Gone-clause-by
 returns-in-Gone-clause-by g c = inl (c.in-Gone.ensures.reached, refl)
 
-pub returns-in-Here-clause-rest : goal.returns-in-Here-clause-rest
-returns-in-Here-clause-rest g c = record { idle = c.deliver.ensures.idle; share = delivered_share g.O.Out.state c.args.table.now.rule.plan c.in-Here.sock c.args.msg c.deliver.result c.reach.new.seat.me.0 c.deliver.new.seat.me.0 (plainly g.O.Out.state c.args.table.now.rule.plan c.args.ids.now.plan.slots c.in-Here.sock c.args.msg c.deliver.result c.reach.new.seat.me.0 c.deliver.new.seat.me.0 (stand_of c.args.calls.now) (stand_of c.deliver.new.calls) c.deliver.ensures.by) ∙ c.in-Here.ensures.rest.share }
+pub returns-in-Unopened-clause-rested : goal.returns-in-Unopened-clause-rested
+returns-in-Unopened-clause-rested g c = let e = c.in-Unopened.ensures in record { rest = e.rest; refs = e.refs; seen = e.seen; keeps = keeps_none c.args.ids.now.table.shared.table_id c.args.calls.now c.requires.ids }
+
+pub returns-in-Gone-clause-rested : goal.returns-in-Gone-clause-rested
+returns-in-Gone-clause-rested g c = let e = c.in-Gone.ensures in record { rest = e.rest; refs = e.refs; seen = e.seen; keeps = keeps_none c.args.ids.now.table.shared.table_id c.args.calls.now c.requires.ids }
 
 pub returns-in-Here-clause-by : goal.returns-in-Here-clause-by
 returns-in-Here-clause-by g c = sent_calling g.O.Out.state c.args.table.now.rule.plan c.args.ids.now.plan.slots c.in-Here.sock c.args.msg c.args.name c.deliver.result c.args.seat.now.me.0 c.reach.new.seat.me.0 c.deliver.new.seat.me.0 (stand_of c.args.calls.now) (stand_of c.deliver.new.calls) c.in-Here.ensures.reached c.deliver.ensures.by
 
-pub returns-in-Here-clause-refs : goal.returns-in-Here-clause-refs
-returns-in-Here-clause-refs g c = delivered_refs g.O.Out.state c.args.table.now.rule.plan c.in-Here.sock c.args.msg c.deliver.result c.args.seat.now.me.0 c.reach.new.seat.me.0 c.deliver.new.seat.me.0 c.in-Here.ensures.refs (plainly g.O.Out.state c.args.table.now.rule.plan c.args.ids.now.plan.slots c.in-Here.sock c.args.msg c.deliver.result c.reach.new.seat.me.0 c.deliver.new.seat.me.0 (stand_of c.args.calls.now) (stand_of c.deliver.new.calls) c.deliver.ensures.by)
-
-pub returns-in-Here-clause-seen : goal.returns-in-Here-clause-seen
-returns-in-Here-clause-seen g c = seen_then c.args.seat.now.me.0 c.reach.new.seat.me.0 c.deliver.new.seat.me.0 c.in-Here.ensures.seen (delivered_seen g.O.Out.state c.args.table.now.rule.plan c.in-Here.sock c.args.msg c.deliver.result c.reach.new.seat.me.0 c.deliver.new.seat.me.0 (plainly g.O.Out.state c.args.table.now.rule.plan c.args.ids.now.plan.slots c.in-Here.sock c.args.msg c.deliver.result c.reach.new.seat.me.0 c.deliver.new.seat.me.0 (stand_of c.args.calls.now) (stand_of c.deliver.new.calls) c.deliver.ensures.by))
+pub returns-in-Here-clause-rested : goal.returns-in-Here-clause-rested
+returns-in-Here-clause-rested g c = let state = g.O.Out.state in let p = c.args.table.now.rule.plan in let u = c.args.seat.now.me.0 in let v = c.reach.new.seat.me.0 in let w = c.deliver.new.seat.me.0 in let e = c.in-Here.ensures in
+    let by = plainly state p c.args.ids.now.plan.slots c.in-Here.sock c.args.msg c.deliver.result v w (stand_of c.args.calls.now) (stand_of c.deliver.new.calls) c.deliver.ensures.by in record {
+      rest = record { idle = c.deliver.ensures.idle; share = delivered_share state p c.in-Here.sock c.args.msg c.deliver.result v w by ∙ e.rest.share };
+      refs = delivered_refs state p c.in-Here.sock c.args.msg c.deliver.result u v w e.refs by;
+      seen = seen_then u v w e.seen (delivered_seen state p c.in-Here.sock c.args.msg c.deliver.result v w by);
+      keeps = c.deliver.ensures.keeps;
+    }

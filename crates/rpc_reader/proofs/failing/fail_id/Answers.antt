@@ -23,36 +23,36 @@ returns-in-Err-clause-lists g c = ap (λ y. y.lists) c.in-Err.ensures.gone.becam
 pub returns-in-Err-clause-seen : goal.returns-in-Err-clause-seen
 returns-in-Err-clause-seen g c = seen_became (socket_id_slot c.args.id.0) c.args.seat.now.me.0 c.address.new.seat.me.0 _ _ c.in-Err.ensures.gone.became
 
-pub set_it_failed-requires-clause-idle : goal.set_it_failed-requires-clause-idle
-set_it_failed-requires-clause-idle g c = (rest_became c.args.table.now.rule.table.shared.table_id c.args.table.now.rule.plan (socket_id_slot c.args.id.0) c.args.seat.now c.address.new.seat _ _ c.requires.may.idle c.address.ensures.seat c.address.ensures.slots c.address.ensures.between c.in-Ok.ensures.held.1).idle
+pub fail_socket-requires-clause-idle : goal.fail_socket-requires-clause-idle
+fail_socket-requires-clause-idle g c = (rest_became c.args.table.now.rule.table.shared.table_id c.args.table.now.rule.plan (socket_id_slot c.args.id.0) c.args.seat.now c.address.new.seat _ _ c.requires.may.idle c.address.ensures.seat c.address.ensures.slots c.address.ensures.between c.in-Ok.ensures.held.1).idle
 
-pub set_it_failed-requires-clause-held : goal.set_it_failed-requires-clause-held
-set_it_failed-requires-clause-held g c = (came_held c.args.table.now.rule.table.shared.table_id c.args.table.now.rule.plan c.args.id c.in-Ok.sock c.args.seat.now c.address.new.seat.me.0 c.in-Ok.ensures.held c.requires.may c.requires.known).0
+pub fail_socket-requires-clause-held : goal.fail_socket-requires-clause-held
+fail_socket-requires-clause-held g c = (came_held c.args.table.now.rule.table.shared.table_id c.args.table.now.rule.plan c.args.id c.in-Ok.sock c.args.seat.now c.address.new.seat.me.0 c.in-Ok.ensures.held c.requires.may c.requires.known).0
 
-pub set_it_failed-requires-clause-room : goal.set_it_failed-requires-clause-room
-set_it_failed-requires-clause-room g c = (came_held c.args.table.now.rule.table.shared.table_id c.args.table.now.rule.plan c.args.id c.in-Ok.sock c.args.seat.now c.address.new.seat.me.0 c.in-Ok.ensures.held c.requires.may c.requires.known).1
+pub fail_socket-requires-clause-room : goal.fail_socket-requires-clause-room
+fail_socket-requires-clause-room g c = (came_held c.args.table.now.rule.table.shared.table_id c.args.table.now.rule.plan c.args.id c.in-Ok.sock c.args.seat.now c.address.new.seat.me.0 c.in-Ok.ensures.held c.requires.may c.requires.known).1
 
 pub release-requires-clause-held : goal.release-requires-clause-held
-release-requires-clause-held g c = let z = c.args.table.now.rule.table.shared.table_id in let p = c.args.table.now.rule.plan in let u = c.address.new.seat.me.0 in let t = c.set_it_failed.new.seat.me.0 in
-    holds_still p c.in-Ok.sock.id.0 u t (came_held z p c.args.id c.in-Ok.sock c.args.seat.now u c.in-Ok.ensures.held c.requires.may c.requires.known).0 (set_refs c.in-Ok.sock.id.0 c.args.code c.set_it_failed.result u t c.set_it_failed.ensures.by)
+release-requires-clause-held g c = let z = c.args.table.now.rule.table.shared.table_id in let p = c.args.table.now.rule.plan in let u = c.address.new.seat.me.0 in let t = c.fail_socket.new.seat.me.0 in
+    holds_still p c.in-Ok.sock.id.0 u t (came_held z p c.args.id c.in-Ok.sock c.args.seat.now u c.in-Ok.ensures.held c.requires.may c.requires.known).0 (set_refs c.in-Ok.sock.id.0 c.args.code c.fail_socket.result u t c.fail_socket.ensures.by)
 
 pub returns-in-Ok-clause-rest : goal.returns-in-Ok-clause-rest
 returns-in-Ok-clause-rest g c = let z = c.args.table.now.rule.table.shared.table_id in let p = c.args.table.now.rule.plan in
     rest_then z p c.args.seat.now c.address.new.seat c.release.new.seat (rest_became z p (socket_id_slot c.args.id.0) c.args.seat.now c.address.new.seat _ _ c.requires.may.idle c.address.ensures.seat c.address.ensures.slots c.address.ensures.between c.in-Ok.ensures.held.1)
-    (rest_then z p c.address.new.seat c.set_it_failed.new.seat c.release.new.seat c.set_it_failed.ensures.rest
-    (rest_became z p (socket_id_slot c.in-Ok.sock.id.0) c.set_it_failed.new.seat c.release.new.seat _ _ c.set_it_failed.ensures.rest.idle c.release.ensures.seat c.release.ensures.slots c.release.ensures.between c.release.ensures.back.became))
+    (rest_then z p c.address.new.seat c.fail_socket.new.seat c.release.new.seat c.fail_socket.ensures.rest
+    (rest_became z p (socket_id_slot c.in-Ok.sock.id.0) c.fail_socket.new.seat c.release.new.seat _ _ c.fail_socket.ensures.rest.idle c.release.ensures.seat c.release.ensures.slots c.release.ensures.between c.release.ensures.back.became))
 
 pub returns-in-Ok-clause-by : goal.returns-in-Ok-clause-by
-returns-in-Ok-clause-by g c = came_set c.args.table.now.rule.table.shared.table_id c.args.table.now.rule.plan c.args.id c.in-Ok.sock c.args.seat.now c.address.new.seat.me.0 c.in-Ok.ensures.held c.args.code c.set_it_failed.result _ c.set_it_failed.new.seat.me.0 c.release.new.seat.me.0 c.in-Ok.ensures.stays c.set_it_failed.ensures.by c.release.ensures.back
+returns-in-Ok-clause-by g c = came_set c.args.table.now.rule.table.shared.table_id c.args.table.now.rule.plan c.args.id c.in-Ok.sock c.args.seat.now c.address.new.seat.me.0 c.in-Ok.ensures.held c.args.code c.fail_socket.result _ c.fail_socket.new.seat.me.0 c.release.new.seat.me.0 c.in-Ok.ensures.stays c.fail_socket.ensures.by c.release.ensures.back
 
 pub returns-in-Ok-clause-refs : goal.returns-in-Ok-clause-refs
-returns-in-Ok-clause-refs g c = came_refs c.args.table.now.rule.table.shared.table_id c.args.table.now.rule.plan c.args.id c.in-Ok.sock c.args.seat.now c.address.new.seat.me.0 c.in-Ok.ensures.held c.args.code c.set_it_failed.result _ c.set_it_failed.new.seat.me.0 c.release.new.seat.me.0 c.set_it_failed.ensures.by c.release.ensures.back
+returns-in-Ok-clause-refs g c = came_refs c.args.table.now.rule.table.shared.table_id c.args.table.now.rule.plan c.args.id c.in-Ok.sock c.args.seat.now c.address.new.seat.me.0 c.in-Ok.ensures.held c.args.code c.fail_socket.result _ c.fail_socket.new.seat.me.0 c.release.new.seat.me.0 c.fail_socket.ensures.by c.release.ensures.back
 
 pub returns-in-Ok-clause-lists : goal.returns-in-Ok-clause-lists
-returns-in-Ok-clause-lists g c = ap (λ y. y.lists) c.release.ensures.back.became.others ∙ (ap (λ y. y.lists) (set_others c.in-Ok.sock.id.0 c.args.code c.set_it_failed.result c.address.new.seat.me.0 c.set_it_failed.new.seat.me.0 c.set_it_failed.ensures.by) ∙ ap (λ y. y.lists) c.in-Ok.ensures.held.1.others)
+returns-in-Ok-clause-lists g c = ap (λ y. y.lists) c.release.ensures.back.became.others ∙ (ap (λ y. y.lists) (set_others c.in-Ok.sock.id.0 c.args.code c.fail_socket.result c.address.new.seat.me.0 c.fail_socket.new.seat.me.0 c.fail_socket.ensures.by) ∙ ap (λ y. y.lists) c.in-Ok.ensures.held.1.others)
 
 pub returns-in-Ok-clause-seen : goal.returns-in-Ok-clause-seen
 returns-in-Ok-clause-seen g c = seen_then c.args.seat.now.me.0 c.address.new.seat.me.0 c.release.new.seat.me.0 (seen_became (socket_id_slot c.args.id.0) c.args.seat.now.me.0 c.address.new.seat.me.0 _ _ c.in-Ok.ensures.held.1)
-    (seen_then c.address.new.seat.me.0 c.set_it_failed.new.seat.me.0 c.release.new.seat.me.0
-    (seen_others c.address.new.seat.me.0 c.set_it_failed.new.seat.me.0 (set_others c.in-Ok.sock.id.0 c.args.code c.set_it_failed.result c.address.new.seat.me.0 c.set_it_failed.new.seat.me.0 c.set_it_failed.ensures.by))
-    (seen_became (socket_id_slot c.in-Ok.sock.id.0) c.set_it_failed.new.seat.me.0 c.release.new.seat.me.0 _ _ c.release.ensures.back.became))
+    (seen_then c.address.new.seat.me.0 c.fail_socket.new.seat.me.0 c.release.new.seat.me.0
+    (seen_others c.address.new.seat.me.0 c.fail_socket.new.seat.me.0 (set_others c.in-Ok.sock.id.0 c.args.code c.fail_socket.result c.address.new.seat.me.0 c.fail_socket.new.seat.me.0 c.fail_socket.ensures.by))
+    (seen_became (socket_id_slot c.in-Ok.sock.id.0) c.fail_socket.new.seat.me.0 c.release.new.seat.me.0 _ _ c.release.ensures.back.became))

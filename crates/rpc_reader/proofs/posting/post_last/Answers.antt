@@ -1,4 +1,4 @@
-use Rattle.std.proofs.Common.{◌≡◌, ℕ, List, Some, sym, ap, ◌∙◌, subst}
+use Rattle.std.proofs.Common.{◌≡◌, ℕ, List, Some, None, sym, ap, ◌∙◌, subst}
 use Rattle.corr_core.specs.Word.{parts}
 use Rattle.corr_id.specs.Calls.{slot_of, version_of, HasId, LacksId}
 use Rattle.prpc_frame.specs.declared.frame.Frame.{Frame}
@@ -32,6 +32,12 @@ returns-in-Some-clause-met_or_posted g c = let id = c.id_at.result in let w = c.
 
 pub post_code-requires-clause-seat : goal.post_code-requires-clause-seat
 post_code-requires-clause-seat g c = open_still c.args.ids.now.table.shared.table_id c.args.calls.now.seat c.word.new.seat c.requires.seat (rests_quiet c.args.calls.now.seat c.word.new.seat c.requires.seat.free c.word.ensures.seat c.word.ensures.quiet)
+
+pub post_code-requires-clause-none_kept : goal.post_code-requires-clause-none_kept
+post_code-requires-clause-none_kept g c = let id = c.id_at.result in let w = c.args.word.0 in let b : Books = books c.args.calls.now in
+    let has : HasId (parts c.word.result) (version_of id) = subst (λ (y : ℕ). HasId (parts y) (version_of id)) c.from_word-found.ensures (subst (λ (v : ℕ). HasId (parts c.from_word-found.result.0) v) (c.first.ensures ∙ sym c.id_at.ensures.of_parts.1) (c.lacks_id.ensures.has c.if-lacks_id.false)) in
+    let none_ : None ≡ kept_at w c.word.result b.early = sym c.in-None.is ∙ c.first_for.ensures ∙ kept_is c.slot.result (slot_of (call_at w)) c.from_word-found.result.0 c.word.result c.as_slice.result.now b.early (c.slot.ensures ∙ sym c.id_at.ensures.of_parts.0 ∙ ap slot_of c.id_at.ensures.id) c.from_word-found.ensures c.as_slice.ensures.value in
+    (c.word.result, found_of c.args.ids.now.plan.slots w id c.word.result c.word.new.seat.me.0 c.id_at.ensures.id c.word.ensures.found c.word.ensures.no_slot has, sym none_)
 
 pub returns-in-None-clause-rest : goal.returns-in-None-clause-rest
 returns-in-None-clause-rest g c = rests_then c.args.calls.now.seat c.word.new.seat c.post_code.new.calls.seat (rests_quiet c.args.calls.now.seat c.word.new.seat c.requires.seat.free c.word.ensures.seat c.word.ensures.quiet) c.post_code.ensures.rest

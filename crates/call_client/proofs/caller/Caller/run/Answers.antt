@@ -2,7 +2,7 @@ use Rattle.std.proofs.Common.{◌≡◌, ◌∙◌, [], sym, subst, refl}
 use Rattle.corr_id.specs.Seats.{Stays}
 use Rattle.rpc_client.specs.Holding.{IsHolder}
 use Rattle.rpc_client.proofs.Counting.{holder_same}
-use Rattle.call_attempts.specs.Both.{HasNoLock}
+use Rattle.call_errors.specs.Books.{HasNoLock}
 use Rattle.call_client.specs.Acting.{stand}
 use Rattle.call_client.proofs.Coursing.{left_behind}
 use Rattle.call_client.proofs.Shares.{run_share}
