@@ -7,7 +7,7 @@ use Rattle.sock_words.specs.declared.ticket.Ticket.{Ticket}
 use Rattle.sock_words.specs.Words.{socket_id_slot, socket_id_version, vref_version, ticket}
 use Rattle.sock_io.specs.declared.link.Put.TheVariants as puts
 use Rattle.sock_model.specs.Entries.{ticket_of, slot_of}
-use Rattle.sock_words.specs.declared.outcome.Outcome.TheVariants.{Full, Expired}
+use Rattle.sock_words.specs.declared.outcome.Outcome.TheVariants.{Full}
 use Rattle.seat_programs.specs.Calls.{ClaimRequest}
 use Rattle.seat_programs.specs.Heads.{Posting, HasLocked}
 use Rattle.seat_programs.specs.Posts.{post, posted}
@@ -137,31 +137,31 @@ took_all a w c asked n e = rw e refl
 pub took_part : (a : Context) (w : Writer) (c : Current) (asked : Bool) (n : ℕ) → nat_le (length a.left) n ≡ false → write_program (with_put (puts.Took n) a) w (writes.Look c false) ≡ after_put (write_program a w (writes.Put c asked)) (puts.Took n)
 took_part a w c asked n e = rw e refl
 
--- with one place more a holder is the same else
-same_holder : (v w : Writer) → holder_of v.holder ≡ one_more (holder_of w.holder) → (v.holder.id.0 ≡ w.holder.id.0) × (v.holder.link ≡ w.holder.link) × (v.holder.last.0 ≡ w.holder.last.0) × (v.holder.places ≡ w.holder.places + 1)
-same_holder v w h = (ap (λ (x : heads.Holder). x.id) h, ap (λ (x : heads.Holder). x.link) h, ap (λ (x : heads.Holder). x.last) h, ap (λ (x : heads.Holder). x.places) h)
-
 -- a message has its place, and isn't the last
 pub passes : (a : Context) (w v : Writer) (now : Ticket) (c : Option OnCall) → holder_of v.holder ≡ one_more (holder_of w.holder) → v.author ≡ w.author → (now.0 == w.holder.last.0) ≡ false →
     write_program a v (writes.ReadNext now c) ≡ passed_telling (one_more (holder_of w.holder)) now.0 (told c) (written_program a w)
-passes a w v now c h author e = let s = same_holder v w h in rw (s.0, s.1, s.2, s.3, author, e) refl
+passes a w v now c h author e =
+    let id : v.holder.id.0 ≡ w.holder.id.0 = ap (λ (h : heads.Holder). h.id) h in
+    let link : v.holder.link ≡ w.holder.link = ap (λ (h : heads.Holder). h.link) h in
+    let last : v.holder.last.0 ≡ w.holder.last.0 = ap (λ (h : heads.Holder). h.last) h in
+    let places : v.holder.places ≡ w.holder.places + 1 = ap (λ (h : heads.Holder). h.places) h in
+    rw (id, link, last, places, author, e) refl
 
 -- and where it is the last
 pub passes_last : (a : Context) (w v : Writer) (now : Ticket) (c : Option OnCall) → holder_of v.holder ≡ one_more (holder_of w.holder) → v.author ≡ w.author → (now.0 == w.holder.last.0) ≡ true →
     freed now.0 (behind_drop a v c None) ≡ passed_telling (one_more (holder_of w.holder)) now.0 (told c) (written_program a w)
-passes_last a w v now c h author e = let s = same_holder v w h in rw (s.0, s.1, s.2, s.3, author, e) refl
+passes_last a w v now c h author e =
+    let id : v.holder.id.0 ≡ w.holder.id.0 = ap (λ (h : heads.Holder). h.id) h in
+    let link : v.holder.link ≡ w.holder.link = ap (λ (h : heads.Holder). h.link) h in
+    let last : v.holder.last.0 ≡ w.holder.last.0 = ap (λ (h : heads.Holder). h.last) h in
+    let places : v.holder.places ≡ w.holder.places + 1 = ap (λ (h : heads.Holder). h.places) h in
+    rw (id, link, last, places, author, e) refl
 
 -- ## Behind an error
 
 -- an attempt tells its call of an error
 pub posts : (a : Context) (t : Attempt) (n : ℕ) (slot : Option ℕ) → next_program a (nexts.Point (points.Post (error_by t n) (afters.Attempt slot) calls_posts.Load)) ≡ post (id_of t.id) n (number_of t.number) (after_program a (afters.Attempt slot))
 posts a t n slot = refl
-
--- where an `expire` tells what it tells with a lock
-pub refused_as : (a : Context) (after : AfterStep) → refused_program a after Expired ≡ after_program a after
-refused_as a (afters.Attempt slot) = refl
-refused_as a (afters.Expire o) = refl
-refused_as a (afters.Drop w next) = refl
 
 -- a post that has no lock
 refuses : (id e : ℕ) (next : Program) (how : Posting) → IsRefused how → next ≡ posted id e next how

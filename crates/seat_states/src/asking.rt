@@ -69,7 +69,16 @@ impl AfterStep {
         ensures program { (a : Context) → next_program a result ≡ after_program a self }
         ensures hand { link_behind result ≡ None }
     {
-        self.without_lock(Outcome::Expired)
+        match self {
+            AfterStep::Attempt(None) => Next::GaveBack,
+            AfterStep::Attempt(Some(slot)) => releasing(
+                slot,
+                Continuation::GaveBack,
+                ReleaseStep::SubRef,
+            ),
+            AfterStep::Expire(operation) => Next::Said(operation, Outcome::Expired),
+            AfterStep::Drop(writer, next) => writer.freed(next),
+        }
     }
 
     /// How it goes on where a post has no lock; an `expire` tells so.
