@@ -44,5 +44,5 @@ pub run_walk : {O : Type 0} {g : Ghosts O} {state : O → OutState} {p : Plan} {
 run_walk {g = g} {state = state} {p = p} {q = q} x th w =
     let came : Course g = record { has = stand th.ran.came; told = th.ran.came.outcomes.items; names = th.ran.ran.names } in
     w.in_turn (ran_deeds state p q x.tasks th.ran.made (begins x.began) came th.ran.ran.ran) (retries_of {g = g} state p q (both_of (stand th.ran.came)) (both_of th.ran.last) th.ran.ends.1.all.retried)
-        (both_of (stand x.began)) (both_of (stand th.ran.came)) (both_of th.ran.last) (ran_walk state p q w th.ran.made (begins x.began) came th.ran.ran.ran)
-        (retries_walk state p q w (both_of (stand th.ran.came)) (both_of th.ran.last) th.ran.ends.1.all.retried)
+    (both_of (stand x.began)) (both_of (stand th.ran.came)) (both_of th.ran.last) (ran_walk state p q w th.ran.made (begins x.began) came th.ran.ran.ran)
+    (retries_walk state p q w (both_of (stand th.ran.came)) (both_of th.ran.last) th.ran.ends.1.all.retried)

@@ -67,7 +67,6 @@ module _ {O : Type 0} {g : Ghosts O} {state : O → OutState} {readers : List (L
     (made_so : (i j f r : ℕ) (asked : Asked) → i < slots → get_elem? (notes_of i notes) j ≡ some (Made f r asked) → (client : ℕ) × IsOperation (setup ∷ clients) outcomes client asked.operation (ops.Call asked) × (r ≡ asked.range))
     (dropped_why : TellsDrops run notes outcomes drun differ gave) where
   open crew_of run use {q, every, crew}
-
   open laws_of drun differ gave use {fixed_here, orders_here}
 
   abbrev WhyAgainHere : ℕ → ℕ → ℕ → ℕ → Type 0
