@@ -1,6 +1,6 @@
 -- What few kinds of changes of what a seat knows of calls keep, all do that come by its errors, by an `expire` or a `join`, and by what becomes of messages and attempts.
-use Rattle.std.specs.Prelude.{◌≡◌, ℕ, inl, inr, true, false, Option as Maybe, Some, None}
-use Rattle.std.proofs.Common.{refl}
+use Rattle.std.proofs.Common.{◌≡◌, ℕ, inl, inr, true, false, Some, None, refl}
+use Rattle.std.specs.Prelude.{Option as Maybe}
 use Rattle.sock_io.specs.declared.link.Out.{Ghosts}
 use Rattle.sock_io.specs.Link.{OutState}
 use Rattle.sock_words.specs.Codes.{EFAILEDSOCKET, ERPCTIMEDOUT}

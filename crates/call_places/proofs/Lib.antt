@@ -11,5 +11,5 @@ pub mod Ids
 pub mod Log
 pub mod Clients
 pub mod Places
-pub mod Reads
+pub mod Spans
 pub mod Reader

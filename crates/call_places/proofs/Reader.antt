@@ -16,7 +16,7 @@ use Rattle.corr_id.specs.Calls.{slot_of, version_of, error_in, one, Quiet, Did, 
 use Rattle.corr_id.specs.Posts.{PostOk}
 use Rattle.corr_id.proofs.Doing.{became_grows}
 use Rattle.call_places.specs.Counted.{makes}
-use Rattle.call_places.proofs.Reads.{Reads}
+use Rattle.call_places.proofs.Spans.{Spans}
 use Rattle.call_places.proofs.Weights.{quiet_all, did_all, became_all}
 use Rattle.call_places.proofs.Still.{makes_silent, NoneMade}
 
@@ -51,5 +51,5 @@ none_ended i f n v w b = let one_end : List (Noted Asked) = one i (Ended f n) in
   made = λ o. (let a : total (makes o) w.notes ≡ 0 + total (makes o) v.notes = became_all (makes o) i v w [] one_end b in omega arith);
 }
 
-pub none_reads : Reads MadeNone
+pub none_reads : Spans MadeNone
 none_reads = record { in_turn = none_then; noted = none_noted; looks = none_quiet; locks = none_got; posts = none_post; ends = none_ended }

@@ -32,7 +32,7 @@ use Rattle.call_deeds.specs.Below.call_run.specs.Readers.{LinkReader, nothing_re
 use Rattle.call_deeds.specs.call_places.specs.Counted.{makes, HaveNotesOf}
 use Rattle.call_deeds.specs.call_places.proofs.Clients.{total_map}
 use Rattle.call_deeds.specs.call_places.proofs.Reader.{MadeNone, none_reads}
-use Rattle.call_deeds.specs.call_places.proofs.Reads.{rest_reads}
+use Rattle.call_deeds.specs.call_places.proofs.Spans.{rest_reads}
 use Rattle.call_deeds.specs.call_places.proofs.Weights.{flat_total}
 use Rattle.call_deeds.specs.Below.sock_deeds.proofs.Flats.{append_first}
 use Rattle.call_told.specs.Answers.{AreGiven, at_end, ToldFrom, TellsFrom, HaveAnswers, IsGiver, AreAnsweredBy}

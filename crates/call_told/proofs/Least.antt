@@ -246,13 +246,15 @@ module _ (q : Plan) (calls : List ℕ) (code : ℕ) where
             let w = told_by t.0 t.1 t.2 in let e = all_at (IsEndOf w.0) t.1 x.0 x.1 w.1 x.2 in (
               omega arith,
               record {
-                teller = t.0;
-                place = x.0;
-                told = t.1;
-                one = x.1;
-                by = t.2;
-                at = x.2;
-                number = end_number q b'.view.notes b'.view.kept words all.closing operation id w.0 x.1 w.2 begun.inside (let a = (whole.grows place).notes (slot_of id) (is_made_for (version_of id) operation) in let c = made in omega arith) e x.3;
+                its = record {
+                  teller = t.0;
+                  place = x.0;
+                  told = t.1;
+                  one = x.1;
+                  by = t.2;
+                  at = x.2;
+                  number = end_number q b'.view.notes b'.view.kept words all.closing operation id w.0 x.1 w.2 begun.inside (let a = (whole.grows place).notes (slot_of id) (is_made_for (version_of id) operation) in let c = made in omega arith) e x.3;
+                };
                 is_end = (let a = e.is_end id in let c = only_le id (e.slot * 4294967296 + e.first) in let d = x.3 in omega arith);
               },
             )

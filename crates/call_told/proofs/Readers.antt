@@ -16,7 +16,7 @@ use Rattle.call_deeds.specs.Below.rpc_reader.specs.Books.{Books}
 use Rattle.call_deeds.specs.Below.rpc_reader.specs.Running.{ReadToEnd, ReadLink, ReadIf}
 use Rattle.call_deeds.specs.Below.call_run.specs.Readers.{LinkReader, nothing_read, IsReader, AreReaders}
 use Rattle.call_deeds.specs.call_places.proofs.Reader.{MadeNone, none_noted, none_reads}
-use Rattle.call_deeds.specs.call_places.proofs.Reads.{link_reads}
+use Rattle.call_deeds.specs.call_places.proofs.Spans.{link_reads}
 use Rattle.call_told.specs.Answers.{IsGiven, TellsFrom}
 use Rattle.call_told.proofs.Lists.{some_same, all_then}
 use Rattle.call_told.proofs.Given.{given_first, given_later}

@@ -29,8 +29,8 @@ pub record HasBegun (q : Plan) (operation id : ℕ) (v : View Asked) : Type 0 wh
   pub made : 0 < total (is_made_for (version_of id) operation) (notes_of (slot_of id) v.notes)
   pub stored : 0 < total (is_stored (call_index q operation) id) v.kept
 
--- by one of these the end of the call with this id is told, as what became of this operation
-pub record IsEndTold (operation id : ℕ) (tellers : List (List Told)) : Type 0 where
+-- by one of these it is told what became of this operation
+pub record IsToldIn (operation : ℕ) (tellers : List (List Told)) : Type 0 where
   pub teller : ℕ
   pub place : ℕ
   pub told : List Told
@@ -38,7 +38,12 @@ pub record IsEndTold (operation id : ℕ) (tellers : List (List Told)) : Type 0 
   pub by : get_elem? tellers teller ≡ some told
   pub at : get_elem? told place ≡ some one
   pub number : one.number ≡ operation
-  pub is_end : ends_of id one.outcome ≡ 1
+
+-- and that is the end of the call with this id
+pub record IsEndTold (operation id : ℕ) (tellers : List (List Told)) : Type 0 where
+  pub its : IsToldIn operation tellers
+  pub open its use *
+  pub is_end : ends_of id its.one.outcome ≡ 1
 
 -- of each call that one of these seats began the end is told, over all that tell of calls: with its operation's number
 abbrev pub ToldLeast : Plan → List (View Asked) → List (List Told) → Type 0

@@ -79,13 +79,18 @@ each_fits : (p : Plan) (q : id_plan.Plan) (tss : List (List Task)) → AllMayRun
 each_fits p q [] m = tt
 each_fits p q (ts ∷ tss) m = (all_fits p q ts _ m.0.may, each_fits p q tss m.1)
 
+-- an operation as this one, which is never done without an outcome, has one
+pub with_outcome : {O : Type 0} {g : Ghosts O} (state : O → OutState) (p : Plan) (q : id_plan.Plan) (number : ℕ) (wanted op : Op) (by : Option Outcome) (s t : Stand g) (R : Outcome → Type 0) → op ≡ wanted
+    → (Acted state p q number wanted None s t → ⊥) → ((o : Outcome) → Acted state p q number wanted (Some o) s t → R o) → Acted state p q number op by s t → (o : Outcome) × (by ≡ Some o) × R o
+with_outcome {O} {g} state p q number wanted op by s t R is never gives acted = of by (subst (λ (x : Op). Acted state p q number x by s t) is acted)
+  where
+    of : (b : Option Outcome) → Acted state p q number wanted b s t → (o : Outcome) × (b ≡ Some o) × R o
+    of None a = absurd (never a)
+    of (Some o) a = (o, refl, gives o a)
+
 -- an `expire` has an outcome, by what was done
 expire_acted : {O : Type 0} {g : Ghosts O} (state : O → OutState) (p : Plan) (q : id_plan.Plan) (number of : ℕ) (op : Op) (by : Option Outcome) (s t : Stand g) → op ≡ ops.Expire of → Acted state p q number op by s t → (o : Outcome) × (by ≡ Some o) × ExpiredBy q of o s.calls t.calls
-expire_acted {O} {g} state p q number of op by s t is acted = with by (subst (λ (x : Op). Acted state p q number x by s t) is acted)
-  where
-    with : (b : Option Outcome) → Acted state p q number (ops.Expire of) b s t → (o : Outcome) × (b ≡ Some o) × ExpiredBy q of o s.calls t.calls
-    with None a = elim a [ ]
-    with (Some o) a = (o, refl, a.0)
+expire_acted state p q number of op by s t is = with_outcome state p q number (ops.Expire of) op by s t (λ o. ExpiredBy q of o s.calls t.calls) is (λ a. a) (λ o a. a.0)
 
 -- a call was answered unopened, or has begun: by an id that the client had found at no operation
 pub call_acted : {O : Type 0} {g : Ghosts O} (state : O → OutState) (p : Plan) (q : id_plan.Plan) (number : ℕ) (asked : Asked) (op : Op) (by : Option Outcome) (s t : Stand g) → op ≡ ops.Call asked → Acted state p q number op by s t
@@ -139,6 +144,18 @@ module _ {O : Type 0} {g : Ghosts O} {state : O → OutState} {readers : List (L
         there = there;
         done = done_of state p q x.0.thread.tasks x.0.thread.began x.0.thread.ended (fits c x.0 x.1) x.0.is.ran h.0 t there;
       }
+
+  -- two tasks of a client are among the tasks of one
+  here_too : (c : ℕ) (t u : Task) (m : IsMade c t) (n : IsMade c u) → get_elem? (tasks_of n.client) m.place ≡ some t
+  here_too c t u m n = subst (λ (x : Client g state p q). get_elem? (tasks_of x) m.place ≡ some t) (some-injective m.client n.client (sym m.at ∙ n.at)) m.there
+
+  record TwoMade (c : ℕ) (t u : Task) : Type 0 where
+    pub first : IsMade c t
+    pub second : IsMade c u
+    pub there : get_elem? (tasks_of second.client) first.place ≡ some t
+
+  two_made : (c : ℕ) (t u : Task) → IsTask every outcomes c t → IsTask every outcomes c u → TwoMade c t u
+  two_made c t u tis uis = let m = made_of c t tis in let n = made_of c u uis in record { first = m; second = n; there = here_too c t u m n }
 
   -- what it told is what became of it
   pub own_told : (c : ℕ) (t : Task) (m : IsMade c t) (o : Outcome) → m.done.made.by ≡ Some o → Became every outcomes t.number o
@@ -292,17 +309,7 @@ module _ {O : Type 0} {g : Ghosts O} {state : O → OutState} {readers : List (L
       → (task : Task) → IsTask every outcomes c task → task.number ≡ of → of < t.number → Became every outcomes of outcome.Unopened
   not_begun_why calls c of t is op became task own number less = subst (λ (n : ℕ). Became every outcomes n outcome.Unopened) number (by (call_acted state p q task.number of_call.0 task.op split.made.by split.made.ready split.after.has of_call.1 split.made.acted))
     where
-      m : IsMade c t
-      m = made_of c t is
-
-      u : IsMade c task
-      u = made_of c task own
-
-      same : u.client ≡ m.client
-      same = some-injective u.client m.client (sym u.at ∙ m.at)
-
-      there : get_elem? (tasks_of m.client) u.place ≡ some task
-      there = subst (λ (x : Client g state p q). get_elem? (tasks_of x) u.place ≡ some task) same u.there
+      open two_made c task t own is use {first as u, second as m, there}
 
       earlier : u.place < m.place
       earlier = stands_before c m.client m.at u.place m.place task t there m.there (omega (arith, number, less))
@@ -339,17 +346,7 @@ module _ {O : Type 0} {g : Ghosts O} {state : O → OutState} {readers : List (L
       → ((s v : CallStand) → ExpiredBy q of by s v → TimedOut q of by s v) → (Became every outcomes of outcome.Unopened → ⊥) → of < t.number
   begun_before c of t u asked by tis uis top uop number became timed begun = dite (dec_lt of t.number) (λ h. h) (λ nl. absurd (dite (dec_lt m.place n.place) later (λ nless. dite (ℕ_discrete m.place n.place) same (λ ne. earlier (omega (arith, nless, ne)) nl))))
     where
-      m : IsMade c t
-      m = made_of c t tis
-
-      n : IsMade c u
-      n = made_of c u uis
-
-      same_client : m.client ≡ n.client
-      same_client = some-injective m.client n.client (sym m.at ∙ n.at)
-
-      there : get_elem? (tasks_of n.client) m.place ≡ some t
-      there = subst (λ (x : Client g state p q). get_elem? (tasks_of x) m.place ≡ some t) same_client m.there
+      open two_made c t u tis uis use {first as m, second as n, there}
 
       same : m.place ≡ n.place → ⊥
       same e = let is : t ≡ u = some-injective t u (sym there ∙ (ap (get_elem? (tasks_of n.client)) e ∙ n.there)) in let ops_ : ops.Expire of ≡ ops.Call asked = sym top ∙ (ap (λ (y : Task). y.op) is ∙ uop) in absurd (cc)
@@ -431,8 +428,7 @@ module _ {O : Type 0} {g : Ghosts O} {state : O → OutState} {readers : List (L
   twice : (c of : ℕ) (t u : Task) (m : IsMade c t) (n : IsMade c u) → t.op ≡ ops.Expire of → u.op ≡ ops.Expire of → Became every outcomes t.number outcome.Expired → Became every outcomes u.number outcome.Expired → t.number < u.number → ⊥
   twice c of t u m n top uop tis uis less =
       let h = has_expired c of u n uop uis in
-      let same_client : m.client ≡ n.client = some-injective m.client n.client (sym m.at ∙ n.at) in
-      let there : get_elem? (tasks_of n.client) m.place ≡ some t = subst (λ (x : Client g state p q). get_elem? (tasks_of x) m.place ≡ some t) same_client m.there in
+      let there = here_too c t u m n in
       let earlier = stands_before c n.client n.at m.place n.place t u there n.there less in
       let s = ran_split state p q n.client.thread.tasks (fits c n.client n.at) n.place (begins n.client.thread.began) n.done.before n.done.ran m.place t earlier there in
       let a = expire_acted state p q t.number of t.op s.made.by s.made.ready s.after.has top s.made.acted in

@@ -51,16 +51,12 @@ use Rattle.expire_told.specs.Joined.{AreJoinsOfCalls}
 use Rattle.expire_told.specs.Said.{AreSaid, HaveKeptOf}
 use Rattle.expire_told.proofs.Doing.{Split, ran_split}
 use Rattle.expire_told.proofs.Making.{before_in, placed}
-use Rattle.expire_told.proofs.Expires.{call_acted, InOrder, fits, tasks_at, IsMade, made_of, own_told, one_stored, IsMaker, found_maker, stands_before, earlier_told}
+use Rattle.expire_told.proofs.Expires.{with_outcome, call_acted, InOrder, fits, tasks_at, IsMade, made_of, own_told, one_stored, IsMaker, found_maker, stands_before, earlier_told}
 use Rattle.expire_told.proofs.Whole.{maker_begun}
 
 -- a `join` has an outcome, by what was done
 join_acted : {O : Type 0} {g : Ghosts O} (state : O → OutState) (p : Plan) (q : id_plan.Plan) (number of : ℕ) (op : Op) (by : Option Outcome) (s t : Stand g) → op ≡ ops.Join of → Acted state p q number op by s t → (o : Outcome) × (by ≡ Some o) × JoinedBy q of o s.calls t.calls
-join_acted {O} {g} state p q number of op by s t is acted = with by (subst (λ (x : Op). Acted state p q number x by s t) is acted)
-  where
-    with : (b : Option Outcome) → Acted state p q number (ops.Join of) b s t → (o : Outcome) × (b ≡ Some o) × JoinedBy q of o s.calls t.calls
-    with None a = elim a [ ]
-    with (Some o) a = (o, refl, a.0)
+join_acted state p q number of op by s t is = with_outcome state p q number (ops.Join of) op by s t (λ o. JoinedBy q of o s.calls t.calls) is (λ a. a) (λ o a. a.0)
 
 module _ (q : id_plan.Plan) where
   -- an id that is kept in mind where the operation's word is

@@ -1,5 +1,5 @@
 -- Why an id advanced to the next attempt: the attempt before it came to nothing, or its message was dropped.
-use Rattle.std.proofs.Common.{◌≡◌, ℕ, ◌+◌, ◌*◌, ◌<◌, ◌⊎◌, inl, inr, Bool, true, false, List, Some, None, refl, sym, ap, ◌∙◌, subst, arith}
+use Rattle.std.proofs.Common.{◌≡◌, ℕ, ◌+◌, ◌*◌, ◌<◌, inl, inr, Bool, true, false, List, Some, None, refl, sym, ap, ◌∙◌, subst, arith}
 use Rattle.std.specs.Prelude.{Option, ◌||◌, ◌==◌, if◌then◌else◌}
 use Rattle.std.proofs.lemmas.Option.{none-some, same_Some}
 use mathlib.Core.Option.{some}
@@ -11,8 +11,7 @@ use Rattle.sock_words.specs.declared.plain.Plan.{Plan}
 use Rattle.sock_words.specs.declared.place_word.PlaceWord.{PlaceWord}
 use Rattle.sock_words.specs.declared.vref.Vref.{Vref}
 use Rattle.seat_programs.specs.declared.task.Task.{Task}
-use Rattle.corr_core.specs.Law.{total}
-use Rattle.corr_core.specs.Word.{Parts, parts, code_of}
+use Rattle.corr_core.specs.Word.{Parts, parts}
 use Rattle.corr_core.specs.declared.marks.Kept.{Kept}
 use Rattle.corr_core.specs.declared.marks.Noted.{Noted}
 use Rattle.corr_core.specs.declared.marks.View.{View}
@@ -28,16 +27,16 @@ use Rattle.attempts_told.specs.call_whys.specs.expire_told.specs.Below.call_erro
 use Rattle.attempts_told.specs.call_whys.specs.expire_told.specs.Below.call_run.specs.Readers.{LinkReader}
 use Rattle.attempts_told.specs.call_whys.specs.expire_told.specs.Below.call_run.specs.Threads.{RanWith, ids_of}
 use Rattle.attempts_told.specs.call_whys.specs.expire_told.specs.call_places.specs.Counted.{HaveNotesOf}
-use Rattle.attempts_told.specs.call_whys.specs.expire_told.specs.call_places.specs.Deeds.{Deed}
 use Rattle.attempts_told.specs.call_whys.specs.expire_told.specs.call_places.proofs.Clients.{Client, view_of, tasks_of, deeds_of}
 use Rattle.attempts_told.specs.call_whys.specs.expire_told.specs.call_places.proofs.Places.{crew_of}
 use Rattle.attempts_told.specs.call_whys.specs.expire_told.specs.Said.{AreSaid}
-use Rattle.failed_told.specs.Missed.{missed_in, id_of, IsBacked, attempt_of}
+use Rattle.failed_told.specs.Missed.{attempt_of}
 use Rattle.failed_told.specs.Reasons.{WasDropped, Reason, timed_out, missed, dropped, AdvancedFor}
 use Rattle.failed_told.proofs.Clients.{Says, advanced_caused}
 use Rattle.failed_told.proofs.Codes.{IsReadCode}
 use Rattle.failed_told.proofs.Posters.{Poster, posted_by}
-use Rattle.failed_told.proofs.Views.{queued_in, advanced_in}
+use Rattle.failed_told.proofs.Views.{advanced_in}
+use Rattle.failed_told.proofs.Taken.{OthersRead, MissedBy, DroppedBy}
 
 -- ## Errors that leave retries
 
@@ -69,44 +68,21 @@ not_read code leaves (inr e) = let k : true ≡ false = sym (ap is_final e) ∙ 
 
 module _ {O : Type 0} {g : Ghosts O} {state : O → OutState} {readers : List (LinkReader g)} {p : Plan} {slots : ℕ} {setup : List Task} {clients : List (List Task)} {opens : List ℕ} {told ended : List (List Told)} {places : List PlaceWord} {vrefs : List Vref} {outs : List O} {ids : List (View Asked)}
     (run : RanWith g state readers p slots setup clients opens told ended places vrefs outs ids) (outcomes : List (Option Outcome)) (said : AreSaid outcomes told)
-    (notes : List (Noted Asked)) (kept : List Kept) (words : List ℕ) (closing : Closing (ids_of p slots) notes kept words) (noted : HaveNotesOf ids notes)
-    -- whatever the clients didn't queue has a code with which whoever reads the links ends calls
-    (others : (i first e : ℕ) → 0 < queued_in i first e notes → (0 < total (λ (v : View Asked). queued_in i first e v.notes) ids) ⊎ IsReadCode (code_of e)) where
+    (notes : List (Noted Asked)) (kept : List Kept) (words : List ℕ) (closing : Closing (ids_of p slots) notes kept words) (noted : HaveNotesOf ids notes) (others : OthersRead ids notes) where
   open crew_of run use {q, crew}
 
-  -- the attempt came to nothing, as one of the clients' deeds
-  pub record MissedAt (id n : ℕ) : Type 0 where
-    pub code : ℕ
-    pub place : ℕ
-    pub client : Client g state p q
-    pub in_crew : get_elem? crew place ≡ some client
-    pub index : ℕ
-    pub deed : Deed g state p q
-    pub there : get_elem? (deeds_of client) index ≡ some deed
-    pub missed : missed_in deed ≡ Some code
-    pub backed : IsBacked (view_of client) deed
-    pub id_is : id ≡ id_of deed
-    pub attempt_is : n ≡ attempt_of deed
-
-  -- or its message was dropped, by one of a client's deeds
-  pub record DroppedAt (id n : ℕ) : Type 0 where
-    pub code : ℕ
-    pub place : ℕ
-    pub client : Client g state p q
-    pub in_crew : get_elem? crew place ≡ some client
-    pub drop : WasDropped state p q (deeds_of client) id code n
-
+  -- the attempt came to nothing, or its message was dropped
   pub data WhyAdvanced (id n : ℕ) : Type 0 where
-    by_miss : MissedAt id n → WhyAdvanced id n
-    by_drop : DroppedAt id n → WhyAdvanced id n
+    by_miss : (code : ℕ) → MissedBy run id n code → WhyAdvanced id n
+    by_drop : (code : ℕ) → DroppedBy run id n code → WhyAdvanced id n
 
   by_reason : (id code n : ℕ) (attempt : Option ℕ) → attempt ≡ Some n → (w : Poster run outcomes said notes kept words closing noted others id code attempt)
       → Reason state p q (tasks_of w.client) (Says run outcomes said) (deeds_of w.client) (view_of w.client) id code attempt → WhyAdvanced id n
   by_reason id code n attempt is w (timed_out i t o by s u h there has says counts keeps a b z) = absurd (none-some n (sym z ∙ is))
   by_reason id code n attempt is w (missed i d there has backed a z) =
-      by_miss (record { code = code; place = w.place; client = w.client; in_crew = w.at; index = i; deed = d; there = there; missed = has; backed = backed; id_is = a; attempt_is = same_Some n (attempt_of d) (sym is ∙ z) })
+      by_miss code (record { one = record { place = w.place; client = w.client; in_crew = w.at; index = i; deed = d; there = there }; missed = has; backed = backed; id_is = a; attempt_is = same_Some n (attempt_of d) (sym is ∙ z) })
   by_reason id code n attempt is w (dropped m d z) =
-      by_drop (record { code = code; place = w.place; client = w.client; in_crew = w.at; drop = subst (λ (y : ℕ). WasDropped state p q (deeds_of w.client) id code y) (sym (same_Some n m (sym is ∙ z))) d })
+      by_drop code (record { place = w.place; client = w.client; in_crew = w.at; drop = subst (λ (y : ℕ). WasDropped state p q (deeds_of w.client) id code y) (sym (same_Some n m (sym is ∙ z))) d })
 
   -- the id with this first version in the slot, one of the table's, which a client noted to have advanced behind attempt n
   pub record IsAdvanced (i first n : ℕ) : Type 0 where

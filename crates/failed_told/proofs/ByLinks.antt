@@ -41,7 +41,6 @@ use Rattle.attempts_told.specs.call_whys.specs.expire_told.specs.call_deeds.spec
 use Rattle.attempts_told.specs.call_whys.specs.expire_told.specs.Below.call_run.specs.Readers.{LinkReader}
 use Rattle.attempts_told.specs.call_whys.specs.expire_told.specs.Below.call_run.specs.Threads.{Thread, RanWith, MayRunAll, ids_of}
 use Rattle.attempts_told.specs.call_whys.specs.expire_told.specs.call_places.specs.Counted.{HaveNotesOf}
-use Rattle.attempts_told.specs.call_whys.specs.expire_told.specs.call_places.specs.Deeds.{Deed}
 use Rattle.attempts_told.specs.call_whys.specs.expire_told.specs.call_places.proofs.Clients.{Client, view_of, tasks_of, deeds_of}
 use Rattle.attempts_told.specs.call_whys.specs.expire_told.specs.call_places.proofs.Places.{all as all_clients, noted_among, made_once, crew_of}
 use Rattle.attempts_told.specs.call_whys.specs.expire_told.specs.call_told.specs.Least.{is_locked_for}
@@ -62,7 +61,6 @@ use Rattle.failed_told.proofs.Clients.{Says}
 use Rattle.failed_told.proofs.Codes.{IsReadCode, IsMissCode, deed_code}
 use Rattle.failed_told.proofs.Fallen.{one_operation}
 use Rattle.failed_told.proofs.Lasts.{ended_last}
-use Rattle.failed_told.proofs.Losses.{IsAskedIn}
 use Rattle.failed_told.proofs.Named.{named}
 use Rattle.failed_told.proofs.Posts.{IsPost}
 use Rattle.failed_told.proofs.Posters.{IsLow, one_error, timely_low, by_clients}
@@ -70,6 +68,7 @@ use Rattle.failed_told.proofs.Reading.{code_at}
 use Rattle.failed_told.proofs.Tells.{HadLock, EndsBy, on_response, on_code, ToldEnd, IsPostFor}
 use Rattle.failed_told.proofs.Verdicts.{made_so}
 use Rattle.failed_told.proofs.Views.{queued_in}
+use Rattle.failed_told.proofs.Taken.{AskTasks}
 
 -- ## Codes
 
@@ -99,9 +98,7 @@ module _ {O : Type 0} {g : Ghosts O} {state : O → OutState} {readers : List (L
     (run : RanWith g state readers p slots setup clients opens told ended places vrefs outs ids) (tasks : AreTasks p (setup ∷ clients)) (may : MayRunAll p (ids_of p slots) setup clients)
     (notes : List (Noted Asked)) (kept : List Kept) (words : List ℕ) (closing : Closing (ids_of p slots) notes kept words) (noted : HaveNotesOf ids notes) (keeps : HaveKeptOf ids kept) (outcomes : List (Option Outcome))
     (drun : DeedRun g state p (setup ∷ clients) outcomes places vrefs outs) (seats : map seat_of drun.seats ≡ map (λ (x : Thread g). x.ended.seat) (run.ran.main ∷ run.ran.others)) (logged : log drun ≡ run.closed.ordered.log) (differ : PlacesDiffer (log drun)) (gave : ℕ → List ℕ)
-    (all_there : length (log drun) ≤ all_accepted p.links (orders drun differ)) (few_slots : slots ≤ 65536) (few_links : p.links < 65536)
-    (asked_so : (c : ℕ) (x : Client g state p (ids_of p slots)) → get_elem? (all_clients run) c ≡ some x → (i : ℕ) (d : Deed g state p (ids_of p slots)) → get_elem? (deeds_of x) i ≡ some d → (asked : Asked) → IsAskedIn d asked
-    → (client : ℕ) × IsOperation (setup ∷ clients) outcomes client asked.operation (ops.Call asked))
+    (all_there : length (log drun) ≤ all_accepted p.links (orders drun differ)) (few_slots : slots ≤ 65536) (few_links : p.links < 65536) (asked_so : AskTasks run outcomes)
     -- the reading of this link ended with this code
     (Reads : ℕ → ℕ → Type 0)
     -- the link that this word names gave no response of the id that the word names

@@ -1,5 +1,5 @@
 -- Why messages were dropped, and with which codes errors are posted, by what is known of each run of a script.
-use Rattle.std.proofs.Common.{◌≡◌, ℕ, ◌<◌, ◌≤◌, ◌⊎◌, List, [], ◌∷◌, map}
+use Rattle.std.proofs.Common.{◌≡◌, ℕ, ◌<◌, ◌≤◌, List, [], ◌∷◌, map}
 use Rattle.std.specs.Prelude.{Option}
 use Rattle.sock_io.specs.declared.link.Out.{Ghosts}
 use Rattle.sock_io.specs.Link.{OutState}
@@ -12,7 +12,6 @@ use Rattle.seat_programs.specs.declared.task.Op.TheVariants as ops
 use Rattle.seat_programs.specs.declared.task.Task.{Task}
 use Rattle.seat_programs.specs.Told.{AreTasks, IsTask, Became}
 use Rattle.seat_programs.specs.ToldCalls.{IsPosted, WhyExpire}
-use Rattle.corr_core.specs.Law.{total}
 use Rattle.corr_core.specs.Word.{code_of}
 use Rattle.corr_core.specs.declared.marks.Kept.{Kept}
 use Rattle.corr_core.specs.declared.marks.Noted.{Noted}
@@ -28,11 +27,11 @@ use Rattle.attempts_told.specs.call_whys.specs.expire_told.specs.Below.sock_deed
 use Rattle.attempts_told.specs.call_whys.specs.expire_told.specs.Below.sock_deeds.proofs.Accepting.{log}
 use Rattle.attempts_told.specs.call_whys.specs.expire_told.specs.Below.sock_deeds.proofs.Orders.{orders}
 use Rattle.attempts_told.specs.call_whys.specs.expire_told.specs.Below.sock_deeds.proofs.Whole.{fixed, log_accepted}
-use Rattle.failed_told.proofs.Codes.{IsReadCode}
 use Rattle.failed_told.proofs.Drops.{dropped_why}
 use Rattle.failed_told.proofs.Ended.{TellsDrops}
 use Rattle.failed_told.proofs.PostedCodes.{queued_posted, expire_posted}
 use Rattle.failed_told.proofs.Views.{queued_in}
+use Rattle.failed_told.proofs.Taken.{OthersRead}
 
 module _ {O : Type 0} {g : Ghosts O} {state : O → OutState} {readers : List (LinkReader g)} {p : Plan} {slots : ℕ} {setup : List Task} {clients : List (List Task)} {opens : List ℕ} {told ended : List (List Told)} {places : List PlaceWord} {vrefs : List Vref} {outs : List O} {ids : List (View Asked)}
     (run : RanWith g state readers p slots setup clients opens told ended places vrefs outs ids) (tasks : AreTasks p (setup ∷ clients)) (may : MayRunAll p (ids_of p slots) setup clients)
@@ -46,7 +45,7 @@ module _ {O : Type 0} {g : Ghosts O} {state : O → OutState} {readers : List (L
   pub drops_with : TellsDrops run notes outcomes drun differ gave
   drops_with = dropped_why run tasks may notes kept words closing noted outcomes drun seats logged differ gave (log_accepted drun differ (λ k. [])) few few_links bounds
 
-  module _ (keeps : HaveKeptOf ids kept) (said_own : AreSaid outcomes told) (said_ended : AreSaid outcomes ended) (others : (i first e : ℕ) → 0 < queued_in i first e notes → (0 < total (λ (v : View Asked). queued_in i first e v.notes) ids) ⊎ IsReadCode (code_of e)) where
+  module _ (keeps : HaveKeptOf ids kept) (said_own : AreSaid outcomes told) (said_ended : AreSaid outcomes ended) (others : OthersRead ids notes) where
     -- whatever was queued has a code that is posted
     pub codes_with : (i f e : ℕ) → 0 < queued_in i f e notes → IsPosted p (setup ∷ clients) outcomes (fixed drun differ gave) gave (orders drun differ) (code_of e)
     codes_with = queued_posted run tasks may notes kept words closing noted keeps outcomes said_own said_ended others drun seats logged differ gave (log_accepted drun differ (λ k. [])) few few_links bounds

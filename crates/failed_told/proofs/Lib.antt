@@ -7,6 +7,7 @@ pub mod Posts
 pub mod Tells
 pub mod Reading
 pub mod Posters
+pub mod Taken
 pub mod Queued
 pub mod Verdicts
 pub mod Behind

@@ -38,7 +38,7 @@ use Rattle.attempts_told.specs.call_whys.specs.expire_told.specs.call_places.spe
 use Rattle.attempts_told.specs.call_whys.specs.expire_told.specs.call_places.proofs.Ids.{IsIdOf}
 use Rattle.attempts_told.specs.call_whys.specs.expire_told.specs.call_places.proofs.Labels.{label_in}
 use Rattle.attempts_told.specs.call_whys.specs.expire_told.specs.call_places.proofs.Clients.{Client, total_map, view_of, deeds_of}
-use Rattle.attempts_told.specs.call_whys.specs.expire_told.specs.call_places.proofs.Places.{all as all_clients, views_are, noted_among, crew_of}
+use Rattle.attempts_told.specs.call_whys.specs.expire_told.specs.call_places.proofs.Places.{views_are, noted_among, crew_of}
 use Rattle.attempts_told.specs.call_whys.specs.expire_told.specs.call_told.specs.Least.{is_made_for}
 use Rattle.attempts_told.specs.call_whys.specs.expire_told.specs.call_told.proofs.Resting.{is_word}
 use Rattle.attempts_told.specs.call_whys.specs.expire_told.specs.Said.{HaveKeptOf}
@@ -55,6 +55,7 @@ use Rattle.failed_told.proofs.Losses.{IsAskedIn}
 use Rattle.failed_told.proofs.Posters.{attempt_low}
 use Rattle.failed_told.proofs.Single.{IsAttemptOf, at_first, first_id, again_id, again_attempt, made_low}
 use Rattle.failed_told.proofs.Standing.{may_be_on, lost_on}
+use Rattle.failed_told.proofs.Taken.{AskTasks}
 
 -- ## Words
 
@@ -84,9 +85,7 @@ module _ {O : Type 0} {g : Ghosts O} {state : O → OutState} {readers : List (L
     (run : RanWith g state readers p slots setup clients opens told ended places vrefs outs ids) (tasks : AreTasks p (setup ∷ clients)) (may : MayRunAll p (ids_of p slots) setup clients)
     (notes : List (Noted Asked)) (kept : List Kept) (words : List ℕ) (closing : Closing (ids_of p slots) notes kept words) (noted : HaveNotesOf ids notes) (keeps : HaveKeptOf ids kept) (outcomes : List (Option Outcome))
     (drun : DeedRun g state p (setup ∷ clients) outcomes places vrefs outs) (seats : map seat_of drun.seats ≡ map (λ (x : Thread g). x.ended.seat) (run.ran.main ∷ run.ran.others)) (logged : log drun ≡ run.closed.ordered.log) (differ : PlacesDiffer (log drun)) (gave : ℕ → List ℕ)
-    (all_there : length (log drun) ≤ all_accepted p.links (orders drun differ)) (few_slots : slots ≤ 65536) (few_links : p.links < 65536)
-    (asked_so : (c : ℕ) (x : Client g state p (ids_of p slots)) → get_elem? (all_clients run) c ≡ some x → (i : ℕ) (d : Deed g state p (ids_of p slots)) → get_elem? (deeds_of x) i ≡ some d → (asked : Asked) → IsAskedIn d asked
-    → (client : ℕ) × IsOperation (setup ∷ clients) outcomes client asked.operation (ops.Call asked)) where
+    (all_there : length (log drun) ≤ all_accepted p.links (orders drun differ)) (few_slots : slots ≤ 65536) (few_links : p.links < 65536) (asked_so : AskTasks run outcomes) where
   open crew_of run use {q, every, crew}
   open laws_of drun differ gave use {fixed_here, orders_here}
 

@@ -37,6 +37,7 @@ use Rattle.failed_told.specs.Reasons.{Reason, timed_out, missed, dropped, posted
 use Rattle.failed_told.proofs.Clients.{Says, queued_caused}
 use Rattle.failed_told.proofs.Codes.{IsReadCode}
 use Rattle.failed_told.proofs.Views.{queued_in}
+use Rattle.failed_told.proofs.Taken.{OthersRead}
 
 -- ## Errors in words
 
@@ -77,9 +78,7 @@ module _ {O : Type 0} {g : Ghosts O} {state : O → OutState} {p : Plan} {q : id
 
 module _ {O : Type 0} {g : Ghosts O} {state : O → OutState} {readers : List (LinkReader g)} {p : Plan} {slots : ℕ} {setup : List Task} {clients : List (List Task)} {opens : List ℕ} {told ended : List (List Told)} {places : List PlaceWord} {vrefs : List Vref} {outs : List O} {ids : List (View Asked)}
     (run : RanWith g state readers p slots setup clients opens told ended places vrefs outs ids) (outcomes : List (Option Outcome)) (said : AreSaid outcomes told)
-    (notes : List (Noted Asked)) (kept : List Kept) (words : List ℕ) (closing : Closing (ids_of p slots) notes kept words) (noted : HaveNotesOf ids notes)
-    -- whatever the clients didn't queue has a code with which whoever reads the links ends calls
-    (others : (i first e : ℕ) → 0 < queued_in i first e notes → (0 < total (λ (v : View Asked). queued_in i first e v.notes) ids) ⊎ IsReadCode (code_of e)) where
+    (notes : List (Noted Asked)) (kept : List Kept) (words : List ℕ) (closing : Closing (ids_of p slots) notes kept words) (noted : HaveNotesOf ids notes) (others : OthersRead ids notes) where
   open crew_of run use {q, crew}
 
   -- a client had a reason to post this error

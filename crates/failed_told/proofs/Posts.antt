@@ -11,13 +11,14 @@ use Rattle.corr_core.specs.Law.{total, is_queued}
 use Rattle.corr_core.specs.declared.marks.Note.TheVariants.{Queued}
 use Rattle.corr_core.specs.declared.marks.Noted.{Noted}
 use Rattle.corr_core.specs.declared.marks.Plan.{Plan}
+use Rattle.corr_core.specs.declared.marks.Token.{Token}
 use Rattle.corr_core.specs.declared.marks.View.{View}
 use Rattle.corr_core.proofs.Notes.{pair-same}
 use Rattle.id_rule.specs.Lawful.{at_index, call_index, with_kept}
 use Rattle.sock_message.specs.Asked.{Asked}
 use Rattle.corr_id.specs.declared.posts.Posted.{Posted}
 use Rattle.corr_id.specs.declared.posts.Posted.TheVariants.{Locked as HasLock, Queued as IsQueued}
-use Rattle.corr_id.specs.Calls.{slot_of, version_of, error_in, one}
+use Rattle.corr_id.specs.Calls.{slot_of, version_of, error_in, one, Did}
 use Rattle.corr_id.specs.Posts.{PostOk}
 use Rattle.attempts_told.specs.call_whys.specs.expire_told.specs.Below.call_run.specs.rpc_reader.specs.prpc_frame.specs.declared.frame.Frame.{Frame}
 use Rattle.attempts_told.specs.call_whys.specs.expire_told.specs.Below.call_client.proofs.Telling.{did_total}
@@ -74,6 +75,38 @@ module _ (code : ℕ) where
   rest_stays p [] b b' h = books_stay b b' h
   rest_stays p (o ∷ os) b b' h = then_stays b.view h.0.view b'.view (one_stays p o b h.0 h.1) (rest_stays p os h.0 b' h.2)
 
+-- ## Errors that are queued
+
+-- each error that is noted as queued more is such a one, by what the seat knows behind
+pub record Queues (Q : View Asked → ℕ → ℕ → ℕ → Type 0) (v w : View Asked) : Type 0 where
+  pub later : Later v w
+  pub queued : (i first e : ℕ) → 0 < queued_in i first e w.notes → (0 < queued_in i first e v.notes) ⊎ Q w i first e
+
+module _ (Q : View Asked → ℕ → ℕ → ℕ → Type 0) where
+  pub queues_none : (v w : View Asked) → Stays v w → Queues Q v w
+  queues_none v w s = record { later = s.later; queued = λ i first e h. inl (let a = s.queued i first e in omega (arith, a, h)) }
+
+  pub queues_then : ((v w : View Asked) → Later v w → (i first e : ℕ) → Q v i first e → Q w i first e) → (u v w : View Asked) → Queues Q u v → Queues Q v w → Queues Q u w
+  queues_then stays u v w a b = record {
+    later = later_then u v w a.later b.later;
+    queued = λ i first e h. elim (b.queued i first e h) [
+      | inl x ↦ elim (a.queued i first e x) [ inl y ↦ inl y | inr y ↦ inr (stays v w b.later i first e y) ]
+      | inr y ↦ inr y
+    ];
+  }
+
+  -- one error
+  pub queues_one : (at f error : ℕ) (v w : View Asked) (ts : List (Token Asked)) → Did at v w ts (one at (Queued f error)) → Q w at f error → Queues Q v w
+  queues_one at f error v w ts d here = record {
+    later = did_later at v w ts _ d;
+    queued = λ i first e h. (
+        let es : List (Noted Asked) = one at (Queued f error) in
+        let a = did_total (is_queued first e) (queued_silent first e) at v w ts es d i in
+        dite (ℕ_discrete (queued_in i first e es) 0)
+        (λ z. inl (omega (arith, a, z, h)))
+        (λ ne. inr (let x = queued_one at i first e f error (omega (arith, ne)) in subst (λ (n : ℕ). Q w i first n) x.2 (subst (λ (n : ℕ). Q w i n error) x.1 (subst (λ (n : ℕ). Q w n f error) x.0 here)))));
+  }
+
 -- ## Posts
 
 -- the seat found this word of an operation's attempts, and it names the link
@@ -98,37 +131,19 @@ queued_later q link code v w l i first e h = record { word = h.word; post = post
 
 module _ (q : Plan) (link code : ℕ) where
   -- each error that is noted as queued more is such a one
-  pub record Posts (v w : View Asked) : Type 0 where
-    pub later : Later v w
-    pub queued : (i first e : ℕ) → 0 < queued_in i first e w.notes → (0 < queued_in i first e v.notes) ⊎ QueuedBy q link code w i first e
+  abbrev pub Posts : View Asked → View Asked → Type 0
+  Posts v w = Queues (QueuedBy q link code) v w
 
   pub posts_none : (v w : View Asked) → Stays v w → Posts v w
-  posts_none v w s = record { later = s.later; queued = λ i first e h. inl (let a = s.queued i first e in omega (arith, a, h)) }
+  posts_none = queues_none (QueuedBy q link code)
 
   pub posts_then : (u v w : View Asked) → Posts u v → Posts v w → Posts u w
-  posts_then u v w a b = record {
-    later = later_then u v w a.later b.later;
-    queued = λ i first e h. elim (b.queued i first e h) [
-      | inl x ↦ elim (a.queued i first e x) [ inl y ↦ inl y | inr y ↦ inr (queued_later q link code v w b.later i first e y) ]
-      | inr y ↦ inr y
-    ];
-  }
+  posts_then = queues_then (QueuedBy q link code) (queued_later q link code)
 
   post_posts : (word : ℕ) (v w : View Asked) (answer : Posted Asked) → IsPost q link v word → PostOk q.slots v w (call_at word) code (attempt_at word) answer → Posts v w
   post_posts word v w (HasLock k) post p = posts_none v w (got_stays k.slot v w p.4.0 (parts k.word.0) k.content p.4.1)
-  post_posts word v w IsQueued post p = record {
-    later = later;
-    queued = λ i first e h. (
-        let error : ℕ = error_in code (attempt_at word) in
-        let es : List (Noted Asked) = one (slot_of (call_at word)) (Queued (version_of (call_at word)) error) in
-        let a = did_total (is_queued first e) (queued_silent first e) (slot_of (call_at word)) v w _ es p.0 i in
-        dite (ℕ_discrete (queued_in i first e es) 0)
-        (λ z. inl (omega (arith, a, z, h)))
-        (λ ne. inr (let x = queued_one (slot_of (call_at word)) i first e (version_of (call_at word)) error (omega (arith, ne)) in record { word = word; post = post_later q link v w later word post; slot_is = x.0; first_is = x.1; error_is = x.2 })));
-  }
-    where
-      later : Later v w
-      later = did_later (slot_of (call_at word)) v w _ _ p.0
+  post_posts word v w IsQueued post p = queues_one (QueuedBy q link code) (slot_of (call_at word)) (version_of (call_at word)) (error_in code (attempt_at word)) v w _ p.0
+      (record { word = word; post = post_later q link v w (did_later (slot_of (call_at word)) v w _ _ p.0) word post; slot_is = refl; first_is = refl; error_is = refl })
   post_posts word v w _ post p = posts_none v w (quiet_stays v w p.0)
 
   posted_if : (a : Bool) (word : ℕ) (b b' : Books) → (a ≡ true → IsPost q link b.view word) → PostedIf a q.slots code word b b' → Posts b.view b'.view

@@ -32,6 +32,7 @@ use Rattle.failed_told.proofs.Clients.{queued_caused}
 use Rattle.failed_told.proofs.Codes.{IsMissCode, IsReadCode, deed_code}
 use Rattle.failed_told.proofs.Posters.{reason_low, code_is}
 use Rattle.failed_told.proofs.Views.{queued_in}
+use Rattle.failed_told.proofs.Taken.{OthersRead}
 
 module _ (p : Plan) (clients : List (List Task)) (outcomes : List (Option Outcome)) (fixed : Fixed) (gave : ℕ → List ℕ) (orders : ℕ → Order) where
   abbrev PostedHere : ℕ → Type 0
@@ -59,7 +60,7 @@ module _ (p : Plan) (clients : List (List Task)) (outcomes : List (Option Outcom
 
   module _ {O : Type 0} {g : Ghosts O} {state : O → OutState} {readers : List (LinkReader g)} {slots : ℕ} {setup : List Task} {others_asked : List (List Task)} {opens : List ℕ} {told ended : List (List Told)} {places : List PlaceWord} {vrefs : List Vref} {outs : List O} {ids : List (View Asked)}
       (run : RanWith g state readers p slots setup others_asked opens told ended places vrefs outs ids) (said : AreSaid outcomes told) (notes : List (Noted Asked))
-      (others : (i first e : ℕ) → 0 < queued_in i first e notes → (0 < total (λ (v : View Asked). queued_in i first e v.notes) ids) ⊎ IsReadCode (code_of e)) where
+      (others : OthersRead ids notes) where
     -- a client dropped a message with this code
     pub record WasDropCode (code : ℕ) : Type 0 where
       pub place : ℕ

@@ -62,6 +62,7 @@ use Rattle.failed_told.specs.Missed.{delivery_missed, attempt_missed, went_misse
 use Rattle.failed_told.proofs.Losses.{IsAskedIn}
 use Rattle.failed_told.proofs.Posters.{attempt_low}
 use Rattle.attempts_told.specs.call_whys.specs.expire_told.specs.Below.sock_deeds.proofs.Places.{map_back}
+use Rattle.failed_told.proofs.Taken.{OneDeed}
 
 -- ## Frames of a deed
 
@@ -279,15 +280,11 @@ module _ {O : Type 0} {g : Ghosts O} {state : O → OutState} {readers : List (L
 
   -- a message of the log with the place index of an attempt was sent by the deed that is that attempt
   pub record IsSender (o id n : ℕ) (e : Entry) : Type 0 where
-    pub place : ℕ
-    pub client : Client g state p q
-    pub in_crew : get_elem? crew place ≡ some client
-    pub index : ℕ
-    pub deed : Deed g state p q
-    pub there : get_elem? (deeds_of client) index ≡ some deed
+    pub one : OneDeed run
+    pub open one use *
     pub at : ℕ
-    pub sent : get_elem? (entries_of deed) at ≡ some e
-    pub attempt : IsAttemptOf o id n deed
+    pub sent : get_elem? (entries_of one.deed) at ≡ some e
+    pub attempt : IsAttemptOf o id n one.deed
 
   pub sender : (o id n : ℕ) → n < 8 → IsIdOf slots notes o id → (k : ℕ) (e : Entry) → get_elem? run.closed.ordered.log k ≡ some e → e.heading.place ≡ 8 * o + n → IsSender o id n e
   sender o id n low is k e logged place =
@@ -296,7 +293,7 @@ module _ {O : Type 0} {g : Ghosts O} {state : O → OutState} {readers : List (L
       let y = map_back own_of crew j.0 _ j.1 in
       let m : ℕ = before a.author run.closed.ordered.by k in
       let own = flat_from entries_of (deeds_of y.0) m e (subst (λ (l : List Entry). get_elem? l m ≡ some e) (sym y.2) a.place) in
-      record { place = j.0; client = y.0; in_crew = y.1; index = own.0; deed = own.1; there = own.2; at = own.3; sent = own.4; attempt = frame_attempt o id n low is j.0 y.0 y.1 own.0 own.1 own.2 own.3 e own.4 place }
+      record { one = record { place = j.0; client = y.0; in_crew = y.1; index = own.0; deed = own.1; there = own.2 }; at = own.3; sent = own.4; attempt = frame_attempt o id n low is j.0 y.0 y.1 own.0 own.1 own.2 own.3 e own.4 place }
 
   -- so the log has no entry with the place index of one that came to nothing
   pub not_accepted : (code : ℕ) (c : ℕ) (x : Client g state p q) → get_elem? crew c ≡ some x → (i : ℕ) (d : Deed g state p q) → get_elem? (deeds_of x) i ≡ some d → missed_in d ≡ Some code → IsBacked (view_of x) d → slot_of (id_of d) < slots

@@ -17,7 +17,7 @@ use Rattle.seat_programs.specs.declared.task.Op.TheVariants as ops
 use Rattle.seat_programs.specs.declared.task.Task.{Task}
 use Rattle.seat_programs.specs.Told.{AreTasks, IsTask, Became}
 use Rattle.seat_programs.specs.ToldCalls.{Fixed, Order, IsExpiredWith, FailedBy, ByExpiry}
-use Rattle.corr_core.specs.Word.{Parts, parts, code_of}
+use Rattle.corr_core.specs.Word.{Parts, parts}
 use Rattle.corr_core.specs.Law.{total}
 use Rattle.corr_core.specs.declared.marks.Kept.{Kept}
 use Rattle.corr_core.specs.declared.marks.Note.{Note}
@@ -41,7 +41,6 @@ use Rattle.attempts_told.specs.call_whys.specs.expire_told.specs.Below.call_erro
 use Rattle.attempts_told.specs.call_whys.specs.expire_told.specs.Below.call_run.specs.Readers.{LinkReader}
 use Rattle.attempts_told.specs.call_whys.specs.expire_told.specs.Below.call_run.specs.Threads.{RanWith, MayRunAll, ids_of}
 use Rattle.attempts_told.specs.call_whys.specs.expire_told.specs.call_places.specs.Counted.{HaveNotesOf}
-use Rattle.attempts_told.specs.call_whys.specs.expire_told.specs.call_places.specs.Deeds.{Deed}
 use Rattle.attempts_told.specs.call_whys.specs.expire_told.specs.call_places.proofs.Clients.{Client, view_of, tasks_of, deeds_of}
 use Rattle.attempts_told.specs.call_whys.specs.expire_told.specs.call_places.proofs.Places.{tasks_are, noted_among, crew_of}
 use Rattle.attempts_told.specs.call_whys.specs.expire_told.specs.call_told.specs.Least.{is_made_for, is_locked_for}
@@ -49,13 +48,13 @@ use Rattle.attempts_told.specs.call_whys.specs.expire_told.specs.call_told.proof
 use Rattle.attempts_told.specs.call_whys.specs.expire_told.specs.call_told.proofs.Least.{lock_of, end_number}
 use Rattle.attempts_told.specs.call_whys.specs.expire_told.specs.Said.{AreSaid, HaveKeptOf}
 use Rattle.attempts_told.specs.call_whys.specs.expire_told.proofs.Expires.{found_maker}
-use Rattle.failed_told.specs.Missed.{missed_in, id_of, IsBacked, attempt_of}
-use Rattle.failed_told.specs.Reasons.{KeepsWord, WasDropped, Reason, timed_out, missed, dropped, IsCaused}
+use Rattle.failed_told.specs.Missed.{attempt_of}
+use Rattle.failed_told.specs.Reasons.{KeepsWord, Reason, timed_out, missed, dropped, IsCaused}
 use Rattle.failed_told.proofs.Clients.{Says}
 use Rattle.failed_told.proofs.Codes.{IsMissCode, IsReadCode, deed_code}
 use Rattle.failed_told.proofs.Posters.{Poster, posted_by}
-use Rattle.failed_told.proofs.Views.{queued_in}
 use Rattle.attempts_told.specs.call_whys.specs.expire_told.specs.Below.sock_deeds.proofs.Places.{to_slice, map_there}
+use Rattle.failed_told.proofs.Taken.{OthersRead, MissedBy, DroppedBy}
 
 -- ## The last attempt
 
@@ -76,9 +75,7 @@ last_one k code n open_ e = let w : Parts = parts k.word.0 in eqb-true (w.attemp
 module _ {O : Type 0} {g : Ghosts O} {state : O → OutState} {readers : List (LinkReader g)} {p : Plan} {slots : ℕ} {setup : List Task} {clients : List (List Task)} {opens : List ℕ} {told ended : List (List Told)} {places : List PlaceWord} {vrefs : List Vref} {outs : List O} {ids : List (View Asked)}
     (run : RanWith g state readers p slots setup clients opens told ended places vrefs outs ids) (tasks : AreTasks p (setup ∷ clients)) (may : MayRunAll p (ids_of p slots) setup clients)
     (notes : List (Noted Asked)) (kept : List Kept) (words : List ℕ) (closing : Closing (ids_of p slots) notes kept words) (noted : HaveNotesOf ids notes) (keeps : HaveKeptOf ids kept)
-    (outcomes : List (Option Outcome)) (said_own : AreSaid outcomes told) (said_ended : AreSaid outcomes ended)
-    -- whatever the clients didn't queue has a code with which whoever reads the links ends calls
-    (others : (i first e : ℕ) → 0 < queued_in i first e notes → (0 < total (λ (v : View Asked). queued_in i first e v.notes) ids) ⊎ IsReadCode (code_of e)) where
+    (outcomes : List (Option Outcome)) (said_own : AreSaid outcomes told) (said_ended : AreSaid outcomes ended) (others : OthersRead ids notes) where
   open crew_of run use {q, crew, every}
 
   abbrev PosterHere : ℕ → ℕ → Option ℕ → Type 0
@@ -149,29 +146,19 @@ module _ {O : Type 0} {g : Ghosts O} {state : O → OutState} {readers : List (L
       abbrev IsCurrent : ℕ → Type 0
       IsCurrent n = (e.attempt ≡ Some n) × (n ≡ (parts lock.word.0).attempt)
 
-      -- its current attempt came to nothing, as one of the clients' deeds
+      -- its current attempt came to nothing
       pub record MissedLast : Type 0 where
         pub attempt : ℕ
         pub current : IsCurrent attempt
-        pub place : ℕ
-        pub client : Client g state p q
-        pub in_crew : get_elem? crew place ≡ some client
-        pub index : ℕ
-        pub deed : Deed g state p q
-        pub there : get_elem? (deeds_of client) index ≡ some deed
-        pub missed : missed_in deed ≡ Some e.code
-        pub backed : IsBacked (view_of client) deed
-        pub id_is : id ≡ id_of deed
-        pub attempt_is : attempt ≡ attempt_of deed
+        pub by : MissedBy run id attempt e.code
+        pub open by use *
 
-      -- or its message was dropped, by a client's deed
+      -- or its message was dropped
       pub record DroppedLast : Type 0 where
         pub attempt : ℕ
         pub current : IsCurrent attempt
-        pub place : ℕ
-        pub client : Client g state p q
-        pub in_crew : get_elem? crew place ≡ some client
-        pub drop : WasDropped state p q (deeds_of client) id e.code attempt
+        pub by : DroppedBy run id attempt e.code
+        pub open by use *
 
       -- its time was out, its attempt came to nothing or was dropped, or whoever read the links ended it
       pub data Verdict : Type 0 where
@@ -185,8 +172,8 @@ module _ {O : Type 0} {g : Ghosts O} {state : O → OutState} {readers : List (L
 
       by_reason : (w : PosterHere id e.code e.attempt) → Reason state p q (tasks_of w.client) (Says run outcomes said_own) (deeds_of w.client) (view_of w.client) id e.code e.attempt → Verdict
       by_reason w (timed_out i t o by s u h there is says counts kept_ a b z) = timed b (expired_with o w.place i w.client t by w.at there is says counts kept_)
-      by_reason w (missed i d there is backed a z) = lost (record { attempt = attempt_of d; current = is_current (attempt_of d) z; place = w.place; client = w.client; in_crew = w.at; index = i; deed = d; there = there; missed = is; backed = backed; id_is = a; attempt_is = refl })
-      by_reason w (dropped n d z) = fell (record { attempt = n; current = is_current n z; place = w.place; client = w.client; in_crew = w.at; drop = d })
+      by_reason w (missed i d there is backed a z) = lost (record { attempt = attempt_of d; current = is_current (attempt_of d) z; by = record { one = record { place = w.place; client = w.client; in_crew = w.at; index = i; deed = d; there = there }; missed = is; backed = backed; id_is = a; attempt_is = refl } })
+      by_reason w (dropped n d z) = fell (record { attempt = n; current = is_current n z; by = record { place = w.place; client = w.client; in_crew = w.at; drop = d } })
 
       pub verdict : Verdict
       verdict = elim (posted_by run outcomes said_own notes kept words closing noted others c x at lock e.code e.attempt e.cause) [ inl w ↦ by_reason w w.reason | inr loss ↦ behind loss ]

@@ -1,31 +1,25 @@
 -- An error that a reader queued when its reading ended waits at an id of which the reader had met no response, unless it had ended a range with the response's version.
-use Rattle.std.proofs.Common.{◌≡◌, ℕ, ◌<◌, ◌⊎◌, inl, inr, ⊎_elim, Bool, true, false, List, [], ◌∷◌, Some, None, refl, subst, arith}
+use Rattle.std.proofs.Common.{◌≡◌, ℕ, ◌⊎◌, inl, inr, ⊎_elim, Bool, true, false, List, [], ◌∷◌, Some, None, refl, subst, arith}
 use Rattle.std.specs.Prelude.{Option, ◌==◌}
-use mathlib.Core.Logic.{dite}
-use native.Mathlib.Decide.{ℕ_discrete}
 use Rattle.sock_words.specs.Words.{at_word_link}
 use Rattle.sock_words.specs.declared.at_word.AtWord.{AtWord}
 use Rattle.corr_core.specs.Word.{parts}
-use Rattle.corr_core.specs.Law.{is_queued}
-use Rattle.corr_core.specs.declared.marks.Note.TheVariants.{Queued}
-use Rattle.corr_core.specs.declared.marks.Noted.{Noted}
 use Rattle.corr_core.specs.declared.marks.Plan.{Plan}
 use Rattle.corr_core.specs.declared.marks.View.{View}
 use Rattle.id_rule.specs.Lawful.{at_index, with_kept}
 use Rattle.sock_message.specs.Asked.{Asked}
 use Rattle.corr_id.specs.declared.posts.Posted.{Posted}
 use Rattle.corr_id.specs.declared.posts.Posted.TheVariants.{Locked as HasLock, Queued as IsQueued}
-use Rattle.corr_id.specs.Calls.{is_saw, slot_of, version_of, error_in, one, Found, HasId}
+use Rattle.corr_id.specs.Calls.{is_saw, slot_of, version_of, error_in, Found, HasId}
 use Rattle.corr_id.specs.Posts.{PostOk}
 use Rattle.attempts_told.specs.call_whys.specs.expire_told.specs.Below.call_run.specs.rpc_reader.specs.prpc_frame.specs.declared.frame.Frame.{Frame}
-use Rattle.attempts_told.specs.call_whys.specs.expire_told.specs.Below.call_client.proofs.Telling.{did_total}
 use Rattle.attempts_told.specs.call_whys.specs.expire_told.specs.call_deeds.specs.Below.rpc_reader.specs.Books.{Books}
 use Rattle.attempts_told.specs.call_whys.specs.expire_told.specs.call_deeds.specs.Below.rpc_reader.specs.Met.{is_asked, is_for}
 use Rattle.attempts_told.specs.call_whys.specs.expire_told.specs.call_deeds.specs.Below.rpc_reader.specs.Posting.{KeptNone, PostedIf, PostedAt, PostedAll, call_at, attempt_at}
 use Rattle.attempts_told.specs.call_whys.specs.expire_told.specs.call_told.proofs.Responses.{HasEnded, ended_still, goes_view, same_notes, posted_goes, all_goes, queued_met}
 use Rattle.attempts_told.specs.call_whys.specs.expire_told.specs.call_told.proofs.Unanswered.{AllMet, all_met}
-use Rattle.failed_told.proofs.Posts.{books_stay, again_stays, posted_stays}
-use Rattle.failed_told.proofs.Views.{queued_silent, queued_in, Later, later_then, Stays, queued_one, did_later, quiet_stays, kept_stays, got_stays}
+use Rattle.failed_told.proofs.Posts.{Queues, queues_none, queues_then, queues_one, books_stay, again_stays, posted_stays}
+use Rattle.failed_told.proofs.Views.{Later, Stays, did_later, quiet_stays, kept_stays, got_stays}
 
 -- so many slots, and responses that were given
 module _ (slots : ℕ) (Given : Frame → Type 0) (asked : (f : Frame) → Given f → is_asked slots f ≡ true) where
@@ -45,46 +39,27 @@ module _ (slots : ℕ) (Given : Frame → Type 0) (asked : (f : Frame) → Given
   }
 
   -- each error that is noted as queued more is at such an id
-  pub record Waits (v w : View Asked) : Type 0 where
-    pub later : Later v w
-    pub queued : (i first e : ℕ) → 0 < queued_in i first e w.notes → (0 < queued_in i first e v.notes) ⊎ WaitsAt w i first
+  abbrev pub Waits : View Asked → View Asked → Type 0
+  Waits v w = Queues (λ u i first e. WaitsAt u i first) v w
 
   pub waits_none : (v w : View Asked) → Stays v w → Waits v w
-  waits_none v w s = record { later = s.later; queued = λ i first e h. inl (let a = s.queued i first e in omega (arith, a, h)) }
+  waits_none = queues_none (λ u i first e. WaitsAt u i first)
 
   pub waits_then : (u v w : View Asked) → Waits u v → Waits v w → Waits u w
-  waits_then u v w a b = record {
-    later = later_then u v w a.later b.later;
-    queued = λ i first e h. elim (b.queued i first e h) [
-      | inl x ↦ elim (a.queued i first e x) [ inl y ↦ inl y | inr y ↦ inr (waits_later v w b.later i first y) ]
-      | inr y ↦ inr y
-    ];
-  }
+  waits_then = queues_then (λ u i first e. WaitsAt u i first) (λ v w l i first e. waits_later v w l i first)
 
   module _ (code : ℕ) where
     post_waits : (word : ℕ) (b : Books) (seen : View Asked) (answer : Posted Asked) → AllMet slots Given asked b → (b.starved ≡ true → ⊥) → PostOk slots b.view seen (call_at word) code (attempt_at word) answer → KeptNone answer word seen b.early → Waits b.view seen
     post_waits word b seen (HasLock k) all calm p none_ = waits_none b.view seen (got_stays k.slot b.view seen p.4.0 (parts k.word.0) k.content p.4.1)
-    post_waits word b seen IsQueued all calm p none_ = record {
-      later = later;
-      queued = λ i first e h. (
-          let error : ℕ = error_in code (attempt_at word) in
-          let es : List (Noted Asked) = one (slot_of (call_at word)) (Queued (version_of (call_at word)) error) in
-          let a = did_total (is_queued first e) (queued_silent first e) (slot_of (call_at word)) b.view seen _ es p.0 i in
-          dite (ℕ_discrete (queued_in i first e es) 0)
-          (λ z. inl (omega (arith, a, z, h)))
-          (λ ne. inr (let x = queued_one (slot_of (call_at word)) i first e (version_of (call_at word)) error (omega (arith, ne)) in subst (λ (n : ℕ). WaitsAt seen i n) x.1 (subst (λ (j : ℕ). WaitsAt seen j (version_of (call_at word))) x.0 here))));
-    }
+    post_waits word b seen IsQueued all calm p none_ = queues_one (λ u i first e. WaitsAt u i first) (slot_of (call_at word)) (version_of (call_at word)) (error_in code (attempt_at word)) b.view seen _ p.0 here
       where
-        later : Later b.view seen
-        later = did_later (slot_of (call_at word)) b.view seen _ _ p.0
-
         here : WaitsAt seen (slot_of (call_at word)) (version_of (call_at word))
         here = record {
           word = none_.0;
           found = none_.1.0;
           has = none_.1.1;
           alone = λ f given is. ⊎_elim (λ s. absurd (calm s)) (λ h. h)
-              (queued_met slots code b.view word none_.0 (record b { view = seen }) f p.1.1.5 none_.1.1.0 none_.2 is (all_met slots Given asked b (record b { view = seen }) (goes_view slots b seen later.notes) all f given));
+              (queued_met slots code b.view word none_.0 (record b { view = seen }) f p.1.1.5 none_.1.1.0 none_.2 is (all_met slots Given asked b (record b { view = seen }) (goes_view slots b seen (did_later (slot_of (call_at word)) b.view seen _ _ p.0).notes) all f given));
         }
     post_waits word b seen _ all calm p none_ = waits_none b.view seen (quiet_stays b.view seen p.0)
 

@@ -57,7 +57,7 @@ use Rattle.script_parts.proofs.MayCall.{IsOwnTask}
 use Rattle.script_parts.proofs.Said.{IsSaid, end_said}
 use Rattle.script_parts.proofs.Sayings.{told_each, none_told}
 use Rattle.script_parts.proofs.Tellers as tellers_of
-use Rattle.script_parts.proofs.Tellers.{IsEndTold, end_made}
+use Rattle.script_parts.proofs.Tellers.{IsEndTold, end_made, together}
 use Rattle.callless_fits.specs.sock_deeds.proofs.Places.{to_slice, map_there}
 
 -- an id that was made for an operation's call
@@ -96,14 +96,7 @@ module _ {O : Type 0} {g : Ghosts O} {state : O → OutState} {readers : List (L
 
   -- over all that tell of ends of calls, none of which is told twice
   module _ (tellers : List (List Told)) (last : List Told) (end_told : (d j : ℕ) (ts : List Told) (x : Told) → get_elem? (tellers ++ last ∷ []) d ≡ some ts → get_elem? ts j ≡ some x → IsEndTold slots notes x) where
-    abbrev many : ℕ
-    many = (plan_of script).operations
-
-    abbrev outcomes : List (Option Outcome)
-    outcomes = outcomes_of many told tellers last
-
-    abbrev every : List (List Told)
-    every = (told ++ tellers) ++ last ∷ []
+    open together script told tellers last use {many, outcomes, every}
 
     abbrev ends : List (List Told)
     ends = tellers ++ last ∷ []

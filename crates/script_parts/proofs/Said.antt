@@ -4,6 +4,7 @@ use mathlib.Core.Option.{some, some-injective, some-ne-none}
 use lib.ListN.{get_elem?}
 use Rattle.sock_words.specs.declared.outcome.Outcome.{Outcome}
 use Rattle.rpc_client.specs.declared.acting.Told.{Told}
+use Rattle.calls_done.specs.call_whys.specs.call_told.specs.Least.{IsToldIn}
 use Rattle.callless_fits.specs.sock_deeds.proofs.Flats.{append_first, append_later}
 use Rattle.script_parts.specs.Saying.{said_by, said_by_each}
 use Rattle.script_parts.proofs.Sayings.{none_long}
@@ -12,16 +13,6 @@ use Rattle.script_parts.specs.Told.{outcomes_of}
 -- something is said of this operation
 abbrev pub IsSaid : List (Option Outcome) → ℕ → Type 0
 IsSaid said o = (by : Outcome) × (slice_get said o ≡ Some (Some by))
-
--- an operation that is told
-pub record IsToldIn (o : ℕ) (tss : List (List Told)) : Type 0 where
-  pub teller : ℕ
-  pub place : ℕ
-  pub told : List Told
-  pub one : Told
-  pub by : get_elem? tss teller ≡ some told
-  pub at : get_elem? told place ≡ some one
-  pub number : one.number ≡ o
 
 set_here : (said : List (Option Outcome)) (n : ℕ) (by : Outcome) → n < length said → IsSaid (slice_set said n (Some by)) n
 set_here [] n by less = absurd (omega arith)

@@ -114,6 +114,18 @@ module _ (q : id_plan.Plan) (v : View Asked) (words : List ℕ) (closing : Closi
       its_end slot w by (by_code code loss e) = ap (ends_of (id_of slot w)) e ∙ only-at (id_of slot w) (id_of slot w) refl
       its_end slot w by (by_response f given e) = ap (ends_of (id_of slot w)) e ∙ (ending_is (id_of slot w) (id_of slot w) f ∙ only-at (id_of slot w) (id_of slot w) refl)
 
+-- ## All that tell
+
+-- how many operations the script has, what is put together of them, and by whom
+module _ (script : List Item) (told tellers : List (List Told)) (last : List Told) where
+  pub record Together : Type 0 where
+    pub many : ℕ
+    pub outcomes : List (Option Outcome)
+    pub every : List (List Told)
+
+  abbrev pub together : Together
+  together = record { many = (plan_of script).operations; outcomes = outcomes_of (plan_of script).operations told tellers last; every = (told ++ tellers) ++ last ∷ [] }
+
 -- ## A run
 
 module _ {O : Type 0} {g : Ghosts O} {state : O → OutState} {readers : List (LinkReader g)} {p : Plan} {slots : ℕ} {setup : List Task} {clients : List (List Task)} {opens : List ℕ} {told ended : List (List Told)} {places : List PlaceWord} {vrefs : List Vref} {outs : List O} {ids : List (View Asked)}
@@ -261,14 +273,7 @@ module _ {O : Type 0} {g : Ghosts O} {state : O → OutState} {readers : List (L
   -- all that is told besides what the clients told of their own are ends of calls
   module _ (notes : List (Noted Asked)) (have : HaveNotesOf ids notes) (tellers : List (List Told)) (last : List Told)
       (end_told : (d j : ℕ) (ts : List Told) (x : Told) → get_elem? (tellers ++ last ∷ []) d ≡ some ts → get_elem? ts j ≡ some x → IsEndTold slots notes x) where
-    abbrev many : ℕ
-    many = (plan_of script).operations
-
-    abbrev outcomes : List (Option Outcome)
-    outcomes = outcomes_of many told tellers last
-
-    abbrev every : List (List Told)
-    every = (told ++ tellers) ++ last ∷ []
+    open together script told tellers last use {many, outcomes, every}
 
     -- a client told it of its own operation, or it is the end of a call
     pub whose : (d j : ℕ) (ts : List Told) (x : Told) → get_elem? every d ≡ some ts → get_elem? ts j ≡ some x → (get_elem? told d ≡ some ts) ⊎ ((e : ℕ) × (get_elem? (tellers ++ last ∷ []) e ≡ some ts) × IsEndTold slots notes x)

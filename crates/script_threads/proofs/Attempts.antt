@@ -50,7 +50,7 @@ use Rattle.script_parts.proofs.MayCall.{IsOwnTask, all_own}
 use Rattle.script_parts.proofs.Placed.{each_notes}
 use Rattle.script_parts.proofs.Shown.{view_of, flat_mapped}
 use Rattle.script_threads.specs.Told.{IsThreadsRun}
-use Rattle.script_threads.proofs.Cast.{cast_of}
+use Rattle.script_threads.proofs.Speaking.{cast_of}
 use Rattle.script_threads.proofs.Left.{all_seats, notes_of as notes_taken}
 use Rattle.script_threads.proofs.Placed.{left_told}
 use Rattle.script_threads.proofs.Sockets as sockets

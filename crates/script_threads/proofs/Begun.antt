@@ -18,7 +18,7 @@ use Rattle.script_parts.specs.call_whys.specs.Below.sock_deeds.proofs.Orders.{or
 use Rattle.script_parts.specs.calls_done.specs.Begun.{FirstAttempt, Stands, BecameUnopened, FoundFailing, FoundFull}
 use Rattle.script_parts.specs.calls_done.proofs.Begun.{first_attempt}
 use Rattle.script_threads.specs.Told.{seated_plan, IsThreadsRun}
-use Rattle.script_threads.proofs.Cast.{cast_of}
+use Rattle.script_threads.proofs.Speaking.{cast_of}
 use Rattle.script_threads.proofs.Sockets as sockets
 
 -- nothing of it speaks of seats

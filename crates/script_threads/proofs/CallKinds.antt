@@ -34,7 +34,7 @@ use Rattle.script_parts.proofs.Tellers.{HasResult, IsEndTold}
 use Rattle.script_parts.proofs.Tellers as tellers
 use Rattle.script_parts.specs.calls_done.proofs.Known.{IsOfCall}
 use Rattle.script_threads.specs.Told.{IsThreadsRun}
-use Rattle.script_threads.proofs.Cast.{cast_of}
+use Rattle.script_threads.proofs.Speaking.{cast_of}
 use Rattle.script_threads.proofs.Reports.{text_of, text_outcomes}
 use Rattle.script_threads.proofs.Sockets as sockets
 use Rattle.script_parts.specs.call_whys.specs.Below.sock_deeds.proofs.Places.{map_back}

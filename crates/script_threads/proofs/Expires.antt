@@ -18,7 +18,7 @@ use Rattle.script_parts.specs.call_whys.specs.expire_told.proofs.Whole.{expire_w
 use Rattle.script_parts.specs.call_whys.specs.Below.sock_deeds.proofs.Orders.{orders}
 use Rattle.script_parts.specs.Told.{AreCallsTold}
 use Rattle.script_threads.specs.Told.{IsThreadsRun}
-use Rattle.script_threads.proofs.Cast.{cast_of}
+use Rattle.script_threads.proofs.Speaking.{cast_of}
 use Rattle.script_threads.proofs.Attempts.{calls_apart}
 use Rattle.script_threads.proofs.Failing.{failed, again, expires}
 use Rattle.script_threads.proofs.Sockets as sockets

@@ -93,7 +93,7 @@ use Rattle.script_parts.proofs.Sockets.{map_twice}
 use Rattle.script_parts.proofs.Tellers.{split, only_one, IsEndTold}
 use Rattle.script_parts.proofs.Tellers as tellers
 use Rattle.script_threads.specs.Told.{IsThreadsRun}
-use Rattle.script_threads.proofs.Cast.{cast_of}
+use Rattle.script_threads.proofs.Speaking.{cast_of}
 use Rattle.script_threads.proofs.Early.{ShowsEarly, ShowsEnd, early_shown, reader_end, HasPlace, place_of}
 use Rattle.script_threads.proofs.Left.{all_seats, early_of, notes_of}
 use Rattle.script_threads.proofs.Attempts as attempts

@@ -20,7 +20,7 @@ use Rattle.script_parts.specs.call_whys.specs.expire_told.proofs.Joins.{joins_wh
 use Rattle.script_parts.proofs.Expiring.{asks_calls}
 use Rattle.script_threads.specs.Joins.{AreJoinsTold}
 use Rattle.script_threads.specs.Told.{seated_plan, IsThreadsRun}
-use Rattle.script_threads.proofs.Cast.{cast_of}
+use Rattle.script_threads.proofs.Speaking.{cast_of}
 use Rattle.script_threads.proofs.Sockets.{are, may, have}
 use Rattle.script_threads.proofs.Telling.{keeps, said, said_ended, begun_not}
 

@@ -1,4 +1,4 @@
-pub mod Cast
+pub mod Speaking
 pub mod Gathering
 pub mod Opened
 pub mod Seated

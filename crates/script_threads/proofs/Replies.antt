@@ -55,7 +55,7 @@ use Rattle.script_parts.specs.served_told.proofs.Own.{own_replies}
 use Rattle.script_threads.specs.Gave.{offered_for, WasReadOut, GaveOffer, GaveOffers}
 use Rattle.script_threads.specs.Served.{run_of, IsShort, IsServedText}
 use Rattle.script_threads.specs.Told.{HadGivenNone, IsThreadsRun, IsThreadsText}
-use Rattle.script_threads.proofs.Cast.{cast_of}
+use Rattle.script_threads.proofs.Speaking.{cast_of}
 use Rattle.script_threads.proofs.Done.{GivesAll, GivesLast, text_complete}
 use Rattle.script_threads.proofs.Linked.{opens_link}
 use Rattle.script_threads.proofs.ReadOut.{ShowsOut, at_end, at_closing, at_failure, at_limit, read_or_none, found_none}

@@ -31,7 +31,7 @@ use Rattle.script_parts.proofs.Sayings.{long_each}
 use Rattle.script_parts.proofs.Shown.{view_of, outcomes_few}
 use Rattle.script_threads.specs.Told.{IsThreadsRun, IsThreadsText}
 use Rattle.script_threads.specs.Sockets.{AreSocketsTold}
-use Rattle.script_threads.proofs.Cast.{cast_of}
+use Rattle.script_threads.proofs.Speaking.{cast_of}
 use Rattle.script_threads.proofs.Joins.{joins_told}
 use Rattle.script_threads.proofs.Left.{early_of, notes_of}
 use Rattle.script_threads.proofs.Attempts.{attempts_beside, attempts_last}

@@ -18,7 +18,7 @@ use Rattle.script_parts.specs.report_fits.proofs.Numbering.{numbered_length}
 use Rattle.script_parts.specs.report_fits.proofs.Sizes.{keeps_limits}
 use Rattle.script_parts.specs.call_whys.proofs.Versions.{IsIdFor, shown_end}
 use Rattle.script_threads.specs.Told.{seated_ids, IsThreadsRun}
-use Rattle.script_threads.proofs.Cast.{cast_of}
+use Rattle.script_threads.proofs.Speaking.{cast_of}
 use Rattle.script_threads.proofs.Attempts.{are_ids}
 use Rattle.script_threads.proofs.Reports.{text_of, text_outcomes}
 

@@ -58,7 +58,7 @@ use Rattle.script_parts.proofs.Tellers.{split, only_one, IsEndTold, from_told}
 use Rattle.script_parts.proofs.Tellers as tellers
 use Rattle.script_threads.specs.Sockets.{AreSocketsTold}
 use Rattle.script_threads.specs.Told.{IsThreadsRun}
-use Rattle.script_threads.proofs.Cast.{cast_of}
+use Rattle.script_threads.proofs.Speaking.{cast_of}
 use Rattle.script_threads.proofs.Early.{ShowsEarly, early_shown}
 use Rattle.script_threads.proofs.Left.{early_of, notes_of}
 use Rattle.script_threads.proofs.Linked.{opens_link}

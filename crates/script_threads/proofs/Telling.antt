@@ -35,7 +35,7 @@ use Rattle.script_parts.proofs.Shown.{view_of, flat_mapped}
 use Rattle.script_parts.proofs.Sockets.{map_twice}
 use Rattle.script_parts.proofs.Tellers as tellers
 use Rattle.script_threads.specs.Told.{IsThreadsRun}
-use Rattle.script_threads.proofs.Cast.{cast_of}
+use Rattle.script_threads.proofs.Speaking.{cast_of}
 use Rattle.script_threads.proofs.Left.{all_seats, early_of, notes_of, kept_of}
 use Rattle.script_threads.proofs.Sockets as sockets
 

@@ -28,7 +28,7 @@ use Rattle.call_run.specs.rpc_reader.specs.Resting.{HadEnded, EndedLast, OneEnde
 use Rattle.call_run.specs.rpc_reader.specs.Running.{ReadLink}
 
 -- it holds over two changes in turn, and where nothing was noted; where the table was looked at, where a lock was got, where a post was answered, and where a call ended
-pub record Reads (R : View Asked → View Asked → Type 0) : Type 0 where
+pub record Spans (R : View Asked → View Asked → Type 0) : Type 0 where
   pub in_turn : (u v w : View Asked) → R u v → R v w → R u w
   pub noted : (v w : View Asked) → w.notes ≡ v.notes → R v w
   pub looks : (v w : View Asked) → Quiet v w → R v w
@@ -36,7 +36,7 @@ pub record Reads (R : View Asked → View Asked → Type 0) : Type 0 where
   pub posts : (slots : ℕ) (v w : View Asked) (id code : ℕ) (attempt : Option ℕ) (answer : Posted Asked) → PostOk slots v w id code attempt answer → R v w
   pub ends : (i f n : ℕ) (v w : View Asked) → Became i v w [] (one i (Ended f n)) → R v w
 
-module _ {R : View Asked → View Asked → Type 0} (x : Reads R) where
+module _ {R : View Asked → View Asked → Type 0} (x : Spans R) where
   abbrev Along : Books → Books → Type 0
   Along b b' = R b.view b'.view
 
