@@ -261,8 +261,8 @@ module _ {S : Type 0} (z : TableId) (p : Plan) (y : TableId) where
   rested_same s t c d e r same = record { rest = r.rest; refs = r.refs; seen = r.seen; keeps = keeps_same y c d e r.keeps same }
 
   -- between the two what else the client has for calls may have changed
-  pub rested_then : (s t u : Seat S View) (c d e f : CallSeat) → Rested z p y s t c d → e.seat ≡ d.seat → Rested z p y t u e f → Rested z p y s u c f
-  rested_then s t u c d e f a same b = record { rest = rest_then z p s t u a.rest b.rest; refs = refs_then s.me.0 t.me.0 u.me.0 a.refs b.refs; seen = seen_then s.me.0 t.me.0 u.me.0 a.seen b.seen; keeps = keeps_then y c e f (keeps_same y c d e a.keeps same) b.keeps }
+  pub rested_then : (s t u : Seat S View) (c d e f : CallSeat) → Rested z p y s t c d → Rested z p y t u e f → e.seat ≡ d.seat → Rested z p y s u c f
+  rested_then s t u c d e f a b same = record { rest = rest_then z p s t u a.rest b.rest; refs = refs_then s.me.0 t.me.0 u.me.0 a.refs b.refs; seen = seen_then s.me.0 t.me.0 u.me.0 a.seen b.seen; keeps = keeps_then y c e f (keeps_same y c d e a.keeps same) b.keeps }
 
 -- ## A client between two retries
 
