@@ -1,25 +1,19 @@
 -- What a client noted of attempts: each attempt to which an id advanced is a later one, and its range has it.
-use Rattle.std.proofs.Common.{◌≡◌, ℕ, zero, suc, ◌+◌, ◌<◌, ◌≤◌, inl, inr, Bool, true, false, cond, eqb, eq-eqb, ne_eqb, List, [], ◌∷◌, Some, None, refl, sym, ap, ◌∙◌, subst, arith}
+use Rattle.std.proofs.Common.{◌≡◌, ℕ, ◌+◌, ◌<◌, ◌≤◌, Bool, true, false, cond, eqb, eq-eqb, ne_eqb, List, [], ◌∷◌, refl, sym, ap, ◌∙◌, subst, arith}
 use Rattle.std.specs.Prelude.{Option as Maybe, ◌||◌, if◌then◌else◌}
 use mathlib.Core.Logic.{dite}
 use native.Mathlib.Decide.{ℕ_discrete, dec_lt}
 use Rattle.atomic_table.specs.Table.{Me}
 use Rattle.sock_io.specs.declared.link.Out.{Ghosts}
 use Rattle.sock_io.specs.Link.{OutState}
-use Rattle.sock_words.specs.Codes.{EFAILEDSOCKET, ERPCTIMEDOUT}
 use Rattle.sock_words.specs.declared.plain.Plan.{Plan}
 use Rattle.sock_words.specs.declared.socket_id.SocketId.{SocketId}
 use Rattle.sock_words.specs.declared.outcome.Outcome.{Outcome}
-use Rattle.sock_words.specs.declared.outcome.Outcome.TheVariants as outcome
-use Rattle.sock_model.specs.declared.view.View as sock_view
 use Rattle.call_whys.specs.call_told.specs.Below.call_run.specs.sock_rule.specs.declared.homes.Letter.{Letter}
-use Rattle.call_whys.specs.call_told.specs.Below.call_run.specs.sock_table.specs.declared.refs.SockRef.{SockRef}
 use Rattle.call_whys.specs.call_told.specs.Below.call_run.specs.rpc_reader.specs.call_table.specs.Errors.{is_final}
 use Rattle.call_whys.specs.call_told.specs.Below.call_run.specs.rpc_reader.specs.call_table.specs.declared.errors.Decision.TheVariants as decisions
 use Rattle.seat_programs.specs.declared.task.Op.{Op}
-use Rattle.seat_programs.specs.declared.task.Op.TheVariants as ops
 use Rattle.seat_programs.specs.declared.task.Task.{Task}
-use Rattle.call_whys.specs.call_told.specs.Below.call_run.specs.call_client.specs.write_chain.specs.declared.right.Undelivered.{Undelivered}
 use Rattle.corr_core.specs.Word.{Parts, parts}
 use Rattle.corr_core.specs.Law.{total, pair, is_attempt}
 use Rattle.corr_core.specs.declared.marks.Note.{Note}
@@ -29,11 +23,11 @@ use Rattle.corr_core.specs.declared.marks.Plan as id_plan
 use Rattle.corr_core.specs.declared.marks.Token.{Token}
 use Rattle.corr_core.specs.declared.marks.View.{View}
 use Rattle.corr_core.proofs.Notes.{pair-else, pair-else_first}
-use Rattle.id_rule.specs.Lawful.{notes_of, call_index, with_kept}
+use Rattle.id_rule.specs.Lawful.{notes_of, with_kept}
 use Rattle.sock_message.specs.Asked.{Asked}
 use Rattle.corr_id.specs.declared.calls.IdLock.{IdLock}
 use Rattle.corr_id.specs.declared.posts.Posted.{Posted}
-use Rattle.corr_id.specs.declared.posts.Posted.TheVariants.{Locked as HasLock, Queued as IsQueued, Gone, Crowded}
+use Rattle.corr_id.specs.declared.posts.Posted.TheVariants.{Locked as HasLock, Queued as IsQueued}
 use Rattle.corr_id.specs.declared.unlocks.Unlocked.{Unlocked}
 use Rattle.corr_id.specs.declared.unlocks.Unlocked.TheVariants.{Open, Next}
 use Rattle.corr_id.specs.Calls.{Did, Quiet, GotLock, Became, Found, one, is_saw, advance_note, slot_of, version_of, error_in}
@@ -45,21 +39,18 @@ use Rattle.call_whys.specs.call_told.specs.Below.call_run.specs.call_client.spec
 use Rattle.call_whys.specs.call_told.specs.Below.call_run.specs.call_client.specs.call_errors.specs.Handling.{is_whole, decision, Advanced, Decided}
 use Rattle.call_whys.specs.call_told.specs.Below.call_run.specs.call_client.specs.call_errors.specs.Handling as handling
 use Rattle.call_whys.specs.call_told.specs.Below.call_run.specs.call_client.specs.call_errors.specs.Posting.{Handled, PostedBy}
-use Rattle.call_whys.specs.call_told.specs.Below.call_run.specs.call_client.specs.call_errors.specs.Asking.{found_id, TimedOut, ExpiredBy, JoinedBy}
-use Rattle.call_whys.specs.call_told.specs.Below.call_run.specs.call_client.specs.call_writes.specs.Draining.{ToldDrop, of_send, of_call, DroppedAll, Drained}
-use Rattle.call_whys.specs.call_told.specs.Below.call_run.specs.call_client.specs.call_writes.specs.Draining as draining
-use Rattle.call_whys.specs.call_told.specs.Below.call_run.specs.call_client.specs.call_writes.specs.Sending.{DeliveredCalling, SentCalling}
 use Rattle.call_whys.specs.call_told.specs.Below.call_run.specs.call_client.specs.call_attempts.specs.Both.{Both}
-use Rattle.call_whys.specs.call_told.specs.Below.call_run.specs.call_client.specs.call_attempts.specs.Attempting.{code_for, DeliveredBy, went_out, came_back, AttemptedBy, nowhere, over_link}
+use Rattle.call_whys.specs.call_told.specs.Below.call_run.specs.call_client.specs.call_attempts.specs.Attempting.{AttemptedBy}
 use Rattle.call_whys.specs.call_told.specs.Below.call_run.specs.call_client.specs.call_attempts.specs.Calling.{MadeFor}
-use Rattle.call_whys.specs.call_told.specs.Below.call_run.specs.call_client.specs.call_attempts.specs.Retrying.{without_oldest, WentTo, stray, unopened, to_socket, RetriedBy, had_ended, overtaken, went_again, Retried, none_yet, one_more}
-use Rattle.call_whys.specs.call_told.specs.Below.call_run.specs.call_client.specs.Acting.{Stand, stand, both_of, letter_of, Acted}
-use Rattle.call_whys.specs.call_told.specs.Below.call_run.specs.call_client.specs.Running.{Course, Ran, begins}
+use Rattle.call_whys.specs.call_told.specs.Below.call_run.specs.call_client.specs.call_attempts.specs.Retrying.{without_oldest, RetriedBy, had_ended, overtaken, went_again}
+use Rattle.call_whys.specs.call_told.specs.Below.call_run.specs.call_client.specs.Acting.{Stand, Acted}
 use Rattle.call_whys.specs.call_told.specs.Below.call_run.specs.call_client.proofs.Telling.{quiet_total, did_total, none_of_one}
 use Rattle.call_whys.specs.call_told.specs.Below.call_run.specs.Threads.{Thread, IsThread}
 use Rattle.call_whys.specs.call_told.proofs.Noting.{became_did}
+use Rattle.call_whys.specs.call_told.specs.call_places.proofs.Follows.{Follows, attempted_by, went_to, acted}
+use Rattle.call_whys.specs.call_told.specs.call_places.proofs.Walks.{Walks, run_walk}
 use Rattle.call_whys.specs.call_told.specs.call_places.proofs.Still.{advances, attempt_silent, advance_there}
-use Rattle.call_whys.specs.call_told.specs.call_places.proofs.Own.{came, end_is}
+use Rattle.call_whys.specs.call_told.specs.call_places.proofs.Own.{end_is}
 
 -- ## Words of locks
 
@@ -257,82 +248,38 @@ module _ (slots : ℕ) where
   handled id code attempt (HasLock k) u s t p d = decided d (got_word slots k u s.view p.4.0 p.1 p.4.1)
   handled id code attempt _ u s t p e = same s t e
 
-  posted : (s : CallStand) (id code : ℕ) (attempt : Maybe ℕ) (t : CallStand) → PostedBy slots s id code attempt t → Here s t
-  posted s id code attempt t p =
+  posted : (s t : CallStand) (id code : ℕ) (attempt : Maybe ℕ) → PostedBy slots s id code attempt t → Here s t
+  posted s t id code attempt p =
       let u : CallStand = record { view = p.1.view; books = s.books } in
       in_turn s u t (post s.view p.1.view id code attempt p.0 p.1.post) (handled id code attempt p.0 s.view u t p.1.post p.1.handled)
 
   -- a word of an operation was noted
-  kept : (s t : CallStand) (place : ℕ) (own : Bool) (word : ℕ) → t.view ≡ with_kept place own word s.view → Here s t
-  kept s t place own word e = bounds_noted s.view t.view (ap (λ (y : View Asked). y.notes) e)
-
-  told_drop : (msg : Undelivered) (code : ℕ) (s t : CallStand) → ToldDrop slots msg code s t → Here s t
-  told_drop msg code s t (of_send e is) = same s t is
-  told_drop msg code s t (of_call ne p) = posted s msg.owner code (Some msg.label.attempt) t p
+  kept : (own : Bool) (s t : CallStand) (place word : ℕ) → t.view ≡ with_kept place own word s.view → t.books ≡ s.books → Here s t
+  kept own s t place word e b = bounds_noted s.view t.view (ap (λ (y : View Asked). y.notes) e)
 
 module _ (q : id_plan.Plan) where
   abbrev Grown : CallStand → CallStand → Type 0
   Grown s t = Bounds q.slots s.view t.view
 
-  timed_out : (number : ℕ) (by : Outcome) (s t : CallStand) → TimedOut q number by s t → Grown s t
-  timed_out number by s t h = let u = found_id q number h.id s in in_turn q.slots s u t (kept q.slots s u (call_index q number) false h.id refl) (posted q.slots u h.id ERPCTIMEDOUT None t (h.answer, h.posted))
+  -- so it is with all that comes by errors, messages and attempts
+  all_grow : Follows q Grown
+  all_grow = record {
+    same = same q.slots;
+    in_turn = in_turn q.slots;
+    finds = kept q.slots false;
+    looks = λ s t e. bounds_quiet q.slots s.view t.view;
+    posts = posted q.slots;
+  }
 
-  expired_by : (number : ℕ) (by : Outcome) (s t : CallStand) → ExpiredBy q number by s t → Grown s t
-  expired_by number outcome.NotBegun s t h = same q.slots s t h.same
-  expired_by number outcome.Expired s t h = timed_out number outcome.Expired s t h
-  expired_by number outcome.Queued s t h = timed_out number outcome.Queued s t h
-  expired_by number outcome.Late s t h = timed_out number outcome.Late s t h
-  expired_by number (outcome.Crowded first second) s t h = timed_out number (outcome.Crowded first second) s t h
-  expired_by number _ s t h = elim h [ ]
-
-  joined_by : (number : ℕ) (by : Outcome) (s t : CallStand) → JoinedBy q number by s t → Grown s t
-  joined_by number outcome.NotBegun s t h = same q.slots s t h.same
-  joined_by number outcome.Joined s t h = let u = found_id q number h.id s in let x : CallStand = record { view = h.view; books = s.books } in
-      in_turn q.slots s u t (kept q.slots s u (call_index q number) false h.id refl) (in_turn q.slots u x t (bounds_quiet q.slots u.view h.view h.quiet) (same q.slots x t h.after))
-  joined_by number _ s t h = elim h [ ]
-
-  -- ## Messages
+  -- ## Attempts
 
   module _ {O : Type 0} (state : O → OutState) (p : Plan) where
-    dropped_all : (id : ℕ) (v : sock_view.View) (s : CallStand) (w : sock_view.View) (t : CallStand) → DroppedAll state p q.slots id v s w t → Grown s t
-    dropped_all id v s _ _ draining.none = same q.slots s s refl
-    dropped_all id v s _ _ (draining.one_more u r w t more_ last) = in_turn q.slots s r t (dropped_all id v s u r more_) (told_drop q.slots last.msg last.code r t last.told)
-
-    drained : (id : ℕ) (v : sock_view.View) (s : CallStand) (w : sock_view.View) (t : CallStand) → Drained state p q.slots id v s w t → Grown s t
-    drained id v s w t d = dropped_all id v s d.last t d.dropped
-
-    delivered : (sock : SockRef) (msg : Letter) (by : Maybe Outcome) (v : sock_view.View) (s : CallStand) (w : sock_view.View) (t : CallStand) → DeliveredCalling state p q.slots sock msg by v s w t → Grown s t
-    delivered sock msg None v s w t d = drained sock.id.0 d.taken s d.through.wrote t d.through.drained
-    delivered sock msg (Some (outcome.Gone found)) v s w t d = same q.slots s t d.1
-    delivered sock msg (Some outcome.Full) v s w t d = same q.slots s t d.1
-    delivered sock msg (Some _) v s w t d = elim d [ ]
-
-    sent_calling : (n : ℕ) (msg : Letter) (by : Maybe Outcome) (v : sock_view.View) (s : CallStand) (w : sock_view.View) (t : CallStand) → SentCalling state p q.slots n msg by v s w t → Grown s t
-    sent_calling n msg None v s w t h = delivered h.sock msg None h.has s w t h.delivered
-    sent_calling n msg (Some outcome.Unopened) v s w t h = same q.slots s t h.1
-    sent_calling n msg (Some (outcome.Gone found)) v s w t (inl h) = same q.slots s t h.1
-    sent_calling n msg (Some (outcome.Gone found)) v s w t (inr h) = delivered h.sock msg (Some (outcome.Gone found)) h.has s w t h.delivered
-    sent_calling n msg (Some outcome.Full) v s w t h = delivered h.sock msg (Some outcome.Full) h.has s w t h.delivered
-    sent_calling n msg (Some _) v s w t h = elim h [ ]
-
-    -- ## Attempts
-
-    delivered_by : (socket : SocketId) (msg : Letter) (s t : Both) → DeliveredBy state p q socket msg s t → Grown s.calls t.calls
-    delivered_by socket msg s t (went_out w) = drained socket.0 w.taken s.calls w.through.wrote t.calls w.through.drained
-    delivered_by socket msg s t (came_back by c) = posted q.slots s.calls msg.owner (code_for by) (Some msg.label.attempt) t.calls c.posted
-
-    pub attempted_by : (socket : SocketId) (msg : Letter) (s t : Both) → AttemptedBy state p q socket msg s t → Grown s.calls t.calls
-    attempted_by socket msg s t (nowhere g) = posted q.slots s.calls msg.owner EFAILEDSOCKET (Some msg.label.attempt) t.calls g.posted
-    attempted_by socket msg s t (over_link u l d) = in_turn q.slots s.calls u.calls t.calls (kept q.slots s.calls u.calls _ _ _ l.stored) (delivered_by socket msg u t d)
+    pub attempted_grows : (socket : SocketId) (msg : Letter) (s t : Both) → AttemptedBy state p q socket msg s t → Grown s.calls t.calls
+    attempted_grows = attempted_by q all_grow state p (kept q.slots true)
 
     pub made_for : (asked : Asked) (id : ℕ) (socket : SocketId) (s t : Both) → MadeFor state p q asked id socket s t → Grown s.calls t.calls
     made_for asked id socket s t m = bounds_then q.slots s.calls.view m.view t.calls.view (bounds_one q.slots (slot_of id) s.calls.view m.view [] (Made (version_of id) asked.range asked) (λ f n. refl) m.made.did)
         (bounds_noted q.slots m.view t.calls.view (ap (λ (y : View Asked). y.notes) m.noted))
-
-    went_to : (name : ℕ) (msg : Letter) (s t : Both) → WentTo state p q name msg s t → Grown s.calls t.calls
-    went_to name msg s t (stray a e h) = posted q.slots s.calls msg.owner EFAILEDSOCKET (Some msg.label.attempt) t.calls h
-    went_to name msg s t (unopened f h) = posted q.slots s.calls msg.owner EFAILEDSOCKET (Some msg.label.attempt) t.calls h
-    went_to name msg s t (to_socket socket u f e a) = in_turn q.slots s.calls u.calls t.calls (same q.slots s.calls u.calls e) (attempted_by socket msg u t a)
 
     locked : (r : Retry) (k : IdLock Asked) (v w : View Asked) → GotBy q.slots r.id k v w → Bounds q.slots v w
     locked r k v w g = bounds_got q.slots k.slot g.word v w (parts k.word.0) k.content g.got
@@ -345,33 +292,21 @@ module _ (q : id_plan.Plan) where
         (decided q.slots o.decided (next_word q.slots k o.next u.calls.view o.view false o.code o.attempt l.got.inside o.unlocked)))
     retried_by r s t (went_again k u l w) =
         let x : CallStand = record { view = w.view; books = u.calls.books } in
-        in_turn q.slots s.calls u.calls t.calls (locked r k s.calls.view u.calls.view l.got) (in_turn q.slots u.calls x t.calls (bounds_unlocked q.slots k u.calls.view w.view Open w.unlocked) (went_to _ _ (record { socks = u.socks; calls = x }) t w.went))
-
-    pub retried : (s t : Both) → Retried state p q s t → Grown s.calls t.calls
-    retried s _ none_yet = same q.slots s.calls s.calls refl
-    retried s _ (one_more u t r rest more_ e f by) = in_turn q.slots s.calls u.calls t.calls (retried s u more_) (retried_by r (without_oldest rest u) t by)
+        in_turn q.slots s.calls u.calls t.calls (locked r k s.calls.view u.calls.view l.got) (in_turn q.slots u.calls x t.calls (bounds_unlocked q.slots k u.calls.view w.view Open w.unlocked) (went_to q all_grow state p (kept q.slots true) _ _ (record { socks = u.socks; calls = x }) t w.went))
 
     -- ## A client's run
 
     module _ {g : Ghosts O} where
-      pub acted : (number : ℕ) (op : Op) (by : Maybe Outcome) (s t : Stand g) → Acted state p q number op by s t → Grown s.calls t.calls
-      acted number (ops.Open n k) (Some by) s t h = same q.slots s.calls t.calls h.2
-      acted number (ops.Send n bytes) by s t h = sent_calling n (letter_of number bytes) by s.me.0 s.calls t.me.0 t.calls h.0
-      acted number (ops.Call asked) (Some outcome.Unopened) s t h = same q.slots s.calls t.calls h.0.1
-      acted number (ops.Call asked) None s t h = let b = h.1 in in_turn q.slots s.calls b.at.calls t.calls (made_for asked h.0 b.socket (both_of s) b.at b.made_for) (attempted_by b.socket _ b.at (both_of t) b.attempted)
-      acted number (ops.Expire of) (Some by) s t h = expired_by of by s.calls t.calls h.0
-      acted number (ops.Join of) (Some by) s t h = joined_by of by s.calls t.calls h.0
-      acted number (ops.Hold n) (Some by) s t h = same q.slots s.calls t.calls h.2
-      acted number (ops.Drop n) (Some by) s t h = same q.slots s.calls t.calls h.2
-      acted number (ops.Fail n code) (Some by) s t h = same q.slots s.calls t.calls h.2
-      acted number _ _ s t h = elim h [ ]
+      pub acted_grows : (number : ℕ) (op : Op) (by : Maybe Outcome) (s t : Stand g) → Acted state p q number op by s t → Grown s.calls t.calls
+      acted_grows = acted q all_grow state p (kept q.slots true) made_for
 
-      pub ran : (xs : List Task) (n : ℕ) (s t : Course g) → Ran state p q xs n s t → Grown s.has.calls t.has.calls
-      ran xs zero s t e = same q.slots s.has.calls t.has.calls (ap (λ (c : Course g). c.has.calls) e)
-      ran xs (suc n) s t h =
-          let m = h.4 in
-          in_turn q.slots s.has.calls h.0.has.calls t.has.calls (ran xs n s h.0 h.2)
-          (in_turn q.slots h.0.has.calls m.ready.calls t.has.calls (retried (both_of h.0.has) (both_of m.ready) m.retried.all.retried) (acted h.1.number h.1.op m.by m.ready t.has m.acted))
+      all_bounds : (xs : List Task) → Walks {g = g} state p q xs (λ ds s t. Grown s.calls t.calls)
+      all_bounds xs = record {
+        none = λ s t e. same q.slots s.calls t.calls (ap (λ (y : Both). y.calls) e);
+        in_turn = λ ds es s u t. in_turn q.slots s.calls u.calls t.calls;
+        retry = λ u t r rest waits by. retried_by r (without_oldest rest u) t by;
+        operation = λ n x at by. acted_grows x.number x.op by;
+      }
 
 -- ## A whole run
 
@@ -379,9 +314,7 @@ module _ {O : Type 0} {g : Ghosts O} {state : O → OutState} {p : Plan} {q : id
   run_bounds : Bounds q.slots x.began.calls.seat.me.0 x.ended.calls.seat.me.0
   run_bounds =
       let end : stand_of x.ended.calls ≡ th.ran.last.calls = th.ran.calls ∙ ap (λ (s : Stand g). s.calls) (end_is x th) in
-      subst (λ (c : CallStand). Bounds q.slots x.began.calls.seat.me.0 c.view) (sym end)
-      (bounds_then q.slots x.began.calls.seat.me.0 th.ran.came.calls.seat.me.0 th.ran.last.calls.view (ran q state p x.tasks th.ran.made (begins x.began) (came x th) th.ran.ran.ran)
-      (retried q state p (both_of (stand th.ran.came)) (both_of th.ran.last) th.ran.ends.1.all.retried))
+      subst (λ (c : CallStand). Bounds q.slots x.began.calls.seat.me.0 c.view) (sym end) (run_walk x th (all_bounds q state p x.tasks))
 
   -- each advance that the client noted has its bounds
   pub all_bounded : (i f n : ℕ) → 0 < advances i f n x.ended.calls.seat.me.0 → IsBounded q.slots i f n x.ended.calls.seat.me.0

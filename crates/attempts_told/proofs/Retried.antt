@@ -1,5 +1,5 @@
 -- Each advance of a call that a client noted has its retry waiting, or taken out; and what became of one that was taken out.
-use Rattle.std.proofs.Common.{◌≡◌, ℕ, zero, suc, ◌+◌, ◌*◌, ◌<◌, ◌≤◌, ◌⊎◌, inl, inr, Bool, false, cond, eqb, eq-eqb, ne_eqb, List, [], ◌∷◌, ◌++◌, Some, None, refl, sym, ap, ◌∙◌, subst, arith}
+use Rattle.std.proofs.Common.{◌≡◌, ℕ, ◌+◌, ◌*◌, ◌<◌, ◌≤◌, ◌⊎◌, inl, inr, Bool, false, cond, eqb, eq-eqb, ne_eqb, List, [], ◌∷◌, ◌++◌, refl, sym, ap, ◌∙◌, subst, arith}
 use Rattle.std.specs.Prelude.{Option as Maybe}
 use Rattle.std.specs.List.{AllByRecursion}
 use Rattle.std.proofs.lemmas.Nat.{div-add-mod'}
@@ -8,18 +8,11 @@ use native.Mathlib.Decide.{ℕ_discrete}
 use Rattle.atomic_table.specs.Table.{Me}
 use Rattle.sock_io.specs.declared.link.Out.{Ghosts}
 use Rattle.sock_io.specs.Link.{OutState}
-use Rattle.sock_words.specs.Codes.{EFAILEDSOCKET, ERPCTIMEDOUT}
 use Rattle.sock_words.specs.declared.plain.Plan.{Plan}
 use Rattle.sock_words.specs.declared.socket_id.SocketId.{SocketId}
 use Rattle.sock_words.specs.declared.outcome.Outcome.{Outcome}
-use Rattle.sock_words.specs.declared.outcome.Outcome.TheVariants as outcome
-use Rattle.sock_model.specs.declared.view.View as sock_view
-use Rattle.call_whys.specs.call_told.specs.Below.call_run.specs.sock_rule.specs.declared.homes.Letter.{Letter}
-use Rattle.call_whys.specs.call_told.specs.Below.call_run.specs.sock_table.specs.declared.refs.SockRef.{SockRef}
 use Rattle.seat_programs.specs.declared.task.Op.{Op}
-use Rattle.seat_programs.specs.declared.task.Op.TheVariants as ops
 use Rattle.seat_programs.specs.declared.task.Task.{Task}
-use Rattle.call_whys.specs.call_told.specs.Below.call_run.specs.call_client.specs.write_chain.specs.declared.right.Undelivered.{Undelivered}
 use Rattle.corr_core.specs.Word.{Parts, parts}
 use Rattle.corr_core.specs.Law.{total, is_attempt, is_ended}
 use Rattle.corr_core.specs.declared.marks.Note.{Note}
@@ -29,11 +22,11 @@ use Rattle.corr_core.specs.declared.marks.Plan as id_plan
 use Rattle.corr_core.specs.declared.marks.Token.{Token}
 use Rattle.corr_core.specs.declared.marks.View.{View}
 use Rattle.corr_core.proofs.Notes.{only-at, pair-at, pair-else, pair-else_first}
-use Rattle.id_rule.specs.Lawful.{notes_of, call_index, with_kept}
+use Rattle.id_rule.specs.Lawful.{notes_of, with_kept}
 use Rattle.sock_message.specs.Asked.{Asked}
 use Rattle.corr_id.specs.declared.calls.IdLock.{IdLock}
 use Rattle.corr_id.specs.declared.posts.Posted.{Posted}
-use Rattle.corr_id.specs.declared.posts.Posted.TheVariants.{Locked as HasLock, Gone, Crowded}
+use Rattle.corr_id.specs.declared.posts.Posted.TheVariants.{Locked as HasLock}
 use Rattle.corr_id.specs.declared.unlocks.Unlocked.{Unlocked}
 use Rattle.corr_id.specs.declared.unlocks.Unlocked.TheVariants.{Open, Next}
 use Rattle.corr_id.specs.Calls.{Did, one, advance_note, slot_of, version_of}
@@ -45,24 +38,20 @@ use Rattle.call_whys.specs.call_told.specs.Below.call_run.specs.call_client.spec
 use Rattle.call_whys.specs.call_told.specs.Below.call_run.specs.call_client.specs.call_errors.specs.Handling.{Advanced, IsNext, Decided}
 use Rattle.call_whys.specs.call_told.specs.Below.call_run.specs.call_client.specs.call_errors.specs.Handling as handling
 use Rattle.call_whys.specs.call_told.specs.Below.call_run.specs.call_client.specs.call_errors.specs.Posting.{Handled, PostedBy}
-use Rattle.call_whys.specs.call_told.specs.Below.call_run.specs.call_client.specs.call_errors.specs.Asking.{found_id, TimedOut, ExpiredBy, JoinedBy}
-use Rattle.call_whys.specs.call_told.specs.Below.call_run.specs.call_client.specs.call_writes.specs.Draining.{ToldDrop, of_send, of_call, DroppedAll}
-use Rattle.call_whys.specs.call_told.specs.Below.call_run.specs.call_client.specs.call_writes.specs.Draining as draining
-use Rattle.call_whys.specs.call_told.specs.Below.call_run.specs.call_client.specs.call_writes.specs.Sending.{DeliveredCalling, SentCalling}
 use Rattle.call_whys.specs.call_told.specs.Below.call_run.specs.call_client.specs.call_attempts.specs.Both.{Both}
-use Rattle.call_whys.specs.call_told.specs.Below.call_run.specs.call_client.specs.call_attempts.specs.Attempting.{code_for, DeliveredBy, went_out, came_back, AttemptedBy, nowhere, over_link}
 use Rattle.call_whys.specs.call_told.specs.Below.call_run.specs.call_client.specs.call_attempts.specs.Calling.{MadeFor}
-use Rattle.call_whys.specs.call_told.specs.Below.call_run.specs.call_client.specs.call_attempts.specs.Retrying.{without_oldest, WentTo, stray, unopened, to_socket, RetriedBy, had_ended, overtaken, went_again, Retried, none_yet, one_more}
-use Rattle.call_whys.specs.call_told.specs.Below.call_run.specs.call_client.specs.Acting.{Stand, stand, both_of, letter_of, Acted}
-use Rattle.call_whys.specs.call_told.specs.Below.call_run.specs.call_client.specs.Running.{Course, Ran, begins}
+use Rattle.call_whys.specs.call_told.specs.Below.call_run.specs.call_client.specs.call_attempts.specs.Retrying.{without_oldest, RetriedBy, had_ended, overtaken, went_again}
+use Rattle.call_whys.specs.call_told.specs.Below.call_run.specs.call_client.specs.Acting.{Stand, Acted}
 use Rattle.call_whys.specs.call_told.specs.Below.call_run.specs.call_client.proofs.Telling.{did_total, none_of_one}
 use Rattle.call_whys.specs.call_told.specs.Below.call_run.specs.Threads.{Thread, IsThread}
 use Rattle.call_whys.specs.call_told.proofs.Lists.{all_both, all_then}
-use Rattle.call_whys.specs.call_told.specs.call_places.specs.Deeds.{Deed, operates, retries, retries_of, ran_deeds, deeds}
+use Rattle.call_whys.specs.call_told.specs.call_places.specs.Deeds.{Deed, operates, retries, deeds}
+use Rattle.call_whys.specs.call_told.specs.call_places.proofs.Follows.{Follows, went_to, acted}
+use Rattle.call_whys.specs.call_told.specs.call_places.proofs.Walks.{Walks, run_walk}
 use Rattle.call_whys.specs.call_told.specs.call_places.proofs.Still.{is_retry, waiting, advances, attempt_silent, decided_still, retried_still, more_waits, more_noted, tells_retries}
 use Rattle.call_whys.specs.call_told.specs.call_places.proofs.Counts.{by_retry, Grows, acted_might}
 use Rattle.call_whys.specs.call_told.specs.call_places.proofs.Ids.{version_low}
-use Rattle.call_whys.specs.call_told.specs.call_places.proofs.Own.{came, end_is}
+use Rattle.call_whys.specs.call_told.specs.call_places.proofs.Own.{end_is}
 use Rattle.attempts_told.proofs.Bounds.{Unmoved, unmoved_then, unmoved_noted, unmoved_quiet, unmoved_got, unmoved_ended, unmoved_post, advance_none}
 
 -- ## Counts
@@ -158,73 +147,27 @@ handled_awaited : (code : ℕ) (attempt : Maybe ℕ) (answer : Posted Asked) (s 
 handled_awaited code attempt (HasLock k) s t h = decided_awaited h
 handled_awaited code attempt _ s t h = awaited_same s t h
 
-posted_awaited : (slots : ℕ) (s : CallStand) (id code : ℕ) (attempt : Maybe ℕ) (t : CallStand) → PostedBy slots s id code attempt t → Awaited s t
-posted_awaited slots s id code attempt t p = let x = p.1 in let u : CallStand = record { view = x.view; books = s.books } in
+posted_awaited : (slots : ℕ) (s t : CallStand) (id code : ℕ) (attempt : Maybe ℕ) → PostedBy slots s id code attempt t → Awaited s t
+posted_awaited slots s t id code attempt p = let x = p.1 in let u : CallStand = record { view = x.view; books = s.books } in
     awaited_then s u t (by_view s u refl (unmoved_post slots s.view x.view id code attempt p.0 x.post)) (handled_awaited code attempt p.0 u t x.handled)
 
 -- a word of an operation was noted
-kept_awaited : (s : CallStand) (place : ℕ) (own : Bool) (word : ℕ) (t : CallStand) → t.view ≡ with_kept place own word s.view → t.books ≡ s.books → Awaited s t
-kept_awaited s place own word t e b = by_view s t (ap (λ (y : Books). y.retries) b) (unmoved_noted s.view t.view (ap (λ (y : View Asked). y.notes) e))
+kept_awaited : (own : Bool) (s t : CallStand) (place word : ℕ) → t.view ≡ with_kept place own word s.view → t.books ≡ s.books → Awaited s t
+kept_awaited own s t place word e b = by_view s t (ap (λ (y : Books). y.retries) b) (unmoved_noted s.view t.view (ap (λ (y : View Asked). y.notes) e))
 
-timed_out_awaited : (q : id_plan.Plan) (operation : ℕ) (by : Outcome) (s t : CallStand) → TimedOut q operation by s t → Awaited s t
-timed_out_awaited q operation by s t h = let u = found_id q operation h.id s in
-    awaited_then s u t (kept_awaited s (call_index q operation) false h.id u refl refl) (posted_awaited q.slots u h.id ERPCTIMEDOUT None t (h.answer, h.posted))
-
-expired_awaited : (q : id_plan.Plan) (operation : ℕ) (by : Outcome) (s t : CallStand) → ExpiredBy q operation by s t → Awaited s t
-expired_awaited q operation outcome.NotBegun s t h = awaited_same s t h.same
-expired_awaited q operation outcome.Expired s t h = timed_out_awaited q operation outcome.Expired s t h
-expired_awaited q operation outcome.Queued s t h = timed_out_awaited q operation outcome.Queued s t h
-expired_awaited q operation outcome.Late s t h = timed_out_awaited q operation outcome.Late s t h
-expired_awaited q operation (outcome.Crowded first second) s t h = timed_out_awaited q operation (outcome.Crowded first second) s t h
-expired_awaited q operation _ s t h = elim h [ ]
-
-joined_awaited : (q : id_plan.Plan) (operation : ℕ) (by : Outcome) (s t : CallStand) → JoinedBy q operation by s t → Awaited s t
-joined_awaited q operation outcome.NotBegun s t h = awaited_same s t h.same
-joined_awaited q operation outcome.Joined s t h = let u = found_id q operation h.id s in let x : CallStand = record { view = h.view; books = s.books } in
-    awaited_then s u t (kept_awaited s (call_index q operation) false h.id u refl refl) (awaited_then u x t (by_view u x refl (unmoved_quiet u.view h.view h.quiet)) (awaited_same x t h.after))
-joined_awaited q operation _ s t h = elim h [ ]
-
--- ## Messages
-
-told_drop : (slots : ℕ) (msg : Undelivered) (code : ℕ) (s t : CallStand) → ToldDrop slots msg code s t → Awaited s t
-told_drop slots msg code s t (of_send e is) = awaited_same s t is
-told_drop slots msg code s t (of_call ne p) = posted_awaited slots s msg.owner code (Some msg.label.attempt) t p
-
-module _ {O : Type 0} (state : O → OutState) (p : Plan) (slots : ℕ) where
-  dropped_all : (id : ℕ) (v : sock_view.View) (s : CallStand) (w : sock_view.View) (t : CallStand) → DroppedAll state p slots id v s w t → Awaited s t
-  dropped_all id v s _ _ draining.none = awaited_same s s refl
-  dropped_all id v s _ _ (draining.one_more u r w t more one) = awaited_then s r t (dropped_all id v s u r more) (told_drop slots one.msg one.code r t one.told)
-
-  delivered : (sock : SockRef) (msg : Letter) (by : Maybe Outcome) (v : sock_view.View) (s : CallStand) (w : sock_view.View) (t : CallStand) → DeliveredCalling state p slots sock msg by v s w t → Awaited s t
-  delivered sock msg None v s w t d = dropped_all sock.id.0 d.taken s d.through.drained.last t d.through.drained.dropped
-  delivered sock msg (Some (outcome.Gone found)) v s w t d = awaited_same s t d.1
-  delivered sock msg (Some outcome.Full) v s w t d = awaited_same s t d.1
-  delivered sock msg (Some _) v s w t d = elim d [ ]
-
-  sent_awaited : (n : ℕ) (msg : Letter) (by : Maybe Outcome) (v : sock_view.View) (s : CallStand) (w : sock_view.View) (t : CallStand) → SentCalling state p slots n msg by v s w t → Awaited s t
-  sent_awaited n msg None v s w t h = delivered h.sock msg None h.has s w t h.delivered
-  sent_awaited n msg (Some outcome.Unopened) v s w t h = awaited_same s t h.1
-  sent_awaited n msg (Some (outcome.Gone found)) v s w t (inl h) = awaited_same s t h.1
-  sent_awaited n msg (Some (outcome.Gone found)) v s w t (inr h) = delivered h.sock msg (Some (outcome.Gone found)) h.has s w t h.delivered
-  sent_awaited n msg (Some outcome.Full) v s w t h = delivered h.sock msg (Some outcome.Full) h.has s w t h.delivered
-  sent_awaited n msg (Some _) v s w t h = elim h [ ]
+-- so it is with all that comes by errors, messages and attempts
+all_awaited : (q : id_plan.Plan) → Follows q Awaited
+all_awaited q = record {
+  same = awaited_same;
+  in_turn = awaited_then;
+  finds = kept_awaited false;
+  looks = λ s t e quiet. by_view s t (ap (λ (b : Books). b.retries) e) (unmoved_quiet s.view t.view quiet);
+  posts = posted_awaited q.slots;
+}
 
 -- ## Attempts
 
 module _ {O : Type 0} (state : O → OutState) (p : Plan) (q : id_plan.Plan) where
-  delivered_awaited : (socket : SocketId) (msg : Letter) (s t : Both) → DeliveredBy state p q socket msg s t → Awaited s.calls t.calls
-  delivered_awaited socket msg s t (went_out w) = dropped_all state p q.slots socket.0 w.taken s.calls w.through.drained.last t.calls w.through.drained.dropped
-  delivered_awaited socket msg s t (came_back by c) = posted_awaited q.slots s.calls msg.owner (code_for by) (Some msg.label.attempt) t.calls c.posted
-
-  attempted_awaited : (socket : SocketId) (msg : Letter) (s t : Both) → AttemptedBy state p q socket msg s t → Awaited s.calls t.calls
-  attempted_awaited socket msg s t (nowhere g) = posted_awaited q.slots s.calls msg.owner EFAILEDSOCKET (Some msg.label.attempt) t.calls g.posted
-  attempted_awaited socket msg s t (over_link u l d) = awaited_then s.calls u.calls t.calls (kept_awaited s.calls _ _ _ u.calls l.stored l.books) (delivered_awaited socket msg u t d)
-
-  went_awaited : (name : ℕ) (msg : Letter) (s t : Both) → WentTo state p q name msg s t → Awaited s.calls t.calls
-  went_awaited name msg s t (stray a e h) = posted_awaited q.slots s.calls msg.owner EFAILEDSOCKET (Some msg.label.attempt) t.calls h
-  went_awaited name msg s t (unopened f h) = posted_awaited q.slots s.calls msg.owner EFAILEDSOCKET (Some msg.label.attempt) t.calls h
-  went_awaited name msg s t (to_socket socket u f e a) = awaited_then s.calls u.calls t.calls (awaited_same s.calls u.calls e) (attempted_awaited socket msg u t a)
-
   -- the lock was given back, and no advance was made
   unlocked_unmoved : (k : IdLock Asked) (answer : Unlocked Asked) (v w : View Asked) → UnlockOk v w k.slot (parts k.word.0) k.content false answer → Unmoved v w
   unlocked_unmoved k Open v w u i f n =
@@ -243,7 +186,7 @@ module _ {O : Type 0} (state : O → OutState) (p : Plan) (q : id_plan.Plan) whe
   retried_awaited r s t (went_again k u l w) = let x : CallStand = record { view = w.view; books = u.calls.books } in
       awaited_then s.calls x t.calls (by_view s.calls x (ap (λ (b : Books). b.retries) l.books)
       (unmoved_then s.calls.view u.calls.view w.view (unmoved_got k.slot l.got.word s.calls.view u.calls.view (parts k.word.0) k.content l.got.got) (unlocked_unmoved k Open u.calls.view w.view w.unlocked)))
-      (went_awaited _ _ (record { socks = u.socks; calls = x }) t w.went)
+      (went_to q (all_awaited q) state p (kept_awaited true) _ _ (record { socks = u.socks; calls = x }) t w.went)
 
   made_awaited : (asked : Asked) (id : ℕ) (socket : SocketId) (s t : Both) → MadeFor state p q asked id socket s t → Awaited s.calls t.calls
   made_awaited asked id socket s t m = by_view s.calls t.calls (ap (λ (b : Books). b.retries) m.books) (λ i f n. (
@@ -252,16 +195,7 @@ module _ {O : Type 0} (state : O → OutState) (p : Plan) (q : id_plan.Plan) whe
       let c = ap (λ (v : View Asked). advances i f n v) m.noted in omega arith))
 
   acted_awaited : {g : Ghosts O} (number : ℕ) (op : Op) (by : Maybe Outcome) (s t : Stand g) → Acted state p q number op by s t → Awaited s.calls t.calls
-  acted_awaited number (ops.Open n k) (Some by) s t a = awaited_same s.calls t.calls a.2
-  acted_awaited number (ops.Send n bytes) by s t a = sent_awaited state p q.slots n (letter_of number bytes) by s.me.0 s.calls t.me.0 t.calls a.0
-  acted_awaited number (ops.Call asked) (Some outcome.Unopened) s t a = awaited_same s.calls t.calls a.0.1
-  acted_awaited number (ops.Call asked) None s t a = let b = a.1 in awaited_then s.calls b.at.calls t.calls (made_awaited asked a.0 b.socket (both_of s) b.at b.made_for) (attempted_awaited b.socket _ b.at (both_of t) b.attempted)
-  acted_awaited number (ops.Expire of) (Some by) s t a = expired_awaited q of by s.calls t.calls a.0
-  acted_awaited number (ops.Join of) (Some by) s t a = joined_awaited q of by s.calls t.calls a.0
-  acted_awaited number (ops.Hold n) (Some by) s t a = awaited_same s.calls t.calls a.2
-  acted_awaited number (ops.Drop n) (Some by) s t a = awaited_same s.calls t.calls a.2
-  acted_awaited number (ops.Fail n code) (Some by) s t a = awaited_same s.calls t.calls a.2
-  acted_awaited number _ _ s t a = elim a [ ]
+  acted_awaited = acted q (all_awaited q) state p (kept_awaited true) made_awaited
 
 -- ## Along deeds
 
@@ -327,27 +261,19 @@ module _ {O : Type 0} {g : Ghosts O} {state : O → OutState} {p : Plan} {q : id
     each = λ h. (tt, tt);
   }
 
-  retries_walk : (s t : Both) (r : Retried state p q s t) → Walk (retries_of {g = g} state p q s t r) s.calls t.calls
-  retries_walk s _ none_yet = walk_none s.calls s.calls refl
-  retries_walk s _ (one_more u t r rest before waits fed by) = walk_then (retries_of {g = g} state p q s u before) (retries r (without_oldest rest u) t by ∷ []) s.calls u.calls t.calls (retries_walk s u before) (walk_retry u t r rest waits by)
-
-  ran_walk : (xs : List Task) (n : ℕ) (s t : Course g) (h : Ran state p q xs n s t) → Walk (ran_deeds state p q xs n s t h) s.has.calls t.has.calls
-  ran_walk xs zero s t e = walk_none s.has.calls t.has.calls (ap (λ (c : Course g). c.has.calls) e)
-  ran_walk xs (suc n) s t h =
-      let m = h.4 in
-      let now : Deed g state p q = operates h.1 m.by m.ready t.has m.acted in
-      let waited : List (Deed g state p q) = retries_of state p q (both_of h.0.has) (both_of m.ready) m.retried.all.retried in
-      walk_then (ran_deeds state p q xs n s h.0 h.2) (waited ++ now ∷ []) s.has.calls h.0.has.calls t.has.calls (ran_walk xs n s h.0 h.2)
-      (walk_then waited (now ∷ []) h.0.has.calls m.ready.calls t.has.calls (retries_walk (both_of h.0.has) (both_of m.ready) m.retried.all.retried) (walk_operation h.1 m.by m.ready t.has m.acted))
+  all_walk : (xs : List Task) → Walks state p q xs (λ ds s t. Walk ds s.calls t.calls)
+  all_walk xs = record {
+    none = λ s t e. walk_none s.calls t.calls (ap (λ (y : Both). y.calls) e);
+    in_turn = λ ds es s u t. walk_then ds es s.calls u.calls t.calls;
+    retry = walk_retry;
+    operation = λ n x at. walk_operation x;
+  }
 
 -- ## A whole run
 
 module _ {O : Type 0} {g : Ghosts O} {state : O → OutState} {p : Plan} {q : id_plan.Plan} {first : ℕ} (x : Thread g) (th : IsThread state p q first x) where
-  run_walk : Walk (deeds x th) (stand_of x.began.calls) th.ran.last.calls
-  run_walk = walk_then (ran_deeds state p q x.tasks th.ran.made (begins x.began) (came x th) th.ran.ran.ran) (retries_of {g = g} state p q (both_of (stand th.ran.came)) (both_of th.ran.last) th.ran.ends.1.all.retried)
-      (stand_of x.began.calls) (stand_of th.ran.came.calls) th.ran.last.calls
-      (ran_walk x.tasks th.ran.made (begins x.began) (came x th) th.ran.ran.ran)
-      (retries_walk (both_of (stand th.ran.came)) (both_of th.ran.last) th.ran.ends.1.all.retried)
+  its_walk : Walk (deeds x th) (stand_of x.began.calls) th.ran.last.calls
+  its_walk = run_walk x th (all_walk x.tasks)
 
   last_view : x.ended.calls.seat.me.0 ≡ th.ran.last.calls.view
   last_view = ap (λ (c : CallStand). c.view) (th.ran.calls ∙ ap (λ (s : Stand g). s.calls) (end_is x th))
@@ -358,11 +284,11 @@ module _ {O : Type 0} {g : Ghosts O} {state : O → OutState} {p : Plan} {q : id
   -- in the end no retry waits: each attempt to which an id advanced was taken out
   pub taken_out : (i f n : ℕ) → advances i f n x.ended.calls.seat.me.0 ≤ total (by_retry (is_retry (i * 4294967296 + f) n)) (deeds x th)
   taken_out i f n =
-      let a = run_walk.awaited i f n in
+      let a = its_walk.awaited i f n in
       let b : advances i f n x.began.calls.seat.me.0 ≡ 0 = ap (λ (m : Me (Maybe Asked) (View Asked)). advances i f n m.0) th.ids in
       let c = ap (total (is_retry (i * 4294967296 + f) n)) th.ran.ends.1.all.none_waits in
       let d = ap (advances i f n) last_view in omega (arith, a, b, c, d)
 
   pub all_founded : AllByRecursion (Founded x.ended.calls.seat.me.0) (deeds x th)
   all_founded = subst (λ (v : View Asked). AllByRecursion (Founded v) (deeds x th)) (sym last_view)
-      (run_walk.each (λ i f n low. (let b = ap (total (is_retry (i * 4294967296 + f) n)) none_waits in omega (arith, b))))
+      (its_walk.each (λ i f n low. (let b = ap (total (is_retry (i * 4294967296 + f) n)) none_waits in omega (arith, b))))

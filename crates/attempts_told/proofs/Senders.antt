@@ -26,7 +26,7 @@ use Rattle.corr_core.specs.declared.marks.Note.TheVariants.{Made}
 use Rattle.corr_core.specs.declared.marks.Noted.{Noted}
 use Rattle.corr_core.specs.declared.marks.Plan as id_plan
 use Rattle.corr_core.specs.declared.marks.View.{View}
-use Rattle.corr_core.proofs.Notes.{pair-same, pair-at, pair-else, pair-else_first, total_some}
+use Rattle.corr_core.proofs.Notes.{pair-same, pair-else, pair-else_first, total_some}
 use Rattle.id_rule.specs.Lawful.{notes_of}
 use Rattle.sock_message.specs.Asked.{Asked, frame_of}
 use Rattle.corr_id.specs.Calls.{one, slot_of, version_of}
@@ -46,12 +46,11 @@ use Rattle.call_whys.specs.call_told.proofs.Ends.{made_silent, counted_here}
 use Rattle.call_whys.specs.call_told.proofs.Lists.{all_both, all_then, all_at}
 use Rattle.call_whys.specs.call_told.specs.call_places.specs.Counted.{HaveNotesOf}
 use Rattle.call_whys.specs.call_told.specs.call_places.specs.Deeds.{Deed, operates, retries, retries_of, ran_deeds, deeds, attempt_entries, went_entries, acted_entries, entries_of}
-use Rattle.call_whys.specs.call_told.specs.call_places.proofs.Weights.{term}
-use Rattle.call_whys.specs.call_told.specs.call_places.proofs.Still.{is_retry, advances}
+use Rattle.call_whys.specs.call_told.specs.call_places.proofs.Still.{retried_still}
+use Rattle.call_whys.specs.call_told.specs.call_places.proofs.Walks.{Walks, run_walk}
 use Rattle.call_whys.specs.call_told.specs.call_places.proofs.Own.{came, end_is}
-use Rattle.call_whys.specs.call_told.specs.call_places.proofs.Counts.{by_retry, Knows, tried_few, all_known}
-use Rattle.call_whys.specs.call_told.specs.call_places.proofs.Ids.{IdLaws, IsIdOf, version_low, lock_id}
-use Rattle.call_whys.specs.call_told.specs.call_places.proofs.Clients.{Client, view_of, tasks_of, deeds_of, own_of}
+use Rattle.call_whys.specs.call_told.specs.call_places.proofs.Ids.{IdLaws, IsIdOf, version_low}
+use Rattle.call_whys.specs.call_told.specs.call_places.proofs.Clients.{Client, view_of, tasks_of, deeds_of, own_of, retry_noted, retry_id}
 use Rattle.call_whys.specs.call_told.specs.call_places.proofs.Places.{own_behind, all, noted_among, may_make, tasks_are, lists_are}
 use Rattle.call_whys.specs.call_told.specs.call_places.proofs.Log.{authored}
 use Rattle.call_whys.specs.call_told.specs.call_deeds.specs.Retried.{Again, asked_by, asked_in, asked_before, all_asked}
@@ -62,7 +61,7 @@ use Rattle.call_whys.specs.call_told.specs.Below.sock_deeds.specs.Runs.{IsOperat
 use Rattle.call_whys.specs.call_told.specs.Below.sock_deeds.proofs.Flats.{flat_from, flat_there, flat-append}
 use Rattle.call_whys.specs.call_told.specs.Below.sock_deeds.proofs.Places.{to_slice, map_back, map_there}
 use Rattle.call_whys.specs.call_told.specs.Below.report_fits.proofs.Lists.{contains_from}
-use Rattle.attempts_told.proofs.Bounds.{attempted_by, retried, acted}
+use Rattle.attempts_told.proofs.Bounds.{attempted_grows, acted_grows}
 
 -- ## Frames
 
@@ -124,26 +123,24 @@ module _ {O : Type 0} (g : Ghosts O) (state : O → OutState) (p : Plan) (q : id
       let y = counted_here f i (Made (version_of a.0) asked.range asked) in
       let z = pair-same (version_of a.0) asked.operation in
       let e = ap (λ (v : View Asked). total f (notes_of i v.notes)) m.noted in
-      let w = (attempted_by q state p b.socket _ b.at (both_of t) b.attempted).grows i f in
+      let w = (attempted_grows q state p b.socket _ b.at (both_of t) b.attempted).grows i f in
       (m.made.inside, omega arith)
   made_now number _ _ s t a = tt
 
-  retries_noted : (xs : List Task) (v : View Asked) (s t : Both) (r : Retried state p q s t) → AllByRecursion (IsNoted xs v) (retries_of {g = g} state p q s t r)
-  retries_noted xs v s _ none_yet = tt
-  retries_noted xs v s _ (one_more u t r rest before waits fed by) = all_both (IsNoted xs v) (retries_of {g = g} state p q s u before) (retries r (without_oldest rest u) t by ∷ []) (retries_noted xs v s u before) (tt, tt)
+  -- by these deeds the seat noted more, and each is noted
+  abbrev AllNoted : List Task → List (Deed g state p q) → Both → Both → Type 0
+  AllNoted xs ds s t = Grows s.calls.view t.calls.view × AllByRecursion (IsNoted xs t.calls.view) ds
 
-  ran_noted : (xs : List Task) (n : ℕ) (s t : Course g) (h : Ran state p q xs n s t) → AllByRecursion (IsNoted xs t.has.calls.view) (ran_deeds state p q xs n s t h)
-  ran_noted xs zero s t e = tt
-  ran_noted xs (suc n) s t h =
-      let m = h.4 in
-      let now : Deed g state p q = operates h.1 m.by m.ready t.has m.acted in
-      let earlier : List (Deed g state p q) = ran_deeds state p q xs n s h.0 h.2 in
-      let waited : List (Deed g state p q) = retries_of state p q (both_of h.0.has) (both_of m.ready) m.retried.all.retried in
-      let a = (retried q state p (both_of h.0.has) (both_of m.ready) m.retried.all.retried).grows in
-      let b = (acted q state p h.1.number h.1.op m.by m.ready t.has m.acted).grows in
-      all_both (IsNoted xs t.has.calls.view) earlier (waited ++ now ∷ [])
-      (all_then (IsNoted xs h.0.has.calls.view) (IsNoted xs t.has.calls.view) earlier (noted_stays xs h.0.has.calls.view t.has.calls.view (λ i f. (let x = a i f in let y = b i f in omega arith))) (ran_noted xs n s h.0 h.2))
-      (all_both (IsNoted xs t.has.calls.view) waited (now ∷ []) (retries_noted xs t.has.calls.view (both_of h.0.has) (both_of m.ready) m.retried.all.retried) (((n, h.3), made_now h.1.number h.1.op m.by m.ready t.has m.acted), tt))
+  noted_walk : (xs : List Task) → Walks state p q xs (AllNoted xs)
+  noted_walk xs = record {
+    none = λ s t e. ((λ i f. (let a = ap (λ (y : Both). total f (notes_of i y.calls.view.notes)) e in omega (arith, a))), tt);
+    in_turn = λ ds es s u t a b. (
+      (λ i f. (let x = a.0 i f in let y = b.0 i f in omega (arith, x, y))),
+      all_both (IsNoted xs t.calls.view) ds es (all_then (IsNoted xs u.calls.view) (IsNoted xs t.calls.view) ds (noted_stays xs u.calls.view t.calls.view b.0) a.1) b.1,
+    );
+    retry = λ u t r rest waits by. ((retried_still state p q r (without_oldest rest u) t by).grows, (tt, tt));
+    operation = λ n x at by s t a. ((acted_grows q state p x.number x.op by s t a).grows, (((n, at), made_now x.number x.op by s t a), tt));
+  }
 
   -- what a retry asks for again
   abbrev pub asked_of : Deed g state p q → List Again
@@ -176,14 +173,8 @@ module _ {O : Type 0} {g : Ghosts O} {state : O → OutState} {p : Plan} {q : id
 
   pub all_noted : AllByRecursion (IsNoted g state p q x.tasks x.ended.calls.seat.me.0) (deeds x th)
   all_noted =
-      let early = ran_deeds state p q x.tasks th.ran.made (begins x.began) (came x th) th.ran.ran.ran in
-      let v : View Asked = th.ran.last.calls.view in
-      let a = (retried q state p (both_of (stand th.ran.came)) (both_of th.ran.last) th.ran.ends.1.all.retried).grows in
-      let end : x.ended.calls.seat.me.0 ≡ v = ap (λ (c : CallStand). c.view) (th.ran.calls ∙ ap (λ (s : Stand g). s.calls) (end_is x th)) in
-      subst (λ (w : View Asked). AllByRecursion (IsNoted g state p q x.tasks w) (deeds x th)) (sym end)
-      (all_both (IsNoted g state p q x.tasks v) early last_retries
-      (all_then (IsNoted g state p q x.tasks th.ran.came.calls.seat.me.0) (IsNoted g state p q x.tasks v) early (noted_stays g state p q x.tasks th.ran.came.calls.seat.me.0 v a) (ran_noted g state p q x.tasks th.ran.made (begins x.began) (came x th) th.ran.ran.ran))
-      (retries_noted g state p q x.tasks v (both_of (stand th.ran.came)) (both_of th.ran.last) th.ran.ends.1.all.retried))
+      let end : x.ended.calls.seat.me.0 ≡ th.ran.last.calls.view = ap (λ (c : CallStand). c.view) (th.ran.calls ∙ ap (λ (s : Stand g). s.calls) (end_is x th)) in
+      subst (λ (w : View Asked). AllByRecursion (IsNoted g state p q x.tasks w) (deeds x th)) (sym end) (run_walk x th (noted_walk g state p q x.tasks)).1
 
   deeds_asked : flat_map (asked_of g state p q) (deeds x th) ≡ all_asked x th
   deeds_asked =
@@ -306,18 +297,12 @@ module _ {O : Type 0} {g : Ghosts O} {state : O → OutState} {readers : List (L
   deed_sent j c at k (retries r s t (overtaken l u a b)) there i e in_it = none_there i e in_it
   deed_sent j c at k (retries r s t (went_again l u lock w)) there i e in_it =
       let d : Deed g state p q = retries r s t (went_again l u lock w) in
-      let slot : ℕ = slot_of r.id in let version : ℕ = version_of r.id in
-      let whole : slot * 4294967296 + version ≡ r.id = div-add-mod' r.id 4294967296 in
-      let knows = all_at (Knows (view_of c)) (deeds_of c) k d (all_known c.thread c.is) there in
-      let counted = term (by_retry (is_retry (slot * 4294967296 + version) r.attempt)) (deeds_of c) k d there in
-      let one_ = pair-at (slot * 4294967296 + version) r.attempt r.id r.attempt (sym whole) refl in
-      let few = tried_few c.thread c.is slot version r.attempt (version_low r.id) in
-      let noted : 0 < advances slot version r.attempt (view_of c) = omega arith in
-      let its = lock_id laws r.id r.attempt l s.calls.view (view_of c) u.calls.view lock.got knows (noted_among run notes have j c at) noted in
+      let noted = retry_noted c k r s t l u lock w there in
+      let its = retry_id c k r s t l u lock w there laws (noted_among run notes have j c at) in
       let f = went_frame state p q l.content r.id r.attempt r.low _ _ t w.went i e in_it in
       let again = asked_there c.thread c.is k d 0 record { asked = l.content; attempt = r.attempt } there refl in
       let x = later j c at again.0 record { asked = l.content; attempt = r.attempt } again.1 in
-      of_call (own_attempt x.client l.content r.id r.attempt e r.low x.is its f (inr (let y = noted_among run notes have j c at slot (is_attempt version r.attempt) in omega arith)))
+      of_call (own_attempt x.client l.content r.id r.attempt e r.low x.is its f (inr (let y = noted_among run notes have j c at (slot_of r.id) (is_attempt (version_of r.id) r.attempt) in omega arith)))
 
   -- each message that a link accepted
   pub sent_by : (k : ℕ) (e : Entry) → get_elem? run.closed.ordered.log k ≡ some e → SentBy (accepted_of e)

@@ -15,7 +15,7 @@ use Rattle.call_causes.specs.Lists.{soon_at, shows_in}
 use Rattle.call_causes.specs.Posts.{Post, posted_at}
 use Rattle.call_causes.specs.Decided.{is_late_step, late_at, late_in, posted_behind}
 use Rattle.call_causes.specs.Scenes.{In}
-use Rattle.call_causes.proofs.Handled.{Sit, Later}
+use Rattle.call_causes.proofs.Handled.{Sit}
 use Rattle.call_causes.proofs.HandledSteps.{State, state_on, onward}
 use Rattle.call_causes.proofs.HandledTicks.{sit, Known, HasReader, reader_ticks}
 use Rattle.call_causes.proofs.HandledPosts.{IsLate, late_over, With, with_on, with_onward, HasClaims, claims_at}

@@ -1,5 +1,5 @@
 -- What the story of the calls and the rule of the ids tell a reader of a step aside of any seat: id words go on, what is found is what is there, and bytes are taken of the seat's own link.
-use Rattle.std.proofs.Common.{◌≡◌, ◌≢◌, ℕ, ◌+◌, ◌<◌, ◌≤◌, ◌⊎◌, inl, inr, cond, eqb, ne_eqb, List, [], ◌++◌, length, refl, ap, ◌∙◌, arith}
+use Rattle.std.proofs.Common.{◌≡◌, ℕ, ◌+◌, ◌<◌, ◌≤◌, ◌⊎◌, inl, inr, cond, eqb, ne_eqb, List, ◌++◌, length, refl, ap, ◌∙◌, arith}
 use Rattle.std.specs.Prelude.{slice_index}
 use mathlib.Core.Option.{Option, some}
 use lib.ListN.{get_elem?}

@@ -1,5 +1,5 @@
 -- How the story of the calls begins: nothing is claimed or made, and each seat says on.
-use Rattle.std.proofs.Common.{◌≡◌, ◌≢◌, ℕ, zero, suc, ◌+◌, ◌-◌, ◌*◌, ◌<◌, ◌≤◌, ◌⊎◌, inl, inr, ⊎_elim, Bool, true, false, cond, leb, List, [], ◌∷◌, ◌++◌, length, length-set, map, fold, replicate, get_or, set, slice_get, Option, None, Some, refl, sym, ap, ◌∙◌, subst, arith}
+use Rattle.std.proofs.Common.{◌≡◌, ℕ, zero, suc, ◌+◌, ◌-◌, ◌<◌, ◌≤◌, ◌⊎◌, inl, inr, ⊎_elim, Bool, true, false, leb, List, [], ◌∷◌, ◌++◌, length, length-set, map, fold, replicate, get_or, set, slice_get, Option, None, Some, refl, sym, ap, ◌∙◌, subst, arith}
 use Rattle.std.proofs.lemmas.List.{length-map, length-replicate}
 use Rattle.std.specs.List.{AllByRecursion}
 use mathlib.Core.Logic.{dite}
@@ -20,9 +20,9 @@ use Rattle.seat_programs.specs.Readers.{reader}
 use Rattle.seat_programs.specs.Cores.{Core, SeatState, resolved, said, next_step}
 use Rattle.seat_programs.specs.Scripts.{opening_words, sizes_of, programs, readers_from, all_programs, beginning}
 use Rattle.id_runs.proofs.Opening.{unused}
-use Rattle.call_causes.specs.Scenes.{Birth, Saying, Scene, In, IsOver, Begun, IsTaskOf, LeadsTo, Later}
+use Rattle.call_causes.specs.Scenes.{Saying, Scene, In, IsOver, IsTaskOf, LeadsTo, Later}
 use Rattle.call_causes.specs.Says.{NoSlot, Mark, SaysOn}
-use Rattle.call_causes.specs.Stories.{At, word_at, SlotsLaw, BirthsLaw, TasksLaw, ClaimsLaw, ReadsLaw, IsUntold, CallStory, HasStory}
+use Rattle.call_causes.specs.Stories.{At, word_at, SlotsLaw, BirthsLaw, TasksLaw, ClaimsLaw, ReadsLaw, HasStory}
 use Rattle.call_causes.proofs.Lasting.{here_later}
 use Rattle.call_causes.proofs.Reading.{reader_says}
 use Rattle.call_causes.proofs.Clients.{FitsTask, client_says}

@@ -1,5 +1,5 @@
 -- The loops on ids say of calls only what has its cause.
-use Rattle.std.proofs.Common.{◌≡◌, ◌≢◌, ℕ, ◌+◌, ◌*◌, ◌/◌, ◌%◌, ◌<◌, ◌≤◌, ◌⊎◌, inl, inr, ⊎_elim, ◌&&◌, ◌||◌, not, Bool, true, false, cond, eqb, eqb-true, nat_lt, ltb-true, List, [], ◌∷◌, Option, Some, None, refl, sym, ap, ◌∙◌, subst, arith}
+use Rattle.std.proofs.Common.{◌≡◌, ◌≢◌, ℕ, ◌+◌, ◌*◌, ◌≤◌, ◌⊎◌, inl, inr, ⊎_elim, ◌&&◌, ◌||◌, not, Bool, true, false, cond, eqb, eqb-true, nat_lt, ltb-true, List, [], ◌∷◌, Option, Some, None, refl, sym, ap, ◌∙◌, subst, arith}
 use Rattle.sock_words.specs.declared.plain.Plan.{Plan}
 use Rattle.corr_core.specs.Word.{Parts, parts, locked_word, posted_word, unlocked_word, error_of, code_of, attempt_of}
 use Rattle.corr_core.specs.Law.{LAST}

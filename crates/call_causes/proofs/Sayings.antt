@@ -11,7 +11,7 @@ use Rattle.sock_words.specs.declared.outcome.Outcome.{Outcome}
 use Rattle.corr_core.specs.declared.marks.Plan.{Plan as IdPlan}
 use Rattle.seat_programs.specs.declared.task.Op.TheVariants as ops
 use Rattle.seat_programs.specs.declared.task.Task.{Task}
-use Rattle.call_causes.specs.Scenes.{Birth, Saying, Scene, In, Said, IsBorn, IsTaskOf, Named, WhyEnded, WhyOwn, ToldOf, was_said, was_sent}
+use Rattle.call_causes.specs.Scenes.{Birth, Saying, Scene, In, Said, IsTaskOf, WhyOwn, ToldOf}
 use Rattle.call_causes.specs.Says.{Mark, with_done}
 use Rattle.call_causes.specs.Stories.{At, HasPassed, BirthsLaw, undo, ahead, IsUntold, IsBegunBy, IsOwed, AreOnce, QuietOf, AreQuiet, TasksLaw}
 use Rattle.call_causes.proofs.BirthTicks.{in_all}

@@ -17,9 +17,9 @@ use Rattle.seat_programs.specs.Programs.{Program}
 use Rattle.seat_programs.specs.Cores.{resolved, said, next_step}
 use Rattle.call_causes.specs.Lists.{times}
 use Rattle.call_causes.specs.Decided.{Decision}
-use Rattle.call_causes.specs.Scenes.{Birth, Claim, Saying, Scene, In, IsOver, IsBorn, IsOther, Named, StaysWithin, Later}
+use Rattle.call_causes.specs.Scenes.{Birth, Scene, In, IsOver, IsBorn, IsOther, Named, StaysWithin, Later}
 use Rattle.call_causes.specs.Says.{Mark, SaidBy, SaysOn}
-use Rattle.call_causes.specs.Stories.{At, word_at, tag_at, LiesAt, HasPassed, IsCurrent, SlotsLaw, BirthsLaw, TasksLaw}
+use Rattle.call_causes.specs.Stories.{At, word_at, HasPassed, IsCurrent, SlotsLaw, BirthsLaw, TasksLaw}
 use Rattle.call_causes.proofs.Lasting.{are_told_on, cause_on, advance_on, here_later}
 use Rattle.call_causes.proofs.Slots.{LikeAt, like_fits}
 use Rattle.call_causes.proofs.BirthTicks.{one_call}

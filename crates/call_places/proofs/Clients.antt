@@ -19,15 +19,17 @@ use Rattle.corr_core.specs.declared.marks.View.{View}
 use Rattle.corr_core.proofs.Notes.{only-else, only_le, pair-at, total_some}
 use Rattle.id_rule.specs.Lawful.{notes_of}
 use Rattle.sock_message.specs.Asked.{Asked}
+use Rattle.corr_id.specs.declared.calls.IdLock.{IdLock}
 use Rattle.corr_id.specs.Calls.{slot_of, version_of}
 use Rattle.call_run.specs.call_client.specs.call_errors.specs.declared.retries.Retry.{Retry}
-use Rattle.call_run.specs.call_client.specs.call_attempts.specs.Retrying.{had_ended, overtaken, went_again}
+use Rattle.call_run.specs.call_client.specs.call_attempts.specs.Both.{Both}
+use Rattle.call_run.specs.call_client.specs.call_attempts.specs.Retrying.{Locked, WentAgain, had_ended, overtaken, went_again}
 use Rattle.call_run.specs.call_client.specs.Running.{MayMakeAll}
 use Rattle.call_run.specs.Threads.{Thread, IsThread}
 use Rattle.call_places.specs.Counted.{makes, HaveNotesOf}
 use Rattle.call_places.specs.Deeds.{Deed, operates, retries, deeds, own_entries}
 use Rattle.call_places.proofs.Weights.{term, each_less}
-use Rattle.call_places.proofs.Still.{is_retry}
+use Rattle.call_places.proofs.Still.{is_retry, advances}
 use Rattle.call_places.proofs.Counts.{call_in, by_retry, Knows, tried_few, made_few, all_known, task_total}
 use Rattle.call_places.proofs.Labels.{at_place, again_at, own_place, none_again}
 use Rattle.call_places.proofs.Numbers.{numbered, own_calls, own_labels, low_number, no_labels}
@@ -60,6 +62,24 @@ module _ {O : Type 0} {g : Ghosts O} {state : O → OutState} {p : Plan} {q : id
 
   abbrev pub own_of : Client g state p q → List Entry
   own_of c = own_entries c.thread c.is
+
+  -- of a retry that went to a name again
+  module _ (c : Client g state p q) (i : ℕ) (r : Retry) (s t : Both) (k : IdLock Asked) (u : Both) (l : Locked state p q r k s u) (w : WentAgain state p q r k u t) (there : get_elem? (deeds_of c) i ≡ some (retries r s t (went_again k u l w))) where
+    abbrev went : Deed g state p q
+    went = retries r s t (went_again k u l w)
+
+    -- the client noted that the id advanced to its attempt
+    pub retry_noted : 0 < advances (slot_of r.id) (version_of r.id) r.attempt (view_of c)
+    retry_noted =
+        let slot : ℕ = slot_of r.id in let version : ℕ = version_of r.id in
+        let whole : slot * 4294967296 + version ≡ r.id = div-add-mod' r.id 4294967296 in
+        let counted = term (by_retry (is_retry (slot * 4294967296 + version) r.attempt)) (deeds_of c) i went there in
+        let one = pair-at (slot * 4294967296 + version) r.attempt r.id r.attempt (sym whole) refl in
+        let few = tried_few c.thread c.is slot version r.attempt (version_low r.id) in omega (arith, counted, one, few)
+
+    -- and it is one of the call of its lock
+    pub retry_id : {notes : List (Noted Asked)} → IdLaws q.slots notes → ((j : ℕ) (f : Note Asked → ℕ) → total f (notes_of j (view_of c).notes) ≤ total f (notes_of j notes)) → IsIdOf q.slots notes k.content.operation r.id
+    retry_id laws among = lock_id laws r.id r.attempt k s.calls.view (view_of c) u.calls.view l.got (all_at (Knows (view_of c)) (deeds_of c) i went (all_known c.thread c.is) there) among retry_noted
 
   module _ (all : List (Client g state p q)) (notes : List (Noted Asked)) (have : HaveNotesOf (map view_of all) notes)
       (may : (j : ℕ) (c : Client g state p q) → get_elem? all j ≡ some c → (n : ℕ) × MayMakeAll p q (tasks_of c) n)
@@ -118,17 +138,10 @@ module _ {O : Type 0} {g : Ghosts O} {state : O → OutState} {p : Plan} {q : id
     again l j c at i (retries r s t (went_again k u lock w)) there some_ =
         let place : 8 * k.content.operation + r.attempt ≡ l = dite (ℕ_discrete (8 * k.content.operation + r.attempt) l) (λ e. e) (λ n. absurd (let z = only-else l (8 * k.content.operation + r.attempt) n in omega arith)) in
         let low = r.low in
-        let d : Deed g state p q = retries r s t (went_again k u lock w) in
-        let slot : ℕ = slot_of r.id in let version : ℕ = version_of r.id in
-        let whole : slot * 4294967296 + version ≡ r.id = div-add-mod' r.id 4294967296 in
-        let knows = all_at (Knows (view_of c)) (deeds_of c) i d (all_known c.thread c.is) there in
-        let counted = term (by_retry (is_retry (slot * 4294967296 + version) r.attempt)) (deeds_of c) i d there in
-        let one = pair-at (slot * 4294967296 + version) r.attempt r.id r.attempt (sym whole) refl in
-        let few = tried_few c.thread c.is slot version r.attempt (version_low r.id) in
         record {
           retry = r;
           own = λ f. refl;
-          id = of_operation l k.content.operation r.id (omega (arith, place, low)) (lock_id laws r.id r.attempt k s.calls.view (view_of c) u.calls.view lock.got knows (among j c at) (omega arith));
+          id = of_operation l k.content.operation r.id (omega (arith, place, low)) (retry_id c i r s t k u lock w there laws (among j c at));
           attempt = omega (arith, place, low);
         }
 

@@ -39,7 +39,9 @@ use Rattle.call_run.specs.Threads.{Thread, IsThread}
 use Rattle.call_places.specs.Counted.{makes}
 use Rattle.call_places.specs.Deeds.{Deed, operates, retries, retries_of, ran_deeds, deeds}
 use Rattle.call_places.proofs.Weights.{did_all}
-use Rattle.call_places.proofs.Still.{Still, is_retry, is_first, waiting, advances, makes_silent, still_same, sent_still, attempted_still, again_still, retried_still, expired_still, joined_still}
+use Rattle.call_places.proofs.Follows.{expired_by, joined_by, sent_calling}
+use Rattle.call_places.proofs.Walks.{Walks, retries_walk, run_walk}
+use Rattle.call_places.proofs.Still.{Still, is_retry, is_first, waiting, advances, makes_silent, still_same, still_follows, attempted_still, again_still, retried_still}
 use Rattle.call_places.proofs.Own.{came, end_is}
 
 all_both : {A : Type 0} (P : A → Type 0) (xs ys : List A) → AllByRecursion P xs → AllByRecursion P ys → AllByRecursion P (xs ++ ys)
@@ -178,10 +180,6 @@ module _ {O : Type 0} {g : Ghosts O} {state : O → OutState} {p : Plan} {q : id
     knows = (known_by r (without_oldest rest u) t by, tt);
   }
 
-  pub retries_count : (s t : Both) (r : Retried state p q s t) → Counts (retries_of {g = g} state p q s t r) s.calls t.calls
-  retries_count s _ none_yet = counts_none s.calls s.calls refl
-  retries_count s _ (one_more u t r rest before waits fed by) = counts_then (retries_of {g = g} state p q s u before) (retries r (without_oldest rest u) t by ∷ []) s.calls u.calls t.calls (retries_count s u before) (counts_retry u t r rest waits by)
-
 -- ## Operations
 
 -- of each operation so many ids were made at most
@@ -218,17 +216,17 @@ module _ {O : Type 0} (state : O → OutState) (p : Plan) (q : id_plan.Plan) whe
   module _ {g : Ghosts O} where
     pub acted_might : (number : ℕ) (op : Op) (by : Option Outcome) (s t : Stand g) → Acted state p q number op by s t → Might (λ o. call_in o op) s.calls t.calls
     acted_might number (ops.Open n k) (Some by) s t a = might_still (λ o. 0) s.calls t.calls (still_same s.calls t.calls a.2)
-    acted_might number (ops.Send n bytes) by s t a = might_still (λ o. 0) s.calls t.calls (sent_still state p q.slots n (letter_of number bytes) by s.me.0 s.calls t.me.0 t.calls a.0)
+    acted_might number (ops.Send n bytes) by s t a = might_still (λ o. 0) s.calls t.calls (sent_calling q (still_follows q) state p n (letter_of number bytes) by s.me.0 s.calls t.me.0 t.calls a.0)
     acted_might number (ops.Call asked) (Some outcome.Unopened) s t a = might_still (λ o. only o asked.operation) s.calls t.calls (still_same s.calls t.calls a.0.1)
     acted_might number (ops.Call asked) None s t a = let b = a.1 in might_then (λ o. only o asked.operation) s.calls b.at.calls t.calls (might_make asked a.0 b.socket (both_of s) b.at b.made_for) (attempted_still state p q b.socket _ b.at (both_of t) b.attempted)
-    acted_might number (ops.Expire of) (Some by) s t a = might_still (λ o. 0) s.calls t.calls (expired_still q of by s.calls t.calls a.0)
-    acted_might number (ops.Join of) (Some by) s t a = might_still (λ o. 0) s.calls t.calls (joined_still q of by s.calls t.calls a.0)
+    acted_might number (ops.Expire of) (Some by) s t a = might_still (λ o. 0) s.calls t.calls (expired_by q (still_follows q) of by s.calls t.calls a.0)
+    acted_might number (ops.Join of) (Some by) s t a = might_still (λ o. 0) s.calls t.calls (joined_by q (still_follows q) of by s.calls t.calls a.0)
     acted_might number (ops.Hold n) (Some by) s t a = might_still (λ o. 0) s.calls t.calls (still_same s.calls t.calls a.2)
     acted_might number (ops.Drop n) (Some by) s t a = might_still (λ o. 0) s.calls t.calls (still_same s.calls t.calls a.2)
     acted_might number (ops.Fail n code) (Some by) s t a = might_still (λ o. 0) s.calls t.calls (still_same s.calls t.calls a.2)
     acted_might number _ _ s t a = elim a [ ]
 
-    pub counts_operation : (x : Task) (by : Option Outcome) (s t : Stand g) (a : Acted state p q x.number x.op by s t) → Counts {g = g} {state = state} {p = p} {q = q} (operates x by s t a ∷ []) s.calls t.calls
+    counts_operation : (x : Task) (by : Option Outcome) (s t : Stand g) (a : Acted state p q x.number x.op by s t) → Counts {g = g} {state = state} {p = p} {q = q} (operates x by s t a ∷ []) s.calls t.calls
     counts_operation x by s t a = let m = acted_might x.number x.op by s t a in record {
       grows = m.grows;
       made = λ o. (let y = m.made o in omega arith);
@@ -237,14 +235,18 @@ module _ {O : Type 0} (state : O → OutState) (p : Plan) (q : id_plan.Plan) whe
       knows = (tt, tt);
     }
 
-    pub ran_counts : (xs : List Task) (n : ℕ) (s t : Course g) (h : Ran state p q xs n s t) → Counts {g = g} (ran_deeds state p q xs n s t h) s.has.calls t.has.calls
-    ran_counts xs zero s t e = counts_none s.has.calls t.has.calls (ap (λ (c : Course g). c.has.calls) e)
-    ran_counts xs (suc n) s t h =
-        let m = h.4 in
-        let now : Deed g state p q = operates h.1 m.by m.ready t.has m.acted in
-        let waited : List (Deed g state p q) = retries_of state p q (both_of h.0.has) (both_of m.ready) m.retried.all.retried in
-        counts_then (ran_deeds state p q xs n s h.0 h.2) (waited ++ now ∷ []) s.has.calls h.0.has.calls t.has.calls (ran_counts xs n s h.0 h.2)
-        (counts_then waited (now ∷ []) h.0.has.calls m.ready.calls t.has.calls (retries_count (both_of h.0.has) (both_of m.ready) m.retried.all.retried) (counts_operation h.1 m.by m.ready t.has m.acted))
+    -- so it is along all deeds
+    counts_walk : (xs : List Task) → Walks {g = g} state p q xs (λ ds s t. Counts ds s.calls t.calls)
+    counts_walk xs = record {
+      none = λ s t e. counts_none s.calls t.calls (ap (λ (y : Both). y.calls) e);
+      in_turn = λ ds es s u t. counts_then ds es s.calls u.calls t.calls;
+      retry = counts_retry;
+      operation = λ n x at. counts_operation x;
+    }
+
+module _ {O : Type 0} {g : Ghosts O} {state : O → OutState} {p : Plan} {q : id_plan.Plan} where
+  pub retries_count : (s t : Both) (r : Retried state p q s t) → Counts (retries_of {g = g} state p q s t r) s.calls t.calls
+  retries_count = retries_walk state p q (counts_walk state p q {g = g} [])
 
 -- ## The first of a list
 
@@ -268,12 +270,8 @@ all_taken W (y ∷ ys) (suc n) low = let a = all_taken W ys n (omega arith) in o
 module _ {O : Type 0} {g : Ghosts O} {state : O → OutState} {p : Plan} {q : id_plan.Plan} {first : ℕ} (x : Thread g) (th : IsThread state p q first x) where
   run_counts : Counts (deeds x th) (stand_of x.began.calls) (stand_of x.ended.calls)
   run_counts =
-      let last : List (Deed g state p q) = retries_of state p q (both_of (stand th.ran.came)) (both_of th.ran.last) th.ran.ends.1.all.retried in
       let end : stand_of x.ended.calls ≡ th.ran.last.calls = th.ran.calls ∙ ap (λ (s : Stand g). s.calls) (end_is x th) in
-      subst (λ (c : CallStand). Counts (deeds x th) (stand_of x.began.calls) c) (sym end)
-      (counts_then (ran_deeds state p q x.tasks th.ran.made (begins x.began) (came x th) th.ran.ran.ran) last (stand_of x.began.calls) (stand_of th.ran.came.calls) th.ran.last.calls
-      (ran_counts state p q x.tasks th.ran.made (begins x.began) (came x th) th.ran.ran.ran)
-      (retries_count (both_of (stand th.ran.came)) (both_of th.ran.last) th.ran.ends.1.all.retried))
+      subst (λ (c : CallStand). Counts (deeds x th) (stand_of x.began.calls) c) (sym end) (run_walk x th (counts_walk state p q x.tasks))
 
   none_noted : x.began.calls.seat.me.0.notes ≡ []
   none_noted = ap (λ (m : Me (Option Asked) (View Asked)). m.0.notes) th.ids

@@ -1,6 +1,8 @@
 pub mod Weights
 pub mod Lists
+pub mod Walks
 pub mod Own
+pub mod Follows
 pub mod Still
 pub mod Counts
 pub mod Labels
@@ -9,4 +11,5 @@ pub mod Ids
 pub mod Log
 pub mod Clients
 pub mod Places
+pub mod Reads
 pub mod Reader

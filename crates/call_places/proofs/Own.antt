@@ -19,12 +19,13 @@ use Rattle.corr_core.specs.declared.marks.Plan as id_plan
 use Rattle.sock_deeds.specs.rpc_client.specs.declared.acting.Told.{Told}
 use Rattle.sock_deeds.specs.rpc_client.specs.Running.{telling}
 use Rattle.call_run.specs.call_client.specs.call_attempts.specs.Both.{Both}
-use Rattle.call_run.specs.call_client.specs.call_attempts.specs.Retrying.{without_oldest, Retried, none_yet, one_more}
+use Rattle.call_run.specs.call_client.specs.call_attempts.specs.Retrying.{without_oldest}
 use Rattle.call_run.specs.call_client.specs.Acting.{Stand, stand, both_of, Acted}
 use Rattle.call_run.specs.call_client.specs.Running.{Course, Ran, begins, LeftAll}
 use Rattle.call_run.specs.Threads.{Thread, IsThread}
 use Rattle.sock_deeds.proofs.Flats.{append_first, append_later, flat-append}
 use Rattle.call_places.specs.Deeds.{Deed, operates, retries, retries_of, ran_deeds, deeds, entries_of, own_entries}
+use Rattle.call_places.proofs.Walks.{Walks, run_walk}
 use Rattle.call_places.proofs.Lists.{Grown, grown_none, waited_lists, gave_lists, retry_grows, acted_grows}
 use Rattle.sock_deeds.proofs.Places.{place_low}
 
@@ -52,20 +53,13 @@ module _ {O : Type 0} (g : Ghosts O) (state : O → OutState) (p : Plan) (q : id
   by_one : (d : Deed g state p q) (v w : View) → Grown (entries_of d) v w → GrownBy (d ∷ []) v w
   by_one d v w a = grown_as (entries_of d) (flat_map entries_of (d ∷ [])) v w (sym (append-nil (entries_of d))) a
 
-  retries_grow : (s t : Both) (r : Retried state p q s t) → GrownBy (retries_of {g = g} state p q s t r) s.socks t.socks
-  retries_grow s _ none_yet = grown_none s.socks s.socks refl
-  retries_grow s _ (one_more u t r rest before waits fed by) = by_then (retries_of {g = g} state p q s u before) (retries r (without_oldest rest u) t by ∷ []) s.socks u.socks t.socks
-      (retries_grow s u before) (by_one (retries r (without_oldest rest u) t by) u.socks t.socks (retry_grows state p q r (without_oldest rest u) t by))
-
-  ran_grows : (xs : List Task) (n : ℕ) (s t : Course g) (h : Ran state p q xs n s t) → GrownBy (ran_deeds state p q xs n s t h) s.has.me.0 t.has.me.0
-  ran_grows xs zero s t e = grown_none s.has.me.0 t.has.me.0 (ap (λ (c : Course g). c.has.me.0.lists) e)
-  ran_grows xs (suc n) s t h =
-      let m = h.4 in
-      let now : Deed g state p q = operates h.1 m.by m.ready t.has m.acted in
-      let waited : List (Deed g state p q) = retries_of state p q (both_of h.0.has) (both_of m.ready) m.retried.all.retried in
-      by_then (ran_deeds state p q xs n s h.0 h.2) (waited ++ now ∷ []) s.has.me.0 h.0.has.me.0 t.has.me.0 (ran_grows xs n s h.0 h.2)
-      (by_then waited (now ∷ []) h.0.has.me.0 m.ready.me.0 t.has.me.0 (retries_grow (both_of h.0.has) (both_of m.ready) m.retried.all.retried)
-      (by_one now m.ready.me.0 t.has.me.0 (acted_grows state p q h.1.number h.1.op m.by m.ready t.has m.acted)))
+  all_grow : (xs : List Task) → Walks state p q xs (λ ds s t. GrownBy ds s.socks t.socks)
+  all_grow xs = record {
+    none = λ s t e. grown_none s.socks t.socks (ap (λ (y : Both). y.socks.lists) e);
+    in_turn = λ ds es s u t. by_then ds es s.socks u.socks t.socks;
+    retry = λ u t r rest waits by. by_one (retries r (without_oldest rest u) t by) u.socks t.socks (retry_grows state p q r (without_oldest rest u) t by);
+    operation = λ n x at by s t a. by_one (operates x by s t a) s.me.0 t.me.0 (acted_grows state p q x.number x.op by s t a);
+  }
 
   -- the task was made, as one of these deeds, and its outcome is told
   pub record IsMade (ds : List (Deed g state p q)) (told : List Told) (x : Task) : Type 0 where
@@ -133,11 +127,7 @@ module _ {O : Type 0} {g : Ghosts O} {state : O → OutState} {p : Plan} {q : id
   own_list =
       let before = waited_lists p x.names (newcomer p [] th.spare) x.began.seat.me.0 th.waited in
       let behind = gave_lists th.ran.end.held _ th.ran.end.me.0 x.ended.seat.me.0 th.ran.given in
-      let last : List (Deed g state p q) = retries_of state p q (both_of (stand th.ran.came)) (both_of th.ran.last) th.ran.ends.1.all.retried in
-      behind ∙ (ap (λ (s : Stand g). s.me.0.lists) end_is
-      ∙ by_then g state p q (ran_deeds state p q x.tasks th.ran.made (begins x.began) came th.ran.ran.ran) last x.began.seat.me.0 th.ran.came.seat.me.0 th.ran.last.me.0
-      (ran_grows g state p q x.tasks th.ran.made (begins x.began) came th.ran.ran.ran)
-      (retries_grow g state p q (both_of (stand th.ran.came)) (both_of th.ran.last) th.ran.ends.1.all.retried) [] [] before)
+      behind ∙ (ap (λ (s : Stand g). s.me.0.lists) end_is ∙ run_walk x th (all_grow g state p q x.tasks) [] [] before)
 
   -- each of its tasks is one of its deeds
   pub deed_of : (k : ℕ) (t : Task) → get_elem? x.tasks k ≡ some t → IsMade g state p q (deeds x th) x.ended.outcomes.items t

@@ -1,18 +1,13 @@
 -- What a seat does to its notes and to the retries that wait, where it makes no id and takes out no retry: for each retry that is kept more, the attempt was noted as an advance.
-use Rattle.std.proofs.Common.{◌≡◌, ℕ, ◌+◌, ◌*◌, ◌<◌, ◌≤◌, inl, inr, Bool, true, false, cond, eqb, eq-eqb, ne_eqb, List, [], ◌∷◌, Some, None, refl, sym, ap, ◌∙◌, arith}
+use Rattle.std.proofs.Common.{◌≡◌, ℕ, ◌+◌, ◌*◌, ◌<◌, ◌≤◌, Bool, true, false, cond, eqb, eq-eqb, ne_eqb, List, [], ◌∷◌, refl, sym, ap, ◌∙◌, arith}
 use Rattle.std.specs.Prelude.{Option as Maybe}
 use mathlib.Core.Logic.{dite}
 use native.Mathlib.Decide.{ℕ_discrete}
 use Rattle.sock_io.specs.Link.{OutState}
-use Rattle.sock_words.specs.Codes.{EFAILEDSOCKET, EINTERNAL, ERPCTIMEDOUT}
+use Rattle.sock_words.specs.Codes.{EINTERNAL}
 use Rattle.sock_words.specs.declared.plain.Plan.{Plan}
 use Rattle.sock_words.specs.declared.socket_id.SocketId.{SocketId}
-use Rattle.sock_words.specs.declared.outcome.Outcome.{Outcome}
-use Rattle.sock_words.specs.declared.outcome.Outcome.TheVariants as outcome
-use Rattle.sock_model.specs.declared.view.View as sock_view
 use Rattle.call_run.specs.sock_rule.specs.declared.homes.Letter.{Letter}
-use Rattle.call_run.specs.sock_table.specs.declared.refs.SockRef.{SockRef}
-use Rattle.call_run.specs.call_client.specs.write_chain.specs.declared.right.Undelivered.{Undelivered}
 use Rattle.corr_core.specs.Word.{Parts, parts}
 use Rattle.corr_core.specs.Law.{total, only, pair, is_attempt}
 use Rattle.corr_core.specs.declared.marks.Note.{Note}
@@ -22,11 +17,11 @@ use Rattle.corr_core.specs.declared.marks.Plan as id_plan
 use Rattle.corr_core.specs.declared.marks.Token.{Token}
 use Rattle.corr_core.specs.declared.marks.View.{View}
 use Rattle.corr_core.proofs.Notes.{only-else, pair-at, pair-else, pair-else_first}
-use Rattle.id_rule.specs.Lawful.{notes_of, call_index, with_kept}
+use Rattle.id_rule.specs.Lawful.{notes_of, with_kept}
 use Rattle.sock_message.specs.Asked.{Asked}
 use Rattle.corr_id.specs.declared.calls.IdLock.{IdLock}
 use Rattle.corr_id.specs.declared.posts.Posted.{Posted}
-use Rattle.corr_id.specs.declared.posts.Posted.TheVariants.{Locked as HasLock, Queued as IsQueued, Gone, Crowded}
+use Rattle.corr_id.specs.declared.posts.Posted.TheVariants.{Locked as HasLock, Queued as IsQueued}
 use Rattle.corr_id.specs.declared.unlocks.Unlocked.{Unlocked}
 use Rattle.corr_id.specs.declared.unlocks.Unlocked.TheVariants.{Open, Next}
 use Rattle.corr_id.specs.Calls.{Did, Quiet, GotLock, one, is_event, advance_note, slot_of, version_of, error_in}
@@ -40,15 +35,12 @@ use Rattle.call_run.specs.call_client.specs.call_errors.specs.Locking.{GotBy}
 use Rattle.call_run.specs.call_client.specs.call_errors.specs.Ending.{EndedWith, failed}
 use Rattle.call_run.specs.call_client.specs.call_errors.specs.Handling.{Advanced, IsNext, Decided, ends, starves, waits, goes_on}
 use Rattle.call_run.specs.call_client.specs.call_errors.specs.Posting.{Handled, PostedBy}
-use Rattle.call_run.specs.call_client.specs.call_errors.specs.Asking.{found_id, TimedOut, ExpiredBy, JoinedBy}
-use Rattle.call_run.specs.call_client.specs.call_writes.specs.Draining.{ToldDrop, of_send, of_call, DroppedAll, Drained}
-use Rattle.call_run.specs.call_client.specs.call_writes.specs.Draining as draining
-use Rattle.call_run.specs.call_client.specs.call_writes.specs.Sending.{DeliveredCalling, SentCalling}
 use Rattle.call_run.specs.call_client.specs.call_attempts.specs.Both.{Both}
-use Rattle.call_run.specs.call_client.specs.call_attempts.specs.Attempting.{code_for, DeliveredBy, went_out, came_back, AttemptedBy, nowhere, over_link}
-use Rattle.call_run.specs.call_client.specs.call_attempts.specs.Retrying.{WentTo, stray, unopened, to_socket, RetriedBy, had_ended, overtaken, went_again}
+use Rattle.call_run.specs.call_client.specs.call_attempts.specs.Attempting.{AttemptedBy}
+use Rattle.call_run.specs.call_client.specs.call_attempts.specs.Retrying.{RetriedBy, had_ended, overtaken, went_again}
 use Rattle.call_run.specs.call_client.proofs.Telling.{did_total}
 use Rattle.call_places.specs.Counted.{makes_for, makes}
+use Rattle.call_places.proofs.Follows.{Follows, attempted_by, went_to}
 use Rattle.call_places.proofs.Weights.{quiet_all, did_all, became_all}
 
 -- ## Counts
@@ -217,75 +209,29 @@ handled_still : (code : ℕ) (attempt : Maybe ℕ) (answer : Posted Asked) (s t 
 handled_still code attempt (HasLock k) s t h = decided_still h
 handled_still code attempt _ s t h = still_same s t h
 
-pub posted_still : (slots : ℕ) (s : CallStand) (id code : ℕ) (attempt : Maybe ℕ) (t : CallStand) → PostedBy slots s id code attempt t → Still s t
-posted_still slots s id code attempt t p = let x = p.1 in let u : CallStand = record { view = x.view; books = s.books } in
+posted_still : (slots : ℕ) (s t : CallStand) (id code : ℕ) (attempt : Maybe ℕ) → PostedBy slots s id code attempt t → Still s t
+posted_still slots s t id code attempt p = let x = p.1 in let u : CallStand = record { view = x.view; books = s.books } in
     still_then s u t (post_still slots s u refl id code attempt p.0 x.post) (handled_still code attempt p.0 u t x.handled)
 
 -- a word of an operation was noted
-kept_still : (s : CallStand) (place : ℕ) (own : Bool) (word : ℕ) (t : CallStand) → t.view ≡ with_kept place own word s.view → t.books ≡ s.books → Still s t
-kept_still s place own word t e b = noted_same s t (ap (λ (y : Books). y.retries) b) (ap (λ (y : View Asked). y.notes) e)
+kept_still : (own : Bool) (s t : CallStand) (place word : ℕ) → t.view ≡ with_kept place own word s.view → t.books ≡ s.books → Still s t
+kept_still own s t place word e b = noted_same s t (ap (λ (y : Books). y.retries) b) (ap (λ (y : View Asked). y.notes) e)
 
-timed_out_still : (q : id_plan.Plan) (operation : ℕ) (by : Outcome) (s t : CallStand) → TimedOut q operation by s t → Still s t
-timed_out_still q operation by s t h = let u = found_id q operation h.id s in
-    still_then s u t (kept_still s (call_index q operation) false h.id u refl refl) (posted_still q.slots u h.id ERPCTIMEDOUT None t (h.answer, h.posted))
-
-pub expired_still : (q : id_plan.Plan) (operation : ℕ) (by : Outcome) (s t : CallStand) → ExpiredBy q operation by s t → Still s t
-expired_still q operation outcome.NotBegun s t h = still_same s t h.same
-expired_still q operation outcome.Expired s t h = timed_out_still q operation outcome.Expired s t h
-expired_still q operation outcome.Queued s t h = timed_out_still q operation outcome.Queued s t h
-expired_still q operation outcome.Late s t h = timed_out_still q operation outcome.Late s t h
-expired_still q operation (outcome.Crowded first second) s t h = timed_out_still q operation (outcome.Crowded first second) s t h
-expired_still q operation _ s t h = elim h [ ]
-
-pub joined_still : (q : id_plan.Plan) (operation : ℕ) (by : Outcome) (s t : CallStand) → JoinedBy q operation by s t → Still s t
-joined_still q operation outcome.NotBegun s t h = still_same s t h.same
-joined_still q operation outcome.Joined s t h = let u = found_id q operation h.id s in let x : CallStand = record { view = h.view; books = s.books } in
-    still_then s u t (kept_still s (call_index q operation) false h.id u refl refl) (still_then u x t (quiet_still u x refl h.quiet) (still_same x t h.after))
-joined_still q operation _ s t h = elim h [ ]
-
--- ## Messages
-
-told_drop : (slots : ℕ) (msg : Undelivered) (code : ℕ) (s t : CallStand) → ToldDrop slots msg code s t → Still s t
-told_drop slots msg code s t (of_send e is) = still_same s t is
-told_drop slots msg code s t (of_call ne p) = posted_still slots s msg.owner code (Some msg.label.attempt) t p
-
-module _ {O : Type 0} (state : O → OutState) (p : Plan) (slots : ℕ) where
-  dropped_all : (id : ℕ) (v : sock_view.View) (s : CallStand) (w : sock_view.View) (t : CallStand) → DroppedAll state p slots id v s w t → Still s t
-  dropped_all id v s _ _ draining.none = still_same s s refl
-  dropped_all id v s _ _ (draining.one_more u r w t more one) = still_then s r t (dropped_all id v s u r more) (told_drop slots one.msg one.code r t one.told)
-
-  drained_still : (id : ℕ) (v : sock_view.View) (s : CallStand) (w : sock_view.View) (t : CallStand) → Drained state p slots id v s w t → Still s t
-  drained_still id v s w t d = dropped_all id v s d.last t d.dropped
-
-  delivered : (sock : SockRef) (msg : Letter) (by : Maybe Outcome) (v : sock_view.View) (s : CallStand) (w : sock_view.View) (t : CallStand) → DeliveredCalling state p slots sock msg by v s w t → Still s t
-  delivered sock msg None v s w t d = drained_still sock.id.0 d.taken s d.through.wrote t d.through.drained
-  delivered sock msg (Some (outcome.Gone found)) v s w t d = still_same s t d.1
-  delivered sock msg (Some outcome.Full) v s w t d = still_same s t d.1
-  delivered sock msg (Some _) v s w t d = elim d [ ]
-
-  pub sent_still : (n : ℕ) (msg : Letter) (by : Maybe Outcome) (v : sock_view.View) (s : CallStand) (w : sock_view.View) (t : CallStand) → SentCalling state p slots n msg by v s w t → Still s t
-  sent_still n msg None v s w t h = delivered h.sock msg None h.has s w t h.delivered
-  sent_still n msg (Some outcome.Unopened) v s w t h = still_same s t h.1
-  sent_still n msg (Some (outcome.Gone found)) v s w t (inl h) = still_same s t h.1
-  sent_still n msg (Some (outcome.Gone found)) v s w t (inr h) = delivered h.sock msg (Some (outcome.Gone found)) h.has s w t h.delivered
-  sent_still n msg (Some outcome.Full) v s w t h = delivered h.sock msg (Some outcome.Full) h.has s w t h.delivered
-  sent_still n msg (Some _) v s w t h = elim h [ ]
+-- so it is with all that comes by errors, messages and attempts
+pub still_follows : (q : id_plan.Plan) → Follows q Still
+still_follows q = record {
+  same = still_same;
+  in_turn = still_then;
+  finds = kept_still false;
+  looks = λ s t e. quiet_still s t (ap (λ (b : Books). b.retries) e);
+  posts = λ s t. posted_still q.slots s t;
+}
 
 -- ## Attempts
 
 module _ {O : Type 0} (state : O → OutState) (p : Plan) (q : id_plan.Plan) where
-  delivered_still : (socket : SocketId) (msg : Letter) (s t : Both) → DeliveredBy state p q socket msg s t → Still s.calls t.calls
-  delivered_still socket msg s t (went_out w) = drained_still state p q.slots socket.0 w.taken s.calls w.through.wrote t.calls w.through.drained
-  delivered_still socket msg s t (came_back by c) = posted_still q.slots s.calls msg.owner (code_for by) (Some msg.label.attempt) t.calls c.posted
-
   pub attempted_still : (socket : SocketId) (msg : Letter) (s t : Both) → AttemptedBy state p q socket msg s t → Still s.calls t.calls
-  attempted_still socket msg s t (nowhere g) = posted_still q.slots s.calls msg.owner EFAILEDSOCKET (Some msg.label.attempt) t.calls g.posted
-  attempted_still socket msg s t (over_link u l d) = still_then s.calls u.calls t.calls (kept_still s.calls _ _ _ u.calls l.stored l.books) (delivered_still socket msg u t d)
-
-  went_still : (name : ℕ) (msg : Letter) (s t : Both) → WentTo state p q name msg s t → Still s.calls t.calls
-  went_still name msg s t (stray a e h) = posted_still q.slots s.calls msg.owner EFAILEDSOCKET (Some msg.label.attempt) t.calls h
-  went_still name msg s t (unopened f h) = posted_still q.slots s.calls msg.owner EFAILEDSOCKET (Some msg.label.attempt) t.calls h
-  went_still name msg s t (to_socket socket u f e a) = still_then s.calls u.calls t.calls (still_same s.calls u.calls e) (attempted_still socket msg u t a)
+  attempted_still = attempted_by q (still_follows q) state p (kept_still true)
 
   -- the lock was given back, and no advance was made
   unlocked_still : (k : IdLock Asked) (answer : Unlocked Asked) (s t : CallStand) → t.books ≡ s.books → UnlockOk s.view t.view k.slot (parts k.word.0) k.content false answer → Still s t
@@ -298,7 +244,7 @@ module _ {O : Type 0} (state : O → OutState) (p : Plan) (q : id_plan.Plan) whe
   -- behind the lock of a retry
   pub again_still : (r : Retry) (k : IdLock Asked) (u t : Both) → Rattle.call_run.specs.call_client.specs.call_attempts.specs.Retrying.WentAgain state p q r k u t → Still u.calls t.calls
   again_still r k u t w = let x : CallStand = record { view = w.view; books = u.calls.books } in
-      still_then u.calls x t.calls (unlocked_still k Open u.calls x refl w.unlocked) (went_still _ _ (record { socks = u.socks; calls = x }) t w.went)
+      still_then u.calls x t.calls (unlocked_still k Open u.calls x refl w.unlocked) (went_to q (still_follows q) state p (kept_still true) _ _ (record { socks = u.socks; calls = x }) t w.went)
 
   pub retried_still : (r : Retry) (s t : Both) → RetriedBy state p q r s t → Still s.calls t.calls
   retried_still r s t (had_ended h) = quiet_still s.calls t.calls (ap (λ (b : Books). b.retries) h.books) h.gone.quiet

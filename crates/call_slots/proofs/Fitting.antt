@@ -14,7 +14,7 @@ use Rattle.id_rule.specs.Lawful.{id_index, local}
 use Rattle.id_rule.proofs.Allowed as allowed
 use Rattle.sock_message.specs.Asked.{Asked}
 use Rattle.seat_programs.specs.Asides.{Step, PutCall, TakeCall}
-use Rattle.seat_programs.specs.Programs.{Program, Do, Say, Sent, Rest, TakeMessage, TakeHome, PutHome, PutBytes, AskReady, Write, Aside, Round, Keep, Retries}
+use Rattle.seat_programs.specs.Programs.{Program, Aside, Round}
 use Rattle.seat_programs.specs.Posts.{advance_of}
 use Rattle.seat_programs.specs.Rounds.{round}
 use Rattle.seat_programs.specs.Heads.{Retry}
@@ -40,37 +40,11 @@ IsOnWord other = Unit {0}
 
 within_prop : (p : IdPlan) (step : code.Aside) → IsProp (IsWithin p step)
 within_prop p (steps.ClaimId i) = hlevel props
-within_prop p (steps.PutCall i) = hlevel props
-within_prop p (steps.MakeId i range) = hlevel props
-within_prop p (steps.StoreCall o id) = hlevel props
-within_prop p (steps.LoadCall o) = hlevel props
-within_prop p (steps.StoreAt o w) = hlevel props
-within_prop p (steps.LoadAt o) = hlevel props
-within_prop p (steps.LoadIdWord i) = hlevel props
-within_prop p (steps.LockId i from) = hlevel props
-within_prop p (steps.PostId i from e) = hlevel props
-within_prop p (steps.UnlockId i from advance) = hlevel props
-within_prop p (steps.EndId i) = hlevel props
-within_prop p (steps.FreeId i) = hlevel props
-within_prop p (steps.TakeCall i) = hlevel props
-within_prop p (steps.TakeBytes k room) = hlevel props
+within_prop p _ = hlevel props
 
 room_prop : (step : code.Aside) (found : ℕ) → IsProp (WordFits step found)
 room_prop (steps.ClaimId i) found = hlevel props
-room_prop (steps.PutCall i) found = hlevel props
-room_prop (steps.MakeId i range) found = hlevel props
-room_prop (steps.StoreCall o id) found = hlevel props
-room_prop (steps.LoadCall o) found = hlevel props
-room_prop (steps.StoreAt o w) found = hlevel props
-room_prop (steps.LoadAt o) found = hlevel props
-room_prop (steps.LoadIdWord i) found = hlevel props
-room_prop (steps.LockId i from) found = hlevel props
-room_prop (steps.PostId i from e) found = hlevel props
-room_prop (steps.UnlockId i from advance) found = hlevel props
-room_prop (steps.EndId i) found = hlevel props
-room_prop (steps.FreeId i) found = hlevel props
-room_prop (steps.TakeCall i) found = hlevel props
-room_prop (steps.TakeBytes k room) found = hlevel props
+room_prop _ found = hlevel props
 
 pub fits_prop : (s : SlotState) (step : code.Aside) → IsProp (StepFits s step)
 fits_prop s step = hlevel (props, within_prop, room_prop)
@@ -80,36 +54,13 @@ fits_prop s step = hlevel (props, within_prop, room_prop)
 module _ (p : Plan) (q : IdPlan) (u : IdView) (step : Step) where
   may_first : (program : Program) → IdGoesOn p q u program → aside_of program ≡ Some step → MayId p q u step
   may_first (Aside own next) go e = let same : own ≡ step = cc in subst (MayId p q u) same go.0
-  may_first (Do call next) go e = absurd (cc)
-  may_first (Say o outcome next) go e = absurd (cc)
-  may_first (Sent o next) go e = absurd (cc)
-  may_first Rest go e = absurd (cc)
-  may_first (TakeMessage r next) go e = absurd (cc)
-  may_first (TakeHome k next) go e = absurd (cc)
-  may_first (PutHome k n after) go e = absurd (cc)
-  may_first (PutBytes k asked bytes next) go e = absurd (cc)
-  may_first (AskReady k next) go e = absurd (cc)
-  may_first (Write w after) go e = absurd (cc)
-  may_first (Round head next) go e = absurd (cc)
-  may_first (Keep r next) go e = absurd (cc)
-  may_first (Retries requests after) go e = absurd (cc)
+  may_first _ go e = absurd (cc)
 
   -- at the head of a loop it is the first step of the next round
   pub may_next : (program : Program) → IdGoesOn p q u program → aside_in program ≡ Some step → MayId p q u step
   may_next (Round head next) go e = may_first (round head next) (ids_round p q u head next go) e
   may_next (Aside own next) go e = may_first (Aside own next) go e
-  may_next (Do call next) go e = absurd (cc)
-  may_next (Say o outcome next) go e = absurd (cc)
-  may_next (Sent o next) go e = absurd (cc)
-  may_next Rest go e = absurd (cc)
-  may_next (TakeMessage r next) go e = absurd (cc)
-  may_next (TakeHome k next) go e = absurd (cc)
-  may_next (PutHome k n after) go e = absurd (cc)
-  may_next (PutBytes k asked bytes next) go e = absurd (cc)
-  may_next (AskReady k next) go e = absurd (cc)
-  may_next (Write w after) go e = absurd (cc)
-  may_next (Keep r next) go e = absurd (cc)
-  may_next (Retries requests after) go e = absurd (cc)
+  may_next _ go e = absurd (cc)
 
 -- ## What is allowed fits
 
@@ -127,29 +78,15 @@ module _ (p : Plan) (q : IdPlan) (c : Core) (us : List IdView) (sound : SoundIds
   within : (asked : Asked) (step : code.Aside) → IsOnWord step → MayId p q u (step_of asked step) → IsWithin q step
   within asked (steps.ClaimId i) on may = may
   within asked (steps.PutCall i) on may = on
-  within asked (steps.MakeId i range) on may = may.0
-  within asked (steps.StoreCall o id) on may = may.0
   within asked (steps.LoadCall o) on may = may
-  within asked (steps.StoreAt o w) on may = may.0
   within asked (steps.LoadAt o) on may = may
   within asked (steps.LoadIdWord i) on may = may
-  within asked (steps.LockId i from) on may = may.0
-  within asked (steps.PostId i from e) on may = may.0
-  within asked (steps.UnlockId i from advance) on may = may.0
-  within asked (steps.EndId i) on may = may.0
-  within asked (steps.FreeId i) on may = may.0
   within asked (steps.TakeCall i) on may = on
   within asked (steps.TakeBytes l room) on may = on
+  within asked _ on may = may.0
 
   room : (asked : Asked) (step : code.Aside) → MayId p q u (step_of asked step) → WordFits step (get_or c.calls.words (place_of q step) 0)
-  room asked (steps.ClaimId i) may = tt
-  room asked (steps.PutCall i) may = tt
   room asked (steps.MakeId i range) may = let low = may.2 in (omega (arith, low), may.3)
-  room asked (steps.StoreCall o id) may = tt
-  room asked (steps.LoadCall o) may = tt
-  room asked (steps.StoreAt o w) may = tt
-  room asked (steps.LoadAt o) may = tt
-  room asked (steps.LoadIdWord i) may = tt
   room asked (steps.LockId i from) may = may.1
   room asked (steps.PostId i from e) may = may.3
   room asked (steps.UnlockId i from advance) may =
@@ -159,9 +96,7 @@ module _ (p : Plan) (q : IdPlan) (c : Core) (us : List IdView) (sound : SoundIds
   room asked (steps.EndId i) may =
       let m = may.1 in
       let low = ends_low i may.0 m.0 m.1 m.2 m.3 m.4 m.5 m.6 in omega (arith, low)
-  room asked (steps.FreeId i) may = tt
-  room asked (steps.TakeCall i) may = tt
-  room asked (steps.TakeBytes l n) may = tt
+  room asked _ may = tt
 
   module _ (s : SlotState) (waiting : List (List Retry)) (gave : List (List ℕ)) (ending : Bool) (is : calls_with s waiting gave ending ≡ c.calls) where
     plan_is : q ≡ s.plan

@@ -10,7 +10,7 @@ use Rattle.seat_programs.specs.Asides as asides
 use Rattle.seat_programs.specs.Beside.{call_at}
 use Rattle.seat_programs.specs.Heads.{Retry}
 use Rattle.call_points.specs.declared.aside.Aside as code
-use Rattle.call_points.specs.declared.aside.Aside.TheVariants.{ClaimId, PutCall, MakeId, StoreCall, LoadCall, StoreAt, LoadAt, LoadIdWord, LockId, PostId, UnlockId, EndId, FreeId, TakeCall, TakeBytes}
+use Rattle.call_points.specs.declared.aside.Aside.TheVariants.{PutCall, LoadCall, LoadAt, LoadIdWord, TakeCall, TakeBytes}
 use Rattle.call_points.specs.Steps.{step_of}
 use Rattle.call_slots.specs.Slots.{SlotState, calls_with, as_found}
 use Rattle.call_slots.specs.Words.{place_of, next_of, IsWithin}
@@ -32,39 +32,20 @@ module _ (s : SlotState) where
   loads x = set-get_or s.words x 0
 
   pub makes : (asked : Asked) (step : code.Aside) → IsWithin s.plan step → Makes s (step_of asked step) (word_found (step_of asked step) (found_of step)) (stepped step)
-  makes asked (ClaimId i) h = record { finds = λ w g e t. refl; changes = λ w g e. refl }
   makes asked (PutCall i) h = absurd h
-  makes asked (MakeId i range) h = record { finds = λ w g e t. refl; changes = λ w g e. refl }
-  makes asked (StoreCall o id) h = record { finds = λ w g e t. refl; changes = λ w g e. refl }
   makes asked (LoadCall o) h = record { finds = λ w g e t. refl; changes = λ w g e. ap (λ ws. calls_with (With ws) w g e) (loads (place_of s.plan (LoadCall o))) }
-  makes asked (StoreAt o word) h = record { finds = λ w g e t. refl; changes = λ w g e. refl }
   makes asked (LoadAt o) h = record { finds = λ w g e t. refl; changes = λ w g e. ap (λ ws. calls_with (With ws) w g e) (loads (place_of s.plan (LoadAt o))) }
   makes asked (LoadIdWord i) h = record { finds = λ w g e t. refl; changes = λ w g e. ap (λ ws. calls_with (With ws) w g e) (loads (place_of s.plan (LoadIdWord i))) }
-  makes asked (LockId i from) h = record { finds = λ w g e t. refl; changes = λ w g e. refl }
-  makes asked (PostId i from error) h = record { finds = λ w g e t. refl; changes = λ w g e. refl }
-  makes asked (UnlockId i from advance) h = record { finds = λ w g e t. refl; changes = λ w g e. refl }
-  makes asked (EndId i) h = record { finds = λ w g e t. refl; changes = λ w g e. refl }
-  makes asked (FreeId i) h = record { finds = λ w g e t. refl; changes = λ w g e. refl }
   makes asked (TakeCall i) h = absurd h
   makes asked (TakeBytes k room) h = absurd h
+  makes asked _ h = record { finds = λ w g e t. refl; changes = λ w g e. refl }
 
 -- the word of a step is one of the table
 pub is_inside : (p : Plan) (step : code.Aside) → IsWithin p step → place_of p step < all_words p
-is_inside p (ClaimId i) h = omega (arith, h)
 is_inside p (PutCall i) h = absurd h
-is_inside p (MakeId i range) h = omega (arith, h)
-is_inside p (StoreCall o id) h = omega (arith, h)
-is_inside p (LoadCall o) h = omega (arith, h)
-is_inside p (StoreAt o word) h = omega (arith, h)
-is_inside p (LoadAt o) h = omega (arith, h)
-is_inside p (LoadIdWord i) h = omega (arith, h)
-is_inside p (LockId i from) h = omega (arith, h)
-is_inside p (PostId i from error) h = omega (arith, h)
-is_inside p (UnlockId i from advance) h = omega (arith, h)
-is_inside p (EndId i) h = omega (arith, h)
-is_inside p (FreeId i) h = omega (arith, h)
 is_inside p (TakeCall i) h = absurd h
 is_inside p (TakeBytes k room) h = absurd h
+is_inside p _ h = omega (arith, h)
 
 -- ## Homes
 

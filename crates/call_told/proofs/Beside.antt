@@ -31,7 +31,8 @@ use Rattle.call_deeds.specs.Below.rpc_reader.specs.Resting.{RestEnded}
 use Rattle.call_deeds.specs.Below.call_run.specs.Readers.{LinkReader, nothing_read, IsReader, AreReaders}
 use Rattle.call_deeds.specs.call_places.specs.Counted.{makes, HaveNotesOf}
 use Rattle.call_deeds.specs.call_places.proofs.Clients.{total_map}
-use Rattle.call_deeds.specs.call_places.proofs.Reader.{MadeNone, rest_none}
+use Rattle.call_deeds.specs.call_places.proofs.Reader.{MadeNone, none_reads}
+use Rattle.call_deeds.specs.call_places.proofs.Reads.{rest_reads}
 use Rattle.call_deeds.specs.call_places.proofs.Weights.{flat_total}
 use Rattle.call_deeds.specs.Below.sock_deeds.proofs.Flats.{append_first}
 use Rattle.call_told.specs.Answers.{AreGiven, at_end, ToldFrom, TellsFrom, HaveAnswers, IsGiver, AreAnsweredBy}
@@ -159,14 +160,14 @@ module _ {O : Type 0} {g : Ghosts O} (p : Plan) (q : ids.Plan) (calls opens : Li
           let b = total_append (λ (s : IdSeat). total f (notes_of i s.me.0.notes)) clients seats_beside in
           let c = flat_notes i f (λ (s : IdSeat). s.me.0.notes) (clients ++ seats_beside) in
           let d = ap (λ (l : List (Noted Asked)). total f (notes_of i l)) notes in
-          let e = (rest_none EEOF q calls main last rest).grows i f in omega arith
+          let e = (rest_reads none_reads EEOF q calls main last rest).grows i f in omega arith
           );
       made = λ o. (
           let a = total_map (λ (v : View Asked). total (makes o) v.notes) view_of clients in
           let b = total_append (λ (s : IdSeat). total (makes o) s.me.0.notes) clients seats_beside in
           let c = flat_total (makes o) (λ (s : IdSeat). s.me.0.notes) (clients ++ seats_beside) in
           let d = ap (total (makes o)) notes in
-          let e = (rest_none EEOF q calls main last rest).made o in
+          let e = (rest_reads none_reads EEOF q calls main last rest).made o in
           let n = none_made o in omega arith
           );
     }

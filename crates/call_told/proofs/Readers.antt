@@ -15,7 +15,8 @@ use Rattle.sock_message.specs.Asked.{Asked}
 use Rattle.call_deeds.specs.Below.rpc_reader.specs.Books.{Books}
 use Rattle.call_deeds.specs.Below.rpc_reader.specs.Running.{ReadToEnd, ReadLink, ReadIf}
 use Rattle.call_deeds.specs.Below.call_run.specs.Readers.{LinkReader, nothing_read, IsReader, AreReaders}
-use Rattle.call_deeds.specs.call_places.proofs.Reader.{MadeNone, none_noted, link_none}
+use Rattle.call_deeds.specs.call_places.proofs.Reader.{MadeNone, none_noted, none_reads}
+use Rattle.call_deeds.specs.call_places.proofs.Reads.{link_reads}
 use Rattle.call_told.specs.Answers.{IsGiven, TellsFrom}
 use Rattle.call_told.proofs.Lists.{some_same, all_then}
 use Rattle.call_told.proofs.Given.{given_first, given_later}
@@ -53,7 +54,7 @@ module _ (q : ids.Plan) (link : ℕ) (calls : List ℕ) (ending short : Bool) (s
 
   if_none : (o : Option SocketId) (v w : sock_view.View) (b b' : Books) → ReadIf q link calls ending short s t o v w b b' → MadeNone b.view b'.view
   if_none None v w b b' r = none_noted b.view b'.view (ap (λ (x : Books). x.view.notes) r.2)
-  if_none (Some id) v w b b' r = link_none q link calls ending short s t b b' (link_read id.0 v w b b' r)
+  if_none (Some id) v w b b' r = link_reads none_reads q link calls ending short s t b b' (link_read id.0 v w b b' r)
 
   if_calm : (o : Option SocketId) (v w : sock_view.View) (b b' : Books) → ReadIf q link calls ending short s t o v w b b' → short ≡ false → b.starved ≡ false → b'.starved ≡ false
   if_calm None v w b b' r e fed = ap (λ (x : Books). x.starved) r.2 ∙ fed

@@ -9,7 +9,6 @@ use Rattle.std.proofs.lemmas.Option.{same_Some}
 use Rattle.sock_words.specs.declared.outcome.Outcome.{Outcome}
 use Rattle.sock_words.specs.declared.outcome.Outcome.TheVariants.{Answered, Peer, CallFailed}
 use Rattle.brpc_model.specs.Messages.{shown_id}
-use Rattle.seat_programs.specs.declared.task.Op.{Op}
 use Rattle.seat_programs.specs.declared.task.Op.TheVariants as ops
 use Rattle.seat_programs.specs.declared.task.Task.{Task}
 use Rattle.seat_programs.specs.Told.{IsTask, Became}
@@ -35,16 +34,11 @@ same_content : (f g r s : ℕ) (a b : Asked) → Made f r a ≡ Made g s b → a
 unfolding content_of
 same_content f g r s a b e = ap (λ (n : Note Asked). content_of n a) e
 
-versions_of : Op → ℕ
-versions_of (ops.Call asked) = asked.range
-versions_of other = 0
-
 same_range : (a b : Asked) → ops.Call a ≡ ops.Call b → a.range ≡ b.range
-unfolding versions_of
-same_range a b e = ap versions_of e
+same_range a b e = cc
 
 -- an id that is shown is that of a call that ended
-shown_end : (by : Outcome) (id : ℕ) → shown_id by ≡ Some id → 0 < ends_of id by
+pub shown_end : (by : Outcome) (id : ℕ) → shown_id by ≡ Some id → 0 < ends_of id by
 shown_end (Answered i payload attachment) id e = let a = only-at id i (same_Some i id e) in omega arith
 shown_end (Peer i code) id e = let a = only-at id i (same_Some i id e) in omega arith
 shown_end (CallFailed i code) id e = let a = only-at id i (same_Some i id e) in omega arith

@@ -51,7 +51,7 @@ use Rattle.calls_over.proofs.OpensGiven.{CalmRun, are_made, targets, range}
 use Rattle.calls_over.proofs.OpensQuiet.{has_server, unfailed, none_thrown}
 use Rattle.calls_over.proofs.OpensRequest.{own_told, IsAttempt, attempt_of, taken, taken_so, request_there}
 use Rattle.served_fits.specs.send_causes.proofs.Standing.{both, unlocked}
-use Rattle.calls_over.proofs.SoonWords.{live_room}
+use Rattle.id_runs.proofs.Steps.{live_room}
 
 -- ## At words
 

@@ -1,7 +1,6 @@
 -- Where there are requests for all attempts, not each request was taken as long as the log lacks an attempt.
-use Rattle.std.proofs.Common.{◌≡◌, ◌≢◌, ℕ, zero, suc, ◌+◌, ◌*◌, ◌<◌, ◌≤◌, ◌⊎◌, inl, inr, ⊎_elim, true, eqb, List, [], ◌∷◌, ◌++◌, length, map, slice_get, Some, Ok, refl, sym, ap, ◌∙◌, subst, arith}
+use Rattle.std.proofs.Common.{◌≡◌, ℕ, zero, suc, ◌+◌, ◌*◌, ◌<◌, ◌≤◌, ◌⊎◌, inl, inr, ⊎_elim, true, eqb, List, [], ◌∷◌, ◌++◌, length, map, slice_get, Some, Ok, refl, sym, ap, ◌∙◌, subst, arith}
 use Rattle.std.proofs.lemmas.List.{length-map}
-use Rattle.std.proofs.lemmas.Option.{slice_get_within}
 use Rattle.std.specs.List.{AllByRecursion, filter}
 use mathlib.Core.Logic.{dite}
 use mathlib.Core.Option.{some, some-injective, some-ne-none}
@@ -17,14 +16,13 @@ use Rattle.brpc_model.specs.Items.{Item, attempts_of}
 use Rattle.brpc_model.specs.Operations.{Operation, Turn, operations, attempts, requests}
 use Rattle.brpc_model.specs.Order.{EachBefore}
 use Rattle.brpc_model.specs.Script.{script_of}
-use Rattle.report_fits.proofs.Counting.{tally, but, but_other, one_less}
 use Rattle.report_fits.proofs.Known.{Known, sent_at, inside}
-use Rattle.report_fits.proofs.LabelCounts.{is_attempt, attempt_there, attempts_few, Differ, few}
-use Rattle.report_fits.proofs.Lists.{all_from, all_at, before_from}
+use Rattle.report_fits.proofs.LabelCounts.{is_attempt, attempt_there, Differ}
+use Rattle.report_fits.proofs.Lists.{Has, all_from, all_at, before_from}
 use Rattle.report_fits.proofs.Numbering.{are_from}
 use Rattle.report_fits.proofs.Places.{known_of}
 use Rattle.report_fits.proofs.Reading.{InRange}
-use Rattle.report_fits.proofs.Labels.{range_small}
+use Rattle.report_fits.proofs.Labels.{range_small, lacking}
 use Rattle.seat_programs.specs.Cores.{Core}
 use Rattle.seat_programs.specs.Scripts.{all_tasks, played, IsRunWithCalls}
 use Rattle.seat_programs.specs.Tasks.{plan_of}
@@ -97,24 +95,14 @@ module _ (bytes : List ℕ) (script : List Item) (reads : script_of bytes ≡ Ok
 
   -- where it lacks an attempt, it has fewer messages than there are attempts
   fewer : (o n : ℕ) (q : Operation) → slice_get Ops o ≡ Some q → n < attempts_of q.item → (IsIn o n es → ⊥) → length es < attempts script
-  fewer o n q there counts out =
-      let few_ = all_at (λ (op : Operation). attempts_of op.item ≤ 8) Ops q small (o, there) in
-      let eight : n < 8 = omega (arith, counts, few_) in
-      let test = is_attempt Ops in
-      let place = 8 * o + n in
-      let low : place < most = omega (arith, slice_get_within Ops o q there, eight) in
-      let bound : length (map accepted_of es) ≤ tally (but test place) most = few (but test place) most (map accepted_of es) all_differ (λ a h. (
-      let d = accepted_at es h.0 a h.1 in let l = labels_there h.0 d.0 d.1 in let fits = l.2 in
-      let other : label (accepted_of d.0) ≢ place = (λ same. out (h.0, d.0, d.1, (omega (arith, same, eight, fits)), (omega (arith, same, eight, fits)))) in
-      (subst (λ (x : Accepted). label x < most) d.2 l.0, subst (λ (x : Accepted). but test place (label x) ≡ true) d.2 (but_other test place (label (accepted_of d.0)) other ∙ l.1))
-      )) in
-      omega (
-        arith,
-        bound,
-        length-map es accepted_of,
-        one_less test place most low (attempt_there Ops o n q there counts eight),
-        attempts_few script small,
-      )
+  fewer o n q there counts out = omega (arith, length-map es accepted_of, lacking script small (map accepted_of es) all_differ labels o n q there counts others)
+    where
+      labels : (a : Accepted) → Has (map accepted_of es) a → (a.attempt < 8) × (label a < most) × (is_attempt Ops (label a) ≡ true)
+      labels a h = let d = accepted_at es h.0 a h.1 in let l = labels_there h.0 d.0 d.1 in
+          subst (λ (x : Accepted). (x.attempt < 8) × (label x < most) × (is_attempt Ops (label x) ≡ true)) d.2 (l.2, l.0, l.1)
+
+      others : (a : Accepted) → Has (map accepted_of es) a → a.operation ≡ o → a.attempt ≡ n → ⊥
+      others a h operation attempt = let d = accepted_at es h.0 a h.1 in out (h.0, d.0, d.1, ap (λ (x : Accepted). x.operation) d.2 ∙ operation, ap (λ (x : Accepted). x.attempt) d.2 ∙ attempt)
 
   -- so the log has the attempt, where each request was taken
   pub taken_has : attempts script ≤ requests script → AreTaken (plan_of script) NoOld (played script is.setup (is.scheduled ++ is.later)) (views_played script turns core is (first_views script)) (plan_of script).requests

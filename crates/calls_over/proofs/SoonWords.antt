@@ -6,12 +6,11 @@ use Rattle.sock_words.specs.declared.plain.Plan.{Plan}
 use Rattle.sock_io.specs.declared.link.Put.{Put}
 use Rattle.sock_io.specs.declared.link.Ready.{Ready}
 use Rattle.corr_core.specs.Word.{Parts}
-use Rattle.corr_core.specs.Law.{Local, SlotLaw, Stands, vacant, retired, claimed, opened, locked, leaving}
 use Rattle.corr_core.specs.declared.marks.Plan.{Plan as IdPlan}
 use Rattle.id_rule.specs.Lawful.{local}
 use Rattle.id_runs.specs.Held.{IdView, id_state}
 use Rattle.id_runs.specs.Goes.{SoundIds}
-use Rattle.sock_message.specs.Asked.{Asked}
+use Rattle.id_runs.proofs.Steps.{live_room}
 use Rattle.sock_model.specs.Messages.{Letter}
 use Rattle.sock_model.specs.Reads.{message, link_home}
 use Rattle.seat_programs.specs.Asides.{Step, Found, id_slot, id_first}
@@ -26,18 +25,6 @@ use Rattle.served_fits.specs.Below.call_causes.proofs.HandledTicks.{Known}
 use Rattle.served_fits.specs.send_causes.proofs.Readings.{ticks_first}
 
 -- ## One range
-
--- an open or locked id has one attempt of its range before it, and the first version left
-pub live_room : (l : Local Asked) → SlotLaw l → 0 < l.word.state → l.word.attempt + 2 ≤ l.word.range
-live_room l law some_ = by_stands law.stands
-  where
-    by_stands : Stands law.b l → l.word.attempt + 2 ≤ l.word.range
-    by_stands (vacant none_ tag state first home) = absurd (omega (arith, some_, state))
-    by_stands (retired none_ tag state first home) = absurd (omega (arith, some_, state))
-    by_stands (claimed seen h tokens tag state first is home) = absurd (omega (arith, some_, state))
-    by_stands (opened c none_ state live oldest second home) = live.room
-    by_stands (locked c o s h tokens state live begins home holds) = live.room
-    by_stands (leaving tokens tag state first home) = absurd (omega (arith, some_, state))
 
 bound_live : (w : Parts) → 0 < w.state → bound w ≡ w.first + w.range
 bound_live w some_ = ap (λ b. cond b w.first (w.first + w.range)) (ne_eqb w.state 0 (λ e. omega (arith, some_, e)))

@@ -74,19 +74,7 @@ pub fn empty_head(found: u64, last: Ticket) -> Step
     ensures keeps_won { found ≡ last.0 → (i : ℕ) → KeepsRule (MayTry i last.0) (λ p. head_index i) found result.next (λ p v m. without_right v m.mine.right.link) }
     ensures keeps_lost { found ≢ last.0 → (i : ℕ) → KeepsRule (MayTry i last.0) (λ p. head_index i) found result.next (λ p v m. with_right v (walking_right m.mine.right found)) }
 {
-    if found == last.word() {
-        Step {
-            found,
-            next: found | IDLE,
-            won: true,
-        }
-    } else {
-        Step {
-            found,
-            next: found,
-            won: false,
-        }
-    }
+    Step::exchanged(found, last.word(), found | IDLE)
 }
 
 /// C5, load of a next word. Who wrote the message of a request that isn't the last goes on to the ticket found. Who

@@ -6,6 +6,7 @@ ghost use Rattle.corr_id.specs.Opening.{AreNew};
 ghost use Rattle.call_client.specs.Acting.{MayGo};
 ghost use Rattle.call_client.specs.Running.{MayMakeAll};
 
+use crate::plans::ONE;
 use call_attempts::Tables;
 use call_client::{Caller, Spent};
 use corr_id::{IdSeat, IdTable};
@@ -22,6 +23,13 @@ use std::collections::VecDeque;
 use std::sync::Wait;
 
 type Half = Shaped<MemOut>;
+
+const PLAN: Plan = Plan {
+    slots: 2,
+    links: 2,
+    names: 2,
+    ..ONE
+};
 
 /// The writing half of a link whose puts from this number on fail, or none for 0.
 fn half(alloc: Global, link: u16, fail: u32) -> Option<Half>
@@ -43,15 +51,7 @@ fn begin(alloc: Global) -> Option<Made<Half>>
     ensures plan { IfSome result (λ m. m.table.rule.plan ≡ record { slots = 2; links = 2; requests = 4; names = 2; operations = 3; seats = 1; first = 0 }) }
     ensures made { IfSome result (λ m. AreMade m.table.rule.table.shared.table_id m.table.rule.plan m.seats.items m.passes.items) }
 {
-    let plan = Plan {
-        slots: 2,
-        links: 2,
-        requests: 4,
-        names: 2,
-        operations: 3,
-        seats: 1,
-        first: 0,
-    };
+    let plan = PLAN;
     let good = half(alloc, 0, 0)?;
     let bad = half(alloc, 1, 1)?;
     let Ok(outs) = vec![in alloc; good, bad] else {

@@ -7,6 +7,8 @@ mod callers;
 #[cfg(test)]
 mod ids;
 #[cfg(test)]
+mod plans;
+#[cfg(test)]
 mod sockets;
 #[cfg(test)]
 mod words;

@@ -5,6 +5,7 @@ ghost use Rattle.sock_table.specs.Passes.{IsPass};
 ghost use Rattle.sock_table.specs.Refs.{Knows};
 ghost use Rattle.sock_open.specs.Made.{AreMade, AreNewSeats, PassesFrom};
 
+use crate::plans::ONE;
 use sock_io::MemOut;
 use sock_open::{Made, new_table};
 use sock_rule::SockSeat;
@@ -26,13 +27,11 @@ fn begin(alloc: Global, seats: u16) -> Option<Made<MemOut>>
     ensures made { IfSome result (λ m. AreMade m.table.rule.table.shared.table_id m.table.rule.plan m.seats.items m.passes.items) }
 {
     let plan = Plan {
-        slots: 1,
         links: 2,
         requests: 0,
-        names: 1,
         operations: 0,
         seats,
-        first: 0,
+        ..ONE
     };
     let Ok(outs) = vec![in alloc; MemOut::new(0), MemOut::new(1)] else {
         return None;

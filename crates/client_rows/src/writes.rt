@@ -6,6 +6,7 @@ ghost use Rattle.rpc_client.specs.Seats.{MayAct};
 ghost use Rattle.corr_id.specs.Seats.{Sits, IsFree};
 ghost use Rattle.corr_id.specs.Opening.{AreNew};
 
+use crate::plans::ONE;
 use call_errors::CallSeat;
 use call_writes::send_calling;
 use corr_id::{IdSeat, IdTable};
@@ -26,20 +27,18 @@ type Table = SockTable<Half>;
 
 type Ids = IdTable<Call>;
 
+const PLAN: Plan = Plan {
+    requests: 1,
+    operations: 2,
+    ..ONE
+};
+
 /// A table of one slot, a link whose first put fails, and one seat.
 fn begin(alloc: Global) -> Option<Made<Half>>
     ensures plan { IfSome result (λ m. m.table.rule.plan ≡ record { slots = 1; links = 1; requests = 1; names = 1; operations = 2; seats = 1; first = 0 }) }
     ensures made { IfSome result (λ m. AreMade m.table.rule.table.shared.table_id m.table.rule.plan m.seats.items m.passes.items) }
 {
-    let plan = Plan {
-        slots: 1,
-        links: 1,
-        requests: 1,
-        names: 1,
-        operations: 2,
-        seats: 1,
-        first: 0,
-    };
+    let plan = PLAN;
     let shape = Shape {
         piece: 8192,
         again: 0,

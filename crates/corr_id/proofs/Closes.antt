@@ -11,7 +11,7 @@ use Rattle.corr_core.specs.Word.{parts}
 use Rattle.corr_core.specs.Law.{total, Each, born, is_made, is_ended, is_ended_at, is_attempt, is_tried, is_any_made, is_claim, SawFits, NoteFits, SlotLaw}
 use Rattle.corr_core.specs.declared.marks.Plan.{Plan}
 use Rattle.corr_core.specs.declared.marks.Note.{Note}
-use Rattle.corr_core.specs.declared.marks.Note.TheVariants.{Tried, Made, Ended, Locker, Queued, Attempt, Saw}
+use Rattle.corr_core.specs.declared.marks.Note.TheVariants.{Made, Locker, Attempt, Saw}
 use Rattle.corr_core.specs.declared.marks.Kept.{Kept}
 use Rattle.corr_core.specs.declared.marks.View.{View}
 use Rattle.corr_core.proofs.Notes.{each_at, total_some, only-else, pair-else, pair-else_first}
@@ -44,33 +44,18 @@ only_one f (x ∷ xs) zero v e h = (λ z. f (some-injective x v e z) ++ all_nil 
 only_one f (x ∷ xs) (suc i) v e h = (λ z. h zero x refl (λ q. omega arith) z ++ only_one f xs i v e (λ j u g n. h (suc j) u g (λ q. n (omega arith))) z)
 
 pub saw_of : {C : Type 0} (w : ℕ) (n : Note C) → 0 < is_saw w n → n ≡ Saw w
-saw_of w Tried h = absurd (omega arith)
-saw_of w (Made f r c) h = absurd (omega arith)
-saw_of w (Ended f y) h = absurd (omega arith)
-saw_of w (Locker f c) h = absurd (omega arith)
-saw_of w (Queued f e) h = absurd (omega arith)
-saw_of w (Attempt f n) h = absurd (omega arith)
 saw_of w (Saw x) h = dite (ℕ_discrete x w) (λ e. ap Saw e) (λ n. let k = only-else w x n in absurd (omega arith))
+saw_of w _ h = absurd (omega arith)
 
 made_of : {C : Type 0} (f : ℕ) (n : Note C) → 0 < is_made f n → (r : ℕ) × (c : C) × (n ≡ Made f r c)
-made_of f Tried h = absurd (omega arith)
 made_of f (Made g r c) h = dite (ℕ_discrete g f) (λ e. (r, c, ap (λ y. Made y r c) e)) (λ n. let k = only-else f g n in absurd (omega arith))
-made_of f (Ended g y) h = absurd (omega arith)
-made_of f (Locker g c) h = absurd (omega arith)
-made_of f (Queued g e) h = absurd (omega arith)
-made_of f (Attempt g n) h = absurd (omega arith)
-made_of f (Saw x) h = absurd (omega arith)
+made_of f _ h = absurd (omega arith)
 
 attempt_of : {C : Type 0} (f m : ℕ) (n : Note C) → 0 < is_attempt f m n → n ≡ Attempt f m
-attempt_of f m Tried h = absurd (omega arith)
-attempt_of f m (Made g r c) h = absurd (omega arith)
-attempt_of f m (Ended g y) h = absurd (omega arith)
-attempt_of f m (Locker g c) h = absurd (omega arith)
-attempt_of f m (Queued g e) h = absurd (omega arith)
 attempt_of f m (Attempt g n) h = dite (ℕ_discrete g f)
     (λ e. dite (ℕ_discrete n m) (λ d. λ i. Attempt (e i) (d i)) (λ d. let k = pair-else f m g n d in absurd (omega arith)))
     (λ e. let k = pair-else_first f m g n e in absurd (omega arith))
-attempt_of f m (Saw x) h = absurd (omega arith)
+attempt_of f m _ h = absurd (omega arith)
 
 made_as : {C : Type 0} (ns : List (Note C)) (j f : ℕ) (x y : ℕ × C) → x ≡ y → get_elem? ns j ≡ some (Made f x.0 x.1) → get_elem? ns j ≡ some (Made f y.0 y.1)
 made_as {C} ns j f x y same at = subst (λ (z : ℕ × C). get_elem? ns j ≡ some (Made f z.0 z.1)) same at

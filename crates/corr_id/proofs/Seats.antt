@@ -1,10 +1,13 @@
 -- A seat that is split off, one that is taken in, and the table at its start.
-use Rattle.std.proofs.Common.{◌≡◌, ℕ, zero, suc, ◌+◌, ◌*◌, ◌<◌, ◌≤◌, ⊎_elim, true, false, cond, eqb, List, [], ◌∷◌, ◌++◌, map, None, get_or, set, replicate, sym, refl, ap, ◌∙◌, subst, arith}
+use Rattle.std.proofs.Common.{◌≡◌, ◌≢◌, ℕ, zero, suc, ◌+◌, ◌*◌, ◌<◌, ◌≤◌, ⊎_elim, true, false, cond, eqb, List, [], ◌∷◌, ◌++◌, map, None, get_or, set, replicate, sym, refl, ap, ◌∙◌, subst, arith}
 use Rattle.std.specs.Prelude.{Option as Maybe}
 use Rattle.std.specs.List.{flat_map}
 use mathlib.Core.Option.{none, some, some-injective, some-ne-none}
 use lib.ListN.{get_elem?}
+use mathlib.Core.Logic.{dite}
+use native.Mathlib.Decide.{ℕ_discrete}
 use Rattle.atomic_table.specs.Table.{Joins, Splits, opening}
+use Rattle.atomic_table.specs.declared.shared.Seat.{Seat}
 use Rattle.atomic_table.proofs.Lists.{at_set, at_snoc}
 use Rattle.corr_core.specs.Word.{parts, free_word}
 use Rattle.corr_core.specs.Law.{total, is_made, Each, Local, SlotLaw, vacant}
@@ -17,6 +20,7 @@ use Rattle.corr_core.proofs.Notes.{each_map, total_set}
 use Rattle.corr_core.proofs.Gather.{gather_same}
 use Rattle.corr_core.proofs.Shuffles.{shuffled, total_flat, each_of, each_in, each_both, flat_snoc}
 use Rattle.corr_id.specs.Calls.{slot_of, version_of, is_saw}
+use Rattle.corr_id.specs.Seats.{Stays}
 use Rattle.corr_id.specs.Ruled.{FreshBehind, Known, Ruled}
 use Rattle.id_rule.specs.Lawful.{tag_index, id_index, KeptFits, kept_in, is_stored, tokens_of, notes_of, tokens_in, notes_in, share_of, local, IsBare, Lawful, Unused, first_view, spent, newcomer, lighter, joined}
 
@@ -26,6 +30,10 @@ total_append g (x ∷ xs) m = omega (arith, total_append g xs m)
 
 at_else : {A : Type 0} (l : List A) (i j : ℕ) (a b : A) → ¬ (j ≡ i) → get_elem? (set l i a) j ≡ some b → get_elem? l j ≡ some b
 at_else l i j a b ne e = ⊎_elim (λ t. absurd (ne t.0)) (λ t. t.1) (at_set l i j a b e)
+
+-- an exchange of a word leaves the slots in hand, whether it exchanged or not
+pub exchange_stays : {C : Type 0} (s t : Seat (Maybe C) (View C)) (found from : ℕ) → t.table_id ≡ s.table_id → t.id ≡ s.id → (found ≡ from → t.me.1 ≡ s.me.1) → (found ≢ from → t.me.1 ≡ s.me.1) → Stays s t
+exchange_stays s t found from same one hit miss = (same, one, dite (ℕ_discrete found from) hit miss)
 
 module _ {C : Type 0} where
   pub notes_append : (i : ℕ) (a b : List (Noted C)) → notes_of i (a ++ b) ≡ notes_of i a ++ notes_of i b

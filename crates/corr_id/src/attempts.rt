@@ -1,11 +1,13 @@
 // Ids that are locked by the version of an attempt.
 ghost use Rattle.std.specs.Prelude.{◌≡◌, ◌+◌, ◌*◌, ◌<◌, ◌≤◌, ◌⊎◌, ℕ, true, false, IfOk, IfErr};
 ghost use Rattle.corr_core.specs.Word.{parts};
+ghost use Rattle.corr_core.specs.Law.{total, is_made};
+ghost use Rattle.id_rule.specs.Lawful.{notes_of};
 ghost use Rattle.corr_id.specs.Seats.{Sits, Stays};
 ghost use Rattle.corr_id.specs.Calls.{slot_of, version_of, GotLock, Quiet, Found};
-ghost use Rattle.corr_id.specs.Attempts.{LacksAttempt};
+ghost use Rattle.corr_id.specs.Attempts.{LacksAttempt, IsOutside, IsWithin, IsKnown};
 
-use crate::calls::{IdGone, IdLock};
+use crate::calls::{IdGone, Locking, is_out_of};
 use crate::table::{IdSeat, IdTable};
 use sock_words::IdWord;
 use std::sync::Wait;
@@ -13,18 +15,33 @@ use std::sync::Wait;
 impl<C> IdTable<C> {
     /// Locks an id by the version of an attempt, as `lock` does (`bthread_id_lock`). The id's own version, the first of its range,
     /// is that of no attempt, so that no response locks an id by it.
-    pub fn lock_attempt<R: Wait>(
-        &self,
-        rt: &R,
-        seat: &mut IdSeat<C>,
-        version: u64,
-    ) -> Result<IdLock<C>, IdGone>
+    pub fn lock_attempt<R: Wait>(&self, rt: &R, seat: &mut IdSeat<C>, version: u64) -> Locking<C>
         requires seat { Sits self.now.table.shared.table_id seat.old }
         ensures seat { Stays seat.old seat.new }
         ensures locked { IfOk result (λ k. (k.slot ≡ slot_of version) × ((word : ℕ) × GotLock k.slot seat.old.me.0 seat.new.me.0 word (parts k.word.0) k.content)) }
         ensures inside { IfOk result (λ k. k.slot < self.now.plan.slots) }
         ensures of_range { IfOk result (λ k. ((parts k.word.0).first < version_of version) × (version_of version < (parts k.word.0).first + (parts k.word.0).range)) }
         ensures gone { IfErr result (λ e. Quiet seat.old.me.0 seat.new.me.0 × (((self.now.plan.slots ≤ slot_of version) × (e.found ≡ 0)) ⊎ (Found (slot_of version) e.found seat.new.me.0 × LacksAttempt (parts e.found) (version_of version)))) }
+    {
+        self.lock_within(rt, seat, version, true)
+    }
+
+    // Locks an id once it is open, where the word found has the version: an attempt's behind its first one alone.
+    pub(crate) fn lock_within<R: Wait>(
+        &self,
+        rt: &R,
+        seat: &mut IdSeat<C>,
+        version: u64,
+        attempt: bool,
+    ) -> Locking<C>
+        requires seat { Sits self.now.table.shared.table_id seat.old }
+        ensures seat { Stays seat.old seat.new }
+        ensures locked { IfOk result (λ k. (k.slot ≡ slot_of version) × ((word : ℕ) × GotLock k.slot seat.old.me.0 seat.new.me.0 word (parts k.word.0) k.content)) }
+        ensures inside { IfOk result (λ k. k.slot < self.now.plan.slots) }
+        ensures of_range { IfOk result (λ k. IsWithin attempt (parts k.word.0) (version_of version)) }
+        ensures own { IfOk result (λ k. 0 < total (is_made (version_of version)) (notes_of (slot_of version) seat.old.me.0.notes) → (parts k.word.0).first ≡ version_of version) }
+        ensures gone { IfErr result (λ e. Quiet seat.old.me.0 seat.new.me.0 × (((self.now.plan.slots ≤ slot_of version) × (e.found ≡ 0)) ⊎ (Found (slot_of version) e.found seat.new.me.0 × IsOutside attempt (parts e.found) (version_of version)))) }
+        ensures ended { attempt ≡ false → IfErr result (λ e. slot_of version < self.now.plan.slots → IsKnown (slot_of version) (version_of version) seat.old.me.0 → version_of version < (parts e.found).first) }
     {
         let slot = version / 4_294_967_296;
         if slot >= self.plan.slots as u64 {
@@ -35,7 +52,7 @@ impl<C> IdTable<C> {
         'looks: for _ in rt.forever() {
             let found = self.load_id_word(seat, at);
             let word = IdWord::from_word(found);
-            if lacks_attempt(word, own) {
+            if is_outside(word, own, attempt) {
                 return Err(IdGone { found });
             }
             if word.state() != IdWord::OPEN {
@@ -56,4 +73,16 @@ fn lacks_attempt(word: IdWord, version: u64) -> bool
 {
     let first = u64::from(word.first());
     word.state() == IdWord::FREE || version <= first || version >= first + u64::from(word.range())
+}
+
+// Whether the word has ended or has another range than the version's; an attempt's is none but behind the first one.
+fn is_outside(word: IdWord, version: u64, attempt: bool) -> bool
+    ensures out { result ≡ true → IsOutside attempt (parts word.0) version }
+    ensures within { result ≡ false → IsWithin attempt (parts word.0) version }
+{
+    if attempt {
+        lacks_attempt(word, version)
+    } else {
+        is_out_of(word, version)
+    }
 }

@@ -37,6 +37,9 @@ pub struct IdLock<C> {
     pub ghost in_order: { (parts word.0).oldest ≡ 0 → (parts word.0).second ≡ 0 },
 }
 
+/// What a lock gets: the id, or why there was none.
+pub type Locking<C> = Result<IdLock<C>, IdGone>;
+
 impl<C> IdLock<C> {
     /// The content.
     pub fn content(&self) -> &C
@@ -136,12 +139,7 @@ impl<C> IdTable<C> {
 
     /// Locks an id, by itself or by an attempt's version, once it is open (`bthread_id_lock`). It is gone exactly where the word
     /// read has ended or has another range. Where the seat knows of the id that it was made, or advanced, it has ended then.
-    pub fn lock<R: Wait>(
-        &self,
-        rt: &R,
-        seat: &mut IdSeat<C>,
-        version: u64,
-    ) -> Result<IdLock<C>, IdGone>
+    pub fn lock<R: Wait>(&self, rt: &R, seat: &mut IdSeat<C>, version: u64) -> Locking<C>
         requires seat { Sits self.now.table.shared.table_id seat.old }
         ensures seat { Stays seat.old seat.new }
         ensures locked { IfOk result (λ k. (k.slot ≡ slot_of version) × ((word : ℕ) × GotLock k.slot seat.old.me.0 seat.new.me.0 word (parts k.word.0) k.content)) }
@@ -152,26 +150,7 @@ impl<C> IdTable<C> {
         ensures ended { IfErr result (λ e. slot_of version < self.now.plan.slots → 0 < total (is_made (version_of version)) (notes_of (slot_of version) seat.old.me.0.notes) → version_of version < (parts e.found).first) }
         ensures advanced { IfErr result (λ e. slot_of version < self.now.plan.slots → 0 < total (is_advance (version_of version)) (notes_of (slot_of version) seat.old.me.0.notes) → version_of version < (parts e.found).first) }
     {
-        let slot = version / 4_294_967_296;
-        if slot >= self.plan.slots as u64 {
-            return Err(IdGone { found: 0 });
-        }
-        let at = slot as u16;
-        let own = version % 4_294_967_296;
-        'looks: for _ in rt.forever() {
-            let found = self.load_id_word(seat, at);
-            let word = IdWord::from_word(found);
-            if is_out_of(word, own) {
-                return Err(IdGone { found });
-            }
-            if word.state() != IdWord::OPEN {
-                continue;
-            }
-            if let Ok(lock) = self.try_lock(seat, at, found) {
-                return Ok(lock);
-            }
-        }
-        unreachable!()
+        self.lock_within(rt, seat, version, false)
     }
 
     // I3 of a word that was found open, and K2; else the word that was found now.
@@ -240,7 +219,7 @@ impl<C> IdTable<C> {
 }
 
 // Whether the word is free, or has another range than the version's.
-fn is_out_of(word: IdWord, version: u64) -> bool
+pub(crate) fn is_out_of(word: IdWord, version: u64) -> bool
     ensures out { result ≡ true → OutOf (parts word.0) version }
     ensures within { result ≡ false → ((parts word.0).first ≤ version) × (version < (parts word.0).first + (parts word.0).range) }
 {

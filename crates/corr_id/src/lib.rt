@@ -13,7 +13,7 @@ mod table;
 mod unlocks;
 mod words;
 
-pub use calls::{IdFull, IdGone, IdLock};
+pub use calls::{IdFull, IdGone, IdLock, Locking};
 pub use closing::IdNotClosed;
 pub use plays::Rule;
 pub use posts::Posted;

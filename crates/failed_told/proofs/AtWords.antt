@@ -1,7 +1,6 @@
 -- Each word of an operation's attempts that a client stored was stored by one of its deeds: with the id and the number of that attempt, and the link of the socket to which it went.
-use Rattle.std.proofs.Common.{◌≡◌, ℕ, zero, suc, ◌+◌, ◌<◌, ◌⊎◌, inl, inr, true, false, List, [], ◌∷◌, ◌++◌, length, Some, None, drop, zero-le, zero-add, refl, sym, ap, ◌∙◌, subst, arith}
+use Rattle.std.proofs.Common.{◌≡◌, ℕ, zero, ◌+◌, ◌<◌, ◌⊎◌, inl, inr, true, false, List, [], ◌∷◌, ◌++◌, length, Some, None, zero-le, zero-add, refl, sym, ap, ◌∙◌, subst, arith}
 use Rattle.std.specs.Prelude.{Option}
-use Rattle.std.proofs.lemmas.List.{drop_all}
 use mathlib.Core.Logic.{dite}
 use mathlib.Core.Option.{some}
 use native.Mathlib.Decide.{ℕ_discrete}
@@ -9,15 +8,13 @@ use lib.ListN.{get_elem?}
 use Rattle.atomic_table.specs.Table.{Me}
 use Rattle.sock_io.specs.declared.link.Out.{Ghosts}
 use Rattle.sock_io.specs.Link.{OutState}
-use Rattle.sock_words.specs.Codes.{EFAILEDSOCKET, ERPCTIMEDOUT}
+use Rattle.sock_words.specs.Codes.{EFAILEDSOCKET}
 use Rattle.sock_words.specs.Words.{at_word}
 use Rattle.sock_words.specs.declared.outcome.Outcome.{Outcome}
 use Rattle.sock_words.specs.declared.outcome.Outcome.TheVariants as outcome
 use Rattle.sock_words.specs.declared.plain.Plan.{Plan}
 use Rattle.sock_words.specs.declared.socket_id.SocketId.{SocketId}
-use Rattle.sock_model.specs.declared.view.View as sock_view
 use Rattle.attempts_told.specs.call_whys.specs.expire_told.specs.Below.sock_rule.specs.declared.homes.Letter.{Letter}
-use Rattle.attempts_told.specs.call_whys.specs.expire_told.specs.Below.sock_table.specs.declared.refs.SockRef.{SockRef}
 use Rattle.seat_programs.specs.declared.task.Op.{Op}
 use Rattle.seat_programs.specs.declared.task.Op.TheVariants as ops
 use Rattle.seat_programs.specs.declared.task.Task.{Task}
@@ -31,33 +28,29 @@ use Rattle.id_rule.specs.Lawful.{at_index, call_index, is_stored, notes_of, with
 use Rattle.sock_message.specs.Asked.{Asked}
 use Rattle.corr_id.specs.declared.calls.IdLock.{IdLock}
 use Rattle.corr_id.specs.declared.posts.Posted.{Posted}
-use Rattle.corr_id.specs.declared.posts.Posted.TheVariants.{Locked as HasLock, Gone, Crowded}
+use Rattle.corr_id.specs.declared.posts.Posted.TheVariants.{Locked as HasLock}
 use Rattle.corr_id.specs.Calls.{slot_of, version_of, one}
 use Rattle.corr_id.specs.Posts.{PostOk}
-use Rattle.attempts_told.specs.call_whys.specs.expire_told.specs.Below.write_chain.specs.declared.right.Undelivered.{Undelivered}
 use Rattle.attempts_told.specs.call_whys.specs.expire_told.specs.Below.call_errors.specs.declared.retries.Retry.{Retry}
 use Rattle.attempts_told.specs.call_whys.specs.expire_told.specs.Below.call_errors.specs.Books.{CallStand, stand_of}
 use Rattle.attempts_told.specs.call_whys.specs.expire_told.specs.Below.call_errors.specs.Handling.{Decided}
 use Rattle.attempts_told.specs.call_whys.specs.expire_told.specs.Below.call_errors.specs.Handling as handling
 use Rattle.attempts_told.specs.call_whys.specs.expire_told.specs.Below.call_errors.specs.Posting.{Handled, PostedBy}
-use Rattle.attempts_told.specs.call_whys.specs.expire_told.specs.Below.call_errors.specs.Asking.{found_id, TimedOut, ExpiredBy, JoinedBy}
-use Rattle.attempts_told.specs.call_whys.specs.expire_told.specs.Below.call_writes.specs.Draining.{ToldDrop, of_send, of_call, DroppedAll, Drained}
-use Rattle.attempts_told.specs.call_whys.specs.expire_told.specs.Below.call_writes.specs.Draining as draining
-use Rattle.attempts_told.specs.call_whys.specs.expire_told.specs.Below.call_writes.specs.Sending.{DeliveredCalling, SentCalling}
 use Rattle.attempts_told.specs.call_whys.specs.expire_told.specs.Below.call_attempts.specs.Both.{Both}
-use Rattle.attempts_told.specs.call_whys.specs.expire_told.specs.Below.call_attempts.specs.Attempting.{code_for, DeliveredBy, went_out, came_back, AttemptedBy, nowhere, over_link}
+use Rattle.attempts_told.specs.call_whys.specs.expire_told.specs.Below.call_attempts.specs.Attempting.{AttemptedBy, nowhere, over_link}
 use Rattle.attempts_told.specs.call_whys.specs.expire_told.specs.Below.call_attempts.specs.Letters.{letter_for}
-use Rattle.attempts_told.specs.call_whys.specs.expire_told.specs.Below.call_attempts.specs.Retrying.{without_oldest, WentTo, stray, unopened, to_socket, RetriedBy, had_ended, overtaken, went_again, Retried, none_yet, one_more}
-use Rattle.attempts_told.specs.call_whys.specs.expire_told.specs.Below.call_client.specs.Acting.{Stand, stand, both_of, letter_of, Acted}
-use Rattle.attempts_told.specs.call_whys.specs.expire_told.specs.Below.call_client.specs.Running.{Course, Ran, begins}
+use Rattle.attempts_told.specs.call_whys.specs.expire_told.specs.Below.call_attempts.specs.Retrying.{without_oldest, WentTo, stray, unopened, to_socket, RetriedBy, had_ended, overtaken, went_again}
+use Rattle.attempts_told.specs.call_whys.specs.expire_told.specs.Below.call_client.specs.Acting.{Stand, both_of, letter_of, Acted}
 use Rattle.attempts_told.specs.call_whys.specs.expire_told.specs.Below.call_run.specs.Threads.{Thread, IsThread}
-use Rattle.attempts_told.specs.call_whys.specs.expire_told.specs.call_places.specs.Deeds.{Deed, operates, retries, retries_of, ran_deeds, deeds}
+use Rattle.attempts_told.specs.call_whys.specs.expire_told.specs.call_places.specs.Deeds.{Deed, operates, retries, deeds}
+use Rattle.attempts_told.specs.call_whys.specs.expire_told.specs.call_places.proofs.Follows.{Follows, expired_by, joined_by, sent_calling, delivered_by}
+use Rattle.attempts_told.specs.call_whys.specs.expire_told.specs.call_places.proofs.Walks.{Walks, run_walk}
+use Rattle.attempts_told.specs.call_whys.specs.expire_told.specs.call_places.proofs.Own.{end_is}
 use Rattle.attempts_told.specs.call_whys.specs.expire_told.specs.call_places.proofs.Still.{attempted_still, retried_still}
 use Rattle.attempts_told.specs.call_whys.specs.expire_told.specs.call_places.proofs.Counts.{Grows, acted_might}
 use Rattle.attempts_told.specs.call_whys.specs.expire_told.specs.Below.call_client.proofs.Telling.{did_total}
 use Rattle.attempts_told.specs.call_whys.specs.expire_told.specs.call_told.specs.Least.{is_made_for}
 use Rattle.attempts_told.specs.call_whys.specs.expire_told.specs.call_told.proofs.Ends.{made_silent, counted_here}
-use Rattle.attempts_told.specs.call_whys.specs.expire_told.specs.call_told.proofs.Runs.{none_left}
 use Rattle.attempts_told.specs.call_whys.specs.expire_told.proofs.Making.{word_is as kept_word}
 use Rattle.attempts_told.specs.call_whys.specs.expire_told.specs.Below.sock_deeds.proofs.Flats.{append_first, append_later}
 use Rattle.failed_told.specs.Missed.{acted_id, id_of, attempt_of}
@@ -155,56 +148,18 @@ handled_keeps : (code : ℕ) (attempt : Option ℕ) (answer : Posted Asked) (s t
 handled_keeps code attempt (HasLock k) s t d = decided_keeps d
 handled_keeps code attempt _ s t e = same_keeps s t e
 
-posted_keeps : (slots : ℕ) (s : CallStand) (id code : ℕ) (attempt : Option ℕ) (t : CallStand) → PostedBy slots s id code attempt t → Keeps s.view t.view
-posted_keeps slots s id code attempt t b = handled_keeps code attempt b.0 (record { view = b.1.view; books = s.books }) t b.1.handled ∙ post_keeps slots s.view b.1.view id code attempt b.0 b.1.post
+posts_none : (slots : ℕ) (s t : CallStand) (id code : ℕ) (attempt : Option ℕ) → PostedBy slots s id code attempt t → StoresNone s.view t.view
+posts_none slots s t id code attempt b = none_by s.view t.view (handled_keeps code attempt b.0 (record { view = b.1.view; books = s.books }) t b.1.handled ∙ post_keeps slots s.view b.1.view id code attempt b.0 b.1.post)
 
--- ## Of an `expire` and a `join`
-
-module _ (q : id_plan.Plan) where
-  timed_none : (number : ℕ) (by : Outcome) (s t : CallStand) → TimedOut q number by s t → StoresNone s.view t.view
-  timed_none number by s t h = let u = found_id q number h.id s in none_then s.view u.view t.view (found_none (call_index q number) h.id s.view) (none_by u.view t.view (posted_keeps q.slots u h.id ERPCTIMEDOUT None t (h.answer, h.posted)))
-
-  expired_none : (number : ℕ) (by : Outcome) (s t : CallStand) → ExpiredBy q number by s t → StoresNone s.view t.view
-  expired_none number outcome.NotBegun s t h = none_by s.view t.view (same_keeps s t h.same)
-  expired_none number outcome.Expired s t h = timed_none number outcome.Expired s t h
-  expired_none number outcome.Queued s t h = timed_none number outcome.Queued s t h
-  expired_none number outcome.Late s t h = timed_none number outcome.Late s t h
-  expired_none number (outcome.Crowded first second) s t h = timed_none number (outcome.Crowded first second) s t h
-  expired_none number _ s t h = elim h [ ]
-
-  joined_none : (number : ℕ) (by : Outcome) (s t : CallStand) → JoinedBy q number by s t → StoresNone s.view t.view
-  joined_none number outcome.NotBegun s t h = none_by s.view t.view (same_keeps s t h.same)
-  joined_none number outcome.Joined s t h = let u = found_id q number h.id s in
-      none_then s.view u.view t.view (found_none (call_index q number) h.id s.view) (none_by u.view t.view (ap (λ (y : CallStand). y.view.kept) h.after ∙ h.quiet.kept))
-  joined_none number _ s t h = elim h [ ]
-
--- ## Of messages
-
-told_keeps : (slots : ℕ) (msg : Undelivered) (code : ℕ) (s t : CallStand) → ToldDrop slots msg code s t → Keeps s.view t.view
-told_keeps slots msg code s t (of_send e is) = same_keeps s t is
-told_keeps slots msg code s t (of_call ne b) = posted_keeps slots s msg.owner code (Some msg.label.attempt) t b
-
-module _ {O : Type 0} (state : O → OutState) (p : Plan) (slots : ℕ) where
-  dropped_keeps : (id : ℕ) (v : sock_view.View) (s : CallStand) (w : sock_view.View) (t : CallStand) → DroppedAll state p slots id v s w t → Keeps s.view t.view
-  dropped_keeps id v s _ _ draining.none = refl
-  dropped_keeps id v s _ _ (draining.one_more u r w t more one) = told_keeps slots one.msg one.code r t one.told ∙ dropped_keeps id v s u r more
-
-  drained_keeps : (id : ℕ) (v : sock_view.View) (s : CallStand) (w : sock_view.View) (t : CallStand) → Drained state p slots id v s w t → Keeps s.view t.view
-  drained_keeps id v s w t d = dropped_keeps id v s d.last t d.dropped
-
-  sends_keeps : (sock : SockRef) (msg : Letter) (by : Option Outcome) (v : sock_view.View) (s : CallStand) (w : sock_view.View) (t : CallStand) → DeliveredCalling state p slots sock msg by v s w t → Keeps s.view t.view
-  sends_keeps sock msg None v s w t d = drained_keeps sock.id.0 d.taken s d.through.wrote t d.through.drained
-  sends_keeps sock msg (Some (outcome.Gone found)) v s w t d = same_keeps s t d.1
-  sends_keeps sock msg (Some outcome.Full) v s w t d = same_keeps s t d.1
-  sends_keeps sock msg (Some _) v s w t d = elim d [ ]
-
-  sent_keeps : (n : ℕ) (msg : Letter) (by : Option Outcome) (v : sock_view.View) (s : CallStand) (w : sock_view.View) (t : CallStand) → SentCalling state p slots n msg by v s w t → Keeps s.view t.view
-  sent_keeps n msg None v s w t h = sends_keeps h.sock msg None h.has s w t h.delivered
-  sent_keeps n msg (Some outcome.Unopened) v s w t h = same_keeps s t h.1
-  sent_keeps n msg (Some (outcome.Gone found)) v s w t (inl h) = same_keeps s t h.1
-  sent_keeps n msg (Some (outcome.Gone found)) v s w t (inr h) = sends_keeps h.sock msg (Some (outcome.Gone found)) h.has s w t h.delivered
-  sent_keeps n msg (Some outcome.Full) v s w t h = sends_keeps h.sock msg (Some outcome.Full) h.has s w t h.delivered
-  sent_keeps n msg (Some _) v s w t h = elim h [ ]
+-- an `expire`, a `join` and what becomes of messages store none
+all_none : (q : id_plan.Plan) → Follows q (λ s t. StoresNone s.view t.view)
+all_none q = record {
+  same = λ s t e. none_by s.view t.view (same_keeps s t e);
+  in_turn = λ s u t. none_then s.view u.view t.view;
+  finds = λ s t place word e b. subst (StoresNone s.view) (sym e) (found_none place word s.view);
+  looks = λ s t e quiet. none_by s.view t.view quiet.kept;
+  posts = posts_none q.slots;
+}
 
 -- ## Of attempts
 
@@ -234,23 +189,19 @@ module _ (q : id_plan.Plan) where
   for_call Q n put v o word h = inl (let a = pair-else_first (at_index q o) word (call_index q n) put (λ (e : call_index q n ≡ at_index q o). omega (arith, e)) in omega (arith, a, h))
 
   module _ {O : Type 0} (state : O → OutState) (p : Plan) (Q : ℕ → ℕ → Type 0) where
-    delivery_keeps : (socket : SocketId) (msg : Letter) (s t : Both) → DeliveredBy state p q socket msg s t → Keeps s.calls.view t.calls.view
-    delivery_keeps socket msg s t (went_out w) = drained_keeps state p q.slots socket.0 w.taken s.calls w.through.wrote t.calls w.through.drained
-    delivery_keeps socket msg s t (came_back by c) = posted_keeps q.slots s.calls msg.owner (code_for by) (Some msg.label.attempt) t.calls c.posted
-
     -- that word of the attempt in this message, with the link
     abbrev StoresLink : Letter → ℕ → Type 0
     StoresLink msg link = Q msg.label.operation (at_word (version_of msg.owner) (slot_of msg.owner) link msg.label.attempt)
 
     attempt_for : (socket : SocketId) (msg : Letter) (s t : Both) (a : AttemptedBy state p q socket msg s t) → ((link : ℕ) → attempt_link state p q socket msg s t a ≡ Some link → link < p.links → StoresLink msg link) → StoresFor Q s.calls.view t.calls.view
-    attempt_for socket msg s t (nowhere g) why = for_none Q s.calls.view t.calls.view (none_by s.calls.view t.calls.view (posted_keeps q.slots s.calls msg.owner EFAILEDSOCKET (Some msg.label.attempt) t.calls g.posted))
+    attempt_for socket msg s t (nowhere g) why = for_none Q s.calls.view t.calls.view (posts_none q.slots s.calls t.calls msg.owner EFAILEDSOCKET (Some msg.label.attempt) g.posted)
     attempt_for socket msg s t (over_link u l d) why =
         let put : ℕ = at_word (version_of msg.owner) (slot_of msg.owner) l.link msg.label.attempt in
-        for_then Q s.calls.view u.calls.view t.calls.view (subst (StoresFor Q s.calls.view) (sym l.stored) (for_one Q msg.label.operation put s.calls.view (why l.link refl l.link_of.inside))) (for_none Q u.calls.view t.calls.view (none_by u.calls.view t.calls.view (delivery_keeps socket msg u t d)))
+        for_then Q s.calls.view u.calls.view t.calls.view (subst (StoresFor Q s.calls.view) (sym l.stored) (for_one Q msg.label.operation put s.calls.view (why l.link refl l.link_of.inside))) (for_none Q u.calls.view t.calls.view (delivered_by q (all_none q) state p socket msg u t d))
 
     went_for : (name : ℕ) (msg : Letter) (s t : Both) (w : WentTo state p q name msg s t) → ((link : ℕ) → went_link state p q name msg s t w ≡ Some link → link < p.links → StoresLink msg link) → StoresFor Q s.calls.view t.calls.view
-    went_for name msg s t (stray a e h) why = for_none Q s.calls.view t.calls.view (none_by s.calls.view t.calls.view (posted_keeps q.slots s.calls msg.owner EFAILEDSOCKET (Some msg.label.attempt) t.calls h))
-    went_for name msg s t (unopened f h) why = for_none Q s.calls.view t.calls.view (none_by s.calls.view t.calls.view (posted_keeps q.slots s.calls msg.owner EFAILEDSOCKET (Some msg.label.attempt) t.calls h))
+    went_for name msg s t (stray a e h) why = for_none Q s.calls.view t.calls.view (posts_none q.slots s.calls t.calls msg.owner EFAILEDSOCKET (Some msg.label.attempt) h)
+    went_for name msg s t (unopened f h) why = for_none Q s.calls.view t.calls.view (posts_none q.slots s.calls t.calls msg.owner EFAILEDSOCKET (Some msg.label.attempt) h)
     went_for name msg s t (to_socket socket u f e a) why = for_then Q s.calls.view u.calls.view t.calls.view (for_none Q s.calls.view u.calls.view (none_by s.calls.view u.calls.view (same_keeps s.calls u.calls e))) (attempt_for socket msg u t a why)
 
 -- ## Of deeds
@@ -312,7 +263,7 @@ module _ {O : Type 0} {g : Ghosts O} (state : O → OutState) (p : Plan) (q : id
       → 0 < total (is_made_for (version_of (acted_id state p q number op by s t a)) asked.operation) (notes_of (slot_of (acted_id state p q number op by s t a)) t.calls.view.notes)
       → Q asked.operation (at_word (version_of (acted_id state p q number op by s t a)) (slot_of (acted_id state p q number op by s t a)) link 0)) → StoresFor q Q s.calls.view t.calls.view
   acted_for number (ops.Open n k) (Some by) s t h Q why = for_none q Q s.calls.view t.calls.view (none_by s.calls.view t.calls.view (same_keeps s.calls t.calls h.2))
-  acted_for number (ops.Send n bytes) by s t h Q why = for_none q Q s.calls.view t.calls.view (none_by s.calls.view t.calls.view (sent_keeps state p q.slots n (letter_of number bytes) by s.me.0 s.calls t.me.0 t.calls h.0))
+  acted_for number (ops.Send n bytes) by s t h Q why = for_none q Q s.calls.view t.calls.view (sent_calling q (all_none q) state p n (letter_of number bytes) by s.me.0 s.calls t.me.0 t.calls h.0)
   acted_for number (ops.Call asked) (Some outcome.Unopened) s t h Q why = for_none q Q s.calls.view t.calls.view (none_by s.calls.view t.calls.view (same_keeps s.calls t.calls h.0.1))
   acted_for number (ops.Call asked) None s t h Q why =
       let b = h.1 in let m = b.made_for in let at = b.at.calls.view in let id : ℕ = h.0 in
@@ -324,8 +275,8 @@ module _ {O : Type 0} {g : Ghosts O} (state : O → OutState) (p : Plan) (q : id
       for_then q Q s.calls.view m.view t.calls.view (for_none q Q s.calls.view m.view (none_by s.calls.view m.view m.made.did.kept))
       (for_then q Q m.view at t.calls.view (subst (StoresFor q Q m.view) (sym m.noted) (for_call q Q asked.operation id m.view))
       (attempt_for q state p Q b.socket (letter_for asked id 0 zero-le) b.at (both_of t) b.attempted (λ link is small. why asked link refl is small (let l = m.made.low in omega (arith, l)) m.made.inside (omega (arith, a, c, e, noted, grows)))))
-  acted_for number (ops.Expire of) (Some by) s t h Q why = for_none q Q s.calls.view t.calls.view (expired_none q of by s.calls t.calls h.0)
-  acted_for number (ops.Join of) (Some by) s t h Q why = for_none q Q s.calls.view t.calls.view (joined_none q of by s.calls t.calls h.0)
+  acted_for number (ops.Expire of) (Some by) s t h Q why = for_none q Q s.calls.view t.calls.view (expired_by q (all_none q) of by s.calls t.calls h.0)
+  acted_for number (ops.Join of) (Some by) s t h Q why = for_none q Q s.calls.view t.calls.view (joined_by q (all_none q) of by s.calls t.calls h.0)
   acted_for number (ops.Hold n) (Some by) s t h Q why = for_none q Q s.calls.view t.calls.view (none_by s.calls.view t.calls.view (same_keeps s.calls t.calls h.2))
   acted_for number (ops.Drop n) (Some by) s t h Q why = for_none q Q s.calls.view t.calls.view (none_by s.calls.view t.calls.view (same_keeps s.calls t.calls h.2))
   acted_for number (ops.Fail n code) (Some by) s t h Q why = for_none q Q s.calls.view t.calls.view (none_by s.calls.view t.calls.view (same_keeps s.calls t.calls h.2))
@@ -349,34 +300,21 @@ module _ {O : Type 0} {g : Ghosts O} (state : O → OutState) (p : Plan) (q : id
         }));
       }
 
-  retried_stores : (s t : Both) (h : Retried state p q s t) → Stores (retries_of {g = g} state p q s t h) s.calls t.calls
-  retried_stores s _ none_yet = stores_same s.calls s.calls refl
-  retried_stores s _ (one_more u t r rest more e f by) =
-      let x = without_oldest rest u in let one_retry = retry_stores r x t by in
-      stores_then (retries_of state p q s u more) (retries r x t by ∷ []) s.calls u.calls t.calls (retried_stores s u more) (record { grows = one_retry.grows; own = one_retry.own })
-
-  ran_stores : (xs : List Task) (n : ℕ) (s t : Course g) (h : Ran state p q xs n s t) → Stores (ran_deeds state p q xs n s t h) s.has.calls t.has.calls
-  ran_stores xs zero s t e = stores_same s.has.calls t.has.calls (ap (λ (c : Course g). c.has.calls) e)
-  ran_stores xs (suc n) s t h =
-      let m = h.4 in
-      let now : Deed g state p q = operates h.1 m.by m.ready t.has m.acted in
-      let again : List (Deed g state p q) = retries_of state p q (both_of h.0.has) (both_of m.ready) m.retried.all.retried in
-      stores_then (ran_deeds state p q xs n s h.0 h.2) (again ++ now ∷ []) s.has.calls h.0.has.calls t.has.calls (ran_stores xs n s h.0 h.2)
-      (stores_then again (now ∷ []) h.0.has.calls m.ready.calls t.has.calls (retried_stores (both_of h.0.has) (both_of m.ready) m.retried.all.retried) (operation_stores h.1 m.by m.ready t.has m.acted))
+  all_store : (xs : List Task) → Walks state p q xs (λ ds s t. Stores ds s.calls t.calls)
+  all_store xs = record {
+    none = λ s t e. stores_same s.calls t.calls (ap (λ (y : Both). y.calls) e);
+    in_turn = λ ds es s u t. stores_then ds es s.calls u.calls t.calls;
+    retry = λ u t r rest waits by. (let one_retry = retry_stores r (without_oldest rest u) t by in record { grows = one_retry.grows; own = one_retry.own });
+    operation = λ n x at. operation_stores x;
+  }
 
 -- ## A client's run
 
 module _ {O : Type 0} {g : Ghosts O} {state : O → OutState} {p : Plan} {q : id_plan.Plan} {first : ℕ} (x : Thread g) (th : IsThread state p q first x) where
   all_stores : Stores state p q (deeds x th) (stand_of x.began.calls) (stand_of x.ended.calls)
   all_stores =
-      let r = th.ran in
-      let all : drop r.made x.tasks ≡ [] = let n = r.ends.0 in drop_all r.made x.tasks (omega arith) in
-      let came : Course g = record { has = stand r.came; told = r.came.outcomes.items; names = r.ran.names } in
-      let ran : List (Deed g state p q) = ran_deeds state p q x.tasks r.made (begins x.began) came r.ran.ran in
-      let rest : List (Deed g state p q) = retries_of {g = g} state p q (both_of (stand r.came)) (both_of r.last) r.ends.1.all.retried in
-      let end : stand_of x.ended.calls ≡ r.last.calls = r.calls ∙ ap (λ (s : Stand g). s.calls) (none_left state p q r.last r.end (drop r.made x.tasks) all r.left) in
-      subst (λ (c : CallStand). Stores state p q (deeds x th) (stand_of x.began.calls) c) (sym end)
-      (stores_then state p q ran rest (stand_of x.began.calls) (stand_of r.came.calls) r.last.calls (ran_stores state p q x.tasks r.made (begins x.began) came r.ran.ran) (retried_stores state p q (both_of (stand r.came)) (both_of r.last) r.ends.1.all.retried))
+      let end : stand_of x.ended.calls ≡ th.ran.last.calls = th.ran.calls ∙ ap (λ (s : Stand g). s.calls) (end_is x th) in
+      subst (λ (c : CallStand). Stores state p q (deeds x th) (stand_of x.began.calls) c) (sym end) (run_walk x th (all_store state p q x.tasks))
 
   -- all that it stored one of its deeds did
   pub stored_by : (o word : ℕ) → 0 < stored_in (at_index q o) word x.ended.calls.seat.me.0 → (i : ℕ) × (d : Deed g state p q) × (get_elem? (deeds x th) i ≡ some d) × IsStoredBy x.ended.calls.seat.me.0 o word d

@@ -48,17 +48,8 @@ use Rattle.failed_told.proofs.Views.{queued_in}
 use Rattle.attempts_told.specs.call_whys.specs.expire_told.specs.call_places.proofs.Places.{noted_among, crew_of}
 
 -- the codes of a crowded id
-first_in : Outcome → ℕ
-first_in (outcome.Crowded a b) = a
-first_in other = 0
-
-second_in : Outcome → ℕ
-second_in (outcome.Crowded a b) = b
-second_in other = 0
-
 same_codes : (a b c d : ℕ) → outcome.Crowded a b ≡ outcome.Crowded c d → (c ≡ a) × (d ≡ b)
-unfolding first_in second_in
-same_codes a b c d e = (sym (ap first_in e), sym (ap second_in e))
+same_codes a b c d e = (cc, cc)
 
 module _ {O : Type 0} {g : Ghosts O} {state : O → OutState} {readers : List (LinkReader g)} {p : Plan} {slots : ℕ} {setup : List Task} {clients : List (List Task)} {opens : List ℕ} {told ended : List (List Told)} {places : List PlaceWord} {vrefs : List Vref} {outs : List O} {ids : List (View Asked)}
     (run : RanWith g state readers p slots setup clients opens told ended places vrefs outs ids) (tasks : AreTasks p (setup ∷ clients)) (may : MayRunAll p (ids_of p slots) setup clients)

@@ -46,15 +46,14 @@ use Rattle.attempts_told.specs.call_whys.specs.expire_told.specs.call_places.spe
 use Rattle.attempts_told.specs.call_whys.specs.expire_told.specs.call_places.specs.Deeds.{Deed, operates, retries, delivered_entries, attempt_entries, went_entries, acted_entries, entries_of}
 use Rattle.attempts_told.specs.call_whys.specs.expire_told.specs.call_places.proofs.Weights.{term, two_terms, each_less}
 use Rattle.attempts_told.specs.call_whys.specs.expire_told.specs.call_places.proofs.Still.{is_retry, is_first}
-use Rattle.attempts_told.specs.call_whys.specs.expire_told.specs.call_places.proofs.Counts.{by_task, by_retry, Knows, tried_few, none_first, all_known, task_total}
+use Rattle.attempts_told.specs.call_whys.specs.expire_told.specs.call_places.proofs.Counts.{by_task, by_retry, tried_few, none_first, task_total}
 use Rattle.attempts_told.specs.call_whys.specs.expire_told.specs.call_places.proofs.Labels.{label_in, labels}
 use Rattle.attempts_told.specs.call_whys.specs.expire_told.specs.call_places.proofs.Numbers.{numbered, own_labels, no_labels}
-use Rattle.attempts_told.specs.call_whys.specs.expire_told.specs.call_places.proofs.Ids.{IdLaws, laws_of, IsIdOf, version_low, lock_id, one_id}
-use Rattle.attempts_told.specs.call_whys.specs.expire_told.specs.call_places.proofs.Clients.{Client, total_map, view_of, tasks_of, deeds_of, own_of}
+use Rattle.attempts_told.specs.call_whys.specs.expire_told.specs.call_places.proofs.Ids.{IdLaws, laws_of, IsIdOf, version_low, one_id}
+use Rattle.attempts_told.specs.call_whys.specs.expire_told.specs.call_places.proofs.Clients.{Client, total_map, view_of, tasks_of, deeds_of, own_of, retry_id}
 use Rattle.attempts_told.specs.call_whys.specs.expire_told.specs.call_places.proofs.Places.{views_are, lists_are, noted_among, own_behind, may_make, one_number, made_once, crew_of}
 use Rattle.attempts_told.specs.call_whys.specs.expire_told.specs.call_places.proofs.Log as log
 use Rattle.attempts_told.specs.call_whys.specs.expire_told.specs.call_told.specs.Least.{is_made_for}
-use Rattle.attempts_told.specs.call_whys.specs.expire_told.specs.call_told.proofs.Lists.{all_at}
 use Rattle.attempts_told.specs.Attempts.{last_attempt}
 use Rattle.attempts_told.proofs.Last.{none_further}
 use Rattle.attempts_told.specs.call_whys.specs.expire_told.specs.Below.sock_deeds.proofs.Entries.{before}
@@ -66,13 +65,8 @@ use Rattle.attempts_told.specs.call_whys.specs.expire_told.specs.Below.sock_deed
 
 -- ## Frames of a deed
 
-operation_in : Op → ℕ
-operation_in (ops.Call asked) = asked.operation
-operation_in other = 0
-
 call_operation : (a b : Asked) → ops.Call a ≡ ops.Call b → a.operation ≡ b.operation
-unfolding operation_in
-call_operation a b e = ap operation_in e
+call_operation a b e = cc
 
 pub none_there : (m : ℕ) (e : Entry) → get_elem? [] m ≡ some e → ⊥
 none_there m e h = some-ne-none e (sym h)
@@ -220,14 +214,7 @@ module _ {O : Type 0} {g : Ghosts O} {state : O → OutState} {readers : List (L
     went = retries r s t (went_again k u l w)
 
     pub again_id : get_elem? (deeds_of x) i ≡ some went → IsIdOf slots notes k.content.operation r.id
-    again_id there =
-        let slot : ℕ = slot_of r.id in let version : ℕ = version_of r.id in
-        let whole : slot * 4294967296 + version ≡ r.id = div-add-mod' r.id 4294967296 in
-        let knows = all_at (Knows (view_of x)) (deeds_of x) i went (all_known x.thread x.is) there in
-        let counted = term (by_retry (is_retry (slot * 4294967296 + version) r.attempt)) (deeds_of x) i went there in
-        let one = pair-at (slot * 4294967296 + version) r.attempt r.id r.attempt (sym whole) refl in
-        let few = tried_few x.thread x.is slot version r.attempt (version_low r.id) in
-        lock_id laws r.id r.attempt k s.calls.view (view_of x) u.calls.view l.got knows (noted_among run notes noted c x at) (omega (arith, counted, one, few))
+    again_id there = retry_id x i r s t k u l w there laws (noted_among run notes noted c x at)
 
     pub again_later : get_elem? (deeds_of x) i ≡ some went → 0 < r.attempt
     again_later there = dite (ℕ_discrete r.attempt 0)

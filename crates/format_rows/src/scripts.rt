@@ -1,8 +1,6 @@
 //! What is said of whole scripts.
-use script_items::Script;
-use script_lang::{
-    ScriptError, client_count, first_version, link_names, read_script, request_count, slot_count,
-};
+use script_items::{Script, client_count, first_version, request_count, slot_count};
+use script_lang::{ScriptError, link_names, read_script};
 use script_print::{DrawnSeats, generate, print_script};
 use sock_io::MemSink;
 use std::alloc::{AllocError, Global};
@@ -41,8 +39,9 @@ pub fn sizes(alloc: Global, text: &str) -> Result<String, AllocError> {
         Ok(script) => script,
         Err(error) => return fault_said(alloc, error),
     };
-    let (slots, requests) = (slot_count(&script), request_count(&script));
-    let (first, clients) = (first_version(&script), client_count(&script));
+    let lines = script.lines();
+    let (slots, requests) = (slot_count(lines), request_count(lines));
+    let (first, clients) = (first_version(lines), client_count(lines));
     let mut said = format!(in alloc;
         "slots {slots} requests {requests} first {first} clients {clients} links"
     )?;

@@ -30,6 +30,19 @@ pub record Edges : Type 0 where
   pub write_faults : ℕ
   pub write_faults_now : ℕ
 
+-- those of a source and of a sink before and after, by what each tells of itself
+abbrev pub edges_over : {S K : Type 0} → (S → Option (List ℕ)) → (S → ℕ) → S → S → (K → Option (List ℕ)) → (K → ℕ) → K → K → Edges
+edges_over left_of read_faults_of source source_now contents_of write_faults_of sink sink_now = record {
+  given = left_of source;
+  left = left_of source_now;
+  read_faults = read_faults_of source;
+  read_faults_now = read_faults_of source_now;
+  before = contents_of sink;
+  now = contents_of sink_now;
+  write_faults = write_faults_of sink;
+  write_faults_now = write_faults_of sink_now;
+}
+
 abbrev pub WroteAll : Edges → List ℕ → Type 0
 WroteAll edges text = Appends edges.before edges.now text
 

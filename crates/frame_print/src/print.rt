@@ -1,5 +1,5 @@
 ghost use Rattle.std.specs.Prelude.{◌≡◌, [], false, None, IfOk, OnOk};
-ghost use Rattle.frame_print.specs.Printed.{Edges, PrintsFrames};
+ghost use Rattle.frame_print.specs.Printed.{PrintsFrames, edges_over};
 ghost use Rattle.frame_print.specs.Cutting.{CutsWhole, EndsStopped, Judges, RestPrinted};
 
 use crate::ending_text::{print_fault, print_rest};
@@ -49,16 +49,7 @@ pub fn print_frames<S: Source, K: Sink>(
     source: &mut S,
     out: &mut K,
 ) -> Result<StreamEnd, PrintFault>
-    ensures { PrintsFrames (record {
-      given = S.left source.old;
-      left = S.left source.new;
-      read_faults = S.faults source.old;
-      read_faults_now = S.faults source.new;
-      before = K.contents out.old;
-      now = K.contents out.new;
-      write_faults = K.faults out.old;
-      write_faults_now = K.faults out.new;
-    }) result }
+    ensures { PrintsFrames (edges_over S.left S.faults source.old source.new K.contents K.faults out.old out.new) result }
 {
     match Lines::new(alloc) {
         Ok(mut lines) => print_all(alloc, source, out, &mut lines),
@@ -74,16 +65,7 @@ fn print_all<S: Source, K: Sink>(
     lines: &mut Lines,
 ) -> Result<StreamEnd, PrintFault>
     requires { lines.old.bytes ≡ [] }
-    ensures { PrintsFrames (record {
-      given = S.left source.old;
-      left = S.left source.new;
-      read_faults = S.faults source.old;
-      read_faults_now = S.faults source.new;
-      before = K.contents out.old;
-      now = K.contents out.new;
-      write_faults = K.faults out.old;
-      write_faults_now = K.faults out.new;
-    }) result }
+    ensures { PrintsFrames (edges_over S.left S.faults source.old source.new K.contents K.faults out.old out.new) result }
 {
     let mut pool = BlockPool::new(alloc);
     let mut cutter = Cutter::new(alloc);
@@ -101,16 +83,7 @@ fn print_each<S: Source, K: Sink>(
     requires gathered { lines.old.bytes ≡ [] }
     requires held { cutter.old.bytes ≡ [] }
     requires untold { cutter.old.told ≡ false }
-    ensures { PrintsFrames (record {
-      given = S.left source.old;
-      left = S.left source.new;
-      read_faults = S.faults source.old;
-      read_faults_now = S.faults source.new;
-      before = K.contents out.old;
-      now = K.contents out.new;
-      write_faults = K.faults out.old;
-      write_faults_now = K.faults out.new;
-    }) result }
+    ensures { PrintsFrames (edges_over S.left S.faults source.old source.new K.contents K.faults out.old out.new) result }
 {
     let mut room = [0; ROOM];
     let mut read = 0;

@@ -9,7 +9,7 @@ const WHOLE: u16 = 7;
 
 /// An error of a call as an id word queues it: its code, 1 to 4,095, and its attempt, 0 to 6, or 7 for the whole call.
 #[derive(Clone, Copy, Debug, PartialEq, Eq)]
-pub struct IdError(u16);
+pub struct IdError(pub(crate) u16);
 
 impl IdError {
     /// An error of one attempt.
@@ -26,13 +26,6 @@ impl IdError {
         ensures { result.0 ≡ error_of code 7 }
     {
         IdError(code * 8 + WHOLE)
-    }
-
-    /// The queued error that these bits are.
-    pub fn from_bits(bits: u16) -> Self
-        ensures { result.0 ≡ bits }
-    {
-        IdError(bits)
     }
 
     /// The bits as they are queued.

@@ -52,8 +52,8 @@ pub fn judge(id: CallId, error: IdError, found: IdWord) -> PostTurn
         PostTurn::Stale
     } else if found.state() == IdWord::LOCKED && found.second() != 0 {
         PostTurn::Crowded(
-            IdError::from_bits(found.oldest()).code(),
-            IdError::from_bits(found.second()).code(),
+            IdError(found.oldest()).code(),
+            IdError(found.second()).code(),
         )
     } else {
         PostTurn::Again(found)

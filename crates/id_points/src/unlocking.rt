@@ -42,7 +42,7 @@ fn unlocked(word: IdWord, advance: bool) -> IdWord
 fn popped_turn(oldest: IdError, after: IdWord) -> UnlockTurn
     ensures { (i : ℕ) (k : Unlocking → Program) → unlock_on i k result ≡ popped i oldest.0 after.0 k }
 {
-    if oldest.bits() == 0 {
+    if oldest.0 == 0 {
         UnlockTurn::Open(after)
     } else if is_stale(oldest, after) {
         UnlockTurn::Again(after, false)
@@ -62,5 +62,5 @@ pub fn unlock_behind(from: IdWord, advance: bool, found: IdWord) -> UnlockTurn
     if found != from {
         return UnlockTurn::Again(found, advance);
     }
-    popped_turn(IdError::from_bits(from.oldest()), unlocked(from, advance))
+    popped_turn(IdError(from.oldest()), unlocked(from, advance))
 }

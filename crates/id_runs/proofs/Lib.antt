@@ -2,6 +2,7 @@ pub mod Keeps
 pub mod Steps
 pub mod Loops
 pub mod Programs
+pub mod Homes
 pub mod Owners
 pub mod Ticks
 pub mod Reading

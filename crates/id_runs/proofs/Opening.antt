@@ -25,7 +25,7 @@ use Rattle.seat_programs.specs.Cores.{Core, SeatState, resolved, still_waiting, 
 use Rattle.seat_programs.specs.Scripts.{opening_words, opening_homes, opening_ids, opening_calls, sizes_of, programs, readers_from, all_programs, beginning, is_ending}
 use Rattle.seat_programs.specs.Told.{OpFits, TaskFits}
 use Rattle.id_runs.specs.Held.{IdView, id_state}
-use Rattle.id_runs.specs.Goes.{IsFree, FitsRetryId, HandFits, HomesFit, CodesFit, IdGoesOn, SoundIds}
+use Rattle.id_runs.specs.Goes.{FitsOwner, IsFree, FitsRetryId, HandFits, HomesFit, CodesFit, IdGoesOn, SoundIds}
 use Rattle.id_runs.proofs.Clients.{client_goes, ending_goes}
 use Rattle.id_runs.proofs.Reading.{reader_goes}
 use Rattle.id_runs.proofs.Ticks.{fits_set, resolved_goes, still_fit}
@@ -185,14 +185,14 @@ module _ (p : Plan) (q : IdPlan) (narrow : q.slots ≤ 65536) (same : q.operatio
   seat_goes (x ∷ xs) all zero seat u e is = subst (λ (s : SeatState). IdGoesOn p q u s.program) (some-injective (at_first x) seat e) (subst (λ v. IdGoesOn p q v (next_step (resolved [] x))) is (resolved_goes p q narrow same newcomer [] x tt all.0))
   seat_goes (x ∷ xs) all (suc i) seat u e is = seat_goes xs all.1 i seat u e is
 
-  empty_handed : (xs : List Program) (i : ℕ) (seat : SeatState) → get_elem? (map at_first xs) i ≡ some seat → HandFits q seat.hand
+  empty_handed : (xs : List Program) (i : ℕ) (seat : SeatState) → get_elem? (map at_first xs) i ≡ some seat → HandFits (FitsOwner q) seat.hand
   empty_handed [] i seat e = absurd (some-ne-none seat (sym e))
-  empty_handed (x ∷ xs) zero seat e = subst (λ (s : SeatState). HandFits q s.hand) (some-injective (at_first x) seat e) tt
+  empty_handed (x ∷ xs) zero seat e = subst (λ (s : SeatState). HandFits (FitsOwner q) s.hand) (some-injective (at_first x) seat e) tt
   empty_handed (x ∷ xs) (suc i) seat e = empty_handed xs i seat e
 
   -- ## A run begins
 
-  pub begins_ids : (xs : List Program) → AllGo xs → length xs ≡ q.seats → CodesFit p (opening_words p) → HomesFit q (opening_homes p) → SoundIds p q (beginning p q xs) (first_views q.seats)
+  pub begins_ids : (xs : List Program) → AllGo xs → length xs ≡ q.seats → CodesFit p (opening_words p) → HomesFit (FitsOwner q) (opening_homes p) → SoundIds p q (beginning p q xs) (first_views q.seats)
   begins_ids xs all many codes owners = let u = unused q in record {
     plan = refl;
     rule = begins_law q p.links;
@@ -225,7 +225,7 @@ module _ (p : Plan) (q : IdPlan) (narrow : q.slots ≤ 65536) (same : q.operatio
     called = sound.called;
     placed = sound.placed;
     owners = sound.owners;
-    in_hand = λ j s e. ⊎_elim (λ b. subst (λ (x : SeatState). HandFits q x.hand) b.1 tt) (λ b. sound.in_hand j s b.1) (at_set c.seats 0 j seat' s e);
+    in_hand = λ j s e. ⊎_elim (λ b. subst (λ (x : SeatState). HandFits (FitsOwner q) x.hand) b.1 tt) (λ b. sound.in_hand j s b.1) (at_set c.seats 0 j seat' s e);
     codes = sound.codes;
     waiting = fits_set (AllByRecursion (FitsRetryId q)) c.calls.waiting 0 (still_waiting waits (ending_of os)) (still_fit p q narrow same newcomer waits (ending_of os) (sound.waiting 0) (ending_goes p q narrow same os newcomer refl)) sound.waiting;
     seats = λ j s v e f. ⊎_elim (λ b. subst (λ (x : SeatState). IdGoesOn p q v x.program) b.1 (new v (subst (λ n. get_elem? (set c.seats 0 seat') n ≡ some s) b.0 e) (subst (λ n. get_elem? us n ≡ some v) b.0 f))) (λ b. sound.seats j s v b.1 f) (at_set c.seats 0 j seat' s e);

@@ -1,72 +1,17 @@
 -- Whatever a seat does on the sockets, messages stay those of ids of the table, and codes below 4,096.
-use Rattle.std.proofs.Common.{◌≡◌, ◌≢◌, ℕ, ◌+◌, ◌*◌, ◌<◌, ◌≤◌, ⊎_elim, List, [], ◌∷◌, ◌++◌, length, length-set, get_or, get_or-set_same, get_or-set_other, set, refl, sym, subst, arith}
+use Rattle.std.proofs.Common.{◌≡◌, ◌≢◌, ℕ, ◌+◌, ◌*◌, ◌<◌, ◌≤◌, List, length, length-set, get_or, get_or-set_same, get_or-set_other, set, sym, subst, arith}
 use Rattle.std.proofs.lemmas.List.{get_or_past}
 use mathlib.Core.Logic.{dite}
-use mathlib.Core.Option.{Option, none, some, some-injective, some-ne-none}
 use native.Mathlib.Decide.{ℕ_discrete, dec_le}
-use lib.ListN.{get_elem?}
-use Rattle.atomic_table.proofs.Lists.{at_set}
 use Rattle.sock_words.specs.declared.plain.Plan.{Plan}
-use Rattle.seat_programs.specs.sock_io.specs.declared.link.Put.{Put}
-use Rattle.seat_programs.specs.sock_io.specs.declared.link.Put.TheVariants as puts
-use Rattle.seat_programs.specs.sock_model.specs.declared.home.Home.{Home}
-use Rattle.seat_programs.specs.sock_model.specs.declared.home.Home.TheVariants.{Empty, Link, Message}
 use Rattle.seat_programs.specs.sock_model.specs.Layout.{tag_index, code_index, name_index, open_index, request_index, next_index, place_index}
 use Rattle.corr_core.specs.declared.marks.Plan.{Plan as IdPlan}
-use Rattle.seat_programs.specs.Calls.{Call, ClaimSlot, CreateLife, AddRef, SubRef, SetOdd, Recycle, FreeSlot, StoreLink, LoadLink, ResetHead, ClearCode, StoreCode, StoreName, LoadName, StoreOpen, LoadOpen, TakeLink, FinishLink, PutLink, LookWord, FindLink, LoadCode, ClaimRequest, PutMessage, Unconnect, SwapHead, Connect, EmptyHead, ReadNext, ReverseNext, FreeRequest, StorePlace, DropPlace}
+use Rattle.seat_programs.specs.Calls.{Call, ClaimSlot, CreateLife, AddRef, SubRef, SetOdd, Recycle, FreeSlot, StoreLink, LoadLink, ResetHead, ClearCode, StoreCode, StoreName, LoadName, StoreOpen, LoadOpen, LookWord, FindLink, LoadCode, ClaimRequest, PutMessage, Unconnect, SwapHead, Connect, EmptyHead, ReadNext, ReverseNext, FreeRequest, StorePlace, DropPlace}
 use Rattle.seat_programs.specs.Programs.{Program, Do}
-use Rattle.seat_programs.specs.Cores.{word_of, found_at, words_after, word_after, homes_after, hand_after, lies_at, first_of, others_of, finished, link_place}
-use Rattle.seat_programs.specs.Ticks.{fed, with_places, onto_first}
+use Rattle.seat_programs.specs.Cores.{word_of, found_at, words_after, word_after}
 use Rattle.id_runs.specs.Held.{IdView}
-use Rattle.id_runs.specs.Goes.{FitsSock, FitsOwner, FitsHome, HandFits, HomesFit, CodesFit, IdGoesOn}
-
--- ## What is in hand, and at home
-
-module _ (q : IdPlan) where
-  pub home_set : (hs : List (Option Home)) (i : ℕ) (x : Option Home) → ((y : Home) → x ≡ some y → FitsHome q y) → HomesFit q hs → HomesFit q (set hs i x)
-  home_set hs i x new fit j y at = ⊎_elim (λ a. new y a.1) (λ a. fit j y a.1) (at_set hs i j x (some y) at)
-
-  pub first_fits : (hand : List Home) → HandFits q hand → (y : Home) → first_of hand ≡ some y → FitsHome q y
-  first_fits [] fit y e = absurd (some-ne-none y (sym e))
-  first_fits (x ∷ xs) fit y e = subst (FitsHome q) (some-injective x y e) fit.0
-
-  pub others_fit : (hand : List Home) → HandFits q hand → HandFits q (others_of hand)
-  others_fit [] fit = tt
-  others_fit (x ∷ xs) fit = fit.1
-
-  pub lies_fit : (hs : List (Option Home)) (i : ℕ) (hand : List Home) → HomesFit q hs → HandFits q hand → HandFits q (lies_at hs i ++ hand)
-  lies_fit hs i hand homes fit = by_home (get_elem? hs i) refl
-    where
-      by_home : (x : Option (Option Home)) → get_elem? hs i ≡ x
-          → HandFits q ((elim x as (λ o. List Home) [ none ↦ [] | some y ↦ elim y as (λ o. List Home) [ none ↦ [] | some z ↦ z ∷ [] ] ]) ++ hand)
-      by_home none e = fit
-      by_home (some none) e = fit
-      by_home (some (some z)) e = (homes i z e, fit)
-
-  pub onto_fits : (change : Home → Home) → ((x : Home) → FitsHome q x → FitsHome q (change x)) → (hand : List Home) → HandFits q hand → HandFits q (onto_first change hand)
-  onto_fits change same [] fit = tt
-  onto_fits change same (x ∷ xs) fit = (same x fit.0, fit.1)
-
-  pub fed_fits : (bytes : List ℕ) (answer : Put) (x : Home) → FitsHome q x → FitsHome q (fed bytes answer x)
-  fed_fits bytes (puts.Took n) (Link k took next done) fit = tt
-  fed_fits bytes (puts.Took n) Empty fit = fit
-  fed_fits bytes (puts.Took n) (Message heading l) fit = fit
-  fed_fits bytes puts.Again x fit = fit
-  fed_fits bytes puts.Failed x fit = fit
-
-  pub places_fit : (n : ℕ) (x : Home) → FitsHome q x → FitsHome q (with_places n x)
-  places_fit n (Link k took next done) fit = tt
-  places_fit n Empty fit = fit
-  places_fit n (Message heading l) fit = fit
-
-  finished_fits : (x : Home) → FitsHome q x → FitsHome q (finished x)
-  finished_fits (Link k took next done) fit = tt
-  finished_fits Empty fit = fit
-  finished_fits (Message heading l) fit = fit
-
-  finishes : (hs : List (Option Home)) (p : Plan) (k : ℕ) (hand : List Home) → HandFits q hand → HandFits q (hand_after p (FinishLink k) hs hand)
-  finishes hs p k [] fit = tt
-  finishes hs p k (x ∷ xs) fit = (finished_fits x fit.0, fit.1)
+use Rattle.id_runs.specs.Goes.{FitsSock, FitsOwner, CodesFit, IdGoesOn}
+use Rattle.id_runs.proofs.Homes.{PutFits}
 
 -- ## A step
 
@@ -82,17 +27,9 @@ module _ (p : Plan) (q : IdPlan) where
   steps_on u (PutMessage r heading bytes) next g = (g.0, λ found _. g.1 found)
   steps_on u _ next g = (tt, g)
 
-  pub hand_fits : (call : Call) (hs : List (Option Home)) (hand : List Home) → HomesFit q hs → HandFits q hand → HandFits q (hand_after p call hs hand)
-  hand_fits (TakeLink k) hs hand homes fit = lies_fit q hs (link_place p k) hand homes fit
-  hand_fits (PutLink k) hs hand homes fit = others_fit q hand fit
-  hand_fits (FinishLink k) hs hand homes fit = finishes q hs p k hand fit
-  hand_fits _ hs hand homes fit = fit
-
-  pub homes_fit : (call : Call) → MaySock q call → (hs : List (Option Home)) (hand : List Home) → HomesFit q hs → HandFits q hand → HomesFit q (homes_after p call hand hs)
-  homes_fit (TakeLink k) may hs hand homes fit = home_set q hs (link_place p k) none (λ y e. absurd (some-ne-none y (sym e))) homes
-  homes_fit (PutLink k) may hs hand homes fit = home_set q hs (link_place p k) (first_of hand) (first_fits q hand fit) homes
-  homes_fit (PutMessage r heading bytes) may hs hand homes fit = home_set q hs r (some (Message heading bytes)) (λ y e. subst (FitsHome q) (some-injective (Message heading bytes) y e) may) homes
-  homes_fit _ may hs hand homes fit = homes
+pub puts_fit : (q : IdPlan) (call : Call) → MaySock q call → PutFits (FitsOwner q) call
+puts_fit q (PutMessage r heading bytes) may = may
+puts_fit q _ may = tt
 
 -- ## Codes
 

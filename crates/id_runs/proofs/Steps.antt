@@ -1,11 +1,11 @@
 -- Any step aside of the sockets that a view allows keeps the rule of the ids, and finds what it may find.
-use Rattle.std.proofs.Common.{◌≡◌, ◌≢◌, ℕ, ◌<◌, ◌≤◌, List, [], Some, None, get_or, set, refl, sym, ap, ◌∙◌, subst, arith}
+use Rattle.std.proofs.Common.{◌≡◌, ◌≢◌, ℕ, ◌+◌, ◌<◌, ◌≤◌, List, [], Some, None, get_or, set, refl, sym, ap, ◌∙◌, subst, arith}
 use Rattle.std.specs.Prelude.{Option as Maybe}
 use mathlib.Core.Option.{Option, none, some, some-injective, some-ne-none}
 use lib.ListN.{get_elem?}
 use Rattle.sock_words.specs.declared.plain.Plan.{Plan}
 use Rattle.corr_core.specs.Word.{parts}
-use Rattle.corr_core.specs.Law.{Stands, vacant, retired, claimed, opened, locked, leaving}
+use Rattle.corr_core.specs.Law.{Local, SlotLaw, Stands, vacant, retired, claimed, opened, locked, leaving}
 use Rattle.corr_core.specs.declared.marks.Plan.{Plan as IdPlan}
 use Rattle.corr_core.specs.declared.marks.Hand.TheVariants.{Full}
 use Rattle.corr_core.specs.declared.marks.Token.TheVariants.{Locked}
@@ -20,6 +20,18 @@ use Rattle.seat_programs.specs.Told.{AskedFits}
 use Rattle.id_runs.specs.Held.{CallFits, AtFits, StoredFit, IdView, id_state, id_row, HasOne, HasCallAt, MayId}
 use Rattle.id_runs.specs.Goes.{HasRoom, IsIdWord, FindsId}
 use Rattle.id_runs.proofs.Keeps as steps
+
+-- an open or locked id has one attempt of its range before it, and the first version left
+pub live_room : (l : Local Asked) → SlotLaw l → 0 < l.word.state → l.word.attempt + 2 ≤ l.word.range
+live_room l law some_ = by_stands law.stands
+  where
+    by_stands : Stands law.b l → l.word.attempt + 2 ≤ l.word.range
+    by_stands (vacant none_ tag state first home) = absurd (omega (arith, some_, state))
+    by_stands (retired none_ tag state first home) = absurd (omega (arith, some_, state))
+    by_stands (claimed seen h tokens tag state first is home) = absurd (omega (arith, some_, state))
+    by_stands (opened c none_ state live oldest second home) = live.room
+    by_stands (locked c o s h tokens state live begins home holds) = live.room
+    by_stands (leaving tokens tag state first home) = absurd (omega (arith, some_, state))
 
 -- a call of no operation, where none is asked for
 abbrev pub no_call : Asked
@@ -64,15 +76,7 @@ module _ (p : Plan) (q : IdPlan) (a : Calls) (plan : a.plan ≡ q) (us : List Id
   -- ## What is found
 
   room_there : (i : ℕ) → i < q.slots → 0 < (parts (get_or a.words (id_index i) 0)).state → HasRoom (get_or a.words (id_index i) 0)
-  room_there i inside taken = by_stands (law.slots i inside).stands
-    where
-      by_stands : Stands (law.slots i inside).b (local (id_state a us) i) → HasRoom (get_or a.words (id_index i) 0)
-      by_stands (vacant t g s x h) = absurd (omega (arith, s, taken))
-      by_stands (retired t g s x h) = absurd (omega (arith, s, taken))
-      by_stands (claimed seen h t g s x y z) = absurd (omega (arith, s, taken))
-      by_stands (opened c t s l x y h) = l.room
-      by_stands (locked c x y h t s l z w v) = l.room
-      by_stands (leaving t g s x h) = absurd (omega (arith, s, taken))
+  room_there i inside taken = live_room (local (id_state a us) i) (law.slots i inside) taken
 
   state_there : (i : ℕ) → i < q.slots → (parts (get_or a.words (id_index i) 0)).state < 3
   state_there i inside = by_stands (law.slots i inside).stands

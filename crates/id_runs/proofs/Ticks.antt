@@ -35,12 +35,13 @@ use Rattle.seat_programs.specs.Beside.{found_in, calls_after}
 use Rattle.seat_programs.specs.Ticks.{Answer, OfPut, OfReady, Moment, fed, with_places, onto_first, taken, with_message, with_link, with_put, with_ready, with_found, step_with, tick_with, ticked}
 use Rattle.seat_programs.specs.Told.{AskedFits}
 use Rattle.id_runs.specs.Held.{CallFits, AtFits, StoredFit, IdView, id_state, by_token, made_by, unlocked_by, ended_by, locked_by, id_row, MayId}
-use Rattle.id_runs.specs.Goes.{FitsRetryId, IdGoesOn, HandFits, HomesFit, CodesFit, SoundIds, FitsFirst, IsFittingIds}
+use Rattle.id_runs.specs.Goes.{FitsOwner, FitsRetryId, IdGoesOn, HandFits, HomesFit, CodesFit, SoundIds, FitsFirst, IsFittingIds}
 use Rattle.id_runs.specs.Goes as goes
 use Rattle.id_runs.proofs.Steps.{keeps_ids, finds_ids}
 use Rattle.id_runs.proofs.Loops.{ids_round}
 use Rattle.id_runs.proofs.Programs.{block_goes, retry_goes}
-use Rattle.id_runs.proofs.Owners.{home_set, first_fits, others_fit, lies_fit, onto_fits, fed_fits, places_fit, steps_on, hand_fits, homes_fit, codes_fit}
+use Rattle.id_runs.proofs.Homes.{home_set, first_fits, others_fit, lies_fit, fed_fits, places_fit, hand_fits, homes_fit}
+use Rattle.id_runs.proofs.Owners.{steps_on, puts_fit, codes_fit}
 
 -- ## Shares stay
 
@@ -128,7 +129,7 @@ module _ (p : Plan) (q : IdPlan) (narrow : q.slots ≤ 65536) (same : q.operatio
 
   module _ (c : Core) (us : List IdView) (sound : SoundIds p q c us) (i : ℕ) (seat : SeatState) (u : IdView) (at_seat : get_elem? c.seats i ≡ some seat) (at_view : get_elem? us i ≡ some u) where
     -- seat i has this program, and its view is w
-    reseats : (a : Calls) (program : Program) (hand : List Home) (ws : List ℕ) (hs : List (Option Home)) (w : IdView) → HandFits q hand → CodesFit p ws → HomesFit q hs → a.plan ≡ q → a.waiting ≡ c.calls.waiting → Lawful q (id_state a (set us i w)) → w.share ≡ u.share
+    reseats : (a : Calls) (program : Program) (hand : List Home) (ws : List ℕ) (hs : List (Option Home)) (w : IdView) → HandFits (FitsOwner q) hand → CodesFit p ws → HomesFit (FitsOwner q) hs → a.plan ≡ q → a.waiting ≡ c.calls.waiting → Lawful q (id_state a (set us i w)) → w.share ≡ u.share
         → ((j : ℕ) (asked : Asked) → get_elem? a.homes j ≡ some (some (Some asked)) → AskedFits p asked) → StoredFit q a → IdGoesOn p q w program → SoundIds p q (with_seat i program hand ws hs (record c { calls = a })) (set us i w)
     reseats a program hand ws hs w hand_fit codes owners plan kept rule share homes stored go =
         let fit : AllByRecursion (FitsRetryId q) (waiting_at a.waiting i) = subst (λ (x : List (List Retry)). AllByRecursion (FitsRetryId q) (waiting_at x i)) (sym kept) (sound.waiting i) in
@@ -143,7 +144,7 @@ module _ (p : Plan) (q : IdPlan) (narrow : q.slots ≤ 65536) (same : q.operatio
           placed = stored.1;
           owners = owners;
           codes = codes;
-          in_hand = λ j s' e. ⊎_elim (λ b. subst (λ (x : SeatState). HandFits q x.hand) b.1 hand_fit) (λ b. sound.in_hand j s' b.1) (at_set c.seats i j seat' s' e);
+          in_hand = λ j s' e. ⊎_elim (λ b. subst (λ (x : SeatState). HandFits (FitsOwner q) x.hand) b.1 hand_fit) (λ b. sound.in_hand j s' b.1) (at_set c.seats i j seat' s' e);
           waiting = fits_set (AllByRecursion (FitsRetryId q)) a.waiting i (still_waiting (waiting_at a.waiting i) program) (still_fit w (waiting_at a.waiting i) program fit go)
               (subst (λ (x : List (List Retry)). (j : ℕ) → AllByRecursion (FitsRetryId q) (waiting_at x j)) (sym kept) sound.waiting);
           seats = λ j s' v at_s at_v. ⊎_elim
@@ -156,13 +157,13 @@ module _ (p : Plan) (q : IdPlan) (narrow : q.slots ≤ 65536) (same : q.operatio
     abbrev pub After : Core → Type 0
     After c' = (us' : List IdView) × SoundIds p q c' us'
 
-    on_sockets : (program : Program) (hand : List Home) (ws : List ℕ) (hs : List (Option Home)) → HandFits q hand → CodesFit p ws → HomesFit q hs → IdGoesOn p q u program → After (with_seat i program hand ws hs c)
+    on_sockets : (program : Program) (hand : List Home) (ws : List ℕ) (hs : List (Option Home)) → HandFits (FitsOwner q) hand → CodesFit p ws → HomesFit (FitsOwner q) hs → IdGoesOn p q u program → After (with_seat i program hand ws hs c)
     on_sockets program hand ws hs hand_fit codes owners go = (set us i u, reseats c.calls program hand ws hs u hand_fit codes owners sound.plan refl (subst (λ vs. Lawful q (id_state c.calls vs)) (sym (set_again us i u at_view)) sound.rule) refl sound.homes (sound.called, sound.placed) go)
 
     before : After c
     before = (us, sound)
 
-    held : HandFits q seat.hand
+    held : HandFits (FitsOwner q) seat.hand
     held = sound.in_hand i seat at_seat
 
     calls_homes : (step : Step) (found : Found step) → MayId p q u step → (j : ℕ) (asked : Asked) → get_elem? (calls_after step found c.calls).homes j ≡ some (some (Some asked)) → AskedFits p asked
@@ -227,15 +228,15 @@ module _ (p : Plan) (q : IdPlan) (narrow : q.slots ≤ 65536) (same : q.operatio
 
     by_letter : (r : ℕ) (next : Heading → List ℕ → Program) → IdGoesOn p q u (TakeMessage r next) → (x : Option Letter) → message (λ (h : Home). h) c.homes r ≡ x → After (with_message p i seat c r x (λ letter. next letter.0 letter.1))
     by_letter r next go none is = before
-    by_letter r next go (some letter) is = on_sockets (next letter.0 letter.1) seat.hand c.words (set c.homes r none) held sound.codes (home_set q c.homes r none (λ y e. absurd (some-ne-none y (sym e))) sound.owners)
+    by_letter r next go (some letter) is = on_sockets (next letter.0 letter.1) seat.hand c.words (set c.homes r none) held sound.codes (home_set (FitsOwner q) c.homes r none (λ y e. absurd (some-ne-none y (sym e))) sound.owners)
         (go letter.0 letter.1 (sound.owners r (Message letter.0 letter.1) (message_there (get_elem? c.homes r) letter is)))
 
     by_link : (k : ℕ) (next : ℕ → Program) → IdGoesOn p q u (TakeHome k next) → (x : Option (List ℕ × ℕ)) → After (with_link p i seat c k x next)
     by_link k next go none = before
-    by_link k next go (some home) = on_sockets (next home.1) (lies_at c.homes (link_place p k) ++ seat.hand) c.words (set c.homes (link_place p k) none) (lies_fit q c.homes (link_place p k) seat.hand sound.owners held) sound.codes (home_set q c.homes (link_place p k) none (λ y e. absurd (some-ne-none y (sym e))) sound.owners) (go home.1)
+    by_link k next go (some home) = on_sockets (next home.1) (lies_at c.homes (link_place p k) ++ seat.hand) c.words (set c.homes (link_place p k) none) (lies_fit (FitsOwner q) c.homes (link_place p k) seat.hand sound.owners held) sound.codes (home_set (FitsOwner q) c.homes (link_place p k) none (λ y e. absurd (some-ne-none y (sym e))) sound.owners) (go home.1)
 
     by_put : (bytes : List ℕ) (next : Put → Program) → ((answer : Put) → IdGoesOn p q u (next answer)) → (answer : Answer) → After (with_put p i seat c bytes answer next)
-    by_put bytes next go (OfPut answer) = on_sockets (next answer) (onto_first (fed bytes answer) seat.hand) c.words c.homes (onto_fits q (fed bytes answer) (fed_fits q bytes answer) seat.hand held) sound.codes sound.owners (go answer)
+    by_put bytes next go (OfPut answer) = on_sockets (next answer) (onto_first (fed bytes answer) seat.hand) c.words c.homes (fed_fits (FitsOwner q) bytes answer seat.hand held) sound.codes sound.owners (go answer)
     by_put bytes next go _ = before
 
     by_ready : (next : Ready → Program) → ((answer : Ready) → IdGoesOn p q u (next answer)) → (answer : Answer) → After (with_ready p i seat c answer next)
@@ -245,11 +246,11 @@ module _ (p : Plan) (q : IdPlan) (narrow : q.slots ≤ 65536) (same : q.operatio
     first_step : (answer : Answer) (program : Program) → IdGoesOn p q u program → FitsFirst p c program → After (step_with p i seat c answer program)
     first_step answer (Do call next) go fits = let found : ℕ = found_at c.words (word_of p call) in let may = steps_on p q u call next go in
         on_sockets (next found) (hand_after p call c.homes seat.hand) (words_after c.words (word_of p call) (word_after call found)) (homes_after p call seat.hand c.homes)
-        (hand_fits p q call c.homes seat.hand sound.owners held) (codes_fit p q call may.0 c.words sound.codes) (homes_fit p q call may.0 c.homes seat.hand sound.owners held) (may.1 found fits)
+        (hand_fits (FitsOwner q) p call c.homes seat.hand sound.owners held) (codes_fit p q call may.0 c.words sound.codes) (homes_fit (FitsOwner q) p call (puts_fit q call may.0) c.homes seat.hand sound.owners held) (may.1 found fits)
     first_step answer (TakeMessage r next) go fits = by_letter r next go (message (λ (h : Home). h) c.homes r) refl
     first_step answer (TakeHome k next) go fits = by_link k next go (link_home (λ (h : Home). h) p c.homes k)
-    first_step answer (PutHome k n after) go fits = on_sockets after (others_of seat.hand) c.words (set c.homes (link_place p k) (first_of (onto_first (with_places n) seat.hand))) (others_fit q seat.hand held) sound.codes
-        (home_set q c.homes (link_place p k) (first_of (onto_first (with_places n) seat.hand)) (first_fits q (onto_first (with_places n) seat.hand) (onto_fits q (with_places n) (places_fit q n) seat.hand held)) sound.owners) go
+    first_step answer (PutHome k n after) go fits = on_sockets after (others_of seat.hand) c.words (set c.homes (link_place p k) (first_of (onto_first (with_places n) seat.hand))) (others_fit (FitsOwner q) seat.hand held) sound.codes
+        (home_set (FitsOwner q) c.homes (link_place p k) (first_of (onto_first (with_places n) seat.hand)) (first_fits (FitsOwner q) (onto_first (with_places n) seat.hand) (places_fit (FitsOwner q) n seat.hand held)) sound.owners) go
     first_step answer (PutBytes k asked bytes next) go fits = by_put bytes next go answer
     first_step answer (AskReady k next) go fits = by_ready next go answer
     first_step answer (Aside step next) go fits = on_ids step next (taken answer) go (found_in step c.calls (taken answer)) refl

@@ -42,15 +42,16 @@ FitsSock other found = Unit {0}
 abbrev pub FitsOwner : IdPlan → Heading → Type 0
 FitsOwner q heading = heading.owner ≢ 0 → (id_slot heading.owner < q.slots) × (heading.attempt ≤ 6)
 
-abbrev pub FitsHome : IdPlan → Home → Type 0
-FitsHome q (Message heading bytes) = FitsOwner q heading
-FitsHome q other = Unit {0}
+-- this holds of the headings of all messages
+abbrev pub FitsHome : (Heading → Type 0) → Home → Type 0
+FitsHome F (Message heading bytes) = F heading
+FitsHome F other = Unit {0}
 
-abbrev pub HandFits : IdPlan → List Home → Type 0
-HandFits q hand = AllByRecursion (FitsHome q) hand
+abbrev pub HandFits : (Heading → Type 0) → List Home → Type 0
+HandFits F hand = AllByRecursion (FitsHome F) hand
 
-abbrev pub HomesFit : IdPlan → List (core.Option Home) → Type 0
-HomesFit q homes = (i : ℕ) (x : Home) → get_elem? homes i ≡ core.some (core.some x) → FitsHome q x
+abbrev pub HomesFit : (Heading → Type 0) → List (core.Option Home) → Type 0
+HomesFit F homes = (i : ℕ) (x : Home) → get_elem? homes i ≡ core.some (core.some x) → FitsHome F x
 
 -- each life's code is an error's
 abbrev pub CodesFit : Plan → List ℕ → Type 0
@@ -199,8 +200,8 @@ pub record SoundIds (p : Plan) (q : IdPlan) (c : Core) (us : List IdView) : Type
   pub called : (o : ℕ) → o < q.operations → slice_index c.calls.words (call_index q o) ≢ 0 → CallFits q (slice_index c.calls.words (call_index q o))
   pub placed : (o : ℕ) → o < q.operations → slice_index c.calls.words (at_index q o) ≢ 0 → AtFits q (slice_index c.calls.words (at_index q o))
   -- the messages at home and in hand are those of ids of the table, and the codes are those of errors
-  pub owners : HomesFit q c.homes
-  pub in_hand : (i : ℕ) (seat : SeatState) → get_elem? c.seats i ≡ core.some seat → HandFits q seat.hand
+  pub owners : HomesFit (FitsOwner q) c.homes
+  pub in_hand : (i : ℕ) (seat : SeatState) → get_elem? c.seats i ≡ core.some seat → HandFits (FitsOwner q) seat.hand
   pub codes : CodesFit p c.words
   -- a retry that waits is one of an id of the table
   pub waiting : (i : ℕ) → AllByRecursion (FitsRetryId q) (waiting_at c.calls.waiting i)

@@ -21,7 +21,7 @@ use Rattle.programs_allowed.specs.sock_runs.specs.Lasts.{MOST_TICKS}
 use Rattle.programs_allowed.specs.sock_runs.proofs.Bounded.{IsBounded}
 use Rattle.programs_allowed.proofs.Lasting.{length_all, length_seats, opening_bounded}
 use Rattle.programs_allowed.proofs.Opens.{begun_core, opens_sound, ending_sound, told_sound}
-use Rattle.programs_allowed.specs.id_runs.specs.Goes.{HomesFit, CodesFit}
+use Rattle.programs_allowed.specs.id_runs.specs.Goes.{FitsOwner, HomesFit, CodesFit}
 use Rattle.programs_allowed.specs.id_runs.proofs.Opening.{all_go, begins_ids, first_views, ending_ids, told_ids}
 use Rattle.joint_runs.proofs.Both.{BothSound}
 
@@ -53,7 +53,7 @@ module _ (p : Plan) (q : IdPlan) (clients : List (List Task)) (calls opens : Lis
   codes : CodesFit p (opening_words p)
   codes i inside = let z = (unused p).codes i inside in omega (arith, z)
 
-  owners : HomesFit q (opening_homes p)
+  owners : HomesFit (FitsOwner q) (opening_homes p)
   owners i (Message heading bytes) at = absurd (no_message p i heading bytes at)
   owners i (Link k took next done) at = tt
   owners i Empty at = tt

@@ -155,39 +155,27 @@ unserved : (serve : Bool) (end : Option ℕ) (l m : List ℕ) → serve ≡ fals
 unserved true end l m e = absurd (cc)
 unserved false end l m e = (refl, refl)
 
+-- an answer that leaves the half as it is
+answers_same : (old new : LoopPeerState) (took : List ℕ) (inn : MemInState) → new.serve ≡ old.serve → new.end ≡ old.end → (IsSteady old inn → IsSteady new inn)
+    → (IsOffered took inn old → ((new.fed ≡ took) ⊎ (is_ended inn.ending ≡ true)) × IsOffered took inn new) → Answers old took inn new inn
+answers_same old new took inn serve end steady all = record { serve = serve; end = end; half = refl; closing = refl; idle = λ _. refl; shut = λ _. refl; steady = steady; all = all }
+
 pub answers_idle : (old new : LoopPeerState) (took : List ℕ) (inn : MemInState) → old.serve ≡ false → new ≡ record old { fed = took } → Answers old took inn new inn
-answers_idle old new took inn idle is = subst (λ p. Answers old took inn p inn) (sym is) record {
-  serve = refl;
-  end = refl;
-  half = refl;
-  closing = refl;
-  idle = λ _. refl;
-  shut = λ _. refl;
-  steady = λ s. s ∙ (unserved old.serve old.end old.fed took idle).0;
-  all = λ o. (
-    inl refl,
-    record {
-      left = [];
-      begins = sym (append-nil took);
-      offered = o.offered ∙ (unserved old.serve old.end old.fed took idle).1;
-      ended = o.ended ∙ (unserved old.serve old.end old.fed took idle).0;
-      closed = λ e. refl;
-    },
-  );
-}
+answers_idle old new took inn idle is = let same = unserved old.serve old.end old.fed took idle in
+    subst (λ p. Answers old took inn p inn) (sym is) (answers_same old (record old { fed = took }) took inn refl refl (λ s. s ∙ same.0) (λ o. (
+      inl refl,
+      record {
+        left = [];
+        begins = sym (append-nil took);
+        offered = o.offered ∙ same.1;
+        ended = o.ended ∙ same.0;
+        closed = λ e. refl;
+      },
+    )))
 
 -- nothing is left to be fed
 pub answers_over : (old : LoopPeerState) (took : List ℕ) (inn : MemInState) → IsOver old took inn → Answers old took inn old inn
-answers_over old took inn over = record {
-  serve = refl;
-  end = refl;
-  half = refl;
-  closing = refl;
-  idle = λ _. refl;
-  shut = λ _. refl;
-  steady = λ s. s;
-  all = λ o. (by inn.ending refl o, o);
-}
+answers_over old took inn over = answers_same old old took inn refl refl (λ s. s) (λ o. (by inn.ending refl o, o))
   where
     by : (e : Ending) → inn.ending ≡ e → IsOffered took inn old → (old.fed ≡ took) ⊎ (is_ended inn.ending ≡ true)
     by ending.Open is o =

@@ -1,6 +1,5 @@
 ghost use Rattle.std.specs.Prelude.{◌≡◌, ◌<◌, ◌++◌, false, length, OnErr, OnOk};
-ghost use Rattle.sock_io.specs.Link.{TakeStep};
-ghost use Rattle.sock_io.specs.Memory.{mem_in, empty_in, take_answer, closing};
+ghost use Rattle.sock_io.specs.Memory.{TakesWaiting, mem_in, empty_in, closing};
 ghost use Rattle.loop_link.specs.Serving.{ending_for, is_open};
 
 use sock_io::{Ending, In, MemIn, NoMemory, Take};
@@ -81,10 +80,7 @@ impl In for Half {
 
     fn take(&mut self, room: &mut [u8]) -> Take
         requires { 0 < length room.old }
-        ensures step { TakeStep (mem_in self.old) (mem_in self.new) room.new result }
-        ensures answer { result ≡ take_answer self.old.waiting self.old.ending (length room.old) }
-        ensures bytes { self.new.given ++ self.new.waiting ≡ self.old.given ++ self.old.waiting }
-        ensures ending { self.new.ending ≡ self.old.ending }
+        ensures { TakesWaiting self.old self.new (length room.old) room.new result }
     {
         self.inner.take(room)
     }

@@ -1,8 +1,8 @@
-ghost use Rattle.std.specs.Prelude.{◌≡◌, ◌≢◌, ◌↔◌, ℕ, ◌+◌, ◌≤◌, ◌<◌, ◌∷◌, ◌++◌, List, true, false, Some, [], length, Contains, IfOk, IsErrOf, OnErr, OnOk};
+ghost use Rattle.std.specs.Prelude.{◌≡◌, ◌≢◌, ◌↔◌, ℕ, ◌+◌, ◌<◌, ◌∷◌, ◌++◌, List, true, false, Some, [], length, Contains, IfOk, IsErrOf, OnErr, OnOk};
 ghost use Rattle.std.specs.List.{AllByRecursion};
 ghost use Rattle.brpc_model.specs.Link.{LinkEnd};
-ghost use Rattle.sock_io.specs.Causes.{Rose, next_number};
-ghost use Rattle.sock_io.specs.Link.{IsFresh, IsNewOffer, IsServed, IsSettled, IsUnused, SettleStep, connection_of, end_of};
+ghost use Rattle.sock_io.specs.Causes.{OpenCause, next_number};
+ghost use Rattle.sock_io.specs.Link.{IsFresh, IsNewOffer, IsServed, IsSettled, IsUnused, MayOpen, SettleStep, connection_of, end_of};
 ghost use Rattle.sock_io.specs.Linker.{new_half, plain_shape, shape_asked};
 ghost use Rattle.sock_io.specs.Memory.{closing};
 ghost use Rattle.sock_io.specs.Shape.{shaped_out};
@@ -11,7 +11,8 @@ ghost use Rattle.loop_link.specs.Serving.{Settled, loop_in, new_in, offer_of};
 use crate::loop_in::LoopIn;
 use io_buf::BlockPool;
 use sock_io::{
-    Ends, LinkSpec, Linker, MemLinks, MemOut, NoMemory, NoPeer, OpenFault, Out, Shape, Shaped,
+    Ends, LinkSpec, Linker, LinkerTells, MemLinks, MemOut, NoMemory, NoPeer, OpenFault, Out, Shape,
+    Shaped,
 };
 use std::alloc::Global;
 use std::marker::Model;
@@ -52,6 +53,10 @@ impl LoopLinker {
     }
 }
 
+impl LinkerTells for LoopLinker {
+    ghost state = { λ l. record { asked = l.asked; accepted = l.accepted; back = l.back; done = l.done; faults = l.faults; always_ready = true } };
+}
+
 impl Linker for LoopLinker {
     type O = Shaped<MemOut>;
 
@@ -59,32 +64,15 @@ impl Linker for LoopLinker {
 
     type P = NoPeer;
 
-    ghost asked = { λ l. l.asked };
-
-    ghost accepted = { λ l. l.accepted };
-
-    ghost back = { λ l. l.back };
-
-    ghost done = { λ l. l.done };
-
-    ghost faults = { λ l. l.faults };
-
-    ghost always_ready = { λ _. true };
-
-    ghost tells_in = { λ _. false };
-
     fn open(&mut self, spec: &LinkSpec) -> Result<Link, OpenFault>
-        requires piece { 0 < spec.now.piece }
-        requires few { length self.old.asked < 256 }
+        requires { MayOpen self.old.asked spec.now }
         ensures out { IfOk result (λ ends. ends.out ≡ new_half (length self.old.asked) (shape_asked spec.now)) }
         ensures inn { IfOk result (λ ends. ends.inn ≡ new_in spec.now.serve spec.now.end) }
         ensures fresh { IfOk result (λ ends. IsFresh (shaped_out ends.out) (loop_in ends.inn) (length self.old.asked)) }
         ensures served { IfOk result (λ ends. IsNewOffer spec.now (offer_of ends.inn)) }
         ensures linker { IfOk result (λ _. self.new ≡ record self.old { asked = self.old.asked ++ spec.now ∷ []; calls = next_number self.old.calls }) }
         ensures refused { OnErr result (self.new ≡ record self.old { calls = next_number self.old.calls; faults = self.new.faults }) }
-        ensures later { self.old.faults ≤ self.new.faults }
-        ensures failed { IsErrOf result OpenFault.Failed → Rose self.old.faults self.new.faults }
-        ensures kept { (¬ IsErrOf result OpenFault.Failed) → self.new.faults ≡ self.old.faults }
+        ensures cause { OpenCause self.old.faults self.new.faults result }
         ensures failed_at { IsErrOf result OpenFault.Failed ↔ Contains self.old.fail_opens (next_number self.old.calls) }
     {
         let out = self.links.open(spec, Shape::asked(spec))?;

@@ -16,13 +16,13 @@ use Rattle.sock_model.specs.declared.chain.Claim.{Claim}
 use Rattle.sock_model.specs.declared.chain.Heading.{Heading}
 use Rattle.sock_model.specs.declared.chain.Right.{Right}
 use Rattle.sock_model.specs.declared.chain.Stage.{Stage}
-use Rattle.sock_model.specs.declared.chain.Stage.TheVariants.{Writes, Placed, Passes, Empties, Walks, Turns}
+use Rattle.sock_model.specs.declared.chain.Stage.TheVariants.{Walks}
 use Rattle.sock_model.specs.declared.view.View.{View}
 use Rattle.sock_model.specs.declared.view.Hand.{Hand}
 use Rattle.sock_model.specs.Layout.{head_index}
 use Rattle.sock_model.specs.Entries.{on, nth}
 use Rattle.sock_model.specs.Authors.{pick}
-use Rattle.sock_model.specs.Memory.{IDLE, UNCONNECTED}
+use Rattle.sock_model.specs.Memory.{IDLE}
 use Rattle.sock_model.specs.Reads.{head_at, memory, claims_of, tokens}
 use Rattle.sock_model.specs.Weights.{total, only}
 use Rattle.sock_model.specs.SlotRows.{met, met_link, looked, told_code}
@@ -34,6 +34,7 @@ use Rattle.seat_programs.specs.Cores.{Core}
 use Rattle.seat_programs.specs.Calls.{Call, ClaimSlot, CreateLife, AddRef, SubRef, SetOdd, Recycle, FreeSlot, StoreLink, LoadLink, ResetHead, ClearCode, StoreCode, StoreName, LoadName, StoreOpen, LoadOpen, TakeLink, FinishLink, PutLink, LookWord, FindLink, LoadCode, ClaimRequest, PutMessage, Unconnect, SwapHead, Connect, EmptyHead, ReadNext, ReverseNext, FreeRequest, StorePlace, DropPlace}
 use Rattle.sock_runs.specs.Rows.{row, is_id, new_claim, filled_claim, ready_claim, by_claim, by_right, read_next, turned_next, freed_next, placed_next, dropped_next, looked_clean, emptied, took_message, link_away, link_home_again, took_bytes}
 use Rattle.sock_runs.specs.Sound.{state}
+use Rattle.sock_runs.proofs.Leaves.{reads_way, turns_way, places_way, drops_way}
 use Rattle.chain_steps.proofs.Lists.{at_longer, at_length, at_some, filter_at, filter_in}
 use Rattle.chain_steps.proofs.Frames.{one_token}
 use Rattle.chain_steps.proofs.Claims.{claim_of}
@@ -258,36 +259,16 @@ module _ (v : View) where
   look_lists (r ∷ rs) then_ w own h = h r
 
   read_lists : (found : ℕ) (r : Right) (stage : Stage) → Stays (read_next found v r stage)
-  read_lists found r (Placed now) = refl
-  read_lists found r (Walks top at after) = either_way (eqb found UNCONNECTED) v (with_right v (record r { stage = Turns top at after found })) Stays refl refl
-  read_lists found r (Writes now) = refl
-  read_lists found r (Passes now next) = refl
-  read_lists found r Empties = refl
-  read_lists found r (Turns top at after before) = refl
+  read_lists = reads_way Stays v refl (λ c. refl) (λ r. refl) (λ k. refl)
 
   turned_lists : (r : Right) (stage : Stage) → Stays (turned_next v r stage)
-  turned_lists r (Turns top at after before) = refl
-  turned_lists r (Walks top at after) = refl
-  turned_lists r (Writes now) = refl
-  turned_lists r (Placed now) = refl
-  turned_lists r (Passes now next) = refl
-  turned_lists r Empties = refl
+  turned_lists = turns_way Stays v refl (λ c. refl) (λ r. refl) (λ k. refl)
 
   placed_lists : (r : Right) (stage : Stage) → Stays (placed_next v r stage)
-  placed_lists r (Writes now) = refl
-  placed_lists r (Placed now) = refl
-  placed_lists r (Passes now next) = refl
-  placed_lists r Empties = refl
-  placed_lists r (Walks top at after) = refl
-  placed_lists r (Turns top at after before) = refl
+  placed_lists = places_way Stays v refl (λ c. refl) (λ r. refl) (λ k. refl)
 
   dropped_lists : (r : Right) (stage : Stage) → Stays (dropped_next v r stage)
-  dropped_lists r (Writes now) = refl
-  dropped_lists r (Placed now) = refl
-  dropped_lists r (Passes now next) = refl
-  dropped_lists r Empties = refl
-  dropped_lists r (Walks top at after) = refl
-  dropped_lists r (Turns top at after before) = refl
+  dropped_lists = drops_way Stays v refl (λ c. refl) (λ r. refl) (λ k. refl)
 
 -- only an exchange of the head changes the lists of accepted messages
 pub lists_stay : (p : Plan) (call : Call) (found : ℕ) (hand : Hand) (v : View) → ((j own : ℕ) → call ≡ SwapHead j own → ⊥) → (row p call found hand v).lists ≡ v.lists

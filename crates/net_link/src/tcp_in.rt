@@ -4,7 +4,7 @@ ghost use Rattle.net_link.specs.Halves.{new_in, tcp_in};
 
 use crate::moving::read_some;
 use ghosts::Ghosts;
-use sock_io::{In, Take, risen};
+use sock_io::{In, Take, noted, risen};
 use std::marker::Model;
 use std::net::TcpStream;
 
@@ -83,9 +83,7 @@ impl TcpIn {
         let given: Ghosts<u8> = Ghosts::of(&self.given);
         let behind = (given, room, answer);
         self.given = Ghosts::of(&behind);
-        let before: Ghosts<Take> = Ghosts::of(&self.takes);
-        let with = (before, answer);
-        self.takes = Ghosts::of(&with);
+        self.takes = noted(&self.takes, answer);
     }
 }
 

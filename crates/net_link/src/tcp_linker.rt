@@ -1,6 +1,6 @@
 ghost use Rattle.std.specs.Prelude.{◌≡◌, ◌+◌, ◌≤◌, ◌<◌, ◌∷◌, ◌++◌, true, false, [], length, IfOk, IsErrOf, OnErr, Ok};
-ghost use Rattle.sock_io.specs.Causes.{Rose};
-ghost use Rattle.sock_io.specs.Link.{connection_of, end_of};
+ghost use Rattle.sock_io.specs.Causes.{OpenCause, Rose};
+ghost use Rattle.sock_io.specs.Link.{MayOpen, connection_of, end_of};
 ghost use Rattle.sock_io.specs.Linker.{shape_asked};
 ghost use Rattle.net_link.specs.Halves.{new_in, new_out, tcp_in};
 ghost use Rattle.net_link.specs.Linker.{is_tcp, new_half};
@@ -10,7 +10,8 @@ use crate::streams::{accept, connect};
 use crate::tcp_half::TcpHalf;
 use crate::tcp_in::TcpIn;
 use sock_io::{
-    Ends, LinkSpec, Linker, Mode, NoMemory, NoPeer, NotedLinks, OpenFault, Shape, Shaped, risen,
+    Ends, LinkSpec, Linker, LinkerTells, Mode, NoMemory, NoPeer, NotedLinks, OpenFault, Shape,
+    Shaped, risen,
 };
 use std::alloc::Global;
 use std::marker::Model;
@@ -41,11 +42,11 @@ pub struct TcpLinker<N: Net<Stream = TcpStream, Listener = TcpListener> + Drop> 
 
 impl<N: Net<Stream = TcpStream, Listener = TcpListener> + Drop> Model for TcpLinker<N> {
     ghost use Rattle.std.specs.Prelude.{◌≡◌, length};
-    ghost use Rattle.net_link.specs.Linker.{TcpLinkerState};
+    ghost use Rattle.sock_io.specs.Link.{LinkerState};
 
-    ghost Value = { TcpLinkerState };
+    ghost Value = { LinkerState };
 
-    ghost view = { λ l. record { asked = l.notes.asked; accepted = l.accepted; back = l.notes.back; done = l.notes.done; faults = l.faults } };
+    ghost view = { λ l. record { asked = l.notes.asked; accepted = l.accepted; back = l.notes.back; done = l.notes.done; faults = l.faults; always_ready = true } };
 
     ghost invariant = { λ l. length l.notes.asked ≡ l.opened };
 }
@@ -53,7 +54,7 @@ impl<N: Net<Stream = TcpStream, Listener = TcpListener> + Drop> Model for TcpLin
 impl<N: Net<Stream = TcpStream, Listener = TcpListener> + Drop> TcpLinker<N> {
     /// A linker that opened and accepted nothing yet, over this network. It takes no memory.
     pub fn new(net: N, alloc: Global) -> Self
-        ensures { result ≡ record { asked = []; accepted = 0; back = []; done = []; faults = 0 } }
+        ensures { result ≡ record { asked = []; accepted = 0; back = []; done = []; faults = 0; always_ready = true } }
     {
         TcpLinker {
             net,
@@ -87,6 +88,10 @@ impl<N: Net<Stream = TcpStream, Listener = TcpListener> + Drop> TcpLinker<N> {
     }
 }
 
+impl<N: Net<Stream = TcpStream, Listener = TcpListener> + Drop> LinkerTells for TcpLinker<N> {
+    ghost state = { λ l. record l { always_ready = true } };
+}
+
 impl<N: Net<Stream = TcpStream, Listener = TcpListener> + Drop> Linker for TcpLinker<N> {
     type O = TcpHalf;
 
@@ -94,31 +99,14 @@ impl<N: Net<Stream = TcpStream, Listener = TcpListener> + Drop> Linker for TcpLi
 
     type P = NoPeer;
 
-    ghost asked = { λ l. l.asked };
-
-    ghost accepted = { λ l. l.accepted };
-
-    ghost back = { λ l. l.back };
-
-    ghost done = { λ l. l.done };
-
-    ghost faults = { λ l. l.faults };
-
-    ghost always_ready = { λ _. true };
-
-    ghost tells_in = { λ _. false };
-
     fn open(&mut self, spec: &LinkSpec) -> Result<Link, OpenFault>
-        requires piece { 0 < spec.now.piece }
-        requires few { length self.old.asked < 256 }
+        requires { MayOpen self.old.asked spec.now }
         ensures mode { is_tcp spec.now.mode ≡ false → IsErrOf result OpenFault.Failed }
         ensures out { IfOk result (λ ends. ends.out ≡ TcpHalf.Opened (new_half (length self.old.asked) (shape_asked spec.now))) }
         ensures inn { IfOk result (λ ends. ends.inn ≡ new_in) }
         ensures linker { IfOk result (λ _. self.new ≡ record self.old { asked = self.old.asked ++ spec.now ∷ [] }) }
         ensures refused { OnErr result (self.new ≡ record self.old { faults = self.new.faults }) }
-        ensures later { self.old.faults ≤ self.new.faults }
-        ensures failed { IsErrOf result OpenFault.Failed → Rose self.old.faults self.new.faults }
-        ensures kept { (¬ IsErrOf result OpenFault.Failed) → self.new.faults ≡ self.old.faults }
+        ensures cause { OpenCause self.old.faults self.new.faults result }
     {
         let port = match spec.mode {
             Mode::Tcp(port) => port,
@@ -158,9 +146,7 @@ impl<N: Net<Stream = TcpStream, Listener = TcpListener> + Drop> Linker for TcpLi
         ensures inn { IfOk result (λ halves. halves.1 ≡ new_in) }
         ensures linker { IfOk result (λ _. self.new ≡ record self.old { accepted = self.old.accepted + 1 }) }
         ensures refused { OnErr result (self.new ≡ record self.old { faults = self.new.faults }) }
-        ensures later { self.old.faults ≤ self.new.faults }
-        ensures failed { IsErrOf result OpenFault.Failed → Rose self.old.faults self.new.faults }
-        ensures kept { (¬ IsErrOf result OpenFault.Failed) → self.new.faults ≡ self.old.faults }
+        ensures cause { OpenCause self.old.faults self.new.faults result }
     {
         match accept(&self.net, &mut self.listener, port) {
             Ok((out, inn)) => {
@@ -172,14 +158,12 @@ impl<N: Net<Stream = TcpStream, Listener = TcpListener> + Drop> Linker for TcpLi
     }
 
     fn done(&mut self, out: TcpHalf, inn: TcpIn)
-        requires { length self.old.done < self.old.accepted }
         ensures { self.new ≡ record self.old { done = self.old.done ++ connection_of (tcp_half out) (tcp_in inn) ∷ [] } }
     {
         self.notes.done(out, inn);
     }
 
     fn back(&mut self, _link: u16, ends: Link)
-        requires { length self.old.back < length self.old.asked }
         ensures { self.new ≡ record self.old { back = self.old.back ++ end_of (tcp_half ends.out) (tcp_in ends.inn) ∷ [] } }
     {
         self.notes.back(ends);

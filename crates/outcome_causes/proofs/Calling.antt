@@ -1,14 +1,10 @@
 -- Attempts of calls, beside the tasks: whoever writes a link for one makes steps that tell no outcome, and fails a life only where its link failed.
-use Rattle.std.proofs.Common.{◌≡◌, ◌≢◌, ℕ, zero, suc, ◌+◌, ◌-◌, ◌/◌, ◌%◌, ◌<◌, ◌&&◌, Bool, true, false, eqb, List, [], ◌∷◌, length, drop, inl, inr, sym, refl, subst, nat_lt, arith}
+use Rattle.std.proofs.Common.{◌≡◌, ◌≢◌, ℕ, zero, suc, ◌+◌, ◌-◌, ◌/◌, ◌%◌, ◌<◌, ◌&&◌, Bool, true, false, eqb, List, [], ◌∷◌, inl, inr, sym, refl, subst, nat_lt, arith}
 use Rattle.std.specs.Prelude.{nat_le, if◌then◌else◌}
 use mathlib.Core.List.{cons-ne-nil}
 use Rattle.sock_runs.specs.corr_core.specs.Word.{parts, error_of}
 use Rattle.sock_words.specs.Words.{socket_id_version, socket_id_slot, vref_version, vref_nref, at_word}
 use Rattle.sock_words.specs.declared.outcome.Outcome.TheVariants.{Unopened, NotBegun, Joined}
-use Rattle.seat_programs.specs.sock_io.specs.declared.link.Put.{Put}
-use Rattle.seat_programs.specs.sock_io.specs.declared.link.Put.TheVariants as puts
-use Rattle.seat_programs.specs.sock_io.specs.declared.link.Ready.{Ready}
-use Rattle.seat_programs.specs.sock_io.specs.declared.link.Ready.TheVariants as asks
 use Rattle.sock_model.specs.declared.chain.Heading.{Heading}
 use Rattle.sock_model.specs.Entries.{ticket_of, slot_of, generation_of}
 use Rattle.sock_model.specs.Memory.{IDLE, UNCONNECTED}
@@ -21,11 +17,11 @@ use Rattle.seat_programs.specs.Heads.{Has as HasLock}
 use Rattle.seat_programs.specs.Writings.{Holder, Writing, Puts, Waits, Empties, Walks}
 use Rattle.seat_programs.specs.Programs.{Program, Do, Say, TakeMessage, TakeHome, PutBytes, Write, Aside, Round, LAST_VERSION, LAST_GENERATION, recycle, release}
 use Rattle.seat_programs.specs.Posts.{WHOLE, post, post_with, posted, decided}
-use Rattle.seat_programs.specs.Sends.{freed, one_more, passed_telling, tell_drop, placed, dropped, link_failed, put_answered, ready_answered, block, first_put, write_link, accept}
+use Rattle.seat_programs.specs.Sends.{freed, one_more, passed_telling, tell_drop, placed, dropped, link_failed, put_answered, block, first_put, write_link, accept}
 use Rattle.seat_programs.specs.Attempts.{claims_from, heading_for, attempt, begin_call, claim_id, call, tried_again, retry_locked, retry, expire_outcome, expire, join}
 use Rattle.sock_runs.specs.Writes.{holder_of}
 use Rattle.outcome_causes.specs.Stories.{Entry, In}
-use Rattle.outcome_causes.specs.Explains.{Beside, Done, ExplainsBy, IsAttemptOn, holds, step, broken_put, broken_ready}
+use Rattle.outcome_causes.specs.Explains.{Beside, Done, ExplainsBy, IsAttemptOn, holds, step}
 use Rattle.outcome_causes.proofs.Tests.{split, split_eq}
 use Rattle.outcome_causes.proofs.Sending.{Within, even_holds, odd_holds, sub_holds, add_holds}
 use Rattle.outcome_causes.proofs.Errors.{post_goes, post_with_goes, posted_goes, decide_goes, decided_goes, tell_goes}

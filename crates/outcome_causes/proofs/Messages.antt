@@ -1,7 +1,7 @@
 -- The messages that links accepted are those of the tasks and of calls, where no seat has anything left to do.
 use Rattle.std.proofs.Common.{◌≡◌, ℕ, zero, suc, ◌<◌, true, false, List, [], ◌∷◌, inl, inr, sym, ap, ◌∙◌, subst, arith}
 use Rattle.std.specs.List.{filter}
-use Rattle.std.specs.Prelude.{Bool, ◌⊎◌, cond}
+use Rattle.std.specs.Prelude.{Bool, cond}
 use Rattle.std.proofs.lemmas.Bool.{true≢false}
 use mathlib.Core.Option.{some, some-injective, some-ne-none}
 use lib.ListN.{get_elem?}
@@ -18,6 +18,7 @@ use Rattle.outcome_causes.specs.Stories.{Event, In}
 use Rattle.outcome_causes.specs.Kept.{is_of_send, of_sends, IsOfCall, IsSpoken, Story}
 use Rattle.outcome_causes.proofs.Members.{all_in}
 use Rattle.outcome_causes.proofs.Senders.{HasSent, sent_in, EachMade}
+use Rattle.outcome_causes.proofs.Lifted.{filtered_in}
 use Rattle.outcome_causes.proofs.Final.{IsMessage, Sends, sends, Sooner}
 
 -- ## Lists
@@ -30,18 +31,8 @@ module _ {A : Type 0} where
 
   -- what a filter keeps
   module _ (f : A → Bool) where
-    cond_in : (b : Bool) (x y : A) (ys : List A) → b ≡ true → (x ≡ y) ⊎ In x ys → In x (cond b (y ∷ ys) ys)
-    cond_in true x y ys e m = m
-    cond_in false x y ys e m = absurd (true≢false (sym e))
-
-    skip_in : (b : Bool) (x y : A) (ys : List A) → In x ys → In x (cond b (y ∷ ys) ys)
-    skip_in true x y ys m = inr m
-    skip_in false x y ys m = m
-
     pub filter_has : (xs : List A) (n : ℕ) (x : A) → get_elem? xs n ≡ some x → f x ≡ true → In x (filter f xs)
-    filter_has [] n x e is = absurd (some-ne-none x (sym e))
-    filter_has (y ∷ ys) zero x e is = let same : y ≡ x = some-injective y x e in cond_in (f y) x y (filter f ys) (ap f same ∙ is) (inl (sym same))
-    filter_has (y ∷ ys) (suc n) x e is = skip_in (f y) x y (filter f ys) (filter_has ys n x e is)
+    filter_has xs n x e = filtered_in f xs x (in_of_at xs n x e)
 
     tail_before : (R : A → A → Type 0) (b : Bool) (x : A) (xs : List A) → EachBefore R (cond b (x ∷ xs) xs) → EachBefore R xs
     tail_before R true x xs h = h.1

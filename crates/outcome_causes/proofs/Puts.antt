@@ -1,33 +1,18 @@
 -- Whoever writes a link goes on, whatever the link answered.
-use Rattle.std.proofs.Common.{◌≡◌, ◌≢◌, ℕ, zero, suc, ◌+◌, ◌-◌, ◌/◌, ◌%◌, ◌<◌, ◌&&◌, Bool, true, false, eqb, List, [], ◌∷◌, length, drop, inl, inr, sym, refl, subst, nat_lt, arith}
-use Rattle.std.specs.Prelude.{nat_le, if◌then◌else◌}
-use mathlib.Core.List.{cons-ne-nil}
-use Rattle.sock_runs.specs.corr_core.specs.Word.{parts, error_of}
-use Rattle.sock_words.specs.Words.{socket_id_version, socket_id_slot, vref_version, vref_nref, at_word}
-use Rattle.sock_words.specs.declared.outcome.Outcome.TheVariants.{Unopened, NotBegun, Joined}
+use Rattle.std.proofs.Common.{ℕ, ◌+◌, ◌-◌, true, false, List, ◌∷◌, length, drop, inl, refl}
+use Rattle.std.specs.Prelude.{nat_le}
 use Rattle.seat_programs.specs.sock_io.specs.declared.link.Put.{Put}
 use Rattle.seat_programs.specs.sock_io.specs.declared.link.Put.TheVariants as puts
 use Rattle.seat_programs.specs.sock_io.specs.declared.link.Ready.{Ready}
 use Rattle.seat_programs.specs.sock_io.specs.declared.link.Ready.TheVariants as asks
 use Rattle.sock_model.specs.declared.chain.Heading.{Heading}
-use Rattle.sock_model.specs.Entries.{ticket_of, slot_of, generation_of}
-use Rattle.sock_model.specs.Memory.{IDLE, UNCONNECTED}
-use Rattle.seat_programs.specs.sock_message.specs.Asked.{Asked, name_of, frame_of}
-use Rattle.seat_programs.specs.declared.task.Task.{Task}
-use Rattle.seat_programs.specs.Calls.{Call, LoadName, AddRef, SubRef, SetOdd, StoreCode, LookWord, FindLink, LoadLink, LoadCode, TakeLink, FinishLink, PutLink, FreeSlot, ClaimRequest, PutMessage, Unconnect, SwapHead, Connect, EmptyHead, ReadNext, ReverseNext, FreeRequest, StorePlace, DropPlace}
-use Rattle.seat_programs.specs.Asides.{StoreAt, id_slot, id_first, call_id}
-use Rattle.seat_programs.specs.Heads.{Joins, Posting, Unlocking, IsOpen, HasNext, Locking, NotThere}
-use Rattle.seat_programs.specs.Heads.{Has as HasLock}
-use Rattle.seat_programs.specs.Writings.{Holder, Writing, Puts, Waits, Empties, Walks}
-use Rattle.seat_programs.specs.Programs.{Program, Do, Say, TakeMessage, TakeHome, PutBytes, Write, Aside, Round, LAST_VERSION, LAST_GENERATION, recycle, release}
-use Rattle.seat_programs.specs.Posts.{WHOLE, post, post_with, posted, decided}
-use Rattle.seat_programs.specs.Sends.{freed, one_more, passed_telling, tell_drop, placed, dropped, link_failed, put_answered, ready_answered, block, first_put, write_link, accept}
-use Rattle.seat_programs.specs.Attempts.{claims_from, heading_for, attempt, begin_call, claim_id, call, tried_again, retry_locked, retry, expire_outcome, expire, join}
+use Rattle.seat_programs.specs.Writings.{Holder, Writing, Puts, Waits}
+use Rattle.seat_programs.specs.Programs.{Program, Write}
+use Rattle.seat_programs.specs.Sends.{placed, link_failed, put_answered, ready_answered}
 use Rattle.sock_runs.specs.Writes.{holder_of}
 use Rattle.outcome_causes.specs.Stories.{Entry, In}
-use Rattle.outcome_causes.specs.Explains.{Beside, Done, ExplainsBy, IsAttemptOn, holds, step, broken_put, broken_ready}
-use Rattle.outcome_causes.proofs.Tests.{split, split_eq}
-use Rattle.outcome_causes.proofs.Errors.{post_goes, post_with_goes, posted_goes, decide_goes, decided_goes, tell_goes}
+use Rattle.outcome_causes.specs.Explains.{broken_put, broken_ready}
+use Rattle.outcome_causes.proofs.Tests.{split}
 
 -- what it goes on with, by what is known of it: it writes again, its entry got a place, or the link failed
 module _ (Goes : List ℕ → List Entry → Program → Type 0) (IsOn : Holder → List ℕ → List Entry → Type 0) (after : Program) (again : (w : Writing) (bs : List ℕ) (tr : List Entry) → IsOn (holder_of w) bs tr → Goes bs tr (Write w after))

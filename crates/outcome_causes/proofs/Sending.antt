@@ -1,6 +1,6 @@
 -- Whoever writes a link explains each round of its loops, and a `send` explains its outcome.
-use Rattle.std.proofs.Common.{◌≡◌, ◌≢◌, ℕ, zero, suc, ◌+◌, ◌-◌, ◌/◌, ◌%◌, ◌<◌, true, false, cond, eqb, eq-eqb, ne_eqb, List, [], ◌∷◌, length, drop, inl, inr, sym, refl, ap, ◌∙◌, subst, nat_lt, arith}
-use Rattle.std.specs.Prelude.{nat_le, Option, Some, None, if◌then◌else◌}
+use Rattle.std.proofs.Common.{◌≡◌, ◌≢◌, ℕ, zero, suc, ◌+◌, ◌-◌, ◌/◌, ◌%◌, ◌<◌, true, false, cond, eqb, eq-eqb, ne_eqb, List, [], ◌∷◌, inl, inr, sym, refl, ap, ◌∙◌, subst, nat_lt, arith}
+use Rattle.std.specs.Prelude.{Option, Some, None, if◌then◌else◌}
 use Rattle.std.specs.List.{AllByRecursion}
 use mathlib.Core.Logic.{dite}
 use native.Mathlib.Decide.{ℕ_discrete}
@@ -8,9 +8,6 @@ use Rattle.sock_words.specs.Words.{socket_id_version, socket_id_slot, vref_versi
 use Rattle.sock_words.specs.declared.outcome.Outcome.{Outcome}
 use Rattle.sock_words.specs.declared.outcome.Outcome.TheVariants.{Unopened, Gone, Full}
 use Rattle.seat_programs.specs.sock_io.specs.declared.link.Put.{Put}
-use Rattle.seat_programs.specs.sock_io.specs.declared.link.Put.TheVariants as puts
-use Rattle.seat_programs.specs.sock_io.specs.declared.link.Ready.{Ready}
-use Rattle.seat_programs.specs.sock_io.specs.declared.link.Ready.TheVariants as asks
 use Rattle.sock_model.specs.declared.chain.Heading.{Heading}
 use Rattle.sock_model.specs.declared.marks.Mark.TheVariants.{Hold}
 use Rattle.sock_model.specs.Weights.{is_hold}
@@ -22,10 +19,10 @@ use Rattle.seat_programs.specs.declared.task.Task.{Task}
 use Rattle.seat_programs.specs.Calls.{Call, AddRef, SubRef, SetOdd, StoreCode, LoadName, LookWord, FindLink, LoadCode, ClaimRequest, PutMessage, Unconnect, SwapHead, Connect, EmptyHead, ReadNext, ReverseNext, FreeRequest, StorePlace, DropPlace}
 use Rattle.seat_programs.specs.Writings.{Holder, Writing, Puts, Waits, Empties, Walks}
 use Rattle.seat_programs.specs.Programs.{Program, Do, Say, Sent, TakeMessage, TakeHome, PutBytes, Write, LAST_GENERATION, release}
-use Rattle.seat_programs.specs.Sends.{freed, one_more, passed_telling, tell_drop, placed, dropped, link_failed, put_answered, ready_answered, block, first_put, write_link, heading_of, accept, claim_from, start, send}
+use Rattle.seat_programs.specs.Sends.{freed, one_more, passed_telling, tell_drop, placed, dropped, link_failed, put_answered, block, first_put, write_link, heading_of, accept, claim_from, start, send}
 use Rattle.sock_runs.specs.Writes.{holder_of}
 use Rattle.outcome_causes.specs.Stories.{Entry, In}
-use Rattle.outcome_causes.specs.Explains.{Own, Done, Explains, Explained, Tells, TellsFail, Grew, IsWriterOf, holds, holds_behind, swapped, step, broken_put, broken_ready}
+use Rattle.outcome_causes.specs.Explains.{Own, Done, Explains, Explained, Tells, TellsFail, Grew, IsWriterOf, holds, holds_behind, swapped, step, broken_put}
 use Rattle.outcome_causes.proofs.Tests.{split, split_eq}
 use Rattle.outcome_causes.proofs.Errors.{tell_goes}
 use Rattle.outcome_causes.proofs.Pieces.{IsMute, grew_same, grew_on, mute_grew, release_goes, reach_goes}

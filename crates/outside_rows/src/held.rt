@@ -6,7 +6,9 @@ ghost use Rattle.ring_link.specs.Halves.{ring_in};
 
 use crossbeam_utils::Backoff;
 use ring_link::{RingIn, RingLinker, RingOut, RingPeer};
-use sock_io::{Ends, Gate, LinkSpec, Linker, NoMemory, OpenFault, Out, Put, Ready, Shaped};
+use sock_io::{
+    Ends, Gate, LinkSpec, Linker, LinkerTells, NoMemory, OpenFault, Out, Put, Ready, Shaped,
+};
 use std::alloc::{AllocError, Global};
 use std::sync::atomic::{AtomicU64, Ordering};
 use std::sync::{Arc, Wait};
@@ -130,26 +132,16 @@ impl<R: AllocGlobal + Drop> HeldLinker<R> {
     }
 }
 
+impl<R: AllocGlobal + Drop> LinkerTells for HeldLinker<R> {
+    ghost state = { λ l. record { asked = l.inner.asked; accepted = l.inner.accepted; back = l.inner.back; done = l.inner.done; faults = 0; always_ready = false } };
+}
+
 impl<R: AllocGlobal + Drop> Linker for HeldLinker<R> {
     type O = HeldOut;
 
     type I = RingIn;
 
     type P = RingPeer;
-
-    ghost asked = { λ l. l.inner.asked };
-
-    ghost accepted = { λ l. l.inner.accepted };
-
-    ghost back = { λ l. l.inner.back };
-
-    ghost done = { λ l. l.inner.done };
-
-    ghost faults = { λ _. 0 };
-
-    ghost always_ready = { λ _. false };
-
-    ghost tells_in = { λ _. false };
 
     fn open(&mut self, spec: &LinkSpec) -> Result<Link, OpenFault> {
         let Ok(flags) = Arc::try_clone(&self.flags) else {

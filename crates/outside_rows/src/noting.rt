@@ -3,7 +3,7 @@ ghost use Rattle.std.specs.List.{AllByRecursion};
 ghost use Rattle.brpc_model.specs.Link.{LinkEnd};
 ghost use Rattle.sock_io.specs.Link.{connection_of, end_of};
 
-use sock_io::{Ends, LinkSpec, Linker, NoMemory, OpenFault, Out};
+use sock_io::{Ends, LinkSpec, Linker, LinkerTells, NoMemory, OpenFault, Out};
 use std::alloc::Global;
 
 /// A linker that notes each link that is given back, and how many bytes it took; and what the connections took that are given
@@ -48,24 +48,16 @@ impl<L: Linker + Drop> Noting<L> {
     }
 }
 
+impl<L: Linker + Drop> LinkerTells for Noting<L> {
+    ghost state = { λ l. record { asked = L.asked l.inner; accepted = L.accepted l.inner; back = L.back l.inner; done = L.done l.inner; faults = L.faults l.inner + l.failed; always_ready = L.always_ready l.inner } };
+}
+
 impl<L: Linker + Drop> Linker for Noting<L> {
     type O = L::O;
 
     type I = L::I;
 
     type P = L::P;
-
-    ghost asked = { λ l. L.asked l.inner };
-
-    ghost accepted = { λ l. L.accepted l.inner };
-
-    ghost back = { λ l. L.back l.inner };
-
-    ghost done = { λ l. L.done l.inner };
-
-    ghost faults = { λ l. L.faults l.inner + l.failed };
-
-    ghost always_ready = { λ l. L.always_ready l.inner };
 
     ghost tells_in = { L.tells_in };
 

@@ -12,7 +12,7 @@ use Rattle.seat_programs.specs.Programs.{Program, Aside}
 use Rattle.seat_programs.specs.Posts.{packed}
 use Rattle.seat_programs.specs.Cores.{Core, SeatState, waiting_at, with_seat}
 use Rattle.seat_programs.specs.Beside.{calls_after}
-use Rattle.owed_calls.specs.Owing.{Owing, FindsUnlock, MayOwe, AsideMove}
+use Rattle.owed_calls.specs.Owing.{Owing, FindsUnlock}
 use Rattle.owed_calls.specs.Owes.{OwesOn}
 use Rattle.owed_calls.specs.Sound.{OwingLaw, SoundOwing}
 use Rattle.owed_calls.proofs.Beside.{look_keeps, lock_keeps, post_keeps, unlock_keeps}

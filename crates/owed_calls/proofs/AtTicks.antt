@@ -10,7 +10,7 @@ use Rattle.seat_programs.specs.Asides.{Step, Found, StoreAt, LoadAt, call_id, id
 use Rattle.seat_programs.specs.Programs.{Program, Aside}
 use Rattle.seat_programs.specs.Cores.{Core, SeatState, waiting_at, with_seat}
 use Rattle.seat_programs.specs.Beside.{calls_after}
-use Rattle.owed_calls.specs.Owing.{Owing, InList, MayOwe, AsideMove, Linked, loaded}
+use Rattle.owed_calls.specs.Owing.{Owing, InList, Linked, loaded}
 use Rattle.owed_calls.specs.Owes.{OwesOn}
 use Rattle.owed_calls.specs.Sound.{id_word_of, at_of, OwingLaw, SoundOwing}
 use Rattle.owed_calls.proofs.Beside.{Behind, still_keeps}

@@ -1,5 +1,5 @@
 -- The law behind steps on the table of the ids, as the machine changes its words.
-use Rattle.std.proofs.Common.{◌≡◌, ◌≢◌, ℕ, zero, suc, ◌+◌, ◌-◌, ◌*◌, ◌<◌, ◌≤◌, ◌⊎◌, inl, inr, ⊎_elim, Bool, true, false, cond, eqb, eqb-true, eq-eqb, List, [], ◌∷◌, ◌++◌, Option, Some, None, length, set, get_or, get_or-set_other, refl, sym, ap, ◌∙◌, subst, arith}
+use Rattle.std.proofs.Common.{◌≡◌, ℕ, zero, suc, ◌+◌, ◌-◌, ◌<◌, ◌≤◌, ◌⊎◌, inl, inr, ⊎_elim, Bool, true, false, cond, eqb, eqb-true, eq-eqb, List, [], ◌∷◌, Option, length, set, get_or, refl, sym, ap, ◌∙◌, subst, arith}
 use Rattle.std.specs.Prelude as std
 use mathlib.Core.Option.{some}
 use lib.ListN.{get_elem?}
@@ -14,7 +14,6 @@ use Rattle.seat_programs.specs.Beside.{calls_after}
 use Rattle.joint_runs.specs.id_runs.proofs.Keeps.{parts_packed}
 use Rattle.owed_calls.specs.Owing.{Duty, Free, Trying, Linked, Looking, Telling, Owing, Posting, MayOwe, unlocked_by}
 use Rattle.owed_calls.specs.Sound.{id_word_of, at_of, Past, ErrorPast, Stored, OwingLaw}
-use Rattle.owed_calls.proofs.Posts.{not_equal}
 use Rattle.owed_calls.proofs.Changes.{past_on}
 use Rattle.owed_calls.proofs.Words.{worded}
 use Rattle.owed_calls.proofs.Exchanges.{Holds, stays_so, locks_so, queues_so, posting_keeps, same_step}

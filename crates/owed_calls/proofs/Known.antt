@@ -265,13 +265,13 @@ module _ (script : List Item) (made : AreMade script) (turns : List Turn) (core 
       (λ o inside. (let u = clients_begin.unused (plan_of script) in u.opens) o inside)
 
   named_set_up : Named p (OpensLink os) (set_up script is.setup) views_set_up
-  named_set_up = let parts = all_parts in run_named p go (OpensLink os) (opened script) vs setup_ticks parts.s₀ parts.a₁ parts.f₁ named_opened
+  named_set_up = let parts = all_parts in run_named p go (OpensLink os) (opened script) vs setup_ticks parts.first.sound parts.first.answered parts.first.fits named_opened
 
   named_ending_begun : Named p (OpensLink os) begun_ending views_rested
-  named_ending_begun = let parts = all_parts in named_ending p (OpensLink os) os (played script is.setup (is.scheduled ++ is.later)) views_rested (run_named p go (OpensLink os) (set_up script is.setup) views_set_up (is.scheduled ++ is.later) parts.s₁ parts.a₂ parts.f₂ named_set_up)
+  named_ending_begun = let parts = all_parts in named_ending p (OpensLink os) os (played script is.setup (is.scheduled ++ is.later)) views_rested (run_named p go (OpensLink os) (set_up script is.setup) views_set_up (is.scheduled ++ is.later) parts.second.sound parts.second.answered parts.second.fits named_set_up)
 
   named_told : Named p (OpensLink os) told_core views_told
-  named_told = let parts = all_parts in named_on p (OpensLink os) (run p begun_ending ending_ticks) views_told (run_named p go (OpensLink os) begun_ending views_rested ending_ticks parts.s₃ parts.a₃ parts.f₃ named_ending_begun)
+  named_told = let parts = all_parts in named_on p (OpensLink os) (run p begun_ending ending_ticks) views_told (run_named p go (OpensLink os) begun_ending views_rested ending_ticks parts.third.sound parts.third.answered parts.third.fits named_ending_begun)
 
   abbrev final_words : List ℕ
   final_words = (run (plan_of script) told_core is.final).words
@@ -294,21 +294,21 @@ module _ (script : List Item) (made : AreMade script) (turns : List Turn) (core 
     as_many = known.as_many
 
     says_setup : Says (opened script) setup_ticks
-    says_setup = let parts = all_parts in let s = sound_run in says_along p q known.narrow refl (calls script) os final_words known.in_script slots_end links_end (opens_apart script) as_many go (IsListed script) (opened script) vs setup_ticks parts.s₀ parts.a₁ parts.f₁ parts.r₀ parts.readers parts.many named_opened
+    says_setup = let parts = all_parts in let s = sound_run in says_along p q known.narrow refl (calls script) os final_words known.in_script slots_end links_end (opens_apart script) as_many go (IsListed script) (opened script) vs setup_ticks parts.first.sound parts.first.answered parts.first.fits parts.first.recorded parts.readers parts.many named_opened
         s.setup (quiet_closes p (opened script) is.setup) kept.of_setup (whole.reach₁ p q known.narrow refl (calls script) os known.in_script go (IsListed script) (opened script) vs setup_ticks (is.scheduled ++ is.later) ending_ticks is.final all_parts slots_end links_end reach_end)
 
     says_clients : Says (set_up script is.setup) (is.scheduled ++ is.later)
-    says_clients = let parts = all_parts in let s = sound_run in says_along p q known.narrow refl (calls script) os final_words known.in_script slots_end links_end (opens_apart script) as_many go (IsListed script) (set_up script is.setup) views_set_up (is.scheduled ++ is.later) parts.s₁ parts.a₂ parts.f₂ parts.r₁
+    says_clients = let parts = all_parts in let s = sound_run in says_along p q known.narrow refl (calls script) os final_words known.in_script slots_end links_end (opens_apart script) as_many go (IsListed script) (set_up script is.setup) views_set_up (is.scheduled ++ is.later) parts.second.sound parts.second.answered parts.second.fits parts.second.recorded
         (whole.readers₁ p q known.narrow refl (calls script) os known.in_script go (IsListed script) (opened script) vs setup_ticks (is.scheduled ++ is.later) ending_ticks is.final all_parts) (whole.many₁ p q known.narrow refl (calls script) os known.in_script go (IsListed script) (opened script) vs setup_ticks (is.scheduled ++ is.later) ending_ticks is.final all_parts) named_set_up
         s.clients closes.played kept.of_played (whole.reach₂ p q known.narrow refl (calls script) os known.in_script go (IsListed script) (opened script) vs setup_ticks (is.scheduled ++ is.later) ending_ticks is.final all_parts slots_end links_end reach_end)
 
     says_ending : Says begun_ending ending_ticks
-    says_ending = let parts = all_parts in let s = sound_run in says_along p q known.narrow refl (calls script) os final_words known.in_script slots_end links_end (opens_apart script) as_many go (IsListed script) begun_ending views_rested ending_ticks parts.s₃ parts.a₃ parts.f₃ parts.r₃
+    says_ending = let parts = all_parts in let s = sound_run in says_along p q known.narrow refl (calls script) os final_words known.in_script slots_end links_end (opens_apart script) as_many go (IsListed script) begun_ending views_rested ending_ticks parts.third.sound parts.third.answered parts.third.fits parts.third.recorded
         (whole.readers₃ p q known.narrow refl (calls script) os known.in_script go (IsListed script) (opened script) vs setup_ticks (is.scheduled ++ is.later) ending_ticks is.final all_parts) (whole.many₃ p q known.narrow refl (calls script) os known.in_script go (IsListed script) (opened script) vs setup_ticks (is.scheduled ++ is.later) ending_ticks is.final all_parts) named_ending_begun
         s.closing (quiet_closes p begun_ending is.last) kept.of_closing (whole.reach₄ p q known.narrow refl (calls script) os known.in_script go (IsListed script) (opened script) vs setup_ticks (is.scheduled ++ is.later) ending_ticks is.final all_parts slots_end links_end reach_end)
 
     says_final : Says told_core is.final
-    says_final = let parts = all_parts in let s = sound_run in says_along p q known.narrow refl (calls script) os final_words known.in_script slots_end links_end (opens_apart script) as_many go (IsListed script) told_core views_told is.final parts.s₅ parts.a₄ parts.f₄ parts.r₅
+    says_final = let parts = all_parts in let s = sound_run in says_along p q known.narrow refl (calls script) os final_words known.in_script slots_end links_end (opens_apart script) as_many go (IsListed script) told_core views_told is.final parts.last.sound parts.last.answered parts.last.fits parts.last.recorded
         (whole.readers₅ p q known.narrow refl (calls script) os known.in_script go (IsListed script) (opened script) vs setup_ticks (is.scheduled ++ is.later) ending_ticks is.final all_parts) (whole.many₅ p q known.narrow refl (calls script) os known.in_script go (IsListed script) (opened script) vs setup_ticks (is.scheduled ++ is.later) ending_ticks is.final all_parts) named_told
         (subst (λ d. AreBoth (plan_of script) (id_plan_of script) d (views_closed script turns core is vs) is.final) is.is_ended s.final) (subst (λ d. ClosesInTime (plan_of script) d is.final) is.is_ended closes.final)
         (subst (λ d. AreKept (plan_of script) (id_plan_of script) (calls script) d is.final) is.is_ended kept.of_final) reach_end

@@ -109,22 +109,30 @@ module _ (script : List Item) (are : AreTasks (plan_of script) (all_tasks script
 
   pub parts : Parts p q known.narrow refl (calls script) os known.in_script go (IsListed script) (opened script) vs m₁ (is.scheduled ++ is.later) m₃ is.final
   parts = record {
-    s₀ = begins.sound;
-    s₁ = set_up_sound script are vs begins go turns core is fitting;
-    s₃ = closing_sound script are vs begins go turns core is fitting;
-    s₅ = subst (λ d. Sound p d (views_closed script turns core is vs)) is.is_ended (closed_sound script are vs begins go turns core is fitting);
-    a₁ = set_up_answered script are vs begins go turns core is fitting;
-    a₂ = is.answered;
-    a₃ = end_answered script are vs begins go turns core is fitting;
-    a₄ = subst (λ d. AreAnswered p d is.final) is.is_ended is.answered_again;
-    f₁ = fitting.of_setup;
-    f₂ = fitting.of_played;
-    f₃ = fitting.of_closing;
-    f₄ = subst (λ d. AreFitting p d is.final) is.is_ended fitting.of_final;
-    r₀ = recorded_opened script are vs begins go turns core is fitting;
-    r₁ = recorded_set_up script are vs begins go turns core is fitting;
-    r₃ = recorded_closing script are vs begins go turns core is fitting;
-    r₅ = subst (λ d. Recorded p (IsListed script) d (views_closed script turns core is vs)) is.is_ended (recorded_closed script are vs begins go turns core is fitting);
+    first = record {
+      sound = begins.sound;
+      answered = set_up_answered script are vs begins go turns core is fitting;
+      fits = fitting.of_setup;
+      recorded = recorded_opened script are vs begins go turns core is fitting;
+    };
+    second = record {
+      sound = set_up_sound script are vs begins go turns core is fitting;
+      answered = is.answered;
+      fits = fitting.of_played;
+      recorded = recorded_set_up script are vs begins go turns core is fitting;
+    };
+    third = record {
+      sound = closing_sound script are vs begins go turns core is fitting;
+      answered = end_answered script are vs begins go turns core is fitting;
+      fits = fitting.of_closing;
+      recorded = recorded_closing script are vs begins go turns core is fitting;
+    };
+    last = record {
+      sound = subst (λ d. Sound p d (views_closed script turns core is vs)) is.is_ended (closed_sound script are vs begins go turns core is fitting);
+      answered = subst (λ d. AreAnswered p d is.final) is.is_ended is.answered_again;
+      fits = subst (λ d. AreFitting p d is.final) is.is_ended fitting.of_final;
+      recorded = subst (λ d. Recorded p (IsListed script) d (views_closed script turns core is vs)) is.is_ended (recorded_closed script are vs begins go turns core is fitting);
+    };
     readers = readers_begin p q (programs (sizes_of p q) (all_tasks script)) (calls script) os (let l = length-map (all_tasks script) (client_from (sizes_of p q) []) in let f = known.few in omega (arith, l, f));
     many = many_seats;
   }
@@ -133,7 +141,7 @@ module _ (script : List Item) (are : AreTasks (plan_of script) (all_tasks script
   v₆ = views_along (plan_of script) c₅ (views_closed script turns core is vs) is.final
 
   pub sound₆ : Sound p c₆ v₆
-  sound₆ = run_sound p go c₅ (views_closed script turns core is vs) is.final parts.s₅ parts.a₄ parts.f₄
+  sound₆ = run_sound p go c₅ (views_closed script turns core is vs) is.final parts.last.sound parts.last.answered parts.last.fits
 
   pub ahead₆ : IsAhead c₆
   ahead₆ = subst IsAhead core_is (ended_ahead script are vs begins go turns core is fitting)

@@ -149,28 +149,35 @@ module _ (p : Plan) (q : IdPlan) (narrow : q.slots ≤ 65536) (calls : List ℕ)
         (o.0, subst (λ m. Owns more m o.0 s.program) (sym (same j x.0)) (owns_grows has more grows (left j) o.0 s.program o.1), true_on p q c Now ws ids v.0 (λ n inside t h. stays n inside j v.0 v.1 x.0 t h) o.0 s.program (ids.seats j s v.0 x.1 v.1) o.2))
         (at_set c.seats i j (record { program = next_step (resolved (waiting_at a.waiting i) program); hand = hand }) s at_s)
 
+    true_here : (b : Behind) → IsTrue (record c { calls = a }) b → IsTrue Now b
+    true_here Other t = tt
+    true_here (HasClaimed n) t = t
+    true_here (HasPut n x) t = t
+    true_here (HasLock n f) t = t
+    true_here (HasTaken n f) t = t
+
+    -- where no operation has an id more
+    settles : (b : Behind) → Owns has (left i) b program → IsTrue (record c { calls = a }) b
+        → ((n : ℕ) → n < q.slots → (x : Asked) → get_elem? a.homes n ≡ some (some (std.Some x)) → (id_word_of Now n).state ≢ 0 → IsIdOf has x.operation (call_id n (id_word_of Now n).first))
+        → ((o : ℕ) → o < q.operations → at_of q Now o ≢ 0 → IsIdOf has o (call_id (at_word_slot (at_of q Now o)) (at_word_first (at_of q Now o))))
+        → ((n : ℕ) → n < q.slots → (j : ℕ) (v : IdView) → get_elem? ws j ≡ some v → j ≢ i → (t : Token Asked) → HasOne n t v → Same c Now n) → After Now
+    settles b owns t at_home ats stays = (
+      has,
+      left,
+      grows_same has,
+      record {
+        inside = owned.inside;
+        once = owned.once;
+        apart = owned.apart;
+        ats = ats;
+        homes = at_home;
+        seats = goes_on has left (grows_same has) (λ j far. refl) b owns (true_here b t) stays;
+      },
+    )
+
   -- a step that none of the ids sees
   pub on_sockets : (b : Behind) (program : Program) (hand : List Home) (words : List ℕ) (homes : List (Option Home)) → Owns has (left i) b program → IsTrue c b → After (with_seat i program hand words homes c)
-  on_sockets b program hand words homes owns t = (
-    has,
-    left,
-    grows_same has,
-    record {
-      inside = owned.inside;
-      once = owned.once;
-      apart = owned.apart;
-      ats = owned.ats;
-      homes = owned.homes;
-      seats = goes_on c.calls program hand words homes refl has left (grows_same has) (λ j far. refl) b owns (now_true b t) (λ n inside j v at_v far x h. record { first = refl; none_ = λ z. z; some_ = λ z. z; home = refl });
-    },
-  )
-    where
-      now_true : (b : Behind) → IsTrue c b → IsTrue (with_seat i program hand words homes c) b
-      now_true Other t = tt
-      now_true (HasClaimed n) t = t
-      now_true (HasPut n x) t = t
-      now_true (HasLock n f) t = t
-      now_true (HasTaken n f) t = t
+  on_sockets b program hand words homes owns t = settles c.calls program hand words homes refl b owns t owned.homes owned.ats (λ n inside j v at_v far x h. record { first = refl; none_ = λ z. z; some_ = λ z. z; home = refl })
 
   -- ## Steps on ids
 
@@ -200,27 +207,8 @@ module _ (p : Plan) (q : IdPlan) (narrow : q.slots ≤ 65536) (calls : List ℕ)
 
     -- where no operation has an id more
     settle : (b : Behind) → Owns has (left i) b (next found) → IsTrue D b → Homes has → Ats has → After (with_seat i (next found) seat.hand c.words c.homes (record c { calls = calls_after step found c.calls }))
-    settle b owns true_ homes ats = (
-      has,
-      left,
-      grows_same has,
-      record {
-        inside = owned.inside;
-        once = owned.once;
-        apart = owned.apart;
-        ats = ats;
-        homes = homes;
-        seats = goes_on a' (next found) seat.hand c.words c.homes (waits_same step found) has left (grows_same has) (λ j far. refl) b owns (now_true b true_)
-            (λ n inside j v at_v far x h. let k = stays n inside j v at_v far x h in record { first = k.first; none_ = k.none_; some_ = k.some_; home = k.home });
-      },
-    )
-      where
-        now_true : (b : Behind) → IsTrue D b → IsTrue (with_seat i (next found) seat.hand c.words c.homes (record c { calls = calls_after step found c.calls })) b
-        now_true Other t = tt
-        now_true (HasClaimed n) t = t
-        now_true (HasPut n x) t = t
-        now_true (HasLock n f) t = t
-        now_true (HasTaken n f) t = t
+    settle b owns true_ homes ats = settles a' (next found) seat.hand c.words c.homes (waits_same step found) b owns true_ homes ats
+        (λ n inside j v at_v far x h. let k = stays n inside j v at_v far x h in record { first = k.first; none_ = k.none_; some_ = k.some_; home = k.home })
 
     -- where the step leaves every slot alone
     all_homes : ((n : ℕ) → Acts p q c ws ids step n → ⊥) → Homes has

@@ -1,5 +1,5 @@
 -- The programs of operations: whoever runs them does what it owes.
-use Rattle.std.proofs.Common.{◌≡◌, ◌≢◌, ℕ, zero, suc, ◌+◌, ◌-◌, ◌*◌, ◌/◌, ◌%◌, ◌<◌, ◌≤◌, ◌⊎◌, inl, inr, ◌==◌, ◌&&◌, Bool, true, false, cond, eqb, eqb-true, leb, nat_lt, nat_le, List, [], ◌∷◌, ◌++◌, Option, Some, None, length, drop, refl, sym, ap, ◌∙◌, subst, arith}
+use Rattle.std.proofs.Common.{◌≡◌, ℕ, zero, suc, ◌+◌, ◌-◌, ◌/◌, ◌%◌, ◌≤◌, inl, inr, ◌==◌, ◌&&◌, Bool, true, false, cond, eqb, eqb-true, leb, nat_lt, nat_le, List, [], Option, Some, length, drop, refl, sym, ap, ◌∙◌, subst, arith}
 use Rattle.sock_words.specs.Words.{socket_id_version, socket_id_slot, vref_version, vref_nref, at_word}
 use Rattle.sock_words.specs.declared.outcome.Outcome.TheVariants as outcomes
 use Rattle.sock_io.specs.declared.link.Put.{Put}
@@ -21,8 +21,8 @@ use Rattle.seat_programs.specs.Writings.{Holder, Writing, Puts, Waits, Empties, 
 use Rattle.seat_programs.specs.Sends.{freed as given_back, one_more, passed_telling, tell_drop, placed, dropped, put_answered, ready_answered, block, accept, write_link}
 use Rattle.seat_programs.specs.Attempts.{claims_from, heading_for, attempt, begin_call, claim_id, call, tried_again, retry_locked, retry, expire_outcome, expire, join}
 use Rattle.owed_calls.specs.Owing.{Free, Trying, Linked, Looking, Telling, Owing, with_duty, freed, with_known, KnowsOwner, CallMove, stays, tells, tells_late, links, looks}
-use Rattle.owed_calls.specs.Owes.{Further, IsFree, LeavesPosts, LeavesUnlocks, LeavesLocks, OwesOn}
-use Rattle.owed_calls.proofs.Posts.{id_back, not_equal, was_free, same_further, then_further, free_further, free_from, way, pick, post_with_goes, posted_goes, post_goes, decided_on}
+use Rattle.owed_calls.specs.Owes.{Further, LeavesUnlocks, LeavesLocks, OwesOn}
+use Rattle.owed_calls.proofs.Posts.{id_back, not_equal, was_free, same_further, then_further, free_further, way, pick, post_with_goes, posted_goes, post_goes, decided_on}
 
 -- a seat that owes nothing and may keep retries
 abbrev pub IsClear : Owing → Type 0

@@ -20,7 +20,8 @@ use Rattle.joint_runs.specs.sock_runs.proofs.Bounds.{law, lives_le}
 use Rattle.joint_runs.specs.sock_runs.proofs.Records.{next_stores}
 use Rattle.joint_runs.specs.sock_runs.proofs.LinkTicks.{RetriesGo}
 use Rattle.joint_runs.specs.sock_runs.proofs.Quiets.{run_seats}
-use Rattle.joint_runs.specs.sock_runs.proofs.ThroughSends.{through_end}
+use Rattle.joint_runs.specs.sock_runs.proofs.Through.{through_any_failed}
+use Rattle.joint_runs.specs.sock_runs.proofs.ThroughSends.{through_ending}
 use Rattle.joint_runs.specs.sock_runs.proofs.ThroughCalls.{through_next}
 use Rattle.joint_runs.specs.sock_runs.proofs.Recorded.{Recorded}
 use Rattle.joint_runs.specs.sock_runs.proofs.LinksRecorded.{Gives, gives_passes, gives_opens, gives_follow, Stored, Stores, Linked, run_linked}
@@ -36,8 +37,7 @@ use Rattle.owed_calls.proofs.OwingEnding.{owing_ending, owing_on}
 -- ## The ending
 
 gives_ending : (own : ℕ → ℕ → Type 0) (os : List ℕ) → Gives own (ending_of os)
-gives_ending own [] = tt
-gives_ending own (o ∷ os) = through_end (Gives own) (gives_passes own) (gives_opens own) o (ending_of os) (gives_ending own os)
+gives_ending own os = through_ending (Gives own) (gives_passes own).sends.plain (through_any_failed (Gives own) (gives_passes own) 1014) (gives_opens own) tt os
 
 -- a seat that is at rest begins it
 pub linked_ending : (p : Plan) (own : ℕ → ℕ → Type 0) (os : List ℕ) (c : Core) (vs : List View) → Linked p own c vs → ((seat : SeatState) → get_elem? c.seats 0 ≡ some seat → seat.program ≡ Rest) → Linked p own (with_seat 0 (ending_of os) [] c.words c.homes c) vs
@@ -109,44 +109,39 @@ module _ (p : Plan) (q : IdPlan) (narrow : q.slots ≤ 65536) (same : q.operatio
   abbrev pub v₆ : List View
   v₆ = views_along p c₅ v₅ m₄
 
-  -- the four parts, each from sound seats with what is recorded of them
+  -- a part, from sound seats with what is recorded of them
+  pub record Part (c : Core) (vs : List View) (ms : List Moment) : Type 0 where
+    pub sound : Sound p c vs
+    pub answered : AreAnswered p c ms
+    pub fits : AreFitting p c ms
+    pub recorded : Recorded p Q c vs
+
+  -- the four parts
   pub record Parts : Type 0 where
-    pub s₀ : Sound p c₀ v₀
-    pub s₁ : Sound p c₁ v₁
-    pub s₃ : Sound p c₃ v₂
-    pub s₅ : Sound p c₅ v₅
-    pub a₁ : AreAnswered p c₀ m₁
-    pub a₂ : AreAnswered p c₁ m₂
-    pub a₃ : AreAnswered p c₃ m₃
-    pub a₄ : AreAnswered p c₅ m₄
-    pub f₁ : AreFitting p c₀ m₁
-    pub f₂ : AreFitting p c₁ m₂
-    pub f₃ : AreFitting p c₃ m₃
-    pub f₄ : AreFitting p c₅ m₄
-    pub r₀ : Recorded p Q c₀ v₀
-    pub r₁ : Recorded p Q c₁ v₁
-    pub r₃ : Recorded p Q c₃ v₂
-    pub r₅ : Recorded p Q c₅ v₅
+    pub first : Part c₀ v₀ m₁
+    pub second : Part c₁ v₁ m₂
+    pub third : Part c₃ v₂ m₃
+    pub last : Part c₅ v₅ m₄
     pub readers : (n o : ℕ) → get_elem? os n ≡ some o → AtReader p calls (32 + n) n o c₀
     pub many : length c₀.seats ≡ 32 + length os
 
   module _ (parts : Parts) where
     -- the readers at each part
     pub readers₁ : (n o : ℕ) → get_elem? os n ≡ some o → AtReader p calls (32 + n) n o c₁
-    readers₁ n o at = run_reader p calls (32 + n) n o (in_os n o at) go c₀ v₀ m₁ parts.s₀ parts.a₁ parts.f₁ (parts.readers n o at)
+    readers₁ n o at = run_reader p calls (32 + n) n o (in_os n o at) go c₀ v₀ m₁ parts.first.sound parts.first.answered parts.first.fits (parts.readers n o at)
 
     pub readers₂ : (n o : ℕ) → get_elem? os n ≡ some o → AtReader p calls (32 + n) n o c₂
-    readers₂ n o at = run_reader p calls (32 + n) n o (in_os n o at) go c₁ v₁ m₂ parts.s₁ parts.a₂ parts.f₂ (readers₁ n o at)
+    readers₂ n o at = run_reader p calls (32 + n) n o (in_os n o at) go c₁ v₁ m₂ parts.second.sound parts.second.answered parts.second.fits (readers₁ n o at)
 
     pub readers₃ : (n o : ℕ) → get_elem? os n ≡ some o → AtReader p calls (32 + n) n o c₃
     readers₃ n o at seat there = ⊎_elim (λ a. absurd (let place = a.0 in let z : ⊥ = omega (arith, place) in z)) (λ a. readers₂ n o at seat a.1)
         (at_set c₂.seats 0 (32 + n) (record { program = next_step (resolved (waiting_at c₂.calls.waiting 0) (ending_of os)); hand = [] }) seat there)
 
     pub readers₅ : (n o : ℕ) → get_elem? os n ≡ some o → AtReader p calls (32 + n) n o c₅
-    readers₅ n o at = run_reader p calls (32 + n) n o (in_os n o at) go c₃ v₂ m₃ parts.s₃ parts.a₃ parts.f₃ (readers₃ n o at)
+    readers₅ n o at = run_reader p calls (32 + n) n o (in_os n o at) go c₃ v₂ m₃ parts.third.sound parts.third.answered parts.third.fits (readers₃ n o at)
 
     pub readers₆ : (n o : ℕ) → get_elem? os n ≡ some o → AtReader p calls (32 + n) n o c₆
-    readers₆ n o at = run_reader p calls (32 + n) n o (in_os n o at) go c₅ v₅ m₄ parts.s₅ parts.a₄ parts.f₄ (readers₅ n o at)
+    readers₆ n o at = run_reader p calls (32 + n) n o (in_os n o at) go c₅ v₅ m₄ parts.last.sound parts.last.answered parts.last.fits (readers₅ n o at)
 
     pub many₁ : length c₁.seats ≡ 32 + length os
     many₁ = run_seats p c₀ m₁ ∙ parts.many
@@ -165,8 +160,8 @@ module _ (p : Plan) (q : IdPlan) (narrow : q.slots ≤ 65536) (same : q.operatio
 
     -- each life that was given a link stands in the word of its `open`, or is stored there next
     pub linked_at_end : Linked p (OpensLink os) c₀ v₀ → ((seat : SeatState) → get_elem? c₂.seats 0 ≡ some seat → seat.program ≡ Rest) → Linked p (OpensLink os) c₆ v₆
-    linked_at_end l rests = run_linked p go (OpensLink os) Q c₅ v₅ m₄ parts.s₅ parts.a₄ parts.f₄ parts.r₅ (linked_on p (OpensLink os) (run p c₃ m₃) v₅ (run_linked p go (OpensLink os) Q c₃ v₂ m₃ parts.s₃ parts.a₃ parts.f₃ parts.r₃
-        (linked_ending p (OpensLink os) os c₂ v₂ (run_linked p go (OpensLink os) Q c₁ v₁ m₂ parts.s₁ parts.a₂ parts.f₂ parts.r₁ (run_linked p go (OpensLink os) Q c₀ v₀ m₁ parts.s₀ parts.a₁ parts.f₁ parts.r₀ l)) rests)))
+    linked_at_end l rests = run_linked p go (OpensLink os) Q c₅ v₅ m₄ parts.last.sound parts.last.answered parts.last.fits parts.last.recorded (linked_on p (OpensLink os) (run p c₃ m₃) v₅ (run_linked p go (OpensLink os) Q c₃ v₂ m₃ parts.third.sound parts.third.answered parts.third.fits parts.third.recorded
+        (linked_ending p (OpensLink os) os c₂ v₂ (run_linked p go (OpensLink os) Q c₁ v₁ m₂ parts.second.sound parts.second.answered parts.second.fits parts.second.recorded (run_linked p go (OpensLink os) Q c₀ v₀ m₁ parts.first.sound parts.first.answered parts.first.fits parts.first.recorded l)) rests)))
 
     module _ (slots : (k s : ℕ) → life_of p os c₆.words k ≡ Some s → socket_id_slot s < p.slots) (links : (k s : ℕ) → life_of p os c₆.words k ≡ Some s → k < 65535) where
       abbrev pub Reach : Core → List View → Type 0
@@ -174,30 +169,30 @@ module _ (p : Plan) (q : IdPlan) (narrow : q.slots ≤ 65536) (same : q.operatio
 
       module _ (reach : Reaches p q narrow same calls os c₆.words in_os slots links c₆ v₆) where
         pub reach₅ : Reach c₅ v₅
-        reach₅ = reach_back p q narrow same calls os c₆.words in_os slots links go Q c₅ v₅ m₄ parts.s₅ parts.a₄ parts.f₄ parts.r₅ reach
+        reach₅ = reach_back p q narrow same calls os c₆.words in_os slots links go Q c₅ v₅ m₄ parts.last.sound parts.last.answered parts.last.fits parts.last.recorded reach
 
         pub reach₄ : Reach (run p c₃ m₃) v₅
         reach₄ = record { stays = reach₅.stays; given = reach₅.given }
 
         pub reach₃ : Reach c₃ v₂
-        reach₃ = reach_back p q narrow same calls os c₆.words in_os slots links go Q c₃ v₂ m₃ parts.s₃ parts.a₃ parts.f₃ parts.r₃ reach₄
+        reach₃ = reach_back p q narrow same calls os c₆.words in_os slots links go Q c₃ v₂ m₃ parts.third.sound parts.third.answered parts.third.fits parts.third.recorded reach₄
 
         pub reach₂ : Reach c₂ v₂
         reach₂ = record { stays = reach₃.stays; given = reach₃.given }
 
         pub reach₁ : Reach c₁ v₁
-        reach₁ = reach_back p q narrow same calls os c₆.words in_os slots links go Q c₁ v₁ m₂ parts.s₁ parts.a₂ parts.f₂ parts.r₁ reach₂
+        reach₁ = reach_back p q narrow same calls os c₆.words in_os slots links go Q c₁ v₁ m₂ parts.second.sound parts.second.answered parts.second.fits parts.second.recorded reach₂
 
         -- what is owed at the end
         pub owed_at_end : AreSaying p q (life_of p os c₆.words) calls c₀ m₁ → AreSaying p q (life_of p os c₆.words) calls c₁ m₂ → AreSaying p q (life_of p os c₆.words) calls c₃ m₃ → AreSaying p q (life_of p os c₆.words) calls c₅ m₄
             → (seat : SeatState) → get_elem? c₂.seats 0 ≡ some seat → seat.program ≡ Rest → (us : List Owing) → SoundOwing q (life_of p os c₆.words) calls c₀ us → (us' : List Owing) × SoundOwing q (life_of p os c₆.words) calls c₆ us'
         owed_at_end says₁ says₂ says₃ says₄ seat at_seat rest us owing =
-            let o₁ = run_owing p q narrow same calls os c₆.words in_os slots links go Q c₀ v₀ m₁ parts.s₀ parts.a₁ parts.f₁ parts.r₀ parts.readers parts.many says₁ reach₁ us owing in
-            let o₂ = run_owing p q narrow same calls os c₆.words in_os slots links go Q c₁ v₁ m₂ parts.s₁ parts.a₂ parts.f₂ parts.r₁ readers₁ many₁ says₂ reach₂ o₁.0 o₁.1 in
+            let o₁ = run_owing p q narrow same calls os c₆.words in_os slots links go Q c₀ v₀ m₁ parts.first.sound parts.first.answered parts.first.fits parts.first.recorded parts.readers parts.many says₁ reach₁ us owing in
+            let o₂ = run_owing p q narrow same calls os c₆.words in_os slots links go Q c₁ v₁ m₂ parts.second.sound parts.second.answered parts.second.fits parts.second.recorded readers₁ many₁ says₂ reach₂ o₁.0 o₁.1 in
             let u = mark c₂.seats o₂.0 o₂.1.each seat at_seat in
             let o₃ = owing_ending q (life_of p os c₆.words) calls c₂ o₂.0 o₂.1 os seat u.0 at_seat u.1 rest in
-            let o₄ = run_owing p q narrow same calls os c₆.words in_os slots links go Q c₃ v₂ m₃ parts.s₃ parts.a₃ parts.f₃ parts.r₃ readers₃ many₃ says₃ reach₄ o₃.0 o₃.1 in
-            run_owing p q narrow same calls os c₆.words in_os slots links go Q c₅ v₅ m₄ parts.s₅ parts.a₄ parts.f₄ parts.r₅ readers₅ many₅ says₄ reach o₄.0 (owing_on q (life_of p os c₆.words) calls (run p c₃ m₃) o₄.0 o₄.1)
+            let o₄ = run_owing p q narrow same calls os c₆.words in_os slots links go Q c₃ v₂ m₃ parts.third.sound parts.third.answered parts.third.fits parts.third.recorded readers₃ many₃ says₃ reach₄ o₃.0 o₃.1 in
+            run_owing p q narrow same calls os c₆.words in_os slots links go Q c₅ v₅ m₄ parts.last.sound parts.last.answered parts.last.fits parts.last.recorded readers₅ many₅ says₄ reach o₄.0 (owing_on q (life_of p os c₆.words) calls (run p c₃ m₃) o₄.0 o₄.1)
           where
             mark : (seats : List SeatState) (us : List Owing) → length us ≡ length seats → (seat : SeatState) → get_elem? seats 0 ≡ some seat → (u : Owing) × (get_elem? us 0 ≡ some u)
             mark [] us e seat at = absurd (some-ne-none seat (sym at))

@@ -1,14 +1,13 @@
 -- Over every run the word of a link's `open` names a life that was given this link.
 use Rattle.std.proofs.Common.{◌≡◌, ◌≢◌, ℕ, zero, suc, ◌+◌, ◌<◌, ◌⊎◌, inl, inr, ⊎_elim, ◌==◌, List, [], ◌∷◌, ◌++◌, length, get_or, set, get_or-set_other, get_or-set_same, refl, sym, ap, ◌∙◌, subst, arith}
 use Rattle.std.specs.Prelude as std
-use Rattle.std.specs.Prelude.{None, Some}
 use Rattle.std.specs.List.{AllByRecursion}
 use mathlib.Core.Logic.{dite}
 use mathlib.Core.Option.{Option, some, none, some-injective, some-ne-none}
 use native.Mathlib.Decide.{ℕ_discrete}
 use lib.ListN.{get_elem?}
 use Rattle.atomic_table.proofs.Lists.{at_set}
-use Rattle.sock_words.specs.Words.{socket_id, socket_id_slot, vref_version}
+use Rattle.sock_words.specs.Words.{socket_id, vref_version}
 use Rattle.sock_words.specs.declared.plain.Plan.{Plan}
 use Rattle.sock_model.specs.declared.chain.Right.{Right}
 use Rattle.sock_model.specs.declared.home.Home.{Home}
@@ -24,13 +23,11 @@ use Rattle.joint_runs.specs.slot_steps.proofs.Sums.{about-here}
 use Rattle.joint_runs.specs.slot_steps.proofs.Numbers.{pair-same}
 use Rattle.joint_runs.specs.sock_steps.proofs.Places.{counts, own_count}
 use Rattle.joint_runs.specs.sock_steps.proofs.Quiet.{either_way}
-use Rattle.seat_programs.specs.declared.task.Op.{Op}
-use Rattle.seat_programs.specs.declared.task.Op.TheVariants as ops
 use Rattle.seat_programs.specs.declared.task.Task.{Task}
 use Rattle.seat_programs.specs.declared.task.Sizes.{Sizes}
 use Rattle.seat_programs.specs.Calls.{Call, CreateLife, StoreOpen}
 use Rattle.seat_programs.specs.Programs.{Program, Do, Rest, NO_SOCKET, open_from, make_socket}
-use Rattle.seat_programs.specs.Clients.{HeldLife, held_under, without_name, give_back, drop_of, operation, client_from, ending_of}
+use Rattle.seat_programs.specs.Clients.{HeldLife, operation, client_from, ending_of}
 use Rattle.seat_programs.specs.Readers.{reader}
 use Rattle.seat_programs.specs.Cores.{Calls, Core, SeatState, word_of, word_after, found_at, words_after, homes_after, hand_after, resolved, next_step, waiting_at, with_seat, stepped}
 use Rattle.seat_programs.specs.Ticks.{Moment, ticked, run, IsAnswered, AreAnswered}
@@ -45,10 +42,11 @@ use Rattle.joint_runs.specs.sock_runs.proofs.LinksStay.{IsGiven}
 use Rattle.joint_runs.specs.sock_runs.proofs.Records.{stores, opens_same}
 use Rattle.joint_runs.specs.sock_runs.proofs.Opening.{mapped, appended}
 use Rattle.joint_runs.specs.sock_runs.proofs.LinksOpening.{OwnsLink}
-use Rattle.joint_runs.specs.sock_runs.proofs.Through.{Passes, PassesOpens, Follows, comes_follows, through_release, through_fail, through_hold, through_drop, at_calls_passes, at_calls_follow}
+use Rattle.joint_runs.specs.sock_runs.proofs.Through.{Passes, PassesOpens, Follows, any_end, comes_follows, through_any_failed, at_calls_passes, at_calls_follow}
 use Rattle.joint_runs.specs.sock_runs.proofs.AtCalls.{AtCalls, every_exit}
-use Rattle.joint_runs.specs.sock_runs.proofs.ThroughSends.{through_send, through_end}
-use Rattle.joint_runs.specs.sock_runs.proofs.ThroughCalls.{through_call, through_expire, through_join, through_reader, through_first, through_next}
+use Rattle.joint_runs.specs.sock_runs.proofs.ThroughSends.{through_ending}
+use Rattle.joint_runs.specs.sock_runs.proofs.ThroughCalls.{through_reader, through_first, through_next}
+use Rattle.joint_runs.specs.sock_runs.proofs.ThroughClients.{through_back, through_any}
 use Rattle.joint_runs.specs.sock_runs.proofs.Cases.{ComesNext, with_rights, tick_keeps_marks}
 use Rattle.joint_runs.specs.sock_runs.proofs.Rounds.{begins_round}
 use Rattle.joint_runs.specs.sock_runs.proofs.Passes.{goes_round}
@@ -111,31 +109,15 @@ module _ (own : ℕ → ℕ → Type 0) where
   names_open (suc more) i o name k next mine after = λ found. either_way (found == 0) (make_socket o name k i next) (open_from more (i + 1) o name k next) (Names own)
       (λ _ _ _ word. (tt, (mine, refl, λ _ _. after))) (names_open more (i + 1) o name k next mine after)
 
-  names_back : (held : List HeldLife) → G (give_back held)
-  names_back [] = tt
-  names_back (h ∷ hs) = through_release G names_passes (socket_id_slot h.id) (λ _. give_back hs) (λ _. names_back hs)
-
-  names_drop : (o : ℕ) (id : std.Option ℕ) (next : Program) → G next → G (drop_of o id next)
-  names_drop o None next after = after
-  names_drop o (Some id) next after = through_drop G names_passes o id next after
-
-  names_operation : (sizes : Sizes) (held : List HeldLife) (o : ℕ) (next : List HeldLife → Program) (op : Op) → OwnsLink own o op → ((h : List HeldLife) → G (next h)) → G (operation sizes held o next op)
-  names_operation sizes held o next (ops.Open name k) mine after = names_open sizes.slots 0 o name k (next held) mine (after held)
-  names_operation sizes held o next (ops.Send name bytes) mine after = through_send G names_passes sizes.requests o name bytes (next held) (after held)
-  names_operation sizes held o next (ops.Call asked) mine after = through_call G names_passes sizes.requests sizes.ids asked (next held) (after held)
-  names_operation sizes held o next (ops.Expire t) mine after = through_expire G names_passes o t (next held) (after held)
-  names_operation sizes held o next (ops.Join t) mine after = through_join G names_passes o t (next held) (after held)
-  names_operation sizes held o next (ops.Hold name) mine after = through_hold G names_passes o name (λ id. next (held ++ (record { name = name; id = id }) ∷ [])) (next held) (λ id. after (held ++ (record { name = name; id = id }) ∷ [])) (after held)
-  names_operation sizes held o next (ops.Drop name) mine after = names_drop o (held_under name held) (next (without_name name held)) (after (without_name name held))
-  names_operation sizes held o next (ops.Fail name code) mine after = through_fail G names_passes o name code (next held) (after held)
-
   names_client : (sizes : Sizes) (ts : List Task) (held : List HeldLife) → AllByRecursion (λ (t : Task). OwnsLink own t.number t.op) ts → G (client_from sizes held ts)
-  names_client sizes [] held mine = names_back held
-  names_client sizes (t ∷ ts) held mine = names_operation sizes held t.number (λ h. client_from sizes h ts) t.op mine.0 (λ h. names_client sizes ts h mine.1)
+  names_client sizes [] held mine = through_back G names_passes.sends.plain tt held
+  names_client sizes (t ∷ ts) held mine = let after : (h : List HeldLife) → G (client_from sizes h ts) = λ h. names_client sizes ts h mine.1 in
+      through_any G names_passes sizes held t.number (λ h. client_from sizes h ts) t.op after
+      (λ name k e. names_open sizes.slots 0 t.number name k (client_from sizes held ts) (subst (OwnsLink own t.number) e mine.0) (after held))
 
   names_readers : (calls os : List ℕ) (k i : ℕ) (x : Program) → get_elem? (readers_from calls k os) i ≡ some x → G x
   names_readers calls [] k i x e = absurd (some-ne-none x (sym e))
-  names_readers calls (o ∷ os) k zero x e = subst G (some-injective (reader calls k o) x e) (through_reader G names_passes names_opens tt calls k o)
+  names_readers calls (o ∷ os) k zero x e = subst G (some-injective (reader calls k o) x e) (through_reader any_end G names_passes.reads (λ how e. through_any_failed G names_passes how.code) tt names_opens calls k o)
   names_readers calls (o ∷ os) k (suc i) x e = names_readers calls os (k + 1) i x e
 
   pub names_others : (n : ℕ) (calls os : List ℕ) (k i : ℕ) (x : Program) → get_elem? (std.replicate n Rest ++ readers_from calls k os) i ≡ some x → G x
@@ -144,8 +126,7 @@ module _ (own : ℕ → ℕ → Type 0) where
   names_others (suc n) calls os k (suc i) x e = names_others n calls os k i x e
 
   names_ending : (os : List ℕ) → G (ending_of os)
-  names_ending [] = tt
-  names_ending (o ∷ os) = through_end G names_passes names_opens o (ending_of os) (names_ending os)
+  names_ending os = through_ending G names_passes.sends.plain (through_any_failed G names_passes 1014) names_opens tt os
 
 -- ## All seats
 

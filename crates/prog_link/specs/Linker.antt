@@ -1,12 +1,11 @@
 -- A linker of links of any kind, by what callers see of it.
 use Rattle.std.specs.Prelude.{ℕ, ◌≡◌, ◌≢◌, ◌+◌, ◌&&◌, if◌then◌else◌, Bool, true, false, List, [], ◌∷◌, Option, None, Some, IfSome}
-use Rattle.brpc_model.specs.Link.{LinkEnd}
 use Rattle.sock_io.specs.declared.link.LinkSpec.{LinkSpec}
 use Rattle.sock_io.specs.declared.link.Mode.{Mode}
 use Rattle.sock_io.specs.declared.link.Mode.TheVariants as mode
 use Rattle.sock_io.specs.declared.shape.Shape.{Shape}
 use Rattle.sock_io.specs.Linker.{shape_asked}
-use Rattle.sock_io.specs.Link.{ConnectionEnd, IsFresh, IsNewOffer}
+use Rattle.sock_io.specs.Link.{IsFresh, IsNewOffer}
 use Rattle.sock_io.specs.Meeting.{AreEnds, IsAskedPeer}
 use Rattle.sock_io.specs.Peer.{IsNewPeer}
 use Rattle.net_link.specs.declared.tcp_half.TcpHalf.TheVariants.{Opened, Accepted}
@@ -16,14 +15,6 @@ use Rattle.prog_link.specs.declared.prog_in.ProgIn.{ProgIn}
 use Rattle.prog_link.specs.declared.prog_in.ProgIn.TheVariants as inn
 use Rattle.prog_link.specs.declared.prog_peer.ProgPeer.{ProgPeer}
 use Rattle.prog_link.specs.Halves.{prog_in, prog_out, prog_peer}
-
--- what was asked of each link that was opened, how many connections were accepted, those given back, and the count of faults
-pub record ProgLinkerState : Type 0 where
-  pub asked : List LinkSpec
-  pub accepted : ℕ
-  pub back : List LinkEnd
-  pub done : List ConnectionEnd
-  pub faults : ℕ
 
 -- ## Kinds of links
 

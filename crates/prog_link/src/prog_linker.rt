@@ -1,6 +1,6 @@
 ghost use Rattle.std.specs.Prelude.{◌≡◌, ◌≢◌, ◌+◌, ◌≤◌, ◌<◌, ◌∷◌, ◌++◌, [], true, false, length, IfOk, IsErrOf, OnErr};
-ghost use Rattle.sock_io.specs.Causes.{Rose};
-ghost use Rattle.sock_io.specs.Link.{connection_of, end_of};
+ghost use Rattle.sock_io.specs.Causes.{OpenCause, Rose};
+ghost use Rattle.sock_io.specs.Link.{MayOpen, connection_of, end_of};
 ghost use Rattle.prog_link.specs.Halves.{prog_in, prog_out};
 ghost use Rattle.prog_link.specs.Linker.{are_kind, IsOpened, InMemory, OverRings, OverTcp, kind_asked, tells_in_mode};
 
@@ -12,7 +12,8 @@ use loop_link::LoopLinker;
 use net_link::TcpLinker;
 use ring_link::open_ring;
 use sock_io::{
-    Ends, LinkSpec, Linker, Mode, NoMemory, NotedLinks, OpenFault, Out, Shape, Shaped, risen,
+    Ends, LinkSpec, Linker, LinkerTells, Mode, NoMemory, NotedLinks, OpenFault, Out, Shape, Shaped,
+    risen,
 };
 use std::alloc::Global;
 use std::marker::Model;
@@ -45,11 +46,12 @@ pub struct ProgLinker<N: Net<Stream = TcpStream, Listener = TcpListener> + Drop>
 
 impl<N: Net<Stream = TcpStream, Listener = TcpListener> + Drop> Model for ProgLinker<N> {
     ghost use Rattle.std.specs.Prelude.{◌≡◌, ◌+◌, [], length};
-    ghost use Rattle.prog_link.specs.Linker.{ProgLinkerState, InMemory, OverRings, OverTcp, count_kind};
+    ghost use Rattle.sock_io.specs.Link.{LinkerState};
+    ghost use Rattle.prog_link.specs.Linker.{InMemory, OverRings, OverTcp, count_kind};
 
-    ghost Value = { ProgLinkerState };
+    ghost Value = { LinkerState };
 
-    ghost view = { λ l. record { asked = l.notes.asked; accepted = l.streams.accepted; back = l.notes.back; done = l.notes.done; faults = l.faults } };
+    ghost view = { λ l. record { asked = l.notes.asked; accepted = l.streams.accepted; back = l.notes.back; done = l.notes.done; faults = l.faults; always_ready = true } };
 
     ghost invariant = { λ l. (length l.notes.asked ≡ l.in_memory + l.over_rings + l.over_tcp) × (length l.loops.asked ≡ l.in_memory) × (length l.streams.asked ≡ l.over_tcp) × (l.loops.fail_opens ≡ []) × (count_kind InMemory l.notes.asked ≡ l.in_memory) × (count_kind OverRings l.notes.asked ≡ l.over_rings) × (count_kind OverTcp l.notes.asked ≡ l.over_tcp) };
 }
@@ -58,7 +60,7 @@ impl<N: Net<Stream = TcpStream, Listener = TcpListener> + Drop> ProgLinker<N> {
     /// A linker that opened and accepted nothing yet, over this network. It takes no memory.
     #[tactic(auto, using(crate::proofs::Alike::none_counted))]
     pub fn new(net: N, alloc: Global) -> Self
-        ensures { result ≡ record { asked = []; accepted = 0; back = []; done = []; faults = 0 } }
+        ensures { result ≡ record { asked = []; accepted = 0; back = []; done = []; faults = 0; always_ready = true } }
     {
         ProgLinker {
             alloc,
@@ -75,8 +77,7 @@ impl<N: Net<Stream = TcpStream, Listener = TcpListener> + Drop> ProgLinker<N> {
 
     /// Opens a link in memory, where all others are.
     fn open_loop(&mut self, spec: &LinkSpec) -> Result<Link, OpenFault>
-        requires piece { 0 < spec.now.piece }
-        requires few { length self.old.asked < 256 }
+        requires asked { MayOpen self.old.asked spec.now }
         requires mode { kind_asked spec.now.mode ≡ InMemory }
         ensures opened { IfOk result (λ ends. IsOpened (length self.old.asked) spec.now ends.out ends.peer ends.inn) }
         ensures linker { IfOk result (λ _. self.new ≡ record self.old { asked = self.old.asked ++ spec.now ∷ [] }) }
@@ -99,8 +100,7 @@ impl<N: Net<Stream = TcpStream, Listener = TcpListener> + Drop> ProgLinker<N> {
 
     /// Opens a link over rings, where all others are.
     fn open_rings(&mut self, spec: &LinkSpec) -> Result<Link, OpenFault>
-        requires piece { 0 < spec.now.piece }
-        requires few { length self.old.asked < 256 }
+        requires asked { MayOpen self.old.asked spec.now }
         requires mode { kind_asked spec.now.mode ≡ OverRings }
         ensures opened { IfOk result (λ ends. IsOpened (length self.old.asked) spec.now ends.out ends.peer ends.inn) }
         ensures linker { IfOk result (λ _. self.new ≡ record self.old { asked = self.old.asked ++ spec.now ∷ [] }) }
@@ -130,14 +130,17 @@ impl<N: Net<Stream = TcpStream, Listener = TcpListener> + Drop> ProgLinker<N> {
                     peer: ProgPeer::Ring(peer),
                 })
             }
-            Err(_) => Err(OpenFault::NoMemory),
+            Err(_) => {
+                drop(inn);
+                drop(peer);
+                Err(OpenFault::NoMemory)
+            }
         }
     }
 
     /// Opens a link over TCP, where all others are.
     fn open_tcp(&mut self, spec: &LinkSpec) -> Result<Link, OpenFault>
-        requires piece { 0 < spec.now.piece }
-        requires few { length self.old.asked < 256 }
+        requires asked { MayOpen self.old.asked spec.now }
         requires mode { kind_asked spec.now.mode ≡ OverTcp }
         ensures opened { IfOk result (λ ends. IsOpened (length self.old.asked) spec.now ends.out ends.peer ends.inn) }
         ensures linker { IfOk result (λ _. self.new ≡ record self.old { asked = self.old.asked ++ spec.now ∷ [] }) }
@@ -171,6 +174,10 @@ impl<N: Net<Stream = TcpStream, Listener = TcpListener> + Drop> ProgLinker<N> {
     }
 }
 
+impl<N: Net<Stream = TcpStream, Listener = TcpListener> + Drop> LinkerTells for ProgLinker<N> {
+    ghost state = { λ l. record l { always_ready = true } };
+}
+
 impl<N: Net<Stream = TcpStream, Listener = TcpListener> + Drop> Linker for ProgLinker<N> {
     type O = ProgOut;
 
@@ -178,31 +185,16 @@ impl<N: Net<Stream = TcpStream, Listener = TcpListener> + Drop> Linker for ProgL
 
     type P = ProgPeer;
 
-    ghost asked = { λ l. l.asked };
-
-    ghost accepted = { λ l. l.accepted };
-
-    ghost back = { λ l. l.back };
-
-    ghost done = { λ l. l.done };
-
-    ghost faults = { λ l. l.faults };
-
-    ghost always_ready = { λ _. true };
-
     ghost tells_in = { tells_in_mode };
 
     fn open(&mut self, spec: &LinkSpec) -> Result<Link, OpenFault>
-        requires piece { 0 < spec.now.piece }
-        requires few { length self.old.asked < 256 }
+        requires { MayOpen self.old.asked spec.now }
         ensures opened { IfOk result (λ ends. IsOpened (length self.old.asked) spec.now ends.out ends.peer ends.inn) }
         ensures linker { IfOk result (λ _. self.new ≡ record self.old { asked = self.old.asked ++ spec.now ∷ [] }) }
         ensures refused { OnErr result (self.new ≡ record self.old { faults = self.new.faults }) }
         ensures others { are_kind (kind_asked spec.now.mode) self.old.asked ≡ false → IsErrOf result OpenFault.Failed }
         ensures only_others { IsErrOf result OpenFault.Failed → kind_asked spec.now.mode ≢ OverTcp → are_kind (kind_asked spec.now.mode) self.old.asked ≡ false }
-        ensures later { self.old.faults ≤ self.new.faults }
-        ensures failed { IsErrOf result OpenFault.Failed → Rose self.old.faults self.new.faults }
-        ensures kept { (¬ IsErrOf result OpenFault.Failed) → self.new.faults ≡ self.old.faults }
+        ensures cause { OpenCause self.old.faults self.new.faults result }
     {
         let opened = match spec.mode {
             Mode::Loop => self.open_loop(spec),
@@ -247,14 +239,12 @@ impl<N: Net<Stream = TcpStream, Listener = TcpListener> + Drop> Linker for ProgL
     }
 
     fn done(&mut self, out: ProgOut, inn: ProgIn)
-        requires { length self.old.done < self.old.accepted }
         ensures { self.new ≡ record self.old { done = self.old.done ++ connection_of (prog_out out) (prog_in inn) ∷ [] } }
     {
         self.notes.done(out, inn);
     }
 
     fn back(&mut self, _link: u16, ends: Link)
-        requires { length self.old.back < length self.old.asked }
         ensures { self.new ≡ record self.old { back = self.old.back ++ end_of (prog_out ends.out) (prog_in ends.inn) ∷ [] } }
     {
         self.notes.back(ends);

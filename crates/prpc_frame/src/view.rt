@@ -64,9 +64,7 @@ impl MetaView<'_> {
 fn request_in(request: &Option<RequestMeta>) -> Option<RequestView<'_>>
     ensures { option_map request_viewed result ≡ option_map request_of request.now }
 {
-    let Some(request) = request else {
-        return None;
-    };
+    let request = request.as_ref()?;
     Some(RequestView {
         service: request.service.as_slice(),
         method: request.method.as_slice(),
@@ -78,9 +76,7 @@ fn request_in(request: &Option<RequestMeta>) -> Option<RequestView<'_>>
 fn response_in(response: &Option<ResponseMeta>) -> Option<ResponseView<'_>>
     ensures { option_map response_viewed result ≡ option_map response_of response.now }
 {
-    let Some(response) = response else {
-        return None;
-    };
+    let response = response.as_ref()?;
     Some(ResponseView {
         code: response.code,
         text: response.text.as_slice(),

@@ -56,36 +56,11 @@ module _ (point : ReadPoint) (asked : Asked) where
   goes_by : (x : Aside) → FindsWord (step_of asked x) → GoesByWord point → GoesBy point (Some (steps.Aside x))
   goes_by (asides.TakeCall i) h g = absurd h
   goes_by (asides.TakeBytes k n) h g = absurd h
-  goes_by (asides.ClaimId i) h g = g
-  goes_by (asides.PutCall i) h g = g
-  goes_by (asides.MakeId i range) h g = g
-  goes_by (asides.StoreCall o id) h g = g
-  goes_by (asides.LoadCall o) h g = g
-  goes_by (asides.StoreAt o w) h g = g
-  goes_by (asides.LoadAt o) h g = g
-  goes_by (asides.LoadIdWord i) h g = g
-  goes_by (asides.LockId i from) h g = g
-  goes_by (asides.PostId i from error) h g = g
-  goes_by (asides.UnlockId i from advance) h g = g
-  goes_by (asides.EndId i) h g = g
-  goes_by (asides.FreeId i) h g = g
+  goes_by _ h g = g
 
   takes_call : (x : Aside) (slot : ℕ) → Some (step_of asked x) ≡ Some (steps_aside.TakeCall slot) → TakesCall point → GoesBy point (Some (steps.Aside x))
   takes_call (asides.TakeCall i) slot e t = t
-  takes_call (asides.ClaimId i) slot e t = absurd (cc)
-  takes_call (asides.PutCall i) slot e t = absurd (cc)
-  takes_call (asides.MakeId i range) slot e t = absurd (cc)
-  takes_call (asides.StoreCall o id) slot e t = absurd (cc)
-  takes_call (asides.LoadCall o) slot e t = absurd (cc)
-  takes_call (asides.StoreAt o w) slot e t = absurd (cc)
-  takes_call (asides.LoadAt o) slot e t = absurd (cc)
-  takes_call (asides.LoadIdWord i) slot e t = absurd (cc)
-  takes_call (asides.LockId i from) slot e t = absurd (cc)
-  takes_call (asides.PostId i from error) slot e t = absurd (cc)
-  takes_call (asides.UnlockId i from advance) slot e t = absurd (cc)
-  takes_call (asides.EndId i) slot e t = absurd (cc)
-  takes_call (asides.FreeId i) slot e t = absurd (cc)
-  takes_call (asides.TakeBytes k n) slot e t = absurd (cc)
+  takes_call _ slot e t = absurd (cc)
 
 pub locks_by : (asked : Asked) (r : Reader) (l : Locker) (at : LockStep) (x : Aside) (k : Locking → Program) → Some (step_of asked x) ≡ aside_in (lock_program l k at) → GoesBy (points.Lock r l at) (Some (steps.Aside x))
 locks_by asked r l locks.Read x k e = goes_by (points.Lock r l locks.Read) asked x (subst FindsIn (sym e) tt) tt
@@ -122,30 +97,13 @@ module _ (point : ReadPoint) (asked : Asked) where
 
   takes_bytes : (x : Aside) (link n : ℕ) → Some (step_of asked x) ≡ Some (steps_aside.TakeBytes link n) → n ≡ room_at point → TakesBytes point → GoesBy point (Some (steps.Aside x))
   takes_bytes (asides.TakeBytes k m) link n e is t = let same : m ≡ n = cc in (t, same ∙ is)
-  takes_bytes (asides.TakeCall i) link n e is t = absurd (cc)
-  takes_bytes (asides.ClaimId i) link n e is t = absurd (cc)
-  takes_bytes (asides.PutCall i) link n e is t = absurd (cc)
-  takes_bytes (asides.MakeId i range) link n e is t = absurd (cc)
-  takes_bytes (asides.StoreCall o id) link n e is t = absurd (cc)
-  takes_bytes (asides.LoadCall o) link n e is t = absurd (cc)
-  takes_bytes (asides.StoreAt o w) link n e is t = absurd (cc)
-  takes_bytes (asides.LoadAt o) link n e is t = absurd (cc)
-  takes_bytes (asides.LoadIdWord i) link n e is t = absurd (cc)
-  takes_bytes (asides.LockId i from) link n e is t = absurd (cc)
-  takes_bytes (asides.PostId i from error) link n e is t = absurd (cc)
-  takes_bytes (asides.UnlockId i from advance) link n e is t = absurd (cc)
-  takes_bytes (asides.EndId i) link n e is t = absurd (cc)
-  takes_bytes (asides.FreeId i) link n e is t = absurd (cc)
+  takes_bytes _ link n e is t = absurd (cc)
 
   on_bytes : (step : ReadStep) (link n : ℕ) → Some (OfAside (steps_aside.TakeBytes link n)) ≡ Some (step_as asked step) → n ≡ room_at point → TakesBytes point → GoesBy point (Some step)
   on_bytes (steps.Call call) link n e is t = absurd (cc)
   on_bytes (steps.Aside x) link n e is t = let same : Some (step_of asked x) ≡ Some (steps_aside.TakeBytes link n) = cc in takes_bytes x link n same is t
 
 closes_by : (a : Context) (c : Closing) (at : CloseStep) → FirstFindsIn (first_in (close_program a c at))
-closes_by a c closes.AddRef = tt
-closes_by a c closes.SetOdd = tt
-closes_by a c closes.StoreCode = tt
-closes_by a c closes.ReleaseFirst = tt
 closes_by a c (closes.Release releases.SubRef) = tt
 closes_by a c (closes.Release (releases.Recycle from)) = tt
 closes_by a c (closes.Release (releases.LoadLink w)) = tt
@@ -153,6 +111,7 @@ closes_by a c (closes.Release (releases.TakeLink w k)) = tt
 closes_by a c (closes.Release (releases.FinishLink w k)) = tt
 closes_by a c (closes.Release (releases.PutLink w k)) = tt
 closes_by a c (closes.Release releases.FreeSlot) = tt
+closes_by a c _ = tt
 
 either : (b : Bool) (p q : Program) → FirstFindsIn (first_of p) → FirstFindsIn (first_of q) → FirstFindsIn (first_of (if b then p else q))
 either true p q h k = h

@@ -17,19 +17,11 @@ module _ (a : Context) (r : Reader) where
   pub took_bytes : (total : ByteCount) (n : ℕ) (taking : Taking) → count_of total ≡ count_of r.total + n → IsTaken (takens.Bytes n) taking →
       next_program (with_taking taking a) (nexts.Frames (record r { total = total })) ≡ after_taking (point_program a (points.Take r)) taking
   took_bytes total n (Bytes bytes) e h = takes_bytes a r total bytes (e ∙ ap (λ m. count_of r.total + m) h)
-  took_bytes total n Nothing e h = absurd h
-  took_bytes total n NoMore e h = absurd h
-  took_bytes total n AtEnd e h = absurd h
-  took_bytes total n Closed e h = absurd h
-  took_bytes total n Broken e h = absurd h
+  took_bytes total n _ e h = absurd h
 
   pub took_nothing : (taking : Taking) → IsTaken takens.Nothing taking → next_program (with_taking taking a) (nexts.Point (points.Take r)) ≡ after_taking (point_program a (points.Take r)) taking
-  took_nothing (Bytes bytes) h = absurd h
   took_nothing Nothing h = refl
-  took_nothing NoMore h = absurd h
-  took_nothing AtEnd h = absurd h
-  took_nothing Closed h = absurd h
-  took_nothing Broken h = absurd h
+  took_nothing _ h = absurd h
 
   -- the reading has ended
   pub took_last : (taking : Taking) → IsTaken takens.Over taking →
@@ -42,12 +34,8 @@ module _ (a : Context) (r : Reader) where
   took_last Broken h = refl
 
   pub took_close : (taking : Taking) → IsTaken takens.Closed taking → next_program (with_taking taking a) (nexts.Posts (record { reader = r; fault = false; next = 0 })) ≡ after_taking (point_program a (points.Take r)) taking
-  took_close (Bytes bytes) h = absurd h
-  took_close Nothing h = absurd h
-  took_close NoMore h = absurd h
-  took_close AtEnd h = absurd h
   took_close Closed h = refl
-  took_close Broken h = absurd h
+  took_close _ h = absurd h
 
 -- ## Behind a frame fault
 
@@ -64,11 +52,7 @@ module _ (a : Context) (link : ℕ) (before : ByteCount) where
       let f : count_of total ≡ count_of before + length bytes = e ∙ ap (λ m. count_of before + m) h in
       let g : nat_lt (count_of before + length bytes) LIMIT ≡ true = sym (ap (λ m. nat_lt m LIMIT) f) ∙ few in
       rw (g, f) refl
-  threw_bytes total n Nothing e few h = absurd h
-  threw_bytes total n NoMore e few h = absurd h
-  threw_bytes total n AtEnd e few h = absurd h
-  threw_bytes total n Closed e few h = absurd h
-  threw_bytes total n Broken e few h = absurd h
+  threw_bytes total n _ e few h = absurd h
 
   pub threw_all : (total : ByteCount) (n : ℕ) (taking : Taking) → count_of total ≡ count_of before + n → nat_lt (count_of total) LIMIT ≡ false → IsTaken (takens.Bytes n) taking →
       point_program a points.Rest ≡ after_taking (point_program a (points.Discard link before)) taking
@@ -76,19 +60,11 @@ module _ (a : Context) (link : ℕ) (before : ByteCount) where
       let f : count_of total ≡ count_of before + length bytes = e ∙ ap (λ m. count_of before + m) h in
       let g : nat_lt (count_of before + length bytes) LIMIT ≡ false = sym (ap (λ m. nat_lt m LIMIT) f) ∙ many in
       rw g refl
-  threw_all total n Nothing e many h = absurd h
-  threw_all total n NoMore e many h = absurd h
-  threw_all total n AtEnd e many h = absurd h
-  threw_all total n Closed e many h = absurd h
-  threw_all total n Broken e many h = absurd h
+  threw_all total n _ e many h = absurd h
 
   pub threw_nothing : (taking : Taking) → IsTaken takens.Nothing taking → point_program a (points.Discard link before) ≡ after_taking (point_program a (points.Discard link before)) taking
-  threw_nothing (Bytes bytes) h = absurd h
   threw_nothing Nothing h = refl
-  threw_nothing NoMore h = absurd h
-  threw_nothing AtEnd h = absurd h
-  threw_nothing Closed h = absurd h
-  threw_nothing Broken h = absurd h
+  threw_nothing _ h = absurd h
 
   pub threw_last : (taken : Taken) (taking : Taking) → IsOver taken → IsTaken taken taking → point_program a points.Rest ≡ after_taking (point_program a (points.Discard link before)) taking
   threw_last takens.Over NoMore o h = refl

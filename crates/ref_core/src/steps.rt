@@ -87,19 +87,8 @@ pub fn recycle(found: u64, from: Vref) -> Step
     ensures lost { found ≢ from.0 → (result.next ≡ found) × (result.won ≡ false) }
     ensures keeps { (i : ℕ) → KeepsSlotRule (MayRecycle i from.0) (ref_index i) found result.next (recycled i from.0 found) }
 {
-    if found == from.word() {
-        Step {
-            found,
-            next: found + ODD,
-            won: true,
-        }
-    } else {
-        Step {
-            found,
-            next: found,
-            won: false,
-        }
-    }
+    let old = from.word();
+    Step::exchanged(found, old, old + ODD)
 }
 
 /// A7, store of 0 into a slot's tag: the slot may be claimed again.

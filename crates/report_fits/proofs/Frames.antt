@@ -7,7 +7,7 @@ use Rattle.brpc_model.specs.Spelling.{number_field, bytes_field, request_bytes, 
 use Rattle.brpc_model.specs.Frame.{magic, framed}
 use Rattle.seat_programs.specs.sock_message.specs.Asked.{Asked, meta_of, frame_of}
 
-varint_short : (most n : ℕ) → length (varint_up_to most n) ≤ most
+pub varint_short : (most n : ℕ) → length (varint_up_to most n) ≤ most
 varint_short zero n = omega arith
 varint_short (suc most) n = by_size (nat_lt n 128) (varint_short most (n / 128))
   where

@@ -7,7 +7,7 @@ use Rattle.brpc_model.specs.Operations.{Operation, operations, link_names, attem
 use Rattle.brpc_model.specs.Order.{EachBefore}
 use Rattle.seat_programs.specs.Runs.{from_to}
 use Rattle.seat_programs.specs.ToldCalls.{Accepted, Order, StandsAt, all_accepted, label}
-use Rattle.report_fits.proofs.Lists.{some_is, all_from, all_at, before_from}
+use Rattle.report_fits.proofs.Lists.{Has, some_is, all_from, all_at, before_from}
 use Rattle.report_fits.proofs.Flat.{flat_has, flat_before, flat_length, from_to_at, from_to_length}
 use Rattle.report_fits.proofs.Counting.{tally, but, but_other, one_less, tally_all}
 use Rattle.report_fits.proofs.Numbering.{are_from}
@@ -54,6 +54,28 @@ module _ (links : ℕ) (orders : ℕ → Order) (apart : (k l i j : ℕ) (a b : 
       let no : ⊥ = omega (arith, less, v.0, w.0, z) in no
       ))
 
+-- messages of attempts of the script's operations, each with a label of its own, of which none is of this attempt
+module _ (script : List Item) (small : AllByRecursion (λ (op : Operation). attempts_of op.item ≤ 8) (operations script)) (all : List Accepted) (differ : EachBefore Differ all)
+    (labels : (a : Accepted) → Has all a → (a.attempt < 8) × (label a < 8 * length (operations script)) × (is_attempt (operations script) (label a) ≡ true)) where
+  -- are fewer than there are attempts
+  pub lacking : (o n : ℕ) (q : Operation) → slice_get (operations script) o ≡ Some q → n < attempts_of q.item → ((a : Accepted) → Has all a → a.operation ≡ o → a.attempt ≡ n → ⊥) → length all < attempts script
+  lacking o n q there counts out =
+      let few_ = all_at (λ (op : Operation). attempts_of op.item ≤ 8) (operations script) q small (o, there) in
+      let eight : n < 8 = omega (arith, counts, few_) in
+      let test = is_attempt (operations script) in
+      let most = 8 * length (operations script) in
+      let place = 8 * o + n in
+      let low : place < most = omega (arith, slice_get_within (operations script) o q there, eight) in
+      let bound : length all ≤ tally (but test place) most = few (but test place) most all differ (λ a h. (let l = labels a h in (l.1, but_other test place (label a) (other a h eight) ∙ l.2))) in
+      omega (arith, bound, one_less test place most low (attempt_there (operations script) o n q there counts eight), attempts_few script small)
+    where
+      other : (a : Accepted) → Has all a → n < 8 → label a ≢ 8 * o + n
+      other a h low same =
+          let w = labels a h in
+          let operation : a.operation ≡ o = omega (arith, same, low, w.0) in
+          let attempt : a.attempt ≡ n = omega (arith, same, low, w.0) in
+          out a h operation attempt
+
 -- each of them is an attempt of its operation
 module _ (script : List Item) (range : AllByRecursion InRange script) (orders : ℕ → Order)
     (apart : (k l i j : ℕ) (a b : Accepted) → k < length (link_names script) → l < length (link_names script) → StandsAt orders k i a → StandsAt orders l j b → label a ≡ label b → (k ≡ l) × (i ≡ j))
@@ -85,30 +107,15 @@ module _ (script : List Item) (range : AllByRecursion InRange script) (orders : 
   -- an attempt that no link accepted is one more than those that were accepted
   pub fewer : (o n : ℕ) (q : Operation) → slice_get Ops o ≡ Some q → n < attempts_of q.item → ((k i : ℕ) (a : Accepted) → k < links_of → StandsAt orders k i a → a.operation ≡ o → a.attempt ≡ n → ⊥) → all_accepted links_of orders < attempts script
   fewer o n q there counts out =
-      let few_ = all_at (λ (op : Operation). attempts_of op.item ≤ 8) Ops q small (o, there) in
-      let eight : n < 8 = omega (arith, counts, few_) in
-      let test = is_attempt Ops in
-      let place = 8 * o + n in
-      let low : place < most = omega (arith, slice_get_within Ops o q there, eight) in
-      let all = all_of links_of orders apart in
-      let bound : length all ≤ tally (but test place) most = few (but test place) most all (all_differ links_of orders apart) (λ a h. (
-      let w = flat_has (accepted_of links_of orders apart) (from_to 0 links_of) a h in
-      let k_low = (link_low links_of w.0 w.2 w.3).1 in
-      let l = labels_there w.2 w.1 a k_low w.4 in
-      (l.2, but_other test place (label a) (other w.2 w.1 a eight k_low w.4) ∙ l.3)
-      )) in
-      let as_many : all_accepted links_of orders ≡ length all = sym (flat_length (accepted_of links_of orders apart) (from_to 0 links_of)) in
-      omega (
-        arith,
-        bound,
-        as_many,
-        one_less test place most low (attempt_there Ops o n q there counts eight),
-        attempts_few script small,
-      )
+      let as_many : all_accepted links_of orders ≡ length (all_of links_of orders apart) = sym (flat_length (accepted_of links_of orders apart) (from_to 0 links_of)) in
+      omega (arith, as_many, lacking script small (all_of links_of orders apart) (all_differ links_of orders apart) labels o n q there counts others)
     where
-      other : (k i : ℕ) (a : Accepted) → n < 8 → k < links_of → StandsAt orders k i a → label a ≢ 8 * o + n
-      other k i a low k_low at same =
-          let w = labels_there k i a k_low at in
-          let operation : a.operation ≡ o = omega (arith, same, low, w.0) in
-          let attempt : a.attempt ≡ n = omega (arith, same, low, w.0) in
-          out k i a k_low at operation attempt
+      -- where the message stands
+      stands : (a : Accepted) → Has (all_of links_of orders apart) a → (k : ℕ) × (i : ℕ) × (k < links_of) × StandsAt orders k i a
+      stands a h = let w = flat_has (accepted_of links_of orders apart) (from_to 0 links_of) a h in (w.2, w.1, (link_low links_of w.0 w.2 w.3).1, w.4)
+
+      labels : (a : Accepted) → Has (all_of links_of orders apart) a → (a.attempt < 8) × (label a < most) × (is_attempt Ops (label a) ≡ true)
+      labels a h = let w = stands a h in let l = labels_there w.0 w.1 a w.2 w.3 in (l.0, l.2, l.3)
+
+      others : (a : Accepted) → Has (all_of links_of orders apart) a → a.operation ≡ o → a.attempt ≡ n → ⊥
+      others a h operation attempt = let w = stands a h in out w.0 w.1 a w.2 w.3 operation attempt

@@ -4,7 +4,7 @@ use denote.RawPtr.{Ptr, block_ptr, null_ptr, block_of, count_of}
 use Rattle.std.specs.declared.alloc.Global.{Global}
 use Rattle.sock_io.specs.declared.ending.Ending.{Ending}
 use Rattle.sock_io.specs.declared.ending.Ending.TheVariants as ending
-use Rattle.sock_io.specs.Link.{OutState, InState}
+use Rattle.sock_io.specs.Link.{OutState, InState, given_of}
 use Rattle.sock_io.specs.Peer.{PeerState, has_ended}
 use Rattle.sock_io.specs.declared.link.Take.{Take}
 use Rattle.sock_io.specs.declared.link.Take.TheVariants as take_
@@ -12,6 +12,7 @@ use Rattle.brpc_model.specs.Link.{TakeAnswer}
 use Rattle.rtrb.specs.Shared.{Names}
 use Rattle.rtrb.specs.declared.end.End.{End}
 use Rattle.loop_link.specs.Serving.{LoopInState}
+use Rattle.ring_link.specs.Cells.{IsOpen}
 use Rattle.ring_link.specs.Inside.{InnerState, IsServing, SameAsked, inner_gave, offer_met}
 use Rattle.ring_link.specs.declared.cell.Cell.{Cell}
 use Rattle.ring_link.specs.declared.cell.MarkLast.{MarkLast}
@@ -98,6 +99,14 @@ pub record IsTakenOf (r : ReaderState) (w : WriterState) : Type 0 where
   pub left : List ℕ
   pub begins : w.bytes ≡ r.bytes ++ left
   pub marked : r.ending ≢ ending.Open → (w.ending ≡ r.ending) × (left ≡ [])
+
+-- What a take of the end that takes gave and answered: bytes in front of the room, behind those before; nothing only where nothing was seen; or the mark.
+pub record TakesCells (old new : ReaderState) (room : List ℕ) (result : Take) : Type 0 where
+  pub ring : new.ring ≡ old.ring
+  pub bytes : new.bytes ≡ old.bytes ++ given_of room result
+  pub empty : result ≡ take_.Empty → (IsOpen new.ending) × (new.seen ≡ [])
+  pub end : result ≡ take_.End → new.ending ≡ ending.Ended
+  pub closed : result ≡ take_.Closed → new.ending ≡ ending.Closed
 
 -- the two ends of a new ring
 pub record IsNewRing (w : WriterState) (r : ReaderState) : Type 0 where

@@ -3,7 +3,7 @@ ghost use Rattle.ring_link.specs.Cells.{IsOpen, ending_of};
 use rtrb::Protocol;
 
 /// What lies in a place of a ring: a byte, or the mark behind all bytes.
-#[derive(Clone, Copy, Debug, PartialEq, Eq)]
+#[derive(Clone, Copy)]
 pub(crate) enum Cell {
     Byte(u8),
     /// The direction was ended.

@@ -56,8 +56,21 @@ pub fn open_ring(
     ensures places { IfOk result (λ ends. (ends.out.writer.places ≡ 65536) × (ends.peer.writer.places ≡ 65536)) }
 {
     let there = new_ring(alloc)?;
-    let back = new_ring(alloc)?;
-    let inner = Inner::new(alloc, spec.serve, spec.end)?;
+    let back = match new_ring(alloc) {
+        Ok(back) => back,
+        Err(fault) => {
+            drop(there);
+            return Err(fault);
+        }
+    };
+    let inner = match Inner::new(alloc, spec.serve, spec.end) {
+        Ok(inner) => inner,
+        Err(fault) => {
+            drop(there);
+            drop(back);
+            return Err(fault);
+        }
+    };
     Ok(Ends {
         out: RingOut::new(link, there.writer),
         inn: RingIn::new(back.reader),
@@ -70,11 +83,23 @@ pub(crate) fn open_connection(alloc: Global) -> Result<(RingOut, RingIn), NoMemo
     ensures unused { IfOk result (λ halves. IsUnused (ring_out halves.0) (ring_in halves.1)) }
     ensures none { IfOk result (λ halves. halves.0.writer.bytes ≡ []) }
 {
-    let Ring { writer, reader: _ } = new_ring(alloc)?;
+    let Ring {
+        writer,
+        reader: unread,
+    } = new_ring(alloc)?;
+    drop(unread);
+    let back = match new_ring(alloc) {
+        Ok(back) => back,
+        Err(fault) => {
+            drop(writer);
+            return Err(fault);
+        }
+    };
     let Ring {
         writer: mut other,
         reader,
-    } = new_ring(alloc)?;
+    } = back;
     other.end();
+    drop(other);
     Ok((RingOut::new(0, writer), RingIn::new(reader)))
 }

@@ -1,8 +1,8 @@
 ghost use Rattle.std.specs.Prelude.{◌≡◌, ◌≢◌, ◌<◌, ◌≤◌, ◌++◌, ◌⊎◌, [], false, length, take, true, IfNone, IfSome};
-ghost use Rattle.sock_io.specs.Link.{IsTakeCount, given_of};
+ghost use Rattle.sock_io.specs.Link.{IsTakeCount};
 ghost use Rattle.sock_io.specs.Peer.{has_ended};
 ghost use Rattle.ring_link.specs.Cells.{IsOpen};
-ghost use Rattle.ring_link.specs.Halves.{IsTakenOf};
+ghost use Rattle.ring_link.specs.Halves.{IsTakenOf, TakesCells};
 ghost use Rattle.ring_link.specs.Inside.{answer_behind};
 
 use crate::cell::{Cell, MarkLast};
@@ -62,12 +62,8 @@ impl RingReader {
     /// Takes bytes into the front of the room, and behind the last the mark.
     pub(crate) fn take(&mut self, room: &mut [u8]) -> Take
         requires { 0 < length room.old }
-        ensures ring { self.new.ring ≡ self.old.ring }
         ensures count { IsTakeCount room.new result }
-        ensures bytes { self.new.bytes ≡ self.old.bytes ++ given_of room.new result }
-        ensures empty { result ≡ Take.Empty → (IsOpen self.new.ending) × (self.new.seen ≡ []) }
-        ensures end { result ≡ Take.End → self.new.ending ≡ Ending.Ended }
-        ensures closed { result ≡ Take.Closed → self.new.ending ≡ Ending.Closed }
+        ensures cells { TakesCells self.old self.new room.new result }
         ensures marked { (¬ IsOpen self.old.ending) → (self.new ≡ self.old) × (result ≡ answer_behind self.old.ending) }
         ensures never { result ≢ Take.Failed }
     {
@@ -98,12 +94,8 @@ impl RingReader {
     // The same, where no mark was taken.
     fn take_open(&mut self, room: &mut [u8]) -> Take
         requires { (0 < length room.old) × (IsOpen self.old.ending) }
-        ensures ring { self.new.ring ≡ self.old.ring }
         ensures count { IsTakeCount room.new result }
-        ensures bytes { self.new.bytes ≡ self.old.bytes ++ given_of room.new result }
-        ensures empty { result ≡ Take.Empty → (IsOpen self.new.ending) × (self.new.seen ≡ []) }
-        ensures end { result ≡ Take.End → self.new.ending ≡ Ending.Ended }
-        ensures closed { result ≡ Take.Closed → self.new.ending ≡ Ending.Closed }
+        ensures cells { TakesCells self.old self.new room.new result }
         ensures never { result ≢ Take.Failed }
     {
         let mut cells = [Cell::Ended; CHUNK];

@@ -1,14 +1,13 @@
 ghost use Rattle.std.specs.Prelude.{◌≡◌, ◌++◌, ◌∷◌, ◌<◌, [], false, length};
-ghost use Rattle.sock_io.specs.Link.{TakeStep, given_of, of_take};
-ghost use Rattle.ring_link.specs.Cells.{IsOpen};
-ghost use Rattle.ring_link.specs.Halves.{ring_in};
+ghost use Rattle.sock_io.specs.Link.{TakeStep, of_take};
+ghost use Rattle.ring_link.specs.Halves.{TakesCells, ring_in};
 ghost use Rattle.ring_link.specs.Inside.{met_after};
 
 use crate::inner::Inner;
 use crate::reader::RingReader;
 use ghosts::Ghosts;
 use loop_link::LoopIn;
-use sock_io::{Ending, In, Take};
+use sock_io::{In, Take, noted};
 use std::marker::Model;
 
 /// The reading half of a link over a ring. It tells all that it gave and answered. `Empty` comes only where the ring has
@@ -58,11 +57,7 @@ impl RingIn {
     fn answer_take(&mut self, room: &mut [u8]) -> Take
         requires { 0 < length room.old }
         ensures step { TakeStep (ring_in self.old) (ring_in (record self.new { takes = self.old.takes ++ of_take result ∷ [] })) room.new result }
-        ensures bytes { self.new.reader.bytes ≡ self.old.reader.bytes ++ given_of room.new result }
-        ensures ring { self.new.reader.ring ≡ self.old.reader.ring }
-        ensures empty { result ≡ Take.Empty → (IsOpen self.new.reader.ending) × (self.new.reader.seen ≡ []) }
-        ensures end { result ≡ Take.End → self.new.reader.ending ≡ Ending.Ended }
-        ensures closed { result ≡ Take.Closed → self.new.reader.ending ≡ Ending.Closed }
+        ensures cells { TakesCells self.old.reader self.new.reader room.new result }
         ensures takes { self.new.takes ≡ self.old.takes }
         ensures met { self.new.met ≡ self.old.met }
     {
@@ -79,9 +74,7 @@ impl RingIn {
     fn note(&mut self, answer: Take)
         ensures { self.new ≡ record self.old { takes = self.old.takes ++ of_take answer ∷ [] } }
     {
-        let before: Ghosts<Take> = Ghosts::of(&self.takes);
-        let with = (before, answer);
-        self.takes = Ghosts::of(&with);
+        self.takes = noted(&self.takes, answer);
     }
 
     /// What its other end handed on is what this link in memory gave, where memory wasn't wanting. It learns that once the
@@ -102,11 +95,7 @@ impl In for RingIn {
     fn take(&mut self, room: &mut [u8]) -> Take
         requires { 0 < length room.old }
         ensures step { TakeStep (ring_in self.old) (ring_in self.new) room.new result }
-        ensures bytes { self.new.reader.bytes ≡ self.old.reader.bytes ++ given_of room.new result }
-        ensures ring { self.new.reader.ring ≡ self.old.reader.ring }
-        ensures empty { result ≡ Take.Empty → (IsOpen self.new.reader.ending) × (self.new.reader.seen ≡ []) }
-        ensures end { result ≡ Take.End → self.new.reader.ending ≡ Ending.Ended }
-        ensures closed { result ≡ Take.Closed → self.new.reader.ending ≡ Ending.Closed }
+        ensures cells { TakesCells self.old.reader self.new.reader room.new result }
         ensures met { self.new.met ≡ self.old.met }
     {
         let answer = self.answer_take(room);

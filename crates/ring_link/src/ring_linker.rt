@@ -1,5 +1,5 @@
 ghost use Rattle.std.specs.Prelude.{◌≡◌, ◌≢◌, ◌+◌, ◌<◌, ◌∷◌, ◌++◌, false, true, None, Ok, [], length, IfOk, IsErrOf, OnErr, OnOk};
-ghost use Rattle.sock_io.specs.Link.{IsFresh, IsSettled, IsUnused, connection_of, end_of};
+ghost use Rattle.sock_io.specs.Link.{IsFresh, IsSettled, IsUnused, MayOpen, connection_of, end_of};
 ghost use Rattle.sock_io.specs.Linker.{shape_asked};
 ghost use Rattle.sock_io.specs.Meeting.{AreEnds, IsAskedPeer, MeetOut, MeetStep};
 ghost use Rattle.sock_io.specs.Peer.{IsNewPeer, has_ended};
@@ -10,7 +10,9 @@ use crate::open::{open_connection, open_ring};
 use crate::ring_in::RingIn;
 use crate::ring_out::RingOut;
 use crate::ring_peer::RingPeer;
-use sock_io::{Ends, LinkSpec, Linker, NoMemory, NotedLinks, OpenFault, Shape, Shaped};
+use sock_io::{
+    Ends, LinkSpec, Linker, LinkerTells, NoMemory, NotedLinks, OpenFault, Shape, Shaped,
+};
 use std::marker::Model;
 
 type Link = Ends<Shaped<RingOut>, RingIn, RingPeer>;
@@ -64,6 +66,10 @@ impl<R: AllocGlobal + Drop> RingLinker<R> {
     }
 }
 
+impl<R: AllocGlobal + Drop> LinkerTells for RingLinker<R> {
+    ghost state = { λ l. record { asked = l.asked; accepted = l.accepted; back = l.back; done = l.done; faults = 0; always_ready = false } };
+}
+
 impl<R: AllocGlobal + Drop> Linker for RingLinker<R> {
     type O = Shaped<RingOut>;
 
@@ -71,23 +77,10 @@ impl<R: AllocGlobal + Drop> Linker for RingLinker<R> {
 
     type P = RingPeer;
 
-    ghost asked = { λ l. l.asked };
-
-    ghost accepted = { λ l. l.accepted };
-
-    ghost back = { λ l. l.back };
-
-    ghost done = { λ l. l.done };
-
-    ghost faults = { λ _. 0 };
-
-    ghost always_ready = { λ _. false };
-
     ghost tells_in = { λ _. true };
 
     fn open(&mut self, spec: &LinkSpec) -> Result<Link, OpenFault>
-        requires piece { 0 < spec.now.piece }
-        requires few { length self.old.asked < 256 }
+        requires { MayOpen self.old.asked spec.now }
         ensures fresh { IfOk result (λ ends. IsFresh (shaped_out ends.out) (ring_in ends.inn) (length self.old.asked)) }
         ensures peer { IfOk result (λ ends. IsNewPeer (ring_peer ends.peer)) }
         ensures other { IfOk result (λ ends. IsAskedPeer spec.now (ring_peer ends.peer)) }
@@ -107,7 +100,11 @@ impl<R: AllocGlobal + Drop> Linker for RingLinker<R> {
                 self.note(spec);
                 Ok(Ends { out, inn, peer })
             }
-            Err(_) => Err(OpenFault::NoMemory),
+            Err(_) => {
+                drop(inn);
+                drop(peer);
+                Err(OpenFault::NoMemory)
+            }
         }
     }
 
@@ -146,19 +143,20 @@ impl<R: AllocGlobal + Drop> Linker for RingLinker<R> {
                 self.accepted += 1;
                 Ok((out, inn))
             }
-            Err(_) => Err(OpenFault::NoMemory),
+            Err(_) => {
+                drop(inn);
+                Err(OpenFault::NoMemory)
+            }
         }
     }
 
     fn done(&mut self, out: Shaped<RingOut>, inn: RingIn)
-        requires { length self.old.done < self.old.accepted }
         ensures { self.new ≡ record self.old { done = self.old.done ++ connection_of (shaped_out out) (ring_in inn) ∷ [] } }
     {
         self.notes.done(out, inn);
     }
 
     fn back(&mut self, _link: u16, ends: Link)
-        requires { length self.old.back < length self.old.asked }
         ensures { self.new ≡ record self.old { back = self.old.back ++ end_of (shaped_out ends.out) (ring_in ends.inn) ∷ [] } }
     {
         self.notes.back(ends);

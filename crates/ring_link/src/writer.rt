@@ -1,7 +1,7 @@
-ghost use Rattle.std.specs.Prelude.{◌≡◌, ℕ, ◌-◌, ◌<◌, ◌≤◌, ◌↔◌, ◌+◌, ◌++◌, [], length, map, take, IsTrue};
+ghost use Rattle.std.specs.Prelude.{◌≡◌, ℕ, ◌-◌, ◌<◌, ◌≤◌, ◌↔◌, ◌+◌, ◌∷◌, ◌++◌, [], length, map, take, IsTrue};
 ghost use Rattle.sock_io.specs.Link.{IsTakeCount, given_of};
 ghost use Rattle.sock_io.specs.Peer.{has_ended};
-ghost use Rattle.ring_link.specs.Cells.{IsOpen};
+ghost use Rattle.ring_link.specs.Cells.{IsOpen, ending_of, mark_cells};
 ghost use Rattle.ring_link.specs.Halves.{mark_at};
 ghost use Rattle.ring_link.specs.declared.cell.Cell.TheVariants.{Byte};
 ghost use Rattle.ring_link.specs.declared.packing.TheConstants.{CHUNK};
@@ -149,7 +149,7 @@ impl RingWriter {
         requires { IsOpen self.old.ending }
         ensures { (self.new.ring ≡ self.old.ring) × (self.new.bytes ≡ self.old.bytes) × (self.new.ending ≡ Ending.Ended) }
     {
-        self.cells.push_reserved(Cell::Ended);
+        self.mark(Cell::Ended);
     }
 
     /// Puts the mark that closes it.
@@ -157,6 +157,15 @@ impl RingWriter {
         requires { IsOpen self.old.ending }
         ensures { (self.new.ring ≡ self.old.ring) × (self.new.bytes ≡ self.old.bytes) × (self.new.ending ≡ Ending.Closed) }
     {
-        self.cells.push_reserved(Cell::Closed);
+        self.mark(Cell::Closed);
+    }
+
+    // Puts this mark.
+    fn mark(&mut self, mark: Cell)
+        requires unmarked { IsOpen self.old.ending }
+        requires mark { mark_cells (ending_of (mark ∷ [])) ≡ mark ∷ [] }
+        ensures { (self.new.ring ≡ self.old.ring) × (self.new.bytes ≡ self.old.bytes) × (self.new.ending ≡ ending_of (mark ∷ [])) }
+    {
+        self.cells.push_reserved(mark);
     }
 }

@@ -1,6 +1,8 @@
 -- One append behind another.
-use Rattle.std.proofs.Common.{◌≡◌, ℕ, ◌+◌, ◌≤◌, List, ◌++◌, length, take, Result, Ok, Err, refl, ap, sym, ◌∙◌, append_assoc, arith}
+use Rattle.std.proofs.Common.{◌≡◌, ℕ, ◌+◌, ◌*◌, ◌≤◌, List, ◌++◌, length, take, Result, Ok, Err, refl, ap, sym, ◌∙◌, append_assoc, arith}
 use Rattle.std.proofs.lemmas.List.{take_at, take-take, length-append}
+use Rattle.pb_wire.specs.brpc_model.specs.Wire.{varint_bytes}
+use Rattle.pb_wire.specs.brpc_model.specs.Spelling.{bytes_field}
 use Rattle.rpc_meta.specs.Writing.{Appends}
 
 -- what stood in front of a piece stays, where all of it stays
@@ -15,6 +17,13 @@ kept first old new piece e h =
 pub behind : {E : Type 0} (first old new piece more : List ℕ) (r : Result (Unit {0}) E) → old ≡ first ++ piece → Appends old more r new → Appends first (piece ++ more) r new
 behind first old new piece more (Ok u) e h = h ∙ ap (λ l. l ++ more) e ∙ append_assoc first piece more
 behind first old new piece more (Err x) e h = kept first old new piece e h
+
+-- fields behind their number and their length
+pub headed : {E : Type 0} (number size : ℕ) (first old new fields : List ℕ) (r : Result (Unit {0}) E) → size ≡ length fields → old ≡ first ++ (varint_bytes (number * 8 + 2) ++ varint_bytes size) →
+    Appends old fields r new → Appends first (bytes_field number fields) r new
+headed number size first old new fields r same e h =
+    let head = e ∙ ap (λ (n : ℕ). first ++ (varint_bytes (number * 8 + 2) ++ varint_bytes n)) same in
+    behind first old new (varint_bytes (number * 8 + 2) ++ varint_bytes (length fields)) fields r head h
 
 -- two pieces are one
 pub joined : (first old new piece more : List ℕ) → old ≡ first ++ piece → new ≡ old ++ more → new ≡ first ++ (piece ++ more)

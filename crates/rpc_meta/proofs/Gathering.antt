@@ -24,6 +24,13 @@ field_step {S} step s new_s old new bytes field f whole same rest is added so_fa
     ∙ ap (λ r. r >>= (λ fs. Ok (fold step s fs))) (sym (rest ∙ ap (λ (o : Option declared.Field.Field). in_front (answer_in old.bytes (Ok o)) (left new)) is))
     ∙ so_far
 
+-- a reading goes over these bytes, and the fields so far and those that are left are the whole
+abbrev pub Gathers : {S : Type 0} → (S → Field → S) → S → Reading → List ℕ → Wire S → Type 0
+Gathers step s reading bytes all = record {
+  whole : reading.bytes ≡ bytes;
+  so_far : left reading >>= (λ fs. Ok (fold step s fs)) ≡ all;
+}
+
 -- the parts of a message are its fields, read on
 abbrev pub part : Field → Wire Part
 part f = part_of f.number f.value

@@ -1,18 +1,19 @@
 -- Fields that stand one behind another are gathered as they stand.
 use Rattle.std.proofs.Common.{◌≡◌, ℕ, suc, ◌<◌, ◌≤◌, ◌+◌, ◌-◌, ◌*◌, List, [], ◌∷◌, ◌++◌, length, get_or, take, drop, slice_range, fold, Some, None, Ok, refl, ap, sym, ◌∙◌, subst, arith, inl, inr}
 use Rattle.std.proofs.lemmas.List.{length-take, length-drop, drop_more}
-use Rattle.std.proofs.lemmas.List.Elements.{All-nil}
 use Rattle.std.proofs.lemmas.List.Folds.{drop_split}
 use Rattle.std.proofs.Math.Seq.{take-append-add, drop-length}
 use Rattle.pb_wire.specs.brpc_model.specs.Wire.{Wire, ◌>>=◌, Varint, Span, Field, fields, fields_with}
 use Rattle.pb_wire.specs.brpc_model.specs.Meta.{Part, Request, Plain}
 use Rattle.pb_wire.specs.Form.{IsVarint, IsField}
 use Rattle.pb_wire.proofs.Messages.{form_read_message}
+use Rattle.pb_wire.proofs.Shortest.{shortest_form}
 use Rattle.rpc_meta.specs.Gathered.{Gathered, Names, nothing, part_added}
 use Rattle.rpc_meta.specs.Steps.{gathered_after}
 use Rattle.rpc_meta.specs.Straight.{SpanNext, NumberNext, NumberOrNone}
 use Rattle.rpc_meta.proofs.Gathering.{folded_front, part}
 use Rattle.rpc_meta.proofs.Pieces.{says_one}
+use Rattle.rpc_meta.proofs.Varints.{put_last}
 
 -- ## What a field is
 
@@ -26,15 +27,7 @@ slice_size bytes at to k = simp (length-take, length-drop) (omega (arith, k))
 
 -- a byte without its high bit is a varint
 one_byte : (n : ℕ) → n < 128 → IsVarint (n ∷ []) n
-one_byte n h = record {
-  front = [];
-  last = n;
-  parts = refl;
-  followed = All-nil (λ b. 128 ≤ b);
-  ends = h;
-  few = omega arith;
-  number = omega (arith, h);
-}
+one_byte n h = let P : List ℕ → Type 0 = λ l. IsVarint l n in subst P (sym (put_last 10 n (omega arith) h)) (shortest_form n (omega (arith, h)))
 
 -- a key and a length of a byte each, and so many bytes
 pub span_is : (bytes : List ℕ) (at number size c d : ℕ) → 1 ≤ number → number < 15 → at + 2 + size ≤ length bytes →

@@ -39,11 +39,11 @@ use Rattle.run_theorems.proofs.Starts.{made, starts, fitting}
 -- ## Links without a server
 
 -- no bytes have no fault
-no_fault : HasFault [] → ⊥
+pub no_fault : HasFault [] → ⊥
 no_fault (start, fault, e) = cc
 
 -- the reading of a link that gave nothing, and never failed, ended early by nothing
-not_early : (gave : List ℕ) (e : LinkEnd) → length gave ≡ e.gave_count → e.gave_count ≡ 0 → e.gave_end ≡ false → e.take_faults ≡ 0 → EndsEarly gave e → ⊥
+pub not_early : (gave : List ℕ) (e : LinkEnd) → length gave ≡ e.gave_count → e.gave_count ≡ 0 → e.gave_end ≡ false → e.take_faults ≡ 0 → EndsEarly gave e → ⊥
 not_early gave e counted none_ open_ unfailed (inl ended) = cc
 not_early gave e counted none_ open_ unfailed (inr (inl fault)) = no_fault (subst HasFault (nil_from_length gave (omega (arith, counted, none_))) fault)
 not_early gave e counted none_ open_ unfailed (inr (inr (inl most))) = omega (arith, most, none_)

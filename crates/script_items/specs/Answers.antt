@@ -1,6 +1,7 @@
 -- What a reader of a part of a line answers, where a definition says how the part reads.
-use Rattle.std.specs.Prelude.{◌≡◌, ⊤, min, Result, Ok, Err}
+use Rattle.std.specs.Prelude.{◌≡◌, ℕ, ⊤, min, List, count_by, Result, Ok, Err}
 use Rattle.brpc_model.specs.Reads.{Reads}
+use Rattle.brpc_model.specs.Items.{Item, is_client, is_open}
 use Rattle.script_items.specs.declared.fault.LineFault.{LineFault}
 use Rattle.script_items.specs.declared.fault.LineFault.TheVariants.{Kind, NoMemory}
 
@@ -13,6 +14,10 @@ Faults NoMemory read = ⊤
 abbrev pub Answers : {A B : Type 0} → (A → B) → Result A LineFault → Reads B → Type 0
 Answers says (Ok a) read = read ≡ Ok (says a)
 Answers says (Err fault) read = Faults fault read
+
+-- where the lines before have so many clients and links
+abbrev pub Behind : ℕ → ℕ → (List Item → Type 0) → Type 0
+Behind clients links Says = (before : List Item) → count_by is_client before ≡ clients → count_by is_open before ≡ links → Says before
 
 -- of two faults in one line the one of the lower kind
 abbrev pub lower_of : LineFault → LineFault → LineFault

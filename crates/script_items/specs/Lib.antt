@@ -5,4 +5,3 @@ pub mod Words
 pub mod Parts
 pub mod Options
 pub mod Calls
-pub mod Commands

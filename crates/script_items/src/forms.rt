@@ -1,8 +1,8 @@
-ghost use Rattle.std.specs.Prelude.{◌≡◌, ℕ, List, count_by};
+ghost use Rattle.std.specs.Prelude.{ℕ, List};
 ghost use Rattle.brpc_model.specs.Text.{words};
-ghost use Rattle.brpc_model.specs.Items.{Item, is_client, is_open};
+ghost use Rattle.brpc_model.specs.Items.{Item};
 ghost use Rattle.brpc_model.specs.Lines.{shape_in, of_name, of_number, first_item, open_item, send_item, call_item, target_item, fail_item, tick_item, to_item, alone};
-ghost use Rattle.script_items.specs.Answers.{Answers};
+ghost use Rattle.script_items.specs.Answers.{Answers, Behind};
 ghost use Rattle.script_items.specs.Meaning.{item, shape_of};
 
 use crate::bytes::Name;
@@ -136,8 +136,7 @@ pub fn read_fail(alloc: Global, args: &[u8]) -> Result<Line, LineFault>
 
 /// `tick SEAT N`, of 1 to 65,536 ticks.
 pub fn read_tick(clients: u32, links: u32, args: &[u8]) -> Result<Line, LineFault>
-    ensures { (before : List Item) → count_by is_client before ≡ clients → count_by is_open before ≡ links
-        → Answers item result (tick_item before (words args.now)) }
+    ensures { Behind clients links (λ before. Answers item result (tick_item before (words args.now))) }
 {
     let (seat, args) = next_word(args)?;
     let (ticks, args) = next_word(args)?;
@@ -151,8 +150,7 @@ pub fn read_tick(clients: u32, links: u32, args: &[u8]) -> Result<Line, LineFaul
 
 /// `to SEAT KIND`.
 pub fn read_to(clients: u32, links: u32, args: &[u8]) -> Result<Line, LineFault>
-    ensures { (before : List Item) → count_by is_client before ≡ clients → count_by is_open before ≡ links
-        → Answers item result (to_item before (words args.now)) }
+    ensures { Behind clients links (λ before. Answers item result (to_item before (words args.now))) }
 {
     let (seat, args) = next_word(args)?;
     let (kind, args) = next_word(args)?;

@@ -12,6 +12,7 @@ mod options;
 mod parts;
 mod read;
 mod script;
+mod sizes;
 mod words;
 
 pub use bytes::{Bytes, Name};
@@ -21,3 +22,4 @@ pub use names::Names;
 pub use numbers::number;
 pub use read::read_line;
 pub use script::Script;
+pub use sizes::{client_count, first_version, is_client, is_operation, request_count, slot_count};

@@ -1,10 +1,9 @@
-ghost use Rattle.std.specs.Prelude.{◌≡◌, ◌≤◌, ◌&&◌, ◌||◌, ◌==◌, nat_le, length, List, count_by};
+ghost use Rattle.std.specs.Prelude.{◌≡◌, ◌≤◌, ◌&&◌, ◌||◌, ◌==◌, nat_le, length};
 ghost use Rattle.std.specs.List.{list_all};
 ghost use Rattle.brpc_model.specs.Text.{has_bytes, is_name_byte, name_in, method_in, service_in, hex_in};
-ghost use Rattle.brpc_model.specs.Items.{Item, is_client, is_open};
 ghost use Rattle.brpc_model.specs.Lines.{kind_in, seat_in};
 ghost use Rattle.sock_words.specs.KindText.{kind_text};
-ghost use Rattle.script_items.specs.Answers.{Answers};
+ghost use Rattle.script_items.specs.Answers.{Answers, Behind};
 ghost use Rattle.script_items.specs.Meaning.{seat_of};
 ghost use Rattle.script_items.specs.Parts.{message_in, reader_in, client_in};
 
@@ -107,8 +106,7 @@ pub fn read_message(alloc: Global, word: &[u8]) -> Result<Bytes, LineFault>
 /// A seat: the number of a client from 1 on, or `r` and the number of a link from 0 on, of those
 /// that the script has so far.
 pub fn read_seat(clients: u32, links: u32, word: &[u8]) -> Result<Seat, LineFault>
-    ensures { (before : List Item) → count_by is_client before ≡ clients → count_by is_open before ≡ links
-        → Answers seat_of result (seat_in before word.now) }
+    ensures { Behind clients links (λ before. Answers seat_of result (seat_in before word.now)) }
 {
     match word {
         [b'r', link @ ..] => read_reader(links, link),

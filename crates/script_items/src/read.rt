@@ -1,10 +1,8 @@
-ghost use Rattle.std.specs.Prelude.{◌≡◌, List, ◌∷◌, count_by, option_map};
+ghost use Rattle.std.specs.Prelude.{◌≡◌, ◌∷◌, option_map};
 ghost use Rattle.std.specs.List.{list_all};
 ghost use Rattle.brpc_model.specs.Text.{words};
-ghost use Rattle.brpc_model.specs.Items.{Item, is_client, is_open};
-ghost use Rattle.brpc_model.specs.Lines.{item_of, line_item, is_text_byte};
-ghost use Rattle.script_items.specs.Answers.{Answers};
-ghost use Rattle.script_items.specs.Commands.{operation_item, reference_item, turn_item};
+ghost use Rattle.brpc_model.specs.Lines.{item_of, operation_item, later_item, line_item, is_text_byte};
+ghost use Rattle.script_items.specs.Answers.{Answers, Behind};
 ghost use Rattle.script_items.specs.Meaning.{item};
 ghost use Rattle.script_items.specs.Words.{says_nothing};
 
@@ -26,102 +24,91 @@ fn has_text_bytes(line: &[u8]) -> bool
 
 /// What the words of a line say.
 fn read_words(alloc: Global, clients: u32, links: u32, line: &[u8]) -> Result<Line, LineFault>
-    ensures { (before : List Item) → count_by is_client before ≡ clients → count_by is_open before ≡ links
-        → Answers item result (item_of before (words line.now)) }
+    ensures { Behind clients links (λ before. Answers item result (item_of before (words line.now))) }
 {
     match first_word(line) {
-        Some((first, args)) => read_setup(alloc, clients, links, first, args),
+        Some((first, args)) => {
+            let words = LineWords {
+                alloc,
+                clients,
+                links,
+                first,
+                args,
+            };
+            words.setup()
+        }
         None => Err(UNKNOWN_WORD),
     }
 }
 
-/// What the first word and the others say: a line of the setup, or one behind it.
-fn read_setup(
+/// The words of a line, behind lines that have so many clients and links.
+#[derive(Clone, Copy)]
+struct LineWords<'a> {
     alloc: Global,
     clients: u32,
     links: u32,
-    first: &[u8],
-    args: &[u8],
-) -> Result<Line, LineFault>
-    ensures { (before : List Item) → count_by is_client before ≡ clients → count_by is_open before ≡ links
-        → Answers item result (item_of before (first.now ∷ words args.now)) }
-{
-    if first == b"slots".as_slice() {
-        Ok(Line::Slots(read_one_number(args, 1, 31)?))
-    } else if first == b"requests".as_slice() {
-        Ok(Line::Requests(read_one_number(args, 1, 4096)?))
-    } else if first == b"first".as_slice() {
-        read_first(args)
-    } else if first == b"open".as_slice() {
-        read_open(alloc, args)
-    } else {
-        read_operation(alloc, clients, links, first, args)
-    }
+    first: &'a [u8],
+    args: &'a [u8],
 }
 
-/// What they say where the line isn't of the setup: the next client, a send, a call or what is
-/// done with one, or another line.
-fn read_operation(
-    alloc: Global,
-    clients: u32,
-    links: u32,
-    first: &[u8],
-    args: &[u8],
-) -> Result<Line, LineFault>
-    ensures { (before : List Item) → count_by is_client before ≡ clients → count_by is_open before ≡ links
-        → Answers item result (operation_item before first.now (words args.now)) }
-{
-    if first == b"client".as_slice() {
-        read_alone(Line::Client, args)
-    } else if first == b"send".as_slice() {
-        read_send(alloc, args)
-    } else if first == b"call".as_slice() {
-        read_call_line(alloc, args)
-    } else if first == b"expire".as_slice() {
-        Ok(Line::Expire(read_one_target(args)?))
-    } else if first == b"join".as_slice() {
-        Ok(Line::Join(read_one_target(args)?))
-    } else {
-        read_reference(alloc, clients, links, first, args)
+impl LineWords<'_> {
+    /// What they say: a line of the setup, or one behind it.
+    fn setup(&self) -> Result<Line, LineFault>
+        ensures { Behind self.now.clients self.now.links (λ before. Answers item result (item_of before (self.now.first.now ∷ words self.now.args.now))) }
+    {
+        if self.first == b"slots".as_slice() {
+            Ok(Line::Slots(read_one_number(self.args, 1, 31)?))
+        } else if self.first == b"requests".as_slice() {
+            Ok(Line::Requests(read_one_number(self.args, 1, 4096)?))
+        } else if self.first == b"first".as_slice() {
+            read_first(self.args)
+        } else if self.first == b"open".as_slice() {
+            read_open(self.alloc, self.args)
+        } else {
+            self.operation()
+        }
     }
-}
 
-/// What they say where the line is neither: a failing, a reference taken or given back, or a line
-/// of the schedule.
-fn read_reference(
-    alloc: Global,
-    clients: u32,
-    links: u32,
-    first: &[u8],
-    args: &[u8],
-) -> Result<Line, LineFault>
-    ensures { (before : List Item) → count_by is_client before ≡ clients → count_by is_open before ≡ links
-        → Answers item result (reference_item before first.now (words args.now)) }
-{
-    if first == b"fail".as_slice() {
-        read_fail(alloc, args)
-    } else if first == b"hold".as_slice() {
-        Ok(Line::Hold(read_one_name(alloc, args)?))
-    } else if first == b"drop".as_slice() {
-        Ok(Line::Drop(read_one_name(alloc, args)?))
-    } else {
-        read_turn(clients, links, first, args)
+    /// What they say where the line isn't of the setup: the next client, a send, a call or what is
+    /// done with one, or another line.
+    fn operation(&self) -> Result<Line, LineFault>
+        ensures { Behind self.now.clients self.now.links (λ before. Answers item result (operation_item before self.now.first.now (words self.now.args.now))) }
+    {
+        if self.first == b"client".as_slice() {
+            read_alone(Line::Client, self.args)
+        } else if self.first == b"send".as_slice() {
+            read_send(self.alloc, self.args)
+        } else if self.first == b"call".as_slice() {
+            read_call_line(self.alloc, self.args)
+        } else if self.first == b"expire".as_slice() {
+            Ok(Line::Expire(read_one_target(self.args)?))
+        } else if self.first == b"join".as_slice() {
+            Ok(Line::Join(read_one_target(self.args)?))
+        } else {
+            self.later()
+        }
     }
-}
 
-/// What they say in the schedule.
-fn read_turn(clients: u32, links: u32, first: &[u8], args: &[u8]) -> Result<Line, LineFault>
-    ensures { (before : List Item) → count_by is_client before ≡ clients → count_by is_open before ≡ links
-        → Answers item result (turn_item before first.now (words args.now)) }
-{
-    if first == b"sched".as_slice() {
-        read_alone(Line::Sched, args)
-    } else if first == b"tick".as_slice() {
-        read_tick(clients, links, args)
-    } else if first == b"to".as_slice() {
-        read_to(clients, links, args)
-    } else {
-        Err(UNKNOWN_WORD)
+    /// What they say where the line is neither: a failing, a reference taken or given back, or a
+    /// line of the schedule.
+    fn later(&self) -> Result<Line, LineFault>
+        ensures { Behind self.now.clients self.now.links (λ before. Answers item result (later_item before self.now.first.now (words self.now.args.now))) }
+    {
+        if self.first == b"fail".as_slice() {
+            read_fail(self.alloc, self.args)
+        } else if self.first == b"hold".as_slice() {
+            Ok(Line::Hold(read_one_name(self.alloc, self.args)?))
+        } else if self.first == b"drop".as_slice() {
+            Ok(Line::Drop(read_one_name(self.alloc, self.args)?))
+        } else if self.first == b"sched".as_slice() {
+            read_alone(Line::Sched, self.args)
+        } else if self.first == b"tick".as_slice() {
+            read_tick(self.clients, self.links, self.args)
+        } else if self.first == b"to".as_slice() {
+            read_to(self.clients, self.links, self.args)
+        } else {
+            Err(UNKNOWN_WORD)
+        }
     }
 }
 
@@ -149,8 +136,7 @@ pub fn read_line(
     links: u32,
     line: &[u8],
 ) -> Result<Option<Line>, LineFault>
-    ensures { (before : List Item) → count_by is_client before ≡ clients → count_by is_open before ≡ links
-        → Answers (option_map item) result (line_item before line.now) }
+    ensures { Behind clients links (λ before. Answers (option_map item) result (line_item before line.now)) }
 {
     if is_comment(line) {
         return Ok(None);

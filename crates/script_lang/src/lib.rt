@@ -17,4 +17,4 @@ pub use read::read_script;
 pub use script_items::{
     Bytes, CallLine, Line, Name, Names, OpenLine, Script, Seat, SendLine, Shape, Target,
 };
-pub use sizes::{client_count, first_version, link_names, request_count, slot_count};
+pub use sizes::link_names;

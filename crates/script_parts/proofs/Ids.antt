@@ -43,9 +43,9 @@ use Rattle.calls_done.specs.call_whys.specs.call_told.specs.Once.{ends_of, told_
 use Rattle.calls_done.specs.call_whys.specs.call_told.proofs.Lists.{all_at}
 use Rattle.calls_done.specs.call_whys.specs.call_told.proofs.Making.{AllMade, made_fits}
 use Rattle.calls_done.specs.call_whys.specs.call_places.specs.Counted.{makes_for, makes, HaveNotesOf}
-use Rattle.calls_done.specs.call_whys.specs.call_places.proofs.Clients.{Client, tasks_of}
+use Rattle.calls_done.specs.call_whys.specs.call_places.proofs.Clients.{tasks_of}
 use Rattle.calls_done.specs.call_whys.specs.call_places.proofs.Ids.{IsIdOf, some_made, one_id}
-use Rattle.calls_done.specs.call_whys.specs.call_places.proofs.Places.{all as all_clients, tasks_are as of_clients, made_once}
+use Rattle.calls_done.specs.call_whys.specs.call_places.proofs.Places.{crew_of, tasks_are as of_clients, made_once}
 use Rattle.calls_done.specs.call_whys.specs.call_places.proofs.Weights.{term, two_terms, noted_at}
 use Rattle.calls_done.specs.call_whys.specs.call_deeds.proofs.Told.{task_at}
 use Rattle.calls_done.specs.call_whys.proofs.Versions.{IsIdFor, AreIds, versions}
@@ -82,14 +82,7 @@ module _ {O : Type 0} {g : Ghosts O} {state : O → OutState} {readers : List (L
     (ran : RanWith g state readers p slots setup clients opens told ended places vrefs outs ids) (script : List Item) (tasks : setup ∷ clients ≡ all_tasks script) (are : AreTasks p (setup ∷ clients)) (may : MayRunAll p (ids_of p slots) setup clients)
     -- by notes that have those of the clients
     (notes : List (Noted Asked)) (have : HaveNotesOf ids notes) where
-  abbrev q : id_plan.Plan
-  q = ids_of p slots
-
-  abbrev all : List (List Task)
-  all = setup ∷ clients
-
-  abbrev callers : List (Client g state p q)
-  callers = all_clients ran
+  open crew_of ran use {q, every as all, crew as callers}
 
   -- two ends that are told of one operation have one id
   same_id : (x u : Told) (a : IsEndTold slots notes x) (b : IsEndTold slots notes u) → u.number ≡ x.number → (b.slot ≡ a.slot) × (b.first ≡ a.first)
@@ -273,7 +266,7 @@ module _ {O : Type 0} {g : Ghosts O} {state : O → OutState} {readers : List (L
     is_told : (o id : ℕ) → IsIdOf slots v.notes o id → (by : Outcome) × Became asked_for became_all o by
     is_told o id h =
         let b = tellers_of.begun_of ran script tasks are v.notes have o (some_made o id h) in
-        let own : get_elem? asked_for b.place ≡ some (tasks_of b.client) = ap (λ (l : List (List Task)). get_elem? l b.place) (sym (of_clients ran)) ∙ map_there tasks_of (all_clients ran) b.place b.client b.at in
+        let own : get_elem? asked_for b.place ≡ some (tasks_of b.client) = ap (λ (l : List (List Task)). get_elem? l b.place) (sym (of_clients ran)) ∙ map_there tasks_of (crew_of ran).crew b.place b.client b.at in
         subst (λ (n : ℕ). (by : Outcome) × Became asked_for became_all n by) b.has.number_is
         (called b.place b.has.place (tasks_of b.client) b.has.result.task b.asked own (task_at b.client.thread b.client.is b.has.place b.has.result b.has.at) b.op)
 

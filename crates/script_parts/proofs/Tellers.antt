@@ -34,7 +34,7 @@ use Rattle.report_fits.proofs.TaskLemmas.{IsTaskOf, task_is, asks_at, asked_at, 
 use Rattle.rpc_client.specs.declared.acting.Told.{Told}
 use Rattle.rpc_reader.specs.Books.{id_of}
 use Rattle.call_run.specs.Readers.{LinkReader}
-use Rattle.call_run.specs.Threads.{ids_of, Thread, RanWith}
+use Rattle.call_run.specs.Threads.{Thread, RanWith}
 use Rattle.calls_done.specs.call_whys.specs.call_told.specs.Answers.{EndedBy, by_code, by_response, ToldFrom}
 use Rattle.calls_done.specs.call_whys.specs.call_told.specs.Least.{is_locked_for}
 use Rattle.calls_done.specs.call_whys.specs.call_told.specs.Once.{ends_of, told_ends}
@@ -47,7 +47,7 @@ use Rattle.calls_done.specs.call_whys.specs.call_told.proofs.Moves.{Fits}
 use Rattle.calls_done.specs.call_whys.specs.call_told.proofs.Tallies.{ending_is}
 use Rattle.calls_done.specs.call_whys.specs.call_places.specs.Counted.{makes, HaveNotesOf}
 use Rattle.calls_done.specs.call_whys.specs.call_places.proofs.Clients.{Client, tasks_of, view_of as ids_seen}
-use Rattle.calls_done.specs.call_whys.specs.call_places.proofs.Places.{all as all_clients, all_are, tasks_are, views_are}
+use Rattle.calls_done.specs.call_whys.specs.call_places.proofs.Places.{crew_of, all_are, tasks_are, views_are}
 use Rattle.calls_done.specs.call_whys.specs.call_places.proofs.Weights.{term, noted_at}
 use Rattle.calls_done.specs.call_whys.specs.call_deeds.specs.Scripts.{Reports}
 use Rattle.calls_done.specs.call_whys.specs.call_deeds.proofs.Ran.{Result}
@@ -118,14 +118,7 @@ module _ (q : id_plan.Plan) (v : View Asked) (words : List ℕ) (closing : Closi
 
 module _ {O : Type 0} {g : Ghosts O} {state : O → OutState} {readers : List (LinkReader g)} {p : Plan} {slots : ℕ} {setup : List Task} {clients : List (List Task)} {opens : List ℕ} {told ended : List (List Told)} {places : List PlaceWord} {vrefs : List Vref} {outs : List O} {ids : List (View Asked)}
     (ran : RanWith g state readers p slots setup clients opens told ended places vrefs outs ids) (script : List Item) (tasks : setup ∷ clients ≡ all_tasks script) (are : AreTasks p (setup ∷ clients)) where
-  abbrev q : id_plan.Plan
-  q = ids_of p slots
-
-  abbrev all : List (List Task)
-  all = setup ∷ clients
-
-  abbrev callers : List (Client g state p q)
-  callers = all_clients ran
+  open crew_of ran use {q, every as all, crew as callers}
 
   -- ## Tasks
 

@@ -338,52 +338,32 @@ first_only : (i : Item) → is_size i ≡ false → first_in i ≡ None
 first_only (First n) e = absurd (true≢false e)
 first_only other e = refl
 
-slots_again : (s r f : Bool) (n m v : ℕ) → (s ≡ true → n ≡ 31) → size slots_in 31 (size_lines s r f n m v) ≡ n
-slots_again true true true n m v e = sym (e refl)
-slots_again true true false n m v e = sym (e refl)
-slots_again true false true n m v e = sym (e refl)
-slots_again true false false n m v e = sym (e refl)
-slots_again false r f n m v e = front r f
-  where
-    front : (r f : Bool) → size slots_in 31 (size_lines false r f n m v) ≡ n
-    front true true = refl
-    front true false = refl
-    front false true = refl
-    front false false = refl
-
-requests_again : (s r f : Bool) (n m v : ℕ) → (r ≡ true → m ≡ 4096) → size requests_in 4096 (size_lines s r f n m v) ≡ m
-requests_again true true true n m v e = sym (e refl)
-requests_again true true false n m v e = sym (e refl)
-requests_again false true true n m v e = sym (e refl)
-requests_again false true false n m v e = sym (e refl)
-requests_again true false true n m v e = refl
-requests_again true false false n m v e = refl
-requests_again false false true n m v e = refl
-requests_again false false false n m v e = refl
-
-first_again : (s r f : Bool) (n m v : ℕ) → (f ≡ true → v ≡ 0) → size first_in 0 (size_lines s r f n m v) ≡ v
-first_again true true true n m v e = sym (e refl)
-first_again true false true n m v e = sym (e refl)
-first_again false true true n m v e = sym (e refl)
-first_again false false true n m v e = sym (e refl)
-first_again true true false n m v e = refl
-first_again true false false n m v e = refl
-first_again false true false n m v e = refl
-first_again false false false n m v e = refl
+-- each size stands in its line, or is the default where it has none
+sizes_again : (s r f : Bool) (n m v : ℕ) → (s ≡ true → n ≡ 31) → (r ≡ true → m ≡ 4096) → (f ≡ true → v ≡ 0) →
+    (size slots_in 31 (size_lines s r f n m v) ≡ n) × (size requests_in 4096 (size_lines s r f n m v) ≡ m) × (size first_in 0 (size_lines s r f n m v) ≡ v)
+sizes_again true true true n m v a b c = (sym (a refl), sym (b refl), sym (c refl))
+sizes_again true true false n m v a b c = (sym (a refl), sym (b refl), refl)
+sizes_again true false true n m v a b c = (sym (a refl), refl, sym (c refl))
+sizes_again true false false n m v a b c = (sym (a refl), refl, refl)
+sizes_again false true true n m v a b c = (refl, sym (b refl), sym (c refl))
+sizes_again false true false n m v a b c = (refl, sym (b refl), refl)
+sizes_again false false true n m v a b c = (refl, refl, sym (c refl))
+sizes_again false false false n m v a b c = (refl, refl, refl)
 
 pub printed_same : (s : List Item) → IsSameScript (printed_items s) s
 printed_same s =
     let p = printed_items s in
     let body = printed_body s in
-    let by_slots : (slots s == 31) ≡ true → slots s ≡ 31 = eqb-true (slots s) 31 in
+    let sizes =
+    sizes_again (slots s == 31) (requests s == 4096) (first_version s == 0) (slots s) (requests s) (first_version s) (eqb-true (slots s) 31) (eqb-true (requests s) 4096) (eqb-true (first_version s) 0) in
     record {
       operations_same = operations_same p s body;
       links_same = link_names_same p s body;
       clients_same = clients_same p s body;
       names_same = names_same p s body;
-      slots_same = size_printed slots_in 31 slots_only s ∙ slots_again (slots s == 31) (requests s == 4096) (first_version s == 0) (slots s) (requests s) (first_version s) by_slots;
-      requests_same = size_printed requests_in 4096 requests_only s ∙ requests_again (slots s == 31) (requests s == 4096) (first_version s == 0) (slots s) (requests s) (first_version s) (eqb-true (requests s) 4096);
-      first_same = size_printed first_in 0 first_only s ∙ first_again (slots s == 31) (requests s == 4096) (first_version s == 0) (slots s) (requests s) (first_version s) (eqb-true (first_version s) 0);
+      slots_same = size_printed slots_in 31 slots_only s ∙ sizes.0;
+      requests_same = size_printed requests_in 4096 requests_only s ∙ sizes.1;
+      first_same = size_printed first_in 0 first_only s ∙ sizes.2;
       schedule_same = schedule_same p s (printed_turns s);
     }
 

@@ -254,20 +254,7 @@ item_back before (To seat kind) h =
 
 first_word_is : (item : Item) → is_word (first_word item) ≡ true
 first_word_is (Slots n) = refl
-first_word_is (Requests n) = refl
-first_word_is (First v) = refl
-first_word_is (Open name shape) = refl
-first_word_is Client = refl
-first_word_is (Send name bytes) = refl
-first_word_is (Call call) = refl
-first_word_is (Expire client number) = refl
-first_word_is (Join client number) = refl
-first_word_is (Fail name code) = refl
-first_word_is (Hold name) = refl
-first_word_is (Drop name) = refl
-first_word_is Sched = refl
-first_word_is (Tick seat n) = refl
-first_word_is (To seat kind) = refl
+first_word_is _ = refl
 
 -- the first byte of a line that says an item
 abbrev is_comment : List ℕ → Bool
@@ -276,20 +263,7 @@ is_comment (b ∷ w) = b == 35
 
 no_comment : (item : Item) → is_comment (first_word item) ≡ false
 no_comment (Slots n) = refl
-no_comment (Requests n) = refl
-no_comment (First v) = refl
-no_comment (Open name shape) = refl
-no_comment Client = refl
-no_comment (Send name bytes) = refl
-no_comment (Call call) = refl
-no_comment (Expire client number) = refl
-no_comment (Join client number) = refl
-no_comment (Fail name code) = refl
-no_comment (Hold name) = refl
-no_comment (Drop name) = refl
-no_comment Sched = refl
-no_comment (Tick seat n) = refl
-no_comment (To seat kind) = refl
+no_comment _ = refl
 
 line_of_words : (before : List Item) (item : Item) (w : List ℕ) (ws : List (List ℕ)) → is_comment w ≡ false → list_all is_word (w ∷ ws) ≡ true → item_of before (w ∷ ws) ≡ Ok item → line_item before (w ++ flat_map word ws) ≡ Ok (Some item)
 line_of_words before item [] ws c h e = absurd (never c)

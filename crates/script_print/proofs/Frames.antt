@@ -173,21 +173,9 @@ operations_same a b e = same_by_body operations (operations_of 0 1) a b e
 -- ## What the lines of the schedule tell alone
 
 no_turn : (i : Item) → is_turn i ≡ false → turn_of i ≡ None
-no_turn (Slots n) e = refl
-no_turn (Requests n) e = refl
-no_turn (First v) e = refl
-no_turn (Open name shape) e = refl
-no_turn Client e = refl
-no_turn (Send name bytes) e = refl
-no_turn (Call call) e = refl
-no_turn (Expire client number) e = refl
-no_turn (Join client number) e = refl
-no_turn (Fail name code) e = refl
-no_turn (Hold name) e = refl
-no_turn (Drop name) e = refl
-no_turn Sched e = refl
 no_turn (Tick s n) e = absurd (true≢false e)
 no_turn (To s k) e = absurd (true≢false e)
+no_turn _ e = refl
 
 pub schedule_same : (a b : List Item) → filter is_turn a ≡ filter is_turn b → schedule a ≡ schedule b
 schedule_same a b e = sym (map_filter turn_of is_turn no_turn a) ∙ ap schedule e ∙ map_filter turn_of is_turn no_turn b

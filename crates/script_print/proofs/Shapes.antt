@@ -11,7 +11,7 @@ use Rattle.brpc_model.specs.ScriptText.{option_text, end_text, shape_text}
 use Rattle.script_print.proofs.Spaced.{is_word}
 use Rattle.script_print.proofs.Gives.{with_part, of_part, of_parts, of_part_test}
 use Rattle.script_print.proofs.Tokens.{IsWithin, number_within, number_back, decimal_word}
-use Rattle.script_print.proofs.PartLemmas.{unless, passed_over, picked, all_unless, behind_key, of_option, IsOption, number_option, number_option_back, number_option_word, word_parts}
+use Rattle.script_print.proofs.PartLemmas.{unless, all_unless, behind_key, of_option, IsOption, number_option, number_option_back, number_option_word, word_parts}
 
 -- ## The shape of a link
 
@@ -92,50 +92,42 @@ shape_words_pass p s hp ha hf hs he =
     last None h = refl
     last (Some n) h = and_from (p (codes "end=" ++ decimal n)) true (h n refl) refl
 
--- a test that passes none of the options but one
+-- an option that stands, where it is picked
+abbrev chosen : (List ℕ → Bool) → Bool → List ℕ → List (List ℕ)
+chosen p default w = if p w then unless default w else []
+
+chosen_on : (p : List ℕ → Bool) (default : Bool) (w : List ℕ) (rest : List (List ℕ)) → filter p (unless default w ++ rest) ≡ chosen p default w ++ filter p rest
+chosen_on p true w rest = elim (p w) as (λ t. filter p rest ≡ (if t then [] else []) ++ filter p rest) [ true ↦ refl | false ↦ refl ]
+chosen_on p false w rest = elim (p w) as (λ t. (if t then w ∷ filter p rest else filter p rest) ≡ (if t then w ∷ [] else []) ++ filter p rest) [ true ↦ refl | false ↦ refl ]
+
+-- what a test picks of the options, one behind another
+all_chosen : (p : List ℕ → Bool) (s : Shape) → filter p (shape_words s) ≡
+    chosen p (s.piece == 65536) (codes "piece=" ++ decimal s.piece) ++ (chosen p (s.again == 0) (codes "again=" ++ decimal s.again) ++ (chosen p (s.fail == 0) (codes "fail=" ++ decimal s.fail)
+    ++ (chosen p (not s.serve) (codes "serve") ++ filter p (end_words s.end))))
+all_chosen p s =
+    chosen_on p (s.piece == 65536) (codes "piece=" ++ decimal s.piece) (from_again s)
+    ∙ ap (λ l. chosen p (s.piece == 65536) (codes "piece=" ++ decimal s.piece) ++ l) (chosen_on p (s.again == 0) (codes "again=" ++ decimal s.again) (from_fail s)
+    ∙ ap (λ l. chosen p (s.again == 0) (codes "again=" ++ decimal s.again) ++ l) (chosen_on p (s.fail == 0) (codes "fail=" ++ decimal s.fail) (from_serve s)
+    ∙ ap (λ l. chosen p (s.fail == 0) (codes "fail=" ++ decimal s.fail) ++ l) (chosen_on p (not s.serve) (codes "serve") (end_words s.end))))
+
+-- a test that picks one of them and no end
+one_chosen : (p : List ℕ → Bool) (s : Shape) (words : List (List ℕ)) → filter p (shape_words s) ≡ words ++ filter p (end_words s.end) → ((n : ℕ) → p (codes "end=" ++ decimal n) ≡ false) → filter p (shape_words s) ≡ words
+one_chosen p s words one h = one ∙ ap (λ l. words ++ l) (serve_only p s.end h) ∙ append-nil words
+
 piece_words : (s : Shape) → filter (λ w. starts_with nat_eq w (codes "piece=")) (shape_words s) ≡ unless (s.piece == 65536) (codes "piece=" ++ decimal s.piece)
-piece_words s =
-    let p : List ℕ → Bool = λ w. starts_with nat_eq w (codes "piece=") in
-    picked p (s.piece == 65536) (codes "piece=" ++ decimal s.piece) (from_again s) refl
-    (passed_over p (s.again == 0) (codes "again=" ++ decimal s.again) (from_fail s) refl
-    ∙ passed_over p (s.fail == 0) (codes "fail=" ++ decimal s.fail) (from_serve s) refl
-    ∙ passed_over p (not s.serve) (codes "serve") (end_words s.end) refl
-    ∙ serve_only p s.end (λ n. refl))
+piece_words s = let p : List ℕ → Bool = λ w. starts_with nat_eq w (codes "piece=") in one_chosen p s _ (all_chosen p s) (λ n. refl)
 
 again_words : (s : Shape) → filter (λ w. starts_with nat_eq w (codes "again=")) (shape_words s) ≡ unless (s.again == 0) (codes "again=" ++ decimal s.again)
-again_words s =
-    let p : List ℕ → Bool = λ w. starts_with nat_eq w (codes "again=") in
-    passed_over p (s.piece == 65536) (codes "piece=" ++ decimal s.piece) (from_again s) refl
-    ∙ picked p (s.again == 0) (codes "again=" ++ decimal s.again) (from_fail s) refl
-    (passed_over p (s.fail == 0) (codes "fail=" ++ decimal s.fail) (from_serve s) refl
-    ∙ passed_over p (not s.serve) (codes "serve") (end_words s.end) refl
-    ∙ serve_only p s.end (λ n. refl))
+again_words s = let p : List ℕ → Bool = λ w. starts_with nat_eq w (codes "again=") in one_chosen p s _ (all_chosen p s) (λ n. refl)
 
 fail_words : (s : Shape) → filter (λ w. starts_with nat_eq w (codes "fail=")) (shape_words s) ≡ unless (s.fail == 0) (codes "fail=" ++ decimal s.fail)
-fail_words s =
-    let p : List ℕ → Bool = λ w. starts_with nat_eq w (codes "fail=") in
-    passed_over p (s.piece == 65536) (codes "piece=" ++ decimal s.piece) (from_again s) refl
-    ∙ passed_over p (s.again == 0) (codes "again=" ++ decimal s.again) (from_fail s) refl
-    ∙ picked p (s.fail == 0) (codes "fail=" ++ decimal s.fail) (from_serve s) refl
-    (passed_over p (not s.serve) (codes "serve") (end_words s.end) refl
-    ∙ serve_only p s.end (λ n. refl))
+fail_words s = let p : List ℕ → Bool = λ w. starts_with nat_eq w (codes "fail=") in one_chosen p s _ (all_chosen p s) (λ n. refl)
 
 serve_words : (s : Shape) → filter (bytes_eq (codes "serve")) (shape_words s) ≡ unless (not s.serve) (codes "serve")
-serve_words s =
-    let p : List ℕ → Bool = bytes_eq (codes "serve") in
-    passed_over p (s.piece == 65536) (codes "piece=" ++ decimal s.piece) (from_again s) refl
-    ∙ passed_over p (s.again == 0) (codes "again=" ++ decimal s.again) (from_fail s) refl
-    ∙ passed_over p (s.fail == 0) (codes "fail=" ++ decimal s.fail) (from_serve s) refl
-    ∙ picked p (not s.serve) (codes "serve") (end_words s.end) refl (serve_only p s.end (λ n. refl))
+serve_words s = one_chosen (bytes_eq (codes "serve")) s _ (all_chosen (bytes_eq (codes "serve")) s) (λ n. refl)
 
 end_word : (s : Shape) → filter (λ w. starts_with nat_eq w (codes "end=")) (shape_words s) ≡ end_words s.end
-end_word s =
-    let p : List ℕ → Bool = λ w. starts_with nat_eq w (codes "end=") in
-    passed_over p (s.piece == 65536) (codes "piece=" ++ decimal s.piece) (from_again s) refl
-    ∙ passed_over p (s.again == 0) (codes "again=" ++ decimal s.again) (from_fail s) refl
-    ∙ passed_over p (s.fail == 0) (codes "fail=" ++ decimal s.fail) (from_serve s) refl
-    ∙ passed_over p (not s.serve) (codes "serve") (end_words s.end) refl
-    ∙ kept s.end
+end_word s = all_chosen (λ w. starts_with nat_eq w (codes "end=")) s ∙ kept s.end
   where
     kept : (e : Option ℕ) → filter (λ w. starts_with nat_eq w (codes "end=")) (end_words e) ≡ end_words e
     kept None = refl

@@ -7,7 +7,7 @@ ghost use Rattle.script_items.specs.Meaning.{item};
 ghost use Rattle.script_print.specs.PrintedParts.{is_body, line, line_where, size_line, lines_text, size_items, body_items, schedule_items};
 
 use crate::lines::{push_line, push_size};
-use script_items::{Line, Script};
+use script_items::{Line, Script, first_version, request_count, slot_count};
 use std::alloc::{AllocError, Global};
 
 /// The number of socket slots where a script gives none.
@@ -18,42 +18,6 @@ const REQUESTS: u32 = 4_096;
 
 /// The first version of each slot where a script gives none.
 const FIRST: u32 = 0;
-
-/// The number of slots that the lines give, or its default.
-fn slots_of(lines: &[Line]) -> u32
-    ensures { result ≡ slots (map item lines.now) }
-{
-    for line in lines {
-        if let Line::Slots(count) = line {
-            return *count;
-        }
-    }
-    SLOTS
-}
-
-/// The number of requests that the lines give, or its default.
-fn requests_of(lines: &[Line]) -> u32
-    ensures { result ≡ requests (map item lines.now) }
-{
-    for line in lines {
-        if let Line::Requests(count) = line {
-            return *count;
-        }
-    }
-    REQUESTS
-}
-
-/// The first version that the lines give, or its default.
-fn first_of(lines: &[Line]) -> u32
-    ensures { result ≡ first_version (map item lines.now) }
-{
-    for line in lines {
-        if let Line::First(version) = line {
-            return *version;
-        }
-    }
-    FIRST
-}
 
 /// Whether the line is an operation or begins a client.
 fn is_body(line: &Line) -> bool
@@ -116,9 +80,9 @@ fn push_sizes(text: &mut Vec<u8>, lines: &[Line]) -> Result<(), AllocError>
     ensures { OnOk result (
         text.new.items ≡ text.old.items ++ lines_text (size_items (map item lines.now))) }
 {
-    push_size_line(text, b"slots", SLOTS, slots_of(lines))?;
-    push_size_line(text, b"requests", REQUESTS, requests_of(lines))?;
-    push_size_line(text, b"first", FIRST, first_of(lines))
+    push_size_line(text, b"slots", SLOTS, slot_count(lines))?;
+    push_size_line(text, b"requests", REQUESTS, request_count(lines))?;
+    push_size_line(text, b"first", FIRST, first_version(lines))
 }
 
 /// Appends the setup and the clients.

@@ -1,13 +1,12 @@
 ghost use Rattle.std.specs.Prelude.{◌≡◌, ◌++◌, map, codes, decimal, IfOk, OnOk};
 ghost use Rattle.sock_words.specs.OutcomeText.{outcome_text};
 ghost use Rattle.sock_words.specs.Printed.{word, hex_text};
-ghost use Rattle.brpc_model.specs.Items.{is_operation};
 ghost use Rattle.brpc_model.specs.Operations.{operations};
 ghost use Rattle.script_items.specs.Meaning.{item};
 ghost use Rattle.script_report.specs.Lines.{place_of, outcome_text_line};
 
 use crate::writing::{push_hex_word, push_number, push_number_word, push_pair};
-use script_items::Line;
+use script_items::{Line, is_operation};
 use sock_words::Outcome;
 use std::alloc::{AllocError, Global};
 
@@ -16,18 +15,6 @@ use std::alloc::{AllocError, Global};
 pub struct OperationPlace {
     pub client: usize,
     pub number: usize,
-}
-
-/// Whether the line is an operation of a client or of the setup.
-pub fn is_operation(line: &Line) -> bool
-    ensures { result ≡ is_operation (item line.now) }
-{
-    match line {
-        Line::Slots(_) | Line::Requests(_) | Line::First(_) => false,
-        Line::Client | Line::Sched | Line::Tick { .. } | Line::To { .. } => false,
-        Line::Open(_) | Line::Send(_) | Line::Call(_) | Line::Expire(_) => true,
-        Line::Join(_) | Line::Fail { .. } | Line::Hold(_) | Line::Drop(_) => true,
-    }
 }
 
 /// The places of all operations of a script, in its order.

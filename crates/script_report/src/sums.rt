@@ -5,9 +5,8 @@ ghost use Rattle.brpc_model.specs.PlaceWords.{HasEachOutcome, outcome_by_word, o
 ghost use Rattle.script_items.specs.Meaning.{item, call_of};
 ghost use Rattle.script_report.specs.Sums.{AreFew, one_of, together, told_of, sums_of};
 
-use crate::operations::is_operation;
 use crate::words::{first_word, outcome_by_word};
-use script_items::{CallLine, Line, SendLine};
+use script_items::{CallLine, Line, SendLine, is_operation};
 use sock_words::{Outcome, PlaceWord};
 
 /// What became of the sends and the calls of a run: how many there were, how many sends were placed with how many bytes,

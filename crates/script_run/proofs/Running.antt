@@ -29,7 +29,8 @@ use Rattle.sock_core.specs.Runs.{ShowFaults, LinksTell, TakesTell, ShowTakings, 
 use Rattle.sock_core.proofs.Resting.{rest_anyhow}
 use Rattle.sock_core.proofs.Joining.{run_append, answered_append, closes_append, offers_append, prompt_append, broken_append, show_faults_later, show_faults_join, tells_as, tells_join, takings_later, takings_join, takings_as, takes_join, takes_as}
 use Rattle.script_run.specs.Causes.{broken_of}
-use Rattle.script_run.specs.Played.{IsMade, IsPlayable, PlayedWith, HasPlayed, HasRun}
+use Rattle.sock_core.specs.Beginnings.{IsMade}
+use Rattle.script_run.specs.Played.{IsPlayable, PlayedWith, HasPlayed, HasRun}
 
 -- a seat behind the last one has no step left
 past_all : (seats : List SeatState) (i : ℕ) → length seats ≤ i → get_elem? seats i ≡ core.none

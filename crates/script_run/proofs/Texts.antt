@@ -47,7 +47,8 @@ use Rattle.script_links.specs.Offered.{AreAsked}
 use Rattle.script_report.specs.Sums.{told_of, sums_of, summary_text}
 use Rattle.script_run.specs.declared.report.Print.{Print}
 use Rattle.script_run.specs.declared.report.Print.TheVariants as print
-use Rattle.script_run.specs.Played.{IsMade, HasRun, AreHeard, IsWholeRun, IsEndTold, AreEndsTold, IsRunText, IsPrintOf, IsPrinted}
+use Rattle.sock_core.specs.Beginnings.{IsMade}
+use Rattle.script_run.specs.Played.{HasRun, AreHeard, IsWholeRun, IsEndTold, AreEndsTold, IsRunText, IsPrintOf, IsPrinted}
 use Rattle.script_run.proofs.Homes.{index_at, took_is, lies_is, told_is, tells_is}
 use Rattle.script_links.proofs.Offers.{asked_at, shapes_many}
 use Rattle.script_run.proofs.Idle.{clients_idle}

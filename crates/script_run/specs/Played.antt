@@ -14,11 +14,11 @@ use Rattle.seat_programs.specs.Asides.{Taking}
 use Rattle.seat_programs.specs.Cores.{Core}
 use Rattle.seat_programs.specs.Ticks.{Answer, Moment}
 use Rattle.seat_programs.specs.Runs.{IsAtRest, Turns}
-use Rattle.seat_programs.specs.Scripts.{IsRunWithCalls, Reports, is_callless, set_up, played, drawn_turns, took_at_home}
-use Rattle.seat_programs.specs.Tasks.{plan_of, id_plan_of, opens, calls}
+use Rattle.seat_programs.specs.Scripts.{IsRunWithCalls, Reports, is_callless, played, drawn_turns, took_at_home}
+use Rattle.seat_programs.specs.Tasks.{plan_of}
 use Rattle.report_fits.specs.Ends.{AreEndsOf, AreTold}
 use Rattle.run_laws.specs.Laws.{KeepsLaws}
-use Rattle.sock_io.specs.Link.{OutState, InState}
+use Rattle.sock_io.specs.Link.{InState}
 use Rattle.send_causes.specs.Below.owed_calls.specs.Lives.{ClosesInRun}
 use Rattle.sock_core.specs.Links.{Taken, Given, Agrees, AgreesGave, TellClosing, IsOffering}
 use Rattle.sock_core.specs.Machines.{MachineState, core_with}
@@ -39,17 +39,6 @@ turns_of script Own = schedule script
 turns_of script (Drawn seed) = drawn_turns script seed
 
 -- ## The machine
-
--- the machine stands behind the setup of the script, and its links took and gave nothing
-pub record IsMade (script : List Item) (m : MachineState) : Type 0 where
-  pub plan : m.plan ≡ plan_of script
-  pub id_plan : m.ids.plan ≡ id_plan_of script
-  pub opens : m.opens ≡ opens script
-  pub calls : m.calls ≡ calls script
-  pub agrees : Agrees m.links (λ k. [])
-  pub agrees_gave : AgreesGave m.links (λ k. [])
-  pub setup : (n : ℕ) × (core_with m (λ k. []) (λ k. []) ≡ set_up script n)
-  pub first : FirstRests m
 
 -- the schedule's turn: seat 0 has no step left, and neither has a seat with the highest number or one above
 pub record IsPlayable (m : MachineState) : Type 0 where

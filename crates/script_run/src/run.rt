@@ -1,7 +1,6 @@
 ghost use Rattle.std.specs.Prelude.{◌≡◌, ◌≢◌, ◌<◌, ◌≤◌, ℕ, List, Option, Ok, None, true, false, [], map, length, IfOk, IfSome, OnOk, IsOk, IsErrOf};
 ghost use Rattle.std.specs.List.{list_all, AllByRecursion};
 ghost use Rattle.brpc_model.specs.Link.{LinkEnd};
-ghost use Rattle.brpc_model.specs.Items.{Item};
 ghost use Rattle.brpc_model.specs.Script.{script_of};
 ghost use Rattle.brpc_model.specs.Operations.{link_names, operations};
 ghost use Rattle.brpc_model.specs.PlaceWords.{ArePlaces, HasEachOutcome};
@@ -9,12 +8,14 @@ ghost use Rattle.sock_io.specs.declared.link.Ends.{Ends};
 ghost use Rattle.sock_io.specs.Causes.{Rose};
 ghost use Rattle.sock_io.specs.Link.{end_of};
 ghost use Rattle.sock_words.specs.declared.outcome.Outcome.{Outcome};
+ghost use Rattle.sock_core.specs.Beginnings.{IsMade};
 ghost use Rattle.sock_core.specs.Finish.{told_from};
+ghost use Rattle.sock_core.specs.Linkers.{SaysAsBefore};
 ghost use Rattle.sock_core.specs.Links.{AreAlwaysReady, TellClosing};
 ghost use Rattle.sock_core.specs.Runs.{SameLinks};
 ghost use Rattle.script_links.specs.Given.{AreNumbered, AreUntouched, IsBeginning, has_piece, specs_of};
 ghost use Rattle.script_links.specs.Offered.{AreAsked, TellOffers};
-ghost use Rattle.script_run.specs.Played.{IsMade, HasRun, IsPrintOf, IsPrinted, TellClosed, turns_of};
+ghost use Rattle.script_run.specs.Played.{HasRun, IsPrintOf, IsPrinted, TellClosed, turns_of};
 ghost use Rattle.report_fits.specs.Ends.{AreTold};
 
 use crate::outline::Outline;
@@ -217,12 +218,7 @@ fn play<L: Linker>(
     ensures run { OnOk result (AreAlwaysReady machine.old.links → HasRun script.now (turns_of script.now schedule) machine.old machine.new) }
     ensures plan { OnOk result ((machine.new.plan ≡ machine.old.plan) × (machine.new.ids.plan ≡ machine.old.ids.plan)) }
     ensures ends { SameLinks machine.old machine.new }
-    ensures asked { L.asked links.new ≡ L.asked links.old }
-    ensures accepted { L.accepted links.new ≡ L.accepted links.old }
-    ensures back { L.back links.new ≡ L.back links.old }
-    ensures done { L.done links.new ≡ L.done links.old }
-    ensures faults { L.faults links.new ≡ L.faults links.old }
-    ensures always_ready { L.always_ready links.new ≡ L.always_ready links.old }
+    ensures says { SaysAsBefore L.asked L.accepted L.back L.done L.faults L.always_ready links.old links.new }
 {
     play_schedule(machine, links, script, schedule)?;
     machine.settle(links)

@@ -7,6 +7,7 @@ ghost use Rattle.seat_programs.specs.Scripts.{drawn_turns};
 ghost use Rattle.brpc_model.specs.Operations.{seat_number, turn_of, schedule};
 ghost use Rattle.script_items.specs.Meaning.{seat_of};
 ghost use Rattle.sock_words.specs.KindText.{kind_text};
+ghost use Rattle.sock_core.specs.Linkers.{SaysAsBefore};
 ghost use Rattle.sock_core.specs.Runs.{SameLinks};
 ghost use Rattle.script_run.specs.Outlines.{meant};
 ghost use Rattle.script_run.specs.Played.{IsPlayable, HasPlayed, HasTurns, turns_of};
@@ -49,12 +50,7 @@ fn tick_seat<L: Linker>(
     ensures idle { result ≡ Ok false → (n : ℕ) → HasPlayed (λ c moments. seats_of moments ≡ replicate n seat) machine.old machine.new }
     ensures playable { OnOk result (IsPlayable machine.new) }
     ensures ends { SameLinks machine.old machine.new }
-    ensures asked { L.asked links.new ≡ L.asked links.old }
-    ensures accepted { L.accepted links.new ≡ L.accepted links.old }
-    ensures back { L.back links.new ≡ L.back links.old }
-    ensures done { L.done links.new ≡ L.done links.old }
-    ensures faults { L.faults links.new ≡ L.faults links.old }
-    ensures always_ready { L.always_ready links.new ≡ L.always_ready links.old }
+    ensures says { SaysAsBefore L.asked L.accepted L.back L.done L.faults L.always_ready links.old links.new }
 {
     match machine.tick(links, seat)? {
         Tick::Moved(_) | Tick::Waits(_) => Ok(true),
@@ -73,12 +69,7 @@ fn play_ticks<L: Linker>(
     ensures played { OnOk result (HasPlayed (λ c moments. seats_of moments ≡ replicate ticks seat) machine.old machine.new) }
     ensures playable { OnOk result (IsPlayable machine.new) }
     ensures ends { SameLinks machine.old machine.new }
-    ensures asked { L.asked links.new ≡ L.asked links.old }
-    ensures accepted { L.accepted links.new ≡ L.accepted links.old }
-    ensures back { L.back links.new ≡ L.back links.old }
-    ensures done { L.done links.new ≡ L.done links.old }
-    ensures faults { L.faults links.new ≡ L.faults links.old }
-    ensures always_ready { L.always_ready links.new ≡ L.always_ready links.old }
+    ensures says { SaysAsBefore L.asked L.accepted L.back L.done L.faults L.always_ready links.old links.new }
 {
     for _ in 0..ticks {
         if !tick_seat(machine, links, seat)? {
@@ -99,12 +90,7 @@ fn play_until<L: Linker>(
     ensures played { OnOk result (HasPlayed (LeadsUpTo machine.old.plan seat (kind_text kind)) machine.old machine.new) }
     ensures playable { OnOk result (IsPlayable machine.new) }
     ensures ends { SameLinks machine.old machine.new }
-    ensures asked { L.asked links.new ≡ L.asked links.old }
-    ensures accepted { L.accepted links.new ≡ L.accepted links.old }
-    ensures back { L.back links.new ≡ L.back links.old }
-    ensures done { L.done links.new ≡ L.done links.old }
-    ensures faults { L.faults links.new ≡ L.faults links.old }
-    ensures always_ready { L.always_ready links.new ≡ L.always_ready links.old }
+    ensures says { SaysAsBefore L.asked L.accepted L.back L.done L.faults L.always_ready links.old links.new }
 {
     machine.tick_until(links, seat, kind)
 }
@@ -119,12 +105,7 @@ fn play_mark<L: Linker>(
     ensures played { OnOk result (HasPlayed (HasTurns machine.old.plan (turn_of (meant mark.now))) machine.old machine.new) }
     ensures playable { OnOk result (IsPlayable machine.new) }
     ensures ends { SameLinks machine.old machine.new }
-    ensures asked { L.asked links.new ≡ L.asked links.old }
-    ensures accepted { L.accepted links.new ≡ L.accepted links.old }
-    ensures back { L.back links.new ≡ L.back links.old }
-    ensures done { L.done links.new ≡ L.done links.old }
-    ensures faults { L.faults links.new ≡ L.faults links.old }
-    ensures always_ready { L.always_ready links.new ≡ L.always_ready links.old }
+    ensures says { SaysAsBefore L.asked L.accepted L.back L.done L.faults L.always_ready links.old links.new }
 {
     match mark {
         Mark::Tick { seat, ticks } => play_ticks(machine, links, seat_number(*seat), *ticks),
@@ -143,12 +124,7 @@ fn play_marks<L: Linker>(
     ensures played { OnOk result (HasPlayed (λ c. Scheduled machine.old.plan c (schedule (map meant marks.now))) machine.old machine.new) }
     ensures playable { OnOk result (IsPlayable machine.new) }
     ensures ends { SameLinks machine.old machine.new }
-    ensures asked { L.asked links.new ≡ L.asked links.old }
-    ensures accepted { L.accepted links.new ≡ L.accepted links.old }
-    ensures back { L.back links.new ≡ L.back links.old }
-    ensures done { L.done links.new ≡ L.done links.old }
-    ensures faults { L.faults links.new ≡ L.faults links.old }
-    ensures always_ready { L.always_ready links.new ≡ L.always_ready links.old }
+    ensures says { SaysAsBefore L.asked L.accepted L.back L.done L.faults L.always_ready links.old links.new }
 {
     for mark in marks {
         play_mark(machine, links, mark)?;
@@ -168,12 +144,7 @@ fn play_drawn<L: Linker>(
     ensures played { OnOk result (HasPlayed (λ c. Scheduled machine.old.plan c (drawn_turns script.now seed)) machine.old machine.new) }
     ensures playable { OnOk result (IsPlayable machine.new) }
     ensures ends { SameLinks machine.old machine.new }
-    ensures asked { L.asked links.new ≡ L.asked links.old }
-    ensures accepted { L.accepted links.new ≡ L.accepted links.old }
-    ensures back { L.back links.new ≡ L.back links.old }
-    ensures done { L.done links.new ≡ L.done links.old }
-    ensures faults { L.faults links.new ≡ L.faults links.old }
-    ensures always_ready { L.always_ready links.new ≡ L.always_ready links.old }
+    ensures says { SaysAsBefore L.asked L.accepted L.back L.done L.faults L.always_ready links.old links.new }
 {
     let plan = script.plan();
     let mut seats = DrawnSeats::new(plan.seats - 1, plan.links, seed);
@@ -196,12 +167,7 @@ pub fn play_schedule<L: Linker>(
     ensures played { OnOk result (HasPlayed (λ c. Scheduled machine.old.plan c (turns_of script.now schedule)) machine.old machine.new) }
     ensures playable { OnOk result (IsPlayable machine.new) }
     ensures ends { SameLinks machine.old machine.new }
-    ensures asked { L.asked links.new ≡ L.asked links.old }
-    ensures accepted { L.accepted links.new ≡ L.accepted links.old }
-    ensures back { L.back links.new ≡ L.back links.old }
-    ensures done { L.done links.new ≡ L.done links.old }
-    ensures faults { L.faults links.new ≡ L.faults links.old }
-    ensures always_ready { L.always_ready links.new ≡ L.always_ready links.old }
+    ensures says { SaysAsBefore L.asked L.accepted L.back L.done L.faults L.always_ready links.old links.new }
 {
     match schedule {
         Schedule::Own => play_marks(machine, links, script.marks()),

@@ -23,20 +23,7 @@ call_short call range names o =
 
 item_short : (item : Item) → InRange item → IsShort item
 item_short (Call call) range = call_short call range
-item_short (Slots n) range = tt
-item_short (Requests n) range = tt
-item_short (First n) range = tt
-item_short Client range = tt
-item_short (Open name shape) range = tt
-item_short (Send name bytes) range = tt
-item_short (Expire client i) range = tt
-item_short (Join client i) range = tt
-item_short (Fail name c) range = tt
-item_short (Hold name) range = tt
-item_short (Drop name) range = tt
-item_short Sched range = tt
-item_short (Tick s n) range = tt
-item_short (To s n) range = tt
+item_short _ range = tt
 
 pub are_short : (script : List Item) → AllByRecursion InRange script → AllByRecursion IsShort script
 are_short [] all = tt

@@ -4,8 +4,8 @@ ghost use Rattle.script_items.specs.Meaning.{item};
 ghost use Rattle.report_fits.specs.Limits.{KeepsLimits};
 ghost use Rattle.script_tasks.specs.Along.{ends_along, operation_in};
 
-use crate::sizes::{is_call, is_client, is_open, is_operation};
-use script_items::{Line, Target};
+use crate::sizes::{is_call, is_open};
+use script_items::{Line, Target, is_client, is_operation};
 use std::alloc::{AllocError, Global};
 use std::collections::VecDeque;
 

@@ -5,11 +5,9 @@ ghost use Rattle.script_items.specs.Meaning.{item};
 ghost use Rattle.report_fits.specs.Limits.{KeepsLimits};
 
 use crate::names::names_of;
-use crate::sizes::{
-    call_count, client_count, first_version, link_count, operation_count, request_count, slot_count,
-};
+use crate::sizes::{call_count, link_count, operation_count};
 use corr_core::Plan as IdPlan;
-use script_items::Line;
+use script_items::{Line, client_count, first_version, request_count, slot_count};
 use seat_programs::Sizes;
 use sock_words::Plan;
 use std::alloc::{AllocError, Global};

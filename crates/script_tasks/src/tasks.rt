@@ -9,8 +9,8 @@ ghost use Rattle.script_tasks.specs.Along.{Knows, IsShort, numbered_as, task_at}
 
 use crate::names::{names_of, number_of, numbers_of};
 use crate::places::{operation_at, starts_of};
-use crate::sizes::{is_client, is_open, is_operation};
-use script_items::{CallLine, Line, Name};
+use crate::sizes::is_open;
+use script_items::{CallLine, Line, Name, is_client, is_operation};
 use seat_programs::{Op, Task};
 use sock_message::{BlockPool, Call, Message, NoMemory};
 use std::alloc::{AllocError, Global};

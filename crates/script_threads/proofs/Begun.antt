@@ -1,5 +1,5 @@
 -- What became of the first attempt of each call of a script whose links were read beside its clients.
-use Rattle.std.proofs.Common.{◌≡◌, ℕ, List, ◌∷◌, Option, Ok, sym, subst}
+use Rattle.std.proofs.Common.{◌≡◌, ℕ, List, Option, Ok, sym, subst}
 use Rattle.sock_io.specs.declared.link.Out.{Ghosts}
 use Rattle.sock_io.specs.Link.{OutState, InState}
 use Rattle.sock_words.specs.declared.outcome.Outcome.{Outcome}
@@ -18,6 +18,7 @@ use Rattle.script_parts.specs.call_whys.specs.Below.sock_deeds.proofs.Orders.{or
 use Rattle.script_parts.specs.calls_done.specs.Begun.{FirstAttempt, Stands, BecameUnopened, FoundFailing, FoundFull}
 use Rattle.script_parts.specs.calls_done.proofs.Begun.{first_attempt}
 use Rattle.script_threads.specs.Told.{seated_plan, IsThreadsRun}
+use Rattle.script_threads.proofs.Cast.{cast_of}
 use Rattle.script_threads.proofs.Sockets as sockets
 
 -- nothing of it speaks of seats
@@ -32,8 +33,7 @@ abbrev pub AreBegun : List Item → List (Option Outcome) → Fixed → (ℕ →
 AreBegun script outcomes fixed gave orders = (c o : ℕ) (asked : Asked) → IsOperation (all_tasks script) outcomes c o (ops.Call asked) → FirstAttempt (plan_of script) (all_tasks script) outcomes fixed gave orders o (name_of asked 0)
 
 module _ (P : Type 0) {O I : Type 0} (g : Ghosts O) (out : O → OutState) (inn : I → InState) (bytes : List ℕ) (script : List Item) (reads : script_of bytes ≡ Ok script) (text : List ℕ) (links : List LinkEnd) (r : IsThreadsRun P g out inn script text links) where
-  abbrev outcomes : List (Option Outcome)
-  outcomes = sockets.outcomes P g out inn bytes script reads text links r
+  open cast_of r use {all, outcomes}
 
   abbrev fixed : Fixed
   fixed = sockets.fixed P g out inn bytes script reads text links r
@@ -43,5 +43,5 @@ module _ (P : Type 0) {O I : Type 0} (g : Ghosts O) (out : O → OutState) (inn 
 
   pub begun_beside : (given : ℕ → List ℕ) → AreBegun script outcomes fixed given by_link
   begun_beside given c o asked is = subst (λ (l : List (List Task)). FirstAttempt (plan_of script) l outcomes fixed given by_link o (name_of asked 0)) r.left.tasks
-      (first_still (plan_of script) (seated_plan script).seats (r.left.setup ∷ r.left.clients) outcomes fixed given by_link o (name_of asked 0)
+      (first_still (plan_of script) (seated_plan script).seats all outcomes fixed given by_link o (name_of asked 0)
       (first_attempt (sockets.run P g out inn bytes script reads text links r) (sockets.differ P g out inn bytes script reads text links r) given c o asked (subst (λ (l : List (List Task)). IsOperation l outcomes c o (ops.Call asked)) (sym r.left.tasks) is)))

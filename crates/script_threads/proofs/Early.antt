@@ -49,6 +49,14 @@ rose_some a b h = omega (arith, h)
 fault_stays : (slots : ℕ) (bytes left more : List ℕ) (b b' : Books) → MetAll slots bytes left b b' → (f : FrameFault) → judged left ≡ Faulty f → HasFault (bytes ++ more)
 fault_stays slots bytes left more b b' m f e = (m.cut.size, f, ap (λ (s : Stream). s.ending) (stream_begins bytes left _ m.cut more) ∙ ap (λ (s : Stream). s.ending) (faulty m.cut.size left more f e))
 
+-- a reading half that gave these bytes shows why its reading ended with the code: at a fault in them; or since it was closed, as far as it tells that, or ended early
+abbrev pub ShowsEnd : List ℕ → InState → ℕ → Type 0
+ShowsEnd gave t code = ((code ≡ ERESPONSE) × HasFault gave) ⊎ ((code ≡ EEOF) × (IfSome t.closed (λ closed. closed ≡ true) ⊎ ShowsEarly gave t))
+
+closed_true : (o u : Option Bool) → u ≡ option_map (λ _. true) o → IfSome u (λ closed. closed ≡ true)
+closed_true None u e = subst (λ (y : Option Bool). IfSome y (λ closed. closed ≡ true)) (sym e) tt
+closed_true (Some b) u e = subst (λ (y : Option Bool). IfSome y (λ closed. closed ≡ true)) (sym e) refl
+
 module _ (q : id_plan.Plan) (link : ℕ) (calls : List ℕ) (s t : InState) where
   module _ (id : ℕ) (v w : View) (b b' : Books) (r : ReadToEnd q link calls false false s t id v w b b') where
     abbrev bytes : List ℕ
@@ -74,6 +82,23 @@ module _ (q : id_plan.Plan) (link : ℕ) (calls : List ℕ) (s t : InState) wher
 
     pub shows_early : fails r.how ≡ true → ShowsEarly bytes t
     shows_early e = shows_by r.how r.read.ends r.thrown (r.calm refl).1 e
+
+    -- with which code it ended
+    ends_by : (h : How) → EndsBy false h r.read.last.answer r.read.left r.total → ThrownIf (throws h) false r.total r.between t → is_starved h ≡ false → (fails h ≡ true → ShowsEarly bytes t) → ShowsEnd bytes t (reading_code h)
+    ends_by how.End ends thrown calm early = inr (refl, inr (early refl))
+    ends_by how.Failed ends thrown calm early = inr (refl, inr (early refl))
+    ends_by how.Limit ends thrown calm early = inr (refl, inr (early refl))
+    ends_by how.Fault ends thrown calm early = inl (refl, fault_stays q.slots (met_bytes q link calls false false s t b b' (link_read q link calls false false s t id v w b b' r)) r.read.left (rest_bytes q link calls false false s t b b' (link_read q link calls false false s t id v w b b' r)) b r.met r.read.met ends.0 ends.1)
+    ends_by how.Closed ends thrown calm early = inr (refl, inl (closed_true step.0.closed t.closed (ap (λ (i : InState). i.closed) thrown ∙ step.1.closed.0 ends.0)))
+    ends_by how.Empty ends thrown calm early = absurd (let k : false ≡ true = ends.1 in cc)
+    ends_by how.NoMemory ends thrown calm early = absurd (cc)
+
+    pub shows_end : ShowsEnd bytes t (reading_code r.how)
+    shows_end = ends_by r.how r.read.ends r.thrown (r.calm refl).1 (shows_early q link calls s t id v w b b' r)
+
+  end_if : (o : Option SocketId) (v w : View) (b b' : Books) (r : ReadIf q link calls false false s t o v w b b') (code : ℕ) → EndedIf q link calls s t o v w b b' r code → ShowsEnd (if_bytes q link calls false false s t o v w b b' r) t code
+  end_if None v w b b' r code e = absurd e
+  end_if (Some id) v w b b' r code e = subst (ShowsEnd (bytes id.0 v w b b' r) t) e (shows_end id.0 v w b b' r)
 
 -- ## Readers
 
@@ -111,40 +136,6 @@ module _ {O : Type 0} {g : Ghosts O} (state : O → OutState) (p : Plan) (q : id
   -- each link whose reading ended early shows it
   pub early_shown : (link : ℕ) (os : List ℕ) (xs : List (LinkReader g)) (a : AreReaders p q calls link os xs) (k : ℕ) → Contains (early_links state p q calls link os xs a) k → HasShown xs (readers_gave p q calls xs (each_read p q calls link os xs a)) link k
   early_shown link os xs a k h = let w = has_from (early_links state p q calls link os xs a) k h in shown_at link os xs a w.0 k w.1
-
--- ## With which code a reading ended
-
--- a reading half that gave these bytes shows why its reading ended with the code: at a fault in them; or since it was closed, as far as it tells that, or ended early
-abbrev pub ShowsEnd : List ℕ → InState → ℕ → Type 0
-ShowsEnd gave t code = ((code ≡ ERESPONSE) × HasFault gave) ⊎ ((code ≡ EEOF) × (IfSome t.closed (λ closed. closed ≡ true) ⊎ ShowsEarly gave t))
-
-closed_true : (o u : Option Bool) → u ≡ option_map (λ _. true) o → IfSome u (λ closed. closed ≡ true)
-closed_true None u e = subst (λ (y : Option Bool). IfSome y (λ closed. closed ≡ true)) (sym e) tt
-closed_true (Some b) u e = subst (λ (y : Option Bool). IfSome y (λ closed. closed ≡ true)) (sym e) refl
-
-module _ (q : id_plan.Plan) (link : ℕ) (calls : List ℕ) (s t : InState) where
-  module _ (id : ℕ) (v w : View) (b b' : Books) (r : ReadToEnd q link calls false false s t id v w b b') where
-    abbrev gave_bytes : List ℕ
-    gave_bytes = read_bytes q link calls false false s t b b' (link_read q link calls false false s t id v w b b' r)
-
-    abbrev last_take : (m : InState) × TakeStep m r.between r.read.last.room r.read.last.answer
-    last_take = last_step r.read.earlier r.read.last s r.between r.read.steps
-
-    ends_by : (h : How) → EndsBy false h r.read.last.answer r.read.left r.total → ThrownIf (throws h) false r.total r.between t → is_starved h ≡ false → (fails h ≡ true → ShowsEarly gave_bytes t) → ShowsEnd gave_bytes t (reading_code h)
-    ends_by how.End ends thrown calm early = inr (refl, inr (early refl))
-    ends_by how.Failed ends thrown calm early = inr (refl, inr (early refl))
-    ends_by how.Limit ends thrown calm early = inr (refl, inr (early refl))
-    ends_by how.Fault ends thrown calm early = inl (refl, fault_stays q.slots (met_bytes q link calls false false s t b b' (link_read q link calls false false s t id v w b b' r)) r.read.left (rest_bytes q link calls false false s t b b' (link_read q link calls false false s t id v w b b' r)) b r.met r.read.met ends.0 ends.1)
-    ends_by how.Closed ends thrown calm early = inr (refl, inl (closed_true last_take.0.closed t.closed (ap (λ (i : InState). i.closed) thrown ∙ last_take.1.closed.0 ends.0)))
-    ends_by how.Empty ends thrown calm early = absurd (let k : false ≡ true = ends.1 in cc)
-    ends_by how.NoMemory ends thrown calm early = absurd (cc)
-
-    pub shows_end : ShowsEnd gave_bytes t (reading_code r.how)
-    shows_end = ends_by r.how r.read.ends r.thrown (r.calm refl).1 (shows_early q link calls s t id v w b b' r)
-
-  end_if : (o : Option SocketId) (v w : View) (b b' : Books) (r : ReadIf q link calls false false s t o v w b b') (code : ℕ) → EndedIf q link calls s t o v w b b' r code → ShowsEnd (if_bytes q link calls false false s t o v w b b' r) t code
-  end_if None v w b b' r code e = absurd e
-  end_if (Some id) v w b b' r code e = subst (ShowsEnd (gave_bytes id.0 v w b b' r) t) e (shows_end id.0 v w b b' r)
 
 module _ {O : Type 0} {g : Ghosts O} (p : Plan) (q : id_plan.Plan) (calls : List ℕ) where
   -- of a reader

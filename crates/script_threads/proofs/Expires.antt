@@ -1,14 +1,11 @@
 -- What is told of the calls of a script whose links were read beside its clients.
-use Rattle.std.proofs.Common.{◌≡◌, ℕ, List, ◌∷◌, Option, Ok, subst}
+use Rattle.std.proofs.Common.{◌≡◌, ℕ, List, Ok, subst}
 use Rattle.sock_io.specs.declared.link.Out.{Ghosts}
 use Rattle.sock_io.specs.Link.{OutState, InState}
 use Rattle.sock_words.specs.declared.outcome.Outcome.{Outcome}
-use Rattle.sock_words.specs.declared.plain.Plan.{Plan}
 use Rattle.brpc_model.specs.Items.{Item}
 use Rattle.brpc_model.specs.Link.{LinkEnd}
 use Rattle.brpc_model.specs.Script.{script_of}
-use Rattle.corr_core.specs.declared.marks.View.{View}
-use Rattle.sock_message.specs.Asked.{Asked}
 use Rattle.seat_programs.specs.declared.task.Op.TheVariants as ops
 use Rattle.seat_programs.specs.declared.task.Task.{Task}
 use Rattle.seat_programs.specs.Scripts.{all_tasks}
@@ -20,24 +17,15 @@ use Rattle.script_parts.specs.call_whys.specs.expire_told.specs.Said.{WhyExpired
 use Rattle.script_parts.specs.call_whys.specs.expire_told.proofs.Whole.{expire_why, once}
 use Rattle.script_parts.specs.call_whys.specs.Below.sock_deeds.proofs.Orders.{orders}
 use Rattle.script_parts.specs.Told.{AreCallsTold}
-use Rattle.script_threads.specs.Told.{seated_plan, IsThreadsRun}
+use Rattle.script_threads.specs.Told.{IsThreadsRun}
+use Rattle.script_threads.proofs.Cast.{cast_of}
 use Rattle.script_threads.proofs.Attempts.{calls_apart}
 use Rattle.script_threads.proofs.Failing.{failed, again, expires}
 use Rattle.script_threads.proofs.Sockets as sockets
 use Rattle.script_threads.proofs.Telling.{keeps, of_calls, said, said_ended, begun_not}
 
 module _ (P : Type 0) {O I : Type 0} (g : Ghosts O) (out : O → OutState) (inn : I → InState) (bytes : List ℕ) (script : List Item) (reads : script_of bytes ≡ Ok script) (text : List ℕ) (links : List LinkEnd) (r : IsThreadsRun P g out inn script text links) where
-  abbrev p : Plan
-  p = seated_plan script
-
-  abbrev all : List (List Task)
-  all = r.left.setup ∷ r.left.clients
-
-  abbrev last : View Asked
-  last = r.rest.last.view
-
-  abbrev outcomes : List (Option Outcome)
-  outcomes = sockets.outcomes P g out inn bytes script reads text links r
+  open cast_of r use {p, all, last, outcomes}
 
   module _ (given : ℕ → List ℕ) (is_gave : given ≡ sockets.gave P g out inn bytes script reads text links r) where
     abbrev fixed : Fixed

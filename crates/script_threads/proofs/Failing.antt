@@ -1,5 +1,5 @@
 -- Why each call of a script failed whose links were read beside its clients, and why each attempt of one behind the first was made.
-use Rattle.std.proofs.Common.{◌≡◌, ℕ, suc, false, ◌+◌, ◌*◌, ◌<◌, ◌≤◌, ◌⊎◌, inl, inr, List, [], ◌∷◌, ◌++◌, length, map, replicate, slice_get, Contains, true, Option, Some, None, Ok, refl, sym, ap, ◌∙◌, subst, arith}
+use Rattle.std.proofs.Common.{◌≡◌, ℕ, suc, false, ◌+◌, ◌*◌, ◌<◌, ◌≤◌, ◌⊎◌, inl, inr, List, [], ◌∷◌, ◌++◌, length, map, replicate, slice_get, Contains, true, Some, None, Ok, refl, sym, ap, ◌∙◌, subst, arith}
 use Rattle.std.specs.Prelude.{IfSome}
 use Rattle.std.specs.List.{AllByRecursion, flat_map}
 use Rattle.std.proofs.lemmas.List.{map-append, length-map}
@@ -12,7 +12,6 @@ use Rattle.sock_io.specs.Link.{OutState, InState, end_of}
 use Rattle.sock_words.specs.Codes.{EEOF, ERESPONSE}
 use Rattle.sock_words.specs.declared.outcome.Outcome.{Outcome}
 use Rattle.sock_words.specs.declared.outcome.Outcome.TheVariants.{CallFailed}
-use Rattle.sock_words.specs.declared.plain.Plan.{Plan}
 use Rattle.brpc_model.specs.Items.{Item}
 use Rattle.brpc_model.specs.Link.{LinkEnd}
 use Rattle.brpc_model.specs.Script.{script_of}
@@ -25,7 +24,6 @@ use Rattle.corr_core.specs.Word.{Parts, code_of}
 use Rattle.corr_core.specs.declared.marks.Kept.{Kept}
 use Rattle.corr_core.specs.declared.marks.Note.{Note}
 use Rattle.corr_core.specs.declared.marks.Noted.{Noted}
-use Rattle.corr_core.specs.declared.marks.Plan as id_plan
 use Rattle.corr_core.specs.declared.marks.View.{View}
 use Rattle.script_parts.specs.id_rule.specs.Lawful.{at_index, notes_of as notes_in}
 use Rattle.corr_core.proofs.Notes.{only-at}
@@ -38,7 +36,7 @@ use Rattle.seat_programs.specs.Tasks.{plan_of, opens, calls}
 use Rattle.seat_programs.specs.Told.{IsTask, Became}
 use Rattle.seat_programs.specs.ToldCalls.{Fixed, Order, GaveFault, FailedBy, WhyAgain, WhyExpire}
 use Rattle.rpc_client.specs.declared.acting.Told.{Told}
-use Rattle.rpc_reader.specs.Books.{Books, id_of}
+use Rattle.rpc_reader.specs.Books.{id_of}
 use Rattle.call_run.specs.Readers.{LinkReader, IsReader}
 use Rattle.call_run.specs.Threads.{Thread}
 use Rattle.script_parts.specs.report_fits.proofs.Sizes.{keeps_limits}
@@ -86,7 +84,6 @@ use Rattle.rpc_reader.specs.Posting.{call_at}
 use Rattle.sock_words.specs.Words.{at_word_link}
 use Rattle.std.proofs.lemmas.Nat.{div-add-mod'}
 use Rattle.script_parts.specs.Seats.{IdSeat}
-use Rattle.script_parts.specs.Told.{outcomes_of}
 use Rattle.script_parts.proofs.Clients as clients
 use Rattle.script_parts.proofs.Failing.{fails_within, same_failure, not_own}
 use Rattle.script_parts.proofs.Numbers.{few_calls}
@@ -95,7 +92,8 @@ use Rattle.script_parts.proofs.Shown.{view_of, flat_mapped}
 use Rattle.script_parts.proofs.Sockets.{map_twice}
 use Rattle.script_parts.proofs.Tellers.{split, only_one, IsEndTold}
 use Rattle.script_parts.proofs.Tellers as tellers
-use Rattle.script_threads.specs.Told.{seated_plan, seated_ids, IsThreadsRun}
+use Rattle.script_threads.specs.Told.{IsThreadsRun}
+use Rattle.script_threads.proofs.Cast.{cast_of}
 use Rattle.script_threads.proofs.Early.{ShowsEarly, ShowsEnd, early_shown, reader_end, HasPlace, place_of}
 use Rattle.script_threads.proofs.Left.{all_seats, early_of, notes_of}
 use Rattle.script_threads.proofs.Attempts as attempts
@@ -112,35 +110,16 @@ all_places Q [] h = tt
 all_places Q (x ∷ xs) h = (h 0 x refl, all_places Q xs (λ j y at. h (suc j) y at))
 
 module _ (P : Type 0) {O I : Type 0} (g : Ghosts O) (out : O → OutState) (inn : I → InState) (bytes : List ℕ) (script : List Item) (reads : script_of bytes ≡ Ok script) (text : List ℕ) (links : List LinkEnd) (r : IsThreadsRun P g out inn script text links) where
-  abbrev p : Plan
-  p = seated_plan script
-
-  abbrev q : id_plan.Plan
-  q = seated_ids script
+  open cast_of r use {p, q, all, readers, main, last, outcomes}
 
   abbrev slots : ℕ
   slots = length (calls script)
-
-  abbrev all : List (List Task)
-  all = r.left.setup ∷ r.left.clients
-
-  abbrev readers : List (LinkReader g)
-  readers = r.left.readers
-
-  abbrev main : Books
-  main = sockets.main P g out inn bytes script reads text links r
-
-  abbrev last : View Asked
-  last = r.rest.last.view
 
   abbrev notes : List (Noted Asked)
   notes = last.notes
 
   abbrev own_ids : List (View Asked)
   own_ids = map view_of r.ids
-
-  abbrev outcomes : List (Option Outcome)
-  outcomes = outcomes_of (plan_of script).operations r.told (r.ended ++ r.read) r.last
 
   abbrev drun : DeedRun g out p all outcomes r.places r.left.vrefs r.left.outs
   drun = sockets.run P g out inn bytes script reads text links r

@@ -1,42 +1,32 @@
 -- Why each `join` of a script has its outcome, where its links were read beside its clients.
-use Rattle.std.proofs.Common.{◌≡◌, ℕ, List, ◌∷◌, ◌++◌, Option, Some, Ok, sym, ap, ◌∙◌, subst}
-use Rattle.std.specs.Prelude.{slice_get}
+use Rattle.std.proofs.Common.{◌≡◌, ℕ, List, Option, Ok, sym, subst}
 use Rattle.sock_io.specs.declared.link.Out.{Ghosts}
 use Rattle.sock_io.specs.Link.{OutState, InState}
 use Rattle.sock_words.specs.declared.outcome.Outcome.{Outcome}
 use Rattle.sock_words.specs.declared.outcome.Outcome.TheVariants.{Joined, NotBegun}
 use Rattle.sock_words.specs.declared.plain.Plan.{Plan}
-use Rattle.brpc_model.specs.Items.{Item, is_call}
+use Rattle.brpc_model.specs.Items.{Item, Join}
 use Rattle.brpc_model.specs.Link.{LinkEnd}
-use Rattle.brpc_model.specs.Operations.{Operation, operations}
-use Rattle.brpc_model.specs.Places.{names}
 use Rattle.brpc_model.specs.Script.{script_of}
+use Rattle.seat_programs.specs.declared.task.Op.TheVariants as ops
 use Rattle.seat_programs.specs.declared.task.Task.{Task}
 use Rattle.seat_programs.specs.Scripts.{all_tasks}
-use Rattle.seat_programs.specs.Tasks.{numbered, plan_of}
+use Rattle.seat_programs.specs.Tasks.{plan_of}
 use Rattle.seat_programs.specs.ToldCalls.{Fixed, Order, WhyJoin}
-use Rattle.script_parts.specs.report_fits.proofs.Lists.{Has, some_is}
-use Rattle.script_parts.specs.report_fits.proofs.Numbering.{are_from}
 use Rattle.script_parts.specs.report_fits.proofs.Targets.{joined, are_there}
-use Rattle.script_parts.specs.report_fits.proofs.TaskLemmas.{numbers_at, task_is, join_asks}
+use Rattle.script_parts.specs.report_fits.proofs.TaskLemmas.{join_asks}
 use Rattle.script_parts.specs.call_whys.specs.expire_told.specs.Joined.{AreJoinsOfCalls}
 use Rattle.script_parts.specs.call_whys.specs.expire_told.proofs.Joins.{joins_why}
-use Rattle.script_parts.specs.Told.{outcomes_of}
-use Rattle.script_parts.proofs.Expiring.{call_op}
+use Rattle.script_parts.proofs.Expiring.{asks_calls}
 use Rattle.script_threads.specs.Joins.{AreJoinsTold}
 use Rattle.script_threads.specs.Told.{seated_plan, IsThreadsRun}
+use Rattle.script_threads.proofs.Cast.{cast_of}
 use Rattle.script_threads.proofs.Sockets.{are, may, have}
 use Rattle.script_threads.proofs.Telling.{keeps, said, said_ended, begun_not}
 
 -- what a `join` of a script asks for is a call
 joins_calls : (bytes : List ℕ) (script : List Item) → script_of bytes ≡ Ok script → (outcomes : List (Option Outcome)) → AreJoinsOfCalls (all_tasks script) outcomes
-joins_calls bytes script reads outcomes c d t u is op also =
-    let v = task_is script outcomes c t is in let w = task_is script outcomes d u also in
-    let m = join_asks (numbered script) (names script) (numbers_at script t.number v.operation) v.operation.item u.number (v.asks ∙ ap Some op) in
-    let P : Item → Type 0 = λ x. Has script x in
-    let target = joined script (are_there bytes script reads) m.0 m.1 (subst P m.2 (are_from 0 1 script t.number v.operation v.there).there) in
-    let same : w.operation ≡ target.call = some_is w.operation target.call (sym w.there ∙ (ap (slice_get (operations script)) m.3 ∙ target.there)) in
-    call_op (numbered script) (names script) (numbers_at script u.number w.operation) w.operation.item u.op (ap (λ (o : Operation). is_call o.item) same ∙ target.is) w.asks
+joins_calls bytes script reads outcomes = asks_calls script outcomes (λ c i. Join c i) (λ n. ops.Join n) join_asks (joined script (are_there bytes script reads))
 
 -- how many seats there are doesn't matter
 still : (p p' : Plan) (clients : List (List Task)) (outcomes : List (Option Outcome)) (fixed : Fixed) (gave : ℕ → List ℕ) (orders : ℕ → Order) (last : ℕ → ℕ) (c o of : ℕ) (by : Outcome) → WhyJoin p clients outcomes fixed gave orders last c o of by → WhyJoin p' clients outcomes fixed gave orders last c o of by
@@ -45,11 +35,7 @@ still p p' clients outcomes fixed gave orders last c o of NotBegun h = h
 still p p' clients outcomes fixed gave orders last c o of _ h = elim h [ ]
 
 module _ (P : Type 0) {O I : Type 0} (g : Ghosts O) (out : O → OutState) (inn : I → InState) (bytes : List ℕ) (script : List Item) (reads : script_of bytes ≡ Ok script) (text : List ℕ) (links : List LinkEnd) (r : IsThreadsRun P g out inn script text links) where
-  abbrev all : List (List Task)
-  all = r.left.setup ∷ r.left.clients
-
-  abbrev outcomes : List (Option Outcome)
-  outcomes = outcomes_of (plan_of script).operations r.told (r.ended ++ r.read) r.last
+  open cast_of r use {all, outcomes}
 
   of_calls : AreJoinsOfCalls all outcomes
   of_calls = subst (λ (l : List (List Task)). AreJoinsOfCalls l outcomes) (sym r.left.tasks) (joins_calls bytes script reads outcomes)

@@ -1,3 +1,4 @@
+pub mod Cast
 pub mod Gathering
 pub mod Opened
 pub mod Seated

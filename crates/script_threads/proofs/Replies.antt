@@ -54,13 +54,14 @@ use Rattle.script_parts.specs.served_told.specs.Telling.{TellBytes}
 use Rattle.script_parts.specs.served_told.proofs.Own.{own_replies}
 use Rattle.script_threads.specs.Gave.{offered_for, WasReadOut, GaveOffer, GaveOffers}
 use Rattle.script_threads.specs.Served.{run_of, IsShort, IsServedText}
-use Rattle.script_threads.specs.Told.{seated_plan, seated_ids, HadGivenNone, IsThreadsRun, IsThreadsText}
+use Rattle.script_threads.specs.Told.{HadGivenNone, IsThreadsRun, IsThreadsText}
+use Rattle.script_threads.proofs.Cast.{cast_of}
 use Rattle.script_threads.proofs.Done.{GivesAll, GivesLast, text_complete}
 use Rattle.script_threads.proofs.Linked.{opens_link}
 use Rattle.script_threads.proofs.ReadOut.{ShowsOut, at_end, at_closing, at_failure, at_limit, read_or_none, found_none}
 use Rattle.script_threads.proofs.Reports.{text_of, text_outcomes}
 use Rattle.script_threads.proofs.Small.{text_small}
-use Rattle.script_threads.proofs.Sockets.{outcomes, asked, run}
+use Rattle.script_threads.proofs.Sockets.{asked, run}
 use Rattle.script_threads.proofs.Unopened.{none_made, one_opener}
 
 pub some_there : {A : Type 0} (o : Option A) → IsSome o → (x : A) × (o ≡ Some x)
@@ -180,22 +181,9 @@ module _ (P : Type 0) {O I : Type 0} (out : O → OutState) (inn : I → InState
   abbrev is : IsThreadsText script text links
   is = text_of P out inn g script text links r bytes reads
 
-  abbrev p : Plan
-  p = seated_plan script
+  open cast_of r use {p, q, all, readers, outcomes}
 
-  abbrev q : id_plan.Plan
-  q = seated_ids script
-
-  abbrev readers : List (LinkReader g)
-  readers = r.left.readers
-
-  abbrev all : List (List Task)
-  all = r.left.setup ∷ r.left.clients
-
-  abbrev outs : List (Option Outcome)
-  outs = outcomes P g out inn bytes script reads text links r
-
-  abbrev the_run : DeedRun g out p all outs r.places r.left.vrefs r.left.outs
+  abbrev the_run : DeedRun g out p all outcomes r.places r.left.vrefs r.left.outs
   the_run = run P g out inn bytes script reads text links r
 
   -- its reader found that its `open` got no socket
@@ -210,10 +198,10 @@ module _ (P : Type 0) {O I : Type 0} (out : O → OutState) (inn : I → InState
         (w.0, ap (λ (l : List StoredWord). get_elem? l w.0) r.left.ran.closed.finds ∙ w.1)
 
     -- so no `open` made one
-    never_made : (n slot version : ℕ) → Made all outs n k slot version → ⊥
+    never_made : (n slot version : ℕ) → Made all outcomes n k slot version → ⊥
     never_made n slot version made =
-        let its = opens_link script outs k x.operation opened in
-        let one : made.task.number ≡ x.operation = one_opener script outs made.client its.0 made.task x.operation n its.1 k (subst (λ (l : List (List Task)). IsTask l outs made.client made.task) r.left.tasks made.is) made.op its.2 in
+        let its = opens_link script outcomes k x.operation opened in
+        let one : made.task.number ≡ x.operation = one_opener script outcomes made.client its.0 made.task x.operation n its.1 k (subst (λ (l : List (List Task)). IsTask l outcomes made.client made.task) r.left.tasks made.is) made.op its.2 in
         let here = asked P g out inn bytes script reads text links r k x.operation opened in
         let low = (fits the_run here.0 record { number = x.operation; op = ops.Open here.1 k } here.2).0 in
         none_made the_run x.operation low noted n k slot version made one
@@ -230,7 +218,7 @@ module _ (P : Type 0) {O I : Type 0} (out : O → OutState) (inn : I → InState
     none_sent [] h = refl
     none_sent (a ∷ later) h =
         let m = made_for a h.0 in
-        absurd (never_made m.0 m.1 m.2 (subst (λ (l : List (List Task)). Made l outs m.0 k m.1 m.2) (sym r.left.tasks)
+        absurd (never_made m.0 m.1 m.2 (subst (λ (l : List (List Task)). Made l outcomes m.0 k m.1 m.2) (sym r.left.tasks)
         (subst (λ (os : List (Option Outcome)). Made (all_tasks script) os m.0 k m.1 m.2) (text_outcomes P out inn g script text links r bytes reads) m.3)))
 
     -- and it took nothing

@@ -1,21 +1,14 @@
 -- What the report of a run tells whose links were read beside its clients: answers come from responses that links gave, and no end of a call is shown twice.
 use Rattle.std.proofs.Common.{◌≡◌, ℕ, Ok, Err, Result, IfOk, List, [], ◌∷◌, ◌++◌, map, length, replicate, None, refl, sym, ◌∙◌, subst}
-use Rattle.std.specs.Prelude.{Option}
 use Rattle.std.specs.List.{AllByRecursion, flat_map}
 use Rattle.sock_io.specs.declared.link.Out.{Ghosts}
 use Rattle.sock_io.specs.Link.{OutState, InState}
-use Rattle.sock_words.specs.declared.outcome.Outcome.{Outcome}
-use Rattle.sock_words.specs.declared.plain.Plan.{Plan}
 use Rattle.brpc_model.specs.Items.{Item}
 use Rattle.brpc_model.specs.Link.{LinkEnd}
 use Rattle.brpc_model.specs.Operations.{operations}
 use Rattle.brpc_model.specs.Script.{script_of}
-use Rattle.corr_core.specs.declared.marks.Plan as id_plan
 use Rattle.seat_programs.specs.Tasks.{plan_of, opens, calls}
 use Rattle.rpc_client.specs.declared.acting.Told.{Told}
-use Rattle.rpc_reader.specs.Books.{Books}
-use Rattle.prpc_frame.specs.declared.frame.Frame.{Frame}
-use Rattle.call_run.specs.Readers.{LinkReader}
 use Rattle.script_parts.specs.call_whys.specs.call_told.specs.Answers.{IsFailure, IsOwn, HaveAnswers, AreAnsweredBy}
 use Rattle.script_parts.specs.attempts_told.specs.Attempts.{AreAttemptsTold}
 use Rattle.script_parts.specs.callless_fits.proofs.Fits.{text_is_whole}
@@ -36,8 +29,9 @@ use Rattle.script_parts.proofs.Clients.{owns, failures}
 use Rattle.script_parts.proofs.Reports.{long_replicate}
 use Rattle.script_parts.proofs.Sayings.{long_each}
 use Rattle.script_parts.proofs.Shown.{view_of, outcomes_few}
-use Rattle.script_threads.specs.Told.{seated_plan, seated_ids, begins_with, IsThreadsRun, IsThreadsText}
+use Rattle.script_threads.specs.Told.{IsThreadsRun, IsThreadsText}
 use Rattle.script_threads.specs.Sockets.{AreSocketsTold}
+use Rattle.script_threads.proofs.Cast.{cast_of}
 use Rattle.script_threads.proofs.Joins.{joins_told}
 use Rattle.script_threads.proofs.Left.{early_of, notes_of}
 use Rattle.script_threads.proofs.Attempts.{attempts_beside, attempts_last}
@@ -47,18 +41,7 @@ use Rattle.script_threads.proofs.Sockets.{run, differ, fixed, answered_sockets}
 use Rattle.script_threads.proofs.Telling.{told_once}
 
 module _ (P : Type 0) {O I : Type 0} (out : O → OutState) (inn : I → InState) (g : Ghosts O) (script : List Item) (text : List ℕ) (links : List LinkEnd) (r : IsThreadsRun P g out inn script text links) where
-  abbrev p : Plan
-  p = seated_plan script
-
-  abbrev q : id_plan.Plan
-  q = seated_ids script
-
-  abbrev readers : List (LinkReader g)
-  readers = r.left.readers
-
-  -- the seat that took in all
-  abbrev main : Books
-  main = begins_with (flat_map (λ (fs : List Frame). fs) r.kept) r.rest.main
+  open cast_of r use {p, q, readers, main, outcomes}
 
   -- ## What its clients told
 
@@ -76,9 +59,6 @@ module _ (P : Type 0) {O I : Type 0} (out : O → OutState) (inn : I → InState
 
   abbrev tellers : List (List Told)
   tellers = r.ended ++ r.read
-
-  abbrev outcomes : List (Option Outcome)
-  outcomes = outcomes_of (plan_of script).operations r.told tellers r.last
 
   abbrev gave : ℕ → List ℕ
   gave = gave_beside p q (calls script) (opens script) readers r.left.readers_are

@@ -1,43 +1,29 @@
 -- The ids that outcomes of a run show whose links were read beside its clients are those of a table of so few ids.
 use Rattle.std.proofs.Common.{◌≡◌, ℕ, ◌<◌, ◌≤◌, if◌then◌else◌, List, length, slice_get, Option, Some, None, Ok, subst, arith}
 use Rattle.std.specs.Prelude.{slice_index}
-use Rattle.std.proofs.lemmas.Option.{same_Some}
 use mathlib.Core.Logic.{dite}
 use native.Mathlib.Decide.{dec_lt}
 use Rattle.sock_io.specs.declared.link.Out.{Ghosts}
 use Rattle.sock_io.specs.Link.{OutState, InState}
 use Rattle.sock_words.specs.declared.outcome.Outcome.{Outcome}
-use Rattle.sock_words.specs.declared.outcome.Outcome.TheVariants.{Answered, Peer, CallFailed}
 use Rattle.brpc_model.specs.Items.{Item, is_call}
 use Rattle.brpc_model.specs.Link.{LinkEnd}
 use Rattle.brpc_model.specs.Messages.{shown_id}
 use Rattle.brpc_model.specs.Operations.{operations}
 use Rattle.brpc_model.specs.Script.{script_of}
 use Rattle.corr_core.specs.Word.{parts}
-use Rattle.corr_core.specs.declared.marks.View.{View}
-use Rattle.corr_core.proofs.Notes.{only-at}
-use Rattle.sock_message.specs.Asked.{Asked}
 use Rattle.seat_programs.specs.Tasks.{Numbered, calls, numbered}
 use Rattle.script_parts.specs.report_fits.proofs.Lists.{filter_map_short}
 use Rattle.script_parts.specs.report_fits.proofs.Numbering.{numbered_length}
 use Rattle.script_parts.specs.report_fits.proofs.Sizes.{keeps_limits}
-use Rattle.script_parts.specs.call_whys.specs.call_told.specs.Once.{ends_of}
-use Rattle.script_parts.specs.call_whys.proofs.Versions.{IsIdFor}
+use Rattle.script_parts.specs.call_whys.proofs.Versions.{IsIdFor, shown_end}
 use Rattle.script_threads.specs.Told.{seated_ids, IsThreadsRun}
+use Rattle.script_threads.proofs.Cast.{cast_of}
 use Rattle.script_threads.proofs.Attempts.{are_ids}
 use Rattle.script_threads.proofs.Reports.{text_of, text_outcomes}
-use Rattle.script_threads.proofs.Sockets as sockets
-
--- an id that is shown is that of a call that ended
-shown_end : (by : Outcome) (id : ℕ) → shown_id by ≡ Some id → 0 < ends_of id by
-shown_end (Answered i payload attachment) id e = let a = only-at id i (same_Some i id e) in omega arith
-shown_end (Peer i code) id e = let a = only-at id i (same_Some i id e) in omega arith
-shown_end (CallFailed i code) id e = let a = only-at id i (same_Some i id e) in omega arith
-shown_end other id e = absurd (cc)
 
 module _ (P : Type 0) {O I : Type 0} (g : Ghosts O) (out : O → OutState) (inn : I → InState) (bytes : List ℕ) (script : List Item) (reads : script_of bytes ≡ Ok script) (text : List ℕ) (links : List LinkEnd) (r : IsThreadsRun P g out inn script text links) where
-  abbrev last : View Asked
-  last = r.rest.last.view
+  open cast_of r use {last}
 
   -- each call has a slot of ids, and there are at most 4,096
   few_slots : length (calls script) ≤ 4096
@@ -56,7 +42,7 @@ module _ (P : Type 0) {O I : Type 0} (g : Ghosts O) (out : O → OutState) (inn 
       (λ lt. omega (arith, few_slots, word, inside, is, lt))
       (λ ge. absurd (let none_ = r.rest.closing.ended_not a.slot a.first a.inside (omega (arith, ge)) in omega (arith, some_, none_)))
 
-  small_ids : (i id : ℕ) (outcome : Outcome) → slice_get (sockets.outcomes P g out inn bytes script reads text links r) i ≡ Some (Some outcome) → shown_id outcome ≡ Some id → id < 281474976710656
+  small_ids : (i id : ℕ) (outcome : Outcome) → slice_get (cast_of r).outcomes i ≡ Some (Some outcome) → shown_id outcome ≡ Some id → id < 281474976710656
   small_ids i id outcome became shows = small_id i id ((are_ids P g out inn bytes script reads text links r).ends i outcome became id (shown_end outcome id shows))
 
   -- so is each id that an outcome shows of those whose report the text is

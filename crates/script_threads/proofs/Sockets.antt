@@ -2,7 +2,7 @@
 use Rattle.std.proofs.Common.{◌≡◌, ℕ, ◌+◌, ◌*◌, ◌<◌, ◌≤◌, inl, inr, List, [], ◌∷◌, ◌++◌, length, map, slice_get, Option, Some, Ok, Contains, refl, sym, ap, ◌∙◌, subst, arith}
 use Rattle.std.specs.Prelude.{slice_index}
 use Rattle.std.specs.Option.{ForSome}
-use Rattle.std.specs.List.{AllByRecursion, flat_map}
+use Rattle.std.specs.List.{AllByRecursion}
 use Rattle.std.proofs.lemmas.List.{length-map}
 use Rattle.std.proofs.lemmas.Option.{slice_get_within}
 use mathlib.Core.Option.{some, some-injective}
@@ -10,15 +10,10 @@ use lib.ListN.{get_elem?}
 use Rattle.sock_io.specs.declared.link.Out.{Ghosts}
 use Rattle.sock_io.specs.declared.link.Ends.{Ends}
 use Rattle.sock_io.specs.Link.{OutState, InState, end_of}
-use Rattle.sock_words.specs.declared.outcome.Outcome.{Outcome}
-use Rattle.sock_words.specs.declared.plain.Plan.{Plan}
 use Rattle.brpc_model.specs.Items.{Item}
 use Rattle.brpc_model.specs.Link.{LinkEnd}
 use Rattle.brpc_model.specs.Operations.{operations}
 use Rattle.brpc_model.specs.Script.{script_of}
-use Rattle.corr_core.specs.declared.marks.Plan as id_plan
-use Rattle.corr_core.specs.declared.marks.View.{View}
-use Rattle.sock_message.specs.Asked.{Asked}
 use Rattle.seat_programs.specs.sock_model.specs.Layout.{place_index}
 use Rattle.seat_programs.specs.declared.task.Task.{Task}
 use Rattle.seat_programs.specs.Cores.{Core}
@@ -26,9 +21,7 @@ use Rattle.seat_programs.specs.Scripts.{all_tasks, place_words}
 use Rattle.seat_programs.specs.Tasks.{plan_of, opens, calls}
 use Rattle.seat_programs.specs.Told.{AreTasks}
 use Rattle.seat_programs.specs.ToldCalls.{Fixed, Order}
-use Rattle.prpc_frame.specs.declared.frame.Frame.{Frame}
 use Rattle.rpc_client.specs.declared.acting.Told.{Told}
-use Rattle.rpc_reader.specs.Books.{Books}
 use Rattle.call_run.specs.sock_rule.specs.Closing.{PlacesDiffer}
 use Rattle.call_run.specs.Readers.{LinkReader, AreReaders}
 use Rattle.call_run.specs.Threads.{opens_of, openings, opened_names, MayRunAll}
@@ -53,7 +46,6 @@ use Rattle.script_parts.specs.call_whys.specs.Below.sock_deeds.specs.Told.{fixed
 use Rattle.script_parts.specs.call_whys.specs.Below.sock_deeds.proofs.Breaking.{broken_noted}
 use Rattle.script_parts.specs.call_whys.specs.Below.sock_deeds.proofs.Failing.{broken, early, all_fails}
 use Rattle.script_parts.specs.call_whys.specs.Below.sock_deeds.proofs.Orders.{took, ends as link_ends, took_home, orders}
-use Rattle.script_parts.specs.Told.{outcomes_of}
 use Rattle.script_parts.proofs.Asked.{ids_made, notes_of_seats}
 use Rattle.script_parts.proofs.Laters.{IsCallOf, all_ask_for}
 use Rattle.script_parts.proofs.Laters as laters
@@ -65,7 +57,8 @@ use Rattle.script_parts.proofs.Sockets.{core_of, words_map, map_twice, if_told, 
 use Rattle.script_parts.proofs.Tellers.{split, only_one, IsEndTold, from_told}
 use Rattle.script_parts.proofs.Tellers as tellers
 use Rattle.script_threads.specs.Sockets.{AreSocketsTold}
-use Rattle.script_threads.specs.Told.{seated_plan, seated_ids, begins_with, IsThreadsRun}
+use Rattle.script_threads.specs.Told.{IsThreadsRun}
+use Rattle.script_threads.proofs.Cast.{cast_of}
 use Rattle.script_threads.proofs.Early.{ShowsEarly, early_shown}
 use Rattle.script_threads.proofs.Left.{early_of, notes_of}
 use Rattle.script_threads.proofs.Linked.{opens_link}
@@ -73,30 +66,10 @@ use Rattle.script_threads.proofs.Widened.{still_told}
 use Rattle.script_parts.specs.call_whys.specs.Below.sock_deeds.proofs.Places.{map_there, to_elem}
 
 module _ (P : Type 0) {O I : Type 0} (g : Ghosts O) (out : O → OutState) (inn : I → InState) (bytes : List ℕ) (script : List Item) (reads : script_of bytes ≡ Ok script) (text : List ℕ) (links : List LinkEnd) (r : IsThreadsRun P g out inn script text links) where
-  abbrev p : Plan
-  p = seated_plan script
-
-  abbrev q : id_plan.Plan
-  q = seated_ids script
-
-  abbrev all : List (List Task)
-  all = r.left.setup ∷ r.left.clients
-
-  abbrev readers : List (LinkReader g)
-  readers = r.left.readers
+  open cast_of r use {p, q, all, readers, main, last, outcomes}
 
   abbrev readers_are : AreReaders p q (calls script) 0 (opens script) readers
   readers_are = r.left.readers_are
-
-  -- the seat that took in all, and what it has in the end
-  abbrev pub main : Books
-  main = begins_with (flat_map (λ (fs : List Frame). fs) r.kept) r.rest.main
-
-  abbrev pub last : View Asked
-  last = r.rest.last.view
-
-  abbrev pub outcomes : List (Option Outcome)
-  outcomes = outcomes_of (plan_of script).operations r.told (r.ended ++ r.read) r.last
 
   pub are : AreTasks p all
   are = seated_are bytes script reads p.seats all r.left.tasks

@@ -1,25 +1,21 @@
 -- What the clients of a script told is what became of their operations, where its links were read beside them; and what their seats keep in mind.
-use Rattle.std.proofs.Common.{◌≡◌, ℕ, List, [], ◌∷◌, ◌++◌, flat_map, map, Option, Ok, refl, sym, ap, ◌∙◌, subst}
+use Rattle.std.proofs.Common.{◌≡◌, ℕ, List, [], ◌∷◌, ◌++◌, flat_map, map, Ok, refl, sym, ap, ◌∙◌, subst}
 use mathlib.Core.Option.{some}
 use lib.ListN.{get_elem?}
 use Rattle.sock_io.specs.declared.link.Out.{Ghosts}
 use Rattle.sock_io.specs.Link.{OutState, InState}
 use Rattle.sock_words.specs.Codes.{EEOF}
-use Rattle.sock_words.specs.declared.outcome.Outcome.{Outcome}
 use Rattle.sock_words.specs.declared.outcome.Outcome.TheVariants as outcome
-use Rattle.sock_words.specs.declared.plain.Plan.{Plan}
 use Rattle.brpc_model.specs.Items.{Item}
 use Rattle.brpc_model.specs.Link.{LinkEnd}
 use Rattle.brpc_model.specs.Script.{script_of}
 use Rattle.corr_core.specs.Law.{total}
-use Rattle.corr_core.specs.declared.marks.Plan as id_plan
 use Rattle.corr_core.specs.declared.marks.View.{View}
 use Rattle.sock_message.specs.Asked.{Asked}
 use Rattle.seat_programs.specs.declared.task.Task.{Task}
 use Rattle.seat_programs.specs.Tasks.{opens, calls}
 use Rattle.seat_programs.specs.Told.{Became}
 use Rattle.rpc_client.specs.declared.acting.Told.{Told}
-use Rattle.rpc_reader.specs.Books.{Books}
 use Rattle.call_run.specs.Readers.{LinkReader}
 use Rattle.script_parts.specs.call_whys.specs.call_told.specs.Least.{HasBegun}
 use Rattle.script_parts.specs.call_whys.specs.call_told.specs.Once.{ToldOnce}
@@ -38,31 +34,13 @@ use Rattle.script_parts.proofs.Ids as numbers
 use Rattle.script_parts.proofs.Shown.{view_of, flat_mapped}
 use Rattle.script_parts.proofs.Sockets.{map_twice}
 use Rattle.script_parts.proofs.Tellers as tellers
-use Rattle.script_threads.specs.Told.{seated_plan, seated_ids, IsThreadsRun}
+use Rattle.script_threads.specs.Told.{IsThreadsRun}
+use Rattle.script_threads.proofs.Cast.{cast_of}
 use Rattle.script_threads.proofs.Left.{all_seats, early_of, notes_of, kept_of}
 use Rattle.script_threads.proofs.Sockets as sockets
 
 module _ (P : Type 0) {O I : Type 0} (g : Ghosts O) (out : O → OutState) (inn : I → InState) (bytes : List ℕ) (script : List Item) (reads : script_of bytes ≡ Ok script) (text : List ℕ) (links : List LinkEnd) (r : IsThreadsRun P g out inn script text links) where
-  abbrev p : Plan
-  p = seated_plan script
-
-  abbrev q : id_plan.Plan
-  q = seated_ids script
-
-  abbrev all : List (List Task)
-  all = r.left.setup ∷ r.left.clients
-
-  abbrev readers : List (LinkReader g)
-  readers = r.left.readers
-
-  abbrev main : Books
-  main = sockets.main P g out inn bytes script reads text links r
-
-  abbrev last : View Asked
-  last = r.rest.last.view
-
-  abbrev outcomes : List (Option Outcome)
-  outcomes = sockets.outcomes P g out inn bytes script reads text links r
+  open cast_of r use {p, q, all, readers, main, last, outcomes}
 
   -- ## What is kept in mind
 

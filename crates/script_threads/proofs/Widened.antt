@@ -38,41 +38,14 @@ module _ (p : Plan) (n : ℕ) (clients : List (List Task)) (outcomes : List (Opt
   why_still last c o (ops.Call asked) by of h = absurd of
   why_still last c o (ops.Expire t) by of h = absurd of
   why_still last c o (ops.Join t) by of h = absurd of
-  why_still last c o (ops.Open m k) by of h = by_open by h
-    where
-      by_open : (b : Outcome) → Why wide clients outcomes fixed gave orders last c o (ops.Open m k) b → Why p clients outcomes fixed gave orders last c o (ops.Open m k) b
-      by_open (outcome.Opened slot version l) w = w
-      by_open outcome.SlotsFull w = w
-      by_open other w = w
-  why_still last c o (ops.Send m bytes) by of h = by_send by h
-    where
-      by_send : (b : Outcome) → Why wide clients outcomes fixed gave orders last c o (ops.Send m bytes) b → Why p clients outcomes fixed gave orders last c o (ops.Send m bytes) b
-      by_send outcome.Unopened w = none_still c o m w
-      by_send (outcome.Gone found) w = failed_still c o m _ w
-      by_send outcome.Full w = w
-      by_send other w = w
-  why_still last c o (ops.Hold m) by of h = by_hold by h
-    where
-      by_hold : (b : Outcome) → Why wide clients outcomes fixed gave orders last c o (ops.Hold m) b → Why p clients outcomes fixed gave orders last c o (ops.Hold m) b
-      by_hold outcome.Unopened w = none_still c o m w
-      by_hold (outcome.Gone found) w = failed_still c o m _ w
-      by_hold outcome.Held w = w
-      by_hold other w = w
-  why_still last c o (ops.Fail m code) by of h = by_fail by h
-    where
-      by_fail : (b : Outcome) → Why wide clients outcomes fixed gave orders last c o (ops.Fail m code) b → Why p clients outcomes fixed gave orders last c o (ops.Fail m code) b
-      by_fail outcome.Unopened w = none_still c o m w
-      by_fail (outcome.Gone found) w = failed_still c o m _ w
-      by_fail (outcome.Already found) w = failed_still c o m _ w
-      by_fail outcome.Failed w = w
-      by_fail other w = w
-  why_still last c o (ops.Drop m) by of h = by_drop by h
-    where
-      by_drop : (b : Outcome) → Why wide clients outcomes fixed gave orders last c o (ops.Drop m) b → Why p clients outcomes fixed gave orders last c o (ops.Drop m) b
-      by_drop outcome.NotHeld w = w
-      by_drop outcome.Freed w = w
-      by_drop outcome.Kept w = w
-      by_drop other w = w
+  why_still last c o (ops.Send m bytes) outcome.Unopened of h = none_still c o m h
+  why_still last c o (ops.Send m bytes) (outcome.Gone found) of h = failed_still c o m _ h
+  why_still last c o (ops.Hold m) outcome.Unopened of h = none_still c o m h
+  why_still last c o (ops.Hold m) (outcome.Gone found) of h = failed_still c o m _ h
+  why_still last c o (ops.Fail m code) outcome.Unopened of h = none_still c o m h
+  why_still last c o (ops.Fail m code) (outcome.Gone found) of h = failed_still c o m _ h
+  why_still last c o (ops.Fail m code) (outcome.Already found) of h = failed_still c o m _ h
+  why_still last c o _ _ of h = h
 
   pub still_told : (c : Core) → ToldSockets wide clients outcomes fixed gave orders c → ToldSockets p clients outcomes fixed gave orders c
   still_told c h = record {

@@ -1,49 +1,26 @@
 -- Steps aside of the sockets, and attempts with their message in hand.
-use Rattle.std.proofs.Common.{◌≡◌, ℕ, Option, Some, None, option_map, refl, ap, subst}
+use Rattle.std.proofs.Common.{◌≡◌, ℕ, Some, option_map, refl, ap, subst}
 use Rattle.sock_words.specs.declared.socket_id.SocketId.{SocketId}
 use Rattle.seat_programs.specs.Asides.{Step}
 use Rattle.seat_programs.specs.Attempts.{attempt}
-use Rattle.seat_programs.specs.Programs.{Program, Do, Say, Sent, Rest, TakeMessage, TakeHome, PutHome, PutBytes, AskReady, Write, Aside, Round, Keep, Retries}
+use Rattle.seat_programs.specs.Programs.{Program, Aside, Round}
 use Rattle.seat_programs.specs.Rounds.{round}
 use Rattle.id_points.specs.Ids.{id_of, number_of}
 use Rattle.call_points.specs.Steps.{aside_of, aside_in}
 use Rattle.seat_states.specs.declared.point.Attempt.{Attempt}
 use Rattle.seat_states.specs.declared.point.AttemptStep.TheVariants as attempts
 use Rattle.seat_states.specs.Points.{Context, IsFramed, attempt_program, client_on, with_frame}
-use Rattle.seat_states.specs.Steps.{First, OfAside, first_of, first_in}
+use Rattle.seat_states.specs.Steps.{OfAside, first_of, first_in}
 
 of_aside : (p : Program) (s : Step) → aside_of p ≡ Some s → first_of p ≡ Some (OfAside s)
 of_aside (Aside step next) s e = ap (option_map OfAside) e
-of_aside (Do call next) s e = absurd (cc)
-of_aside (Say o outcome next) s e = absurd (cc)
-of_aside (Sent o next) s e = absurd (cc)
-of_aside Rest s e = absurd (cc)
-of_aside (TakeMessage q next) s e = absurd (cc)
-of_aside (TakeHome k next) s e = absurd (cc)
-of_aside (PutHome k n after) s e = absurd (cc)
-of_aside (PutBytes k asked bytes next) s e = absurd (cc)
-of_aside (AskReady k next) s e = absurd (cc)
-of_aside (Write w after) s e = absurd (cc)
-of_aside (Round head next) s e = absurd (cc)
-of_aside (Keep r next) s e = absurd (cc)
-of_aside (Retries requests after) s e = absurd (cc)
+of_aside _ s e = absurd (cc)
 
 -- the first step of a program that is one aside
 pub in_aside : (p : Program) (s : Step) → aside_in p ≡ Some s → first_in p ≡ Some (OfAside s)
 in_aside (Round head next) s e = of_aside (round head next) s e
 in_aside (Aside step next) s e = of_aside (Aside step next) s e
-in_aside (Do call next) s e = absurd (cc)
-in_aside (Say o outcome next) s e = absurd (cc)
-in_aside (Sent o next) s e = absurd (cc)
-in_aside Rest s e = absurd (cc)
-in_aside (TakeMessage q next) s e = absurd (cc)
-in_aside (TakeHome k next) s e = absurd (cc)
-in_aside (PutHome k n after) s e = absurd (cc)
-in_aside (PutBytes k asked bytes next) s e = absurd (cc)
-in_aside (AskReady k next) s e = absurd (cc)
-in_aside (Write w after) s e = absurd (cc)
-in_aside (Keep r next) s e = absurd (cc)
-in_aside (Retries requests after) s e = absurd (cc)
+in_aside _ s e = absurd (cc)
 
 -- an attempt with its message in hand is that of the programs
 pub attempts_as : (a : Context) (t : Attempt) (socket : SocketId) → IsFramed a t →

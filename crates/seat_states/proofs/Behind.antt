@@ -9,7 +9,7 @@ use Rattle.sock_io.specs.declared.link.Put.TheVariants as puts
 use Rattle.sock_model.specs.Entries.{ticket_of, slot_of}
 use Rattle.sock_words.specs.declared.outcome.Outcome.TheVariants.{Full}
 use Rattle.seat_programs.specs.Calls.{ClaimRequest}
-use Rattle.seat_programs.specs.Heads.{Posting, WasGone, WasStale, WasCrowded, WasQueued, HasLocked}
+use Rattle.seat_programs.specs.Heads.{Posting, HasLocked}
 use Rattle.seat_programs.specs.Posts.{post, posted}
 use Rattle.seat_programs.specs.sock_message.specs.Asked.{Asked}
 use Rattle.seat_programs.specs.Attempts.{claims_from, expire_outcome}
@@ -33,7 +33,6 @@ use Rattle.seat_states.specs.declared.point.OpenStep.TheVariants as opens
 use Rattle.seat_states.specs.declared.point.Aim.{Aim}
 use Rattle.seat_states.specs.declared.point.Aim.TheVariants as aims
 use Rattle.seat_states.specs.declared.point.SeekStep.TheVariants as seeks
-use Rattle.seat_states.specs.declared.point.Continuation.{Continuation}
 use Rattle.seat_states.specs.declared.point.ReleaseStep.TheVariants as releases
 use Rattle.sock_words.specs.declared.socket_id.SocketId.{SocketId}
 use Rattle.seat_states.specs.declared.point.Sending.{Sending}
@@ -72,9 +71,7 @@ seeks_life a (aims.End o) found h =
 -- what was added to the word of another version is taken back
 pub seeks_gone : (a : Context) (aim : Aim) (i found : ℕ) → release_program a i (gone_then aim found) releases.SubRef ≡ release i (λ _. then_program a (gone_then aim found) false)
 seeks_gone a (aims.Hold o name) i found = refl
-seeks_gone a (aims.Send o name) i found = refl
-seeks_gone a (aims.Fail o name code) i found = refl
-seeks_gone a (aims.End o) i found = refl
+seeks_gone a _ i found = refl
 
 -- who wins the exchange loads the link of the slot
 pub recycles : (i : ℕ) (k : Bool → Program) (from : Vref) (found : ℕ) → found ≡ from.0 → release_on i k (releases.LoadLink (vref_version from.0 + 1)) ≡ after_word (release_on i k (releases.Recycle from)) found
@@ -168,11 +165,8 @@ posts a t n slot = refl
 
 -- a post that has no lock
 refuses : (id e : ℕ) (next : Program) (how : Posting) → IsRefused how → next ≡ posted id e next how
-refuses id e next WasGone r = refl
-refuses id e next WasStale r = refl
-refuses id e next (WasCrowded m n) r = refl
-refuses id e next WasQueued r = refl
 refuses id e next (HasLocked w) r = absurd r
+refuses id e next _ r = refl
 
 pub refused : (a : Context) (c : OnCall) (after : AfterStep) (how : Posting) → IsRefused how → refused_program a after (expire_outcome how) ≡ posted_program a c after how
 refused a c (afters.Attempt slot) how r = refuses (id_of c.id) c.error.0 (after_program a (afters.Attempt slot)) how r

@@ -1,8 +1,7 @@
 -- Over the ticks of a run: what became of attempts whose at words were stored; and how each program begins.
-use Rattle.std.proofs.Common.{◌≡◌, ℕ, zero, suc, ◌+◌, ◌-◌, ◌<◌, ⊎_elim, true, List, [], ◌∷◌, ◌++◌, length, map, replicate, refl, sym, subst}
-use Rattle.std.specs.List.{AllByRecursion}
+use Rattle.std.proofs.Common.{◌≡◌, ℕ, zero, suc, ◌-◌, ◌<◌, ⊎_elim, true, List, [], ◌∷◌, replicate, refl, subst}
 use Rattle.std.specs.Prelude as std
-use mathlib.Core.Option.{none, some, some-injective, some-ne-none}
+use mathlib.Core.Option.{none, some}
 use lib.ListN.{get_elem?}
 use Rattle.sock_words.specs.Words.{socket_id_version, socket_id_slot, vref_version, at_word_link, at_word_attempt}
 use Rattle.sock_words.specs.declared.plain.Plan.{Plan}
@@ -25,6 +24,7 @@ use Rattle.outcome_causes.proofs.Plain.{in_both}
 use Rattle.call_causes.specs.Lists.{shows_in}
 use Rattle.send_causes.specs.EndedCalls.{Store, stores_by, stored_at}
 use Rattle.send_causes.proofs.RefusedClosing.{OnSockets, MakesSteps, tick_steps}
+use Rattle.send_causes.proofs.Beginnings.{all_begin}
 use Rattle.send_causes.proofs.ClosedLostPrograms.{Mode, Free, Goes, client_goes, reader_goes, goes_next}
 use Rattle.send_causes.proofs.ClosedLostTicks.{Entered, AllStand, Fate, keeps_here, tick_stands, tick_stores}
 
@@ -72,34 +72,14 @@ module _ (p : Plan) where
 -- ## How a run begins
 
 module _ (requests : ℕ) where
-  all_both : (xs ys : List Program) → AllByRecursion (Goes requests Free) xs → AllByRecursion (Goes requests Free) ys → AllByRecursion (Goes requests Free) (xs ++ ys)
-  all_both [] ys a b = b
-  all_both (x ∷ xs) ys a b = (a.0, all_both xs ys a.1 b)
-
-  all_at : (xs : List Program) (j : ℕ) (x : Program) → AllByRecursion (Goes requests Free) xs → get_elem? xs j ≡ some x → Goes requests Free x
-  all_at [] j x a e = absurd (some-ne-none x (sym e))
-  all_at (y ∷ xs) zero x a e = subst (Goes requests Free) (some-injective y x e) a.0
-  all_at (y ∷ xs) (suc j) x a e = all_at xs j x a.1 e
-
-  clients_go : (sizes : Sizes) → sizes.requests ≡ requests → (clients : List (List Task)) → AllByRecursion (Goes requests Free) (map (client_from sizes []) clients)
-  clients_go sizes size [] = tt
-  clients_go sizes size (ts ∷ clients) = (client_goes requests sizes size ts [], clients_go sizes size clients)
-
-  rests_go : (n : ℕ) → AllByRecursion (Goes requests Free) (replicate n Rest)
-  rests_go zero = tt
-  rests_go (suc n) = (tt, rests_go n)
-
-  readers_go : (calls : List ℕ) (k : ℕ) (os : List ℕ) → AllByRecursion (Goes requests Free) (readers_from calls k os)
-  readers_go calls k [] = tt
-  readers_go calls k (o ∷ os) = (reader_goes requests calls k o, readers_go calls (k + 1) os)
-
   -- each seat is at no attempt
   abbrev pub AllFree : Core → Type 0
   AllFree c = (j : ℕ) (seat : SeatState) → get_elem? c.seats j ≡ some seat → Goes requests Free seat.program
 
   pub begins_free : (p : Plan) (q : IdPlan) (sizes : Sizes) → sizes.requests ≡ requests → (clients : List (List Task)) (calls os : List ℕ) → AllFree (beginning p q (all_programs (programs sizes clients) (readers_from calls 0 os)))
   begins_free p q sizes size clients calls os j seat at = let x = mapped (λ (program : Program). record { program = next_step (resolved [] program); hand = [] }) (all_programs (programs sizes clients) (readers_from calls 0 os)) j seat at in
-      let goes = all_at (all_programs (programs sizes clients) (readers_from calls 0 os)) j x.0 (all_both (programs sizes clients) _ (clients_go sizes size clients) (all_both (replicate (32 - length (programs sizes clients)) Rest) _ (rests_go (32 - length (programs sizes clients))) (readers_go calls 0 os))) x.1 in
+      let goes = all_begin (Goes requests Free) tt calls (reader_goes requests calls) (programs sizes clients) os j x.0
+      (λ of_client. let y = mapped (client_from sizes []) clients j x.0 of_client in subst (Goes requests Free) y.2 (client_goes requests sizes size y.0 [])) x.1 in
       subst (λ (s : SeatState). Goes requests Free s.program) x.2 (goes_next requests Free [] x.0 tt goes)
 
   -- who is at rest is at none

@@ -11,7 +11,7 @@ use Rattle.brpc_model.specs.Stream as streams
 use Rattle.seat_programs.specs.Calls.{Call, SetOdd, StoreCode, AddRef, SwapHead, CreateLife, StoreOpen}
 use Rattle.seat_programs.specs.Asides.{Step, Found, TakeBytes, Taking, Bytes, Nothing, NoMore, AtEnd, Closed, Broken, id_slot}
 use Rattle.seat_programs.specs.Heads.{Head, Exit, Retry, Reading, Posts, Unlocks, Decides, Locks, Joins, Opens, Reads, Discards, HasEnded, Ended}
-use Rattle.seat_programs.specs.Programs.{Program, Do, Say, Sent, Rest, TakeMessage, TakeHome, PutHome, PutBytes, AskReady, Write, Aside, Round, Keep, Retries, release, address, set_failed}
+use Rattle.seat_programs.specs.Programs.{Program, Do, Say, Sent, Rest, Write, Aside, Round, Keep, Retries, release, address, set_failed}
 use Rattle.seat_programs.specs.Posts.{ends_call}
 use Rattle.seat_programs.specs.Readers.{LIMIT, last_of, ended_by, read_on, took, discarded, post_each, thrown_away, read}
 use Rattle.seat_programs.specs.Rounds.{round}
@@ -83,12 +83,6 @@ module _ (k id : ℕ) (Odd : List Taking → Type 0) (Lasts : Type 0) where
   Calm held h (Say o outcome next) = Calm held h next
   Calm held h (Sent o next) = Calm held h next
   Calm held h Rest = IsOver h
-  Calm held h (TakeMessage q next) = ⊥
-  Calm held h (TakeHome l next) = ⊥
-  Calm held h (PutHome l n after) = ⊥
-  Calm held h (PutBytes l asked bytes next) = ⊥
-  Calm held h (AskReady l next) = ⊥
-  Calm held h (Write w after) = ⊥
   Calm held h (Aside (TakeBytes l room) next) = (l ≡ k) × ((t : Taking) → (t ≡ NoMore → Lasts) → Calm false (h ++ t ∷ []) (next t))
   Calm held h (Aside step next) = (found : Found step) → Calm false h (next found)
   Calm held h (Round (Opens o) next) = ⊥
@@ -96,7 +90,7 @@ module _ (k id : ℕ) (Odd : List Taking → Type 0) (Lasts : Type 0) where
   Calm held h (Round (Discards l total) next) = (l ≡ k) × IsOver h × ((n : ℕ) (h' : List Taking) → IsOver h' → Calm false h' (next n))
   Calm held h (Round head next) = (exit : Exit head) → Calm false h (next exit)
   Calm held h (Keep r next) = Calm held h next
-  Calm held h (Retries requests after) = ⊥
+  Calm held h other = ⊥
 
   -- ## Parts of programs
 
@@ -242,11 +236,8 @@ module _ (k id : ℕ) (Odd : List Taking → Type 0) (Lasts : Type 0) where
   calm_next held h ws (Say o outcome next) x = calm_next held h ws next x
   calm_next held h ws (Sent o next) x = calm_next held h ws next x
   calm_next held h ws (Keep r next) x = calm_next held h (ws ++ r ∷ []) next x
-  calm_next held h ws (Do call next) x = x
-  calm_next held h ws Rest x = x
-  calm_next held h ws (Aside step next) x = x
-  calm_next held h ws (Round head next) x = x
-  calm_next held h ws _ x = absurd x
+  calm_next held h ws (Retries requests after) x = absurd x
+  calm_next held h ws _ x = x
 
   -- where a reading begins
   pub begins_calm : Ends → (calls : List ℕ) → Calm false [] (Round (Reads (record { ids = length calls; link = k; id = id; rest = []; total = 0; kept = [] })) (read calls))

@@ -1,8 +1,5 @@
 -- What leads a seat to an attempt of a call: the name under which it found the socket, the operation whose call has the id, the link of the socket, and the at word that it stored for it.
 use Rattle.std.specs.Prelude.{ℕ, ◌≡◌, ◌≢◌, ◌-◌, ◌%◌, ◌<◌, ◌≤◌, ◌⊎◌, Bool, true, false, List, [], ◌∷◌}
-use Rattle.sock_io.specs.declared.link.Put.{Put}
-use Rattle.sock_io.specs.declared.link.Ready.{Ready}
-use Rattle.sock_model.specs.declared.chain.Heading.{Heading}
 use Rattle.sock_words.specs.Words.{at_word, socket_id_slot, socket_id_version}
 use Rattle.corr_core.specs.Word.{parts}
 use Rattle.id_runs.specs.Goes.{FitsSock}
@@ -10,7 +7,8 @@ use Rattle.sock_message.specs.Asked.{Asked, name_of}
 use Rattle.seat_programs.specs.Asides.{Step, Found, PutCall, MakeId, StoreCall, StoreAt, call_id, id_slot, id_first}
 use Rattle.seat_programs.specs.Calls.{Call, LoadName, FindLink, ClaimRequest, PutMessage}
 use Rattle.seat_programs.specs.Heads.{Head, Exit, Unlocks}
-use Rattle.seat_programs.specs.Programs.{Program, Do, Say, Sent, Rest, TakeMessage, TakeHome, PutHome, PutBytes, AskReady, Write, Aside, Round, Keep, Retries}
+use Rattle.seat_programs.specs.Programs.{Program, Aside, Round}
+use Rattle.sock_runs.specs.AtSteps.{Asks, AtSteps}
 use Rattle.label_runs.specs.Labels.{FindsLabel, AtLabel, LeavesLabel}
 
 -- of which call the seat knows the id: none; it made this id, and stores the word of its call next; or that of this operation
@@ -101,18 +99,18 @@ module _ (is_call : Asked → Type 0) where
 
   -- ## Programs
 
+  abbrev follows_asks : Asks Trail
+  follows_asks = record {
+    rest = λ t. Unit {0};
+    word = λ t call next behind. MayAttempt t call × ((found : ℕ) → FitsSock call found → (u : Trail) × GoesDo t call found u × behind u found);
+    said = λ t behind. behind t;
+    moved = λ t behind. behind lost;
+    written = λ t behind. behind lost;
+    beside = λ t step next behind. (found : Found step) → FindsLabel is_call step found → (u : Trail) × GoesAside t step (next found) found u × behind u found;
+    loop = λ t head behind. AtLabel is_call head × ((exit : Exit head) → LeavesLabel head exit → behind (trail_behind head t) exit);
+    kept = λ t r behind. (r.attempt ≤ 6) × behind lost;
+    tried = λ t requests behind. behind lost;
+  }
+
   abbrev pub Follows : Trail → Program → Type 0
-  Follows t (Do call next) = MayAttempt t call × ((found : ℕ) → FitsSock call found → (u : Trail) × GoesDo t call found u × Follows u (next found))
-  Follows t (Say o outcome next) = Follows t next
-  Follows t (Sent o next) = Follows t next
-  Follows t Rest = Unit {0}
-  Follows t (TakeMessage q next) = (heading : Heading) (bytes : List ℕ) → Follows lost (next heading bytes)
-  Follows t (TakeHome k next) = (n : ℕ) → Follows lost (next n)
-  Follows t (PutHome k n after) = Follows lost after
-  Follows t (PutBytes k asked bytes next) = (answer : Put) → Follows lost (next answer)
-  Follows t (AskReady k next) = (answer : Ready) → Follows lost (next answer)
-  Follows t (Write w after) = Follows lost after
-  Follows t (Aside step next) = (found : Found step) → FindsLabel is_call step found → (u : Trail) × GoesAside t step (next found) found u × Follows u (next found)
-  Follows t (Round head next) = AtLabel is_call head × ((exit : Exit head) → LeavesLabel head exit → Follows (trail_behind head t) (next exit))
-  Follows t (Keep r next) = (r.attempt ≤ 6) × Follows lost next
-  Follows t (Retries requests after) = Follows lost after
+  Follows t program = AtSteps follows_asks t program

@@ -30,7 +30,8 @@ use Rattle.send_causes.specs.Counts.{AreLabelled}
 use Rattle.send_causes.specs.Refused.{Deed, DidStep, Doing, DidAt, DidIn, ChargeLaw, AllWouldOwn}
 use Rattle.send_causes.proofs.Closers.{Ends}
 use Rattle.send_causes.proofs.LateDropsCodes.{Stored, stored_more, LateLaw, late_more, late_ticks, found_stored}
-use Rattle.send_causes.proofs.LateDropsPosts.{DropPost, all_done, tick_drop}
+use Rattle.send_causes.proofs.RefusedPosts.{all_done}
+use Rattle.send_causes.proofs.LateDropsPosts.{DropPost, tick_drop}
 use Rattle.send_causes.proofs.Readings.{found_by}
 use Rattle.send_causes.proofs.RefusedRuns.{law_more}
 use Rattle.send_causes.proofs.RefusedTicks.{charge_ticks}

@@ -1,9 +1,8 @@
 -- Where the ending of a run begins, and where seat 0 has made it, no seat has claimed a request or writes a link, and each waits at a head where it has nothing in hand, or is at rest.
-use Rattle.std.proofs.Common.{◌≡◌, ◌≢◌, ℕ, zero, suc, ◌+◌, ◌-◌, ◌<◌, ◌⊎◌, Bool, true, false, List, [], ◌∷◌, ◌++◌, length, map, replicate, inl, inr, ⊎_elim, refl, sym, ap, ◌∙◌, subst}
+use Rattle.std.proofs.Common.{◌≡◌, ◌≢◌, ℕ, zero, suc, ◌+◌, ◌-◌, ◌<◌, ◌⊎◌, Bool, true, false, List, [], ◌∷◌, ◌++◌, length, replicate, inl, inr, ⊎_elim, refl, sym, ap, ◌∙◌, subst}
 use Rattle.std.proofs.lemmas.Bool.{true≢false}
-use Rattle.std.specs.List.{AllByRecursion}
 use mathlib.Core.Logic.{dite}
-use mathlib.Core.Option.{Option, none, some, some-injective, some-ne-none}
+use mathlib.Core.Option.{Option, none, some, some-injective}
 use native.Mathlib.Decide.{ℕ_discrete}
 use lib.ListN.{get_elem?}
 use Rattle.atomic_table.proofs.Lists.{set_else}
@@ -13,8 +12,6 @@ use Rattle.sock_model.specs.declared.chain.Right.{Right}
 use Rattle.sock_model.specs.declared.view.View.{View}
 use Rattle.brpc_model.specs.Items.{Item}
 use Rattle.brpc_model.specs.Operations.{Turn}
-use Rattle.seat_programs.specs.declared.task.Sizes.{Sizes}
-use Rattle.seat_programs.specs.declared.task.Task.{Task}
 use Rattle.seat_programs.specs.Clients.{client_from}
 use Rattle.seat_programs.specs.Heads.{Head, Exit, Posts, Unlocks, Decides}
 use Rattle.seat_programs.specs.Programs.{Program, Rest, Round}
@@ -37,33 +34,11 @@ use Rattle.sock_runs.proofs.Whole.{closing_of, views_played, views_closed, set_u
 use Rattle.call_causes.specs.programs_allowed.specs.Openings.{all_seats}
 use Rattle.call_causes.specs.joint_runs.proofs.Runs.{AreMade, first_views}
 use Rattle.call_causes.specs.programs_allowed.proofs.Fresh.{opening_rights, opening_claims}
+use Rattle.send_causes.proofs.Beginnings.{all_begin}
 use Rattle.send_causes.proofs.Early.{start, go, fitting}
 use Rattle.send_causes.proofs.LateLooks.{Mode, Idle, Looks, client_looks, reader_looks, looks_next}
 use Rattle.send_causes.proofs.LateSeats.{Claiming, Righted, Never, Stands, AllStand, Tells, stand_ticks}
 use Rattle.send_causes.proofs.Rests.{still, aside}
-
-all_both : {A : Type 0} (P : A → Type 0) (xs ys : List A) → AllByRecursion P xs → AllByRecursion P ys → AllByRecursion P (xs ++ ys)
-all_both P [] ys a b = b
-all_both P (x ∷ xs) ys a b = (a.0, all_both P xs ys a.1 b)
-
-all_at : {A : Type 0} (P : A → Type 0) (xs : List A) (j : ℕ) (x : A) → AllByRecursion P xs → get_elem? xs j ≡ some x → P x
-all_at P [] j x a e = absurd (some-ne-none x (sym e))
-all_at P (y ∷ xs) zero x a e = subst P (some-injective y x e) a.0
-all_at P (y ∷ xs) (suc j) x a e = all_at P xs j x a.1 e
-
--- ## How a run begins
-
-clients_look : (sizes : Sizes) (clients : List (List Task)) → AllByRecursion (Looks Idle) (map (client_from sizes []) clients)
-clients_look sizes [] = tt
-clients_look sizes (ts ∷ clients) = (client_looks sizes ts [] Idle tt, clients_look sizes clients)
-
-rests_look : (n : ℕ) → AllByRecursion (Looks Idle) (replicate n Rest)
-rests_look zero = tt
-rests_look (suc n) = (tt, rests_look n)
-
-readers_look : (calls : List ℕ) (k : ℕ) (os : List ℕ) → AllByRecursion (Looks Idle) (readers_from calls k os)
-readers_look calls k [] = tt
-readers_look calls k (o ∷ os) = (reader_looks calls k o, readers_look calls (k + 1) os)
 
 -- of all links, and no life is old
 abbrev pub Any : ℕ → Type 0
@@ -125,9 +100,8 @@ of_seat p c m j seat same at is = sym (ap (λ (o : Option SeatState). elim o as 
 module _ (script : List Item) (made : AreMade script) (turns : List Turn) (core : Core) (is : IsRunWithCalls script turns core) where
   opened_stand : AllStand (plan_of script) Any NoOld (opened script) (first_views script)
   opened_stand j seat v at at_view = let x = mapped (λ (program : Program). record { program = next_step (resolved [] program); hand = [] }) (all_programs (programs (sizes_of (plan_of script) (id_plan_of script)) (all_tasks script)) (readers_from (calls script) 0 (opens script))) j seat at in
-      let looks = all_at (Looks Idle) (all_programs (programs (sizes_of (plan_of script) (id_plan_of script)) (all_tasks script)) (readers_from (calls script) 0 (opens script))) j x.0
-      (all_both (Looks Idle) (programs (sizes_of (plan_of script) (id_plan_of script)) (all_tasks script)) _ (clients_look (sizes_of (plan_of script) (id_plan_of script)) (all_tasks script))
-      (all_both (Looks Idle) (replicate (32 - length (programs (sizes_of (plan_of script) (id_plan_of script)) (all_tasks script))) Rest) _ (rests_look (32 - length (programs (sizes_of (plan_of script) (id_plan_of script)) (all_tasks script)))) (readers_look (calls script) 0 (opens script)))) x.1 in
+      let looks = all_begin (Looks Idle) tt (calls script) (reader_looks (calls script)) (programs (sizes_of (plan_of script) (id_plan_of script)) (all_tasks script)) (opens script) j x.0
+      (λ of_client. let y = mapped (client_from (sizes_of (plan_of script) (id_plan_of script)) []) (all_tasks script) j x.0 of_client in subst (Looks Idle) y.2 (client_looks (sizes_of (plan_of script) (id_plan_of script)) y.0 [] Idle tt)) x.1 in
       let y = looks_next Idle [] x.0 looks in subst (λ (s : SeatState). (m : Mode) × Looks m s.program × Stands (plan_of script) Any NoOld m v) x.2 (
         Idle,
         subst (λ n. Looks n (next_step (resolved [] x.0))) (idle y.0 y.1) y.2,

@@ -109,7 +109,6 @@ pub mod LateDrops
 pub mod OwnDecisionsStands
 pub mod OwnDecisionsLoops
 pub mod OwnDecisionsPrograms
-pub mod OwnDecisionsHomes
 pub mod OwnDecisionsTicks
 pub mod OwnDecisionsRuns
 pub mod OwnDecisions

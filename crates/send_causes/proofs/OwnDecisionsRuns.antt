@@ -43,7 +43,7 @@ use Rattle.call_causes.proofs.Numbered.{AreNumbered}
 use Rattle.call_causes.proofs.Run.{Story, one_tick, in_either}
 use Rattle.send_causes.proofs.Beginnings.{all_begin}
 use Rattle.send_causes.specs.Counts.{word_of_id}
-use Rattle.send_causes.proofs.OwnDecisionsHomes.{HandFits, HomesFit}
+use Rattle.id_runs.specs.Goes.{HandFits, HomesFit}
 use Rattle.send_causes.proofs.OwnDecisionsPrograms.{client_goes, reader_goes}
 use Rattle.send_causes.proofs.OwnDecisionsStands.{Stand, Calm, Aims}
 use Rattle.send_causes.proofs.OwnDecisionsTicks.{of_stand, IsPast, StandFits, HeadFits, AimLaw, QueuedAt, AreQueued, law_more, aim_ticks, decided_own}

@@ -47,7 +47,8 @@ use Rattle.send_causes.proofs.SeatFacts.{ids_first}
 use Rattle.send_causes.proofs.Ticks.{few_more, few_of, calls_waiting, pair_one, pair_same, waits_set}
 use Rattle.call_causes.proofs.Chains.{AreFewTries as AreTries}
 use Rattle.label_runs.proofs.Loops.{id_back}
-use Rattle.send_causes.proofs.OwnDecisionsHomes.{HandFits, HomesFit, PutFits, hand_more, home_more, home_set, home_away, first_fits, others_fit, lies_fit, fed_fits, places_fit, hand_fits, homes_fit}
+use Rattle.id_runs.specs.Goes.{HandFits, HomesFit}
+use Rattle.id_runs.proofs.Homes.{PutFits, hand_more, home_more, home_set, home_away, first_fits, others_fit, lies_fit, fed_fits, places_fit, hand_fits, homes_fit}
 use Rattle.send_causes.proofs.OwnDecisionsStands.{Stand, Calm, Trying, Past, Posted, Eases, MayPut, MayPost, MayAside, Stowing, unlocked_stand, Aims}
 use Rattle.send_causes.proofs.OwnDecisionsLoops.{aims_round}
 use Rattle.send_causes.proofs.OwnDecisionsPrograms.{block_goes, retry_goes}

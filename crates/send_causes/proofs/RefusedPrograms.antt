@@ -33,8 +33,8 @@ use Rattle.seat_programs.specs.Writings.{Holder, Writing, Puts, Waits, Empties, 
 use Rattle.outcome_causes.specs.Stories.{In}
 use Rattle.label_runs.proofs.Loops.{not_equal}
 use Rattle.label_runs.proofs.Operations.{OpCalls}
-use Rattle.label_runs.specs.Labels.{Idle, Tries, Sends, MayPut, Kept, LeavesLabel, LeavesLock, LeavesUnlock, locked_trial}
-use Rattle.send_causes.specs.Refused.{Deed, DidStep, DidPut, DidRound, DidMiss, Charge, NoCharge, IsRefused, HasDropped, Doing, idle, begins, FoundTaken, WasOther, WasOdd, WasNone, WouldStore, IsPostOf}
+use Rattle.label_runs.specs.Labels.{Trial, Idle, Tries, Sends, MayPut, Kept, LeavesLabel, LeavesLock, LeavesUnlock, locked_trial}
+use Rattle.send_causes.specs.Refused.{Deed, DidStep, DidPut, DidRound, DidMiss, Charge, NoCharge, IsRefused, HasDropped, Doing, idle, begins, FoundTaken, WasOther, WasOdd, WasNone, WhyRefused, WouldStore, IsTrying, IsLast, IsPostOf}
 use Rattle.send_causes.proofs.RefusedLoops.{bare, Goes, way, Steps, step_way, aside_way, forgets, let_go, post_with_goes, posted_goes, decide_goes, decided_goes, answer_goes}
 
 module _ (requests : ℕ) (is_call : Asked → Type 0) (reads : Bool) where
@@ -281,6 +281,15 @@ module _ (requests : ℕ) (is_call : Asked → Type 0) (reads : Bool) where
       (λ same. (socket, found, inl (ap (λ x. DidStep (ClaimRequest socket x) found) same), odd))
       (λ far. let t = taken r (omega (arith, low, far)) in (t.0, t.1, inr t.2, t.3))
 
+  -- the step was the last of a refused attempt, so that its error is due
+  refuses : (asked : Asked) → is_call asked → (id n code : ℕ) → n ≤ 6 → (t : Trial) (ds : List Deed) → In (DidPut asked) ds → (made : Call) (then : ℕ → Program) (found : ℕ) → IsTrying t asked.operation id n (Do made then) → Rattle.label_runs.specs.Labels.put_behind t made ≡ t
+      → (deed : Deed) → IsLast made then found asked.operation id n deed → WhyRefused requests asked n code (deed ∷ ds) → (x : Program) → G (due (IsRefused id n code) (deed ∷ ds)) x → Steps requests is_call reads made then found (bare t ds) x
+  refuses asked called id n code few t ds put made then found trying same deed last why x goes = (
+    due (IsRefused id n code) (deed ∷ ds),
+    inr (inl (record { id = id; attempt = n; code = code; asked = asked; called = called; trying = trying; few = few; still = same; put = put; deed = deed; last = last; why = why; gives_up = refl; charge = refl; deeds = refl })),
+    goes,
+  )
+
   module _ (mine : reads ≡ false) (asked : Asked) (called : is_call asked) (id n socket : ℕ) (next : Program) (few : n ≤ 6) (goes : G idle next) where
     abbrev wanted : ℕ
     wanted = name_of asked n
@@ -312,27 +321,8 @@ module _ (requests : ℕ) (is_call : Asked → Type 0) (reads : Bool) where
 
     -- the last of the requests was found taken
     fulls : (made : Call) (then : ℕ → Program) (found : ℕ) (ds : List Deed) → Rattle.label_runs.specs.Labels.put_behind (Sends asked.operation id n) made ≡ Sends asked.operation id n → FoundTaken requests (DidStep made found ∷ ds) → In (DidPut asked) ds → Steps requests is_call reads made then found (sending ds) full
-    fulls made then found ds same taken put = (
-      refused 3001 (DidStep made found ∷ ds),
-      inr (inl (record {
-        id = id;
-        attempt = n;
-        code = 3001;
-        asked = asked;
-        called = called;
-        trying = inl refl;
-        few = few;
-        still = same;
-        put = put;
-        deed = DidStep made found;
-        last = inl refl;
-        why = inl (refl, taken);
-        gives_up = refl;
-        charge = refl;
-        deeds = refl;
-      })),
-      posts 3001 (DidStep made found ∷ ds) (release (socket_id_slot socket) (λ _. next)) gives_back,
-    )
+    fulls made then found ds same taken put = refuses asked called id n 3001 few (Sends asked.operation id n) ds put made then found (inl refl) same (DidStep made found) (inl refl) (inl (refl, taken)) full
+        (posts 3001 (DidStep made found ∷ ds) (release (socket_id_slot socket) (λ _. next)) gives_back)
 
     grows : (made : Call) (then : ℕ → Program) (found : ℕ) (ds : List Deed) (x : Program) → Kept (Rattle.label_runs.specs.Labels.put_behind (Sends asked.operation id n) made) (Sends asked.operation id n) → G (sending (DidStep made found ∷ ds)) x → Steps requests is_call reads made then found (sending ds) x
     grows made then found ds x k g = (sending (DidStep made found ∷ ds), inl (k, inl (refl, refl)), g)
@@ -367,27 +357,9 @@ module _ (requests : ℕ) (is_call : Asked → Type 0) (reads : Bool) where
       tt,
       λ found _. step_way requests is_call reads (LookWord socket) (looked requests) found (sending ds) (eqb (vref_version found % 2) 0) (others requests 0) (post id 1009 n (release (socket_id_slot socket) (λ _. next)))
           (λ _. live_goes requests refl found ds put)
-          (λ odd. (
-            refused 1009 (DidStep (LookWord socket) found ∷ ds),
-            inr (inl (record {
-              id = id;
-              attempt = n;
-              code = 1009;
-              asked = asked;
-              called = called;
-              trying = inl refl;
-              few = few;
-              still = refl;
-              put = put;
-              deed = DidStep (LookWord socket) found;
-              last = inl refl;
-              why = inr (refl, WasOdd socket found (inr load) (inl refl) (odd_of (vref_version found) odd));
-              gives_up = refl;
-              charge = refl;
-              deeds = refl;
-            })),
-            posts 1009 (DidStep (LookWord socket) found ∷ ds) (release (socket_id_slot socket) (λ _. next)) gives_back,
-          )),
+          (λ odd. refuses asked called id n 1009 few (Sends asked.operation id n) ds put (LookWord socket) (looked requests) found (inl refl) refl (DidStep (LookWord socket) found) (inl refl)
+          (inr (refl, WasOdd socket found (inr load) (inl refl) (odd_of (vref_version found) odd))) (post id 1009 n (release (socket_id_slot socket) (λ _. next)))
+          (posts 1009 (DidStep (LookWord socket) found ∷ ds) (release (socket_id_slot socket) (λ _. next)) gives_back)),
     )
 
     abbrev held : Program
@@ -428,27 +400,9 @@ module _ (requests : ℕ) (is_call : Asked → Type 0) (reads : Bool) where
               ),
             ),
           ))
-          (λ other. (
-            refused 1009 (DidStep (AddRef socket) found ∷ ds),
-            inr (inl (record {
-              id = id;
-              attempt = n;
-              code = 1009;
-              asked = asked;
-              called = called;
-              trying = inr (refl, would);
-              few = few;
-              still = refl;
-              put = put;
-              deed = DidStep (AddRef socket) found;
-              last = inl refl;
-              why = inr (refl, WasOther socket found (inr load) (inl refl) (not_equal (vref_version found) (socket_id_version socket) other));
-              gives_up = refl;
-              charge = refl;
-              deeds = refl;
-            })),
-            release_keeps (IsRefused id n 1009) (DidStep (AddRef socket) found ∷ ds) (socket_id_slot socket) (λ _. post id 1009 n next) (λ es _. posts 1009 es next goes),
-          )),
+          (λ other. refuses asked called id n 1009 few (Tries id n) ds put (AddRef socket) reached found (inr (refl, would)) refl (DidStep (AddRef socket) found) (inl refl)
+          (inr (refl, WasOther socket found (inr load) (inl refl) (not_equal (vref_version found) (socket_id_version socket) other))) (release (socket_id_slot socket) (λ _. post id 1009 n next))
+          (release_keeps (IsRefused id n 1009) (DidStep (AddRef socket) found ∷ ds) (socket_id_slot socket) (λ _. post id 1009 n next) (λ es _. posts 1009 es next goes))),
     )
 
   -- ## Calls
@@ -513,27 +467,9 @@ module _ (requests : ℕ) (is_call : Asked → Type 0) (reads : Bool) where
       tt,
       λ word _. step_way requests is_call reads (LoadName (name_of asked n)) (λ word. cond (eqb word 0) (post id 1009 n next) (attempt requests asked id n (word - 1) next)) word (bare (Tries id n) ds)
           (eqb word 0) (post id 1009 n next) (attempt requests asked id n (word - 1) next)
-          (λ none_. (
-            due (IsRefused id n 1009) (DidMiss (name_of asked n) asked.operation id n ∷ ds),
-            inr (inl (record {
-              id = id;
-              attempt = n;
-              code = 1009;
-              asked = asked;
-              called = called;
-              trying = inr (refl, (1, tt, would mine asked called id n 0 next few goes));
-              few = few;
-              still = refl;
-              put = put;
-              deed = DidMiss (name_of asked n) asked.operation id n;
-              last = inr (name_of asked n, refl, eqb-true word 0 none_, refl, (1, tt, would mine asked called id n 0 next few goes));
-              why = inr (refl, WasNone id later (inl refl));
-              gives_up = refl;
-              charge = refl;
-              deeds = refl;
-            })),
-            post_keeps (IsRefused id n 1009) (DidMiss (name_of asked n) asked.operation id n ∷ ds) id 1009 n next (inr (inr (mine, (refl, refl)))) goes,
-          ))
+          (λ none_. refuses asked called id n 1009 few (Tries id n) ds put (LoadName (name_of asked n)) (λ word. cond (eqb word 0) (post id 1009 n next) (attempt requests asked id n (word - 1) next)) word (inr (refl, (1, tt, would mine asked called id n 0 next few goes))) refl
+          (DidMiss (name_of asked n) asked.operation id n) (inr (name_of asked n, refl, eqb-true word 0 none_, refl, (1, tt, would mine asked called id n 0 next few goes))) (inr (refl, WasNone id later (inl refl))) (post id 1009 n next)
+          (post_keeps (IsRefused id n 1009) (DidMiss (name_of asked n) asked.operation id n ∷ ds) id 1009 n next (inr (inr (mine, (refl, refl)))) goes))
           (λ some_. (
             bare (Tries id n) (DidStep (LoadName (name_of asked n)) word ∷ ds),
             inl (inl refl, inl (refl, refl)),

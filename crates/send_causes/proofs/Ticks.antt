@@ -286,9 +286,10 @@ module _ (p : Plan) (q : IdPlan) (narrow : q.slots ≤ 65536) (is_call : Asked �
         abbrev Ends : Type 0
         Ends = After (with_seat i (next found) seat.hand c.words c.homes (record c { calls = calls_after step found c.calls })) vs
 
-        -- the attempt of the seat stays, or is given up
-        still : (w : Trial) → Labels is_call w (next found) → TrialFits ids w → ((id n : ℕ) → of_trial id n w ≤ of_trial id n t) → Ends
-        still w g fits fewer = subst (λ xs. After (with_seat i (next found) seat.hand c.words c.homes (record c { calls = calls_after step found c.calls })) xs) (set_again vs i v at_view)
+        -- the seat goes on with this trial, and these attempts are new
+        goes : (w : Trial) → Labels is_call w (next found) → TrialFits ids w → (new : ℕ → ℕ → ℕ) → ((id n : ℕ) → of_trial id n w ≤ of_trial id n t + new id n)
+            → ((id n : ℕ) → 0 < new id n → (new id n ≤ 1) × (times_of id n c vs ts ≡ 0) × WasNow q (calls_after step found c.calls).words id n) → Ends
+        goes w g fits new fewer fresh = subst (λ xs. After (with_seat i (next found) seat.hand c.words c.homes (record c { calls = calls_after step found c.calls })) xs) (set_again vs i v at_view)
             (goes_on (calls_after step found c.calls) (next found) seat.hand c.words c.homes w v record {
               labels = g;
               kept = calls_waiting step found c.calls;
@@ -296,32 +297,25 @@ module _ (p : Plan) (q : IdPlan) (narrow : q.slots ≤ 65536) (is_call : Asked �
               fits = fits;
               calls = calls_behind is_call step found c.calls puts law.calls;
               view = fits_view;
-              new = λ id n. 0;
+              new = new;
               fewer = λ id n. (let a = fewer id n in omega (arith, a));
-              fresh = λ id n z. absurd (omega (arith, z));
+              fresh = fresh;
             })
+
+        -- the attempt of the seat stays, or is given up
+        still : (w : Trial) → Labels is_call w (next found) → TrialFits ids w → ((id n : ℕ) → of_trial id n w ≤ of_trial id n t) → Ends
+        still w g fits fewer = goes w g fits (λ id n. 0) (λ id n. (let a = fewer id n in omega (arith, a))) (λ id n z. absurd (omega (arith, z)))
 
         keeps : (w : Trial) → Kept t w → Labels is_call w (next found) → Ends
         keeps w k g = still w g (kept_fits ids t w k fits_trial) (λ id n. kept_count id n t w k)
 
         -- a new attempt
         makes : (id₀ n₀ : ℕ) → Labels is_call (Tries id₀ n₀) (next found) → WasNow q (calls_after step found c.calls).words id₀ n₀ → (WasMade q c.calls.words id₀ n₀ → ⊥) → Ends
-        makes id₀ n₀ g made unmade = subst (λ xs. After (with_seat i (next found) seat.hand c.words c.homes (record c { calls = calls_after step found c.calls })) xs) (set_again vs i v at_view)
-            (goes_on (calls_after step found c.calls) (next found) seat.hand c.words c.homes (Tries id₀ n₀) v record {
-              labels = g;
-              kept = calls_waiting step found c.calls;
-              words = words_on;
-              fits = tt;
-              calls = calls_behind is_call step found c.calls puts law.calls;
-              view = fits_view;
-              new = λ id n. pair_of id n id₀ n₀;
-              fewer = λ id n. omega arith;
-              fresh = λ id n some_. let same = pair_same id n id₀ n₀ some_ in (
-                pair_one id n id₀ n₀,
-                dite (ℕ_discrete (times_of id n c vs ts) 0) (λ z. z) (λ ne. absurd (unmade (subst (λ x. WasMade q c.calls.words x n₀) (sym same.0) (subst (WasMade q c.calls.words id) (sym same.1) (law.made id n (omega (arith, ne))))))),
-                subst (λ x. WasNow q (calls_after step found c.calls).words x n) same.0 (subst (WasNow q (calls_after step found c.calls).words id₀) same.1 made),
-              );
-            })
+        makes id₀ n₀ g made unmade = goes (Tries id₀ n₀) g tt (λ id n. pair_of id n id₀ n₀) (λ id n. omega arith) (λ id n some_. let same = pair_same id n id₀ n₀ some_ in (
+          pair_one id n id₀ n₀,
+          dite (ℕ_discrete (times_of id n c vs ts) 0) (λ z. z) (λ ne. absurd (unmade (subst (λ x. WasMade q c.calls.words x n₀) (sym same.0) (subst (WasMade q c.calls.words id) (sym same.1) (law.made id n (omega (arith, ne))))))),
+          subst (λ x. WasNow q (calls_after step found c.calls).words x n) same.0 (subst (WasNow q (calls_after step found c.calls).words id₀) same.1 made),
+        ))
 
       -- the slot of an id that the seat tries is one of the table
       tried_low : (id n : ℕ) → t ≡ Tries id n → id_slot id < 65536

@@ -6,8 +6,6 @@ use mathlib.Core.Option.{some}
 use lib.ListN.{get_elem?}
 use Rattle.sock_words.specs.declared.plain.Plan.{Plan}
 use Rattle.sock_words.specs.Words.{at_word, socket_id_slot, socket_id_version, vref_version}
-use Rattle.sock_io.specs.declared.link.Put.{Put}
-use Rattle.sock_io.specs.declared.link.Ready.{Ready}
 use Rattle.sock_model.specs.declared.chain.Heading.{Heading}
 use Rattle.brpc_model.specs.Items.{Item}
 use Rattle.brpc_model.specs.Operations.{Turn}
@@ -18,11 +16,12 @@ use Rattle.seat_programs.specs.Calls.{Call, AddRef, LoadName, LookWord, LoadCode
 use Rattle.seat_programs.specs.Heads.{Head, Exit, Retry, Posts, Unlocks, Locks, Reads}
 use Rattle.seat_programs.specs.Posts.{WHOLE}
 use Rattle.seat_programs.specs.Writings.{Holder, Writing, Puts}
-use Rattle.seat_programs.specs.Programs.{Program, Do, Say, Sent, Rest, TakeMessage, TakeHome, PutHome, PutBytes, AskReady, Write, Aside, Round, Keep, Retries}
+use Rattle.seat_programs.specs.Programs.{Program, Do, Write, Aside}
 use Rattle.seat_programs.specs.Cores.{Core, SeatState, word_of, found_at, waiting_at}
 use Rattle.seat_programs.specs.Ticks.{Moment, quiet, ticked}
 use Rattle.seat_programs.specs.Tasks.{plan_of}
 use Rattle.seat_programs.specs.Scripts.{opened, ending, set_up, played, IsRunWithCalls}
+use Rattle.sock_runs.specs.AtSteps.{Asks, AtSteps}
 use Rattle.sock_runs.specs.Sound.{first_step}
 use Rattle.outcome_causes.specs.Stories.{In}
 use Rattle.id_runs.specs.Goes.{FitsSock}
@@ -176,22 +175,22 @@ module _ (requests : ℕ) (is_call : Asked → Type 0) (reads : Bool) where
 
   -- ## Programs
 
+  abbrev charges_asks : Asks Doing
+  charges_asks = record {
+    rest = λ s. Unit {0};
+    word = λ s call next behind. MayPut is_call s.trial call × ((found : ℕ) → FitsSock call found → (u : Doing) × Moves call next found s u × behind u found);
+    said = λ s behind. behind s;
+    moved = λ s behind. behind idle;
+    written = λ s behind. (reads ≡ false) × behind idle;
+    beside = λ s step next behind. MayPost s.charge step × ((found : Found step) → FindsLabel is_call step found → (u : Doing) × (AsideMove is_call step found s.trial u.trial × Remembers (did_aside step s.deeds) s u) × behind u found);
+    loop = λ s head behind. (AtLabel is_call head × AtCharge s.charge head) × ((exit : Exit head) → LeavesLabel head exit → LeavesCode head exit → behind (doing_behind head exit s) exit);
+    kept = λ s r behind. (s.trial ≡ Tries r.id r.attempt) × (r.attempt ≤ 6) × (0 < r.attempt) × behind idle;
+    tried = λ s many behind. (reads ≡ false) × (many ≡ requests) × behind idle;
+  }
+
   -- the program keeps to its attempts, as `Labels` has it, and posts what it is charged with
   abbrev pub Charges : Doing → Program → Type 0
-  Charges s (Do call next) = MayPut is_call s.trial call × ((found : ℕ) → FitsSock call found → (u : Doing) × Moves call next found s u × Charges u (next found))
-  Charges s (Say o outcome next) = Charges s next
-  Charges s (Sent o next) = Charges s next
-  Charges s Rest = Unit {0}
-  Charges s (TakeMessage q next) = (heading : Heading) (bytes : List ℕ) → Charges idle (next heading bytes)
-  Charges s (TakeHome k next) = (n : ℕ) → Charges idle (next n)
-  Charges s (PutHome k n after) = Charges idle after
-  Charges s (PutBytes k asked bytes next) = (answer : Put) → Charges idle (next answer)
-  Charges s (AskReady k next) = (answer : Ready) → Charges idle (next answer)
-  Charges s (Write w after) = (reads ≡ false) × Charges idle after
-  Charges s (Aside step next) = MayPost s.charge step × ((found : Found step) → FindsLabel is_call step found → (u : Doing) × (AsideMove is_call step found s.trial u.trial × Remembers (did_aside step s.deeds) s u) × Charges u (next found))
-  Charges s (Round head next) = (AtLabel is_call head × AtCharge s.charge head) × ((exit : Exit head) → LeavesLabel head exit → LeavesCode head exit → Charges (doing_behind head exit s) (next exit))
-  Charges s (Keep r next) = (s.trial ≡ Tries r.id r.attempt) × (r.attempt ≤ 6) × (0 < r.attempt) × Charges idle next
-  Charges s (Retries many after) = (reads ≡ false) × (many ≡ requests) × Charges idle after
+  Charges s program = AtSteps charges_asks s program
 
 -- ## What was done in a run
 

@@ -9,7 +9,7 @@ use Rattle.brpc_model.specs.Frame.{Frame}
 use Rattle.brpc_model.specs.Stream as streams
 use Rattle.seat_programs.specs.Asides.{Step, Found, TakeBytes, Taking, Bytes, Nothing, NoMore, AtEnd, Closed, Broken, id_slot}
 use Rattle.seat_programs.specs.Heads.{Head, Exit, Retry, Reading, Posts, Unlocks, Decides, Locks, Joins, Opens, Reads, Discards, HasEnded, Ended}
-use Rattle.seat_programs.specs.Programs.{Program, Do, Say, Sent, Rest, TakeMessage, TakeHome, PutHome, PutBytes, AskReady, Write, Aside, Round, Keep, Retries, release, address, set_failed}
+use Rattle.seat_programs.specs.Programs.{Program, Do, Say, Sent, Rest, Write, Aside, Round, Keep, Retries, release, address, set_failed}
 use Rattle.seat_programs.specs.Posts.{ends_call}
 use Rattle.seat_programs.specs.Readers.{LIMIT, last_of, ended_by, read_on, took, discarded, opens_round, post_each, thrown_away, read}
 use Rattle.seat_programs.specs.Rounds.{round}
@@ -53,19 +53,13 @@ module _ (k : ℕ) where
   Goes g last (Say o outcome next) = Goes g last next
   Goes g last (Sent o next) = Goes g last next
   Goes g last Rest = IsOver g last
-  Goes g last (TakeMessage q next) = ⊥
-  Goes g last (TakeHome l next) = ⊥
-  Goes g last (PutHome l n after) = ⊥
-  Goes g last (PutBytes l asked bytes next) = ⊥
-  Goes g last (AskReady l next) = ⊥
-  Goes g last (Write w after) = ⊥
   Goes g last (Aside (TakeBytes l room) next) = (l ≡ k) × (last ≡ false) × ((t : Taking) → Goes (g ++ bytes_found t) (last || is_last t) (next t))
   Goes g last (Aside step next) = (found : Found step) → Goes g last (next found)
   Goes g last (Round (Reads r) next) = (last ≡ false) × IsReading g r × ((how : Ended) (g' : List ℕ) (last' : Bool) → EndsSo g' last' how → Goes g' last' (next how))
   Goes g last (Round (Discards l total) next) = (l ≡ k) × (last ≡ false) × HasFault g × ((n : ℕ) (g' : List ℕ) (last' : Bool) → HasFault g' → Goes g' last' (next n))
   Goes g last (Round head next) = (exit : Exit head) → Goes g last (next exit)
   Goes g last (Keep r next) = Goes g last next
-  Goes g last (Retries requests after) = ⊥
+  Goes g last other = ⊥
 
   -- ## Parts of programs
 
@@ -195,11 +189,8 @@ module _ (k : ℕ) where
   goes_next g last ws (Say o outcome next) x = goes_next g last ws next x
   goes_next g last ws (Sent o next) x = goes_next g last ws next x
   goes_next g last ws (Keep r next) x = goes_next g last (ws ++ r ∷ []) next x
-  goes_next g last ws (Do call next) x = x
-  goes_next g last ws Rest x = x
-  goes_next g last ws (Aside step next) x = x
-  goes_next g last ws (Round head next) x = x
-  goes_next g last ws _ x = absurd x
+  goes_next g last ws (Retries requests after) x = absurd x
+  goes_next g last ws _ x = x
 
   -- the reader's program where it begins to read
   pub begins_reading : (calls : List ℕ) (ids id : ℕ) → Goes [] false (Round (Reads (record { ids = ids; link = k; id = id; rest = []; total = 0; kept = [] })) (read calls))

@@ -1,29 +1,22 @@
 -- The replies to some bytes are at most 41 / 12 times as long: each is to a frame of at least 12 bytes, and has what that carries or a few bytes.
-use Rattle.std.proofs.Common.{◌≡◌, ℕ, zero, suc, ◌+◌, ◌-◌, ◌*◌, ◌/◌, ◌%◌, ◌≤◌, nat_lt, not, ◌&&◌, ltb-false, eqb, Bool, true, false, cond, List, [], ◌∷◌, ◌++◌, length, take, drop, flat_map, filter_map, sum, Option, Some, None, Result, Ok, Err, ℤ, pos, negsuc, length-append, length-drop, refl, arith}
+use Rattle.std.proofs.Common.{◌≡◌, ℕ, zero, suc, ◌+◌, ◌-◌, ◌*◌, ◌/◌, ◌≤◌, nat_lt, not, ◌&&◌, ltb-false, eqb, Bool, true, false, cond, List, [], ◌∷◌, ◌++◌, length, take, drop, flat_map, filter_map, sum, Option, Some, None, Result, Ok, Err, ℤ, pos, negsuc, length-append, length-drop, refl, arith}
 use Rattle.std.proofs.lemmas.List.{length-reverse}
 use Rattle.std.specs.Prelude.{codes, bytes_eq, reverse, option_map}
 use Rattle.std.specs.List.{cons_option}
 use Rattle.std.specs.Int.{w64, to_be_bytes}
 use Rattle.sock_steps.proofs.Quiet.{either_way}
 use Rattle.brpc_model.specs.Items.{Shape}
-use Rattle.brpc_model.specs.Wire.{varint_up_to, varint_bytes}
+use Rattle.brpc_model.specs.Wire.{varint_bytes}
 use Rattle.brpc_model.specs.Meta.{Meta, MetaFault, RequestMeta, read_meta}
 use Rattle.brpc_model.specs.Spelling.{number_field, bytes_field, response_bytes, where_not_0, meta_bytes}
 use Rattle.brpc_model.specs.Frame.{Frame, BadMagic, TooBig, MetaOver, AttachOver, Judged, NoneYet, Faulty, Begins, frame_bytes, high_first, matching, body_limit, with_attachment, body_judged, judged}
 use Rattle.brpc_model.specs.Stream.{goes_on, stream_up_to}
 use Rattle.brpc_model.specs.Reply.{Answer, Gives, Refuses, echo, summing, served, response_with, answered_by, reply, reply_frames}
 use Rattle.brpc_model.specs.Served.{first_of, given_for}
+use Rattle.report_fits.proofs.Frames.{varint_short}
 use Rattle.served_runs.proofs.Frames.{framed_length}
 
 -- ## Sizes of metas
-
-pub varint_short : (most n : ℕ) → length (varint_up_to most n) ≤ most
-varint_short zero n = omega arith
-varint_short (suc most) n = by_size (nat_lt n 128) (varint_short most (n / 128))
-  where
-    by_size : (b : Bool) → length (varint_up_to most (n / 128)) ≤ most → length (cond b (n ∷ []) ((n % 128 + 128) ∷ varint_up_to most (n / 128))) ≤ suc most
-    by_size true few = omega arith
-    by_size false few = omega (arith, few)
 
 id_short : (id : ℕ) → length (number_field 4 id) ≤ 11
 id_short id = let one : length (varint_bytes 32) ≡ 1 = refl in let few = varint_short 10 id in let both = length-append (varint_bytes 32) (varint_bytes id) in omega (arith, one, few, both)

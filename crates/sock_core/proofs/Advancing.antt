@@ -22,7 +22,7 @@ use Rattle.call_points.specs.declared.aside.Aside.TheVariants as code
 use Rattle.call_points.specs.Steps as aside_steps
 use Rattle.seat_states.specs.declared.point.Step.{Step}
 use Rattle.seat_states.specs.declared.point.Step.TheVariants as firsts
-use Rattle.seat_states.specs.Steps.{First, OfCall, OfAside, step_of, step_as, first_in}
+use Rattle.seat_states.specs.Steps.{First, OfCall, OfAside, step_as, first_in}
 use Rattle.seat_states.specs.Steps as kinds
 use Rattle.client_seats.specs.Seats.{around, seat_program, asked_of}
 use Rattle.reader_points.specs.declared.point.ReadStep.{ReadStep}
@@ -33,7 +33,7 @@ use Rattle.sock_core.specs.declared.machine.Tick.{Tick}
 use Rattle.sock_core.specs.declared.machine.Tick.TheVariants.{Moved, Waits, Idle}
 use Rattle.sock_core.specs.Links.{LinksData, Taken, Given, Agrees, AgreesGave}
 use Rattle.sock_core.specs.Machines.{MachineState, READERS, IsMachine, IsSoundMachine, HasSizes, AreCalled, ArePaced, table_of, machine_sizes, state_of, core_with}
-use Rattle.sock_core.specs.Steps.{IsSized, NextIs, FitsSlots, SameBase, MadeFirst}
+use Rattle.sock_core.specs.Steps.{AsMany, IsSized, NextIs, FitsSlots, SameBase, MadeFirst}
 use Rattle.sock_core.specs.Reading.{SameTables, NextReadIs, MadeRead, TickRead}
 use Rattle.sock_core.specs.Telling.{TickTold, Tells, is_waiting}
 use Rattle.sock_core.specs.Runs.{SameTable, SameLinks, ShowFaults, TickIs, Follows, Ticked}
@@ -45,7 +45,7 @@ use Rattle.sock_core.proofs.Offering.{made_offers, made_offering, read_offers, r
 use Rattle.sock_core.proofs.Fitting.{paced_prop, client_next, client_may, client_asks, client_takes, client_slots, reader_next, reader_may, reader_slots}
 use Rattle.sock_core.proofs.Joining.{tells_as}
 use Rattle.sock_core.proofs.Keeping.{OutsKept, Keeps, kept_by, readers_paced, made_paced, step_keeps}
-use Rattle.sock_core.proofs.Lengths.{AsMany, as_many, sizes_kept}
+use Rattle.sock_core.proofs.Lengths.{as_many, sizes_kept}
 use Rattle.sock_core.proofs.PointFacts.{NoTake}
 use Rattle.sock_core.proofs.ReadLengths.{read_prompt, read_many, read_same, read_sizes}
 use Rattle.sock_core.proofs.ReadTicks.{MayRead, reads_by}
@@ -240,7 +240,7 @@ module _ (m fresh : MachineState) (room i : ℕ) (step : Step) (tick : Tick) (is
   called_by (firsts.AskReady k) at x = subst AreCalled (sym x.2.ids) (is.called enough)
   called_by _ at x = subst AreCalled (sym x.1.ids) (is.called enough)
 
-  many : AsMany m fresh
+  many : AsMany (table_of m) (table_of fresh)
   many = as_many m fresh i w.seat w.seat' step first answer made
 
   pub told_sizes : ∥ HasSizes fresh ∥₁
@@ -380,7 +380,7 @@ module _ (m fresh : MachineState) (room k : ℕ) (step : ReadStep) (tick : Tick)
       by_step (code.TakeBytes j count) at x = subst AreCalled (sym x.2.ids) (is.called enough)
       by_step aside at x = called_behind (table_of m) w.reader.asked aside x.1.found fresh.ids x.1.ids (fits aside at) (is.called enough)
 
-  read_as_many : AsMany m fresh
+  read_as_many : AsMany (table_of m) (table_of fresh)
   read_as_many = read_many m fresh i w.reader w.reader' begins given_answer read_made
 
   pub read_has_sizes : ∥ HasSizes fresh ∥₁

@@ -20,11 +20,11 @@ use Rattle.sock_io.specs.Link.{OutState, InState, PutStep, ReadyStep, of_put, of
 use Rattle.run_theorems.specs.Heard.{half_of, as_told, heard_at}
 use Rattle.sock_io.specs.Causes.{Rose}
 use Rattle.seat_programs.specs.Calls as calls
-use Rattle.seat_programs.specs.Writings.{Puts, Waits, Empties, Walks}
-use Rattle.seat_programs.specs.Programs.{Program, Say, Sent, Rest, PutBytes, AskReady, Write, Aside, Round, Keep, Retries}
+use Rattle.seat_programs.specs.Writings.{Waits}
+use Rattle.seat_programs.specs.Programs.{Program, PutBytes, AskReady, Write, Aside, Round}
 use Rattle.corr_core.specs.Word.{parts, code_of}
 use Rattle.seat_programs.specs.Asides.{id_slot, PutCall}
-use Rattle.seat_programs.specs.Heads.{Posts, Unlocks, Decides, Locks, Joins, Opens, Reads, Discards, HasEnded}
+use Rattle.seat_programs.specs.Heads.{Unlocks, Decides, Locks, HasEnded}
 use Rattle.seat_programs.specs.Posts.{ends_call, end_id, unlocked}
 use Rattle.seat_states.specs.declared.point.Step.{Step}
 use Rattle.seat_programs.specs.Cores.{Core, SeatState}
@@ -162,31 +162,12 @@ asks_none o (kinds.OfPut k asked bytes) e none_ = absurd (subst AsksNoLink e non
 asks_none o (kinds.OfReady k) e none_ = absurd (subst AsksNoLink e none_)
 asks_none o _ e none_ = refl
 
-judge_none : (ends : Bool) (x y : Program) → AsksNoLink (first_of x) → AsksNoLink (first_of y) → AsksNoLink (first_of (if ends then x else y))
-judge_none true x y f g = f
-judge_none false x y f g = g
-
 pub asks_first : (program : Program) (first : First) → first_in program ≡ Some first → IsAsked first (asked_link program)
 asks_first (PutBytes k asked bytes next) first e = subst (λ (f : First). IsAsked f (k ∷ [])) (same_some e) refl
 asks_first (AskReady k next) first e = subst (λ (f : First). IsAsked f (k ∷ [])) (same_some e) refl
 asks_first (Write (Waits h now heading left taken) after) first e = subst (λ (f : First). IsAsked f (h.link ∷ [])) (same_some e) refl
-asks_first (Write (Puts h now heading left taken asked) after) first e = asks_none _ first e tt
-asks_first (Write (Walks h top place after) then_) first e = asks_none _ first e tt
-asks_first (Write (Empties h) after) first e = asks_none _ first e tt
-asks_first (Say o outcome next) first e = cc
-asks_first (Sent o next) first e = cc
-asks_first (Keep r next) first e = cc
-asks_first (Retries requests after) first e = cc
-asks_first Rest first e = cc
-asks_first (Round (Posts id error w) next) first e = asks_none _ first e tt
-asks_first (Round (Unlocks i w advance) next) first e = asks_none _ first e tt
-asks_first (Round (Decides id asked w error) next) first e = asks_none _ first e (judge_none (ends_call (parts w) error) (end_id (id_slot id) (next (HasEnded asked.operation (code_of error)))) (Aside (PutCall (id_slot id) asked) (λ _. Round (Unlocks (id_slot id) w true) (unlocked (record { id = id; attempt = (parts w).attempt + 1 }) next))) tt tt)
+asks_first (Round (Decides id asked w error) next) first e = asks_none _ first e (elim (ends_call (parts w) error) as (λ (ends : Bool). AsksNoLink (first_of (if ends then end_id (id_slot id) (next (HasEnded asked.operation (code_of error))) else Aside (PutCall (id_slot id) asked) (λ _. Round (Unlocks (id_slot id) w true) (unlocked (record { id = id; attempt = (parts w).attempt + 1 }) next))))) [ true ↦ tt | false ↦ tt ])
 asks_first (Round (Locks i sought None) next) first e = asks_none _ first e tt
-asks_first (Round (Locks i sought (Some w)) next) first e = asks_none _ first e tt
-asks_first (Round (Joins id) next) first e = asks_none _ first e tt
-asks_first (Round (Opens o) next) first e = asks_none _ first e tt
-asks_first (Round (Reads r) next) first e = asks_none _ first e tt
-asks_first (Round (Discards k total) next) first e = asks_none _ first e tt
 asks_first _ first e = asks_none _ first e tt
 
 module _ (old fresh : MachineState) (i : ℕ) (c : Core) (seat : SeatState) (there : get_elem? c.seats i ≡ core.some seat) (place seat' : SeatData) (step : Step) where

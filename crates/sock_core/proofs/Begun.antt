@@ -1,5 +1,5 @@
 -- The tables before their first step.
-use Rattle.std.proofs.Common.{◌≡◌, refl, ℕ, zero, suc, ◌+◌, false, List, [], ◌∷◌, ◌++◌, map, fold, length, take, drop, replicate, Option, None, ap, ap₂, sym, ◌∙◌, arith, subst}
+use Rattle.std.proofs.Common.{append-nil, append_assoc, ◌≡◌, refl, ℕ, zero, suc, ◌+◌, false, List, [], ◌∷◌, ◌++◌, map, fold, length, take, drop, replicate, Option, None, ap, ap₂, sym, ◌∙◌, arith, subst}
 use Rattle.std.specs.List.{AllByRecursion}
 use Rattle.sock_words.specs.declared.outcome.Outcome.{Outcome}
 use Rattle.seat_programs.specs.declared.task.Task.{Task}
@@ -22,26 +22,18 @@ use Rattle.sock_core.specs.Letters.{letters_in}
 use Rattle.sock_core.proofs.Lengths.{length_said}
 use Rattle.sock_core.proofs.Stepping.{written}
 
-assoc : {A : Type 0} (xs ys zs : List A) → (xs ++ ys) ++ zs ≡ xs ++ (ys ++ zs)
-assoc [] ys zs = refl
-assoc (x ∷ xs) ys zs = ap (λ (l : List _). x ∷ l) (assoc xs ys zs)
-
-no_more : {A : Type 0} (xs : List A) → xs ++ [] ≡ xs
-no_more [] = refl
-no_more (x ∷ xs) = ap (λ (l : List _). x ∷ l) (no_more xs)
-
 replicate_more : {A : Type 0} (n : ℕ) (x : A) → replicate n x ++ x ∷ [] ≡ replicate (n + 1) x
 replicate_more zero x = refl
 replicate_more (suc n) x = let e : suc n + 1 ≡ suc (n + 1) = omega arith in rw e (ap (λ (l : List _). x ∷ l) (replicate_more n x))
 
 slots_last : (first n : ℕ) → free_slots first n ++ free_slot first ≡ free_slots first (n + 1)
-slots_last first zero = sym (no_more (free_slot first))
+slots_last first zero = sym (append-nil (free_slot first))
 slots_last first (suc n) =
     let e : suc n + 1 ≡ suc (n + 1) = omega arith in
-    rw e (assoc (free_slot first) (free_slots first n) (free_slot first) ∙ ap (λ (l : List ℕ). free_slot first ++ l) (slots_last first n))
+    rw e (append_assoc (free_slot first) (free_slots first n) (free_slot first) ∙ ap (λ (l : List ℕ). free_slot first ++ l) (slots_last first n))
 
 pub slots_more : (xs ys : List ℕ) (first n : ℕ) → ys ≡ xs ++ free_slots first n → ys ++ free_slot first ≡ xs ++ free_slots first (n + 1)
-slots_more xs ys first n e = ap (λ (l : List ℕ). l ++ free_slot first) e ∙ assoc xs (free_slots first n) (free_slot first) ∙ ap (λ (l : List ℕ). xs ++ l) (slots_last first n)
+slots_more xs ys first n e = ap (λ (l : List ℕ). l ++ free_slot first) e ∙ append_assoc xs (free_slots first n) (free_slot first) ∙ ap (λ (l : List ℕ). xs ++ l) (slots_last first n)
 
 pub map_last : {A B : Type 0} (f : A → B) (xs : List A) (x : A) → map f (xs ++ x ∷ []) ≡ map f xs ++ f x ∷ []
 map_last f [] x = refl
@@ -114,11 +106,11 @@ reading_more calls os o rs r are is = let e : length os ≡ 0 + length os = omeg
 
 -- one more item of those that are left
 pub item_last : {A B : Type 0} (f : A → B) (xs : List A) (x : A) (rest rest' all : List B) → rest ≡ f x ∷ rest' → map f xs ++ rest ≡ all → map f (xs ++ x ∷ []) ++ rest' ≡ all
-item_last f xs x rest rest' all step is = ap (λ (l : List _). l ++ rest') (map_last f xs x) ∙ assoc (map f xs) (f x ∷ []) rest' ∙ ap (λ (l : List _). map f xs ++ l) (sym step) ∙ is
+item_last f xs x rest rest' all step is = ap (λ (l : List _). l ++ rest') (map_last f xs x) ∙ append_assoc (map f xs) (f x ∷ []) rest' ∙ ap (λ (l : List _). map f xs ++ l) (sym step) ∙ is
 
 -- and where none is left these are all
 pub none_left : {B : Type 0} (xs rest all : List B) → xs ++ rest ≡ all → length rest ≡ 0 → xs ≡ all
-none_left xs [] all is none_ = sym (no_more xs) ∙ is
+none_left xs [] all is none_ = sym (append-nil xs) ∙ is
 none_left xs (y ∷ rest) all is none_ = absurd (omega (arith, none_))
 
 -- there are as many outcomes behind it

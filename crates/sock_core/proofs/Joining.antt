@@ -90,21 +90,13 @@ show_faults_join m xs ys first second k e has at = ⊎_elim (λ h. first k e h a
 
 -- ## What links answered
 
-pub more_none : (told : std.Option (List HalfAnswer)) → more_told told [] ≡ told
+pub more_none : {A : Type 0} (told : std.Option (List A)) → more_told told [] ≡ told
 more_none None = refl
 more_none (Some answers) = ap Some (append-nil answers)
 
-more_twice : (told : std.Option (List HalfAnswer)) (xs ys : List HalfAnswer) → more_told (more_told told xs) ys ≡ more_told told (xs ++ ys)
+more_twice : {A : Type 0} (told : std.Option (List A)) (xs ys : List A) → more_told (more_told told xs) ys ≡ more_told told (xs ++ ys)
 more_twice None xs ys = refl
 more_twice (Some answers) xs ys = ap Some (append_assoc answers xs ys)
-
-pub no_takes : (told : std.Option (List TakeAnswer)) → more_told told [] ≡ told
-no_takes None = refl
-no_takes (Some answers) = ap Some (append-nil answers)
-
-takes_twice : (told : std.Option (List TakeAnswer)) (xs ys : List TakeAnswer) → more_told (more_told told xs) ys ≡ more_told told (xs ++ ys)
-takes_twice None xs ys = refl
-takes_twice (Some answers) xs ys = ap Some (append_assoc answers xs ys)
 
 pub tells_none : (a b : MachineState) → b.ends ≡ a.ends → (heard : ℕ → List Answer) → ((k : ℕ) → heard k ≡ []) → LinksTell a b heard
 tells_none a b same heard none_ = record {
@@ -139,7 +131,7 @@ tells_as a b heard said same t = record {
 pub takes_none : (a b : MachineState) → b.ends ≡ a.ends → (taken : ℕ → List Answer) → ((k : ℕ) → taken k ≡ []) → TakesTell a b taken
 takes_none a b same taken none_ = record {
   each = λ k x y at also. let is : x ≡ y = same_Some x y (sym at ∙ ap (λ (es : List LinkEnd). slice_get es k) (sym same) ∙ also) in
-      ap (λ (e : LinkEnd). e.takes) (sym is) ∙ sym (no_takes x.takes) ∙ ap (λ (xs : List Answer). more_told x.takes (take_answers (as_taken xs))) (sym (none_ k));
+      ap (λ (e : LinkEnd). e.takes) (sym is) ∙ sym (more_none x.takes) ∙ ap (λ (xs : List Answer). more_told x.takes (take_answers (as_taken xs))) (sym (none_ k));
   none_beyond = λ k past. none_ k;
 }
 
@@ -147,7 +139,7 @@ pub takes_join : (a b c : MachineState) (first second : ℕ → List Answer) →
 takes_join a b c first second same after f g = record {
   each = λ k x z at also. let y = stood_before b.ends c.ends k z after.as_many also in
       g.each k y.0 z y.1 also ∙ ap (λ (o : std.Option (List TakeAnswer)). more_told o (take_answers (as_taken (second k)))) (f.each k x y.0 at y.1)
-      ∙ takes_twice x.takes (take_answers (as_taken (first k))) (take_answers (as_taken (second k)))
+      ∙ more_twice x.takes (take_answers (as_taken (first k))) (take_answers (as_taken (second k)))
       ∙ ap (more_told x.takes) (sym (flat_map-append answer_of (as_taken (first k)) (as_taken (second k))) ∙ ap take_answers (sym (taken_append (first k) (second k))));
   none_beyond = λ k past. ap (λ (l : List Answer). l ++ second k) (f.none_beyond k past) ∙ g.none_beyond k (let many = same.as_many in omega (arith, many, past));
 }

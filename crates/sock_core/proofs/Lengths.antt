@@ -1,4 +1,4 @@
--- A step of a client leaves as many of all as there were.
+-- A step of a client leaves as many of all as there were, and the tables keep their sizes.
 use Rattle.std.proofs.Common.{◌≡◌, refl, ℕ, ◌+◌, ◌<◌, ◌≤◌, List, length, slice_set, Option, Some, None, ap, sym, subst, ◌∙◌}
 use Rattle.std.proofs.Math.ListN.{length-set}
 use Rattle.std.specs.List.{AllByRecursion}
@@ -15,11 +15,10 @@ use Rattle.seat_states.specs.declared.point.Step.TheVariants as firsts
 use Rattle.seat_states.specs.Steps.{First, OfCall, OfAside, OfMessage, OfLink, OfHome}
 use Rattle.seat_states.specs.Steps as kinds
 use Rattle.client_seats.specs.Seats.{SeatData}
-use Rattle.reader_seats.specs.Readers.{ReaderData}
 use Rattle.sock_core.specs.declared.letter.Letter.{Letter}
 use Rattle.sock_core.specs.Links.{LinksData}
-use Rattle.sock_core.specs.Machines.{MachineState, READERS, HasSizes, table_of}
-use Rattle.sock_core.specs.Steps.{OutsAfter, LettersAfter, SameBase, Goes, MadeFirst, holders_after}
+use Rattle.sock_core.specs.Machines.{MachineState, TableState, READERS, HasSizes, table_of}
+use Rattle.sock_core.specs.Steps.{AsMany, LinkAsked, OutsAfter, LettersAfter, SameBase, Goes, MadeFirst, holders_after}
 
 pub length_said : (p : Program) (os : List (Option Outcome)) → length (said p os) ≡ length os
 length_said (Say o outcome next) os = length_said next (slice_set os o (Some outcome)) ∙ length-set os o (Some outcome)
@@ -39,20 +38,32 @@ pub length_outs : (call : calls.Call) (old fresh : List OutState) → OutsAfter 
 length_outs (calls.FinishLink k) old fresh o = ap length o.3 ∙ length-set old k o.1
 length_outs _ old fresh o = ap length o
 
--- as many letters, links and outcomes as before
-pub record AsMany (old fresh : MachineState) : Type 0 where
-  pub letters : length fresh.letters ≡ length old.letters
-  pub holders : length fresh.links.holders ≡ length old.links.holders
-  pub nexts : length fresh.links.nexts ≡ length old.links.nexts
-  pub outs : length fresh.links.outs ≡ length old.links.outs
-  pub inns : length fresh.links.inns ≡ length old.links.inns
-  pub outcomes : length fresh.outcomes ≡ length old.outcomes
+-- where the links stay
+pub many_same : {old fresh : TableState} → length fresh.letters ≡ length old.letters → fresh.links ≡ old.links → length fresh.outcomes ≡ length old.outcomes → AsMany old fresh
+many_same letters links outcomes = record {
+  letters = letters;
+  holders = ap (λ (l : LinksData). length l.holders) links;
+  nexts = ap (λ (l : LinksData). length l.nexts) links;
+  outs = ap (λ (l : LinksData). length l.outs) links;
+  inns = ap (λ (l : LinksData). length l.inns) links;
+  outcomes = outcomes;
+}
 
 module _ (old fresh : MachineState) (i : ℕ) (place seat' : SeatData) (step : Step) where
   told_as_many : (next : Program) → Goes (table_of old) (table_of fresh) place seat' next → length fresh.outcomes ≡ length old.outcomes
   told_as_many next goes = ap length goes.told ∙ length_said (resolved place.waiting next) old.outcomes
 
-  pub as_many : (first : First) (answer : Answer) → MadeFirst (table_of old) (table_of fresh) i place seat' step first answer → AsMany old fresh
+  asked_many : {k : ℕ} {next : Program} {HasAnswered : OutState → OutState → Type 0} → LinkAsked (table_of old) (table_of fresh) i place seat' k next HasAnswered → AsMany (table_of old) (table_of fresh)
+  asked_many {k} w = record {
+    letters = ap length w.letters;
+    holders = ap length w.holders;
+    nexts = ap length w.nexts;
+    outs = ap length w.asked.outs_are ∙ length-set old.links.outs k w.asked.out';
+    inns = ap length w.goes.base.inns;
+    outcomes = told_as_many _ w.goes;
+  }
+
+  pub as_many : (first : First) (answer : Answer) → MadeFirst (table_of old) (table_of fresh) i place seat' step first answer → AsMany (table_of old) (table_of fresh)
   as_many (OfCall call) answer w = record {
     letters = length_letters place step old.letters fresh.letters w.1.letters;
     holders = ap length w.1.holders ∙ length_holders i call old.links.holders;
@@ -61,22 +72,8 @@ module _ (old fresh : MachineState) (i : ℕ) (place seat' : SeatData) (step : S
     inns = ap length w.1.goes.base.inns;
     outcomes = told_as_many _ w.1.goes;
   }
-  as_many (OfAside aside) answer w = record {
-    letters = ap length w.1.letters;
-    holders = ap (λ (l : LinksData). length l.holders) w.1.links;
-    nexts = ap (λ (l : LinksData). length l.nexts) w.1.links;
-    outs = ap (λ (l : LinksData). length l.outs) w.1.links;
-    inns = ap length w.1.goes.base.inns;
-    outcomes = told_as_many _ w.1.goes;
-  }
-  as_many (OfMessage q) answer w = record {
-    letters = ap length w.1.letters ∙ length-set old.letters q None;
-    holders = ap (λ (l : LinksData). length l.holders) w.1.links;
-    nexts = ap (λ (l : LinksData). length l.nexts) w.1.links;
-    outs = ap (λ (l : LinksData). length l.outs) w.1.links;
-    inns = ap length w.1.goes.base.inns;
-    outcomes = told_as_many _ w.1.goes;
-  }
+  as_many (OfAside aside) answer w = many_same (ap length w.1.letters) w.1.links (told_as_many _ w.1.goes)
+  as_many (OfMessage q) answer w = many_same (ap length w.1.letters ∙ length-set old.letters q None) w.1.links (told_as_many _ w.1.goes)
   as_many (OfLink k) answer w = record {
     letters = ap length w.1.letters;
     holders = ap (λ (l : LinksData). length l.holders) w.1.links ∙ length-set old.links.holders k (Some i);
@@ -93,49 +90,38 @@ module _ (old fresh : MachineState) (i : ℕ) (place seat' : SeatData) (step : S
     inns = ap length w.1.goes.base.inns;
     outcomes = told_as_many _ w.1.goes;
   }
-  as_many (kinds.OfPut k asked bytes) answer w = record {
-    letters = ap length w.2.letters;
-    holders = ap length w.2.holders;
-    nexts = ap length w.2.nexts;
-    outs = ap length w.2.asked.outs_are ∙ length-set old.links.outs k w.2.asked.out';
-    inns = ap length w.2.goes.base.inns;
-    outcomes = told_as_many _ w.2.goes;
-  }
-  as_many (kinds.OfReady k) answer w = record {
-    letters = ap length w.2.letters;
-    holders = ap length w.2.holders;
-    nexts = ap length w.2.nexts;
-    outs = ap length w.2.asked.outs_are ∙ length-set old.links.outs k w.2.asked.out';
-    inns = ap length w.2.goes.base.inns;
-    outcomes = told_as_many _ w.2.goes;
-  }
+  as_many (kinds.OfPut k asked bytes) answer w = asked_many w.2
+  as_many (kinds.OfReady k) answer w = asked_many w.2
 
 -- so the tables have the sizes that their plans say
-pub sizes_kept : (old fresh : MachineState) (i : ℕ) (seat' : SeatData) → HasSizes old → AsMany old fresh → SameBase (table_of old) (table_of fresh) → length fresh.ends ≡ length old.ends → fresh.seats ≡ slice_set old.seats i seat' → fresh.readers ≡ old.readers → fresh.opens ≡ old.opens → HasSizes fresh
-sizes_kept old fresh i seat' h many base ends seats readers opens = record {
-  letters_are = many.letters ∙ h.letters_are ∙ sym (ap (λ (p : Plan). p.requests) base.plan);
+pub sizes_stay : (old fresh : MachineState) → HasSizes old → AsMany (table_of old) (table_of fresh) → fresh.plan ≡ old.plan → fresh.ids.plan ≡ old.ids.plan → fresh.calls ≡ old.calls → length fresh.ends ≡ length old.ends → length fresh.seats ≡ length old.seats
+    → length fresh.readers ≡ length old.readers → fresh.opens ≡ old.opens → HasSizes fresh
+sizes_stay old fresh h many plan id_plan calls ends seats readers opens = record {
+  letters_are = many.letters ∙ h.letters_are ∙ sym (ap (λ (p : Plan). p.requests) plan);
   holders_are = many.holders ∙ h.holders_are ∙ links;
   nexts_are = many.nexts ∙ h.nexts_are ∙ links;
   outs_are = many.outs ∙ h.outs_are ∙ links;
   inns_are = many.inns ∙ h.inns_are ∙ links;
   ends_are = ends ∙ h.ends_are ∙ links;
-  seats_are = same_seats ∙ h.seats_are ∙ sym (ap (λ (p : Plan). p.seats) base.plan);
-  some_seat = subst (λ (n : ℕ). 0 < n) (sym same_seats) h.some_seat;
-  few_seats = subst (λ (n : ℕ). n ≤ READERS) (sym same_seats) h.few_seats;
-  readers_are = ap length readers ∙ h.readers_are ∙ links;
-  few_readers = subst (λ (rs : List ReaderData). length rs ≤ 32) (sym readers) h.few_readers;
-  slots_are = ap length base.calls ∙ h.slots_are ∙ sym (ap (λ (q : marks.Plan). q.slots) base.id_plan);
-  few_slots = subst (λ (q : marks.Plan). q.slots ≤ 4096) (sym base.id_plan) h.few_slots;
-  operations_are = ap (λ (q : marks.Plan). q.operations) base.id_plan ∙ h.operations_are ∙ sym (ap (λ (p : Plan). p.operations) base.plan);
-  calls_are = subst (λ (q : marks.Plan). AllByRecursion (λ o. o < q.operations) fresh.calls) (sym base.id_plan) (subst (λ (os : List ℕ). AllByRecursion (λ o. o < old.ids.plan.operations) os) (sym base.calls) h.calls_are);
-  id_seats_are = ap (λ (q : marks.Plan). q.seats) base.id_plan ∙ h.id_seats_are ∙ ap (λ (rs : List ReaderData). READERS + length rs) (sym readers);
-  opens_are = subst (λ (p : Plan). AllByRecursion (λ o. o < p.operations) fresh.opens) (sym base.plan) (subst (λ (os : List ℕ). AllByRecursion (λ o. o < old.plan.operations) os) (sym opens) h.opens_are);
+  seats_are = seats ∙ h.seats_are ∙ sym (ap (λ (p : Plan). p.seats) plan);
+  some_seat = subst (λ (n : ℕ). 0 < n) (sym seats) h.some_seat;
+  few_seats = subst (λ (n : ℕ). n ≤ READERS) (sym seats) h.few_seats;
+  readers_are = readers ∙ h.readers_are ∙ links;
+  few_readers = subst (λ (n : ℕ). n ≤ 32) (sym readers) h.few_readers;
+  slots_are = ap length calls ∙ h.slots_are ∙ sym (ap (λ (q : marks.Plan). q.slots) id_plan);
+  few_slots = subst (λ (q : marks.Plan). q.slots ≤ 4096) (sym id_plan) h.few_slots;
+  operations_are = ap (λ (q : marks.Plan). q.operations) id_plan ∙ h.operations_are ∙ sym (ap (λ (p : Plan). p.operations) plan);
+  calls_are = subst (λ (q : marks.Plan). AllByRecursion (λ o. o < q.operations) fresh.calls) (sym id_plan) (subst (λ (os : List ℕ). AllByRecursion (λ o. o < old.ids.plan.operations) os) (sym calls) h.calls_are);
+  id_seats_are = ap (λ (q : marks.Plan). q.seats) id_plan ∙ h.id_seats_are ∙ ap (λ (n : ℕ). READERS + n) (sym readers);
+  opens_are = subst (λ (p : Plan). AllByRecursion (λ o. o < p.operations) fresh.opens) (sym plan) (subst (λ (os : List ℕ). AllByRecursion (λ o. o < old.plan.operations) os) (sym opens) h.opens_are);
   few_opens = subst (λ (os : List ℕ). length os ≤ 32) (sym opens) h.few_opens;
   few_outcomes = subst (λ (n : ℕ). n ≤ 4096) (sym many.outcomes) h.few_outcomes;
 }
   where
     links : old.plan.links ≡ fresh.plan.links
-    links = sym (ap (λ (p : Plan). p.links) base.plan)
+    links = sym (ap (λ (p : Plan). p.links) plan)
 
-    same_seats : length fresh.seats ≡ length old.seats
-    same_seats = ap length seats ∙ length-set old.seats i seat'
+-- behind a step of seat i
+pub sizes_kept : (old fresh : MachineState) (i : ℕ) (seat' : SeatData) → HasSizes old → AsMany (table_of old) (table_of fresh) → SameBase (table_of old) (table_of fresh) → length fresh.ends ≡ length old.ends → fresh.seats ≡ slice_set old.seats i seat' → fresh.readers ≡ old.readers
+    → fresh.opens ≡ old.opens → HasSizes fresh
+sizes_kept old fresh i seat' h many base ends seats readers opens = sizes_stay old fresh h many base.plan base.id_plan base.calls ends (ap length seats ∙ length-set old.seats i seat') (ap length readers) opens

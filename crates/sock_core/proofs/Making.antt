@@ -20,7 +20,7 @@ use Rattle.seat_programs.specs.Programs.{Program, Do, Say, Sent, Rest, Retries, 
 use Rattle.seat_programs.specs.Clients.{HeldLife, operation, client_from}
 use Rattle.seat_programs.specs.Cores.{resolved, next_step}
 use Rattle.seat_programs.specs.Ticks.{quiet, run}
-use Rattle.seat_programs.specs.Scripts.{all_tasks, all_programs, beginning, programs, readers_from, opened, set_up, sizes_of}
+use Rattle.seat_programs.specs.Scripts.{all_tasks, all_programs, beginning, programs, readers_from, opened, sizes_of}
 use Rattle.seat_programs.specs.Tasks.{calls, opens, plan_of, id_plan_of}
 use Rattle.seat_programs.specs.Told.{AreTasks, IsOpen}
 use Rattle.report_fits.proofs.TaskLemmas.{tasks_length}
@@ -33,8 +33,8 @@ use Rattle.sock_core.specs.Links.{LinksData, Agrees, AgreesGave, AreAlwaysReady,
 use Rattle.sock_core.specs.Machines.{MachineState, core_with}
 use Rattle.sock_core.specs.Runs.{RanFirst}
 use Rattle.sock_core.specs.declared.letter.Letter.{Letter}
-use Rattle.sock_core.specs.Beginnings.{AreBegun, AreParts}
-use Rattle.sock_core.specs.Driving.{AsksNone, IsPlain}
+use Rattle.sock_core.specs.Beginnings.{AreBegun, AreParts, IsMade}
+use Rattle.sock_core.specs.Driving.{AsksNone, IsPlain, FirstRests}
 use Rattle.sock_core.proofs.Starting.{AreNew}
 
 -- ## What a script that was read asks for
@@ -153,21 +153,25 @@ module _ (script : List Item) (p : Plan) (q : IdPlan) (ts : List (List Task)) (c
       ∙ ap (λ l. beginning (plan_of script) (id_plan_of script) (all_programs (programs (sizes_of (plan_of script) (id_plan_of script)) l) (readers_from cs 0 os))) tasks
       ∙ ap₂ (λ (x y : List ℕ). beginning (plan_of script) (id_plan_of script) (all_programs (programs (sizes_of (plan_of script) (id_plan_of script)) (all_tasks script)) (readers_from x 0 y))) calls_is numbers
 
-  pub plan_made : (m.plan ≡ plan_of script) × (m.ids.plan ≡ id_plan_of script)
-  plan_made = (ran.same.0.plan ∙ (plan.0 ∙ is), ran.same.0.id_plan ∙ (plan.1 ∙ id_is))
-
-  pub opens_made : (m.opens ≡ opens script) × (m.calls ≡ calls script)
-  opens_made = (ran.same.0.opens ∙ (own.0 ∙ numbers), ran.same.0.calls ∙ (own.1 ∙ calls_is))
-
-  pub agrees_made : Agrees m.links (λ k. []) × AgreesGave m.links (λ k. [])
-  agrees_made = let r = ran.core (λ k. []) (λ k. []) agrees.0 agrees.1 in (r.0, r.1)
-
   -- and its setup has been done
-  pub core_made : (n : ℕ) × (core_with m (λ k. []) (λ k. []) ≡ set_up script n)
-  core_made = (ran.steps, (ran.core (λ k. []) (λ k. []) agrees.0 agrees.1).2 ∙ (ap (λ x. run x (core_with start (λ k. []) (λ k. [])) (replicate ran.steps (quiet 0))) (plan.0 ∙ is) ∙ ap (λ c. run (plan_of script) c (replicate ran.steps (quiet 0))) begun))
+  pub is_made : FirstRests m → IsMade script m
+  is_made first = let r = ran.core (λ k. []) (λ k. []) agrees.0 agrees.1 in record {
+    plan = ran.same.0.plan ∙ (plan.0 ∙ is);
+    id_plan = ran.same.0.id_plan ∙ (plan.1 ∙ id_is);
+    opens = ran.same.0.opens ∙ (own.0 ∙ numbers);
+    calls = ran.same.0.calls ∙ (own.1 ∙ calls_is);
+    agrees = r.0;
+    agrees_gave = r.1;
+    setup = (ran.steps, (ran.core (λ k. []) (λ k. []) agrees.0 agrees.1).2 ∙ (ap (λ x. run x (core_with start (λ k. []) (λ k. [])) (replicate ran.steps (quiet 0))) (plan.0 ∙ is) ∙ ap (λ c. run (plan_of script) c (replicate ran.steps (quiet 0))) begun));
+    first = first;
+  }
 
 -- ## What is left of it
 
 pub map_map : {A B C : Type 0} (f : A → B) (g : B → C) (xs : List A) → map g (map f xs) ≡ map (λ (x : A). g (f x)) xs
 map_map f g [] = refl
 map_map f g (x ∷ xs) = ap (λ (l : List _). g (f x) ∷ l) (map_map f g xs)
+
+-- what each half tells, and what its end tells, where both are read off the same
+pub told_alike : {A B C D : Type 0} (half : A → B) (end : A → C) (f : B → D) (g : C → D) (xs : List A) (bs : List B) (cs : List C) → bs ≡ map half xs → cs ≡ map end xs → map (λ (x : A). f (half x)) xs ≡ map (λ (x : A). g (end x)) xs → map f bs ≡ map g cs
+told_alike half end f g xs bs cs halves ends same = ap (map f) halves ∙ (map_map half f xs ∙ (same ∙ sym (ap (map g) ends ∙ map_map end g xs)))

@@ -50,59 +50,40 @@ serves_finish : (out out' : OutState) → FinishStep out out' → ServesOn out o
 serves_finish out out' step took gave o told s = (took, step.took ∙ told, served_finish out out' took gave o step s)
 
 module _ (l l' : LinksData) (k : ℕ) (serve : Bool) (end : Option ℕ) (h : IsOffering l k serve end) where
-  offering_same : l'.outs ≡ l.outs → l'.inns ≡ l.inns → IsOffering l' k serve end
-  offering_same outs inns = record {
-    out = h.out;
-    out_at = ap (λ (os : List OutState). get_elem? os k) outs ∙ h.out_at;
+  -- it was offered the same, and its writing half took this
+  offers_still : (out : OutState) → get_elem? l'.outs k ≡ core.some out → get_elem? l'.inns k ≡ core.some h.inn → (took : List ℕ) → out.took ≡ Some took → IsServed took out.finished h.gave h.offer → IsOffering l' k serve end
+  offers_still out at inn_at took told served = record {
+    out = out;
+    out_at = at;
     inn = h.inn;
-    inn_at = ap (λ (is : List InState). get_elem? is k) inns ∙ h.inn_at;
-    took = h.took;
-    took_is = h.took_is;
+    inn_at = inn_at;
+    took = took;
+    took_is = told;
     gave = h.gave;
     gave_is = h.gave_is;
     offer = h.offer;
     offer_is = h.offer_is;
     serves = h.serves;
     ends = h.ends;
-    served = h.served;
+    served = served;
   }
+
+  -- the reading half stays
+  inn_here : l'.inns ≡ l.inns → get_elem? l'.inns k ≡ core.some h.inn
+  inn_here inns = ap (λ (is : List InState). get_elem? is k) inns ∙ h.inn_at
+
+  offering_same : l'.outs ≡ l.outs → l'.inns ≡ l.inns → IsOffering l' k serve end
+  offering_same outs inns = offers_still h.out (ap (λ (os : List OutState). get_elem? os k) outs ∙ h.out_at) (inn_here inns) h.took h.took_is h.served
 
   module _ (x : ℕ) (out out' : OutState) (at : get_elem? l.outs x ≡ core.some out) (outs : l'.outs ≡ slice_set l.outs x out') (inns : l'.inns ≡ l.inns) (serves : ServesOn out out') where
     offering_here : k ≡ x → IsOffering l' k serve end
     offering_here e =
         let same : h.out ≡ out = core.some-injective h.out out (sym h.out_at ∙ ap (get_elem? l.outs) e ∙ at) in
-        let later = serves h.took h.gave h.offer (ap (λ (o : OutState). o.took) (sym same) ∙ h.took_is) (subst (λ (o : OutState). IsServed h.took o.finished h.gave h.offer) same h.served) in record {
-          out = out';
-          out_at = ap (λ (os : List OutState). get_elem? os k) outs ∙ ap (get_elem? (slice_set l.outs x out')) e ∙ set_here l.outs x out' (place_inside l.outs x out at);
-          inn = h.inn;
-          inn_at = ap (λ (is : List InState). get_elem? is k) inns ∙ h.inn_at;
-          took = later.0;
-          took_is = later.1;
-          gave = h.gave;
-          gave_is = h.gave_is;
-          offer = h.offer;
-          offer_is = h.offer_is;
-          serves = h.serves;
-          ends = h.ends;
-          served = later.2;
-        }
+        let later = serves h.took h.gave h.offer (ap (λ (o : OutState). o.took) (sym same) ∙ h.took_is) (subst (λ (o : OutState). IsServed h.took o.finished h.gave h.offer) same h.served) in
+        offers_still out' (ap (λ (os : List OutState). get_elem? os k) outs ∙ ap (get_elem? (slice_set l.outs x out')) e ∙ set_here l.outs x out' (place_inside l.outs x out at)) (inn_here inns) later.0 later.1 later.2
 
     offering_else : k ≢ x → IsOffering l' k serve end
-    offering_else differ = record {
-      out = h.out;
-      out_at = ap (λ (os : List OutState). get_elem? os k) outs ∙ set_else l.outs x k out' differ ∙ h.out_at;
-      inn = h.inn;
-      inn_at = ap (λ (is : List InState). get_elem? is k) inns ∙ h.inn_at;
-      took = h.took;
-      took_is = h.took_is;
-      gave = h.gave;
-      gave_is = h.gave_is;
-      offer = h.offer;
-      offer_is = h.offer_is;
-      serves = h.serves;
-      ends = h.ends;
-      served = h.served;
-    }
+    offering_else differ = offers_still h.out (ap (λ (os : List OutState). get_elem? os k) outs ∙ set_else l.outs x k out' differ ∙ h.out_at) (inn_here inns) h.took h.took_is h.served
 
     offering_set : IsOffering l' k serve end
     offering_set = dite (ℕ_discrete k x) offering_here offering_else
@@ -163,21 +144,7 @@ module _ (old fresh : MachineState) (x room : ℕ) (taking : Taking) (f : TakenF
         ends = on.1.end ∙ h.ends;
         served = on.1.served;
       })
-      (λ differ. record {
-        out = h.out;
-        out_at = ap (λ (os : List OutState). get_elem? os k) outs ∙ h.out_at;
-        inn = h.inn;
-        inn_at = ap (λ (is : List InState). get_elem? is k) f.inns_are ∙ set_else old.links.inns x k f.inn' differ ∙ h.inn_at;
-        took = h.took;
-        took_is = h.took_is;
-        gave = h.gave;
-        gave_is = h.gave_is;
-        offer = h.offer;
-        offer_is = h.offer_is;
-        serves = h.serves;
-        ends = h.ends;
-        served = h.served;
-      })
+      (λ differ. offers_still old.links fresh.links k serve end h h.out (ap (λ (os : List OutState). get_elem? os k) outs ∙ h.out_at) (ap (λ (is : List InState). get_elem? is k) f.inns_are ∙ set_else old.links.inns x k f.inn' differ ∙ h.inn_at) h.took h.took_is h.served)
 
 module _ (old fresh : MachineState) (n : ℕ) (reader reader' : ReaderData) (k : ℕ) (serve : Bool) (end : Option ℕ) (h : IsOffering old.links k serve end) where
   abbrev i : ℕ

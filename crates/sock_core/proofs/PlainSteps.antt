@@ -1,19 +1,15 @@
 -- Seats that have no step left, and steps of seat 0, which asks no link, holds no life and calls nothing.
-use Rattle.std.proofs.Common.{◌≡◌, refl, ℕ, zero, suc, ◌+◌, ◌<◌, ◌≤◌, ◌==◌, if◌then◌else◌, cond, Bool, true, false, List, [], ◌∷◌, length, Option, Some, None, ap, ap₂, sym, ◌∙◌, arith, subst}
+use Rattle.std.proofs.Common.{◌≡◌, refl, ℕ, zero, suc, ◌+◌, ◌<◌, ◌≤◌, ◌==◌, cond, Bool, true, false, List, [], ◌∷◌, length, Option, Some, None, option_map, ap, ap₂, sym, ◌∙◌, arith, subst}
 use Rattle.atomic_table.proofs.Lists.{set_here}
 use mathlib.Core.Option as core
 use lib.ListN.{get_elem?}
 use Rattle.chain_steps.proofs.Lists.{at_some}
 use Rattle.sock_words.specs.declared.kind.Kind.{Kind}
-use Rattle.corr_core.specs.Word.{parts, code_of}
 use Rattle.sock_model.specs.Entries.{slot_of, generation_of}
 use Rattle.seat_programs.specs.declared.task.Sizes.{Sizes}
 use Rattle.seat_programs.specs.Calls as calls
-use Rattle.seat_programs.specs.Asides.{PutCall, id_slot}
-use Rattle.seat_programs.specs.Heads.{Retry, Posts, Unlocks, Decides, Locks, Joins, Opens, Reads, Discards, HasEnded}
-use Rattle.seat_programs.specs.Posts.{ends_call, end_id, unlocked}
-use Rattle.seat_programs.specs.Writings as heads
-use Rattle.seat_programs.specs.Programs.{Program, Do, Say, Sent, Rest, PutHome, Write, Aside, Round, Keep, Retries, LAST_GENERATION}
+use Rattle.seat_programs.specs.Heads.{Retry}
+use Rattle.seat_programs.specs.Programs.{Program, Do, Say, Sent, Rest, Retries, LAST_GENERATION}
 use Rattle.seat_programs.specs.Sends.{freed, tell_drop, one_more, passed_telling}
 use Rattle.seat_programs.specs.Cores.{Core, SeatState, word_of, found_at, next_step, resolved, still_waiting}
 use Rattle.seat_programs.specs.Ticks.{quiet}
@@ -29,7 +25,7 @@ use Rattle.seat_states.specs.declared.point.Author.{Author}
 use Rattle.seat_states.specs.declared.point.Point.{Point}
 use Rattle.seat_states.specs.declared.point.Point.TheVariants as points
 use Rattle.seat_states.specs.Points.{Context, point_program, heading_by, holder_of, tell, written_program, HasInHand, HasLinkAt, TellsCodeAt, framed}
-use Rattle.seat_states.specs.Steps.{First, OfCall, step_as, first_of, first_in}
+use Rattle.seat_states.specs.Steps.{First, OfCall, step_as, first_in, kind_of_first}
 use Rattle.client_seats.specs.Seats.{SeatData, around, seat_program}
 use Rattle.reader_seats.specs.Readers.{ReaderData, reader_program}
 use Rattle.sock_core.specs.declared.machine.Tick.{Tick}
@@ -41,47 +37,19 @@ use Rattle.sock_core.specs.Reading.{HasNoRead}
 use Rattle.sock_core.specs.Telling.{TickTold}
 use Rattle.sock_core.specs.Driving.{AsksNone, IsPlain, TickedFirst, Leaves}
 use Rattle.sock_core.proofs.Advancing.{is_sized, few_seats, few_slots, is_paced, base}
-use Rattle.sock_core.proofs.FirstSteps.{same_some}
 use Rattle.sock_core.proofs.Fitting.{client_next, client_may}
 use Rattle.sock_core.proofs.Joining.{rests}
 use Rattle.sock_core.proofs.Resting.{Rests, beyond_rests}
 use Rattle.sock_core.proofs.Seatings.{seat_at, read_at}
-use Rattle.sock_core.proofs.Ticked.{IsCall, gives_same, quiet_by}
+use Rattle.sock_core.proofs.TableRoom.{IsCall, after_none, only_calls}
+use Rattle.sock_core.proofs.Tellings.{kind_is}
+use Rattle.sock_core.proofs.Ticked.{gives_same, quiet_by}
 
 -- ## Without a step left
 
 -- a program without a first step has none left
-abbrev NoKind : Option First → Option Kind → Type 0
-NoKind None kind = kind ≡ None
-NoKind (Some first) kind = Unit {0}
-
-no_kind : (ends : Bool) (x y : Program) (kind : Option Kind) → NoKind (first_of x) kind → NoKind (first_of y) kind → NoKind (first_of (if ends then x else y)) kind
-no_kind true x y kind f g = f
-no_kind false x y kind f g = g
-
-none_in : (program : Program) → NoKind (first_in program) (kind_in program)
-none_in (Say o outcome next) = refl
-none_in (Sent o next) = refl
-none_in (Keep r next) = refl
-none_in (Retries requests after) = refl
-none_in Rest = refl
-none_in (Write (heads.Puts h now heading left taken asked) after) = tt
-none_in (Write (heads.Waits h now heading left taken) after) = tt
-none_in (Write (heads.Empties h) after) = tt
-none_in (Write (heads.Walks h top place after) then_) = tt
-none_in (Round (Posts id error w) next) = tt
-none_in (Round (Unlocks i w advance) next) = tt
-none_in (Round (Decides id asked w error) next) = no_kind (ends_call (parts w) error) (end_id (id_slot id) (next (HasEnded asked.operation (code_of error)))) (Aside (PutCall (id_slot id) asked) (λ _. Round (Unlocks (id_slot id) w true) (unlocked (record { id = id; attempt = (parts w).attempt + 1 }) next))) _ tt tt
-none_in (Round (Locks i sought None) next) = tt
-none_in (Round (Locks i sought (Some w)) next) = tt
-none_in (Round (Joins id) next) = tt
-none_in (Round (Opens o) next) = tt
-none_in (Round (Reads r) next) = tt
-none_in (Round (Discards k total) next) = tt
-none_in _ = tt
-
 rests_in : (program : Program) → first_in program ≡ None → kind_in program ≡ None
-rests_in program e = subst (λ (o : Option First). NoKind o (kind_in program)) e (none_in program)
+rests_in program e = kind_is program ∙ ap (option_map kind_of_first) e
 
 kind_at : (c : Core) (i : ℕ) (s : SeatState) → get_elem? c.seats i ≡ core.some s → kind_in s.program ≡ None → IsAtRest c i
 kind_at c i s at none_ = ap (λ (o : core.Option SeatState). elim o as (λ x. Option Kind) [ core.none ↦ None | core.some s ↦ kind_in s.program ]) at ∙ none_
@@ -104,24 +72,7 @@ no_read_rests m k few none_ = by (get_elem? m.readers k) refl
 
 -- ## Seat 0
 
--- its first step is one on a word
-first_call : (program : Program) (first : First) → first_in program ≡ Some first → AsksNone program → IsCall first
-first_call (Do call next) first e x = subst IsCall (same_some e) tt
-first_call (Say o outcome next) first e x = cc
-first_call (Sent o next) first e x = cc
-first_call (Retries requests after) first e x = cc
-first_call Rest first e x = cc
-first_call _ first e x = absurd x
-
-after_none : (program : Program) (found : ℕ) → AsksNone program → AsksNone (after_word program found)
-after_none (Do call after) found x = x.1 found
-after_none (Say o outcome after) found x = x
-after_none (Sent o after) found x = x
-after_none (Retries requests after) found x = x
-after_none Rest found x = tt
-after_none _ found x = absurd x
-
--- and what follows it asks no link either, and keeps no retry
+-- what follows its first step asks no link either, and keeps no retry
 resolved_none : (program : Program) → AsksNone program → AsksNone (next_step (resolved [] program)) × (still_waiting [] program ≡ [])
 resolved_none (Do call after) x = (x, refl)
 resolved_none (Say o outcome after) x = resolved_none after x.1
@@ -182,7 +133,7 @@ module _ (m fresh : MachineState) (room : ℕ) (step : Step) (tick : Tick) (is :
   next = client_next m (is_sized m is.sizes) (few_slots m is.sizes) (is.called enough) (is.sound enough) 0 w.seat w.at step n
 
   is_call : IsCall first
-  is_call = first_call program first next (plain w.seat w.at).0
+  is_call = only_calls program first next (plain w.seat w.at).0
 
   -- what follows
   abbrev StaysPlain : SeatData → Type 0

@@ -3,7 +3,6 @@ use Rattle.std.proofs.Common.{◌≡◌, refl, ℕ, ◌+◌, ◌<◌, ◌≤◌,
 use Rattle.std.proofs.Props.{props}
 use Rattle.std.proofs.Math.Logic.{∥∥₁_elim}
 use Rattle.sock_words.specs.declared.plain.Plan.{Plan}
-use Rattle.sock_words.specs.declared.id_word.IdWord.{IdWord}
 use Rattle.corr_core.specs.declared.marks.Plan.{Plan as IdPlan}
 use Rattle.corr_core.specs.Word.{parts, code_of}
 use Rattle.sock_message.specs.Asked.{Asked}
@@ -18,7 +17,6 @@ use Rattle.sock_runs.specs.Sound.{AllowsWord}
 use Rattle.id_runs.specs.Held.{IdView}
 use Rattle.id_runs.specs.Goes.{FitsSock, IsLocked, IsTaken, IdGoesOn}
 use Rattle.id_points.specs.Ids.{id_of}
-use Rattle.call_points.specs.declared.deciding.OnCall.{OnCall}
 use Rattle.call_points.specs.declared.deciding.DecideStep.TheVariants as decides
 use Rattle.call_points.specs.declared.posting.PostStep.TheVariants as posts
 use Rattle.call_points.specs.declared.locking.LockStep.TheVariants as locks
@@ -36,7 +34,6 @@ use Rattle.seat_states.specs.declared.point.JoinStep.TheVariants as joins
 use Rattle.seat_states.specs.declared.point.Sending.{Sending}
 use Rattle.seat_states.specs.declared.point.Author.{Author}
 use Rattle.seat_states.specs.declared.point.Author.TheVariants as authors
-use Rattle.seat_states.specs.declared.point.AfterStep.{AfterStep}
 use Rattle.seat_states.specs.declared.point.Point.{Point}
 use Rattle.seat_states.specs.declared.point.Point.TheVariants as points
 use Rattle.seat_states.specs.Points.{Context, point_program, look_program, after_program, IsWithin, IsWithinIds, MayFind, MayFindAside, MayFindId, GoesByWord, TakesCall}
@@ -74,87 +71,44 @@ look_beside : (a : Context) (s : Sending) (author : Author) → Beside (first_in
 look_beside a s (authors.Send o) = (λ found h. tt)
 look_beside a s (authors.Attempt t) = (λ found h. tt)
 
-judge_beside : (c : OnCall) (after : AfterStep) (w : IdWord) (ends : Bool) (x y : Program) → Beside (first_of x) (points.Decide c after (decides.Judge w)) → Beside (first_of y) (points.Decide c after (decides.Judge w))
-    → Beside (first_of (if ends then x else y)) (points.Decide c after (decides.Judge w))
-judge_beside c after w true x y f g = f
-judge_beside c after w false x y f g = g
-
 beside_facts : (a : Context) (p : Point) → Beside (first_in (point_program a p)) p
 beside_facts a points.Rest = tt
 beside_facts a (points.Open g (opens.Claim i)) = (λ found h. tt)
-beside_facts a (points.Open g (opens.StoreLink i)) = (λ found h. tt)
-beside_facts a (points.Open g (opens.ResetHead i)) = (λ found h. tt)
-beside_facts a (points.Open g (opens.ClearCode i)) = (λ found h. tt)
-beside_facts a (points.Open g (opens.CreateLife i)) = (λ found h. tt)
-beside_facts a (points.Open g (opens.StoreOpen i v)) = (λ found h. tt)
-beside_facts a (points.Open g (opens.StoreName i v)) = (λ found h. tt)
-beside_facts a (points.Open g opens.TakeLink) = (λ found h. tt)
-beside_facts a (points.Open g opens.FinishLink) = (λ found h. tt)
-beside_facts a (points.Open g opens.PutLink) = (λ found h. tt)
-beside_facts a (points.Open g opens.StoreNone) = (λ found h. tt)
-beside_facts a (points.Seek (aims.Hold o n) seeks.Load) = (λ found h. tt)
-beside_facts a (points.Seek (aims.Send o n) seeks.Load) = (λ found h. tt)
-beside_facts a (points.Seek (aims.Fail o n code) seeks.Load) = (λ found h. tt)
-beside_facts a (points.Seek (aims.End o) seeks.Load) = (λ found h. tt)
+beside_facts a (points.Open g _) = (λ found h. tt)
 beside_facts a (points.Seek aim (seeks.AddRef id)) = (λ found h. tt)
+beside_facts a (points.Seek (aims.Hold o n) seeks.Load) = (λ found h. tt)
+beside_facts a (points.Seek _ seeks.Load) = (λ found h. tt)
 beside_facts a (points.Fail f fails.SetOdd) = (λ found h. tt)
-beside_facts a (points.Fail f (fails.StoreCode w)) = (λ found h. tt)
-beside_facts a (points.Fail f (fails.ReleaseFirst w)) = (λ found h. tt)
+beside_facts a (points.Fail f _) = (λ found h. tt)
 beside_facts a (points.Release i t releases.SubRef) = (λ found h. tt)
-beside_facts a (points.Release i t (releases.Recycle w)) = (λ found h. tt)
-beside_facts a (points.Release i t (releases.LoadLink w)) = (λ found h. tt)
-beside_facts a (points.Release i t (releases.TakeLink w k)) = (λ found h. tt)
-beside_facts a (points.Release i t (releases.FinishLink w k)) = (λ found h. tt)
-beside_facts a (points.Release i t (releases.PutLink w k)) = (λ found h. tt)
-beside_facts a (points.Release i t releases.FreeSlot) = (λ found h. tt)
+beside_facts a (points.Release i t _) = (λ found h. tt)
 beside_facts a (points.Send s sends.Look) = look_beside a s s.author
-beside_facts a (points.Send s (sends.Claim q)) = (λ found h. tt)
-beside_facts a (points.Send s (sends.PutMessage q own)) = (λ found h. tt)
-beside_facts a (points.Send s (sends.Unconnect q own)) = (λ found h. tt)
-beside_facts a (points.Send s (sends.SwapHead q own)) = (λ found h. tt)
-beside_facts a (points.Send s (sends.Connect q before)) = (λ found h. tt)
-beside_facts a (points.Send s (sends.FindLink q own)) = (λ found h. tt)
 beside_facts a (points.Send s (sends.TakeHome q own k)) = tt
 beside_facts a (points.Send s (sends.TakeMessage q own k n)) = tt
-beside_facts a (points.Write w (writes.FirstLook m)) = (λ found h. tt)
-beside_facts a (points.Write w (writes.Look m asked)) = (λ found h. tt)
+beside_facts a (points.Send s _) = (λ found h. tt)
+beside_facts a (points.Write w (writes.LoadCode m)) = (λ found h. h)
 beside_facts a (points.Write w (writes.Put m asked)) = tt
 beside_facts a (points.Write w (writes.Ask m)) = tt
-beside_facts a (points.Write w (writes.SetOdd m)) = (λ found h. tt)
-beside_facts a (points.Write w (writes.StoreCode m)) = (λ found h. tt)
-beside_facts a (points.Write w (writes.ReleaseFirst m)) = (λ found h. tt)
-beside_facts a (points.Write w (writes.StorePlace m)) = (λ found h. tt)
-beside_facts a (points.Write w (writes.LoadCode m)) = (λ found h. h)
-beside_facts a (points.Write w (writes.DropPlace m n)) = (λ found h. tt)
-beside_facts a (points.Write w (writes.ReadNext now c)) = (λ found h. tt)
-beside_facts a (points.Write w (writes.Free now next c)) = (λ found h. tt)
 beside_facts a (points.Write w (writes.TakeMessage next)) = tt
 beside_facts a (points.Write w writes.PutHome) = tt
-beside_facts a (points.Write w writes.EmptyHead) = (λ found h. tt)
 beside_facts a (points.Write w (writes.TakeHome found)) = tt
-beside_facts a (points.Write w (writes.Walk top at after)) = (λ found h. tt)
-beside_facts a (points.Write w (writes.Turn top at after before)) = (λ found h. tt)
 beside_facts a (points.Write w (writes.TakeFirst top at)) = tt
+beside_facts a (points.Write w _) = (λ found h. tt)
 beside_facts a (points.Call begins.LoadName) = (λ found h. tt)
-beside_facts a (points.Call (begins.ClaimId i socket)) = (tt, (λ sizes. tt), (λ found. tt), (λ found h. tt))
-beside_facts a (points.Call (begins.PutCall i socket)) = (tt, (λ sizes. tt), (λ found. tt), (λ found h. tt))
-beside_facts a (points.Call (begins.MakeId i socket)) = (tt, (λ sizes. tt), (λ found. tt), (λ found h. tt))
-beside_facts a (points.Call (begins.StoreCall id socket)) = (tt, (λ sizes. tt), (λ found. tt), (λ found h. tt))
+beside_facts a (points.Call _) = (tt, (λ sizes. tt), (λ found. tt), (λ found h. tt))
 beside_facts a (points.Attempt t socket attempts.AddRef) = (λ found h. tt)
 beside_facts a (points.Attempt t socket attempts.FindLink) = (λ found h. h)
 beside_facts a (points.Attempt t socket (attempts.StoreAt k)) = (tt, (λ sizes. tt), (λ found. tt), (λ found h. tt))
 beside_facts a (points.Post c after posts.Load) = (tt, (λ sizes. tt), (λ found. tt), (λ found h. tt))
-beside_facts a (points.Post c after (posts.Exchange from)) = (tt, (λ sizes. tt), (λ found. tt), (λ found h. tt))
-beside_facts a (points.Decide c after (decides.Take w)) = (tt, (λ sizes. tt), (λ found. tt), (λ found h. tt))
-beside_facts a (points.Decide c after (decides.Judge w)) = judge_beside c after w (ends_call (parts w.0) c.error.0) (end_id (id_slot (id_of c.id)) (decided (id_of c.id) (after_program a after) (HasEnded a.asked.operation (code_of c.error.0)))) (Aside (PutCall (id_slot (id_of c.id)) a.asked) (λ _. Round (Unlocks (id_slot (id_of c.id)) w.0 true) (unlocked (record { id = id_of c.id; attempt = (parts w.0).attempt + 1 }) (decided (id_of c.id) (after_program a after))))) (tt, (λ sizes. tt), (λ found. tt), (λ found h. tt)) (tt, (λ sizes. tt), (λ found. tt), (λ found h. tt))
-beside_facts a (points.Decide c after (decides.Free o)) = (tt, (λ sizes. tt), (λ found. tt), (λ found h. tt))
-beside_facts a (points.Decide c after (decides.Unlock from advance n)) = (tt, (λ sizes. tt), (λ found. tt), (λ found h. tt))
-beside_facts a (points.Retry r (retries.Lock locks.Read)) = (tt, (λ sizes. tt), (λ found. tt), (λ found h. tt))
-beside_facts a (points.Retry r (retries.Lock (locks.Exchange from))) = (tt, (λ sizes. tt), (λ found. tt), (λ found h. tt))
-beside_facts a (points.Retry r (retries.TakeCall w)) = (tt, (λ sizes. tt), (λ found. tt), (λ found h. tt))
-beside_facts a (points.Retry r (retries.PutCall w)) = (tt, (λ sizes. tt), (λ found. tt), (λ found h. tt))
-beside_facts a (points.Retry r (retries.Unlock w advance)) = (tt, (λ sizes. tt), (λ found. tt), (λ found h. tt))
+beside_facts a (points.Post c after _) = (tt, (λ sizes. tt), (λ found. tt), (λ found h. tt))
+beside_facts a (points.Decide c after (decides.Judge w)) = elim (ends_call (parts w.0) c.error.0) as (λ (ends : Bool). Beside (first_of (if ends then end_id (id_slot (id_of c.id)) (decided (id_of c.id) (after_program a after) (HasEnded a.asked.operation (code_of c.error.0))) else Aside (PutCall (id_slot (id_of c.id)) a.asked) (λ _. Round (Unlocks (id_slot (id_of c.id)) w.0 true) (unlocked (record { id = id_of c.id; attempt = (parts w.0).attempt + 1 }) (decided (id_of c.id) (after_program a after)))))) (points.Decide c after (decides.Judge w))) [
+  | true ↦ (tt, (λ sizes. tt), (λ found. tt), (λ found h. tt))
+  | false ↦ (tt, (λ sizes. tt), (λ found. tt), (λ found h. tt))
+]
+beside_facts a (points.Decide c after _) = (tt, (λ sizes. tt), (λ found. tt), (λ found h. tt))
 beside_facts a (points.Retry r retries.LoadName) = (λ found h. tt)
+beside_facts a (points.Retry r (retries.Lock locks.Read)) = (tt, (λ sizes. tt), (λ found. tt), (λ found h. tt))
+beside_facts a (points.Retry r _) = (tt, (λ sizes. tt), (λ found. tt), (λ found h. tt))
 beside_facts a (points.Expire o t) = (tt, (λ sizes. tt), (λ found. tt), (λ found h. h t refl))
 beside_facts a (points.Join o (joins.LoadCall t)) = (tt, (λ sizes. tt), (λ found. tt), (λ found h. h t refl))
 beside_facts a (points.Join o (joins.Wait id)) = (tt, (λ sizes. tt), (λ found. tt), (λ found h. tt))

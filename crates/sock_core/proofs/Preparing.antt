@@ -1,15 +1,13 @@
 -- What is made in hand of a seat before its step changes nothing of a run; and a machine in which memory ran out.
-use Rattle.std.proofs.Common.{◌≡◌, ◌≢◌, refl, ℕ, zero, suc, ◌+◌, ◌-◌, ◌<◌, ◌≤◌, ⊎_elim, false, List, [], ◌∷◌, ◌++◌, map, length, replicate, slice_set, ap, ap₂, sym, ◌∙◌, arith, subst}
+use Rattle.std.proofs.Common.{◌≡◌, ◌≢◌, refl, ℕ, zero, suc, ◌+◌, ◌-◌, ◌<◌, ⊎_elim, false, List, [], ◌∷◌, ◌++◌, map, length, replicate, slice_set, ap, ap₂, sym, ◌∙◌, arith, subst}
 use Rattle.std.proofs.Props.{props}
 use Rattle.std.proofs.Math.Logic.{∥∥₁_elim}
 use Rattle.std.proofs.Math.ListN.{length-set}
 use Rattle.std.proofs.lemmas.Bool.{true≢false}
-use Rattle.std.specs.List.{AllByRecursion}
 use Rattle.atomic_table.proofs.Lists.{at_set, set_here, set_else}
 use mathlib.Core.Option as core
 use lib.ListN.{get_elem?}
 use Rattle.sock_words.specs.declared.plain.Plan.{Plan}
-use Rattle.corr_core.specs.declared.marks.Plan as marks
 use Rattle.seat_programs.specs.declared.task.Sizes.{Sizes}
 use Rattle.seat_programs.specs.Heads.{Retry}
 use Rattle.seat_programs.specs.Programs.{Program}
@@ -32,7 +30,7 @@ use Rattle.sock_core.specs.Steps.{PreparedAt, IsReady, MayStand, ReadyAt, Stands
 use Rattle.sock_core.specs.Driving.{LastsAtMost, Leaves, FirstRests}
 use Rattle.sock_core.proofs.Joining.{same_links_none}
 use Rattle.sock_core.proofs.Keeping.{remade}
-use Rattle.sock_core.proofs.Lengths.{sizes_kept}
+use Rattle.sock_core.proofs.Lengths.{sizes_kept, sizes_stay}
 use Rattle.sock_core.proofs.Resting.{first_rests}
 use Rattle.sock_core.proofs.Seatings.{core_is}
 
@@ -191,30 +189,7 @@ module _ (old fresh : MachineState) (i : ℕ) (w : PreparedAt old fresh i) where
 
 module _ (old fresh : MachineState) (w : IsCutShort old fresh) where
   cut_has_sizes : HasSizes old → HasSizes fresh
-  cut_has_sizes h = record {
-    letters_are = w.letters ∙ h.letters_are ∙ sym (ap (λ (p : Plan). p.requests) w.plan);
-    holders_are = w.holders ∙ h.holders_are ∙ links;
-    nexts_are = w.nexts ∙ h.nexts_are ∙ links;
-    outs_are = w.outs ∙ h.outs_are ∙ links;
-    inns_are = w.inns ∙ h.inns_are ∙ links;
-    ends_are = w.links.as_many ∙ h.ends_are ∙ links;
-    seats_are = w.seats ∙ h.seats_are ∙ sym (ap (λ (p : Plan). p.seats) w.plan);
-    some_seat = subst (λ (n : ℕ). 0 < n) (sym w.seats) h.some_seat;
-    few_seats = subst (λ (n : ℕ). n ≤ READERS) (sym w.seats) h.few_seats;
-    readers_are = w.readers ∙ h.readers_are ∙ links;
-    few_readers = subst (λ (n : ℕ). n ≤ 32) (sym w.readers) h.few_readers;
-    slots_are = ap length w.calls ∙ h.slots_are ∙ sym (ap (λ (q : marks.Plan). q.slots) w.ids);
-    few_slots = subst (λ (q : marks.Plan). q.slots ≤ 4096) (sym w.ids) h.few_slots;
-    operations_are = ap (λ (q : marks.Plan). q.operations) w.ids ∙ h.operations_are ∙ sym (ap (λ (p : Plan). p.operations) w.plan);
-    calls_are = subst (λ (q : marks.Plan). AllByRecursion (λ o. o < q.operations) fresh.calls) (sym w.ids) (subst (λ (os : List ℕ). AllByRecursion (λ o. o < old.ids.plan.operations) os) (sym w.calls) h.calls_are);
-    id_seats_are = ap (λ (q : marks.Plan). q.seats) w.ids ∙ h.id_seats_are ∙ ap (λ (n : ℕ). READERS + n) (sym w.readers);
-    opens_are = subst (λ (p : Plan). AllByRecursion (λ o. o < p.operations) fresh.opens) (sym w.plan) (subst (λ (os : List ℕ). AllByRecursion (λ o. o < old.plan.operations) os) (sym w.opens) h.opens_are);
-    few_opens = subst (λ (os : List ℕ). length os ≤ 32) (sym w.opens) h.few_opens;
-    few_outcomes = subst (λ (n : ℕ). n ≤ 4096) (sym w.outcomes) h.few_outcomes;
-  }
-    where
-      links : old.plan.links ≡ fresh.plan.links
-      links = sym (ap (λ (p : Plan). p.links) w.plan)
+  cut_has_sizes h = sizes_stay old fresh h w.many w.plan w.ids w.calls w.links.as_many w.seats w.readers w.opens
 
   pub cut_sizes : ∥ HasSizes old ∥₁ → ∥ HasSizes fresh ∥₁
   cut_sizes sizes = ∥∥₁_elim sizes (hlevel props) (λ h. ∣ cut_has_sizes h ∣₁)
@@ -222,7 +197,7 @@ module _ (old fresh : MachineState) (w : IsCutShort old fresh) where
   pub cut_keeps : (room : ℕ) → IsMachine old room → IsMachine fresh room
   cut_keeps room is = record {
     sizes = cut_sizes is.sizes;
-    has_room = let e = w.outcomes in let h = is.has_room in omega (arith, e, h);
+    has_room = let e = w.many.outcomes in let h = is.has_room in omega (arith, e, h);
     sound = λ enough. absurd (true≢false (sym w.short ∙ enough));
     paced = λ enough. absurd (true≢false (sym w.short ∙ enough));
     closed = λ enough. absurd (true≢false (sym w.short ∙ enough));

@@ -1,5 +1,6 @@
 -- Where a seat goes on behind each kind of step.
 use Rattle.std.proofs.Common.{◌≡◌, refl, ℕ, zero, suc, ◌+◌, Bool, true, false, if◌then◌else◌, List, [], ◌∷◌, ◌++◌, length, map, take, Option, Some, ap, ap₂, sym, ◌∙◌, arith, subst}
+use Rattle.sock_words.specs.declared.outcome.Outcome.{Outcome}
 use Rattle.sock_io.specs.declared.link.Put.{Put}
 use Rattle.sock_io.specs.declared.link.Put.TheVariants as puts
 use Rattle.message_parts.specs.Frames.{OutgoingData, ParcelData}
@@ -44,7 +45,7 @@ use Rattle.sock_io.specs.Link.{OutState, InState, PutStep}
 use Rattle.seat_programs.specs.Parts.{part}
 use Rattle.sock_core.specs.Links.{LinksData}
 use Rattle.sock_core.specs.Machines.{TableState, table_sizes}
-use Rattle.sock_core.specs.Steps.{SameBase, Goes, Makes, IsNext, AskedAt, OutsAfter, left_behind, taken_behind}
+use Rattle.sock_core.specs.Steps.{SameBase, Goes, Makes, MadeFirst, LinkAsked, IsNext, AskedAt, OutsAfter, left_behind, taken_behind}
 
 -- a list that was written whole
 pub written : {A : Type 0} (n : ℕ) (xs ys : List A) → length xs ≡ n → take n (xs ++ ys) ≡ xs
@@ -54,16 +55,17 @@ written (suc n) [] ys e = absurd (omega arith)
 written (suc n) (x ∷ xs) ys e = ap (λ (l : List _). x ∷ l) (written n xs ys (omega arith))
 
 -- the table as it lies in memory
-pub makes_along : {t u fresh : TableState} {i : ℕ} {seat seat' : SeatData} {step : Step} {answer : Answer} → t ≡ u → Makes t fresh i seat seat' step answer → Makes u fresh i seat seat' step answer
-makes_along {t} {u} {fresh} {i} {seat} {seat'} {step} {answer} e h = subst (λ (x : TableState). Makes x fresh i seat seat' step answer) e h
+pub makes_along : {t u fresh : TableState} {i : ℕ} {seat seat' : SeatData} {step : Step} {answer : Answer} → t ≡ u → MadeFirst t fresh i seat seat' step (step_as (around (table_sizes t) seat) step) answer → Makes u fresh i seat seat' step answer
+makes_along {t} {u} {fresh} {i} {seat} {seat'} {step} {answer} e h = subst (λ (x : TableState). Makes x fresh i seat seat' step answer) e (record { is = h })
 
--- the seat goes on with the program behind its step
-pub goes : {old fresh : TableState} {seat mid seat' : SeatData} {next : Program} {s : Sizes} (p : Program) → SameBase old fresh → s ≡ table_sizes old → FollowsOn s mid seat' p old.outcomes fresh.outcomes → mid.waiting ≡ seat.waiting → p ≡ next → Goes old fresh seat seat' next
-goes {old} {fresh} {seat} {mid} {seat'} {next} {s} p base sizes f same is = record {
+-- the seat goes on with the program behind its step, and the outcomes were written whole
+pub goes : {old fresh : TableState} {seat mid seat' : SeatData} {next : Program} {s : Sizes} {before behind : List (Option Outcome)} (p : Program) → SameBase old fresh → s ≡ table_sizes old → before ≡ old.outcomes → fresh.outcomes ≡ behind → FollowsOn s mid seat' p before behind
+    → mid.waiting ≡ seat.waiting → p ≡ next → Goes old fresh seat seat' next
+goes {old} {fresh} {seat} {mid} {seat'} {next} {s} p base sizes was wrote f same is = record {
   base = base;
   program = subst (λ (x : Sizes). seat_program x seat' ≡ next_step (resolved seat.waiting next)) sizes (f.next ∙ ap₂ (λ (w : List Retry) (q : Program). next_step (resolved w q)) same is);
   waiting = f.waiting ∙ ap₂ still_waiting same is;
-  told = f.told ∙ ap₂ (λ (w : List Retry) (q : Program). said (resolved w q) old.outcomes) same is;
+  told = wrote ∙ f.told ∙ ap (λ (os : List (Option Outcome)). said (resolved mid.waiting p) os) was ∙ ap₂ (λ (w : List Retry) (q : Program). said (resolved w q) old.outcomes) same is;
 }
 
 pub same_sizes : (s sizes : Sizes) (seat : SeatData) (f : Program → Program) → s ≡ sizes → f (point_program (around s seat) seat.point) ≡ f (seat_program sizes seat)
@@ -75,6 +77,11 @@ links_are os is e f = λ k. record { holders = e k; nexts = f k; outs = os; inns
 -- the step next to the table as it lies in memory
 pub next_along : {t u : TableState} (seat : SeatData) (step : Step) → t ≡ u → IsNext u seat step → first_in (seat_program (table_sizes t) seat) ≡ Some (step_as (around (table_sizes t) seat) step)
 next_along {t} {u} seat step e h = subst (λ (x : TableState). IsNext x seat step) (sym e) h
+
+-- the link was asked, and all but its writing half stays
+pub link_asked : {old fresh : TableState} {i : ℕ} {seat seat' : SeatData} {k : ℕ} {next : Program} {HasAnswered : OutState → OutState → Type 0} → Goes old fresh seat seat' next → AskedAt old.links.outs fresh.links.outs old.ends fresh.ends k HasAnswered
+    → fresh.words ≡ old.words → fresh.letters ≡ old.letters → fresh.links.holders ≡ old.links.holders → fresh.links.nexts ≡ old.links.nexts → fresh.ids ≡ old.ids → LinkAsked old fresh i seat seat' k next HasAnswered
+link_asked goes asked words letters holders nexts ids = record { goes = goes; words = words; letters = letters; holders = holders; nexts = nexts; ids = ids; asked = asked }
 
 -- links that were written whole
 pub asked_in : {A : Type 0} (f : A → OutState) (e : A → LinkEnd) {items before wrote news : List A} {k : ℕ} {HasAnswered : OutState → OutState → Type 0} → before ≡ items → wrote ≡ news → AskedAt (map f before) (map f news) (map e before) (map e news) k HasAnswered →
@@ -114,89 +121,22 @@ behind_look : (a : Context) (other others : List ℕ) (author : Author) (id : �
 behind_look a other others (authors.Send o) id p = tt
 behind_look a other others (authors.Attempt t) id p = tt
 
-behind_judge : (a : Context) (other others : List ℕ) (p : Point) (ends : Bool) (x y : Program) → BehindPut (first_of x) a other others p → BehindPut (first_of y) a other others p → BehindPut (first_of (if ends then x else y)) a other others p
-behind_judge a other others p true x y f g = f
-behind_judge a other others p false x y f g = g
-
 behind_put : (a : Context) (other others : List ℕ) (p : Point) → BehindPut (first_in (point_program a p)) a other others p
-behind_put a other others points.Rest = tt
 behind_put a other others (points.Open g (opens.Claim i)) = tt
-behind_put a other others (points.Open g (opens.StoreLink i)) = tt
-behind_put a other others (points.Open g (opens.ResetHead i)) = tt
-behind_put a other others (points.Open g (opens.ClearCode i)) = tt
-behind_put a other others (points.Open g (opens.CreateLife i)) = tt
-behind_put a other others (points.Open g (opens.StoreOpen i v)) = tt
-behind_put a other others (points.Open g (opens.StoreName i v)) = tt
-behind_put a other others (points.Open g opens.TakeLink) = tt
-behind_put a other others (points.Open g opens.FinishLink) = tt
-behind_put a other others (points.Open g opens.PutLink) = tt
-behind_put a other others (points.Open g opens.StoreNone) = tt
-behind_put a other others (points.Seek (aims.Hold o n) seeks.Load) = tt
-behind_put a other others (points.Seek (aims.Send o n) seeks.Load) = tt
-behind_put a other others (points.Seek (aims.Fail o n code) seeks.Load) = tt
-behind_put a other others (points.Seek (aims.End o) seeks.Load) = tt
 behind_put a other others (points.Seek aim (seeks.AddRef id)) = tt
+behind_put a other others (points.Seek (aims.Hold o n) seeks.Load) = tt
 behind_put a other others (points.Fail f fails.SetOdd) = tt
-behind_put a other others (points.Fail f (fails.StoreCode w)) = tt
-behind_put a other others (points.Fail f (fails.ReleaseFirst w)) = tt
 behind_put a other others (points.Release i t releases.SubRef) = tt
-behind_put a other others (points.Release i t (releases.Recycle w)) = tt
-behind_put a other others (points.Release i t (releases.LoadLink w)) = tt
-behind_put a other others (points.Release i t (releases.TakeLink w k)) = tt
-behind_put a other others (points.Release i t (releases.FinishLink w k)) = tt
-behind_put a other others (points.Release i t (releases.PutLink w k)) = tt
-behind_put a other others (points.Release i t releases.FreeSlot) = tt
 behind_put a other others (points.Send s sends.Look) = behind_look a other others s.author s.id.0 (points.Send s sends.Look)
-behind_put a other others (points.Send s (sends.Claim q)) = tt
 behind_put a other others (points.Send s (sends.PutMessage q own)) = refl
-behind_put a other others (points.Send s (sends.Unconnect q own)) = tt
-behind_put a other others (points.Send s (sends.SwapHead q own)) = tt
-behind_put a other others (points.Send s (sends.Connect q before)) = tt
-behind_put a other others (points.Send s (sends.FindLink q own)) = tt
-behind_put a other others (points.Send s (sends.TakeHome q own k)) = tt
-behind_put a other others (points.Send s (sends.TakeMessage q own k n)) = tt
-behind_put a other others (points.Write w (writes.FirstLook m)) = tt
-behind_put a other others (points.Write w (writes.Look m asked)) = tt
-behind_put a other others (points.Write w (writes.Put m asked)) = tt
-behind_put a other others (points.Write w (writes.Ask m)) = tt
-behind_put a other others (points.Write w (writes.SetOdd m)) = tt
-behind_put a other others (points.Write w (writes.StoreCode m)) = tt
-behind_put a other others (points.Write w (writes.ReleaseFirst m)) = tt
-behind_put a other others (points.Write w (writes.StorePlace m)) = tt
-behind_put a other others (points.Write w (writes.LoadCode m)) = tt
-behind_put a other others (points.Write w (writes.DropPlace m n)) = tt
-behind_put a other others (points.Write w (writes.ReadNext now c)) = tt
-behind_put a other others (points.Write w (writes.Free now next c)) = tt
-behind_put a other others (points.Write w (writes.TakeMessage next)) = tt
 behind_put a other others (points.Write w writes.PutHome) = tt
-behind_put a other others (points.Write w writes.EmptyHead) = tt
-behind_put a other others (points.Write w (writes.TakeHome found)) = tt
-behind_put a other others (points.Write w (writes.Walk top at after)) = tt
-behind_put a other others (points.Write w (writes.Turn top at after before)) = tt
-behind_put a other others (points.Write w (writes.TakeFirst top at)) = tt
 behind_put a other others (points.Call begins.LoadName) = tt
-behind_put a other others (points.Call (begins.ClaimId i socket)) = tt
-behind_put a other others (points.Call (begins.PutCall i socket)) = tt
-behind_put a other others (points.Call (begins.MakeId i socket)) = tt
-behind_put a other others (points.Call (begins.StoreCall id socket)) = tt
 behind_put a other others (points.Attempt t socket attempts.AddRef) = tt
-behind_put a other others (points.Attempt t socket attempts.FindLink) = tt
-behind_put a other others (points.Attempt t socket (attempts.StoreAt k)) = tt
 behind_put a other others (points.Post c after posts.Load) = tt
-behind_put a other others (points.Post c after (posts.Exchange from)) = tt
-behind_put a other others (points.Decide c after (decides.Take w)) = tt
-behind_put a other others (points.Decide c after (decides.Judge w)) = behind_judge a other others (points.Decide c after (decides.Judge w)) (ends_call (parts w.0) c.error.0) (end_id (id_slot (id_of c.id)) (decided (id_of c.id) (after_program a after) (HasEnded a.asked.operation (code_of c.error.0)))) (Aside (PutCall (id_slot (id_of c.id)) a.asked) (λ _. Round (Unlocks (id_slot (id_of c.id)) w.0 true) (unlocked (record { id = id_of c.id; attempt = (parts w.0).attempt + 1 }) (decided (id_of c.id) (after_program a after))))) tt tt
-behind_put a other others (points.Decide c after (decides.Free o)) = tt
-behind_put a other others (points.Decide c after (decides.Unlock from advance n)) = tt
+behind_put a other others (points.Decide c after (decides.Judge w)) = elim (ends_call (parts w.0) c.error.0) as (λ (ends : Bool). BehindPut (first_of (if ends then end_id (id_slot (id_of c.id)) (decided (id_of c.id) (after_program a after) (HasEnded a.asked.operation (code_of c.error.0))) else Aside (PutCall (id_slot (id_of c.id)) a.asked) (λ _. Round (Unlocks (id_slot (id_of c.id)) w.0 true) (unlocked (record { id = id_of c.id; attempt = (parts w.0).attempt + 1 }) (decided (id_of c.id) (after_program a after)))))) a other others (points.Decide c after (decides.Judge w))) [ true ↦ tt | false ↦ tt ]
 behind_put a other others (points.Retry r (retries.Lock locks.Read)) = tt
-behind_put a other others (points.Retry r (retries.Lock (locks.Exchange from))) = tt
-behind_put a other others (points.Retry r (retries.TakeCall w)) = tt
-behind_put a other others (points.Retry r (retries.PutCall w)) = tt
-behind_put a other others (points.Retry r (retries.Unlock w advance)) = tt
-behind_put a other others (points.Retry r retries.LoadName) = tt
-behind_put a other others (points.Expire o t) = tt
-behind_put a other others (points.Join o (joins.LoadCall t)) = tt
 behind_put a other others (points.Join o (joins.Wait id)) = tt
+behind_put a other others _ = tt
 
 pub message_put : (s sizes : Sizes) (seat : SeatData) (message' : Option ParcelData) (n : Next) (q : ℕ) (heading : Heading) (bytes : List ℕ) → s ≡ sizes → first_in (seat_program sizes seat) ≡ Some (OfCall (calls.PutMessage q heading bytes)) →
     next_program (around s (record seat { message = message' })) n ≡ after_word (point_program (around s (record seat { message = message' })) seat.point) 0 → next_program (around s (record seat { message = message' })) n ≡ after_word (seat_program sizes seat) 0

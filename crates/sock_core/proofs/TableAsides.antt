@@ -1,16 +1,14 @@
 -- A step aside of the sockets: what it finds, and how a seat goes on.
-use Rattle.std.proofs.Common.{◌≡◌, refl, ℕ, ◌+◌, Bool, true, false, if◌then◌else◌, [], Option, Some, ap, sym, ◌∙◌, subst}
+use Rattle.std.proofs.Common.{◌≡◌, refl, ℕ, false, [], Some, ap, sym, ◌∙◌, subst}
 use mathlib.Core.Option as core
-use Rattle.corr_core.specs.Word.{parts, code_of}
+use Rattle.corr_core.specs.declared.marks.Plan.{Plan as IdPlan}
 use Rattle.sock_message.specs.Asked.{Asked}
-use Rattle.id_points.specs.Ids.{id_of}
 use Rattle.seat_programs.specs.Asides as asides
-use Rattle.seat_programs.specs.Asides.{Step, Found, Bytes, PutCall, id_slot}
+use Rattle.seat_programs.specs.Asides.{Step, Found, Bytes}
 use Rattle.seat_programs.specs.Beside.{calls_after}
-use Rattle.seat_programs.specs.Heads.{HasEnded, Unlocks}
-use Rattle.seat_programs.specs.Posts.{ends_call, end_id, unlocked, decided}
 use Rattle.seat_programs.specs.Cores.{Calls}
-use Rattle.seat_programs.specs.Programs.{Program, Aside, Round}
+use Rattle.seat_programs.specs.Programs.{Program, Aside}
+use Rattle.seat_programs.specs.Ticks.{Unasked}
 use Rattle.sock_runs.specs.Sound.{first_step}
 use Rattle.call_slots.specs.Slots.{SlotState, calls_with}
 use Rattle.call_slots.specs.Steps as slots
@@ -20,28 +18,18 @@ use Rattle.call_points.specs.declared.aside.Aside.TheVariants as steps
 use Rattle.call_points.specs.Steps as aside_steps
 use Rattle.call_points.specs.Steps.{after_word, after_call, word_behind, with_word}
 use Rattle.call_points.specs.declared.deciding.DecideStep.TheVariants as decides
-use Rattle.call_points.specs.declared.posting.PostStep.TheVariants as posts
-use Rattle.call_points.specs.declared.locking.LockStep.TheVariants as locks
-use Rattle.seat_states.specs.declared.point.OpenStep.TheVariants as opens
-use Rattle.seat_states.specs.declared.point.SeekStep.TheVariants as seeks
-use Rattle.seat_states.specs.declared.point.Aim.TheVariants as aims
-use Rattle.seat_states.specs.declared.point.FailStep.TheVariants as fails
-use Rattle.seat_states.specs.declared.point.ReleaseStep.TheVariants as releases
-use Rattle.seat_states.specs.declared.point.SendStep.TheVariants as sends
-use Rattle.seat_states.specs.declared.point.WriteStep.TheVariants as writes
-use Rattle.seat_states.specs.declared.point.Author.{Author}
-use Rattle.seat_states.specs.declared.point.Author.TheVariants as authors
-use Rattle.seat_states.specs.declared.point.CallStep.TheVariants as begins
-use Rattle.seat_states.specs.declared.point.AttemptStep.TheVariants as attempts
 use Rattle.seat_states.specs.declared.point.RetryStep.TheVariants as retries
-use Rattle.seat_states.specs.declared.point.JoinStep.TheVariants as joins
+use Rattle.seat_states.specs.declared.point.Step.TheVariants as firsts
 use Rattle.seat_states.specs.declared.point.Point.{Point}
 use Rattle.seat_states.specs.declared.point.Point.TheVariants as points
-use Rattle.seat_states.specs.Points.{Context, point_program, look_program, after_program, GoesByWord, TakesCall}
-use Rattle.seat_states.specs.Steps.{First, OfAside, first_of, first_in}
-use Rattle.sock_core.specs.Steps.{IsOnWord, FitsSlots}
-use Rattle.sock_core.specs.Machines.{TableState}
+use Rattle.seat_states.specs.Points.{Context, point_program, GoesByWord, TakesCall}
+use Rattle.seat_states.specs.Steps.{OfAside, first_in}
+use Rattle.client_seats.specs.Seats.{SeatData, seat_program, asked_of}
+use Rattle.sock_core.specs.Steps.{IsOnWord, FitsSlots, IsNext, Goes, Makes}
+use Rattle.sock_core.specs.Machines.{TableState, table_sizes}
 use Rattle.sock_core.proofs.FirstSteps.{IsBare, bare_first, after_first, step_is}
+use Rattle.sock_core.proofs.PointFacts.{GoesAside, goes_aside}
+use Rattle.sock_core.proofs.Stepping.{makes_along, next_along}
 
 -- ## A word that is found
 
@@ -113,119 +101,19 @@ behind_call a p i asked takes e = let x = step_is (point_program a p) (OfAside (
 
 -- ## Which step of a point it is
 
-abbrev AsideFacts : Step → Point → Type 0
-AsideFacts (asides.TakeCall i) p = TakesCall p
-AsideFacts (asides.TakeBytes k room) p = ⊥
-AsideFacts other p = GoesByWord p
-
-abbrev Facts : Option First → Point → Type 0
-Facts (Some (OfAside step)) p = AsideFacts step p
-Facts other p = Unit {0}
-
-look_facts : (a : Context) (author : Author) (id : ℕ) (p : Point) → Facts (first_in (look_program a author id)) p
-look_facts a (authors.Send o) id p = tt
-look_facts a (authors.Attempt t) id p = tt
-
-judge_facts : (p : Point) (ends : Bool) (x y : Program) → Facts (first_of x) p → Facts (first_of y) p → Facts (first_of (if ends then x else y)) p
-judge_facts p true x y f g = f
-judge_facts p false x y f g = g
-
-facts : (a : Context) (p : Point) → Facts (first_in (point_program a p)) p
-facts a points.Rest = tt
-facts a (points.Open g (opens.Claim i)) = tt
-facts a (points.Open g (opens.StoreLink i)) = tt
-facts a (points.Open g (opens.ResetHead i)) = tt
-facts a (points.Open g (opens.ClearCode i)) = tt
-facts a (points.Open g (opens.CreateLife i)) = tt
-facts a (points.Open g (opens.StoreOpen i v)) = tt
-facts a (points.Open g (opens.StoreName i v)) = tt
-facts a (points.Open g opens.TakeLink) = tt
-facts a (points.Open g opens.FinishLink) = tt
-facts a (points.Open g opens.PutLink) = tt
-facts a (points.Open g opens.StoreNone) = tt
-facts a (points.Seek (aims.Hold o n) seeks.Load) = tt
-facts a (points.Seek (aims.Send o n) seeks.Load) = tt
-facts a (points.Seek (aims.Fail o n code) seeks.Load) = tt
-facts a (points.Seek (aims.End o) seeks.Load) = tt
-facts a (points.Seek aim (seeks.AddRef id)) = tt
-facts a (points.Fail f fails.SetOdd) = tt
-facts a (points.Fail f (fails.StoreCode w)) = tt
-facts a (points.Fail f (fails.ReleaseFirst w)) = tt
-facts a (points.Release i t releases.SubRef) = tt
-facts a (points.Release i t (releases.Recycle w)) = tt
-facts a (points.Release i t (releases.LoadLink w)) = tt
-facts a (points.Release i t (releases.TakeLink w k)) = tt
-facts a (points.Release i t (releases.FinishLink w k)) = tt
-facts a (points.Release i t (releases.PutLink w k)) = tt
-facts a (points.Release i t releases.FreeSlot) = tt
-facts a (points.Send s sends.Look) = look_facts a s.author s.id.0 (points.Send s sends.Look)
-facts a (points.Send s (sends.Claim q)) = tt
-facts a (points.Send s (sends.PutMessage q own)) = tt
-facts a (points.Send s (sends.Unconnect q own)) = tt
-facts a (points.Send s (sends.SwapHead q own)) = tt
-facts a (points.Send s (sends.Connect q before)) = tt
-facts a (points.Send s (sends.FindLink q own)) = tt
-facts a (points.Send s (sends.TakeHome q own k)) = tt
-facts a (points.Send s (sends.TakeMessage q own k n)) = tt
-facts a (points.Write w (writes.FirstLook m)) = tt
-facts a (points.Write w (writes.Look m asked)) = tt
-facts a (points.Write w (writes.Put m asked)) = tt
-facts a (points.Write w (writes.Ask m)) = tt
-facts a (points.Write w (writes.SetOdd m)) = tt
-facts a (points.Write w (writes.StoreCode m)) = tt
-facts a (points.Write w (writes.ReleaseFirst m)) = tt
-facts a (points.Write w (writes.StorePlace m)) = tt
-facts a (points.Write w (writes.LoadCode m)) = tt
-facts a (points.Write w (writes.DropPlace m n)) = tt
-facts a (points.Write w (writes.ReadNext now c)) = tt
-facts a (points.Write w (writes.Free now next c)) = tt
-facts a (points.Write w (writes.TakeMessage next)) = tt
-facts a (points.Write w writes.PutHome) = tt
-facts a (points.Write w writes.EmptyHead) = tt
-facts a (points.Write w (writes.TakeHome found)) = tt
-facts a (points.Write w (writes.Walk top at after)) = tt
-facts a (points.Write w (writes.Turn top at after before)) = tt
-facts a (points.Write w (writes.TakeFirst top at)) = tt
-facts a (points.Call begins.LoadName) = tt
-facts a (points.Call (begins.ClaimId i socket)) = tt
-facts a (points.Call (begins.PutCall i socket)) = tt
-facts a (points.Call (begins.MakeId i socket)) = tt
-facts a (points.Call (begins.StoreCall id socket)) = tt
-facts a (points.Attempt t socket attempts.AddRef) = tt
-facts a (points.Attempt t socket attempts.FindLink) = tt
-facts a (points.Attempt t socket (attempts.StoreAt k)) = tt
-facts a (points.Post c after posts.Load) = tt
-facts a (points.Post c after (posts.Exchange from)) = tt
-facts a (points.Decide c after (decides.Take w)) = tt
-facts a (points.Decide c after (decides.Judge w)) = judge_facts (points.Decide c after (decides.Judge w)) (ends_call (parts w.0) c.error.0) (end_id (id_slot (id_of c.id)) (decided (id_of c.id) (after_program a after) (HasEnded a.asked.operation (code_of c.error.0)))) (Aside (PutCall (id_slot (id_of c.id)) a.asked) (λ _. Round (Unlocks (id_slot (id_of c.id)) w.0 true) (unlocked (record { id = id_of c.id; attempt = (parts w.0).attempt + 1 }) (decided (id_of c.id) (after_program a after))))) tt tt
-facts a (points.Decide c after (decides.Free o)) = tt
-facts a (points.Decide c after (decides.Unlock from advance n)) = tt
-facts a (points.Retry r (retries.Lock locks.Read)) = tt
-facts a (points.Retry r (retries.Lock (locks.Exchange from))) = tt
-facts a (points.Retry r (retries.TakeCall w)) = tt
-facts a (points.Retry r (retries.PutCall w)) = tt
-facts a (points.Retry r (retries.Unlock w advance)) = tt
-facts a (points.Retry r retries.LoadName) = tt
-facts a (points.Expire o t) = tt
-facts a (points.Join o (joins.LoadCall t)) = tt
-facts a (points.Join o (joins.Wait id)) = tt
-
-facts_at : (a : Context) (p : Point) (step : Step) → first_in (point_program a p) ≡ Some (OfAside step) → AsideFacts step p
-facts_at a p step e = subst (λ (o : Option First). Facts o p) e (facts a p)
-
-by_word : (step : Step) (p : Point) → FindsWord step → AsideFacts step p → GoesByWord p
+by_word : (step : Step) (p : Point) → FindsWord step → GoesAside step p → GoesByWord p
 by_word (asides.TakeCall i) p h f = absurd h
 by_word (asides.TakeBytes k room) p h f = absurd h
 by_word _ p h f = f
 
 pub goes_by_word : (a : Context) (p : Point) (step : Step) → first_in (point_program a p) ≡ Some (OfAside step) → FindsWord step → GoesByWord p
-goes_by_word a p step e h = by_word step p h (facts_at a p step e)
+goes_by_word a p step e h = by_word step p h (goes_aside a p step e)
 
 pub takes_call : (a : Context) (p : Point) (i : ℕ) → first_in (point_program a p) ≡ Some (OfAside (asides.TakeCall i)) → TakesCall p
-takes_call a p i e = facts_at a p (asides.TakeCall i) e
+takes_call a p i e = goes_aside a p (asides.TakeCall i) e
 
 pub takes_none : (a : Context) (p : Point) (k n : ℕ) → first_in (point_program a p) ≡ Some (OfAside (asides.TakeBytes k n)) → ⊥
-takes_none a p k n e = facts_at a p (asides.TakeBytes k n) e
+takes_none a p k n e = goes_aside a p (asides.TakeBytes k n) e
 
 -- ## The sizes of the table stay
 
@@ -244,3 +132,30 @@ plan_behind step (core.some found) a = plan_after step found a
 
 pub same_ids : (s s' : SlotState) (step : Step) (found : core.Option (Found step)) → slots.Makes s step found s' → s'.plan ≡ s.plan
 same_ids s s' step found m = ap (λ (c : Calls). c.plan) (m.changes [] [] false) ∙ plan_behind step found (calls_with s [] [] false)
+
+-- so do the slots that a table counts
+pub slots_kept : {n : ℕ} {s s' : SlotState} {step : Step} {found : core.Option (Found step)} → n ≡ s.plan.slots → slots.Makes s step found s' → n ≡ s'.plan.slots
+slots_kept {n} {s} {s'} {step} {found} e m = e ∙ ap (λ (p : IdPlan). p.slots) (sym (same_ids s s' step found m))
+
+-- ## A step that found a word is made
+
+pub made_aside : {t u fresh : TableState} {i : ℕ} {seat seat' : SeatData} (step : code.Aside) (word : ℕ) → t ≡ u → IsNext u seat (firsts.Aside step) → FindsWord (aside_steps.step_of (asked_of seat.call) step)
+    → slots.Makes t.ids (aside_steps.step_of (asked_of seat.call) step) (word_found (aside_steps.step_of (asked_of seat.call) step) word) fresh.ids → Goes t fresh seat seat' (after_word (seat_program (table_sizes t) seat) word)
+    → fresh.words ≡ t.words → fresh.letters ≡ t.letters → fresh.links ≡ t.links → fresh.ends ≡ t.ends → Makes u fresh i seat seat' (firsts.Aside step) Unasked
+made_aside {t} {u} {fresh} {i} {seat} {seat'} step word e n finds makes goes words letters links ends =
+    let aside = aside_steps.step_of (asked_of seat.call) step in
+    let next = behind_aside (seat_program (table_sizes t) seat) aside word (next_along seat (firsts.Aside step) e n) finds in
+    makes_along e (
+      refl,
+      record {
+        next = next.next;
+        is = next.is;
+        found = next.found;
+        ids = subst (λ (f : core.Option (Found aside)). slots.Makes t.ids aside f fresh.ids) next.found_is makes;
+        goes = subst (Goes t fresh seat seat') next.behind goes;
+        words = words;
+        letters = letters;
+        links = links;
+        ends = ends;
+      },
+    )

@@ -14,8 +14,9 @@ use Rattle.sock_core.specs.Links.{LinksData, AreAlwaysReady, TellClosing}
 use Rattle.sock_core.specs.Machines.{MachineState, TableState, table_of}
 use Rattle.sock_core.specs.Reading.{IsCutTable, IsCutShort, TakenFrom}
 use Rattle.sock_core.specs.Runs.{SameLink}
-use Rattle.sock_core.specs.Steps.{OutsAfter, holders_after}
+use Rattle.sock_core.specs.Steps.{AsMany, OutsAfter, holders_after}
 use Rattle.sock_core.proofs.Joining.{same_link_none}
+use Rattle.sock_core.proofs.Lengths.{length_holders, length_outs, many_same}
 
 -- a link that is the same
 each_same : (es es' : List LinkEnd) → es' ≡ es → (k : ℕ) (a b : LinkEnd) → slice_get es k ≡ Some a → slice_get es' k ≡ Some b → SameLink a b
@@ -27,44 +28,28 @@ prompt_same l l' same always_ready k out at = always_ready k out (sym (ap (λ (o
 tell_same : (l l' : LinksData) → l'.inns ≡ l.inns → TellClosing l → TellClosing l'
 tell_same l l' same tell k inn at = tell k inn (sym (ap (λ (is : List InState). get_elem? is k) same) ∙ at)
 
--- but for words, ids and outcomes nothing changed
-pub cut_ids : (t u : TableState) → u.plan ≡ t.plan → u.ids.plan ≡ t.ids.plan → u.calls ≡ t.calls → u.ending ≡ t.ending → length u.letters ≡ length t.letters → u.links ≡ t.links → u.ends ≡ t.ends → length u.outcomes ≡ length t.outcomes → IsCutTable t u
-cut_ids t u plan ids calls ending letters links ends outcomes = record {
-  plan = plan;
-  ids = ids;
-  calls = calls;
-  ending = ending;
-  letters = letters;
-  holders = ap (λ (l : LinksData). length l.holders) links;
-  nexts = ap (λ (l : LinksData). length l.nexts) links;
-  outs = ap (λ (l : LinksData). length l.outs) links;
-  inns = ap (λ (l : LinksData). length l.inns) links;
-  outcomes = outcomes;
-  as_many = ap length ends;
-  each = each_same t.ends u.ends ends;
-  always_ready = prompt_same t.links u.links (ap (λ (l : LinksData). l.outs) links);
-  tell = tell_same t.links u.links (ap (λ (l : LinksData). l.inns) links);
-}
+module _ (t u : TableState) (plan : u.plan ≡ t.plan) (ids : u.ids.plan ≡ t.ids.plan) (own : u.calls ≡ t.calls) (ending : u.ending ≡ t.ending) where
+  cut_by : AsMany t u → length u.ends ≡ length t.ends → ((k : ℕ) (a b : LinkEnd) → slice_get t.ends k ≡ Some a → slice_get u.ends k ≡ Some b → SameLink a b) → (AreAlwaysReady t.links → AreAlwaysReady u.links) → (TellClosing t.links → TellClosing u.links) → IsCutTable t u
+  cut_by many as_many each always_ready tell = record {
+    plan = plan;
+    ids = ids;
+    calls = own;
+    ending = ending;
+    many = many;
+    as_many = as_many;
+    each = each;
+    always_ready = always_ready;
+    tell = tell;
+  }
 
--- what is told of the links didn't change
-pub cut_halves : (t u : TableState) → u.plan ≡ t.plan → u.ids.plan ≡ t.ids.plan → u.calls ≡ t.calls → u.ending ≡ t.ending → length u.letters ≡ length t.letters → length u.links.holders ≡ length t.links.holders → length u.links.nexts ≡ length t.links.nexts → u.links.outs ≡ t.links.outs → u.links.inns ≡ t.links.inns → u.ends ≡ t.ends →
-    length u.outcomes ≡ length t.outcomes → IsCutTable t u
-cut_halves t u plan ids own ending letters holders nexts outs inns ends outcomes = record {
-  plan = plan;
-  ids = ids;
-  calls = own;
-  ending = ending;
-  letters = letters;
-  holders = holders;
-  nexts = nexts;
-  outs = ap length outs;
-  inns = ap length inns;
-  outcomes = outcomes;
-  as_many = ap length ends;
-  each = each_same t.ends u.ends ends;
-  always_ready = prompt_same t.links u.links outs;
-  tell = tell_same t.links u.links inns;
-}
+  -- but for words, ids and outcomes nothing changed
+  pub cut_ids : length u.letters ≡ length t.letters → u.links ≡ t.links → u.ends ≡ t.ends → length u.outcomes ≡ length t.outcomes → IsCutTable t u
+  cut_ids letters links ends outcomes =
+      cut_by (many_same letters links outcomes) (ap length ends) (each_same t.ends u.ends ends) (prompt_same t.links u.links (ap (λ (l : LinksData). l.outs) links)) (tell_same t.links u.links (ap (λ (l : LinksData). l.inns) links))
+
+  -- what is told of the links didn't change
+  pub cut_halves : length u.letters ≡ length t.letters → length u.links.holders ≡ length t.links.holders → length u.links.nexts ≡ length t.links.nexts → u.links.outs ≡ t.links.outs → u.links.inns ≡ t.links.inns → u.ends ≡ t.ends → length u.outcomes ≡ length t.outcomes → IsCutTable t u
+  cut_halves letters holders nexts outs inns ends outcomes = cut_by (record { letters = letters; holders = holders; nexts = nexts; outs = ap length outs; inns = ap length inns; outcomes = outcomes }) (ap length ends) (each_same t.ends u.ends ends) (prompt_same t.links u.links outs) (tell_same t.links u.links inns)
 
 pub on_err : {A E : Type 0} (r : Result A E) {Q : Type 0} → Q → OnErr r Q
 on_err (Ok a) q = tt
@@ -80,15 +65,6 @@ cut_along {s} {t} {u} e h = subst (λ (x : TableState). IsCutTable x u) e h
 
 -- ## Behind a step on a word
 
-holders_length : (i : ℕ) (call : calls.Call) (holders : List (Option ℕ)) → length (holders_after i call holders) ≡ length holders
-holders_length i (calls.TakeLink k) holders = length-set holders k (Some i)
-holders_length i (calls.PutLink k) holders = length-set holders k None
-holders_length i _ holders = refl
-
-outs_length : (call : calls.Call) (old fresh : List OutState) → OutsAfter call old fresh → length fresh ≡ length old
-outs_length (calls.FinishLink k) old fresh o = ap length o.3 ∙ length-set old k o.1
-outs_length _ old fresh o = ap length o
-
 prompt_set : (l l' : LinksData) (k : ℕ) (out out' : OutState) → get_elem? l.outs k ≡ core.some out → l'.outs ≡ slice_set l.outs k out' → out'.always_ready ≡ out.always_ready → AreAlwaysReady l → AreAlwaysReady l'
 prompt_set l l' k out out' at outs same always_ready j other there = ⊎_elim
     (λ a. subst (λ (o : OutState). o.always_ready ≡ true) a.1 (same ∙ always_ready k out at))
@@ -101,22 +77,9 @@ prompt_call _ l l' o = prompt_same l l' o
 
 pub cut_call : (t u : TableState) (i : ℕ) (call : calls.Call) → u.plan ≡ t.plan → u.ids.plan ≡ t.ids.plan → u.calls ≡ t.calls → u.ending ≡ t.ending → length u.letters ≡ length t.letters → u.links.holders ≡ holders_after i call t.links.holders → u.links.nexts ≡ t.links.nexts →
     OutsAfter call t.links.outs u.links.outs → u.links.inns ≡ t.links.inns → u.ends ≡ t.ends → length u.outcomes ≡ length t.outcomes → IsCutTable t u
-cut_call t u i call plan ids own ending letters holders nexts outs inns ends outcomes = record {
-  plan = plan;
-  ids = ids;
-  calls = own;
-  ending = ending;
-  letters = letters;
-  holders = ap length holders ∙ holders_length i call t.links.holders;
-  nexts = ap length nexts;
-  outs = outs_length call t.links.outs u.links.outs outs;
-  inns = ap length inns;
-  outcomes = outcomes;
-  as_many = ap length ends;
-  each = each_same t.ends u.ends ends;
-  always_ready = prompt_call call t.links u.links outs;
-  tell = tell_same t.links u.links inns;
-}
+cut_call t u i call plan ids own ending letters holders nexts outs inns ends outcomes = cut_by t u plan ids own ending
+    (record { letters = letters; holders = ap length holders ∙ length_holders i call t.links.holders; nexts = ap length nexts; outs = length_outs call t.links.outs u.links.outs outs; inns = ap length inns; outcomes = outcomes })
+    (ap length ends) (each_same t.ends u.ends ends) (prompt_call call t.links u.links outs) (tell_same t.links u.links inns)
 
 -- ## Behind a take
 
@@ -150,22 +113,10 @@ tell_set l l' k inn inn' at inns closing tell j other there = ⊎_elim
 
 pub cut_take : (t u : TableState) (k n : ℕ) (taking : Taking) → TakenFrom t u k n taking → u.plan ≡ t.plan → u.ids.plan ≡ t.ids.plan → u.calls ≡ t.calls → u.ending ≡ t.ending → u.letters ≡ t.letters → u.links.holders ≡ t.links.holders → u.links.nexts ≡ t.links.nexts → u.links.outs ≡ t.links.outs →
     length u.outcomes ≡ length t.outcomes → IsCutTable t u
-cut_take t u k n taking from plan ids own ending letters holders nexts outs outcomes = record {
-  plan = plan;
-  ids = ids;
-  calls = own;
-  ending = ending;
-  letters = ap length letters;
-  holders = ap length holders;
-  nexts = ap length nexts;
-  outs = ap length outs;
-  inns = ap length from.inns_are ∙ length-set t.links.inns k from.inn';
-  outcomes = outcomes;
-  as_many = ap length from.ends_are ∙ length-set t.ends k from.behind;
-  each = each_set t.ends u.ends k from.before from.behind from.end_at from.ends_are from.same;
-  always_ready = prompt_same t.links u.links outs;
-  tell = tell_set t.links u.links k from.inn from.inn' from.at from.inns_are (⊎_elim (λ c. inl c) (λ c. inr c.1) from.closing);
-}
+cut_take t u k n taking from plan ids own ending letters holders nexts outs outcomes = cut_by t u plan ids own ending
+    (record { letters = ap length letters; holders = ap length holders; nexts = ap length nexts; outs = ap length outs; inns = ap length from.inns_are ∙ length-set t.links.inns k from.inn'; outcomes = outcomes })
+    (ap length from.ends_are ∙ length-set t.ends k from.behind) (each_set t.ends u.ends k from.before from.behind from.end_at from.ends_are from.same) (prompt_same t.links u.links outs)
+    (tell_set t.links u.links k from.inn from.inn' from.at from.inns_are (⊎_elim (λ c. inl c) (λ c. inr c.1) from.closing))
 
 -- ## Of a machine
 
@@ -177,14 +128,9 @@ cut_machine m fresh c short opens seats readers = record {
   calls = c.calls;
   ending = c.ending;
   opens = opens;
-  letters = c.letters;
-  holders = c.holders;
-  nexts = c.nexts;
-  outs = c.outs;
-  inns = c.inns;
+  many = c.many;
   seats = seats;
   readers = readers;
-  outcomes = c.outcomes;
   links = record { as_many = c.as_many; each = c.each; always_ready = c.always_ready; tell = c.tell };
 }
 

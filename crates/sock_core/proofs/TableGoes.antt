@@ -1,11 +1,8 @@
 -- How a seat goes on behind a step that finds a word, over the tables as they lie in memory.
 use Rattle.std.proofs.Common.{◌≡◌, refl, ℕ, List, Option, Some, ap, sym, ◌∙◌, subst}
-use Rattle.sock_words.specs.declared.outcome.Outcome.{Outcome}
 use Rattle.sock_model.specs.declared.chain.Heading.{Heading}
 use Rattle.seat_programs.specs.declared.task.Sizes.{Sizes}
 use Rattle.seat_programs.specs.Calls as calls
-use Rattle.seat_programs.specs.Cores.{said, resolved}
-use Rattle.seat_programs.specs.Programs.{Program}
 use Rattle.call_points.specs.Steps.{after_word}
 use Rattle.seat_states.specs.declared.calling.Calling.{Calling}
 use Rattle.seat_states.specs.declared.point.CallStep.TheVariants as begins
@@ -19,7 +16,7 @@ use Rattle.message_parts.specs.Frames.{ParcelData}
 use Rattle.client_seats.specs.declared.hand.InHand.{InHand}
 use Rattle.client_seats.specs.declared.seat.Seat.{Seat}
 use Rattle.client_seats.specs.Seats.{SeatData, seat_data, message_in, call_in, around, seat_program}
-use Rattle.client_seats.specs.Following.{FollowsOn, IsFlat}
+use Rattle.client_seats.specs.Following.{IsFlat}
 use Rattle.sock_core.specs.Machines.{TableState, table_sizes}
 use Rattle.sock_core.specs.Steps.{MayGoOn, MayStand, IsReady}
 use Rattle.sock_core.proofs.Stepping.{message_put}
@@ -58,10 +55,6 @@ next_is {t} s seat n found calling sizes ready asks behind =
 pub flat_next : (t : TableState) (s : Sizes) (seat : SeatData) (n : Next) (call : calls.Call) (found : ℕ) (calling : Calling) → s ≡ table_sizes t → first_in (seat_program (table_sizes t) seat) ≡ Some (OfCall call) → HasInHand (around (table_sizes t) seat) seat.point →
     ((sizes : Sizes) → IsCalling (around sizes seat) calling) → ((a : Context) → a.sizes ≡ s → IsCalling a calling → HasInHand a seat.point → next_program (framed seat.point a) n ≡ after_word (point_program a seat.point) found) → IsFlat n
 flat_next t s seat n call found calling sizes first hand asks behind = flat_behind (around (table_sizes t) seat) seat.point call found n calling first (asks (table_sizes t)) hand (λ a is. behind a (is ∙ sym sizes))
-
--- the outcomes as they lie in memory
-pub follows_as : {s : Sizes} {old new : SeatData} {p : Program} {a b c d : List (Option Outcome)} → a ≡ b → d ≡ c → FollowsOn s old new p a c → FollowsOn s old new p b d
-follows_as {s} {old} {new} {p} before behind f = record { next = f.next; waiting = f.waiting; told = behind ∙ f.told ∙ ap (λ os. said (resolved old.waiting p) os) before }
 
 -- ## A message that goes home
 

@@ -1,5 +1,6 @@
 -- Which step of a reader comes next by its point, and how it goes on behind one that finds a call or bytes.
-use Rattle.std.proofs.Common.{◌≡◌, refl, ℕ, ◌+◌, ◌≤◌, Bool, true, false, if◌then◌else◌, List, [], Option, Some, ap, sym, ◌∙◌, subst, arith}
+use Rattle.std.proofs.Common.{◌≡◌, refl, ℕ, ◌+◌, ◌≤◌, Bool, true, false, if◌then◌else◌, List, [], length, take, Option, Some, ap, sym, ◌∙◌, subst, arith}
+use Rattle.std.proofs.lemmas.List.{length-take}
 use Rattle.sock_words.specs.declared.outcome.Outcome.{Outcome}
 use Rattle.corr_core.specs.Word.{parts, code_of}
 use Rattle.sock_message.specs.Asked.{Asked}
@@ -100,6 +101,10 @@ pub few_room : (p : ReadPoint) → room_at p ≤ 4096
 few_room (points.Take r) = omega arith
 few_room (points.Discard link total) = omega arith
 few_room _ = omega arith
+
+-- so the room is filled as far as it asks for
+pub fills : (a : Context) (p : ReadPoint) (k n : ℕ) (room : List ℕ) → first_in (point_program a p) ≡ Some (OfAside (asides.TakeBytes k n)) → length room ≡ 4096 → length (take n room) ≡ n
+fills a p k n room first whole = let few = few_room p in let is = (reads_bytes a p k n first).1 in let long = length-take n room in omega (arith, few, is, long, whole)
 
 -- ## Behind a call that was taken, and behind a take
 

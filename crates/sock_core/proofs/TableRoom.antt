@@ -1,21 +1,23 @@
 -- A seat that asks no link, makes no step aside of the sockets and holds no life wants no room.
-use Rattle.std.proofs.Common.{◌≡◌, refl, ℕ, ◌<◌, ◌⊎◌, inl, inr, Some, vec_len, vec_capacity, sym, subst}
+use Rattle.std.proofs.Common.{◌≡◌, refl, ℕ, ◌<◌, ◌⊎◌, inl, inr, ⊎_elim, Some, vec_len, vec_capacity, sym, subst}
 use Rattle.sock_words.specs.declared.socket_id.SocketId.{SocketId}
 use Rattle.seat_programs.specs.Calls.{Call}
 use Rattle.seat_programs.specs.Programs.{Program, Do, Say, Sent, Rest, Retries}
 use Rattle.call_points.specs.Steps.{after_word}
+use Rattle.seat_states.specs.declared.point.Step.{Step}
 use Rattle.seat_states.specs.declared.point.Next.{Next}
 use Rattle.seat_states.specs.declared.point.Next.TheVariants as nexts
 use Rattle.seat_states.specs.Points.{Context, next_program}
-use Rattle.seat_states.specs.Steps.{First, OfCall, first_in}
+use Rattle.seat_states.specs.Steps.{First, OfCall, step_as, first_in}
 use Rattle.client_seats.specs.declared.seat.Seat.{Seat}
-use Rattle.client_seats.specs.Seats.{seat_data, seat_program}
+use Rattle.client_seats.specs.Seats.{SeatData, seat_data, around, seat_program}
 use Rattle.client_seats.specs.Following.{HasRoom}
 use Rattle.sock_core.specs.Machines.{TableState, table_sizes}
+use Rattle.sock_core.specs.Steps.{IsNext}
 use Rattle.sock_core.specs.Driving.{PutsNone, AsksNone}
 use Rattle.sock_core.proofs.FirstSteps.{same_some}
 
-after_none : (program : Program) (found : ℕ) → AsksNone program → AsksNone (after_word program found)
+pub after_none : (program : Program) (found : ℕ) → AsksNone program → AsksNone (after_word program found)
 after_none (Do call next) found x = x.1 found
 after_none (Say o outcome next) found x = x
 after_none (Sent o next) found x = x
@@ -36,6 +38,11 @@ only_calls (Sent o next) first e x = cc
 only_calls (Retries requests after) first e x = cc
 only_calls Rest first e x = cc
 only_calls _ first e x = absurd x
+
+-- so one that makes another step has what the others need
+pub needs : {R : Type 0} (t : TableState) (seat : SeatData) {step : Step} (is : Step) → (IsCall (step_as (around (table_sizes t) seat) is) → ⊥) → step ≡ is → IsNext t seat step → R ⊎ AsksNone (seat_program (table_sizes t) seat) → R
+needs {R} t seat {step} is other e next = ⊎_elim (λ room. room)
+    (λ plain. absurd (other (only_calls (seat_program (table_sizes t) seat) (step_as (around (table_sizes t) seat) is) (subst (λ (x : Step). IsNext t seat x) e next) plain)))
 
 -- and that is none of a message
 pub puts_none : (program : Program) (call : Call) → first_in program ≡ Some (OfCall call) → AsksNone program → PutsNone call

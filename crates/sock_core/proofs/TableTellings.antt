@@ -1,5 +1,5 @@
 -- What a tick of a reader answers.
-use Rattle.std.proofs.Common.{◌≡◌, refl, ℕ, Bool, true, false, is_some, [], Option, Some, None, IfSome, Result, Ok, Err, IfOk, ap, sym, ◌∙◌, subst}
+use Rattle.std.proofs.Common.{◌≡◌, refl, ℕ, Bool, true, false, is_some, Option, Some, None, IfSome, Result, Ok, Err, IfOk, ap, sym, ◌∙◌, subst}
 use mathlib.Core.Option as core
 use Rattle.sock_words.specs.declared.kind.Kind.{Kind}
 use Rattle.sock_words.specs.declared.kind.Kind.TheVariants.{R1}
@@ -7,35 +7,32 @@ use Rattle.seat_programs.specs.Asides as asides
 use Rattle.seat_programs.specs.Asides.{Taking}
 use Rattle.seat_programs.specs.Beside.{found_in}
 use Rattle.seat_programs.specs.Calls as calls
-use Rattle.seat_programs.specs.Cores.{Core, word_of, found_at}
-use Rattle.seat_programs.specs.Heads.{Posts, Unlocks, Decides, Locks, Joins, Opens, Reads, Discards}
+use Rattle.seat_programs.specs.Cores.{word_of, found_at}
+use Rattle.seat_programs.specs.Heads.{Locks, Joins, Opens}
 use Rattle.seat_programs.specs.Writings as heads
-use Rattle.seat_programs.specs.Programs.{Program, Write, Aside, Round}
+use Rattle.seat_programs.specs.Programs.{Program, Write, Round}
 use Rattle.seat_programs.specs.Ticks.{Unasked, OfTake, is_nothing}
 use Rattle.call_slots.specs.Steps.{word_found}
-use Rattle.seat_states.specs.Steps.{First, OfCall, OfAside, first_in, kind_of_first}
+use Rattle.seat_states.specs.Steps.{First, OfCall, OfAside, first_in, step_as, kind_of_first}
 use Rattle.reader_points.specs.declared.point.ReadPoint.{ReadPoint}
 use Rattle.reader_points.specs.declared.point.ReadPoint.TheVariants as points
 use Rattle.reader_points.specs.Points.{Context, point_program, TakesBytes}
 use Rattle.call_points.specs.declared.aside.Aside as code
+use Rattle.call_points.specs.Steps as aside_steps
 use Rattle.seat_states.specs.declared.point.Step.{Step}
 use Rattle.seat_states.specs.declared.point.Step.TheVariants as firsts
-use Rattle.client_seats.specs.Seats.{SeatData}
+use Rattle.client_seats.specs.Seats.{SeatData, around, seat_program, asked_of}
 use Rattle.sock_core.specs.declared.machine.On.{On}
 use Rattle.sock_core.specs.declared.machine.On.TheVariants as on
 use Rattle.sock_core.specs.declared.machine.Tick.{Tick}
 use Rattle.sock_core.specs.declared.machine.Tick.TheVariants.{Moved, Waits}
-use Rattle.sock_core.specs.Machines.{TableState}
+use Rattle.sock_core.specs.Machines.{TableState, table_sizes}
 use Rattle.sock_core.specs.Runs.{IsWaitingFor}
-use Rattle.sock_core.specs.Steps.{beside}
+use Rattle.sock_core.specs.Steps.{IsNext, Makes, beside}
 use Rattle.sock_core.specs.Telling.{Tells, StepTold, is_waiting, waits_by}
 use Rattle.sock_core.proofs.FirstSteps.{IsBare}
-use Rattle.sock_core.proofs.Tellings.{kind_first, call_waits, aside_waits}
+use Rattle.sock_core.proofs.Tellings.{words_of, waits_for, moved, kind_first, call_waits, aside_waits}
 use Rattle.sock_core.proofs.TableReads.{reads_bytes}
-
--- the words of the tables
-abbrev words_of : TableState → Core
-words_of t = record { words = t.words; homes = []; seats = []; outcomes = []; calls = beside t }
 
 module _ (t : TableState) (program : Program) where
   -- whether a step waits that found this word
@@ -45,11 +42,8 @@ module _ (t : TableState) (program : Program) where
   pub waits_aside : (step : asides.Step) (found : ℕ) → first_in program ≡ Some (OfAside step) → found_in step (beside t) core.none ≡ word_found step found → is_waiting t Unasked program ≡ waits_by program found
   waits_aside step found first f = aside_waits t.plan (words_of t) program step found first f
 
-  waits_for : (o : Option On) (on_ : On) → o ≡ Some on_ → IfSome o (IsWaitingFor program) → IsWaitingFor program on_
-  waits_for o on_ e h = subst (λ (x : Option On). IfSome x (IsWaitingFor program)) e h
-
   pub word_waits : (o : Option On) (on_ : On) (found : ℕ) → is_waiting t Unasked program ≡ waits_by program found → is_some o ≡ waits_by program found → IfSome o (IsWaitingFor program) → o ≡ Some on_ → Tells t program Unasked (Waits on_)
-  word_waits o on_ found waits awaited for e = (waits ∙ sym awaited ∙ ap is_some e, waits_for o on_ e for)
+  word_waits o on_ found waits awaited for e = (waits ∙ sym awaited ∙ ap is_some e, waits_for program o on_ e for)
 
   pub word_moves : (o : Option On) (first : First) (kind : Kind) (found : ℕ) → is_waiting t Unasked program ≡ waits_by program found → is_some o ≡ waits_by program found → first_in program ≡ Some first → kind ≡ kind_of_first first → o ≡ None → Tells t program Unasked (Moved kind)
   word_moves o first kind found waits awaited next is e = (kind_first program first kind next is, waits ∙ sym awaited ∙ ap is_some e)
@@ -78,19 +72,16 @@ still_aside t program step first h = still program (subst MovesFirst (sym first)
   where
     still : (x : Program) → MovesFirst (first_in x) → is_waiting t Unasked x ≡ false
     still (Write (heads.Walks h top at after) then_) m = absurd m
-    still (Write (heads.Puts h now heading left taken asked) after) m = refl
-    still (Write (heads.Waits h now heading left taken) after) m = refl
-    still (Write (heads.Empties h) after) m = refl
     still (Round (Locks i sought None) next) m = absurd m
-    still (Round (Locks i sought (Some w)) next) m = refl
     still (Round (Joins id) next) m = absurd m
     still (Round (Opens o) next) m = absurd m
-    still (Round (Posts id e w) next) m = refl
-    still (Round (Unlocks i w advance) next) m = refl
-    still (Round (Decides id asked w e) next) m = refl
-    still (Round (Reads r) next) m = refl
-    still (Round (Discards k total) next) m = refl
     still _ m = refl
+
+-- so the tick of such a step moves
+pub moved_aside : {old fresh : TableState} {i : ℕ} {seat seat' : SeatData} {kind : Kind} {step : code.Aside} (is : code.Aside) → MovesCall (aside_steps.step_of (asked_of seat.call) is) → step ≡ is → IsNext old seat (firsts.Aside step)
+    → kind ≡ kind_of_first (step_as (around (table_sizes old) seat) (firsts.Aside step)) → Makes old fresh i seat seat' (firsts.Aside is) Unasked → StepTold old fresh i seat seat' (firsts.Aside step) (Moved kind)
+moved_aside {old} {fresh} {i} {seat} {seat'} {kind} {step} is moves e next kind_is makes = moved kind (firsts.Aside is) Unasked (ap firsts.Aside e) next kind_is makes
+    (still_aside old (seat_program (table_sizes old) seat) (aside_steps.step_of (asked_of seat.call) is) (subst (λ (s : code.Aside). IsNext old seat (firsts.Aside s)) e next) moves)
 
 -- what a step aside tells, as one of the whole step
 pub told_aside : (old fresh : TableState) (seat seat' : SeatData) (step : Step) (s : code.Aside) {E : Type 0} (r : Result Tick E) → step ≡ firsts.Aside s → IfOk r (λ tick. (i : ℕ) → StepTold old fresh i seat seat' (firsts.Aside s) tick) → (i : ℕ) → IfOk r (λ tick. StepTold old fresh i seat seat' step tick)

@@ -15,10 +15,10 @@ use Rattle.sock_runs.proofs.Along.{place_inside}
 use Rattle.run_theorems.specs.Heard.{as_told, as_taken, answer_of, take_answers, taken_link, heard_at, heard_in, taken_at, taken_in}
 use Rattle.seat_programs.specs.Asides as asides
 use Rattle.seat_programs.specs.Asides.{Taking, TakeBytes, PutCall, id_slot}
-use Rattle.seat_programs.specs.Heads.{Posts, Unlocks, Decides, Locks, Joins, Opens, Reads, Discards, HasEnded}
+use Rattle.seat_programs.specs.Heads.{Unlocks, Decides, Locks, Reads, Discards, HasEnded}
 use Rattle.seat_programs.specs.Posts.{ends_call, end_id, unlocked}
 use Rattle.seat_programs.specs.Writings as heads
-use Rattle.seat_programs.specs.Programs.{Program, Say, Sent, Rest, Write, Aside, Round, Keep, Retries}
+use Rattle.seat_programs.specs.Programs.{Program, Write, Aside, Round}
 use Rattle.seat_programs.specs.Cores.{Core, SeatState}
 use Rattle.seat_programs.specs.Ticks.{Answer, Unasked, OfPut, OfReady, OfTake, Moment, taken, IsAnswer, IsAnswered, asked_link, is_refusal, broken_at, broken_in}
 use Rattle.seat_states.specs.declared.point.Step.{Step}
@@ -32,7 +32,7 @@ use Rattle.sock_core.specs.Reading.{MadeRead}
 use Rattle.sock_core.specs.Runs.{ShowFaults, LinksTell, TakesTell, ShowsTaking, ShowTakings}
 use Rattle.sock_core.proofs.Answering.{behind_is, first_is, get_set_other, asks_first}
 use Rattle.sock_core.proofs.FirstSteps.{same_some}
-use Rattle.sock_core.proofs.Joining.{show_faults_none, more_none, no_takes, tells_none, takes_none, takings_none}
+use Rattle.sock_core.proofs.Joining.{show_faults_none, more_none, tells_none, takes_none, takings_none}
 
 -- ## A link that was written back
 
@@ -50,7 +50,7 @@ module _ (old fresh : MachineState) (k : ℕ) (before behind : LinkEnd) (at : ge
   takes_set said xs told here other = record {
     each = λ j x y there also. stood (λ a b. b.takes ≡ more_told a.takes (take_answers (as_taken (said j)))) j x y there also
         (λ e. told ∙ ap (more_told before.takes) (sym here ∙ ap (λ n. take_answers (as_taken (said n))) (sym e)))
-        (λ differ. sym (no_takes x.takes) ∙ ap (λ (l : List Answer). more_told x.takes (take_answers (as_taken l))) (sym (other j differ)));
+        (λ differ. sym (more_none x.takes) ∙ ap (λ (l : List Answer). more_told x.takes (take_answers (as_taken l))) (sym (other j differ)));
     none_beyond = λ j past. other j (λ e. let inside = place_inside old.ends k before at in omega (arith, inside, past, e));
   }
 
@@ -102,7 +102,7 @@ module _ (old fresh : MachineState) (i : ℕ) (place seat' : SeatData) (step : S
     made_taken = takings_none fresh (taken_in p c (moment ∷ [])) none_said
 
     asked_takes : {k : ℕ} {HasAnswered : _} → AskedAt old.links.outs fresh.links.outs old.ends fresh.ends k HasAnswered → TakesTell old fresh (taken_in p c (moment ∷ []))
-    asked_takes {k} a = takes_set old fresh k a.before a.behind a.end_at a.ends_are (taken_in p c (moment ∷ [])) [] (a.takes ∙ sym (no_takes a.before.takes)) (ap (λ (l : List Answer). take_answers (as_taken l)) (none_said k)) (λ j differ. none_said j)
+    asked_takes {k} a = takes_set old fresh k a.before a.behind a.end_at a.ends_are (taken_in p c (moment ∷ [])) [] (a.takes ∙ sym (more_none a.before.takes)) (ap (λ (l : List Answer). take_answers (as_taken l)) (none_said k)) (λ j differ. none_said j)
 
     by_first : (f : First) → MadeFirst (table_of old) (table_of fresh) i place seat' step f answer → TakesTell old fresh (taken_in p c (moment ∷ []))
     by_first (kinds.OfPut k asked bytes) w = asked_takes w.2.asked
@@ -127,30 +127,13 @@ takes_no : (o : Option First) (first : First) → o ≡ Some first → TakesNone
 takes_no o (OfAside (TakeBytes k room)) e none_ = absurd (subst TakesNone e none_)
 takes_no o _ e none_ = refl
 
-judge_none : (ends : Bool) (x y : Program) → TakesNone (first_of x) → TakesNone (first_of y) → TakesNone (first_of (if ends then x else y))
-judge_none true x y f g = f
-judge_none false x y f g = g
-
 takes_first : (program : Program) (first : First) → first_in program ≡ Some first → IsTakenFrom first (taken_link program)
 takes_first (Aside (TakeBytes k room) next) first e = subst (λ (f : First). IsTakenFrom f (k ∷ [])) (same_some e) refl
 takes_first (Round (Reads r) next) first e = subst (λ (f : First). IsTakenFrom f (r.link ∷ [])) (same_some e) refl
 takes_first (Round (Discards k total) next) first e = subst (λ (f : First). IsTakenFrom f (k ∷ [])) (same_some e) refl
-takes_first (Write (heads.Waits h now heading left taken) after) first e = takes_no _ first e tt
-takes_first (Write (heads.Puts h now heading left taken asked) after) first e = takes_no _ first e tt
-takes_first (Write (heads.Walks h top place after) then_) first e = takes_no _ first e tt
-takes_first (Write (heads.Empties h) after) first e = takes_no _ first e tt
-takes_first (Say o outcome next) first e = cc
-takes_first (Sent o next) first e = cc
-takes_first (Keep r next) first e = cc
-takes_first (Retries requests after) first e = cc
-takes_first Rest first e = cc
-takes_first (Round (Posts id error w) next) first e = takes_no _ first e tt
-takes_first (Round (Unlocks i w advance) next) first e = takes_no _ first e tt
-takes_first (Round (Decides id asked w error) next) first e = takes_no _ first e (judge_none (ends_call (parts w) error) (end_id (id_slot id) (next (HasEnded asked.operation (code_of error)))) (Aside (PutCall (id_slot id) asked) (λ _. Round (Unlocks (id_slot id) w true) (unlocked (record { id = id; attempt = (parts w).attempt + 1 }) next))) tt tt)
+takes_first (Round (Decides id asked w error) next) first e = takes_no _ first e (elim (ends_call (parts w) error) as (λ (ends : Bool). TakesNone (first_of (if ends then end_id (id_slot id) (next (HasEnded asked.operation (code_of error))) else Aside (PutCall (id_slot id) asked) (λ _. Round (Unlocks (id_slot id) w true) (unlocked (record { id = id; attempt = (parts w).attempt + 1 }) next))))) [ true ↦ tt | false ↦ tt ])
 takes_first (Round (Locks i sought None) next) first e = takes_no _ first e tt
-takes_first (Round (Locks i sought (Some w)) next) first e = takes_no _ first e tt
-takes_first (Round (Joins id) next) first e = takes_no _ first e tt
-takes_first (Round (Opens o) next) first e = takes_no _ first e tt
+takes_first (Write (heads.Empties h) after) first e = takes_no _ first e tt
 takes_first _ first e = takes_no _ first e tt
 
 -- no tick but a put or a question tells that a link failed

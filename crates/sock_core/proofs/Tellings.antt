@@ -1,8 +1,7 @@
 -- What a tick answers: the kind of its step, or for what the seat waits.
-use Rattle.std.proofs.Common.{◌≡◌, ◌≢◌, refl, ℕ, ◌+◌, ◌==◌, ◌&&◌, Bool, true, false, not, is_some, if◌then◌else◌, List, [], Option, Some, None, IfSome, ap, sym, ◌∙◌, subst}
+use Rattle.std.proofs.Common.{◌≡◌, ◌≢◌, refl, ℕ, ◌+◌, ◌==◌, ◌&&◌, Bool, true, false, not, is_some, if◌then◌else◌, List, [], Option, Some, None, IfSome, option_map, ap, sym, ◌∙◌, subst}
 use mathlib.Core.Option as core
 use Rattle.corr_core.specs.Word.{parts, code_of}
-use Rattle.id_points.specs.Ids.{id_of}
 use Rattle.sock_words.specs.declared.kind.Kind.{Kind}
 use Rattle.sock_words.specs.declared.kind.Kind.TheVariants.{I6, K1}
 use Rattle.sock_io.specs.declared.link.Put.{Put}
@@ -14,35 +13,21 @@ use Rattle.seat_programs.specs.Asides.{id_first, id_slot, PutCall}
 use Rattle.seat_programs.specs.Asides as asides
 use Rattle.seat_programs.specs.Beside.{found_in}
 use Rattle.seat_programs.specs.Heads.{Posts, Unlocks, Decides, Locks, Joins, Opens, Reads, Discards, HasEnded}
-use Rattle.seat_programs.specs.Posts.{ends_call, end_id, unlocked, decided, is_first, is_sought}
+use Rattle.seat_programs.specs.Posts.{ends_call, end_id, unlocked, is_first, is_sought}
 use Rattle.seat_programs.specs.Calls as calls
 use Rattle.seat_programs.specs.Writings as heads
-use Rattle.seat_programs.specs.Programs.{Program, Do, Say, Sent, Rest, TakeMessage, TakeHome, PutHome, PutBytes, AskReady, Write, Aside, Round, Keep, Retries}
+use Rattle.seat_programs.specs.Programs.{Program, Do, TakeMessage, TakeHome, PutHome, PutBytes, Write, Aside, Round}
 use Rattle.seat_programs.specs.Cores.{Core, word_of, found_at}
 use Rattle.seat_programs.specs.Ticks.{Answer, Unasked, OfPut, OfReady, waits_at}
 use Rattle.seat_programs.specs.Runs.{kind_in}
 use Rattle.call_slots.specs.Steps.{word_found}
 use Rattle.call_points.specs.declared.aside.Aside as code
 use Rattle.call_points.specs.Steps as aside_steps
-use Rattle.call_points.specs.declared.deciding.DecideStep.TheVariants as decides
-use Rattle.call_points.specs.declared.posting.PostStep.TheVariants as posts
-use Rattle.call_points.specs.declared.locking.LockStep.TheVariants as locks
-use Rattle.seat_states.specs.declared.point.OpenStep.TheVariants as opens
-use Rattle.seat_states.specs.declared.point.SeekStep.TheVariants as seeks
-use Rattle.seat_states.specs.declared.point.Aim.TheVariants as aims
-use Rattle.seat_states.specs.declared.point.FailStep.TheVariants as fails
-use Rattle.seat_states.specs.declared.point.ReleaseStep.TheVariants as releases
-use Rattle.seat_states.specs.declared.point.SendStep.TheVariants as sends
 use Rattle.seat_states.specs.declared.point.WriteStep.TheVariants as writes
 use Rattle.seat_states.specs.declared.point.Author.{Author}
-use Rattle.seat_states.specs.declared.point.Author.TheVariants as authors
-use Rattle.seat_states.specs.declared.point.CallStep.TheVariants as begins
-use Rattle.seat_states.specs.declared.point.AttemptStep.TheVariants as attempts
-use Rattle.seat_states.specs.declared.point.RetryStep.TheVariants as retries
-use Rattle.seat_states.specs.declared.point.JoinStep.TheVariants as joins
 use Rattle.seat_states.specs.declared.point.Point.{Point}
 use Rattle.seat_states.specs.declared.point.Point.TheVariants as points
-use Rattle.seat_states.specs.Points.{Context, point_program, look_program, after_program, heading_by, parts_by}
+use Rattle.seat_states.specs.Points.{Context, point_program, heading_by, parts_by, Asks}
 use Rattle.seat_states.specs.Steps.{First, OfCall, OfAside, OfMessage, OfLink, OfHome, first_of, first_in, kind_of_first}
 use Rattle.seat_states.specs.Steps as kinds
 use Rattle.seat_states.specs.Steps.{step_of, step_as}
@@ -58,41 +43,19 @@ use Rattle.sock_core.specs.declared.machine.Tick.TheVariants.{Moved, Waits}
 use Rattle.client_seats.specs.Seats.{SeatData, around, seat_program, bytes_of, parts_of, left_of, taken_of, left_parts_of, asked_of}
 use Rattle.sock_core.specs.Machines.{TableState, table_sizes}
 use Rattle.sock_core.specs.Steps.{IsNext, Makes, FoundBeside, beside}
+use Rattle.seat_states.proofs.StepFacts as facts
 
 -- ## Kinds
 
-abbrev KindAt : Option First → Option Kind → Type 0
-KindAt None kind = Unit {0}
-KindAt (Some first) kind = kind ≡ Some (kind_of_first first)
-
--- a call that is decided on ends, or goes home again
-by_ends : (ends : Bool) (x y : Program) → KindAt (first_of x) (Some I6) → KindAt (first_of y) (Some K1) → KindAt (first_of (if ends then x else y)) (Some (if ends then I6 else K1))
-by_ends true x y f g = f
-by_ends false x y f g = g
-
-kind_is : (program : Program) → KindAt (first_in program) (kind_in program)
-kind_is (Say o outcome next) = tt
-kind_is (Sent o next) = tt
-kind_is (Keep r next) = tt
-kind_is (Retries requests after) = tt
-kind_is Rest = tt
-kind_is (Write (heads.Puts h now heading left taken asked) after) = refl
-kind_is (Write (heads.Waits h now heading left taken) after) = refl
+-- the kind of the next step is that of the first
+pub kind_is : (program : Program) → kind_in program ≡ option_map kind_of_first (first_in program)
 kind_is (Write (heads.Empties h) after) = refl
-kind_is (Write (heads.Walks h top at after) then_) = refl
-kind_is (Round (Posts id e w) next) = refl
-kind_is (Round (Unlocks i w advance) next) = refl
-kind_is (Round (Decides id asked w e) next) = by_ends (ends_call (parts w) e) (end_id (id_slot id) (next (HasEnded asked.operation (code_of e)))) (Aside (PutCall (id_slot id) asked) (λ _. Round (Unlocks (id_slot id) w true) (unlocked (record { id = id; attempt = (parts w).attempt + 1 }) next))) refl refl
+kind_is (Round (Decides id asked w e) next) = elim (ends_call (parts w) e) as (λ (ends : Bool). Some (if ends then I6 else K1) ≡ option_map kind_of_first (first_of (if ends then end_id (id_slot id) (next (HasEnded asked.operation (code_of e))) else Aside (PutCall (id_slot id) asked) (λ _. Round (Unlocks (id_slot id) w true) (unlocked (record { id = id; attempt = (parts w).attempt + 1 }) next))))) [ true ↦ refl | false ↦ refl ]
 kind_is (Round (Locks i sought None) next) = refl
-kind_is (Round (Locks i sought (Some w)) next) = refl
-kind_is (Round (Joins id) next) = refl
-kind_is (Round (Opens o) next) = refl
-kind_is (Round (Reads r) next) = refl
-kind_is (Round (Discards k total) next) = refl
 kind_is _ = refl
 
 pub kind_first : (program : Program) (first : First) (kind : Kind) → first_in program ≡ Some first → kind ≡ kind_of_first first → kind_in program ≡ Some kind
-kind_first program first kind e f = rw f (subst (λ (o : Option First). KindAt o (kind_in program)) e (kind_is program))
+kind_first program first kind e f = rw f (kind_is program ∙ ap (option_map kind_of_first) e)
 
 -- ## Waiting
 
@@ -113,10 +76,6 @@ module _ (p : Plan) (c : Core) where
   WaitsIs (Some (kinds.OfPut k asked bytes)) program = (put : Put) → waits_at p c (OfPut put) program ≡ false
   WaitsIs (Some (kinds.OfReady k)) program = Unit {0}
 
-  ends_waits : (program : Program) (ends : Bool) (x y : Program) → WaitsIs (first_of x) program → WaitsIs (first_of y) program → WaitsIs (first_of (if ends then x else y)) program
-  ends_waits program true x y f g = f
-  ends_waits program false x y f g = g
-
   waits_is : (program : Program) → WaitsIs (first_in program) program
   waits_is (Do call next) = (refl, λ puts. refl)
   waits_is (TakeMessage q next) = refl
@@ -130,7 +89,7 @@ module _ (p : Plan) (c : Core) where
   waits_is (Write (heads.Walks h top at after) then_) = (refl, λ puts. absurd puts)
   waits_is (Round (Posts id e w) next) = λ found h. refl
   waits_is (Round (Unlocks i w advance) next) = λ found h. refl
-  waits_is (Round (Decides id asked w e) next) = ends_waits (Round (Decides id asked w e) next) (ends_call (parts w) e) (end_id (id_slot id) (next (HasEnded asked.operation (code_of e)))) (Aside (PutCall (id_slot id) asked) (λ _. Round (Unlocks (id_slot id) w true) (unlocked (record { id = id; attempt = (parts w).attempt + 1 }) next))) (λ found h. refl) (λ found h. refl)
+  waits_is (Round (Decides id asked w e) next) = elim (ends_call (parts w) e) as (λ (ends : Bool). WaitsIs (first_of (if ends then end_id (id_slot id) (next (HasEnded asked.operation (code_of e))) else Aside (PutCall (id_slot id) asked) (λ _. Round (Unlocks (id_slot id) w true) (unlocked (record { id = id; attempt = (parts w).attempt + 1 }) next)))) (Round (Decides id asked w e) next)) [ true ↦ (λ found h. refl) | false ↦ (λ found h. refl) ]
   waits_is (Round (Locks i sought None) next) = λ found h. ap (λ (w : ℕ). is_sought sought (parts w) && not ((parts w).state == 1)) (core.some-injective _ found h)
   waits_is (Round (Locks i sought (Some w)) next) = λ found h. refl
   waits_is (Round (Joins id) next) = λ found h. ap (λ (w : ℕ). is_first (id_first id) (parts w)) (core.some-injective _ found h)
@@ -168,106 +127,22 @@ module _ (p : Plan) (c : Core) where
   AsksLink (Some (kinds.OfReady k)) program = (waits_at p c (OfReady asks.NotYet) program ≡ true) × (waits_at p c (OfReady asks.Now) program ≡ false) × (waits_at p c (OfReady asks.Failed) program ≡ false) × IsWaitingFor program (on.Out k)
   AsksLink other program = Unit {0}
 
-  look_asks : (a : Context) (author : Author) (id : ℕ) (program : Program) → AsksLink (first_in (look_program a author id)) program
-  look_asks a (authors.Send o) id program = tt
-  look_asks a (authors.Attempt t) id program = tt
-
-  judge_asks : (program : Program) (ends : Bool) (x y : Program) → AsksLink (first_of x) program → AsksLink (first_of y) program → AsksLink (first_of (if ends then x else y)) program
-  judge_asks program true x y f g = f
-  judge_asks program false x y f g = g
-
-  asks_link : (a : Context) (point : Point) → AsksLink (first_in (point_program a point)) (point_program a point)
-  asks_link a points.Rest = tt
-  asks_link a (points.Open g (opens.Claim i)) = tt
-  asks_link a (points.Open g (opens.StoreLink i)) = tt
-  asks_link a (points.Open g (opens.ResetHead i)) = tt
-  asks_link a (points.Open g (opens.ClearCode i)) = tt
-  asks_link a (points.Open g (opens.CreateLife i)) = tt
-  asks_link a (points.Open g (opens.StoreOpen i v)) = tt
-  asks_link a (points.Open g (opens.StoreName i v)) = tt
-  asks_link a (points.Open g opens.TakeLink) = tt
-  asks_link a (points.Open g opens.FinishLink) = tt
-  asks_link a (points.Open g opens.PutLink) = tt
-  asks_link a (points.Open g opens.StoreNone) = tt
-  asks_link a (points.Seek (aims.Hold o n) seeks.Load) = tt
-  asks_link a (points.Seek (aims.Send o n) seeks.Load) = tt
-  asks_link a (points.Seek (aims.Fail o n code) seeks.Load) = tt
-  asks_link a (points.Seek (aims.End o) seeks.Load) = tt
-  asks_link a (points.Seek aim (seeks.AddRef id)) = tt
-  asks_link a (points.Fail f fails.SetOdd) = tt
-  asks_link a (points.Fail f (fails.StoreCode w)) = tt
-  asks_link a (points.Fail f (fails.ReleaseFirst w)) = tt
-  asks_link a (points.Release i t releases.SubRef) = tt
-  asks_link a (points.Release i t (releases.Recycle w)) = tt
-  asks_link a (points.Release i t (releases.LoadLink w)) = tt
-  asks_link a (points.Release i t (releases.TakeLink w k)) = tt
-  asks_link a (points.Release i t (releases.FinishLink w k)) = tt
-  asks_link a (points.Release i t (releases.PutLink w k)) = tt
-  asks_link a (points.Release i t releases.FreeSlot) = tt
-  asks_link a (points.Send s sends.Look) = look_asks a s.author s.id.0 (look_program a s.author s.id.0)
-  asks_link a (points.Send s (sends.Claim q)) = tt
-  asks_link a (points.Send s (sends.PutMessage q own)) = tt
-  asks_link a (points.Send s (sends.Unconnect q own)) = tt
-  asks_link a (points.Send s (sends.SwapHead q own)) = tt
-  asks_link a (points.Send s (sends.Connect q before)) = tt
-  asks_link a (points.Send s (sends.FindLink q own)) = tt
-  asks_link a (points.Send s (sends.TakeHome q own k)) = tt
-  asks_link a (points.Send s (sends.TakeMessage q own k n)) = tt
-  asks_link a (points.Write w (writes.FirstLook m)) = tt
-  asks_link a (points.Write w (writes.Look m asked)) = tt
-  asks_link a (points.Write w (writes.Put m asked)) = tt
-  asks_link a (points.Write w (writes.Ask m)) = (refl, refl, refl, refl)
-  asks_link a (points.Write w (writes.SetOdd m)) = tt
-  asks_link a (points.Write w (writes.StoreCode m)) = tt
-  asks_link a (points.Write w (writes.ReleaseFirst m)) = tt
-  asks_link a (points.Write w (writes.StorePlace m)) = tt
-  asks_link a (points.Write w (writes.LoadCode m)) = tt
-  asks_link a (points.Write w (writes.DropPlace m n)) = tt
-  asks_link a (points.Write w (writes.ReadNext now c)) = tt
-  asks_link a (points.Write w (writes.Free now next c)) = tt
-  asks_link a (points.Write w (writes.TakeMessage next)) = tt
-  asks_link a (points.Write w writes.PutHome) = tt
-  asks_link a (points.Write w writes.EmptyHead) = tt
-  asks_link a (points.Write w (writes.TakeHome found)) = tt
-  asks_link a (points.Write w (writes.Walk top at after)) = tt
-  asks_link a (points.Write w (writes.Turn top at after before)) = tt
-  asks_link a (points.Write w (writes.TakeFirst top at)) = tt
-  asks_link a (points.Call begins.LoadName) = tt
-  asks_link a (points.Call (begins.ClaimId i socket)) = tt
-  asks_link a (points.Call (begins.PutCall i socket)) = tt
-  asks_link a (points.Call (begins.MakeId i socket)) = tt
-  asks_link a (points.Call (begins.StoreCall id socket)) = tt
-  asks_link a (points.Attempt t socket attempts.AddRef) = tt
-  asks_link a (points.Attempt t socket attempts.FindLink) = tt
-  asks_link a (points.Attempt t socket (attempts.StoreAt k)) = tt
-  asks_link a (points.Post c after posts.Load) = tt
-  asks_link a (points.Post c after (posts.Exchange from)) = tt
-  asks_link a (points.Decide c after (decides.Take w)) = tt
-  asks_link a (points.Decide c after (decides.Judge w)) = judge_asks (point_program a (points.Decide c after (decides.Judge w))) (ends_call (parts w.0) c.error.0) (end_id (id_slot (id_of c.id)) (decided (id_of c.id) (after_program a after) (HasEnded a.asked.operation (code_of c.error.0)))) (Aside (PutCall (id_slot (id_of c.id)) a.asked) (λ _. Round (Unlocks (id_slot (id_of c.id)) w.0 true) (unlocked (record { id = id_of c.id; attempt = (parts w.0).attempt + 1 }) (decided (id_of c.id) (after_program a after))))) tt tt
-  asks_link a (points.Decide c after (decides.Free o)) = tt
-  asks_link a (points.Decide c after (decides.Unlock from advance n)) = tt
-  asks_link a (points.Retry r (retries.Lock locks.Read)) = tt
-  asks_link a (points.Retry r (retries.Lock (locks.Exchange from))) = tt
-  asks_link a (points.Retry r (retries.TakeCall w)) = tt
-  asks_link a (points.Retry r (retries.PutCall w)) = tt
-  asks_link a (points.Retry r (retries.Unlock w advance)) = tt
-  asks_link a (points.Retry r retries.LoadName) = tt
-  asks_link a (points.Expire o t) = tt
-  asks_link a (points.Join o (joins.LoadCall t)) = tt
-  asks_link a (points.Join o (joins.Wait id)) = tt
+  asks_link : (a : Context) (point : Point) (k : ℕ) → Asks point → first_in (point_program a point) ≡ Some (kinds.OfReady k) → AsksLink (Some (kinds.OfReady k)) (point_program a point)
+  asks_link a (points.Write w (writes.Ask m)) k h e = subst (λ (o : Option First). AsksLink o (point_program a (points.Write w (writes.Ask m)))) e (refl, refl, refl, refl)
+  asks_link a _ k h e = absurd h
 
   pub ready_waits : (a : Context) (point : Point) (k : ℕ) → first_in (point_program a point) ≡ Some (kinds.OfReady k) → AsksLink (Some (kinds.OfReady k)) (point_program a point)
-  ready_waits a point k e = subst (λ (o : Option First). AsksLink o (point_program a point)) e (asks_link a point)
+  ready_waits a point k e = asks_link a point k (facts.asks a point k e).0 e
 
 -- ## Ticks
 
-abbrev words_of : TableState → Core
+abbrev pub words_of : TableState → Core
 words_of t = record { words = t.words; homes = []; seats = []; outcomes = []; calls = beside t }
 
 next_is : (old : TableState) (seat : SeatData) (step step' : Step) → step ≡ step' → IsNext old seat step → IsNext old seat step'
 next_is old seat step step' e next = subst (λ (x : Step). IsNext old seat x) e next
 
-waits_for : (program : Program) (o : Option On) (on_ : On) → o ≡ Some on_ → IfSome o (IsWaitingFor program) → IsWaitingFor program on_
+pub waits_for : (program : Program) (o : Option On) (on_ : On) → o ≡ Some on_ → IfSome o (IsWaitingFor program) → IsWaitingFor program on_
 waits_for program o on_ some is = subst (λ (x : Option On). IfSome x (IsWaitingFor program)) some is
 
 call_waiting : (old : TableState) (seat : SeatData) (call : Call) (found : ℕ) (o : Option On) → IsNext old seat (firsts.Call call) → found ≡ found_at old.words (word_of old.plan (step_of call)) → is_some o ≡ waits_by (seat_program (table_sizes old) seat) found → is_waiting old Unasked (seat_program (table_sizes old) seat) ≡ is_some o

@@ -32,6 +32,7 @@ use Rattle.seat_states.specs.declared.call.Call.TheVariants as steps
 use Rattle.seat_states.specs.Points.{heading_by, after_link, after_home, after_put, after_ready}
 use Rattle.seat_states.specs.Steps.{First, OfCall, OfAside, OfMessage, OfLink, OfHome, step_of, step_as, first_in}
 use Rattle.seat_states.specs.Steps as kinds
+use Rattle.sock_core.proofs.TableRoom.{IsCall}
 use Rattle.seat_states.proofs.StepFacts as facts
 use Rattle.client_seats.specs.Seats.{SeatData, around, seat_program, bytes_of, parts_of}
 use Rattle.sock_core.specs.declared.letter.Letter.{Letter}
@@ -67,11 +68,6 @@ MayMake p l i (OfLink k) = MayTake p l i k
 MayMake p l i (OfHome k n) = MayAsk p l i k
 MayMake p l i (kinds.OfPut k asked bytes) = MayAsk p l i k
 MayMake p l i (kinds.OfReady k) = MayAsk p l i k
-
--- a step on a word, or a move that tells nothing
-abbrev pub IsCall : First → Type 0
-IsCall (OfCall call) = Unit {0}
-IsCall other = ⊥
 
 -- a step of seat i, in which its link answered this, over links that had taken and given that: a tick
 pub record SteppedWith (old fresh : MachineState) (i : ℕ) (answer : Answer) (took : Taken) (gave : Given) : Type 0 where

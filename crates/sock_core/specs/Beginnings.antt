@@ -1,5 +1,5 @@
 -- How a machine begins.
-use Rattle.std.specs.Prelude.{ℕ, ◌≡◌, false, List, [], map, fold, replicate, Option, None}
+use Rattle.std.specs.Prelude.{ℕ, ◌≡◌, ◌≢◌, true, false, List, [], map, fold, replicate, Option, None, IfSome}
 use Rattle.std.specs.List.{AllByRecursion}
 use Rattle.brpc_model.specs.Items.{Item}
 use Rattle.sock_words.specs.declared.plain.Plan.{Plan}
@@ -9,11 +9,15 @@ use Rattle.seat_programs.specs.declared.task.Task.{Task}
 use Rattle.seat_programs.specs.declared.task.Sizes.{Sizes}
 use Rattle.seat_programs.specs.Programs.{Program}
 use Rattle.seat_programs.specs.Cores.{said, next_step, resolved}
-use Rattle.seat_programs.specs.Scripts.{opening_words, opening_calls, programs, readers_from, sizes_of, all_tasks}
+use Rattle.seat_programs.specs.Scripts.{set_up, opening_words, opening_calls, programs, readers_from, sizes_of, all_tasks}
 use Rattle.seat_programs.specs.Tasks as wants
 use Rattle.call_slots.specs.Slots.{SlotState, calls_with}
 use Rattle.reader_seats.specs.Readers.{ReaderData, reader_program}
+use Rattle.sock_io.specs.Link.{OutState, InState, end_of}
 use Rattle.sock_core.specs.declared.letter.Letter.{Letter}
+use Rattle.sock_core.specs.Links.{Agrees, AgreesGave, AreAlwaysReady, TellClosing, StayOffered}
+use Rattle.sock_core.specs.Machines.{MachineState, core_with}
+use Rattle.sock_core.specs.Driving.{FirstRests}
 use Rattle.client_seats.specs.Seats.{SeatData, seat_program}
 
 -- each seat is before the first step of its client, and keeps no retry
@@ -47,3 +51,29 @@ pub record IsWanted (script : List Item) (p : Plan) (q : IdPlan) (clients : List
   pub tasks : clients ≡ all_tasks script
   pub calls_are : calls ≡ wants.calls script
   pub opens_are : opens ≡ wants.opens script
+
+-- the links over which a machine begins: none is finished or was closed by its other end, and none took or gave anything
+pub record AreUnused {E : Type 0} (out_of : E → OutState) (in_of : E → InState) (links : List E) : Type 0 where
+  pub fresh : AllByRecursion (λ (e : E). (out_of e).finished ≡ false) links
+  pub unused : AllByRecursion (λ (e : E). IfSome (out_of e).took (λ bytes. bytes ≡ [])) links
+  pub silent : AllByRecursion (λ (e : E). ((in_of e).gave ≡ 0) × IfSome (in_of e).gave_bytes (λ bytes. bytes ≡ [])) links
+  pub unclosed : AllByRecursion (λ (e : E). IfSome (in_of e).closing (λ closing. closing ≡ false)) links
+
+-- a machine over these links, which tells of them what they tell
+pub record IsOver {E : Type 0} (out_of : E → OutState) (in_of : E → InState) (links : List E) (m : MachineState) : Type 0 where
+  pub enough : (m.short ≡ false) × (m.ending ≡ false)
+  pub ends : m.ends ≡ map (λ (e : E). end_of (out_of e) (in_of e)) links
+  pub outs : AllByRecursion (λ (e : E). (out_of e).always_ready ≡ true) links → AreAlwaysReady m.links
+  pub tell : AllByRecursion (λ (e : E). (in_of e).closing ≢ None) links → TellClosing m.links
+  pub offers : StayOffered (map out_of links) (map in_of links) m.links
+
+-- the machine stands behind the setup of the script, and its links took and gave nothing
+pub record IsMade (script : List Item) (m : MachineState) : Type 0 where
+  pub plan : m.plan ≡ wants.plan_of script
+  pub id_plan : m.ids.plan ≡ wants.id_plan_of script
+  pub opens : m.opens ≡ wants.opens script
+  pub calls : m.calls ≡ wants.calls script
+  pub agrees : Agrees m.links (λ k. [])
+  pub agrees_gave : AgreesGave m.links (λ k. [])
+  pub setup : (n : ℕ) × (core_with m (λ k. []) (λ k. []) ≡ set_up script n)
+  pub first : FirstRests m

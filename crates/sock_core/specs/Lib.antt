@@ -1,4 +1,5 @@
 pub mod Letters
+pub mod Linkers
 pub mod Links
 pub mod Machines
 pub mod Runs

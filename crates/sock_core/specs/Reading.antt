@@ -31,7 +31,7 @@ use Rattle.sock_core.specs.declared.machine.Tick.{Tick}
 use Rattle.sock_core.specs.Links.{AreAlwaysReady, TellClosing, is_done}
 use Rattle.sock_core.specs.Machines.{MachineState, TableState, table_of}
 use Rattle.sock_core.specs.Runs.{SameLink, ShowsTaking, SameLinks}
-use Rattle.sock_core.specs.Steps.{OutsAfter, FitsSlots, IsOfLinks, holders_after, beside}
+use Rattle.sock_core.specs.Steps.{AsMany, OutsAfter, FitsSlots, IsOfLinks, holders_after, beside}
 use Rattle.sock_core.specs.Telling.{Tells}
 
 -- ## Before a step
@@ -184,12 +184,7 @@ pub record IsCutTable (old fresh : TableState) : Type 0 where
   pub ids : fresh.ids.plan ≡ old.ids.plan
   pub calls : fresh.calls ≡ old.calls
   pub ending : fresh.ending ≡ old.ending
-  pub letters : length fresh.letters ≡ length old.letters
-  pub holders : length fresh.links.holders ≡ length old.links.holders
-  pub nexts : length fresh.links.nexts ≡ length old.links.nexts
-  pub outs : length fresh.links.outs ≡ length old.links.outs
-  pub inns : length fresh.links.inns ≡ length old.links.inns
-  pub outcomes : length fresh.outcomes ≡ length old.outcomes
+  pub many : AsMany old fresh
   pub as_many : length fresh.ends ≡ length old.ends
   pub each : (k : ℕ) (a b : LinkEnd) → slice_get old.ends k ≡ Some a → slice_get fresh.ends k ≡ Some b → SameLink a b
   pub always_ready : AreAlwaysReady old.links → AreAlwaysReady fresh.links
@@ -203,12 +198,7 @@ pub record IsCutShort (old fresh : MachineState) : Type 0 where
   pub calls : fresh.calls ≡ old.calls
   pub ending : fresh.ending ≡ old.ending
   pub opens : fresh.opens ≡ old.opens
-  pub letters : length fresh.letters ≡ length old.letters
-  pub holders : length fresh.links.holders ≡ length old.links.holders
-  pub nexts : length fresh.links.nexts ≡ length old.links.nexts
-  pub outs : length fresh.links.outs ≡ length old.links.outs
-  pub inns : length fresh.links.inns ≡ length old.links.inns
+  pub many : AsMany (table_of old) (table_of fresh)
   pub seats : length fresh.seats ≡ length old.seats
   pub readers : length fresh.readers ≡ length old.readers
-  pub outcomes : length fresh.outcomes ≡ length old.outcomes
   pub links : SameLinks old fresh

@@ -173,6 +173,15 @@ pub record IsSized (t : TableState) : Type 0 where
   pub outs_are : length t.links.outs ≡ t.plan.links
   pub inns_are : length t.links.inns ≡ t.plan.links
 
+-- as many letters, links and outcomes as before
+pub record AsMany (old fresh : TableState) : Type 0 where
+  pub letters : length fresh.letters ≡ length old.letters
+  pub holders : length fresh.links.holders ≡ length old.links.holders
+  pub nexts : length fresh.links.nexts ≡ length old.links.nexts
+  pub outs : length fresh.links.outs ≡ length old.links.outs
+  pub inns : length fresh.links.inns ≡ length old.links.inns
+  pub outcomes : length fresh.outcomes ≡ length old.outcomes
+
 -- ## What a step makes
 
 -- who has each link in hand, after a step that tells nothing
@@ -289,14 +298,3 @@ module _ (old fresh : TableState) (i : ℕ) (seat seat' : SeatData) where
 -- seat i makes this step
 pub record Makes (old fresh : TableState) (i : ℕ) (seat seat' : SeatData) (step : Step) (answer : Answer) : Type 0 where
   pub is : MadeFirst old fresh i seat seat' step (step_as (around (table_sizes old) seat) step) answer
-
--- a step of seat i, in which its link answered this
-pub record SteppedTo (old fresh : MachineState) (i : ℕ) (step : Step) (answer : Answer) : Type 0 where
-  pub seat : SeatData
-  pub at : get_elem? old.seats i ≡ core.some seat
-  pub seat' : SeatData
-  pub seats : fresh.seats ≡ slice_set old.seats i seat'
-  pub readers : fresh.readers ≡ old.readers
-  pub opens : fresh.opens ≡ old.opens
-  pub short : fresh.short ≡ old.short
-  pub made : MadeFirst (table_of old) (table_of fresh) i seat seat' step (step_as (around (machine_sizes old) seat) step) answer

@@ -1,14 +1,14 @@
-ghost use Rattle.std.specs.Prelude.{◌≡◌, ◌≢◌, ℕ, List, ◌+◌, ◌-◌, true, false, ◌<◌, ◌≤◌, [], Ok, IfOk, IfSome, OnOk, OnErr, IfErr, length, map, replicate, vec_len};
-ghost use Rattle.std.specs.List.{AllByRecursion};
+ghost use Rattle.std.specs.Prelude.{◌≡◌, ◌≢◌, ℕ, List, ◌+◌, ◌-◌, true, false, ◌<◌, ◌≤◌, [], Ok, IfOk, OnOk, OnErr, IfErr, length, map, vec_len};
 ghost use Rattle.brpc_model.specs.Link.{LinkEnd};
 ghost use Rattle.brpc_model.specs.Script.{script_of};
 ghost use Rattle.brpc_model.specs.Operations.{link_names};
 ghost use Rattle.sock_io.specs.Link.{OutState, InState, end_of};
-ghost use Rattle.seat_programs.specs.Scripts.{beginning, programs, readers_from, all_programs, set_up, sizes_of, place_words};
-ghost use Rattle.seat_programs.specs.Tasks.{plan_of, id_plan_of, opens, calls};
+ghost use Rattle.seat_programs.specs.Scripts.{beginning, programs, readers_from, all_programs, sizes_of, place_words};
 ghost use Rattle.sock_core.specs.Finish.{told_from};
 ghost use Rattle.run_theorems.specs.joint_runs.proofs.Starts.{AreFor};
-ghost use Rattle.sock_core.specs.Links.{Taken, Given, Agrees, AgreesGave, AreAlwaysReady, StayOffered, TellClosing};
+ghost use Rattle.sock_core.specs.Beginnings.{AreUnused, IsMade, IsOver};
+ghost use Rattle.sock_core.specs.Linkers.{SaysAsBefore};
+ghost use Rattle.sock_core.specs.Links.{Taken, Given, Agrees, AgreesGave};
 ghost use Rattle.sock_core.specs.Machines.{MOST_LEFT as most_left, HasSizes, core_with, ending_by};
 ghost use Rattle.sock_core.specs.Runs.{SameLinks, SameTable, Ticked, Led, Still, HasMoved, PlayedOn, RanFirst, Settled};
 ghost use Rattle.sock_core.specs.Driving.{LastsAtMost, LeavesFewer, Leaves, IsLast, IsOther, IsPlain, FirstRests, TickedFirst, told_ending};
@@ -162,12 +162,7 @@ impl<O: Out, I: In, P: Peer> Machine<O, I, P> {
         ensures same { SameTable self.old self.new × SameLinks self.old self.new }
         ensures rest { OnOk result (FirstRests self.old → FirstRests self.new) }
         ensures sizes { ∥ HasSizes self.new ∥₁ }
-        ensures asked { L.asked links.new ≡ L.asked links.old }
-        ensures accepted { L.accepted links.new ≡ L.accepted links.old }
-        ensures back { L.back links.new ≡ L.back links.old }
-        ensures done { L.done links.new ≡ L.done links.old }
-        ensures faults { L.faults links.new ≡ L.faults links.old }
-        ensures always_ready { L.always_ready links.new ≡ L.always_ready links.old }
+        ensures says { SaysAsBefore L.asked L.accepted L.back L.done L.faults L.always_ready links.old links.new }
     {
         let Some(step) = self.tables.next_read(link) else {
             return Ok(Tick::Idle);
@@ -188,12 +183,7 @@ impl<O: Out, I: In, P: Peer> Machine<O, I, P> {
         ensures same { SameTable self.old self.new × SameLinks self.old self.new }
         ensures rest { OnOk result (seat ≢ 0 → FirstRests self.old → FirstRests self.new) }
         ensures sizes { ∥ HasSizes self.new ∥₁ }
-        ensures asked { L.asked links.new ≡ L.asked links.old }
-        ensures accepted { L.accepted links.new ≡ L.accepted links.old }
-        ensures back { L.back links.new ≡ L.back links.old }
-        ensures done { L.done links.new ≡ L.done links.old }
-        ensures faults { L.faults links.new ≡ L.faults links.old }
-        ensures always_ready { L.always_ready links.new ≡ L.always_ready links.old }
+        ensures says { SaysAsBefore L.asked L.accepted L.back L.done L.faults L.always_ready links.old links.new }
     {
         if self.tables.short {
             return Err(NoMemory);
@@ -291,12 +281,7 @@ impl<O: Out, I: In, P: Peer> Machine<O, I, P> {
         ensures rest { OnOk result (FirstRests self.new) }
         ensures same { SameTable self.old self.new × SameLinks self.old self.new }
         ensures sizes { ∥ HasSizes self.new ∥₁ }
-        ensures asked { L.asked links.new ≡ L.asked links.old }
-        ensures accepted { L.accepted links.new ≡ L.accepted links.old }
-        ensures back { L.back links.new ≡ L.back links.old }
-        ensures done { L.done links.new ≡ L.done links.old }
-        ensures faults { L.faults links.new ≡ L.faults links.old }
-        ensures always_ready { L.always_ready links.new ≡ L.always_ready links.old }
+        ensures says { SaysAsBefore L.asked L.accepted L.back L.done L.faults L.always_ready links.old links.new }
     {
         if seat == 0 {
             if self.tables.short {
@@ -319,12 +304,7 @@ impl<O: Out, I: In, P: Peer> Machine<O, I, P> {
         ensures rest { OnOk result (FirstRests self.new) }
         ensures same { SameTable self.old self.new × SameLinks self.old self.new }
         ensures sizes { ∥ HasSizes self.new ∥₁ }
-        ensures asked { L.asked links.new ≡ L.asked links.old }
-        ensures accepted { L.accepted links.new ≡ L.accepted links.old }
-        ensures back { L.back links.new ≡ L.back links.old }
-        ensures done { L.done links.new ≡ L.done links.old }
-        ensures faults { L.faults links.new ≡ L.faults links.old }
-        ensures always_ready { L.always_ready links.new ≡ L.always_ready links.old }
+        ensures says { SaysAsBefore L.asked L.accepted L.back L.done L.faults L.always_ready links.old links.new }
     {
         for _ in 0..self.most_left()? {
             if self.tick(links, seat)?.is_last(kind) {
@@ -342,12 +322,7 @@ impl<O: Out, I: In, P: Peer> Machine<O, I, P> {
         ensures still { result ≡ Ok false → Still self.old self.new × (self.new.short ≡ false) }
         ensures rest { OnOk result (FirstRests self.new) }
         ensures same { SameTable self.old self.new × SameLinks self.old self.new }
-        ensures asked { L.asked links.new ≡ L.asked links.old }
-        ensures accepted { L.accepted links.new ≡ L.accepted links.old }
-        ensures back { L.back links.new ≡ L.back links.old }
-        ensures done { L.done links.new ≡ L.done links.old }
-        ensures faults { L.faults links.new ≡ L.faults links.old }
-        ensures always_ready { L.always_ready links.new ≡ L.always_ready links.old }
+        ensures says { SaysAsBefore L.asked L.accepted L.back L.done L.faults L.always_ready links.old links.new }
     {
         let mut moved = false;
         for seat in 1..self.clients() {
@@ -369,12 +344,7 @@ impl<O: Out, I: In, P: Peer> Machine<O, I, P> {
         ensures ok { OnOk result (PlayedOn self.old self.new × (self.new.short ≡ false)) }
         ensures rest { OnOk result (FirstRests self.new) }
         ensures same { SameTable self.old self.new × SameLinks self.old self.new }
-        ensures asked { L.asked links.new ≡ L.asked links.old }
-        ensures accepted { L.accepted links.new ≡ L.accepted links.old }
-        ensures back { L.back links.new ≡ L.back links.old }
-        ensures done { L.done links.new ≡ L.done links.old }
-        ensures faults { L.faults links.new ≡ L.faults links.old }
-        ensures always_ready { L.always_ready links.new ≡ L.always_ready links.old }
+        ensures says { SaysAsBefore L.asked L.accepted L.back L.done L.faults L.always_ready links.old links.new }
     {
         for _ in 0..self.most_left()? {
             if !self.round(links)? {
@@ -410,12 +380,7 @@ impl<O: Out, I: In, P: Peer> Machine<O, I, P> {
         ensures settled { OnOk result (Settled self.old self.new) }
         ensures plan { (self.new.plan ≡ self.old.plan) × (self.new.ids.plan ≡ self.old.ids.plan) }
         ensures ends { SameLinks self.old self.new }
-        ensures asked { L.asked links.new ≡ L.asked links.old }
-        ensures accepted { L.accepted links.new ≡ L.accepted links.old }
-        ensures back { L.back links.new ≡ L.back links.old }
-        ensures done { L.done links.new ≡ L.done links.old }
-        ensures faults { L.faults links.new ≡ L.faults links.old }
-        ensures always_ready { L.always_ready links.new ≡ L.always_ready links.old }
+        ensures says { SaysAsBefore L.asked L.accepted L.back L.done L.faults L.always_ready links.old links.new }
     {
         self.play_on(links)?;
         self.begin_ending();
@@ -436,20 +401,9 @@ impl<O: Out, I: In, P: Peer> Machine<O, I, P> {
     ) -> Result<Self, NotMade<O, I, P>>
         requires script { (bytes : List ℕ) × (script_of bytes ≡ Ok script.now) }
         requires links { length ends.items ≡ length (link_names script.now) }
-        requires fresh { AllByRecursion (λ (e : _). (O.state e.out).finished ≡ false) ends.items }
-        requires unused { AllByRecursion (λ (e : _). IfSome (O.state e.out).took (λ bytes. bytes ≡ [])) ends.items }
-        requires silent { AllByRecursion (λ (e : _). ((I.state e.inn).gave ≡ 0) × IfSome (I.state e.inn).gave_bytes (λ bytes. bytes ≡ [])) ends.items }
-        requires unclosed { AllByRecursion (λ (e : _). IfSome (I.state e.inn).closing (λ closing. closing ≡ false)) ends.items }
-        ensures plan { IfOk result (λ m. (m.plan ≡ plan_of script.now) × (m.ids.plan ≡ id_plan_of script.now)) }
-        ensures opens { IfOk result (λ m. (m.opens ≡ opens script.now) × (m.calls ≡ calls script.now)) }
-        ensures agrees { IfOk result (λ m. Agrees m.links (λ k. []) × AgreesGave m.links (λ k. [])) }
-        ensures core { IfOk result (λ m. (n : ℕ) × (core_with m (λ k. []) (λ k. []) ≡ set_up script.now n)) }
-        ensures rest { IfOk result FirstRests }
-        ensures enough { IfOk result (λ m. (m.short ≡ false) × (m.ending ≡ false)) }
-        ensures ends { IfOk result (λ m. m.ends ≡ map (λ (e : _). end_of (O.state e.out) (I.state e.inn)) ends.items) }
-        ensures outs { IfOk result (λ m. AllByRecursion (λ (e : _). (O.state e.out).always_ready ≡ true) ends.items → AreAlwaysReady m.links) }
-        ensures tell { IfOk result (λ m. AllByRecursion (λ (e : _). (I.state e.inn).closing ≢ None) ends.items → TellClosing m.links) }
-        ensures offers { IfOk result (λ m. StayOffered (map (λ (e : _). O.state e.out) ends.items) (map (λ (e : _). I.state e.inn) ends.items) m.links) }
+        requires unused { AreUnused (λ (e : _). O.state e.out) (λ (e : _). I.state e.inn) ends.items }
+        ensures made { IfOk result (IsMade script.now) }
+        ensures over { IfOk result (IsOver (λ (e : _). O.state e.out) (λ (e : _). I.state e.inn) ends.items) }
         ensures back { IfErr result (λ e. e.ends ≡ ends) }
     {
         let Ok(prepared) = Prepared::of(alloc, script) else {
@@ -466,20 +420,9 @@ impl<O: Out, I: In, P: Peer> Machine<O, I, P> {
     ) -> Result<Self, NotMade<O, I, P>>
         requires script { (bytes : List ℕ) × (script_of bytes ≡ Ok script) }
         requires links { length ends.items ≡ length (link_names script) }
-        requires fresh { AllByRecursion (λ (e : _). (O.state e.out).finished ≡ false) ends.items }
-        requires unused { AllByRecursion (λ (e : _). IfSome (O.state e.out).took (λ bytes. bytes ≡ [])) ends.items }
-        requires silent { AllByRecursion (λ (e : _). ((I.state e.inn).gave ≡ 0) × IfSome (I.state e.inn).gave_bytes (λ bytes. bytes ≡ [])) ends.items }
-        requires unclosed { AllByRecursion (λ (e : _). IfSome (I.state e.inn).closing (λ closing. closing ≡ false)) ends.items }
-        ensures plan { IfOk result (λ m. (m.plan ≡ plan_of script) × (m.ids.plan ≡ id_plan_of script)) }
-        ensures opens { IfOk result (λ m. (m.opens ≡ opens script) × (m.calls ≡ calls script)) }
-        ensures agrees { IfOk result (λ m. Agrees m.links (λ k. []) × AgreesGave m.links (λ k. [])) }
-        ensures core { IfOk result (λ m. (n : ℕ) × (core_with m (λ k. []) (λ k. []) ≡ set_up script n)) }
-        ensures rest { IfOk result FirstRests }
-        ensures enough { IfOk result (λ m. (m.short ≡ false) × (m.ending ≡ false)) }
-        ensures ends { IfOk result (λ m. m.ends ≡ map (λ (e : _). end_of (O.state e.out) (I.state e.inn)) ends.items) }
-        ensures outs { IfOk result (λ m. AllByRecursion (λ (e : _). (O.state e.out).always_ready ≡ true) ends.items → AreAlwaysReady m.links) }
-        ensures tell { IfOk result (λ m. AllByRecursion (λ (e : _). (I.state e.inn).closing ≢ None) ends.items → TellClosing m.links) }
-        ensures offers { IfOk result (λ m. StayOffered (map (λ (e : _). O.state e.out) ends.items) (map (λ (e : _). I.state e.inn) ends.items) m.links) }
+        requires unused { AreUnused (λ (e : _). O.state e.out) (λ (e : _). I.state e.inn) ends.items }
+        ensures made { IfOk result (IsMade script) }
+        ensures over { IfOk result (IsOver (λ (e : _). O.state e.out) (λ (e : _). I.state e.inn) ends.items) }
         ensures back { IfErr result (λ e. e.ends ≡ ends) }
     {
         let mut machine = Machine::start(alloc, script.into_wanted(), ends)?;
@@ -497,20 +440,13 @@ impl<O: Out, I: In, P: Peer> Machine<O, I, P> {
         requires for_ { AreFor wanted.plan wanted.id_plan (map (λ (tasks : _). tasks.items) wanted.clients.items) wanted.calls.items wanted.opens.items }
         requires seats { vec_len wanted.clients ≡ wanted.plan.seats }
         requires links { (vec_len ends ≡ wanted.plan.links) × (length wanted.opens.items ≡ wanted.plan.links) }
-        requires fresh { AllByRecursion (λ (e : _). (O.state e.out).finished ≡ false) ends.items }
-        requires unused { AllByRecursion (λ (e : _). IfSome (O.state e.out).took (λ bytes. bytes ≡ [])) ends.items }
-        requires silent { AllByRecursion (λ (e : _). ((I.state e.inn).gave ≡ 0) × IfSome (I.state e.inn).gave_bytes (λ bytes. bytes ≡ [])) ends.items }
-        requires unclosed { AllByRecursion (λ (e : _). IfSome (I.state e.inn).closing (λ closing. closing ≡ false)) ends.items }
+        requires unused { AreUnused (λ (e : _). O.state e.out) (λ (e : _). I.state e.inn) ends.items }
         ensures core { IfOk result (λ m. core_with m (λ k. []) (λ k. []) ≡ beginning wanted.plan wanted.id_plan (all_programs (programs (sizes_of wanted.plan wanted.id_plan) (map (λ (tasks : _). tasks.items) wanted.clients.items)) (readers_from wanted.calls.items 0 wanted.opens.items))) }
         ensures agrees { IfOk result (λ m. Agrees m.links (λ k. []) × AgreesGave m.links (λ k. [])) }
         ensures plain { IfOk result IsPlain }
         ensures plan { IfOk result (λ m. (m.plan ≡ wanted.plan) × (m.ids.plan ≡ wanted.id_plan)) }
         ensures opens { IfOk result (λ m. (m.opens ≡ wanted.opens.items) × (m.calls ≡ wanted.calls.items)) }
-        ensures enough { IfOk result (λ m. (m.short ≡ false) × (m.ending ≡ false)) }
-        ensures ends { IfOk result (λ m. m.ends ≡ map (λ (e : _). end_of (O.state e.out) (I.state e.inn)) ends.items) }
-        ensures outs { IfOk result (λ m. AllByRecursion (λ (e : _). (O.state e.out).always_ready ≡ true) ends.items → AreAlwaysReady m.links) }
-        ensures tell { IfOk result (λ m. AllByRecursion (λ (e : _). (I.state e.inn).closing ≢ None) ends.items → TellClosing m.links) }
-        ensures offers { IfOk result (λ m. StayOffered (map (λ (e : _). O.state e.out) ends.items) (map (λ (e : _). I.state e.inn) ends.items) m.links) }
+        ensures over { IfOk result (IsOver (λ (e : _). O.state e.out) (λ (e : _). I.state e.inn) ends.items) }
         ensures err { IfErr result (λ e. e.ends ≡ ends) }
     {
         let Wanted {

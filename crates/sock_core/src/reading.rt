@@ -2,6 +2,7 @@ ghost use Rattle.std.specs.Prelude.{◌≡◌, ◌≤◌, ◌<◌, ℕ, true, fa
 ghost use Rattle.sock_io.specs.Link.{TakeStep};
 ghost use Rattle.seat_programs.specs.Ticks.{OfTake, is_nothing};
 ghost use Rattle.reader_seats.specs.GoesOn.{taking_of};
+ghost use Rattle.sock_core.specs.Linkers.{SaysAsBefore};
 ghost use Rattle.sock_core.specs.Steps.{IsSized, IsOnWord};
 ghost use Rattle.sock_core.specs.Reading.{IsNextRead, FitsRead, ReadTold, IsCutTable};
 
@@ -104,12 +105,7 @@ impl<O: Out, I: In, P: Peer> Table<O, I, P> {
         requires sized { IsSized self.old }
         ensures ok { IfOk result (λ tick. (seat : ℕ) → ReadTold self.old self.new seat reader.old reader.new (ReadStep.Aside (Aside.TakeBytes link count)) tick) }
         ensures err { OnErr result (IsCutTable self.old self.new) }
-        ensures asked { L.asked links.new ≡ L.asked links.old }
-        ensures accepted { L.accepted links.new ≡ L.accepted links.old }
-        ensures back { L.back links.new ≡ L.back links.old }
-        ensures done { L.done links.new ≡ L.done links.old }
-        ensures faults { L.faults links.new ≡ L.faults links.old }
-        ensures always_ready { L.always_ready links.new ≡ L.always_ready links.old }
+        ensures says { SaysAsBefore L.asked L.accepted L.back L.done L.faults L.always_ready links.old links.new }
     {
         // A reader takes some bytes of a link that there is.
         if usize::from(link) >= self.ends.len() || count == 0 {
@@ -150,12 +146,7 @@ impl<O: Out, I: In, P: Peer> Table<O, I, P> {
         requires sized { IsSized self.old }
         ensures ok { IfOk result (λ tick. ReadTold self.old self.new seat reader.old reader.new step tick) }
         ensures err { OnErr result (IsCutTable self.old self.new) }
-        ensures asked { L.asked links.new ≡ L.asked links.old }
-        ensures accepted { L.accepted links.new ≡ L.accepted links.old }
-        ensures back { L.back links.new ≡ L.back links.old }
-        ensures done { L.done links.new ≡ L.done links.old }
-        ensures faults { L.faults links.new ≡ L.faults links.old }
-        ensures always_ready { L.always_ready links.new ≡ L.always_ready links.old }
+        ensures says { SaysAsBefore L.asked L.accepted L.back L.done L.faults L.always_ready links.old links.new }
     {
         match step {
             ReadStep::Call(call) => self.read_call(reader, seat, call),

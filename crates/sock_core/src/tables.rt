@@ -1,4 +1,5 @@
 ghost use Rattle.std.specs.Prelude.{◌≡◌, ◌+◌, ◌<◌, ℕ, true, Some, None, IfSome, IfNone, IfOk, OnOk, OnErr, length};
+ghost use Rattle.sock_core.specs.Linkers.{SaysAsBefore};
 ghost use Rattle.sock_core.specs.Machines.{MachineState, table_of};
 ghost use Rattle.client_seats.specs.Seats.{seat_data};
 ghost use Rattle.client_seats.specs.Following.{IsPrepared};
@@ -234,12 +235,7 @@ impl<O: Out, I: In, P: Peer> Tables<O, I, P> {
         requires sized { IsSized (table_of self.old) }
         ensures ok { IfOk result (λ tick. TickRead self.old self.new (32 + link) link step tick) }
         ensures err { OnErr result (IsCutShort self.old self.new) }
-        ensures asked { L.asked links.new ≡ L.asked links.old }
-        ensures accepted { L.accepted links.new ≡ L.accepted links.old }
-        ensures back { L.back links.new ≡ L.back links.old }
-        ensures done { L.done links.new ≡ L.done links.old }
-        ensures faults { L.faults links.new ≡ L.faults links.old }
-        ensures always_ready { L.always_ready links.new ≡ L.always_ready links.old }
+        ensures says { SaysAsBefore L.asked L.accepted L.back L.done L.faults L.always_ready links.old links.new }
     {
         if !has_reader(link) {
             self.short = true;

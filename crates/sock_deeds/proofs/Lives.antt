@@ -109,8 +109,8 @@ module _ {O : Type 0} {g : Ghosts O} {state : O → OutState} {p : Plan} {client
       let w = puts_from run (name_index p n) (id.0 + 1) (run.closed.closing.found_was h.0 record { place = name_index p n; word = id.0 + 1 } h.1) in
       let b = w.0 in
       let u = done_puts p n (id.0 + 1) low g state (did_of run b) b.d.before b.d.after (done_of run b) w.1 in
-      let q : u.id.0 ≡ id.0 = (let e = u.word in omega arith) in
-      (u.link, subst (λ x. MadeHere n u.link (socket_id_slot x) (socket_id_version x)) q (made_of b n u.number u.link (socket_id_slot u.id.0) (socket_id_version u.id.0) u.did_is))
+      let q : u.1.id.0 ≡ id.0 = (let e = u.1.word in omega arith) in
+      (u.1.link, subst (λ x. MadeHere n u.1.link (socket_id_slot x) (socket_id_version x)) q (made_of b n u.0 u.1.link (socket_id_slot u.1.id.0) (socket_id_version u.1.id.0) u.1.did_is))
 
   -- a socket that was opened is of a slot of the table
   pub made_inside : (n k slot version : ℕ) → MadeHere n k slot version → slot < p.slots

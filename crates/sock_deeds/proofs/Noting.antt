@@ -28,13 +28,8 @@ use Rattle.sock_deeds.proofs.Readers.{dids_of}
 use Rattle.sock_deeds.proofs.Stores.{done_notes}
 use Rattle.sock_deeds.proofs.Tasks.{name_in, act_name, fits, is_for, same_task}
 
-link_in : Op → ℕ
-link_in (ops.Open n k) = k
-link_in other = 0
-
 one_link : (n m k l : ℕ) → ops.Open n k ≡ ops.Open m l → k ≡ l
-unfolding link_in
-one_link n m k l e = ap link_in e
+one_link n m k l e = cc
 
 module _ {O : Type 0} {g : Ghosts O} {state : O → OutState} {p : Plan} {clients : List (List Task)} {outcomes : List (Option Outcome)} {places : List PlaceWord} {vrefs : List Vref} {outs : List O} (run : DeedRun g state p clients outcomes places vrefs outs) where
   module _ (j : ℕ) (r : ReaderSeat g state p clients outcomes) (at : get_elem? run.readers j ≡ some r) (sock : SocketId) (first : get_elem? (dids_of r) 0 ≡ some (looks r.number (noted.Id sock))) where
@@ -54,9 +49,9 @@ module _ {O : Type 0} {g : Ghosts O} {state : O → OutState} {p : Plan} {client
         let b = w.0 in
         let low = (fits run r.client record { number = r.number; op = ops.Open r.name r.link } r.asked).0 in
         let u = done_notes p r.number (sock.0 + 1) low g state (did_of run b) b.d.before b.d.after (done_of run b) (λ name number link by is. act_name run b name (ap name_in is)) some_ w.1 in
-        let id : u.id.0 ≡ sock.0 = (let e = u.word in omega arith) in
-        let made = made_of run b u.name r.number u.link (socket_id_slot u.id.0) (socket_id_version u.id.0) u.did_is in
-        let is = (subst (IsFor clients outcomes b.c) u.did_is (is_for run b)).0 in
-        let same = (same_task run b.c r.client record { number = r.number; op = ops.Open u.name u.link } record { number = r.number; op = ops.Open r.name r.link } is r.asked refl).1 in
-        let link : u.link ≡ r.link = one_link u.name r.name u.link r.link (ap (λ (t : Task). t.op) same) in
-        (u.name, subst (λ l. MadeHere run u.name l (socket_id_slot sock.0) (socket_id_version sock.0)) link (subst (λ y. MadeHere run u.name u.link (socket_id_slot y) (socket_id_version y)) id made))
+        let id : u.1.id.0 ≡ sock.0 = (let e = u.1.word in omega arith) in
+        let made = made_of run b u.0 r.number u.1.link (socket_id_slot u.1.id.0) (socket_id_version u.1.id.0) u.1.did_is in
+        let is = (subst (IsFor clients outcomes b.c) u.1.did_is (is_for run b)).0 in
+        let same = (same_task run b.c r.client record { number = r.number; op = ops.Open u.0 u.1.link } record { number = r.number; op = ops.Open r.name r.link } is r.asked refl).1 in
+        let link : u.1.link ≡ r.link = one_link u.0 r.name u.1.link r.link (ap (λ (t : Task). t.op) same) in
+        (u.0, subst (λ l. MadeHere run u.0 l (socket_id_slot sock.0) (socket_id_version sock.0)) link (subst (λ y. MadeHere run u.0 u.1.link (socket_id_slot y) (socket_id_version y)) id made))

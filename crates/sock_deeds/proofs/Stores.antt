@@ -188,24 +188,29 @@ module _ (p : Plan) (x w : ℕ) where
   done_stores g state (sets id code by) s t b less = absurd (let e = set_puts id code by s.view t.view b.0 in omega arith)
   done_stores g state (returns id) s t b less = absurd (let e = others_puts s.view t.view b.0.back.became.others in omega arith)
 
+-- ## Of sockets that are opened
+
+-- an `open` of this number made a socket under this name, and the word tells its id
+pub record OpensAs (w name number : ℕ) (d : Did) : Type 0 where
+  pub link : ℕ
+  pub id : SocketId
+  pub did_is : d ≡ opens name number link (outcome.Opened (socket_id_slot id.0) (socket_id_version id.0) link)
+  pub word : w ≡ id.0 + 1
+
 -- ## At a name
 
 module _ (p : Plan) (n w : ℕ) (low : n < p.names) where
-  -- whoever stored a word at the name opened a socket under it
-  pub record Opens (d : Did) : Type 0 where
-    pub number : ℕ
-    pub link : ℕ
-    pub id : SocketId
-    pub did_is : d ≡ opens n number link (outcome.Opened (socket_id_slot id.0) (socket_id_version id.0) link)
-    pub word : w ≡ id.0 + 1
+  abbrev Opens : Did → Type 0
+  Opens d = (number : ℕ) × OpensAs w n number d
 
+  -- whoever stored a word at the name opened a socket under it
   pub done_puts : {O : Type 0} (g : Ghosts O) (state : O → OutState) (d : Did) (s t : Hand) → DoneBy g state p d s t → put_in (name_index p n) w s.view < put_in (name_index p n) w t.view → Opens d
   done_puts g state d s t b less = by_storing (done_stores p (name_index p n) w g state d s t b less)
     where
       by_name : (name number link : ℕ) (by : Outcome) → d ≡ opens name number link by → Publishes p (name_index p n) w name number link by → Opens d
       -- a name's word isn't one of an operation or of a place
       by_name name number link by is (for_number e said) = absurd (omega arith)
-      by_name name number link by is (under_name id by_is e word) = let same : name ≡ n = omega arith in record { number = number; link = link; id = id; did_is = is ∙ (λ i. opens (same i) number link (by_is i)); word = word }
+      by_name name number link by is (under_name id by_is e word) = let same : name ≡ n = omega arith in (number, record { link = link; id = id; did_is = is ∙ (λ i. opens (same i) number link (by_is i)); word = word })
 
       by_storing : Storing p (name_index p n) w state d s t → Opens d
       by_storing (by_open name number link by is u) = by_name name number link by is u
@@ -214,21 +219,17 @@ module _ (p : Plan) (n w : ℕ) (low : n < p.names) where
 -- ## At an operation
 
 module _ (p : Plan) (o w : ℕ) (low : o < p.operations) where
-  -- whoever stored an id for the operation of this number opened a socket by it, the one of that id
-  pub record OpensBy (d : Did) : Type 0 where
-    pub name : ℕ
-    pub link : ℕ
-    pub id : SocketId
-    pub did_is : d ≡ opens name o link (outcome.Opened (socket_id_slot id.0) (socket_id_version id.0) link)
-    pub word : w ≡ id.0 + 1
+  abbrev OpensBy : Did → Type 0
+  OpensBy d = (name : ℕ) × OpensAs w name o d
 
+  -- whoever stored an id for the operation of this number opened a socket by it, the one of that id
   pub done_notes : {O : Type 0} (g : Ghosts O) (state : O → OutState) (d : Did) (s t : Hand) → DoneBy g state p d s t → ((name number link : ℕ) (by : Outcome) → d ≡ opens name number link by → name < p.names) → w ≢ NOTHING → put_in (open_index p o) w s.view < put_in (open_index p o) w t.view → OpensBy d
   done_notes g state d s t b named some_ less = by_storing (done_stores p (open_index p o) w g state d s t b less)
     where
       by_open_of : (name number link : ℕ) (by : Outcome) → d ≡ opens name number link by → name < p.names → Publishes p (open_index p o) w name number link by → OpensBy d
       by_open_of name number link by is low_name (for_number e (inl said)) =
           let same : number ≡ o = omega arith in
-          record { name = name; link = link; id = said.0; did_is = is ∙ (λ i. opens name (same i) link (said.1 i)); word = said.2 }
+          (name, record { link = link; id = said.0; did_is = is ∙ (λ i. opens name (same i) link (said.1 i)); word = said.2 })
       by_open_of name number link by is low_name (for_number e (inr none_)) = absurd (some_ none_)
       -- an operation's word isn't one of a name or of a place
       by_open_of name number link by is low_name (under_name id by_is e word) = absurd (omega arith)

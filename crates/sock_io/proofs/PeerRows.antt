@@ -1,5 +1,5 @@
 -- Steps of an other end on worked values, and steps that there aren't.
-use Rattle.std.proofs.Common.{◌≡◌, ◌≢◌, inl, inr, Bool, true, false, [], ◌∷◌, length, Some, None, Ok, Err, refl, ap, arith}
+use Rattle.std.proofs.Common.{◌≡◌, ◌≢◌, inl, inr, Bool, true, false, [], ◌∷◌, length, Some, None, Ok, Err, refl, ap, arith, rules}
 use Rattle.sock_io.specs.declared.ending.Ending.{Ending}
 use Rattle.sock_io.specs.declared.ending.Ending.TheVariants as ending
 use Rattle.sock_io.specs.declared.link.Served.TheVariants as served
@@ -22,21 +22,7 @@ ended = record { present = true; serve = true; end = None; way_in = []; way_out 
 
 -- three bytes come in and two go out, and behind them stands this
 came : (last : Ending) (starved : Bool) → last ≢ ending.Closed → Moved fresh (record answered { ending = last; starved = starved })
-came last starved unclosed = (
-  1 ∷ 2 ∷ 3 ∷ [],
-  7 ∷ 8 ∷ [],
-  record {
-    present = refl;
-    asked = (refl, refl);
-    ways = (refl, refl);
-    took = record { count = refl; known = refl };
-    gave = record { count = refl; known = refl };
-    finished = λ e. cc;
-    ended = λ e. absurd (e refl);
-    closed = λ e. absurd (unclosed e);
-    absent = λ e. cc;
-  },
-)
+came last starved unclosed = (1 ∷ 2 ∷ 3 ∷ [], 7 ∷ 8 ∷ [], search (rules, unclosed))
 
 moves_bytes : ServeStep fresh (Ok served.Moved) answered
 moves_bytes = (
@@ -50,25 +36,7 @@ waits : ServeStep answered (Ok served.Waiting) answered
 waits = (refl, refl)
 
 closes : ServeStep answered (Ok served.Done) closed
-closes = (
-  (
-    [],
-    [],
-    record {
-      present = refl;
-      asked = (refl, refl);
-      ways = (refl, refl);
-      took = record { count = refl; known = refl };
-      gave = record { count = refl; known = refl };
-      finished = λ e. cc;
-      ended = λ e. absurd (e refl);
-      closed = λ e. refl;
-      absent = λ e. cc;
-    },
-  ),
-  refl,
-  refl,
-)
+closes = (([], [], search rules), refl, refl)
 
 gives_its_end : ServeStep fresh (Err record {}) ended
 gives_its_end = (

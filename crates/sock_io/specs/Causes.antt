@@ -1,5 +1,7 @@
 -- Counts of faults, and when a failure may be answered.
-use Rattle.std.specs.Prelude.{ℕ, ◌≡◌, ◌+◌, ◌-◌, ◌^◌, ◌≤◌, min, OnErr, OnOk, Result}
+use Rattle.std.specs.Prelude.{ℕ, ◌≡◌, ◌+◌, ◌-◌, ◌^◌, ◌≤◌, min, IsErrOf, OnErr, OnOk, Result}
+use Rattle.sock_io.specs.declared.link.OpenFault.{OpenFault}
+use Rattle.sock_io.specs.declared.link.OpenFault.TheVariants as opening
 
 -- the count rose, or stands at its last value
 abbrev pub Rose : ℕ → ℕ → Type 0
@@ -14,3 +16,9 @@ pub record HasCause {T E : Type 0} (before now : ℕ) (result : Result T E) : Ty
   pub later : before ≤ now
   pub failed : OnErr result (Rose before now)
   pub kept : OnOk result (now ≡ before)
+
+-- the same of a link that is opened or a connection that is accepted: want of memory is no failure
+pub record OpenCause {T : Type 0} (before now : ℕ) (result : Result T OpenFault) : Type 0 where
+  pub later : before ≤ now
+  pub failed : IsErrOf result opening.Failed → Rose before now
+  pub kept : (¬ IsErrOf result opening.Failed) → now ≡ before

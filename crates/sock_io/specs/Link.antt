@@ -286,6 +286,20 @@ pub record ConnectionEnd : Type 0 where
   pub take_faults : ℕ
   pub gave_end : Bool
 
+-- what was asked of each link that a linker opened, in order, how many connections it accepted, the links and the connections given back, in order, its
+-- count of faults, and whether `ready` never answers `NotYet` on its links in mode `Loop`
+pub record LinkerState : Type 0 where
+  pub asked : List LinkSpec
+  pub accepted : ℕ
+  pub back : List LinkEnd
+  pub done : List ConnectionEnd
+  pub faults : ℕ
+  pub always_ready : Bool
+
+-- where these links were asked for, one may be asked for so: a put takes a byte at least, and there are at most 256
+abbrev pub MayOpen : List LinkSpec → LinkSpec → Type 0
+MayOpen asked spec = (0 < spec.piece) × (length asked < 256)
+
 -- the connection that these halves are, as it is given back
 abbrev pub connection_of : OutState → InState → ConnectionEnd
 connection_of out inn = record { took = out.took; put_faults = out.faults; gave = inn.gave_bytes; gave_count = inn.gave; take_faults = inn.faults; gave_end = inn.gave_end }

@@ -1,11 +1,11 @@
 -- Sources, sinks and links in memory, by what callers see of them.
-use Rattle.std.specs.Prelude.{ℕ, List, [], ◌∷◌, length, min, Bool, false, true, None, Some}
+use Rattle.std.specs.Prelude.{ℕ, ◌≡◌, List, [], ◌∷◌, ◌++◌, length, min, Bool, false, true, None, Some}
 use Rattle.sock_io.specs.declared.ending.Ending.{Ending}
 use Rattle.sock_io.specs.declared.ending.Ending.TheVariants as ending
 use Rattle.sock_io.specs.declared.link.Take.{Take}
 use Rattle.sock_io.specs.declared.link.Take.TheVariants as take_
 use Rattle.brpc_model.specs.Link.{TakeAnswer}
-use Rattle.sock_io.specs.Link.{InState}
+use Rattle.sock_io.specs.Link.{InState, TakeStep}
 
 -- what a source will give, the numbers of its calls that fail, how many calls were made, and its count of faults
 pub record SourceState : Type 0 where
@@ -52,6 +52,13 @@ take_answer (b ∷ bytes) ending room = take_.Took (min (length (b ∷ bytes)) r
 take_answer [] ending.Open room = take_.Empty
 take_answer [] ending.Ended room = take_.End
 take_answer [] ending.Closed room = take_.Closed
+
+-- a take gives that many of the bytes that wait, from their front, into a room of this size, which then stands so; and what comes behind them stays
+pub record TakesWaiting (old new : MemInState) (size : ℕ) (room : List ℕ) (result : Take) : Type 0 where
+  pub step : TakeStep (mem_in old) (mem_in new) room result
+  pub answer : result ≡ take_answer old.waiting old.ending size
+  pub bytes : new.given ++ new.waiting ≡ old.given ++ old.waiting
+  pub ending : new.ending ≡ old.ending
 
 -- a half whose other end closes: one that gave its end keeps it
 abbrev pub closing : Ending → Ending

@@ -1,7 +1,6 @@
 ghost use Rattle.std.specs.Prelude.{◌≡◌, ◌<◌, ◌++◌, IfOk, OnErr, OnOk, length};
 ghost use Rattle.sock_io.specs.Giving.{before_bytes, bytes_and_end, give_in, with_bytes, with_closing};
-ghost use Rattle.sock_io.specs.Link.{TakeStep};
-ghost use Rattle.sock_io.specs.Memory.{take_answer};
+ghost use Rattle.sock_io.specs.Memory.{TakesWaiting};
 
 use crate::ending::Ending;
 use crate::link::{In, Take};
@@ -83,10 +82,7 @@ impl In for GiveIn {
 
     fn take(&mut self, room: &mut [u8]) -> Take
         requires { 0 < length room.old }
-        ensures step { TakeStep (give_in self.old) (give_in self.new) room.new result }
-        ensures answer { result ≡ take_answer self.old.half.waiting self.old.half.ending (length room.old) }
-        ensures bytes { self.new.half.given ++ self.new.half.waiting ≡ self.old.half.given ++ self.old.half.waiting }
-        ensures ending { self.new.half.ending ≡ self.old.half.ending }
+        ensures half { TakesWaiting self.old.half self.new.half (length room.old) room.new result }
         ensures waits { self.new.waits ≡ self.old.waits }
     {
         self.inner.take(room)

@@ -1,11 +1,11 @@
 ghost use Rattle.std.specs.Prelude.{false, ◌≡◌, ◌+◌, ◌<◌, ◌∷◌, ◌++◌, true, [], length, IfOk, IsErrOf, OnErr, OnOk};
 ghost use Rattle.sock_io.specs.Giving.{before_bytes, bytes_and_end, give_in, settled_in};
-ghost use Rattle.sock_io.specs.Link.{SettleStep, connection_of, end_of};
+ghost use Rattle.sock_io.specs.Link.{MayOpen, SettleStep, connection_of, end_of};
 ghost use Rattle.sock_io.specs.Linker.{new_half, plain_shape, shape_asked};
 ghost use Rattle.sock_io.specs.Shape.{shaped_out};
 
 use crate::give_in::GiveIn;
-use crate::link::{Ends, LinkSpec, Linker, OpenFault, Out};
+use crate::link::{Ends, LinkSpec, Linker, LinkerTells, OpenFault, Out};
 use crate::mem_link::{MemOut, NoPeer};
 use crate::mem_links::MemLinks;
 use crate::shape::Shape;
@@ -55,6 +55,10 @@ impl GiveLinker {
     }
 }
 
+impl LinkerTells for GiveLinker {
+    ghost state = { λ l. record { asked = l.asked; accepted = l.accepted; back = l.back; done = l.done; faults = 0; always_ready = true } };
+}
+
 impl Linker for GiveLinker {
     type O = Shaped<MemOut>;
 
@@ -62,23 +66,8 @@ impl Linker for GiveLinker {
 
     type P = NoPeer;
 
-    ghost asked = { λ l. l.asked };
-
-    ghost accepted = { λ l. l.accepted };
-
-    ghost back = { λ l. l.back };
-
-    ghost done = { λ l. l.done };
-
-    ghost faults = { λ _. 0 };
-
-    ghost always_ready = { λ _. true };
-
-    ghost tells_in = { λ _. false };
-
     fn open(&mut self, spec: &LinkSpec) -> Result<Link, OpenFault>
-        requires piece { 0 < spec.now.piece }
-        requires few { length self.old.asked < 256 }
+        requires { MayOpen self.old.asked spec.now }
         ensures out { IfOk result (λ ends. ends.out ≡ new_half (length self.old.asked) (shape_asked spec.now)) }
         ensures inn { IfOk result (λ ends. ends.inn ≡ before_bytes) }
         ensures linker { IfOk result (λ _. self.new ≡ record self.old { asked = self.old.asked ++ spec.now ∷ [] }) }

@@ -25,14 +25,14 @@ pub use ending::Ending;
 pub use give_in::GiveIn;
 pub use give_linker::GiveLinker;
 pub use link::{
-    Ends, Gate, In, LinkSpec, Linker, Mode, OpenFault, OpenGate, Out, Peer, Put, Ready, Served,
-    Take,
+    Ends, Gate, In, LinkSpec, Linker, LinkerTells, LinkerTold, Mode, OpenFault, OpenGate, Out,
+    Peer, Put, Ready, Served, Take,
 };
 pub use mem_link::{MemIn, MemOut, NoPeer};
 pub use mem_links::MemLinks;
 pub use mem_sink::MemSink;
 pub use mem_source::MemSource;
-pub use noted_links::NotedLinks;
+pub use noted_links::{NotedLinks, noted};
 pub use shape::Shape;
 pub use shaped::Shaped;
 pub use sink_linker::SinkLinker;

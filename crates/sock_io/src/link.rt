@@ -1,8 +1,8 @@
-ghost use Rattle.std.specs.Prelude.{◌≡◌, ◌≢◌, ℕ, ◌+◌, ◌<◌, ◌≤◌, ◌∷◌, ◌++◌, [], Bool, true, List, length, IfOk, IfSome, IsErrOf, OnErr, OnOk, IsTrue, None};
+ghost use Rattle.std.specs.Prelude.{◌≡◌, ◌≢◌, ℕ, ◌+◌, ◌<◌, ◌≤◌, ◌∷◌, ◌++◌, [], Bool, true, false, List, length, IfOk, IfSome, IsErrOf, OnErr, OnOk, IsTrue, None};
 ghost use Rattle.std.specs.List.{AllByRecursion};
 ghost use Rattle.brpc_model.specs.Link.{LinkEnd};
 ghost use Rattle.sock_io.specs.Causes.{Rose};
-ghost use Rattle.sock_io.specs.Link.{OutState, InState, PutStep, ReadyStep, FinishStep, TakeStep, SettleStep, IsSettled, IsNewOffer, IsFresh, IsUnused, ConnectionEnd, end_of, connection_of};
+ghost use Rattle.sock_io.specs.Link.{OutState, InState, PutStep, ReadyStep, FinishStep, TakeStep, SettleStep, IsSettled, IsNewOffer, IsFresh, IsUnused, ConnectionEnd, LinkerState, MayOpen, end_of, connection_of};
 ghost use Rattle.sock_io.specs.Meeting.{AreEnds, IsAskedPeer, MeetOut, MeetStep};
 ghost use Rattle.sock_io.specs.Peer.{PeerState, ServeStep, IsNewPeer};
 
@@ -159,18 +159,14 @@ pub enum OpenFault {
     NoMemory,
 }
 
-/// Opens links, numbered from 0, and accepts connections; and takes both back. At most 256 of each.
-///
-/// Its count of faults never falls: it rises where a call answers `Failed`, and stands still otherwise.
-pub trait Linker {
+/// All that is told of a linker, for the proofs.
+pub trait LinkerTells {
+    ghost state: { Self → LinkerState };
+}
+
+/// The parts of that, which contracts name.
+pub trait LinkerTold {
     ghost use Rattle.sock_io.specs.declared.link.LinkSpec.{LinkSpec};
-    ghost use Rattle.sock_io.specs.declared.link.Mode.{Mode};
-
-    type O: Out + Send;
-
-    type I: In + Send;
-
-    type P: Peer + Send;
 
     /// What was asked of each link that was opened, in order.
     ghost asked: { Self → List LinkSpec };
@@ -188,31 +184,57 @@ pub trait Linker {
 
     /// Whether `ready` never answers `NotYet` on its links in mode `Loop`.
     ghost always_ready: { Self → Bool };
+}
+
+impl<L: LinkerTells> LinkerTold for L {
+    ghost asked = { λ l. (L.state l).asked };
+
+    ghost accepted = { λ l. (L.state l).accepted };
+
+    ghost back = { λ l. (L.state l).back };
+
+    ghost done = { λ l. (L.state l).done };
+
+    ghost faults = { λ l. (L.state l).faults };
+
+    ghost always_ready = { λ l. (L.state l).always_ready };
+}
+
+/// Opens links, numbered from 0, and accepts connections; and takes both back. At most 256 of each.
+///
+/// Its count of faults never falls: it rises where a call answers `Failed`, and stands still otherwise.
+pub trait Linker: LinkerTold {
+    ghost use Rattle.sock_io.specs.declared.link.Mode.{Mode};
+
+    type O: Out + Send;
+
+    type I: In + Send;
+
+    type P: Peer + Send;
 
     /// Whether links in this mode have other ends inside this process, and tell what these offered once they have ended and
     /// the ends are compared (`meet`), but not before: which way their bytes come is known.
-    ghost tells_in: { Mode → Bool };
+    ghost tells_in: { Mode → Bool } = { λ _. false };
 
     /// Opens the next link, and reserves the room for its `back`.
     fn open(&mut self, spec: &LinkSpec) -> Result<Ends<Self::O, Self::I, Self::P>, OpenFault>
-        requires piece { 0 < spec.now.piece }
-        requires few { length (asked self.old) < 256 }
-        ensures fresh { IfOk result (λ ends. IsFresh (Self.O.state ends.out) (Self.I.state ends.inn) (length (asked self.old))) }
+        requires { MayOpen (Self.asked self.old) spec.now }
+        ensures fresh { IfOk result (λ ends. IsFresh (Self.O.state ends.out) (Self.I.state ends.inn) (length (Self.asked self.old))) }
         ensures peer { IfOk result (λ ends. IsNewPeer (Self.P.state ends.peer)) }
         ensures offer { IfOk result (λ ends. IfSome (Self.I.state ends.inn).offer (λ o. IsNewOffer spec.now o)) }
         ensures one { IfOk result (λ ends. AreEnds (Self.O.state ends.out) (Self.P.state ends.peer) (Self.I.state ends.inn)) }
         ensures other { IfOk result (λ ends. IsAskedPeer spec.now (Self.P.state ends.peer)) }
         ensures tells { IfOk result (λ ends. tells_in spec.now.mode ≡ true → ((Self.I.state ends.inn).way ≢ []) × ((Self.I.state ends.inn).offer ≡ None) × ((Self.P.state ends.peer).present ≡ true)) }
-        ensures always_ready { IfOk result (λ ends. always_ready self.old ≡ true → spec.now.mode ≡ Mode.Loop → (Self.O.state ends.out).always_ready ≡ true) }
-        ensures asked { IfOk result (λ _. asked self.new ≡ asked self.old ++ spec.now ∷ []) }
-        ensures refused { OnErr result (asked self.new ≡ asked self.old) }
-        ensures accepted { accepted self.new ≡ accepted self.old }
-        ensures back { back self.new ≡ back self.old }
-        ensures done { done self.new ≡ done self.old }
-        ensures stays_prompt { always_ready self.new ≡ always_ready self.old }
-        ensures later { faults self.old ≤ faults self.new }
-        ensures failed { IsErrOf result OpenFault.Failed → Rose (faults self.old) (faults self.new) }
-        ensures kept { (¬ IsErrOf result OpenFault.Failed) → faults self.new ≡ faults self.old };
+        ensures always_ready { IfOk result (λ ends. Self.always_ready self.old ≡ true → spec.now.mode ≡ Mode.Loop → (Self.O.state ends.out).always_ready ≡ true) }
+        ensures asked { IfOk result (λ _. Self.asked self.new ≡ Self.asked self.old ++ spec.now ∷ []) }
+        ensures refused { OnErr result (Self.asked self.new ≡ Self.asked self.old) }
+        ensures accepted { Self.accepted self.new ≡ Self.accepted self.old }
+        ensures back { Self.back self.new ≡ Self.back self.old }
+        ensures done { Self.done self.new ≡ Self.done self.old }
+        ensures stays_prompt { Self.always_ready self.new ≡ Self.always_ready self.old }
+        ensures later { Self.faults self.old ≤ Self.faults self.new }
+        ensures failed { IsErrOf result OpenFault.Failed → Rose (Self.faults self.old) (Self.faults self.new) }
+        ensures kept { (¬ IsErrOf result OpenFault.Failed) → Self.faults self.new ≡ Self.faults self.old };
 
     /// Has a link's other end in memory answer what the link took since the last call, and close its half once the
     /// link was finished. Behind it the link is offered what belongs to all that it took. Other kinds of link do nothing
@@ -223,12 +245,12 @@ pub trait Linker {
         ensures inn { SettleStep (Self.O.state ends.old.out) (Self.I.state ends.old.inn) (Self.I.state ends.new.inn) }
         ensures settled { OnOk result (IsSettled (Self.O.state ends.old.out) (Self.I.state ends.old.inn) (Self.I.state ends.new.inn)) }
         ensures err { OnErr result ((self.new ≡ self.old) × (ends.new ≡ ends.old)) }
-        ensures asked { asked self.new ≡ asked self.old }
-        ensures accepted { accepted self.new ≡ accepted self.old }
-        ensures back { back self.new ≡ back self.old }
-        ensures done { done self.new ≡ done self.old }
-        ensures stays_prompt { always_ready self.new ≡ always_ready self.old }
-        ensures faults { faults self.new ≡ faults self.old };
+        ensures asked { Self.asked self.new ≡ Self.asked self.old }
+        ensures accepted { Self.accepted self.new ≡ Self.accepted self.old }
+        ensures back { Self.back self.new ≡ Self.back self.old }
+        ensures done { Self.done self.new ≡ Self.done self.old }
+        ensures stays_prompt { Self.always_ready self.new ≡ Self.always_ready self.old }
+        ensures faults { Self.faults self.new ≡ Self.faults self.old };
 
     /// Compares the ends of a link, once nobody else moves them: what its other end offers may become known by that.
     /// Besides that, what is told of the halves stays as it is. Most kinds of link do
@@ -238,50 +260,50 @@ pub trait Linker {
         ensures out { MeetOut (Self.O.state ends.old.out) (Self.O.state ends.new.out) }
         ensures peer { Self.P.state ends.new.peer ≡ Self.P.state ends.old.peer }
         ensures inn { MeetStep (Self.O.state ends.old.out) (Self.P.state ends.old.peer) (Self.I.state ends.old.inn) (Self.I.state ends.new.inn) }
-        ensures asked { asked self.new ≡ asked self.old }
-        ensures accepted { accepted self.new ≡ accepted self.old }
-        ensures back { back self.new ≡ back self.old }
-        ensures done { done self.new ≡ done self.old }
-        ensures stays_prompt { always_ready self.new ≡ always_ready self.old }
-        ensures faults { faults self.new ≡ faults self.old };
+        ensures asked { Self.asked self.new ≡ Self.asked self.old }
+        ensures accepted { Self.accepted self.new ≡ Self.accepted self.old }
+        ensures back { Self.back self.new ≡ Self.back self.old }
+        ensures done { Self.done self.new ≡ Self.done self.old }
+        ensures stays_prompt { Self.always_ready self.new ≡ Self.always_ready self.old }
+        ensures faults { Self.faults self.new ≡ Self.faults self.old };
 
     /// Accepts the next connection, and reserves the room for its `done`. The first call listens on 127.0.0.1 at the
     /// port.
     fn accept(&mut self, port: u16) -> Result<(Self::O, Self::I), OpenFault>
-        requires { accepted self.old < 256 }
+        requires { Self.accepted self.old < 256 }
         ensures fresh { IfOk result (λ halves. IsUnused (Self.O.state halves.0) (Self.I.state halves.1)) }
-        ensures accepted { IfOk result (λ _. accepted self.new ≡ accepted self.old + 1) }
-        ensures refused { OnErr result (accepted self.new ≡ accepted self.old) }
-        ensures asked { asked self.new ≡ asked self.old }
-        ensures back { back self.new ≡ back self.old }
-        ensures done { done self.new ≡ done self.old }
-        ensures stays_prompt { always_ready self.new ≡ always_ready self.old }
-        ensures later { faults self.old ≤ faults self.new }
-        ensures failed { IsErrOf result OpenFault.Failed → Rose (faults self.old) (faults self.new) }
-        ensures kept { (¬ IsErrOf result OpenFault.Failed) → faults self.new ≡ faults self.old };
+        ensures accepted { IfOk result (λ _. Self.accepted self.new ≡ Self.accepted self.old + 1) }
+        ensures refused { OnErr result (Self.accepted self.new ≡ Self.accepted self.old) }
+        ensures asked { Self.asked self.new ≡ Self.asked self.old }
+        ensures back { Self.back self.new ≡ Self.back self.old }
+        ensures done { Self.done self.new ≡ Self.done self.old }
+        ensures stays_prompt { Self.always_ready self.new ≡ Self.always_ready self.old }
+        ensures later { Self.faults self.old ≤ Self.faults self.new }
+        ensures failed { IsErrOf result OpenFault.Failed → Rose (Self.faults self.old) (Self.faults self.new) }
+        ensures kept { (¬ IsErrOf result OpenFault.Failed) → Self.faults self.new ≡ Self.faults self.old };
 
     /// Takes a connection back.
     fn done(&mut self, out: Self::O, inn: Self::I)
-        requires { length (done self.old) < accepted self.old }
-        ensures done { done self.new ≡ done self.old ++ connection_of (Self.O.state out) (Self.I.state inn) ∷ [] }
-        ensures asked { asked self.new ≡ asked self.old }
-        ensures accepted { accepted self.new ≡ accepted self.old }
-        ensures back { back self.new ≡ back self.old }
-        ensures stays_prompt { always_ready self.new ≡ always_ready self.old }
-        ensures faults { faults self.new ≡ faults self.old };
+        requires { length (Self.done self.old) < Self.accepted self.old }
+        ensures done { Self.done self.new ≡ Self.done self.old ++ connection_of (Self.O.state out) (Self.I.state inn) ∷ [] }
+        ensures asked { Self.asked self.new ≡ Self.asked self.old }
+        ensures accepted { Self.accepted self.new ≡ Self.accepted self.old }
+        ensures back { Self.back self.new ≡ Self.back self.old }
+        ensures stays_prompt { Self.always_ready self.new ≡ Self.always_ready self.old }
+        ensures faults { Self.faults self.new ≡ Self.faults self.old };
 
     /// Takes a link back, which was opened and not given back before.
     fn back(&mut self, link: u16, ends: Ends<Self::O, Self::I, Self::P>)
-        requires opened { link < length (asked self.old) }
+        requires opened { link < length (Self.asked self.old) }
         requires own { (Self.O.state ends.out).link ≡ link }
-        requires once { AllByRecursion (λ (e : LinkEnd). e.link ≢ link) (back self.old) }
-        requires fewer { length (back self.old) < length (asked self.old) }
-        ensures back { back self.new ≡ back self.old ++ end_of (Self.O.state ends.out) (Self.I.state ends.inn) ∷ [] }
-        ensures done { done self.new ≡ done self.old }
-        ensures asked { asked self.new ≡ asked self.old }
-        ensures accepted { accepted self.new ≡ accepted self.old }
-        ensures stays_prompt { always_ready self.new ≡ always_ready self.old }
-        ensures faults { faults self.new ≡ faults self.old };
+        requires once { AllByRecursion (λ (e : LinkEnd). e.link ≢ link) (Self.back self.old) }
+        requires fewer { length (Self.back self.old) < length (Self.asked self.old) }
+        ensures back { Self.back self.new ≡ Self.back self.old ++ end_of (Self.O.state ends.out) (Self.I.state ends.inn) ∷ [] }
+        ensures done { Self.done self.new ≡ Self.done self.old }
+        ensures asked { Self.asked self.new ≡ Self.asked self.old }
+        ensures accepted { Self.accepted self.new ≡ Self.accepted self.old }
+        ensures stays_prompt { Self.always_ready self.new ≡ Self.always_ready self.old }
+        ensures faults { Self.faults self.new ≡ Self.faults self.old };
 }
 
 /// Where a client may be made to wait before an operation.

@@ -1,11 +1,12 @@
 ghost use Rattle.std.specs.Prelude.{◌≡◌, ℕ, ◌<◌, ◌++◌, ◌∷◌, [], Some, Ok, None, false, true, OnErr, OnOk, drop, length, take};
 ghost use Rattle.sock_io.specs.Link.{TakeStep, of_take};
-ghost use Rattle.sock_io.specs.Memory.{mem_in, empty_in, take_answer, closing};
+ghost use Rattle.sock_io.specs.Memory.{TakesWaiting, mem_in, empty_in, take_answer, closing};
 ghost use Rattle.sock_io.specs.Peer.{no_peer};
 
 use crate::ending::Ending;
 use crate::link::{In, Out, Peer, Put, Ready, Served, Take};
 use crate::mem_source::{copy_front, from_place};
+use crate::noted_links::noted;
 use crate::stream::NoMemory;
 use ghosts::Ghosts;
 use std::alloc::Global;
@@ -158,9 +159,7 @@ impl MemIn {
     fn note(&mut self, answer: Take)
         ensures { self.new ≡ record self.old { takes = self.old.takes ++ of_take answer ∷ [] } }
     {
-        let before: Ghosts<Take> = Ghosts::of(&self.takes);
-        let with = (before, answer);
-        self.takes = Ghosts::of(&with);
+        self.takes = noted(&self.takes, answer);
     }
 }
 
@@ -169,10 +168,7 @@ impl In for MemIn {
 
     fn take(&mut self, room: &mut [u8]) -> Take
         requires { 0 < length room.old }
-        ensures step { TakeStep (mem_in self.old) (mem_in self.new) room.new result }
-        ensures answer { result ≡ take_answer self.old.waiting self.old.ending (length room.old) }
-        ensures bytes { self.new.given ++ self.new.waiting ≡ self.old.given ++ self.old.waiting }
-        ensures ending { self.new.ending ≡ self.old.ending }
+        ensures { TakesWaiting self.old self.new (length room.old) room.new result }
     {
         let answer = self.answer_take(room);
         self.note(answer);

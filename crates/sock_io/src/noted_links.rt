@@ -5,8 +5,8 @@ use crate::link::{Ends, In, LinkSpec, Out, Peer};
 use ghosts::Ghosts;
 use std::marker::Model;
 
-/// A list with one more behind.
-fn noted<V: Drop>(list: &Ghosts<V>, one: V) -> Ghosts<V>
+/// A list that is kept for the proofs, with one more behind.
+pub fn noted<V: Drop>(list: &Ghosts<V>, one: V) -> Ghosts<V>
     ensures { result.list ≡ list.now.list ++ one ∷ [] }
 {
     let before: Ghosts<V> = Ghosts::of(list);

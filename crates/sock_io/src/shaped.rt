@@ -8,6 +8,7 @@ ghost use Rattle.sock_io.specs.Shape.{FollowsShape, answer_at, shaped_out};
 use crate::answered::Answered;
 use crate::counts::{next_call, risen};
 use crate::link::{Out, Put, Ready};
+use crate::noted_links::noted;
 use crate::shape::{Shape, does_fail, does_pause};
 use crate::stream::NoMemory;
 use ghosts::Ghosts;
@@ -151,9 +152,7 @@ impl<O: Out> Shaped<O> {
     fn note(&mut self, answer: Answered)
         ensures { self.new ≡ record self.old { answers = self.old.answers ++ half_answer answer ∷ [] } }
     {
-        let before: Ghosts<Answered> = Ghosts::of(&self.answers);
-        let with = (before, answer);
-        self.answers = Ghosts::of(&with);
+        self.answers = noted(&self.answers, answer);
     }
 }
 

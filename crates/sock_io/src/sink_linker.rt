@@ -1,12 +1,12 @@
-ghost use Rattle.std.specs.Prelude.{◌≡◌, ◌↔◌, ◌+◌, ◌≤◌, ◌<◌, ◌∷◌, ◌++◌, true, false, [], length, Contains, IfOk, IsErrOf, OnErr, Ok};
-ghost use Rattle.sock_io.specs.Causes.{Rose, next_number};
-ghost use Rattle.sock_io.specs.Link.{connection_of, end_of};
+ghost use Rattle.std.specs.Prelude.{◌≡◌, ◌↔◌, ◌+◌, ◌<◌, ◌∷◌, ◌++◌, true, false, [], length, Contains, IfOk, IsErrOf, OnErr, Ok};
+ghost use Rattle.sock_io.specs.Causes.{OpenCause, next_number};
+ghost use Rattle.sock_io.specs.Link.{MayOpen, connection_of, end_of};
 ghost use Rattle.sock_io.specs.Linker.{new_half, plain_shape, shape_of};
 ghost use Rattle.sock_io.specs.Memory.{closing, empty_in, mem_in};
 ghost use Rattle.sock_io.specs.Shape.{shaped_out};
 
 use crate::ending::Ending;
-use crate::link::{Ends, LinkSpec, Linker, OpenFault};
+use crate::link::{Ends, LinkSpec, Linker, LinkerTells, OpenFault};
 use crate::mem_link::{MemIn, MemOut, NoPeer};
 use crate::mem_links::MemLinks;
 use crate::shape::Shape;
@@ -51,6 +51,10 @@ impl SinkLinker {
     }
 }
 
+impl LinkerTells for SinkLinker {
+    ghost state = { λ l. record { asked = l.links.asked; accepted = l.links.accepted; back = l.links.back; done = l.links.done; faults = l.links.faults; always_ready = true } };
+}
+
 impl Linker for SinkLinker {
     type O = Shaped<MemOut>;
 
@@ -58,30 +62,13 @@ impl Linker for SinkLinker {
 
     type P = NoPeer;
 
-    ghost asked = { λ l. l.links.asked };
-
-    ghost accepted = { λ l. l.links.accepted };
-
-    ghost back = { λ l. l.links.back };
-
-    ghost done = { λ l. l.links.done };
-
-    ghost faults = { λ l. l.links.faults };
-
-    ghost always_ready = { λ _. true };
-
-    ghost tells_in = { λ _. false };
-
     fn open(&mut self, spec: &LinkSpec) -> Result<Link, OpenFault>
-        requires piece { 0 < spec.now.piece }
-        requires few { length self.old.links.asked < 256 }
+        requires { MayOpen self.old.links.asked spec.now }
         ensures out { IfOk result (λ ends. ends.out ≡ new_half (length self.old.links.asked) (shape_of spec.now self.old.fail_put)) }
         ensures inn { IfOk result (λ ends. ends.inn ≡ empty_in Ending.Open) }
         ensures linker { IfOk result (λ _. self.new ≡ record self.old { links = record self.old.links { asked = self.old.links.asked ++ spec.now ∷ []; calls = next_number self.old.links.calls } }) }
         ensures refused { OnErr result (self.new ≡ record self.old { links = record self.old.links { calls = next_number self.old.links.calls; faults = self.new.links.faults } }) }
-        ensures later { self.old.links.faults ≤ self.new.links.faults }
-        ensures failed { IsErrOf result OpenFault.Failed → Rose self.old.links.faults self.new.links.faults }
-        ensures kept { (¬ IsErrOf result OpenFault.Failed) → self.new.links.faults ≡ self.old.links.faults }
+        ensures cause { OpenCause self.old.links.faults self.new.links.faults result }
         ensures failed_at { IsErrOf result OpenFault.Failed ↔ Contains self.old.links.fail_opens (next_number self.old.links.calls) }
     {
         let fail = if spec.fail == 0 {

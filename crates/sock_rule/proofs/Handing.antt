@@ -20,14 +20,16 @@ use Rattle.sock_rule.specs.Rows.{dropped_at}
 use Rattle.sock_rule.specs.ChainPlays.{TookOwn, TookLetter}
 use Rattle.sock_rule.specs.Faults.{faults_of, fault_found, fault_left}
 use Rattle.sock_rule.specs.Shows.{shows, rose, heading_of, way_at, number_in, shows_in}
+use Rattle.sock_rule.specs.OnKey.{LinkOnTop}
 use Rattle.sock_rule.specs.Plays.{TookLink}
 use Rattle.sock_rule.proofs.Ways.{own_number}
 
-abbrev number : Home → ℕ
+-- what a link's home shows
+abbrev pub number : Home → ℕ
 number (home.Link k took next done) = k
 number _ = 0
 
-abbrev bytes : Home → List ℕ
+abbrev pub bytes : Home → List ℕ
 bytes (home.Link k took next done) = took
 bytes _ = []
 
@@ -39,40 +41,65 @@ abbrev is_link : Home → ℕ
 is_link (home.Link k took next done) = 1
 is_link _ = 0
 
+abbrev pub is_done : Home → Bool
+is_done (home.Link k took next done) = done
+is_done _ = true
+
 abbrev top : {S : Type 0} → S → List (ℕ × S) → S
 top d [] = d
 top d (c ∷ cs) = c.1
 
--- the slot that was taken stands first
-pub taken_slots : {S : Type 0} {f : S → Home} {faults : S → ℕ} {m n : Me S View} {k : ℕ} {row : List ℕ → ℕ → View} (t : TookLink f faults m n k row) (q : Plan) → m.0.plan ≡ q → n.1 ≡ (q.requests + k, t.value) ∷ rest n.1
-taken_slots {k = k} t q e = t.slots ∙ (λ i. ((e i).requests + k, t.value) ∷ rest (sym t.slots i))
+-- the link k came into the seat's hands as it was at home, which showed it so; where its half has faults, that is noted at slot i
+pub record Came {O : Type 0} {g : Ghosts O} (p : Plan) (ways : List (List ℕ)) (m n : Me (SockHome O g) View) (i k : ℕ) (took : List ℕ) (next : ℕ) (done : Bool) (row : List ℕ → ℕ → View) : Type 0 where
+  pub value : SockHome O g
+  pub shown : shows_in p ways value ≡ home.Link k took next done
+  pub inside : k < m.0.plan.links
+  pub view : n.0 ≡ fault_found (rose value) i k (row took next)
+  pub known : 0 < faults_of k m.0 → 0 < rose value
+  pub slots : n.1 ≡ (m.0.plan.requests + k, value) ∷ m.1
 
-module _ {O : Type 0} {g : Ghosts O} (p : Plan) (ways : List (List ℕ)) (m n : Me (SockHome O g) View) (k : ℕ) (row : List ℕ → ℕ → View) (t : TookLink (shows_in p ways) rose m n k row) (slot : ℕ) (x : SockHome O g) (moved : n.1 ≡ (slot, x) ∷ rest n.1) where
-  value_is : t.value ≡ x
-  value_is = ap (top t.value) (sym t.slots ∙ moved)
+module _ {O : Type 0} {g : Ghosts O} (p : Plan) (ways : List (List ℕ)) {m n : Me (SockHome O g) View} where
+  pub link_came : {k : ℕ} {row : List ℕ → ℕ → View} (t : TookLink (shows_in p ways) rose m n k row) → Came p ways m n 0 k t.took t.next t.done row
+  link_came t = record { value = t.value; shown = t.shown; inside = t.inside; view = t.view; known = t.known; slots = t.slots }
 
-  pub must_link : ((h : LinkHome O g) → x ≡ Link h → ⊥) → ⊥
-  must_link none_ = by_value x refl
-    where
-      by_value : (y : SockHome O g) → x ≡ y → ⊥
-      by_value Empty e = let a = ap is_link (sym t.shown ∙ ap (shows_in p ways) (value_is ∙ e)) in omega arith
-      by_value (Link h) e = none_ h e
-      by_value (Message m) e = let a = ap is_link (sym t.shown ∙ ap (shows_in p ways) (value_is ∙ e)) in omega arith
-      by_value (Ways w) e = let a = ap is_link (sym t.shown ∙ ap (shows_in p ways) (value_is ∙ e)) in omega arith
+  -- that of the right that the seat has
+  pub own_came : {r : Right} {i : ℕ} → TookOwn (shows_in p ways) rose m n r i → Came p ways m n i r.link r.sent r.places false (λ took next. with_right m.0 (record r { at_home = false }))
+  own_came t = record { value = t.value; shown = t.shown; inside = t.inside; view = t.view; known = t.known; slots = t.slots }
 
-  module _ (h : LinkHome O g) (is : x ≡ Link h) where
-    shown_is : home.Link (number_in p ways (g.state h.out)) h.took.list h.next (g.state h.out).finished ≡ home.Link k t.took t.next t.done
-    shown_is = ap (shows_in p ways) (sym (value_is ∙ is)) ∙ t.shown
+-- what shows a link is one
+pub link_of : {O : Type 0} {g : Ghosts O} (p : Plan) (ways : List (List ℕ)) (k : ℕ) (took : List ℕ) (next : ℕ) (done : Bool) (x : SockHome O g) → shows_in p ways x ≡ home.Link k took next done → (h : LinkHome O g) × (x ≡ Link h)
+link_of p ways k took next done Empty e = let a = ap is_link e in absurd (omega arith)
+link_of p ways k took next done (Link h) e = (h, refl)
+link_of p ways k took next done (Message m) e = let a = ap is_link e in absurd (omega arith)
+link_of p ways k took next done (Ways w) e = let a = ap is_link e in absurd (omega arith)
 
-    pub its_link : k < p.links → ((g.state h.out).link ≡ k) × ((g.state h.out).way ≡ way_at ways k)
-    its_link low = own_number p ways (g.state h.out) k (ap number shown_is) low
+module _ {O : Type 0} {g : Ghosts O} {p : Plan} {ways : List (List ℕ)} {m n : Me (SockHome O g) View} {i k : ℕ} {took : List ℕ} {next : ℕ} {done : Bool} {row : List ℕ → ℕ → View} (t : Came p ways m n i k took next done row) where
+  -- its home stands first
+  pub came_home : (q : Plan) → m.0.plan ≡ q → LinkOnTop (q.requests + k) n
+  came_home q e = let x = link_of p ways k took next done t.value t.shown in (x.0, t.slots ∙ (λ j. ((e j).requests + k, x.1 j) ∷ rest (sym t.slots j)))
 
-    pub its_known : 0 < faults_of k m.0 → 0 < (g.state h.out).faults
-    its_known some_ = subst (λ (y : SockHome O g). 0 < rose y) (value_is ∙ is) (t.known some_)
+  module _ (slot : ℕ) (h : LinkHome O g) (moved : n.1 ≡ (slot, Link h) ∷ rest n.1) where
+    came_is : t.value ≡ Link h
+    came_is = ap (top t.value) (sym t.slots ∙ moved)
 
-    pub after_move : (new : Me (SockHome O g) View) → new ≡ (n.0, (slot, Empty) ∷ rest n.1) → new ≡ (fault_found (g.state h.out).faults 0 k (row h.took.list h.next), (slot, Empty) ∷ m.1)
-    after_move new e = let took = ap bytes shown_is in let next = ap next_place shown_is in let same = value_is ∙ is in let v : n.0 ≡ fault_found (g.state h.out).faults 0 k (row h.took.list h.next) = t.view ∙ (λ i. fault_found (rose (same i)) 0 k (row (sym took i) (sym next i))) in
-        let below : rest n.1 ≡ m.1 = ap rest t.slots in e ∙ (λ i. (v i, (slot, Empty) ∷ below i))
+    came_shown : home.Link (number_in p ways (g.state h.out)) h.took.list h.next (g.state h.out).finished ≡ home.Link k took next done
+    came_shown = ap (shows_in p ways) (sym came_is) ∙ t.shown
+
+    pub came_link : k < p.links → ((g.state h.out).link ≡ k) × ((g.state h.out).way ≡ way_at ways k)
+    came_link low = own_number p ways (g.state h.out) k (ap number came_shown) low
+
+    pub came_done : (g.state h.out).finished ≡ done
+    came_done = ap is_done came_shown
+
+    pub came_took : (h.took.list ≡ took) × (h.next ≡ next)
+    came_took = (ap bytes came_shown, ap next_place came_shown)
+
+    pub came_known : 0 < faults_of k m.0 → 0 < (g.state h.out).faults
+    came_known some_ = subst (λ (y : SockHome O g). 0 < rose y) came_is (t.known some_)
+
+    pub came_after : (new : Me (SockHome O g) View) → new ≡ (n.0, (slot, Empty) ∷ rest n.1) → new ≡ (fault_found (g.state h.out).faults i k (row h.took.list h.next), (slot, Empty) ∷ m.1)
+    came_after new e = let same = came_is in let v : n.0 ≡ fault_found (g.state h.out).faults i k (row h.took.list h.next) = t.view ∙ (λ j. fault_found (rose (same j)) i k (row (sym came_took.0 j) (sym came_took.1 j))) in
+        let below : rest n.1 ≡ m.1 = ap rest t.slots in e ∙ (λ j. (v j, (slot, Empty) ∷ below j))
 
 -- the slot that is to go home stands first
 pub put_slots : {S : Type 0} (p q : Plan) (l : List (ℕ × S)) (k : ℕ) (y : S) (below : List (ℕ × S)) → p ≡ q → l ≡ (q.requests + k, y) ∷ below → l ≡ (p.requests + k, y) ∷ below
@@ -84,46 +111,7 @@ pub back_home : {S : Type 0} (faults : S → ℕ) (m n r : Me S View) (q : Plan)
 back_home {S} faults m n r q k y plan is told = let v = ap (λ (x : Me S View). x.0) is in let same : n.0.plan ≡ q = ap (λ (u : View). u.plan) v ∙ plan in
     told k y (rest m.1) (put_slots n.0.plan q n.1 k y (rest m.1) same (ap (λ (x : Me S View). x.1) is)) ∙ (λ i. (fault_left (faults y) k (without_hand (v i) k), rest m.1))
 
--- ## The link of a right, and a message
-
-pub own_slots : {O : Type 0} {g : Ghosts O} (p : Plan) (ways : List (List ℕ)) (m n : Me (SockHome O g) View) (r : Right) (i : ℕ) (t : TookOwn (shows_in p ways) rose m n r i) (q : Plan) → m.0.plan ≡ q → n.1 ≡ (q.requests + r.link, t.value) ∷ rest n.1
-own_slots p ways m n r at t q e = t.slots ∙ (λ i. ((e i).requests + r.link, t.value) ∷ rest (sym t.slots i))
-
-abbrev is_done : Home → Bool
-is_done (home.Link k took next done) = done
-is_done _ = true
-
-module _ {O : Type 0} {g : Ghosts O} (p : Plan) (ways : List (List ℕ)) (m n : Me (SockHome O g) View) (r : Right) (at : ℕ) (t : TookOwn (shows_in p ways) rose m n r at) (slot : ℕ) (x : SockHome O g) (moved : n.1 ≡ (slot, x) ∷ rest n.1) where
-  own_value : t.value ≡ x
-  own_value = ap (top t.value) (sym t.slots ∙ moved)
-
-  pub must_own : ((h : LinkHome O g) → x ≡ Link h → ⊥) → ⊥
-  must_own none_ = by_value x refl
-    where
-      by_value : (y : SockHome O g) → x ≡ y → ⊥
-      by_value Empty e = let a = ap is_link (sym t.shown ∙ ap (shows_in p ways) (own_value ∙ e)) in omega arith
-      by_value (Link h) e = none_ h e
-      by_value (Message w) e = let a = ap is_link (sym t.shown ∙ ap (shows_in p ways) (own_value ∙ e)) in omega arith
-      by_value (Ways w) e = let a = ap is_link (sym t.shown ∙ ap (shows_in p ways) (own_value ∙ e)) in omega arith
-
-  module _ (h : LinkHome O g) (is : x ≡ Link h) where
-    own_shown : home.Link (number_in p ways (g.state h.out)) h.took.list h.next (g.state h.out).finished ≡ home.Link r.link r.sent r.places false
-    own_shown = ap (shows_in p ways) (sym (own_value ∙ is)) ∙ t.shown
-
-    pub own_link : r.link < p.links → ((g.state h.out).link ≡ r.link) × ((g.state h.out).way ≡ way_at ways r.link)
-    own_link low = own_number p ways (g.state h.out) r.link (ap number own_shown) low
-
-    pub own_unfinished : (g.state h.out).finished ≡ false
-    own_unfinished = ap is_done own_shown
-
-    pub own_took : (h.took.list ≡ r.sent) × (h.next ≡ r.places)
-    own_took = (ap bytes own_shown, ap next_place own_shown)
-
-    pub own_known : 0 < faults_of r.link m.0 → 0 < (g.state h.out).faults
-    own_known some_ = subst (λ (y : SockHome O g). 0 < rose y) (own_value ∙ is) (t.known some_)
-
-    pub own_after : (new : Me (SockHome O g) View) → new ≡ (n.0, (slot, Empty) ∷ rest n.1) → new ≡ (fault_found (g.state h.out).faults at r.link (with_right m.0 (record r { at_home = false })), (slot, Empty) ∷ m.1)
-    own_after new e = let below : rest n.1 ≡ m.1 = ap rest t.slots in let same = own_value ∙ is in let v = t.view ∙ (λ i. fault_found (rose (same i)) at r.link (with_right m.0 (record r { at_home = false }))) in e ∙ (λ i. (v i, (slot, Empty) ∷ below i))
+-- ## A message
 
 abbrev is_letter : Home → ℕ
 is_letter (home.Message l b) = 1
@@ -165,16 +153,14 @@ module _ {O : Type 0} {g : Ghosts O} (m n : Me (SockHome O g) View) (r : Right) 
 
 abbrev link_or : {O : Type 0} {g : Ghosts O} → LinkHome O g → SockHome O g → LinkHome O g
 link_or d (Link h) = h
-link_or d Empty = d
-link_or d (Message m) = d
-link_or d (Ways w) = d
+link_or d _ = d
 
-module _ {O : Type 0} {g : Ghosts O} (l : List (ℕ × SockHome O g)) (slot : ℕ) (home : LinkHome O g) (x : SockHome O g) (below : List (ℕ × SockHome O g)) (there : l ≡ (slot, Link home) ∷ below) (moved : l ≡ (slot, x) ∷ rest l) where
-  pub comes_back : Link home ≡ x
-  comes_back = ap (top (Link home)) (sym there ∙ moved)
+-- one that was found on top is the one that lay there
+pub comes_back : {O : Type 0} {g : Ghosts O} (l : List (ℕ × SockHome O g)) (slot : ℕ) (home : LinkHome O g) (x : SockHome O g) (below : List (ℕ × SockHome O g)) → l ≡ (slot, Link home) ∷ below → l ≡ (slot, x) ∷ rest l → Link home ≡ x
+comes_back l slot home x below there moved = ap (top (Link home)) (sym there ∙ moved)
 
-  pub same_link : (back : LinkHome O g) → x ≡ Link back → back ≡ home
-  same_link back is = ap (link_or home) (sym is ∙ sym comes_back)
+pub same_link : {O : Type 0} {g : Ghosts O} (l : List (ℕ × SockHome O g)) (slot : ℕ) (home back : LinkHome O g) (below : List (ℕ × SockHome O g)) → l ≡ (slot, Link home) ∷ below → l ≡ (slot, Link back) ∷ rest l → back ≡ home
+same_link l slot home back below there moved = ap (link_or home) (sym (comes_back l slot home (Link back) below there moved))
 
 -- it is laid into the home of a request, from which the message was taken, for the one step that drops the message
 module _ {O : Type 0} {g : Ghosts O} (m₀ m₁ : Me (SockHome O g) View) (slot now : ℕ) (home : LinkHome O g) (at : slot ≡ slot_of now) (there : m₀.1 ≡ (slot_of now, Empty) ∷ rest m₀.1) (laid : m₁ ≡ (m₀.0, (slot, Link home) ∷ rest m₀.1)) where

@@ -71,19 +71,16 @@ placed_same a b e = cc
 pub one_right : (v : View) (r r' : Right) → v.rights ≡ r ∷ [] → r'.link ≡ r.link → (with_right v r').rights ≡ r' ∷ []
 one_right v r r' one same = ap (λ (l : List Right). r' ∷ l) (ap (filter (λ (x : Right). not (eqb x.link r'.link))) one ∙ ap (λ b. cond (not b) (r ∷ []) []) (eq-eqb r.link r'.link (sym same)))
 
-turn_link : (r : Right) (top a before : ℕ) → (turned_right r top a before).link ≡ r.link
-turn_link r top a before = by_case (eqb before r.last)
-  where
-    by_case : (b : Bool) → (cond b (record r { last = top; stage = Writes a; turned = 0; noted = r.noted + suc r.turned }) (record r { stage = Walks top before a; turned = suc r.turned })).link ≡ r.link
-    by_case true = refl
-    by_case false = refl
+abbrev turned_by : Right → ℕ → ℕ → ℕ → Bool → Right
+turned_by r top a before b = cond b (record r { last = top; stage = Writes a; turned = 0; noted = r.noted + suc r.turned }) (record r { stage = Walks top before a; turned = suc r.turned })
 
-turn_home : (r : Right) (top a before : ℕ) → (turned_right r top a before).at_home ≡ r.at_home
-turn_home r top a before = by_case (eqb before r.last)
+-- a turn keeps the link of its right, and where that is
+turn_kept : (r : Right) (top a before : ℕ) → ((turned_right r top a before).link ≡ r.link) × ((turned_right r top a before).at_home ≡ r.at_home)
+turn_kept r top a before = by_case (eqb before r.last)
   where
-    by_case : (b : Bool) → (cond b (record r { last = top; stage = Writes a; turned = 0; noted = r.noted + suc r.turned }) (record r { stage = Walks top before a; turned = suc r.turned })).at_home ≡ r.at_home
-    by_case true = refl
-    by_case false = refl
+    by_case : (b : Bool) → ((turned_by r top a before b).link ≡ r.link) × ((turned_by r top a before b).at_home ≡ r.at_home)
+    by_case true = (refl, refl)
+    by_case false = (refl, refl)
 
 leads_freed : (last now : ℕ) (a b : Stage) → Leads last a now b → freed_stage a ≡ b
 leads_freed last now a b (to_end _ e) = refl
@@ -370,7 +367,7 @@ module _ {S : Type 0} (shows : S → Home) (rose : S → ℕ) (p : Plan) (slots 
     with_right v (turned_right r top a before),
     keeps,
     tt,
-    beside t id v w here some_ (set s.words (next_index p (slot_of a)) next) s.homes (refl, λ l ll. refl) (quiet (turned_right r top a before)) (steady (turned_right r top a before) (turn_link r top a before) (turn_home r top a before)) (next_settled t.settled (slot_of a) next (turn_ticket t.rule.lawful id v here r one top a next before stage).inside) (turning_rule t.rule id v here mine next x),
+    beside t id v w here some_ (set s.words (next_index p (slot_of a)) next) s.homes (refl, λ l ll. refl) (quiet (turned_right r top a before)) (steady (turned_right r top a before) (turn_kept r top a before).0 (turn_kept r top a before).1) (next_settled t.settled (slot_of a) next (turn_ticket t.rule.lawful id v here r one top a next before stage).inside) (turning_rule t.rule id v here mine next x),
     λ q top_ at_ after_ before_ e st. turns_as top a next before top_ at_ after_ before_ (sym stage ∙ (ap (λ (u : Right). u.stage) (its q e) ∙ st)) q (its q e),
   )
     where

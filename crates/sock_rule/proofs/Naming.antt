@@ -21,24 +21,24 @@ use Rattle.sock_rule.proofs.Storing.{stores_name, finds_name, stores_open, finds
 use Rattle.sock_rule.proofs.Seating.{still_seat}
 
 -- the word of an id that is known
-pub stored_id : (p : Plan) (v : View) (id word : ℕ) → word ≡ id + 1 → socket_id_slot id < p.slots → 0 < marks_of (is_known (socket_id_version id)) (socket_id_slot id) v
+stored_id : (p : Plan) (v : View) (id word : ℕ) → word ≡ id + 1 → socket_id_slot id < p.slots → 0 < marks_of (is_known (socket_id_version id)) (socket_id_slot id) v
     → (word ≢ 0) × ((word - 1) % 4294967296 < p.slots) × (0 < marks_of (is_known ((word - 1) / 4294967296)) ((word - 1) % 4294967296) v)
 stored_id p v id word is inside known = let e : id ≡ word - 1 = omega arith in
     ((λ z. omega arith), subst (λ (n : ℕ). n % 4294967296 < p.slots) e inside, subst (λ (n : ℕ). 0 < marks_of (is_known (n / 4294967296)) (n % 4294967296) v) e known)
 
 -- S6 and S7 on a table whose key is this plan
 module _ {S : Type 0} (shows : S → Home) (rose : S → ℕ) (q p : Plan) (slots id : ℕ) (me : Me S View) (key : q ≡ p) (mine : me.0.plan ≡ p) (some_ : 0 < me.0.share) where
-  pub stores_name_on : (n word : ℕ) → n < p.names → word ≢ 0 → (word - 1) % 4294967296 < p.slots → 0 < marks_of (is_known ((word - 1) / 4294967296)) ((word - 1) % 4294967296) me.0
+  pub stores_name_on : (n x word : ℕ) → n < p.names → word ≡ x + 1 → socket_id_slot x < p.slots → 0 < marks_of (is_known (socket_id_version x)) (socket_id_slot x) me.0
       → Allows (OnTable shows rose q) slots id me (name_index p n) (λ _. word) (λ _. store_told (step slots (name_index p n) word 0 none) me word)
-  stores_name_on n word low some_word inside known = subst (λ (r : Plan). Allows (OnTable shows rose r) slots id me (name_index p n) (λ _. word) (λ _. store_told (step slots (name_index p n) word 0 none) me word)) (sym key) (stores_name shows rose p slots id me mine some_ n word low some_word inside known)
+  stores_name_on n x word low is inside known = let r = stored_id p me.0 x word is inside known in subst (λ (r : Plan). Allows (OnTable shows rose r) slots id me (name_index p n) (λ _. word) (λ _. store_told (step slots (name_index p n) word 0 none) me word)) (sym key) (stores_name shows rose p slots id me mine some_ n word low r.0 r.1 r.2)
 
   pub finds_name_on : (n : ℕ) → n < p.names → Allows (OnTable shows rose q) slots id me (name_index p n) (λ n. n) (find_name_told (step slots (name_index p n) 0 0 none) me)
   finds_name_on n low = subst (λ (r : Plan). Allows (OnTable shows rose r) slots id me (name_index p n) (λ n. n) (find_name_told (step slots (name_index p n) 0 0 none) me)) (sym key) (finds_name shows rose p slots id me mine some_ n low)
 
-  pub stores_open_on : (n word : ℕ) → n < p.operations → word ≢ 0 → (word - 1) % 4294967296 < p.slots → 0 < marks_of (is_known ((word - 1) / 4294967296)) ((word - 1) % 4294967296) me.0
+  pub stores_open_on : (n x word : ℕ) → n < p.operations → word ≡ x + 1 → socket_id_slot x < p.slots → 0 < marks_of (is_known (socket_id_version x)) (socket_id_slot x) me.0
       → Allows (OnTable shows rose q) slots id me (open_index p n) (λ _. word) (λ _. store_told (step slots (open_index p n) word 0 none) me word)
-  stores_open_on n word low some_word inside known = subst (λ (r : Plan). Allows (OnTable shows rose r) slots id me (open_index p n) (λ _. word) (λ _. store_told (step slots (open_index p n) word 0 none) me word)) (sym key)
-      (stores_open shows rose p slots id me mine some_ n word ((word - 1) % 4294967296) low some_word inside (inr (refl, known)))
+  stores_open_on n x word low is inside known = let r = stored_id p me.0 x word is inside known in subst (λ (r : Plan). Allows (OnTable shows rose r) slots id me (open_index p n) (λ _. word) (λ _. store_told (step slots (open_index p n) word 0 none) me word)) (sym key)
+      (stores_open shows rose p slots id me mine some_ n word ((word - 1) % 4294967296) low r.0 r.1 (inr (refl, r.2)))
 
   pub stores_nothing_on : (n word : ℕ) → n < p.operations → 0 < p.slots → word ≡ NOTHING → Allows (OnTable shows rose q) slots id me (open_index p n) (λ _. word) (λ _. store_told (step slots (open_index p n) word 0 none) me word)
   stores_nothing_on n word low some_slots is = subst (λ (r : Plan). Allows (OnTable shows rose r) slots id me (open_index p n) (λ _. word) (λ _. store_told (step slots (open_index p n) word 0 none) me word)) (sym key)

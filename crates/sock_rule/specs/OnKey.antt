@@ -1,11 +1,13 @@
 -- The rule by what the table was told once, and what the steps tell that take a link, where the ways of the links are said with them.
-use Rattle.std.specs.Prelude.{ℕ, List}
-use Rattle.atomic_table.specs.Table.{State, Me, Step}
+use Rattle.std.specs.Prelude.{◌≡◌, ℕ, List, ◌∷◌}
+use Rattle.atomic_table.specs.Table.{State, Me, Step, rest}
 use Rattle.sock_io.specs.declared.link.Out.{Ghosts}
 use Rattle.sock_model.specs.declared.home.Home.{Home}
 use Rattle.sock_model.specs.declared.view.View.{View}
 use Rattle.sock_rule.specs.declared.key.TableKey.{TableKey}
+use Rattle.sock_rule.specs.declared.homes.LinkHome.{LinkHome}
 use Rattle.sock_rule.specs.declared.homes.SockHome.{SockHome}
+use Rattle.sock_rule.specs.declared.homes.SockHome.TheVariants.{Link}
 use Rattle.sock_rule.specs.Shows.{shows_in, rose, SaidWays}
 use Rattle.sock_rule.specs.OnTable.{OnTable, opener}
 use Rattle.sock_rule.specs.Plays.{take_last_told, spend_told}
@@ -29,3 +31,7 @@ module _ {O : Type 0} {g : Ghosts O} where
 
   abbrev pub spend_said : Step (SockHome O g) → Me (SockHome O g) View → ℕ → Me (SockHome O g) View → Type 0
   spend_said st m found n = (ways : List (List ℕ)) → SaidWays ways st.said → spend_told (shows_in m.0.plan ways) rose st m found n
+
+  -- a link lies in the home that the seat has in hand first, which is this one
+  abbrev pub LinkOnTop : ℕ → Me (SockHome O g) View → Type 0
+  LinkOnTop slot m = (h : LinkHome O g) × (m.1 ≡ (slot, Link h) ∷ rest m.1)

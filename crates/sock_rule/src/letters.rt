@@ -70,11 +70,7 @@ impl<O: Out> RuleTable<O> {
         ensures seat { IsSeat self.now.table.shared.table_id self.now.plan seat.new }
         ensures view { (c : Claim) → Claims c seat.old.me.0 → seat.new.me ≡ (with_claim seat.old.me.0 (ready_claim c), seat.old.me.1) }
     {
-        let word = 6 * self.plan.slots as usize
-            + self.plan.names as usize
-            + self.plan.operations as usize
-            + self.plan.requests as usize
-            + at as usize;
+        let word = self.next_word(at as usize);
         self.table.shared.store::<Unconnect>(seat, word, u64::MAX);
     }
 
@@ -100,11 +96,7 @@ impl<O: Out> RuleTable<O> {
         ensures seat { IsSeat self.now.table.shared.table_id self.now.plan seat.new }
         ensures view { seat.new.me ≡ (without_loose seat.old.me.0 at, seat.old.me.1) }
     {
-        let word = 6 * self.plan.slots as usize
-            + self.plan.names as usize
-            + self.plan.operations as usize
-            + self.plan.requests as usize
-            + at as usize;
+        let word = self.next_word(at as usize);
         let value = before.word();
         self.table.shared.store::<Connect>(seat, word, value);
     }

@@ -5,7 +5,8 @@ ghost use Rattle.atomic_table.specs.Table.{rest};
 ghost use Rattle.sock_model.specs.Weights.{is_recycled, is_met};
 ghost use Rattle.sock_model.specs.SlotRows.{marks_of};
 ghost use Rattle.sock_model.specs.ChainRows.{with_hand, without_hand, spent_hand};
-ghost use Rattle.sock_rule.specs.declared.homes.SockHome.TheVariants.{Empty};
+ghost use Rattle.sock_rule.specs.declared.homes.SockHome.TheVariants.{Empty, Link};
+ghost use Rattle.sock_rule.specs.OnKey.{LinkOnTop};
 ghost use Rattle.sock_rule.specs.Seated.{IsSeat};
 ghost use Rattle.sock_rule.specs.Shows.{way_at};
 ghost use Rattle.sock_rule.specs.Faults.{faults_of, fault_found, fault_left};
@@ -36,11 +37,7 @@ impl<O: Out> RuleTable<O> {
             .compare_exchange_with::<TakeLast>(seat, word, 0, 0, &said);
         drop(said);
         let slot = self.plan.requests as usize + link as usize;
-        let value = self.table.shared.exchange(seat, slot, SockHome::Empty);
-        let SockHome::Link(home) = value else {
-            unreachable!();
-        };
-        home
+        self.take_home(seat, slot)
     }
 
     /// L1 of a link whose pass gets no socket: the pass is spent.
@@ -59,11 +56,7 @@ impl<O: Out> RuleTable<O> {
             .compare_exchange_with::<SpendPass>(seat, 0, 0, 0, &said);
         drop(said);
         let slot = self.plan.requests as usize + link as usize;
-        let value = self.table.shared.exchange(seat, slot, SockHome::Empty);
-        let SockHome::Link(home) = value else {
-            unreachable!();
-        };
-        home
+        self.take_home(seat, slot)
     }
 
     /// L2: the link in hand goes home, with what it took.
@@ -79,11 +72,35 @@ impl<O: Out> RuleTable<O> {
         ensures view { seat.new.me ≡ (fault_left (O.state home.out).faults link (without_hand seat.old.me.0 link), rest seat.old.me.1) }
     {
         let slot = self.plan.requests as usize + link as usize;
+        self.lay_home(seat, slot, home);
+        self.table.shared.load::<PutLink>(seat, 0);
+    }
+    // The link comes out of the home that the seat has in hand, which is empty then.
+    pub(crate) fn take_home(&self, seat: &mut SockSeat<O>, slot: usize) -> LinkHome<O>
+        requires seat { seat.old.table_id ≡ self.now.table.shared.table_id }
+        requires home { LinkOnTop slot seat.old.me }
+        ensures seat { seat.new.table_id ≡ seat.old.table_id }
+        ensures home { seat.old.me.1 ≡ (slot, Link result) ∷ rest seat.old.me.1 }
+        ensures view { seat.new.me ≡ (seat.old.me.0, (slot, Empty) ∷ rest seat.old.me.1) }
+    {
+        let value = self.table.shared.exchange(seat, slot, SockHome::Empty);
+        let SockHome::Link(home) = value else {
+            unreachable!();
+        };
+        home
+    }
+
+    // The link goes into the empty home that the seat has in hand.
+    pub(crate) fn lay_home(&self, seat: &mut SockSeat<O>, slot: usize, home: LinkHome<O>)
+        requires seat { seat.old.table_id ≡ self.now.table.shared.table_id }
+        requires top { seat.old.me.1 ≡ (slot, Empty) ∷ rest seat.old.me.1 }
+        ensures seat { seat.new.table_id ≡ seat.old.table_id }
+        ensures view { seat.new.me ≡ (seat.old.me.0, (slot, Link home) ∷ rest seat.old.me.1) }
+    {
         let place = self.table.shared.exchange(seat, slot, SockHome::Link(home));
         let SockHome::Empty = place else {
             unreachable!();
         };
         drop(place);
-        self.table.shared.load::<PutLink>(seat, 0);
     }
 }

@@ -43,11 +43,7 @@ impl<O: Out> RuleTable<O> {
             .compare_exchange_with::<TakeOwn>(seat, word, 0, 0, &said);
         drop(said);
         let slot = self.plan.requests as usize + link as usize;
-        let value = self.table.shared.exchange(seat, slot, SockHome::Empty);
-        let SockHome::Link(home) = value else {
-            unreachable!();
-        };
-        home
+        self.take_home(seat, slot)
     }
 
     /// The seat notes that a fault of the link in hand came.
@@ -100,12 +96,7 @@ impl<O: Out> RuleTable<O> {
         ensures seat { IsSeat self.now.table.shared.table_id self.now.plan seat.new }
         ensures view { (r : Right) (now : ℕ) → Rights r seat.old.me.0 → r.stage ≡ Writes now → seat.new.me ≡ (with_right seat.old.me.0 (placed_right r now), seat.old.me.1) }
     {
-        let word = 6 * self.plan.slots as usize
-            + self.plan.names as usize
-            + self.plan.operations as usize
-            + self.plan.requests as usize
-            + self.plan.requests as usize
-            + at as usize;
+        let word = self.place_word(at as usize);
         let place = value.word();
         self.table.shared.store::<StorePlace>(seat, word, place);
     }
@@ -128,24 +119,11 @@ impl<O: Out> RuleTable<O> {
         ensures home { result ≡ home }
     {
         let slot = now.request() as usize;
-        let empty = self.table.shared.exchange(seat, slot, SockHome::Link(home));
-        let SockHome::Empty = empty else {
-            unreachable!();
-        };
-        drop(empty);
-        let word = 6 * self.plan.slots as usize
-            + self.plan.names as usize
-            + self.plan.operations as usize
-            + self.plan.requests as usize
-            + self.plan.requests as usize
-            + at as usize;
+        self.lay_home(seat, slot, home);
+        let word = self.place_word(at as usize);
         let place = value.word();
         self.table.shared.store::<DropPlace>(seat, word, place);
-        let back = self.table.shared.exchange(seat, slot, SockHome::Empty);
-        let SockHome::Link(home) = back else {
-            unreachable!();
-        };
-        home
+        self.take_home(seat, slot)
     }
 
     /// C8: the request of a message that has its place is free again, and its home is back.
@@ -189,11 +167,7 @@ impl<O: Out> RuleTable<O> {
         ensures view { (r : Right) → Rights r seat.old.me.0 → seat.new.me ≡ (with_right seat.old.me.0 (record r { at_home = true }), rest seat.old.me.1) }
     {
         let slot = self.plan.requests as usize + link as usize;
-        let place = self.table.shared.exchange(seat, slot, SockHome::Link(home));
-        let SockHome::Empty = place else {
-            unreachable!();
-        };
-        drop(place);
+        self.lay_home(seat, slot, home);
         self.table.shared.load::<PutOwn>(seat, 0);
     }
 
@@ -224,11 +198,7 @@ impl<O: Out> RuleTable<O> {
         ensures seat { IsSeat self.now.table.shared.table_id self.now.plan seat.new }
         ensures view { (r : Right) → Rights r seat.old.me.0 → ReadOn r now.0 result seat.old.me seat.new.me }
     {
-        let word = 6 * self.plan.slots as usize
-            + self.plan.names as usize
-            + self.plan.operations as usize
-            + self.plan.requests as usize
-            + now.request() as usize;
+        let word = self.next_word(now.request() as usize);
         self.table.shared.load::<ReadNext>(seat, word)
     }
 
@@ -240,11 +210,7 @@ impl<O: Out> RuleTable<O> {
         ensures seat { IsSeat self.now.table.shared.table_id self.now.plan seat.new }
         ensures view { (r : Right) (top after : ℕ) → Rights r seat.old.me.0 → r.stage ≡ Walks top at.0 after → ReadBack r top at.0 after result seat.old.me seat.new.me }
     {
-        let word = 6 * self.plan.slots as usize
-            + self.plan.names as usize
-            + self.plan.operations as usize
-            + self.plan.requests as usize
-            + at.request() as usize;
+        let word = self.next_word(at.request() as usize);
         self.table.shared.load::<ReadNext>(seat, word)
     }
 
@@ -256,11 +222,7 @@ impl<O: Out> RuleTable<O> {
         ensures seat { IsSeat self.now.table.shared.table_id self.now.plan seat.new }
         ensures view { (r : Right) (top after before : ℕ) → Rights r seat.old.me.0 → r.stage ≡ Turns top at.0 after before → seat.new.me ≡ (with_right seat.old.me.0 (turned_right r top at.0 before), seat.old.me.1) }
     {
-        let word = 6 * self.plan.slots as usize
-            + self.plan.names as usize
-            + self.plan.operations as usize
-            + self.plan.requests as usize
-            + at.request() as usize;
+        let word = self.next_word(at.request() as usize);
         self.table.shared.store::<ReverseNext>(seat, word, value);
     }
 }

@@ -1,6 +1,6 @@
 // The table of words and homes, and its seats.
 ghost use Rattle.std.specs.Prelude.{◌≡◌, ◌+◌, ◌*◌, ◌<◌, ◌≤◌, ℕ, [], IfOk, IfErr, length};
-ghost use Rattle.sock_model.specs.Layout.{all_words};
+ghost use Rattle.sock_model.specs.Layout.{all_words, next_index, place_index};
 ghost use Rattle.sock_model.specs.Seats.{joined};
 ghost use Rattle.sock_rule.specs.OnTable.{opener};
 ghost use Rattle.sock_rule.specs.Shows.{shows_in, SaysWays};
@@ -91,5 +91,28 @@ impl<O: Out> RuleTable<O> {
         ensures view { seat.new.me ≡ (joined seat.old.me.0 from.me.0, seat.old.me.1) }
     {
         self.table.shared.join_seat::<TakeIn>(seat, from);
+    }
+    // The place of a request's next word.
+    pub(crate) fn next_word(&self, request: usize) -> usize
+        requires request { request < self.now.plan.requests }
+        ensures { result ≡ next_index self.now.plan request }
+    {
+        6 * self.plan.slots as usize
+            + self.plan.names as usize
+            + self.plan.operations as usize
+            + self.plan.requests as usize
+            + request
+    }
+
+    // That of a label's place word.
+    pub(crate) fn place_word(&self, place: usize) -> usize
+        requires place { place < 8 * self.now.plan.operations }
+        ensures { result ≡ place_index self.now.plan place }
+    {
+        6 * self.plan.slots as usize
+            + self.plan.names as usize
+            + self.plan.operations as usize
+            + 2 * self.plan.requests as usize
+            + place
     }
 }

@@ -36,6 +36,7 @@ pub mod Through
 pub mod ThroughLoops
 pub mod ThroughSends
 pub mod ThroughCalls
+pub mod ThroughClients
 pub mod Recorded
 pub mod Closing
 pub mod Opening

@@ -5,7 +5,6 @@ use Rattle.std.specs.Prelude.{None, Some, option_map}
 use Rattle.std.specs.List.{AllByRecursion, filter_map, cons_option}
 use mathlib.Core.Option.{some, some-injective, some-ne-none}
 use lib.ListN.{get_elem?}
-use Rattle.sock_words.specs.Words.{socket_id_slot}
 use Rattle.sock_words.specs.declared.plain.Plan.{Plan}
 use Rattle.seat_programs.specs.brpc_model.specs.Items.{Item, Open, Send, Call, Expire, Join, Hold, Drop, Fail, is_open}
 use Rattle.seat_programs.specs.brpc_model.specs.Operations.{Operation, operations}
@@ -21,14 +20,14 @@ use Rattle.seat_programs.specs.declared.task.Task.{Task}
 use Rattle.seat_programs.specs.declared.task.Sizes.{Sizes}
 use Rattle.seat_programs.specs.Programs.{Program, Rest, open_from, make_socket}
 use Rattle.seat_programs.specs.Tasks.{Numbered, numbered_from, numbered, of_client, op_of, task_of, tasks, opens}
-use Rattle.seat_programs.specs.Clients.{HeldLife, held_under, without_name, give_back, drop_of, operation, client_from}
+use Rattle.seat_programs.specs.Clients.{HeldLife, client_from}
 use Rattle.seat_programs.specs.Readers.{reader}
 use Rattle.seat_programs.specs.Cores.{SeatState, resolved, next_step}
 use Rattle.seat_programs.specs.Scripts.{sizes_of, beginning, programs, readers_from}
 use Rattle.sock_runs.proofs.Ends.{none_has}
-use Rattle.sock_runs.proofs.Through.{through_release, through_fail, through_hold, through_drop}
-use Rattle.sock_runs.proofs.ThroughSends.{through_send}
-use Rattle.sock_runs.proofs.ThroughCalls.{through_call, through_expire, through_join, through_reader, through_next}
+use Rattle.sock_runs.proofs.Through.{any_end, through_any_failed}
+use Rattle.sock_runs.proofs.ThroughCalls.{through_reader, through_next}
+use Rattle.sock_runs.proofs.ThroughClients.{through_back, through_any}
 use Rattle.sock_runs.proofs.Opening.{mapped, appended}
 use Rattle.sock_runs.proofs.LinksRecorded.{Gives, gives_passes, gives_opens, gives_follow, Linked}
 
@@ -47,31 +46,15 @@ module _ (own : ℕ → ℕ → Type 0) where
   gives_open (suc more) i o name k next mine after = λ found. either_way (found == 0) (make_socket o name k i next) (open_from more (i + 1) o name k next) (Gives own)
       (λ _ _ _ word. ((o, mine, refl), λ _ _. after)) (gives_open more (i + 1) o name k next mine after)
 
-  gives_back : (held : List HeldLife) → G (give_back held)
-  gives_back [] = tt
-  gives_back (h ∷ hs) = through_release G (gives_passes own) (socket_id_slot h.id) (λ _. give_back hs) (λ _. gives_back hs)
-
-  gives_drop : (o : ℕ) (id : std.Option ℕ) (next : Program) → G next → G (drop_of o id next)
-  gives_drop o None next after = after
-  gives_drop o (Some id) next after = through_drop G (gives_passes own) o id next after
-
-  gives_operation : (sizes : Sizes) (held : List HeldLife) (o : ℕ) (next : List HeldLife → Program) (op : Op) → OwnsLink o op → ((h : List HeldLife) → G (next h)) → G (operation sizes held o next op)
-  gives_operation sizes held o next (ops.Open name k) mine after = gives_open sizes.slots 0 o name k (next held) mine (after held)
-  gives_operation sizes held o next (ops.Send name bytes) mine after = through_send G (gives_passes own) sizes.requests o name bytes (next held) (after held)
-  gives_operation sizes held o next (ops.Call asked) mine after = through_call G (gives_passes own) sizes.requests sizes.ids asked (next held) (after held)
-  gives_operation sizes held o next (ops.Expire t) mine after = through_expire G (gives_passes own) o t (next held) (after held)
-  gives_operation sizes held o next (ops.Join t) mine after = through_join G (gives_passes own) o t (next held) (after held)
-  gives_operation sizes held o next (ops.Hold name) mine after = through_hold G (gives_passes own) o name (λ id. next (held ++ (record { name = name; id = id }) ∷ [])) (next held) (λ id. after (held ++ (record { name = name; id = id }) ∷ [])) (after held)
-  gives_operation sizes held o next (ops.Drop name) mine after = gives_drop o (held_under name held) (next (without_name name held)) (after (without_name name held))
-  gives_operation sizes held o next (ops.Fail name code) mine after = through_fail G (gives_passes own) o name code (next held) (after held)
-
   pub gives_client : (sizes : Sizes) (ts : List Task) (held : List HeldLife) → AllByRecursion (λ (t : Task). OwnsLink t.number t.op) ts → G (client_from sizes held ts)
-  gives_client sizes [] held mine = gives_back held
-  gives_client sizes (t ∷ ts) held mine = gives_operation sizes held t.number (λ h. client_from sizes h ts) t.op mine.0 (λ h. gives_client sizes ts h mine.1)
+  gives_client sizes [] held mine = through_back G (gives_passes own).sends.plain tt held
+  gives_client sizes (t ∷ ts) held mine = let after : (h : List HeldLife) → G (client_from sizes h ts) = λ h. gives_client sizes ts h mine.1 in
+      through_any G (gives_passes own) sizes held t.number (λ h. client_from sizes h ts) t.op after
+      (λ name k e. gives_open sizes.slots 0 t.number name k (client_from sizes held ts) (subst (OwnsLink t.number) e mine.0) (after held))
 
   readers_give : (calls os : List ℕ) (k i : ℕ) (x : Program) → get_elem? (readers_from calls k os) i ≡ some x → G x
   readers_give calls [] k i x at = absurd (some-ne-none x (sym at))
-  readers_give calls (o ∷ os) k zero x at = subst G (some-injective (reader calls k o) x at) (through_reader G (gives_passes own) (gives_opens own) tt calls k o)
+  readers_give calls (o ∷ os) k zero x at = subst G (some-injective (reader calls k o) x at) (through_reader any_end G (gives_passes own).reads (λ how e. through_any_failed G (gives_passes own) how.code) tt (gives_opens own) calls k o)
   readers_give calls (o ∷ os) k (suc i) x at = readers_give calls os (k + 1) i x at
 
   pub others_give : (n : ℕ) (calls os : List ℕ) (k i : ℕ) (x : Program) → get_elem? (std.replicate n Rest ++ readers_from calls k os) i ≡ some x → G x

@@ -1,14 +1,11 @@
 -- The programs of clients store each life in the word of an `open` of their own, so each life of a run is recorded from the beginning on.
 use Rattle.std.proofs.Common.{◌≡◌, ℕ, zero, suc, ◌+◌, ◌<◌, ◌==◌, ◌&&◌, ◌||◌, not, Bool, true, false, eqb-true, eq-eqb, ne_eqb, List, [], ◌∷◌, ◌++◌, map, length, replicate, ◌≤◌, ◌⊎◌, inl, inr, ⊎_elim, refl, sym, ap, ◌∙◌, subst, arith, ◌-◌, ◌*◌, get_or}
 use Rattle.std.proofs.lemmas.Bool.{true≢false}
-use Rattle.std.specs.Prelude as std
-use Rattle.std.specs.Prelude.{None, Some}
 use Rattle.std.specs.List.{AllByRecursion}
 use mathlib.Core.Logic.{dite}
 use mathlib.Core.Option.{Option, some, none, some-injective, some-ne-none}
 use native.Mathlib.Decide.{ℕ_discrete, dec_le}
 use lib.ListN.{get_elem?}
-use Rattle.sock_words.specs.Words.{socket_id_slot}
 use Rattle.sock_words.specs.declared.plain.Plan.{Plan}
 use Rattle.seat_programs.specs.brpc_model.specs.Order.{EachBefore}
 use Rattle.sock_model.specs.declared.view.View.{View}
@@ -20,7 +17,7 @@ use Rattle.seat_programs.specs.declared.task.Op.TheVariants as ops
 use Rattle.seat_programs.specs.declared.task.Task.{Task}
 use Rattle.seat_programs.specs.declared.task.Sizes.{Sizes}
 use Rattle.seat_programs.specs.Programs.{Program, Rest, open_from, make_socket, no_socket}
-use Rattle.seat_programs.specs.Clients.{HeldLife, held_under, without_name, give_back, drop_of, operation, client_from}
+use Rattle.seat_programs.specs.Clients.{HeldLife, operation, client_from}
 use Rattle.seat_programs.specs.Cores.{SeatState, resolved, next_step}
 use Rattle.seat_programs.specs.Scripts.{free_slots, opening_words, sizes_of, beginning, programs, readers_from}
 use Rattle.sock_model.specs.Layout.{all_words, open_index}
@@ -30,9 +27,9 @@ use Rattle.sock_runs.proofs.Ends.{none_has}
 use Rattle.seat_programs.specs.Readers.{reader}
 use Rattle.sock_runs.proofs.Records.{but, Records}
 use Rattle.sock_runs.proofs.Recorded.{Recorded, nothing, records_more}
-use Rattle.sock_runs.proofs.Through.{records_passes, records_opens, records_follow, through_release, through_fail, through_hold, through_drop}
-use Rattle.sock_runs.proofs.ThroughSends.{through_send}
-use Rattle.sock_runs.proofs.ThroughCalls.{through_call, through_expire, through_join, through_reader, through_next}
+use Rattle.sock_runs.proofs.Through.{any_end, through_any_failed, records_passes, records_opens, records_follow}
+use Rattle.sock_runs.proofs.ThroughCalls.{through_reader, through_next}
+use Rattle.sock_runs.proofs.ThroughClients.{through_back, through_any}
 
 -- ## The operations of a client
 
@@ -54,25 +51,11 @@ module _ (left : ℕ → Bool) (o name k : ℕ) (mine : left o ≡ true) (next :
   records_open (suc more) i = λ found. either_way (found == 0) (make_socket o name k i next) (open_from more (i + 1) o name k next) (Records left)
       (λ _ _ _ word. ((o, refl), (mine, λ _ _. after))) (records_open more (i + 1))
 
-records_back : (left : ℕ → Bool) (held : List HeldLife) → Records left (give_back held)
-records_back left [] = tt
-records_back left (h ∷ hs) = through_release (Records left) (records_passes left) (socket_id_slot h.id) (λ _. give_back hs) (λ _. records_back left hs)
-
-records_drop : (left : ℕ → Bool) (o : ℕ) (id : std.Option ℕ) (next : Program) → Records left next → Records left (drop_of o id next)
-records_drop left o None next after = after
-records_drop left o (Some id) next after = through_drop (Records left) (records_passes left) o id next after
-
 -- one operation: an `open` stores in its own word, and the others in none
 records_operation : (left : ℕ → Bool) (sizes : Sizes) (held : List HeldLife) (o : ℕ) (next : List HeldLife → Program) (op : Op) → (is_opening op ≡ true → left o ≡ true) → (is_opening op ≡ true → (h : List HeldLife) → Records (but o left) (next h))
     → (is_opening op ≡ false → (h : List HeldLife) → Records left (next h)) → Records left (operation sizes held o next op)
 records_operation left sizes held o next (ops.Open name k) mine opened other = records_open left o name k (mine refl) (next held) (opened refl held) sizes.slots 0
-records_operation left sizes held o next (ops.Send name bytes) mine opened other = through_send (Records left) (records_passes left) sizes.requests o name bytes (next held) (other refl held)
-records_operation left sizes held o next (ops.Call asked) mine opened other = through_call (Records left) (records_passes left) sizes.requests sizes.ids asked (next held) (other refl held)
-records_operation left sizes held o next (ops.Expire t) mine opened other = through_expire (Records left) (records_passes left) o t (next held) (other refl held)
-records_operation left sizes held o next (ops.Join t) mine opened other = through_join (Records left) (records_passes left) o t (next held) (other refl held)
-records_operation left sizes held o next (ops.Hold name) mine opened other = through_hold (Records left) (records_passes left) o name (λ id. next (held ++ (record { name = name; id = id }) ∷ [])) (next held) (λ id. other refl (held ++ (record { name = name; id = id }) ∷ [])) (other refl held)
-records_operation left sizes held o next (ops.Drop name) mine opened other = records_drop left o (held_under name held) _ (other refl (without_name name held))
-records_operation left sizes held o next (ops.Fail name code) mine opened other = through_fail (Records left) (records_passes left) o name code (next held) (other refl held)
+records_operation left sizes held o next op mine opened other = through_any (Records left) (records_passes left) sizes held o next op (other refl) (λ name k e. absurd (true≢false (ap is_opening (sym e))))
 
 pub or_cases : (a b : Bool) (P : Type 0) → (a ≡ true → P) → (b ≡ true → P) → (a || b) ≡ true → P
 or_cases true b P x y e = x refl
@@ -102,7 +85,7 @@ later n R less (t ∷ ts) all o there = or_cases (is_opening t.op && (t.number =
 
 pub records_client : (sizes : Sizes) (ts : List Task) (held : List HeldLife) (left : ℕ → Bool) → ((o : ℕ) → opens_in ts o ≡ true → left o ≡ true)
     → EachBefore (λ (a b : Task). (a.number < b.number) × HaveOwnLinks a.op b.op) ts → Records left (client_from sizes held ts)
-records_client sizes [] held left mine order = records_back left held
+records_client sizes [] held left mine order = through_back (Records left) (records_passes left).sends.plain tt held
 records_client sizes (t ∷ ts) held left mine order = records_operation left sizes held t.number (λ h. client_from sizes h ts) t.op
     (λ opening. mine t.number (or_first (is_opening t.op && (t.number == t.number)) (opens_in ts t.number) (both_true (is_opening t.op) (t.number == t.number) opening (eq-eqb t.number t.number refl))))
     (λ opening h. records_client sizes ts h (but t.number left) (λ o there. both_true (left o) (not (o == t.number)) (mine o (or_second (is_opening t.op && (t.number == o)) (opens_in ts o) there))
@@ -199,7 +182,7 @@ module _ (p : Plan) (clients : List (List Task)) (are : AreTasks p clients) wher
 -- neither a reader nor a seat that has nothing to do makes a life
 readers_still : (calls os : List ℕ) (k i : ℕ) (x : Program) → get_elem? (readers_from calls k os) i ≡ some x → Records nothing x
 readers_still calls [] k i x at = absurd (some-ne-none x (sym at))
-readers_still calls (o ∷ os) k zero x at = subst (Records nothing) (some-injective (reader calls k o) x at) (through_reader (Records nothing) (records_passes nothing) (records_opens nothing) tt calls k o)
+readers_still calls (o ∷ os) k zero x at = subst (Records nothing) (some-injective (reader calls k o) x at) (through_reader any_end (Records nothing) (records_passes nothing).reads (λ how e. through_any_failed (Records nothing) (records_passes nothing) how.code) tt (records_opens nothing) calls k o)
 readers_still calls (o ∷ os) k (suc i) x at = readers_still calls os (k + 1) i x at
 
 pub others_still : (n : ℕ) (calls os : List ℕ) (k i : ℕ) (x : Program) → get_elem? (replicate n Rest ++ readers_from calls k os) i ≡ some x → Records nothing x

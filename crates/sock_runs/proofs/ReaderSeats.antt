@@ -22,7 +22,7 @@ use Rattle.sock_runs.specs.Sound.{Sound, first_step, IsFitting, AreFitting, view
 use Rattle.sock_runs.proofs.AtCalls.{AtCalls, every_exit}
 use Rattle.sock_runs.proofs.Records.{stores, loads, awaits, opens_same}
 use Rattle.sock_runs.proofs.Notes.{bears}
-use Rattle.sock_runs.proofs.Through.{Passes, Follows, at_calls_passes, at_calls_follow, comes_follows}
+use Rattle.sock_runs.proofs.Through.{Passes, Follows, any_end, through_any_failed, at_calls_passes, at_calls_follow, comes_follows}
 use Rattle.sock_runs.proofs.ThroughCalls.{through_reading, through_head, through_next}
 use Rattle.sock_runs.proofs.Cases.{ComesNext, tick_keeps_marks}
 use Rattle.sock_runs.proofs.Rounds.{begins_round}
@@ -130,7 +130,7 @@ module _ (p : Plan) (calls : List ℕ) (j n o : ℕ) (inside : o < p.operations)
             by_word true e = inl refl
             by_word false e = inr (
               stays_stored p c v o inside sound.lawful.references.sized (LoadOpen o) may (λ z. true≢false (sym (eq-eqb (get_or c.words (open_index p o) 0) 0 z) ∙ e)),
-              next_none (waiting_at c.calls.waiting m.seat) (behind (get_or c.words (open_index p o) 0)) (through_reading NoOpens no_opens_passes tt calls n (get_or c.words (open_index p o) 0)),
+              next_none (waiting_at c.calls.waiting m.seat) (behind (get_or c.words (open_index p o) 0)) (through_reading any_end NoOpens no_opens_passes.reads (λ how e. through_any_failed NoOpens no_opens_passes how.code) tt calls n (get_or c.words (open_index p o) 0)),
             )
 
         own : (seat.program ≡ reader calls n o) ⊎ ((get_or c.words (open_index p o) 0 ≢ 0) × NoOpens seat.program) → G call next

@@ -10,7 +10,7 @@ use Rattle.seat_programs.specs.brpc_model.specs.Frame.{Frame}
 use Rattle.seat_programs.specs.sock_message.specs.Asked.{Asked, name_of, frame_of}
 use Rattle.seat_programs.specs.Calls.{LookWord, FindLink, ClaimRequest, LoadName}
 use Rattle.seat_programs.specs.Asides.{ClaimId, PutCall, MakeId, StoreCall, LoadCall, StoreAt, LoadAt, TakeCall, call_id, id_slot, id_first}
-use Rattle.seat_programs.specs.Heads.{Head, Exit, First, Unlocks, Locks, Joins, Opens, Reads, Discards, Retry, Posting, HasLocked, Unlocking, IsOpen, HasNext, Locking, NotThere, Has, Ended}
+use Rattle.seat_programs.specs.Heads.{Head, Exit, First, Unlocks, Opens, Reads, Retry, Posting, HasLocked, Unlocking, IsOpen, HasNext, Locking, NotThere, Has, Ended}
 use Rattle.seat_programs.specs.Programs.{Program, Do, Say, Sent, Rest, Write, Aside, Round, Keep, Retries, NO_SOCKET, release, address}
 use Rattle.seat_programs.specs.Posts.{WHOLE, post, posted, decided}
 use Rattle.seat_programs.specs.Attempts.{claims_from, heading_for, attempt, begin_call, claim_id, call, tried_again, retry_locked, retry, expire_outcome, expire, join}
@@ -18,69 +18,69 @@ use Rattle.seat_programs.specs.Readers.{LIMIT, kept_for, ends_with, posted_last,
 use Rattle.seat_programs.specs.Rounds.{round}
 use Rattle.seat_programs.specs.Cores.{resolved, next_step}
 use Rattle.sock_runs.specs.Sound.{first_step}
-use Rattle.sock_runs.proofs.Through.{Passes, PassesOpens, Follows, next_follows, through_release, through_address, through_set_failed}
+use Rattle.sock_runs.proofs.Through.{PassesPlain, PassesFails, PassesSends, PassesStores, PassesLocks, PassesJoins, PassesReads, PassesOpens, Passes, any_end, Follows, next_follows, through_release, through_address}
 use Rattle.sock_runs.proofs.ThroughLoops.{through_post, through_post_with, through_posted, through_decide, through_decided, through_answer, through_opens, through_round}
 use Rattle.sock_runs.proofs.ThroughSends.{through_accept, through_block}
 
-module _ (G : Program → Type 0) (g : Passes G) where
-  -- ## Attempts
-
+-- where all of a message and its at word make no difference
+module _ (G : Program → Type 0) (s : PassesSends G) (stored : PassesStores G) where
   through_claims : (more q id : ℕ) (heading : Heading) (bytes : List ℕ) (full accepted : Program) → G full → G accepted → G (claims_from more q id heading bytes full accepted)
   through_claims zero q id heading bytes full accepted none_ after = none_
-  through_claims (suc more) q id heading bytes full accepted none_ after = g.step (ClaimRequest id q) _ refl refl refl (λ found. either_way (found % 2 == 0) _ _ G
-      (through_accept G g id q (found / 2) heading bytes accepted after) (through_claims more (q + 1) id heading bytes full accepted none_ after))
+  through_claims (suc more) q id heading bytes full accepted none_ after = s.step (ClaimRequest id q) _ refl (λ found. either_way (found % 2 == 0) _ _ G
+      (through_accept G s id q (found / 2) heading bytes accepted after) (through_claims more (q + 1) id heading bytes full accepted none_ after))
 
   -- the bytes of the frame play no part
   through_tries : (requests o socket id n : ℕ) (heading : Heading) (bytes : List ℕ) (next : Program) → G next
       → G (address socket (Do (FindLink (socket_id_slot socket) (socket_id_version socket)) (λ k. Aside (StoreAt o (at_word (id_first id) (id_slot id) k n)) (λ _. Do (LookWord socket) (λ found.
       cond (vref_version found % 2 == 0) (claims_from requests 0 socket heading bytes (post id 3001 n (release (socket_id_slot socket) (λ _. next))) (release (socket_id_slot socket) (λ _. next)))
       (post id 1009 n (release (socket_id_slot socket) (λ _. next))))))) (λ _. post id 1009 n next))
-  through_tries requests o socket id n heading bytes next after = let rest : Program = release (socket_id_slot socket) (λ _. next) in let goes : G (release (socket_id_slot socket) (λ _. next)) = through_release G g (socket_id_slot socket) (λ _. next) (λ _. after) in
-      through_address G g socket _ (λ _. post id 1009 n next)
-      (g.step (FindLink (socket_id_slot socket) (socket_id_version socket)) _ refl refl refl (λ k. g.aside (StoreAt o (at_word (id_first id) (id_slot id) k n)) _ (λ _. g.step (LookWord socket) _ refl refl refl (λ found.
+  through_tries requests o socket id n heading bytes next after = let goes : G (release (socket_id_slot socket) (λ _. next)) = through_release G s.plain (socket_id_slot socket) (λ _. next) (λ _. after) in
+      through_address G s.plain socket _ (λ _. post id 1009 n next)
+      (s.plain.step (FindLink (socket_id_slot socket) (socket_id_version socket)) _ refl (λ k. stored o (at_word (id_first id) (id_slot id) k n) _ (λ _. s.step (LookWord socket) _ refl (λ found.
       either_way (vref_version found % 2 == 0) _ _ G
-      (through_claims requests 0 socket heading bytes (post id 3001 n (release (socket_id_slot socket) (λ _. next))) (release (socket_id_slot socket) (λ _. next)) (through_post G g id 3001 n (release (socket_id_slot socket) (λ _. next)) goes) goes)
-      (through_post G g id 1009 n (release (socket_id_slot socket) (λ _. next)) goes)))))
-      (λ _. through_post G g id 1009 n next after)
+      (through_claims requests 0 socket heading bytes (post id 3001 n (release (socket_id_slot socket) (λ _. next))) (release (socket_id_slot socket) (λ _. next)) (through_post G s.plain id 3001 n (release (socket_id_slot socket) (λ _. next)) goes) goes)
+      (through_post G s.plain id 1009 n (release (socket_id_slot socket) (λ _. next)) goes)))))
+      (λ _. through_post G s.plain id 1009 n next after)
 
-  through_attempt : (requests : ℕ) (asked : Asked) (id n socket : ℕ) (next : Program) → G next → G (attempt requests asked id n socket next)
+  pub through_attempt : (requests : ℕ) (asked : Asked) (id n socket : ℕ) (next : Program) → G next → G (attempt requests asked id n socket next)
   through_attempt requests asked id n socket next after = through_tries requests asked.operation socket id n (heading_for asked id n) (frame_of asked id n) next after
 
+module _ (G : Program → Type 0) (g : PassesPlain G) where
   -- ## Operations on calls
 
-  through_begin_call : (requests socket i : ℕ) (asked : Asked) (next : Program) → G next → G (begin_call requests socket i asked next)
-  through_begin_call requests socket i asked next after = g.aside (PutCall i asked) _ (λ _. g.aside (MakeId i asked.range) _ (λ found. g.aside (StoreCall asked.operation (call_id i (parts found).first)) _ (λ _.
-      through_attempt requests asked (call_id i (parts found).first) 0 socket next after)))
+  -- a call, where its first attempt may come
+  module _ (requests : ℕ) (asked : Asked) (next : Program) (after : G next) (first : (id socket : ℕ) → G (attempt requests asked id 0 socket next)) where
+    through_begin_call : (socket i : ℕ) → G (begin_call requests socket i asked next)
+    through_begin_call socket i = g.aside (PutCall i asked) _ refl (λ _. g.aside (MakeId i asked.range) _ refl (λ found. g.aside (StoreCall asked.operation (call_id i (parts found).first)) _ refl (λ _.
+        first (call_id i (parts found).first) socket)))
 
-  through_claim_id : (more i requests socket : ℕ) (asked : Asked) (next : Program) → G next → G (claim_id more i requests socket asked next)
-  through_claim_id zero i requests socket asked next after = after
-  through_claim_id (suc more) i requests socket asked next after = g.aside (ClaimId i) _ (λ found. either_way (found == 0) _ _ G
-      (through_begin_call requests socket i asked next after) (through_claim_id more (i + 1) requests socket asked next after))
+    through_claim_id : (more i socket : ℕ) → G (claim_id more i requests socket asked next)
+    through_claim_id zero i socket = after
+    through_claim_id (suc more) i socket = g.aside (ClaimId i) _ refl (λ found. either_way (found == 0) _ _ G (through_begin_call socket i) (through_claim_id more (i + 1) socket))
 
-  pub through_call : (requests ids : ℕ) (asked : Asked) (next : Program) → G next → G (call requests ids asked next)
-  through_call requests ids asked next after = g.step (LoadName (name_of asked 0)) _ refl refl refl (λ word. either_way (word == 0) _ _ G
-      (g.say asked.operation Unopened next after) (through_claim_id ids 0 requests (word - 1) asked next after))
+    pub through_call : (ids : ℕ) → G (call requests ids asked next)
+    through_call ids = g.step (LoadName (name_of asked 0)) _ refl (λ word. either_way (word == 0) _ _ G (g.say asked.operation Unopened next after) (through_claim_id ids 0 (word - 1)))
 
-  through_tried : (requests id n : ℕ) (asked : Asked) (next : Program) → G next → (exit : Unlocking) → G (tried_again requests id n asked next exit)
-  through_tried requests id n asked next after (IsOpen w) = g.step (LoadName (name_of asked n)) _ refl refl refl (λ word. either_way (word == 0) _ _ G
-      (through_post G g id 1009 n next after) (through_attempt requests asked id n (word - 1) next after))
-  through_tried requests id n asked next after (HasNext w e) = through_decide G g id w e (decided id next) (through_decided G g id next after)
+  -- a retry, where its attempt may come
+  module _ (requests id n : ℕ) (next : Program) (after : G next) (tries : (asked : Asked) (socket : ℕ) → G (attempt requests asked id n socket next)) where
+    through_tried : (asked : Asked) (exit : Unlocking) → G (tried_again requests id n asked next exit)
+    through_tried asked (IsOpen w) = g.step (LoadName (name_of asked n)) _ refl (λ word. either_way (word == 0) _ _ G (through_post G g id 1009 n next after) (tries asked (word - 1)))
+    through_tried asked (HasNext w e) = through_decide G g id w e (decided id next) (through_decided G g id next after)
 
-  through_retry_locked : (requests id n : ℕ) (next : Program) → G next → (exit : Locking) → G (retry_locked requests id n next exit)
-  through_retry_locked requests id n next after (NotThere w) = after
-  through_retry_locked requests id n next after (Has w) = g.aside (TakeCall (id_slot id)) _ (λ asked. g.aside (PutCall (id_slot id) asked) _ (λ _.
-      g.round (Unlocks (id_slot id) w false) refl (tried_again requests id n asked next) (through_tried requests id n asked next after)))
+    through_retry_locked : (exit : Locking) → G (retry_locked requests id n next exit)
+    through_retry_locked (NotThere w) = after
+    through_retry_locked (Has w) = g.aside (TakeCall (id_slot id)) _ refl (λ asked. g.aside (PutCall (id_slot id) asked) _ refl (λ _. g.round (Unlocks (id_slot id) w false) (tried_again requests id n asked next) refl (through_tried asked)))
 
-  pub through_retry : (requests id n : ℕ) (next : Program) → G next → G (retry requests id n next)
-  through_retry requests id n next after = g.round (Locks (id_slot id) (First (id_first id)) None) refl (retry_locked requests id n next) (through_retry_locked requests id n next after)
+    pub through_retry : PassesLocks G → G (retry requests id n next)
+    through_retry locks = locks (id_slot id) (First (id_first id)) None (retry_locked requests id n next) through_retry_locked
 
   pub through_expire : (o t : ℕ) (next : Program) → G next → G (expire o t next)
-  through_expire o t next after = g.aside (LoadCall t) _ (λ id. either_way (id == 0) _ _ G (g.say o NotBegun next after)
+  through_expire o t next after = g.aside (LoadCall t) _ refl (λ id. either_way (id == 0) _ _ G (g.say o NotBegun next after)
       (through_post_with G g id (error_of 1008 WHOLE) (λ how. posted id (error_of 1008 WHOLE) (Say o (expire_outcome how) next) how)
       (λ how. through_posted G g id (error_of 1008 WHOLE) (Say o (expire_outcome how) next) (g.say o (expire_outcome how) next after) how)))
 
-  pub through_join : (o t : ℕ) (next : Program) → G next → G (join o t next)
-  through_join o t next after = g.aside (LoadCall t) _ (λ id. either_way (id == 0) _ _ G (g.say o NotBegun next after) (g.round (Joins id) refl (λ _. Say o Joined next) (λ _. g.say o Joined next after)))
+  pub through_join : PassesJoins G → (o t : ℕ) (next : Program) → G next → G (join o t next)
+  through_join joins o t next after = g.aside (LoadCall t) _ refl (λ id. either_way (id == 0) _ _ G (g.say o NotBegun next after) (joins id (λ _. Say o Joined next) (λ _. g.say o Joined next after)))
 
   -- ## Readers
 
@@ -94,46 +94,49 @@ module _ (G : Program → Type 0) (g : Passes G) where
 
   through_post_each : (os : List ℕ) (k c : ℕ) (kept : List Frame) (next : Program) → G next → G (post_each os k c kept next)
   through_post_each [] k c kept next after = after
-  through_post_each (o ∷ os) k c kept next after = g.aside (LoadAt o) _ (λ w. let more = through_post_each os k c kept next after in either_way (w == 0) _ _ G more (either_way (at_word_link w == k) _ _ G
+  through_post_each (o ∷ os) k c kept next after = g.aside (LoadAt o) _ refl (λ w. let more = through_post_each os k c kept next after in either_way (w == 0) _ _ G more (either_way (at_word_link w == k) _ _ G
       (through_post_with G g (call_id (at_word_slot w) (at_word_first w)) (error_of c (at_word_attempt w)) (posted_last (call_id (at_word_slot w) (at_word_first w)) (error_of c (at_word_attempt w)) kept (post_each os k c kept next))
       (through_posted_last (call_id (at_word_slot w) (at_word_first w)) (error_of c (at_word_attempt w)) kept (post_each os k c kept next) more)) more))
 
-  through_thrown_away : G Rest → (how : Ended) → G (thrown_away how)
-  through_thrown_away rests how = either_way (how.fault && nat_lt how.reading.total LIMIT) _ _ G (g.round (Discards how.reading.link how.reading.total) refl (λ _. Rest) (λ _. rests)) rests
+module _ (Ends : Ended → Type 0) (G : Program → Type 0) (g : PassesReads Ends G) (fails : (how : Ended) → Ends how → PassesFails G how.code) (rests : G Rest) where
+  through_thrown_away : (how : Ended) → G (thrown_away how)
+  through_thrown_away how = either_way (how.fault && nat_lt how.reading.total LIMIT) _ _ G (g.discards how.reading.link how.reading.total (λ _. Rest) (λ _. rests)) rests
 
-  through_read : G Rest → (calls : List ℕ) (how : Ended) → G (read calls how)
-  through_read rests calls how = let last = through_post_each calls how.reading.link how.code how.reading.kept (thrown_away how) (through_thrown_away rests how) in either_way how.closed _ _ G last
-      (through_address G g how.reading.id _ _ (through_set_failed G g how.reading.id how.code _ (λ _. through_release G g (socket_id_slot how.reading.id) _ (λ _. last))) (λ _. last))
+  through_read : (calls : List ℕ) (how : Ended) → Ends how → G (read calls how)
+  through_read calls how ends = let last = through_post_each G g.plain calls how.reading.link how.code how.reading.kept (thrown_away how) (through_thrown_away how) in either_way how.closed _ _ G last
+      (through_address G g.plain how.reading.id _ _ (fails how ends how.reading.id _ (λ _. through_release G g.plain (socket_id_slot how.reading.id) _ (λ _. last))) (λ _. last))
 
   -- behind the word of its `open`
-  pub through_reading : G Rest → (calls : List ℕ) (k word : ℕ) → G (cond (word == NO_SOCKET) Rest (Round (Reads (record { ids = length calls; link = k; id = word - 1; rest = []; total = 0; kept = [] })) (read calls)))
-  through_reading rests calls k word = either_way (word == NO_SOCKET) _ _ G rests (g.round (Reads (record { ids = length calls; link = k; id = word - 1; rest = []; total = 0; kept = [] })) refl (read calls) (through_read rests calls))
+  pub through_reading : (calls : List ℕ) (k word : ℕ) → G (cond (word == NO_SOCKET) Rest (Round (Reads (record { ids = length calls; link = k; id = word - 1; rest = []; total = 0; kept = [] })) (read calls)))
+  through_reading calls k word = either_way (word == NO_SOCKET) _ _ G rests (g.reads (record { ids = length calls; link = k; id = word - 1; rest = []; total = 0; kept = [] }) (read calls) (through_read calls))
 
-  pub through_reader : PassesOpens G → G Rest → (calls : List ℕ) (k o : ℕ) → G (reader calls k o)
-  through_reader w rests calls k o = w.wait o _ (λ word. through_reading rests calls k word)
+  pub through_reader : PassesOpens G → (calls : List ℕ) (k o : ℕ) → G (reader calls k o)
+  through_reader w calls k o = w.wait o _ (λ word. through_reading calls k word)
 
-  -- ## Seats
+-- ## Seats
 
+-- where a message, a reading and what stands aside of them make no difference
+module _ (G : Program → Type 0) (g : Passes G) where
   first_round : (head : Head) (next : Exit head → Program) → ((o : ℕ) → (exits : ℕ → Program) → G (Round (Opens o) exits) → G (round (Opens o) exits)) → Follows G → G (Round head next) → G (round head next)
   first_round (Opens o) next opened f x = opened o next x
-  first_round other next opened f x = through_round G g other refl next (f.round other next x)
+  first_round other next opened f x = through_round any_end G g.reads g.joins other refl next (λ exit _. f.round other next x exit)
 
   -- the first step of a round, where the seat is at the head of a loop; of one that waits for an `open` it has to be said
   pub through_head : ((o : ℕ) → (exits : ℕ → Program) → G (Round (Opens o) exits) → G (round (Opens o) exits)) → Follows G → (program : Program) → G program → G (first_step program)
-  through_head opened f (Write w after) x = through_block G g w after (f.write w after x)
+  through_head opened f (Write w after) x = through_block G G g.sends.plain g.sends.links w after (f.write w after x)
   through_head opened f (Round head next) x = first_round head next opened f x
   through_head opened f _ x = x
 
   pub through_first : PassesOpens G → Follows G → (program : Program) → G program → G (first_step program)
-  through_first w f program x = through_head (λ o exits y. through_opens G g w o exits (f.round (Opens o) exits y)) f program x
+  through_first w f program x = through_head (λ o exits y. through_opens G g.sends.plain w o exits (f.round (Opens o) exits y)) f program x
 
   -- whatever retries wait
   pub through_resolved : Follows G → (ws : List Retry) (program : Program) → G program → G (resolved ws program)
-  through_resolved f ws (Say o outcome next) x = g.say o outcome (resolved ws next) (through_resolved f ws next (f.said o outcome next x))
-  through_resolved f ws (Sent o next) x = g.sent o (resolved ws next) (through_resolved f ws next (f.sent o next x))
+  through_resolved f ws (Say o outcome next) x = g.sends.plain.say o outcome (resolved ws next) (through_resolved f ws next (f.said o outcome next x))
+  through_resolved f ws (Sent o next) x = g.sends.sent o (resolved ws next) (through_resolved f ws next (f.sent o next x))
   through_resolved f ws (Keep r next) x = through_resolved f (ws ++ r ∷ []) next (f.keep r next x)
   through_resolved f [] (Retries requests after) x = through_resolved f [] after (f.retries requests after x)
-  through_resolved f (r ∷ ws) (Retries requests after) x = through_retry requests r.id r.attempt (Retries requests after) x
+  through_resolved f (r ∷ ws) (Retries requests after) x = through_retry G g.sends.plain requests r.id r.attempt (Retries requests after) x (λ asked socket. through_attempt G g.sends g.stored requests asked r.id r.attempt socket (Retries requests after) x) g.reads.locks
   through_resolved f ws _ x = x
 
   pub through_next : Follows G → (ws : List Retry) (program : Program) → G program → G (next_step (resolved ws program))

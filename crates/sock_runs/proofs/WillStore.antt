@@ -1,8 +1,6 @@
 -- A client that has an `open` to make stores its word, so where it is at rest that word isn't 0.
-use Rattle.std.proofs.Common.{◌≡◌, ◌≢◌, ℕ, zero, suc, ◌+◌, ◌<◌, ◌⊎◌, inl, inr, ⊎_elim, ◌==◌, ◌&&◌, Bool, true, false, eqb, eq-eqb, eqb-true, List, [], ◌∷◌, ◌++◌, get_or, set, get_or-set_same, refl, sym, ap, ◌∙◌, subst, arith}
+use Rattle.std.proofs.Common.{◌≡◌, ◌≢◌, ℕ, zero, suc, ◌+◌, ◌<◌, ◌⊎◌, inl, inr, ⊎_elim, ◌==◌, ◌&&◌, Bool, true, false, eqb, eq-eqb, eqb-true, List, [], ◌∷◌, get_or, set, get_or-set_same, refl, sym, ap, ◌∙◌, subst, arith}
 use Rattle.std.proofs.lemmas.Bool.{true≢false}
-use Rattle.std.specs.Prelude as std
-use Rattle.std.specs.Prelude.{None, Some}
 use mathlib.Core.Option.{Option, some}
 use lib.ListN.{get_elem?}
 use Rattle.atomic_table.proofs.Lists.{at_set}
@@ -17,15 +15,15 @@ use Rattle.seat_programs.specs.declared.task.Task.{Task}
 use Rattle.seat_programs.specs.declared.task.Sizes.{Sizes}
 use Rattle.seat_programs.specs.Calls.{Call, StoreOpen}
 use Rattle.seat_programs.specs.Programs.{Program, Do, Rest, open_from, make_socket}
-use Rattle.seat_programs.specs.Clients.{HeldLife, held_under, without_name, drop_of, operation, client_from}
+use Rattle.seat_programs.specs.Clients.{HeldLife, operation, client_from}
 use Rattle.seat_programs.specs.Cores.{Calls, Core, SeatState, word_of, found_at, hand_after, resolved, next_step, waiting_at, with_seat, stepped}
 use Rattle.seat_programs.specs.Ticks.{Moment, ticked, run, IsAnswered, AreAnswered}
 use Rattle.sock_runs.specs.May.{May}
 use Rattle.sock_runs.specs.Sound.{Sound, first_step, IsFitting, AreFitting, views_after}
 use Rattle.sock_runs.proofs.AtCalls.{AtCalls, every_exit}
-use Rattle.sock_runs.proofs.Through.{Passes, PassesOpens, Follows, at_calls_passes, at_calls_follow, comes_follows, through_fail, through_hold, through_drop}
-use Rattle.sock_runs.proofs.ThroughSends.{through_send}
-use Rattle.sock_runs.proofs.ThroughCalls.{through_call, through_expire, through_join, through_first, through_next}
+use Rattle.sock_runs.proofs.Through.{Passes, PassesOpens, Follows, at_calls_passes, at_calls_follow, comes_follows}
+use Rattle.sock_runs.proofs.ThroughCalls.{through_first, through_next}
+use Rattle.sock_runs.proofs.ThroughClients.{through_any}
 use Rattle.sock_runs.proofs.Cases.{ComesNext, tick_keeps_marks}
 use Rattle.sock_runs.proofs.Rounds.{begins_round}
 use Rattle.sock_runs.proofs.Passes.{goes_round}
@@ -69,21 +67,6 @@ module _ (o : ℕ) where
   other_open zero i n name k next after = λ _ _ _. inr (λ _. after)
   other_open (suc more) i n name k next after = λ found. either_way (found == 0) (make_socket n name k i next) (open_from more (i + 1) n name k next) (WillStore o) (λ _ _ _ _. inr (λ _ _. after)) (other_open more (i + 1) n name k next after)
 
-  will_drop : (n : ℕ) (id : std.Option ℕ) (next : Program) → G next → G (drop_of n id next)
-  will_drop n None next after = after
-  will_drop n (Some id) next after = through_drop G (will_passes o) n id next after
-
-  -- any other operation leaves what is to be stored
-  will_operation : (sizes : Sizes) (held : List HeldLife) (n : ℕ) (next : List HeldLife → Program) (op : Op) → ((h : List HeldLife) → G (next h)) → G (operation sizes held n next op)
-  will_operation sizes held n next (ops.Open name k) after = other_open sizes.slots 0 n name k (next held) (after held)
-  will_operation sizes held n next (ops.Send name bytes) after = through_send G (will_passes o) sizes.requests n name bytes (next held) (after held)
-  will_operation sizes held n next (ops.Call asked) after = through_call G (will_passes o) sizes.requests sizes.ids asked (next held) (after held)
-  will_operation sizes held n next (ops.Expire t) after = through_expire G (will_passes o) n t (next held) (after held)
-  will_operation sizes held n next (ops.Join t) after = through_join G (will_passes o) n t (next held) (after held)
-  will_operation sizes held n next (ops.Hold name) after = through_hold G (will_passes o) n name (λ id. next (held ++ (record { name = name; id = id }) ∷ [])) (next held) (λ id. after (held ++ (record { name = name; id = id }) ∷ [])) (after held)
-  will_operation sizes held n next (ops.Drop name) after = will_drop n (held_under name held) (next (without_name name held)) (after (without_name name held))
-  will_operation sizes held n next (ops.Fail name code) after = through_fail G (will_passes o) n name code (next held) (after held)
-
   own_operation : (sizes : Sizes) (held : List HeldLife) (next : List HeldLife → Program) (op : Op) → is_opening op ≡ true → G (operation sizes held o next op)
   own_operation sizes held next (ops.Open name k) e = own_open sizes.slots 0 name k (next held)
   own_operation sizes held next _ e = absurd (true≢false (sym e))
@@ -96,7 +79,9 @@ module _ (o : ℕ) where
   will_client sizes [] held there = absurd (true≢false (sym there))
   will_client sizes (t ∷ ts) held there = or_cases (is_opening t.op && (t.number == o)) (opens_in ts o) (G (client_from sizes held (t ∷ ts)))
       (λ here. subst (λ n. G (operation sizes held n (λ h. client_from sizes h ts) t.op)) (sym (eqb-true t.number o (second_true (is_opening t.op) (t.number == o) here))) (own_operation sizes held (λ h. client_from sizes h ts) t.op (first_true (is_opening t.op) (t.number == o) here)))
-      (λ later. will_operation sizes held t.number (λ h. client_from sizes h ts) t.op (λ h. will_client sizes ts h later)) there
+      (λ later. let after : (h : List HeldLife) → G (client_from sizes h ts) = λ h. will_client sizes ts h later in
+      -- any other operation leaves what is to be stored
+      through_any G (will_passes o) sizes held t.number (λ h. client_from sizes h ts) t.op after (λ name k e. other_open sizes.slots 0 t.number name k (client_from sizes held ts) (after held))) there
 
 -- ## Over a run
 

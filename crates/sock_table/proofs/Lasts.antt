@@ -17,11 +17,11 @@ use Rattle.sock_words.specs.declared.place_word.PlaceWord.{PlaceWord}
 use Rattle.sock_model.specs.declared.home.Home.TheVariants as home
 use Rattle.sock_rule.specs.declared.homes.LinkHome.{LinkHome}
 use Rattle.sock_rule.specs.declared.homes.SockHome.{SockHome}
-use Rattle.sock_rule.specs.declared.homes.SockHome.TheVariants.{Empty, Link, Message, Ways}
+use Rattle.sock_rule.specs.declared.homes.SockHome.TheVariants.{Link}
 use Rattle.sock_rule.specs.Shows.{shows_in, rose, way_at}
 use Rattle.sock_rule.proofs.LinksBack.{AtHome, links_back, place_of}
 use Rattle.sock_rule.proofs.Ways.{own_number}
-use Rattle.sock_model.specs.declared.home.Home.{Home}
+use Rattle.sock_rule.proofs.Handing.{number, bytes, is_done, link_of}
 use Rattle.sock_model.specs.declared.view.View.{View}
 use Rattle.sock_model.specs.declared.chain.Entry.{Entry}
 use Rattle.sock_model.specs.Layout.{ref_index, place_index}
@@ -86,29 +86,6 @@ ways_alike way (o ∷ os) [] long each = absurd (omega arith)
 ways_alike way (o ∷ os) (w ∷ ws) long each = let first = each 0 (omega arith) in let same : way o ≡ w = ap way (some-injective o first.0 first.1) ∙ first.2 in
     let rest = ways_alike way os ws (omega arith) (λ k kl. each (suc k) (omega arith)) in (λ i. same i ∷ rest i)
 
--- what a link's home shows
-abbrev number : Home → ℕ
-number (home.Link k took next done) = k
-number _ = 0
-
-abbrev bytes : Home → List ℕ
-bytes (home.Link k took next done) = took
-bytes _ = []
-
-abbrev is_done : Home → Bool
-is_done (home.Link k took next done) = done
-is_done _ = false
-
-abbrev shows_link : Home → ℕ
-shows_link (home.Link k took next done) = 1
-shows_link _ = 0
-
-by_value : {O : Type 0} {g : Ghosts O} (q : Plan) (ways : List (List ℕ)) (homes : List (SockHome O g)) (at k next : ℕ) (took : List ℕ) (done : Bool) (y : SockHome O g) → get_elem? homes at ≡ some y → shows_in q ways y ≡ home.Link k took next done → (h : LinkHome O g) × (get_elem? homes at ≡ some (Link h))
-by_value q ways homes at k next took done Empty e s = let a = ap shows_link s in absurd (omega arith)
-by_value q ways homes at k next took done (Message m) e s = let a = ap shows_link s in absurd (omega arith)
-by_value q ways homes at k next took done (Link h) e s = (h, e)
-by_value q ways homes at k next took done (Ways w) e s = let a = ap shows_link s in absurd (omega arith)
-
 -- the table at the end, and the seat that took in all others
 module _ {O : Type 0} {g : Ghosts O} (ways : List (List ℕ)) (q p : Plan) (id : ℕ) (v : View) (ws : List ℕ) (xs : List (SockHome O g)) (key : q ≡ p) (f : Final (Seen (OnTable (shows_in {O = O} {g = g} q ways) (rose {O = O} {g = g}) q) id v) ws xs) (all : v.share ≡ p.seats) (done : IsDone p v) where
   abbrev pub rule_at : OnTable (shows_in {O = O} {g = g} p ways) (rose {O = O} {g = g}) p f.0
@@ -118,7 +95,7 @@ module _ {O : Type 0} {g : Ghosts O} (ways : List (List ℕ)) (q p : Plan) (id :
   back k kl = links_back f.0 rule_at id v f.1.1 all done.bare k kl
 
   pub are_links : AreLinks p.requests p.links xs
-  are_links k kl = let b = back k kl in by_value p ways xs (p.requests + k) k b.next b.took b.done b.value (f.4 (p.requests + k) b.value b.there) b.shown_is
+  are_links k kl = let b = back k kl in let x = link_of p ways k b.took b.next b.done b.value b.shown_is in (x.0, f.4 (p.requests + k) b.value b.there ∙ ap some x.1)
 
   pub out_back : (log : List Entry) → log ≡ rule_at.rule.lawful.log → (outs : List O) → OutsOf p.requests p.links outs xs → (k : ℕ) → k < p.links → OutBack g.state p v log ws outs k
   out_back log same outs of k kl = let b = back k kl in let a = of k kl in let e : b.value ≡ Link a.0 = some-injective b.value (Link a.0) (sym (f.4 (p.requests + k) b.value b.there) ∙ a.2) in

@@ -1,3 +1,5 @@
+ghost use Rattle.std.specs.Prelude.{◌≡◌, ◌≢◌, true, false};
+
 /// The label of a message: which attempt of which operation it belongs to.
 #[derive(Clone, Copy)]
 pub struct Label {
@@ -22,6 +24,29 @@ pub struct Step {
     /// Of a compare_exchange, whether it exchanged; of a claim, whether it found its mark clear;
     /// true for every other step.
     pub won: bool,
+}
+
+impl Step {
+    /// What a compare_exchange from `from` to `next` did, which found `found`.
+    pub fn exchanged(found: u64, from: u64, next: u64) -> Step
+        ensures found { result.found ≡ found }
+        ensures won { found ≡ from → (result.next ≡ next) × (result.won ≡ true) }
+        ensures lost { found ≢ from → (result.next ≡ found) × (result.won ≡ false) }
+    {
+        if found == from {
+            Step {
+                found,
+                next,
+                won: true,
+            }
+        } else {
+            Step {
+                found,
+                next: found,
+                won: false,
+            }
+        }
+    }
 }
 
 /// How many of each thing the shared tables have.

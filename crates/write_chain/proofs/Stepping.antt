@@ -389,9 +389,4 @@ module _ {O : Type 0} {g : Ghosts O} {p : Plan} {ways : List (List ℕ)} {id las
 -- only the last stage is the last one
 pub must_last : {O : Type 0} {g : Ghosts O} (d : Doing O g) → IsLast d → ((link : LinkInHand O g) → d ≡ doing.Last link → ⊥) → ⊥
 must_last (doing.Last link) is none_ = none_ link refl
-must_last doing.First is none_ = is
-must_last (doing.Puts hand) is none_ = is
-must_last (doing.Waits hand) is none_ = is
-must_last (doing.Next link now) is none_ = is
-must_last (doing.Walks link top) is none_ = is
-must_last (doing.Back walk) is none_ = is
+must_last _ is none_ = is

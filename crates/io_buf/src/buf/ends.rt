@@ -33,9 +33,7 @@ impl IoBuf {
     {
         let keep = self.len - n;
         while self.len > keep {
-            if let Some(piece) = self.advance_first(self.len - keep) {
-                pool.recycle(piece);
-            }
+            recycle_gone(pool, self.advance_first(self.len - keep));
         }
     }
 
@@ -121,5 +119,15 @@ impl IoBuf {
             last.truncate(last.len() - n);
             self.push_reserved(last);
         }
+    }
+}
+
+// Gives the block back of a reference that went, where that frees it.
+#[inline(always)]
+fn recycle_gone(pool: &mut BlockPool, gone: Option<Bytes>)
+    ensures { pool.old ≤ pool.new }
+{
+    if let Some(piece) = gone {
+        pool.recycle(piece);
     }
 }

@@ -5,9 +5,7 @@ use Rattle.rpc_meta.proofs.gather.gather_each.Goals as goal
 
 pub loop-field-preserved : goal.loop-field-preserved
 loop-field-preserved c =
-    let i = c.loop-field.invariant in
-    let e = c.in_ok-field.ensures in
     record {
-      whole = e.message.0 ∙ i.whole;
-      so_far = part_step (gathered_of c.loop-field.parts) (gathered_of c.in_ok-parts.parts) c.loop-field.fields c.next.new.self c.args.bytes.now c.in_ok-field.field-0 c.in-Some.field _ i.whole e.exact e.place c.in-Some.is c.in_ok-parts.ensures i.so_far;
+      whole = c.in_ok-field.ensures.message.0 ∙ c.loop-field.invariant.whole;
+      so_far = part_step (gathered_of c.loop-field.parts) (gathered_of c.in_ok-parts.parts) c.loop-field.fields c.next.new.self c.args.bytes.now c.in_ok-field.field-0 c.in-Some.field _ c.loop-field.invariant.whole c.in_ok-field.ensures.exact c.in_ok-field.ensures.place c.in-Some.is c.in_ok-parts.ensures c.loop-field.invariant.so_far;
     }

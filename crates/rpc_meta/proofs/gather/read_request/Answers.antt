@@ -6,9 +6,7 @@ use Rattle.rpc_meta.proofs.gather.read_request.Goals as goal
 
 pub loop-field-preserved : goal.loop-field-preserved
 loop-field-preserved c =
-    let i = c.loop-field.invariant in
-    let e = c.in_ok-field.ensures in
     record {
-      whole = e.message.0 ∙ i.whole;
-      so_far = field_step name_added (names_of c.loop-field.request) (names_of c.add_to_request-request.result) c.loop-field.fields c.next.new.self c.args.bytes.now c.in_ok-field.field-0 c.in-Some.field _ i.whole e.rest c.in-Some.is c.add_to_request-request.ensures i.so_far;
+      whole = c.in_ok-field.ensures.message.0 ∙ c.loop-field.invariant.whole;
+      so_far = field_step name_added (names_of c.loop-field.request) (names_of c.add_to_request-request.result) c.loop-field.fields c.next.new.self c.args.bytes.now c.in_ok-field.field-0 c.in-Some.field _ c.loop-field.invariant.whole c.in_ok-field.ensures.rest c.in-Some.is c.add_to_request-request.ensures c.loop-field.invariant.so_far;
     }

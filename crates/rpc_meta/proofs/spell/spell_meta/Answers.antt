@@ -7,10 +7,14 @@ use Rattle.rpc_meta.proofs.Appending.{joined, room_for, room_behind}
 use Rattle.rpc_meta.proofs.spell.spell_meta.Goals as goal
 
 -- the request and the response
+abbrev asked : RpcMeta → List ℕ
+asked m = where_some (λ (r : meta.RequestMeta). bytes_field 1 (request_bytes r)) (option_map request_of m.request)
+
+abbrev answered : RpcMeta → List ℕ
+answered m = where_some (λ (r : meta.ResponseMeta). bytes_field 2 (response_bytes r)) (option_map response_of m.response)
+
 abbrev parts : RpcMeta → List ℕ
-parts m =
-    where_some (λ (r : meta.RequestMeta). bytes_field 1 (request_bytes r)) (option_map request_of m.request)
-    ++ where_some (λ (r : meta.ResponseMeta). bytes_field 2 (response_bytes r)) (option_map response_of m.response)
+parts m = asked m ++ answered m
 
 -- and the numbers behind them, one more each
 abbrev up_to_3 : RpcMeta → List ℕ
@@ -31,11 +35,19 @@ room_3 out m h = room_for out (up_to_3 m) (number_field 4 m.correlation_id) 128 
 all_room : (out : List ℕ) (m : RpcMeta) (all : ℕ) → all ≡ length (up_to_5 m) → length out + all ≤ 128 → length out + length (up_to_5 m) ≤ 128
 all_room out m all e h = let P : ℕ → Type 0 = λ n. length out + n ≤ 128 in subst P e h
 
+-- the pieces one behind another, up to the number 3 and up to the number 4
+at_3 : (out one two three : List ℕ) (m : RpcMeta) (z : ℤ) → one ≡ out ++ asked m → two ≡ one ++ answered m → three ≡ two ++ where_not_0 3 z → z ≡ m.compress_type → three ≡ out ++ up_to_3 m
+at_3 out one two three m z p q r e = joined out two three (parts m) (where_not_0 3 m.compress_type) (joined out one two (asked m) (answered m) p q) (r ∙ ap (λ z. two ++ where_not_0 3 z) e)
+
+at_4 : (out one two three four : List ℕ) (m : RpcMeta) (z : ℤ) → one ≡ out ++ asked m → two ≡ one ++ answered m → three ≡ two ++ where_not_0 3 z → z ≡ m.compress_type →
+    four ≡ three ++ number_field 4 m.correlation_id → four ≡ out ++ up_to_4 m
+at_4 out one two three four m z p q r e s = joined out three four (up_to_3 m) (number_field 4 m.correlation_id) (at_3 out one two three m z p q r e) s
+
 pub spell_int-requires : goal.spell_int-requires
 spell_int-requires c =
     let m = c.args.meta.now in
     let before = c.args.out.now in
-    let two = joined before c.spell_request.new.out c.spell_response.new.out _ _ c.spell_request.ensures.exact c.spell_response.ensures.exact in
+    let two = joined before c.spell_request.new.out c.spell_response.new.out (asked m) (answered m) c.spell_request.ensures.exact c.spell_response.ensures.exact in
     let fits : to_z w32 (of_z w32 m.compress_type) ≡ m.compress_type = search rules in
     let P : ℤ → Type 0 = λ z. length c.spell_response.new.out + length (where_not_0 3 z) ≤ 128 in
     subst P (sym fits) (room_behind before c.spell_response.new.out (parts m) (where_not_0 3 m.compress_type) 128 two (room_3 before m (all_room before m c.args.sizes.all c.requires.sizes.all c.requires.room)))
@@ -43,31 +55,23 @@ spell_int-requires c =
 pub spell_number-requires : goal.spell_number-requires
 spell_number-requires c =
     let m = c.args.meta.now in
-    let before = c.args.out.now in
-    let two = joined before c.spell_request.new.out c.spell_response.new.out _ _ c.spell_request.ensures.exact c.spell_response.ensures.exact in
     let fits : to_z w32 (of_z w32 m.compress_type) ≡ m.compress_type = search rules in
-    let three = joined before c.spell_response.new.out c.spell_int.new.out (parts m) (where_not_0 3 m.compress_type) two (c.spell_int.ensures ∙ ap (λ (z : ℤ). c.spell_response.new.out ++ where_not_0 3 z) fits) in
-    room_behind before c.spell_int.new.out (up_to_3 m) (number_field 4 m.correlation_id) 128 three (room_4 before m (all_room before m c.args.sizes.all c.requires.sizes.all c.requires.room))
+    let three = at_3 c.args.out.now c.spell_request.new.out c.spell_response.new.out c.spell_int.new.out m (to_z w32 (of_z w32 m.compress_type)) c.spell_request.ensures.exact c.spell_response.ensures.exact c.spell_int.ensures fits in
+    room_behind c.args.out.now c.spell_int.new.out (up_to_3 m) (number_field 4 m.correlation_id) 128 three (room_4 c.args.out.now m (all_room c.args.out.now m c.args.sizes.all c.requires.sizes.all c.requires.room))
 
 pub spell_int-requires-2 : goal.spell_int-requires-2
 spell_int-requires-2 c =
     let m = c.args.meta.now in
-    let before = c.args.out.now in
-    let two = joined before c.spell_request.new.out c.spell_response.new.out _ _ c.spell_request.ensures.exact c.spell_response.ensures.exact in
     let fits : to_z w32 (of_z w32 m.compress_type) ≡ m.compress_type = search rules in
-    let three = joined before c.spell_response.new.out c.spell_int.new.out (parts m) (where_not_0 3 m.compress_type) two (c.spell_int.ensures ∙ ap (λ (z : ℤ). c.spell_response.new.out ++ where_not_0 3 z) fits) in
-    let four = joined before c.spell_int.new.out c.spell_number.new.out (up_to_3 m) (number_field 4 m.correlation_id) three c.spell_number.ensures in
+    let four = at_4 c.args.out.now c.spell_request.new.out c.spell_response.new.out c.spell_int.new.out c.spell_number.new.out m (to_z w32 (of_z w32 m.compress_type)) c.spell_request.ensures.exact c.spell_response.ensures.exact c.spell_int.ensures fits c.spell_number.ensures in
     let size_fits : to_z w32 (of_z w32 m.attachment_size) ≡ m.attachment_size = search rules in
     let P : ℤ → Type 0 = λ z. length c.spell_number.new.out + length (where_not_0 5 z) ≤ 128 in
-    subst P (sym size_fits) (room_behind before c.spell_number.new.out (up_to_4 m) (where_not_0 5 m.attachment_size) 128 four (all_room before m c.args.sizes.all c.requires.sizes.all c.requires.room))
+    subst P (sym size_fits) (room_behind c.args.out.now c.spell_number.new.out (up_to_4 m) (where_not_0 5 m.attachment_size) 128 four (all_room c.args.out.now m c.args.sizes.all c.requires.sizes.all c.requires.room))
 
 pub returns-clause-exact : goal.returns-clause-exact
 returns-clause-exact c =
     let m = c.args.meta.now in
-    let before = c.args.out.now in
-    let two = joined before c.spell_request.new.out c.spell_response.new.out _ _ c.spell_request.ensures.exact c.spell_response.ensures.exact in
     let fits : to_z w32 (of_z w32 m.compress_type) ≡ m.compress_type = search rules in
-    let three = joined before c.spell_response.new.out c.spell_int.new.out (parts m) (where_not_0 3 m.compress_type) two (c.spell_int.ensures ∙ ap (λ (z : ℤ). c.spell_response.new.out ++ where_not_0 3 z) fits) in
-    let four = joined before c.spell_int.new.out c.spell_number.new.out (up_to_3 m) (number_field 4 m.correlation_id) three c.spell_number.ensures in
+    let four = at_4 c.args.out.now c.spell_request.new.out c.spell_response.new.out c.spell_int.new.out c.spell_number.new.out m (to_z w32 (of_z w32 m.compress_type)) c.spell_request.ensures.exact c.spell_response.ensures.exact c.spell_int.ensures fits c.spell_number.ensures in
     let size_fits : to_z w32 (of_z w32 m.attachment_size) ≡ m.attachment_size = search rules in
-    joined before c.spell_number.new.out c.spell_int-2.new.out (up_to_4 m) (where_not_0 5 m.attachment_size) four (c.spell_int-2.ensures ∙ ap (λ (z : ℤ). c.spell_number.new.out ++ where_not_0 5 z) size_fits)
+    joined c.args.out.now c.spell_number.new.out c.spell_int-2.new.out (up_to_4 m) (where_not_0 5 m.attachment_size) four (c.spell_int-2.ensures ∙ ap (λ (z : ℤ). c.spell_number.new.out ++ where_not_0 5 z) size_fits)

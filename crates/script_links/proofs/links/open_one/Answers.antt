@@ -1,4 +1,4 @@
-use Rattle.std.proofs.Common.{◌<◌, ap, sym, subst, ◌∙◌, rules}
+use Rattle.std.proofs.Common.{◌<◌, ℕ, ap, sym, subst, ◌∙◌, rules}
 use Rattle.sock_io.specs.declared.link.LinkSpec.{LinkSpec}
 use Rattle.script_links.proofs.Numbering.{untouched, opened_more, all_with}
 use Rattle.script_links.proofs.Offers.{asked_with}
@@ -14,8 +14,8 @@ returns-clause-unfinished g c old = all_with _ _ _ c.in_ok-opened.opened old (se
 pub returns-clause-prompt_each : goal.returns-clause-prompt_each
 returns-clause-prompt_each g c always_ready loop old = all_with _ _ _ c.in_ok-opened.opened old (search rules) (c.in_ok-opened.ensures.always_ready always_ready (ap (λ (s : LinkSpec). s.mode) c.spec_of.ensures ∙ loop))
 
-pub open-requires-clause-piece : goal.open-requires-clause-piece
-open-requires-clause-piece g c = subst (λ (s : LinkSpec). 0 < s.piece) (sym c.spec_of.ensures) c.requires.piece
+pub open-requires : goal.open-requires
+open-requires g c = (subst (λ (s : LinkSpec). 0 < s.piece) (sym c.spec_of.ensures) c.requires.piece, subst (λ (n : ℕ). n < 256) (sym c.requires.opened) c.requires.few)
 
 pub returns-clause-unclosed : goal.returns-clause-unclosed
 returns-clause-unclosed g c old = all_with _ _ _ c.in_ok-opened.opened old (search rules) c.in_ok-opened.ensures.fresh.closing

@@ -1,5 +1,6 @@
 use Rattle.script_run.specs.Played.{turns_of}
 use Rattle.script_run.proofs.Running.{playable_of, run_answered, plan_answered}
+use Rattle.sock_core.proofs.Linkers.{says_still}
 use Rattle.sock_core.proofs.Joining.{same_links_join}
 use Rattle.script_run.proofs.run.play.Goals as goal
 
@@ -14,3 +15,6 @@ returns-clause-plan g c = let table = c.in_ok-play_schedule.ensures.played.0 in 
 
 pub returns-clause-ends : goal.returns-clause-ends
 returns-clause-ends g c = same_links_join c.args.machine.now c.play_schedule.new.machine c.settle.new.self c.play_schedule.ensures.ends c.settle.ensures.ends
+
+pub returns-clause-says : goal.returns-clause-says
+returns-clause-says g c = says_still c.play_schedule.ensures.says c.settle.ensures.says

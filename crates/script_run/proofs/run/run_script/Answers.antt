@@ -51,5 +51,5 @@ returns-in-Err-clause-kept g c known =
     c.give_back.ensures.faults ∙ c.in-Err.ensures.kept (λ e. let is : c.in-Err.fault ≡ Failed = cc in known (ap (λ x. Err x) (c.not_opened.ensures.kept is)))
 
 pub returns-in-Ok-clause-text : goal.returns-in-Ok-clause-text
-returns-in-Ok-clause-text g c = IfOk-weaker c.run_over.result _ (λ text. g.L.Linker.always_ready c.args.links.now ≡ true → TellClosed g.L.I.In.state → IsPrinted (TellOffers g.L.O.Out.state g.L.I.In.state) c.args.print c.args.script (turns_of c.args.script c.args.schedule) text.items (g.L.Linker.back c.run_over.new.links))
+returns-in-Ok-clause-text g c = IfOk-weaker c.run_over.result _ (λ text. g.L.LinkerTold.always_ready c.args.links.now ≡ true → TellClosed g.L.I.In.state → IsPrinted (TellOffers g.L.O.Out.state g.L.I.In.state) c.args.print c.args.script (turns_of c.args.script c.args.schedule) text.items (g.L.LinkerTold.back c.run_over.new.links))
     (λ text h always_ready tell. h (c.in-Ok.ensures.always_ready ∙ always_ready) tell) c.run_over.ensures.text

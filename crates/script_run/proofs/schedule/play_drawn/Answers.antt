@@ -1,4 +1,4 @@
-use Rattle.std.proofs.Common.{◌<◌, ◌+◌, ap, sym, subst, ◌∙◌, arith}
+use Rattle.std.proofs.Common.{◌<◌, ◌+◌, ap, sym, subst, arith}
 use Rattle.brpc_model.specs.Operations.{clients}
 use Rattle.report_fits.proofs.Sizes.{keeps_limits}
 use Rattle.script_print.specs.Seats.{SeatDraws}
@@ -36,23 +36,8 @@ tick_seat-requires-clause-playable g c κs within = c.loop.invariant.playable
 pub returns-in_err-tick_seat-clause-ends : goal.returns-in_err-tick_seat-clause-ends
 returns-in_err-tick_seat-clause-ends g c = same_links_join c.args.machine.now c.loop.machine c.tick_seat.new.machine c.loop.invariant.ends c.tick_seat.ensures.ends
 
-pub returns-in_err-tick_seat-clause-asked : goal.returns-in_err-tick_seat-clause-asked
-returns-in_err-tick_seat-clause-asked g c = c.tick_seat.ensures.asked ∙ c.loop.invariant.says.asked
-
-pub returns-in_err-tick_seat-clause-accepted : goal.returns-in_err-tick_seat-clause-accepted
-returns-in_err-tick_seat-clause-accepted g c = c.tick_seat.ensures.accepted ∙ c.loop.invariant.says.accepted
-
-pub returns-in_err-tick_seat-clause-back : goal.returns-in_err-tick_seat-clause-back
-returns-in_err-tick_seat-clause-back g c = c.tick_seat.ensures.back ∙ c.loop.invariant.says.back
-
-pub returns-in_err-tick_seat-clause-done : goal.returns-in_err-tick_seat-clause-done
-returns-in_err-tick_seat-clause-done g c = c.tick_seat.ensures.done ∙ c.loop.invariant.says.done
-
-pub returns-in_err-tick_seat-clause-faults : goal.returns-in_err-tick_seat-clause-faults
-returns-in_err-tick_seat-clause-faults g c = c.tick_seat.ensures.faults ∙ c.loop.invariant.says.faults
-
-pub returns-in_err-tick_seat-clause-always_ready : goal.returns-in_err-tick_seat-clause-always_ready
-returns-in_err-tick_seat-clause-always_ready g c = c.tick_seat.ensures.always_ready ∙ c.loop.invariant.says.always_ready
+pub returns-in_err-tick_seat-clause-says : goal.returns-in_err-tick_seat-clause-says
+returns-in_err-tick_seat-clause-says g c = says_still c.loop.invariant.says c.tick_seat.ensures.says
 
 pub loop-preserved : goal.loop-preserved
 loop-preserved g c =
@@ -65,7 +50,7 @@ loop-preserved g c =
           (seats_there script c.loop.counter c.count-end.result c.loop-test.true i.count) (seat_drawn script c.loop.counter c.args.seed c.next_seat-seat.result c.loop.seats i.draws c.next_seat-seat.ensures.seat) i.played step.ticked;
       playable = step.playable;
       ends = same_links_join c.args.machine.now c.loop.machine c.tick_seat.new.machine i.ends step.ends;
-      says = says_still i.says step.asked step.accepted step.back step.done step.faults step.always_ready;
+      says = says_still i.says step.says;
     }
 
 pub returns-clause-played : goal.returns-clause-played
@@ -78,20 +63,5 @@ returns-clause-played g c =
 pub returns-clause-ends : goal.returns-clause-ends
 returns-clause-ends g c = c.loop.invariant.ends
 
-pub returns-clause-asked : goal.returns-clause-asked
-returns-clause-asked g c = c.loop.invariant.says.asked
-
-pub returns-clause-accepted : goal.returns-clause-accepted
-returns-clause-accepted g c = c.loop.invariant.says.accepted
-
-pub returns-clause-back : goal.returns-clause-back
-returns-clause-back g c = c.loop.invariant.says.back
-
-pub returns-clause-done : goal.returns-clause-done
-returns-clause-done g c = c.loop.invariant.says.done
-
-pub returns-clause-faults : goal.returns-clause-faults
-returns-clause-faults g c = c.loop.invariant.says.faults
-
-pub returns-clause-always_ready : goal.returns-clause-always_ready
-returns-clause-always_ready g c = c.loop.invariant.says.always_ready
+pub returns-clause-says : goal.returns-clause-says
+returns-clause-says g c = c.loop.invariant.says

@@ -1,4 +1,4 @@
-use Rattle.std.proofs.Common.{refl}
+use Rattle.sock_core.proofs.Linkers.{says_same}
 use Rattle.sock_core.proofs.Joining.{same_links_none}
 use Rattle.sock_core.proofs.Endings.{on_ok}
 use Rattle.script_run.proofs.Lines.{tick_mark, to_mark, unscheduled_mark}
@@ -17,10 +17,5 @@ returns-in_default g c = record {
   played = unscheduled_mark c.args.machine.now c.args.mark.now c.in_default.not-Tick c.in_default.not-To;
   playable = c.requires.playable;
   ends = same_links_none c.args.machine.now;
-  asked = refl;
-  accepted = refl;
-  back = refl;
-  done = refl;
-  faults = refl;
-  always_ready = refl;
+  says = says_same;
 }

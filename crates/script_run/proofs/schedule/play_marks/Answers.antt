@@ -19,6 +19,9 @@ loop-mark-init g c = record {
 pub returns-in_err-play_mark-clause-ends : goal.returns-in_err-play_mark-clause-ends
 returns-in_err-play_mark-clause-ends g c = same_links_join c.args.machine.now c.loop-mark.machine c.play_mark.new.machine c.loop-mark.invariant.ends c.play_mark.ensures.ends
 
+pub returns-in_err-play_mark-clause-says : goal.returns-in_err-play_mark-clause-says
+returns-in_err-play_mark-clause-says g c = says_still c.loop-mark.invariant.says c.play_mark.ensures.says
+
 pub loop-mark-preserved : goal.loop-mark-preserved
 loop-mark-preserved g c =
     let i = c.loop-mark.invariant in
@@ -26,7 +29,7 @@ loop-mark-preserved g c =
       played = mark_played c.args.marks.now c.loop-mark.mark-index c.mark-item.result c.args.machine.now c.loop-mark.machine c.play_mark.new.machine c.loop-mark-test.true c.mark-item.is i.played step.played;
       playable = step.playable;
       ends = same_links_join c.args.machine.now c.loop-mark.machine c.play_mark.new.machine i.ends step.ends;
-      says = says_still i.says step.asked step.accepted step.back step.done step.faults step.always_ready;
+      says = says_still i.says step.says;
     }
 
 pub returns-clause-played : goal.returns-clause-played

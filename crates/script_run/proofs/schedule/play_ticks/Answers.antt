@@ -18,6 +18,9 @@ loop-init g c = record {
 pub returns-in_err-tick_seat-clause-ends : goal.returns-in_err-tick_seat-clause-ends
 returns-in_err-tick_seat-clause-ends g c = same_links_join c.args.machine.now c.loop.machine c.tick_seat.new.machine c.loop.invariant.ends c.tick_seat.ensures.ends
 
+pub returns-in_err-tick_seat-clause-says : goal.returns-in_err-tick_seat-clause-says
+returns-in_err-tick_seat-clause-says g c = says_still c.loop.invariant.says c.tick_seat.ensures.says
+
 pub returns-then-not-branch-clause-played : goal.returns-then-not-branch-clause-played
 returns-then-not-branch-clause-played g c =
     let step = c.in_ok-tick_seat.ensures in
@@ -28,6 +31,9 @@ returns-then-not-branch-clause-played g c =
 pub returns-then-not-branch-clause-ends : goal.returns-then-not-branch-clause-ends
 returns-then-not-branch-clause-ends g c = same_links_join c.args.machine.now c.loop.machine c.tick_seat.new.machine c.loop.invariant.ends c.in_ok-tick_seat.ensures.ends
 
+pub returns-then-not-branch-clause-says : goal.returns-then-not-branch-clause-says
+returns-then-not-branch-clause-says g c = says_still c.loop.invariant.says c.tick_seat.ensures.says
+
 pub loop-preserved : goal.loop-preserved
 loop-preserved g c =
     let i = c.loop.invariant in
@@ -35,7 +41,7 @@ loop-preserved g c =
       played = one_more_tick c.args.seat c.loop.counter c.args.machine.now c.loop.machine c.tick_seat.new.machine i.played step.ticked;
       playable = step.playable;
       ends = same_links_join c.args.machine.now c.loop.machine c.tick_seat.new.machine i.ends step.ends;
-      says = says_still i.says step.asked step.accepted step.back step.done step.faults step.always_ready;
+      says = says_still i.says step.says;
     }
 
 pub returns-clause-played : goal.returns-clause-played

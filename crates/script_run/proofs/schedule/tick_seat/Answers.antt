@@ -10,12 +10,7 @@ returns-in-Moved g c =
       idle = λ e. absurd (cc);
       playable = playable_by c.tick.new.self step.rest step.sizes;
       ends = step.same.1;
-      asked = step.asked;
-      accepted = step.accepted;
-      back = step.back;
-      done = step.done;
-      faults = step.faults;
-      always_ready = step.always_ready;
+      says = step.says;
     }
 
 pub returns-in-Idle-clause-ticked : goal.returns-in-Idle-clause-ticked

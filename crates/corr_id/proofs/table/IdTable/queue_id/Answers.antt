@@ -1,10 +1,9 @@
 use Rattle.std.proofs.Common.{arith, refl, ap, ◌∙◌, subst, ℕ, ◌≢◌}
-use mathlib.Core.Logic.{dite}
-use native.Mathlib.Decide.{ℕ_discrete}
 use Rattle.corr_core.specs.Word.{parts}
 use Rattle.corr_core.specs.declared.marks.Note.TheVariants.{Saw, Queued}
 use Rattle.corr_id.specs.Calls.{Became, one, FoundUpTo}
 use Rattle.corr_id.proofs.Steps.{queueing, queued_is, put_is}
+use Rattle.corr_id.proofs.Seats.{exchange_stays}
 use Rattle.corr_id.proofs.Becoming.{became_as, became_note}
 use Rattle.corr_id.proofs.table.IdTable.queue_id.Goals as goal
 
@@ -17,11 +16,7 @@ compare_exchange-requires g c = let some_error : c.args.error ≢ 0 = (λ z. let
 )
 
 pub returns-clause-seat : goal.returns-clause-seat
-returns-clause-seat g c = let t = c.compare_exchange.ensures.2 c.args.at refl in (
-  c.compare_exchange.ensures.0,
-  c.compare_exchange.ensures.1,
-  dite (ℕ_discrete c.compare_exchange.result c.args.from) (λ z. ap (λ m. m.1) (t.0 z).0) (λ n. ap (λ m. m.1) (t.1 n)),
-)
+returns-clause-seat g c = let t = c.compare_exchange.ensures.2 c.args.at refl in exchange_stays c.args.seat.now c.compare_exchange.new.seat c.compare_exchange.result c.args.from c.compare_exchange.ensures.0 c.compare_exchange.ensures.1 (λ z. ap (λ m. m.1) (t.0 z).0) (λ n. ap (λ m. m.1) (t.1 n))
 
 pub returns-clause-won : goal.returns-clause-won
 returns-clause-won g c = λ hit. let t = ((c.compare_exchange.ensures.2 c.args.at refl).0 hit).0 in

@@ -1,11 +1,10 @@
 use Rattle.std.proofs.Common.{arith, refl, ap, ◌∙◌, ℕ}
-use mathlib.Core.Logic.{dite}
-use native.Mathlib.Decide.{ℕ_discrete}
 use Rattle.corr_core.specs.Word.{parts, tick}
 use Rattle.corr_core.specs.declared.marks.Note.TheVariants.{Saw}
 use Rattle.id_rule.specs.Lawful.{with_note}
 use Rattle.id_rule.specs.Plays.{advanced_view, popped_view}
 use Rattle.corr_id.proofs.Steps.{unlocking}
+use Rattle.corr_id.proofs.Seats.{exchange_stays}
 use Rattle.corr_id.proofs.Becoming.{ticks, unlocked_became, relocked_became}
 use Rattle.corr_id.proofs.table.IdTable.unlock_id.Goals as goal
 
@@ -18,11 +17,7 @@ compare_exchange-requires g c = let w = parts c.args.from in (
 )
 
 pub returns-clause-seat : goal.returns-clause-seat
-returns-clause-seat g c = let w = parts c.args.from in let t = c.compare_exchange.ensures.2 c.args.at w.first w.range w.attempt w.oldest w.second c.requires.lock.0 refl c.requires.lock.1 in (
-  c.compare_exchange.ensures.0,
-  c.compare_exchange.ensures.1,
-  dite (ℕ_discrete c.compare_exchange.result c.args.from) (λ z. ap (λ m. m.1) (t.0 z)) (λ n. ap (λ m. m.1) (t.1 n).0),
-)
+returns-clause-seat g c = let w = parts c.args.from in let t = c.compare_exchange.ensures.2 c.args.at w.first w.range w.attempt w.oldest w.second c.requires.lock.0 refl c.requires.lock.1 in exchange_stays c.args.seat.now c.compare_exchange.new.seat c.compare_exchange.result c.args.from c.compare_exchange.ensures.0 c.compare_exchange.ensures.1 (λ z. ap (λ m. m.1) (t.0 z)) (λ n. ap (λ m. m.1) (t.1 n).0)
 
 pub returns-clause-won : goal.returns-clause-won
 returns-clause-won g c = λ hit x has. let w = parts c.args.from in let t = (c.compare_exchange.ensures.2 c.args.at w.first w.range w.attempt w.oldest w.second x refl has).0 hit in let noted = with_note c.args.at (Saw c.args.from) c.args.seat.now.me.0 in

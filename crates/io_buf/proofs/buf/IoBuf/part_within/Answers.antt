@@ -18,21 +18,19 @@ fits c =
 
 pub returns-clause-items : goal.returns-clause-items
 returns-clause-items c =
-    let from = c.args.from in
-    let to = c.args.to in
     let p = c.get-first.result.now in
     let ps = c.self.inside.pieces.items in
     c.in_ok-piece.ensures.ok
-    ∙ part_lies p (concat (drop 1 ps)) from to (omega (arith, c.requires.some.0)) (fits c)
-    ∙ ap (λ (l : List (List ℕ)). drop from (take to (concat l))) (sym (first_here c))
-    ∙ ap (λ (b : Buffer). drop from (take to b.items)) c.self.view_is
+    ∙ part_lies p (concat (drop 1 ps)) c.args.from c.args.to (omega (arith, c.requires.some.0)) (fits c)
+    ∙ ap (λ (l : List (List ℕ)). drop c.args.from (take c.args.to (concat l))) (sym (first_here c))
+    ∙ ap (λ (b : Buffer). drop c.args.from (take c.args.to b.items)) c.self.view_is
 
 pub returns-clause-sizes : goal.returns-clause-sizes
 returns-clause-sizes c =
-    let from = c.args.from in
-    let to = c.args.to in
     let p = c.get-first.result.now in
     let ps = c.self.inside.pieces.items in
+    let from = c.args.from in
+    let to = c.args.to in
     let size : length c.in_ok-piece.piece ≡ to - from = omega (arith, ap length c.in_ok-piece.ensures.ok, length-take (to - from) (drop from p), length-drop from p, fits c) in
     ap (λ (n : ℕ). n ∷ []) size
     ∙ part_sizes (length p) from to (map length (drop 1 ps)) c.requires.some.0 (fits c)

@@ -1,4 +1,4 @@
-use Rattle.std.proofs.Common.{◌++◌, ◌∷◌, []}
+use Rattle.std.proofs.Common.{◌++◌}
 use Rattle.sock_io.specs.Link.{given_of}
 use Rattle.net_link.proofs.tcp_in.TcpIn.note.Given as goal
 
@@ -7,9 +7,3 @@ ghost-of a = a.by.now.list
 
 abbrev pub ghost-of-2 : goal.ghost-of-2
 ghost-of-2 a = a.by.now.0.list ++ given_of a.by.now.1.now a.by.now.2
-
-abbrev pub ghost-of-3 : goal.ghost-of-3
-ghost-of-3 a = a.by.now.list
-
-abbrev pub ghost-of-4 : goal.ghost-of-4
-ghost-of-4 a = a.by.now.0.list ++ a.by.now.1 ∷ []

@@ -1,31 +1,19 @@
-use Rattle.std.proofs.Common.{rules, ◌≡◌, length, map, ap, sym, ◌∙◌, subst, arith}
+use Rattle.std.proofs.Common.{rules, ◌≡◌, length, ap, subst, arith}
 use Rattle.std.proofs.Props.{props}
 use Rattle.std.proofs.Math.Logic.{∥∥₁_elim}
 use Rattle.sock_io.specs.Link.{end_of}
 use Rattle.sock_core.specs.Machines.{MachineState}
-use Rattle.sock_core.proofs.Making.{map_map}
+use Rattle.sock_core.proofs.Making.{told_alike}
 use Rattle.sock_core.proofs.machine.Machine.finish.Goals as goal
 
 pub returns-clause-took : goal.returns-clause-took
-returns-clause-took g c =
-    let outs : c.args.self.links.outs ≡ map (λ e. g.O.Out.state e.out) c.tables-inside.inside.0.0.ends.items = search rules in
-    let ends : c.args.self.ends ≡ map (λ e. end_of (g.O.Out.state e.out) (g.I.In.state e.inn)) c.tables-inside.inside.0.0.ends.items = search rules in
-    ap (map (λ o. o.took)) outs ∙ (map_map (λ e. g.O.Out.state e.out) (λ o. o.took) c.tables-inside.inside.0.0.ends.items
-    ∙ sym (ap (map (λ e. e.took)) ends ∙ map_map (λ e. end_of (g.O.Out.state e.out) (g.I.In.state e.inn)) (λ e. e.took) c.tables-inside.inside.0.0.ends.items))
+returns-clause-took g c = told_alike (λ e. g.O.Out.state e.out) (λ e. end_of (g.O.Out.state e.out) (g.I.In.state e.inn)) (λ x. x.took) (λ e. e.took) c.tables-inside.inside.0.0.ends.items c.args.self.links.outs c.args.self.ends (search rules) (search rules) refl
 
 pub returns-clause-gave_count : goal.returns-clause-gave_count
-returns-clause-gave_count g c =
-    let inns : c.args.self.links.inns ≡ map (λ e. g.I.In.state e.inn) c.tables-inside.inside.0.0.ends.items = search rules in
-    let ends : c.args.self.ends ≡ map (λ e. end_of (g.O.Out.state e.out) (g.I.In.state e.inn)) c.tables-inside.inside.0.0.ends.items = search rules in
-    ap (map (λ i. i.gave)) inns ∙ (map_map (λ e. g.I.In.state e.inn) (λ i. i.gave) c.tables-inside.inside.0.0.ends.items
-    ∙ sym (ap (map (λ e. e.gave_count)) ends ∙ map_map (λ e. end_of (g.O.Out.state e.out) (g.I.In.state e.inn)) (λ e. e.gave_count) c.tables-inside.inside.0.0.ends.items))
+returns-clause-gave_count g c = told_alike (λ e. g.I.In.state e.inn) (λ e. end_of (g.O.Out.state e.out) (g.I.In.state e.inn)) (λ x. x.gave) (λ e. e.gave_count) c.tables-inside.inside.0.0.ends.items c.args.self.links.inns c.args.self.ends (search rules) (search rules) refl
 
 pub returns-clause-gave : goal.returns-clause-gave
-returns-clause-gave g c =
-    let inns : c.args.self.links.inns ≡ map (λ e. g.I.In.state e.inn) c.tables-inside.inside.0.0.ends.items = search rules in
-    let ends : c.args.self.ends ≡ map (λ e. end_of (g.O.Out.state e.out) (g.I.In.state e.inn)) c.tables-inside.inside.0.0.ends.items = search rules in
-    ap (map (λ i. i.gave_bytes)) inns ∙ (map_map (λ e. g.I.In.state e.inn) (λ i. i.gave_bytes) c.tables-inside.inside.0.0.ends.items
-    ∙ sym (ap (map (λ e. e.gave)) ends ∙ map_map (λ e. end_of (g.O.Out.state e.out) (g.I.In.state e.inn)) (λ e. e.gave) c.tables-inside.inside.0.0.ends.items))
+returns-clause-gave g c = told_alike (λ e. g.I.In.state e.inn) (λ e. end_of (g.O.Out.state e.out) (g.I.In.state e.inn)) (λ x. x.gave_bytes) (λ e. e.gave) c.tables-inside.inside.0.0.ends.items c.args.self.links.inns c.args.self.ends (search rules) (search rules) refl
 
 pub gather-requires-clause-few : goal.gather-requires-clause-few
 gather-requires-clause-few g c =

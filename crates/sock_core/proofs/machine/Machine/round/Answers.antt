@@ -25,13 +25,13 @@ loop-seat-preserved g c =
         so_far = subst (RoundSoFar c.args.self.now c.advance.new.self (from_to 1 ((c.loop-seat.seat + 1) - 1))) (sym w.moved-is) (subst (λ (l : List ℕ). RoundSoFar c.args.self.now c.advance.new.self l true) more
             (round_moved c.args.self.now c.loop-seat.self c.advance.new.self (from_to 1 (c.loop-seat.seat - 1)) c.loop-seat.seat c.loop-seat.moved c.in_ok-advance.field-0 i.so_far t.tick t.left t.enough.1 rest moved.0 moved.1));
         inside = omega arith;
-        says = says_still c.loop-seat.invariant.says c.advance.ensures.asked c.advance.ensures.accepted c.advance.ensures.back c.advance.ensures.done c.advance.ensures.faults c.advance.ensures.always_ready;
+        says = says_still c.loop-seat.invariant.says c.advance.ensures.says;
       }
       | goal.else-is_moved w ↦ record {
         so_far = subst (RoundSoFar c.args.self.now c.advance.new.self (from_to 1 ((c.loop-seat.seat + 1) - 1))) (sym w.moved-is) (subst (λ (l : List ℕ). RoundSoFar c.args.self.now c.advance.new.self l c.loop-seat.moved) more
             (round_still c.args.self.now c.loop-seat.self c.advance.new.self (from_to 1 (c.loop-seat.seat - 1)) c.loop-seat.seat c.loop-seat.moved c.in_ok-advance.field-0 i.so_far t.tick t.left t.enough.1 rest (c.is_moved.ensures.still w.if-is_moved.false)));
         inside = omega arith;
-        says = says_still c.loop-seat.invariant.says c.advance.ensures.asked c.advance.ensures.accepted c.advance.ensures.back c.advance.ensures.done c.advance.ensures.faults c.advance.ensures.always_ready;
+        says = says_still c.loop-seat.invariant.says c.advance.ensures.says;
       }
     ]
 
@@ -60,13 +60,13 @@ loop-link-preserved g c =
         so_far = subst (RoundSoFar c.args.self.now c.advance-in-loop-link.new.self (clients ++ from_to READERS (c.loop-link.link + 1))) (sym w.moved-is) (subst (λ (l : List ℕ). RoundSoFar c.args.self.now c.advance-in-loop-link.new.self l true) more
             (round_moved c.args.self.now c.loop-link.self c.advance-in-loop-link.new.self (clients ++ from_to READERS c.loop-link.link) (READERS + c.loop-link.link) c.loop-link.moved c.in_ok-advance-2.field-0 i.so_far t.tick t.left t.enough.1 rest moved.0 moved.1));
         inside = omega (arith, is, same);
-        says = says_still c.loop-link.invariant.says c.advance-in-loop-link.ensures.asked c.advance-in-loop-link.ensures.accepted c.advance-in-loop-link.ensures.back c.advance-in-loop-link.ensures.done c.advance-in-loop-link.ensures.faults c.advance-in-loop-link.ensures.always_ready;
+        says = says_still c.loop-link.invariant.says c.advance-in-loop-link.ensures.says;
       }
       | goal.else-is_moved-2 w ↦ record {
         so_far = subst (RoundSoFar c.args.self.now c.advance-in-loop-link.new.self (clients ++ from_to READERS (c.loop-link.link + 1))) (sym w.moved-is) (subst (λ (l : List ℕ). RoundSoFar c.args.self.now c.advance-in-loop-link.new.self l c.loop-link.moved) more
             (round_still c.args.self.now c.loop-link.self c.advance-in-loop-link.new.self (clients ++ from_to READERS c.loop-link.link) (READERS + c.loop-link.link) c.loop-link.moved c.in_ok-advance-2.field-0 i.so_far t.tick t.left t.enough.1 rest (c.is_moved-in-loop-link.ensures.still w.if-is_moved-2.false)));
         inside = omega (arith, is, same);
-        says = says_still c.loop-link.invariant.says c.advance-in-loop-link.ensures.asked c.advance-in-loop-link.ensures.accepted c.advance-in-loop-link.ensures.back c.advance-in-loop-link.ensures.done c.advance-in-loop-link.ensures.faults c.advance-in-loop-link.ensures.always_ready;
+        says = says_still c.loop-link.invariant.says c.advance-in-loop-link.ensures.says;
       }
     ]
 
@@ -83,3 +83,9 @@ returns-in_err-advance-clause-same g c = let i = c.loop-seat.invariant.so_far in
 
 pub returns-in_err-advance-2-clause-same : goal.returns-in_err-advance-2-clause-same
 returns-in_err-advance-2-clause-same g c = let i = c.loop-link.invariant.so_far in both_join c.args.self.now c.loop-link.self c.advance-in-loop-link.new.self (i.ran.0, i.ran.1) c.advance-in-loop-link.ensures.same
+
+pub returns-in_err-advance-clause-says : goal.returns-in_err-advance-clause-says
+returns-in_err-advance-clause-says g c = says_still c.loop-seat.invariant.says c.advance.ensures.says
+
+pub returns-in_err-advance-2-clause-says : goal.returns-in_err-advance-2-clause-says
+returns-in_err-advance-2-clause-says g c = says_still c.loop-link.invariant.says c.advance-in-loop-link.ensures.says

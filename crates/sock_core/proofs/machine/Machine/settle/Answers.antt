@@ -1,6 +1,7 @@
 use Rattle.std.proofs.Common.{subst}
 use Rattle.sock_core.specs.Machines.{MachineState}
 use Rattle.sock_core.specs.Runs.{SameLinks, PlayedOn}
+use Rattle.sock_core.proofs.Linkers.{says_still}
 use Rattle.sock_core.proofs.Endings.{on_ok}
 use Rattle.sock_core.proofs.Settling.{settles, settled_links}
 use Rattle.sock_core.proofs.machine.Machine.settle.Goals as goal
@@ -13,3 +14,6 @@ returns-clause-settled g c = on_ok c.play_on-2.result
 pub returns-clause-ends : goal.returns-clause-ends
 returns-clause-ends g c = settled_links c.args.self.now c.play_on.new.self c.begin_ending.new.self c.run_first.new.self c.play_on-2.new.self c.play_on.ensures.same.1 c.begin_ending.ensures.links c.begin_ending.ensures.ends c.run_first.ensures.ran.same.1
     (subst (λ (m : MachineState). SameLinks m c.play_on-2.new.self) c.tell_ending.ensures c.play_on-2.ensures.same.1)
+
+pub returns-clause-says : goal.returns-clause-says
+returns-clause-says g c = says_still c.play_on.ensures.says c.play_on-2.ensures.says

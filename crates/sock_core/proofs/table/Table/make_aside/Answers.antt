@@ -1,19 +1,16 @@
 use Rattle.std.proofs.Common.{refl, arith, ap, ◌∙◌, subst, sym, inr, []}
 use mathlib.Core.Option as core
 use Rattle.corr_core.specs.declared.marks.Plan.{Plan as IdPlan}
-use Rattle.seat_programs.specs.Asides.{Found}
 use Rattle.seat_programs.specs.Scripts.{sizes_of}
 use Rattle.call_points.specs.Steps as aside_steps
 use Rattle.call_slots.specs.Steps as slots
-use Rattle.call_slots.specs.Steps.{word_found}
-use Rattle.seat_states.specs.declared.point.Step.TheVariants as firsts
 use Rattle.seat_states.specs.Points.{next_program}
-use Rattle.client_seats.specs.Seats.{seat_data, around, seat_program, asked_of}
+use Rattle.client_seats.specs.Seats.{seat_data, around, asked_of}
 use Rattle.sock_core.specs.Machines.{TableState, table_sizes}
 use Rattle.sock_core.specs.Steps.{IsReady, FoundBeside}
-use Rattle.sock_core.proofs.Stepping.{written, makes_along, goes, next_along}
-use Rattle.sock_core.proofs.TableAsides.{finds_word, slots_fit, behind_aside, goes_by_word, same_ids}
-use Rattle.sock_core.proofs.TableGoes.{may_next, next_is, follows_as}
+use Rattle.sock_core.proofs.Stepping.{written, goes}
+use Rattle.sock_core.proofs.TableAsides.{finds_word, slots_fit, goes_by_word, same_ids, slots_kept, made_aside}
+use Rattle.sock_core.proofs.TableGoes.{may_next, next_is}
 use Rattle.sock_core.proofs.table.Table.make_aside.Goals as goal
 
 pub step-found-requires : goal.step-found-requires
@@ -25,7 +22,7 @@ next-next-requires g c =
     let t = c.args.self.now in
     let asked = asked_of seat.call in
     let aside = aside_steps.step_of asked c.args.step in
-    let sizes = c.sizes-sizes.ensures ∙ ap (λ (p : IdPlan). sizes_of c.self.inside.plan p) (same_ids c.self.inside.ids c.step-found.new.self aside (word_found aside c.step-found.result) (c.step-found.ensures asked)) ∙ ap (λ (x : TableState). table_sizes x) c.self.view_is in
+    let sizes = c.sizes-sizes.ensures ∙ ap (λ (p : IdPlan). sizes_of c.self.inside.plan p) (same_ids _ _ _ _ (c.step-found.ensures asked)) ∙ ap (λ (x : TableState). table_sizes x) c.self.view_is in
     let found = subst (λ (x : TableState). FoundBeside x seat c.args.step c.step-found.result) c.self.view_is ((c.step-found.ensures asked).finds [] [] c.self.inside.ending core.none) in
     let m = may_next {t = t} c.sizes-sizes.result seat c.step-found.result sizes (c.requires.fits.1 c.step-found.result found) c.requires.stand.1 (goes_by_word (around (table_sizes t) seat) seat.point aside c.requires.next (finds_word asked c.args.step c.requires.kind)) in
     record { within = m.within; ids = m.ids; word = m.word; aside = m.aside; link = m.link; told = m.told; step = m.step }
@@ -36,32 +33,14 @@ follow-requires g c = record { room = λ o name id e. c.requires.room.0; more = 
 pub returns-clause-made : goal.returns-clause-made
 returns-clause-made g c seat_number =
     let seat = seat_data c.args.place.now in
-    let asked = asked_of seat.call in
-    let aside = aside_steps.step_of asked c.args.step in
-    let made = c.step-found.ensures asked in
-    let same = same_ids c.self.inside.ids c.step-found.new.self aside (word_found aside c.step-found.result) made in
+    let made = c.step-found.ensures (asked_of seat.call) in
+    let same = same_ids _ _ _ _ made in
     let sizes = c.sizes-sizes.ensures ∙ ap (λ (p : IdPlan). sizes_of c.self.inside.plan p) same in
     let ready = subst (λ (x : TableState). IsReady x seat) (sym c.self.view_is) c.requires.stand.0 in
-    let next = behind_aside (seat_program (sizes_of c.self.inside.plan c.self.inside.ids.plan) seat) aside c.step-found.result (next_along seat (firsts.Aside c.args.step) c.self.view_is c.requires.next) (finds_word asked c.args.step c.requires.kind) in
-    makes_along c.self.view_is (record {
-      is = (
-        refl,
-        record {
-          next = next.next;
-          is = next.is;
-          found = next.found;
-          ids = subst (λ (f : core.Option (Found aside)). slots.Makes c.self.inside.ids aside f c.step-found.new.self) next.found_is made;
-          goes = goes (next_program (around c.sizes-sizes.result seat) c.next-next.result) (record { plan = refl; id_plan = same; calls = refl; ending = refl; inns = refl }) sizes
-              (follows_as c.deref_mut.ensures.value (written c.self.inside.outcomes.len c.follow.new.outcomes _ (omega (arith, c.self.inside.outcomes.ok))) c.follow.ensures)
-              refl
-              (next_is c.sizes-sizes.result seat c.next-next.result c.step-found.result c.calling.result sizes ready c.calling.ensures c.next-next.ensures.program ∙ next.behind);
-          words = refl;
-          letters = refl;
-          links = refl;
-          ends = refl;
-        },
-      );
-    })
+    made_aside c.args.step c.step-found.result c.self.view_is c.requires.next (finds_word (asked_of seat.call) c.args.step c.requires.kind) made
+    (goes (next_program (around c.sizes-sizes.result seat) c.next-next.result) (record { plan = refl; id_plan = same; calls = refl; ending = refl; inns = refl }) sizes c.deref_mut.ensures.value (written c.self.inside.outcomes.len c.follow.new.outcomes _ (omega (arith, c.self.inside.outcomes.ok))) c.follow.ensures refl
+    (next_is c.sizes-sizes.result seat c.next-next.result c.step-found.result c.calling.result sizes ready c.calling.ensures c.next-next.ensures.program))
+    refl refl refl refl
 
 pub returns-clause-waits : goal.returns-clause-waits
 returns-clause-waits g c =
@@ -75,9 +54,7 @@ pub returns-clause-on : goal.returns-clause-on
 returns-clause-on g c = c.awaited-waits.ensures.on (around (table_sizes c.args.self.now) (seat_data c.args.place.now))
 
 pub invariant_of-self : goal.invariant_of-self
-invariant_of-self g c = let asked = asked_of (seat_data c.args.place.now).call in
-    (c.self.invariant.0 ∙ ap (λ (p : IdPlan). p.slots) (sym (same_ids c.self.inside.ids c.step-found.new.self (aside_steps.step_of asked c.args.step) (word_found (aside_steps.step_of asked c.args.step) c.step-found.result) (c.step-found.ensures asked))), c.self.invariant.1)
+invariant_of-self g c = (slots_kept c.self.invariant.0 (c.step-found.ensures (asked_of (seat_data c.args.place.now).call)), c.self.invariant.1)
 
 pub invariant_of-self-2 : goal.invariant_of-self-2
-invariant_of-self-2 g c = let asked = asked_of (seat_data c.args.place.now).call in
-    (c.self.invariant.0 ∙ ap (λ (p : IdPlan). p.slots) (sym (same_ids c.self.inside.ids c.step-found.new.self (aside_steps.step_of asked c.args.step) (word_found (aside_steps.step_of asked c.args.step) c.step-found.result) (c.step-found.ensures asked))), c.self.invariant.1)
+invariant_of-self-2 g c = (slots_kept c.self.invariant.0 (c.step-found.ensures (asked_of (seat_data c.args.place.now).call)), c.self.invariant.1)

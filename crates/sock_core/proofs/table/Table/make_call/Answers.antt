@@ -12,7 +12,7 @@ use Rattle.sock_core.specs.Steps.{IsReady, MayGoOn}
 use Rattle.sock_core.specs.Telling.{waits_by}
 use Rattle.sock_core.proofs.Stepping.{written, makes_along, goes, outs_in}
 use Rattle.sock_core.proofs.TableRoom.{room_for}
-use Rattle.sock_core.proofs.TableGoes.{may_next, next_is, flat_next, follows_as}
+use Rattle.sock_core.proofs.TableGoes.{may_next, next_is, flat_next}
 use Rattle.sock_core.proofs.table.Table.make_call.Goals as goal
 
 pub next-next-requires : goal.next-next-requires
@@ -44,27 +44,23 @@ returns-clause-made g c =
     let ready = subst (λ (x : TableState). IsReady x seat) (sym c.self.view_is) c.requires.stand.0 in
     let found = c.step_word-found.ensures.found ∙ ap (λ (ws : List ℕ). found_at ws (word_of c.self.inside.plan call)) c.deref_mut.ensures.value in
     let ends = written c.self.inside.ends.len c.end_link.new.ends _ (omega (arith, c.self.inside.ends.ok)) in
-    makes_along c.self.view_is (record {
-      is = (
-        refl,
-        record {
-          words = written c.self.inside.words.len c.step_word-found.new.words _ (omega (arith, c.self.inside.words.ok)) ∙ (rw c.deref_mut.ensures.value at c.step_word-found.ensures.words);
-          letters = refl;
-          holders = written c.self.inside.holders.len c.pass_link.new.holders _ (omega (arith, c.self.inside.holders.ok)) ∙ (rw c.deref_mut-2.ensures.value at c.pass_link.ensures);
-          nexts = refl;
-          outs = outs_in (λ e. g.O.Out.state e.out) call c.deref_mut-3.ensures.value ends c.end_link.ensures.outs;
-          ids = refl;
-          ends = ap (map (λ e. end_of (g.O.Out.state e.out) (g.I.In.state e.inn))) ends ∙ c.end_link.ensures.ends ∙ ap (map (λ e. end_of (g.O.Out.state e.out) (g.I.In.state e.inn))) c.deref_mut-3.ensures.value;
-          goes = goes (next_program (around c.sizes-sizes.result seat) c.next-next.result)
-              (record { plan = refl; id_plan = refl; calls = refl; ending = refl; inns = ap (map (λ e. g.I.In.state e.inn)) ends ∙ c.end_link.ensures.inns ∙ ap (map (λ e. g.I.In.state e.inn)) c.deref_mut-3.ensures.value })
-              sizes
-              (follows_as c.deref_mut-4.ensures.value (written c.self.inside.outcomes.len c.follow.new.outcomes _ (omega (arith, c.self.inside.outcomes.ok))) c.follow.ensures)
-              refl
-              (next_is c.sizes-sizes.result seat c.next-next.result c.step_word-found.result c.calling.result sizes ready c.calling.ensures c.next-next.ensures.program
-              ∙ ap (after_word (seat_program (sizes_of c.self.inside.plan c.self.inside.ids.plan) seat)) found);
-        },
-      );
-    })
+    makes_along c.self.view_is (
+      refl,
+      record {
+        words = written c.self.inside.words.len c.step_word-found.new.words _ (omega (arith, c.self.inside.words.ok)) ∙ (rw c.deref_mut.ensures.value at c.step_word-found.ensures.words);
+        letters = refl;
+        holders = written c.self.inside.holders.len c.pass_link.new.holders _ (omega (arith, c.self.inside.holders.ok)) ∙ (rw c.deref_mut-2.ensures.value at c.pass_link.ensures);
+        nexts = refl;
+        outs = outs_in (λ e. g.O.Out.state e.out) call c.deref_mut-3.ensures.value ends c.end_link.ensures.outs;
+        ids = refl;
+        ends = ap (map (λ e. end_of (g.O.Out.state e.out) (g.I.In.state e.inn))) ends ∙ c.end_link.ensures.ends ∙ ap (map (λ e. end_of (g.O.Out.state e.out) (g.I.In.state e.inn))) c.deref_mut-3.ensures.value;
+        goes = goes (next_program (around c.sizes-sizes.result seat) c.next-next.result)
+            (record { plan = refl; id_plan = refl; calls = refl; ending = refl; inns = ap (map (λ e. g.I.In.state e.inn)) ends ∙ c.end_link.ensures.inns ∙ ap (map (λ e. g.I.In.state e.inn)) c.deref_mut-3.ensures.value })
+            sizes c.deref_mut-4.ensures.value (written c.self.inside.outcomes.len c.follow.new.outcomes _ (omega (arith, c.self.inside.outcomes.ok))) c.follow.ensures refl
+            (next_is c.sizes-sizes.result seat c.next-next.result c.step_word-found.result c.calling.result sizes ready c.calling.ensures c.next-next.ensures.program
+            ∙ ap (after_word (seat_program (sizes_of c.self.inside.plan c.self.inside.ids.plan) seat)) found);
+      },
+    )
 
 pub returns-clause-waits : goal.returns-clause-waits
 returns-clause-waits g c =

@@ -8,8 +8,7 @@ use Rattle.seat_states.proofs.StepFacts.{puts_piece}
 use Rattle.client_seats.specs.Seats.{seat_data, around, left_of, taken_of, left_parts_of}
 use Rattle.sock_core.specs.Machines.{table_sizes}
 use Rattle.sock_core.specs.Steps.{left_behind, taken_behind}
-use Rattle.sock_core.proofs.Stepping.{written, makes_along, goes, put_is, put_part, asked_bytes, asked_in}
-use Rattle.sock_core.proofs.TableGoes.{follows_as}
+use Rattle.sock_core.proofs.Stepping.{written, makes_along, goes, link_asked, put_is, put_part, asked_bytes, asked_in}
 use Rattle.sock_core.proofs.table.Table.put_bytes.Goals as goal
 
 pub put_answered-next-requires : goal.put_answered-next-requires
@@ -23,33 +22,23 @@ follow-requires g c = record { room = λ o name id e. c.requires.room.0; more = 
 pub returns-clause-ok : goal.returns-clause-ok
 returns-clause-ok g c seat_number asked =
     let seat = seat_data c.args.place.now in
-    let sizes = c.sizes.ensures in
     let put = c.put_bytes-answer.result.0 in
     let out = outgoing_of c.in-Some.out in
     let is : seat.out ≡ Some out = ap (option_map outgoing_of) c.in-Some.is in
     let ends = written c.self.inside.ends.len c.put_bytes-answer.new.ends _ (omega (arith, c.self.inside.ends.ok)) in
-    makes_along c.self.view_is (record {
-      is = (
-        put,
-        refl,
-        record {
-          words = refl;
-          letters = refl;
-          holders = refl;
-          nexts = refl;
-          ids = refl;
-          asked = asked_in (λ e. g.O.Out.state e.out) (λ e. end_of (g.O.Out.state e.out) (g.I.In.state e.inn)) c.deref_mut.ensures.value ends (asked_bytes (sym (put_part seat.out out c.args.author is (c.is_of.ensures c.if-not-is_of.false))) c.put_bytes-answer.ensures.outs);
-          goes = goes (next_program (around c.sizes.result (record seat { out = Some (outgoing_of c.put_bytes-answer.new.out) })) c.put_answered-next.result)
-              (record { plan = refl; id_plan = refl; calls = refl; ending = refl; inns = ap (map (λ e. g.I.In.state e.inn)) ends ∙ c.put_bytes-answer.ensures.inns ∙ ap (map (λ e. g.I.In.state e.inn)) c.deref_mut.ensures.value })
-              sizes
-              (follows_as c.deref_mut-2.ensures.value (written c.self.inside.outcomes.len c.follow.new.outcomes _ (omega (arith, c.self.inside.outcomes.ok))) c.follow.ensures)
-              refl
-              (put_is c.sizes.result (sizes_of c.self.inside.plan c.self.inside.ids.plan) seat (Some (outgoing_of c.put_bytes-answer.new.out)) c.put_answered-next.result put c.put_bytes-answer.result.1 sizes
-              (c.put_bytes-answer.ensures.left ∙ sym (ap (λ o. left_behind put (left_of o)) is))
-              (c.put_bytes-answer.ensures.taken ∙ sym (ap (λ o. taken_behind put (taken_of o)) is))
-              (c.put_bytes-answer.ensures.parts ∙ sym (ap left_parts_of is))
-              (c.put_bytes-answer.ensures.whole ∙ sym (ap (λ o. is_whole (left_of o) put) is))
-              c.put_answered-next.ensures.program);
-        },
-      );
-    })
+    makes_along c.self.view_is (
+      put,
+      refl,
+      link_asked
+          (goes (next_program (around c.sizes.result (record seat { out = Some (outgoing_of c.put_bytes-answer.new.out) })) c.put_answered-next.result)
+          (record { plan = refl; id_plan = refl; calls = refl; ending = refl; inns = ap (map (λ e. g.I.In.state e.inn)) ends ∙ c.put_bytes-answer.ensures.inns ∙ ap (map (λ e. g.I.In.state e.inn)) c.deref_mut.ensures.value })
+          c.sizes.ensures c.deref_mut-2.ensures.value (written c.self.inside.outcomes.len c.follow.new.outcomes _ (omega (arith, c.self.inside.outcomes.ok))) c.follow.ensures refl
+          (put_is c.sizes.result (sizes_of c.self.inside.plan c.self.inside.ids.plan) seat (Some (outgoing_of c.put_bytes-answer.new.out)) c.put_answered-next.result put c.put_bytes-answer.result.1 c.sizes.ensures
+          (c.put_bytes-answer.ensures.left ∙ sym (ap (λ o. left_behind put (left_of o)) is))
+          (c.put_bytes-answer.ensures.taken ∙ sym (ap (λ o. taken_behind put (taken_of o)) is))
+          (c.put_bytes-answer.ensures.parts ∙ sym (ap left_parts_of is))
+          (c.put_bytes-answer.ensures.whole ∙ sym (ap (λ o. is_whole (left_of o) put) is))
+          c.put_answered-next.ensures.program))
+          (asked_in (λ e. g.O.Out.state e.out) (λ e. end_of (g.O.Out.state e.out) (g.I.In.state e.inn)) c.deref_mut.ensures.value ends (asked_bytes (sym (put_part seat.out out c.args.author is (c.is_of.ensures c.if-not-is_of.false))) c.put_bytes-answer.ensures.outs))
+          refl refl refl refl refl,
+    )

@@ -1,4 +1,4 @@
-use Rattle.std.proofs.Common.{refl, arith, ap, ◌∙◌, subst, sym, inr, [], ℕ, ◌<◌}
+use Rattle.std.proofs.Common.{refl, arith, ap, ◌∙◌, subst, sym, inr, [], ◌<◌}
 use mathlib.Core.Option as core
 use Rattle.corr_core.specs.declared.marks.Plan.{Plan as IdPlan}
 use Rattle.sock_message.specs.Asked.{Asked}
@@ -6,14 +6,13 @@ use Rattle.seat_programs.specs.Asides as asides
 use Rattle.seat_programs.specs.Scripts.{sizes_of}
 use Rattle.call_points.specs.declared.aside.Aside.TheVariants as steps
 use Rattle.call_slots.specs.Steps as slots
-use Rattle.seat_states.specs.declared.point.Step.TheVariants as firsts
 use Rattle.seat_states.specs.Points.{next_program}
-use Rattle.client_seats.specs.Seats.{seat_data, around, seat_program, asked_of}
+use Rattle.client_seats.specs.Seats.{seat_data, around, asked_of}
 use Rattle.sock_core.specs.Machines.{TableState, table_sizes}
 use Rattle.sock_core.specs.Steps.{IsReady, FoundBeside}
-use Rattle.sock_core.proofs.Stepping.{written, makes_along, goes, next_along}
-use Rattle.sock_core.proofs.TableAsides.{behind_aside, goes_by_word, same_ids}
-use Rattle.sock_core.proofs.TableGoes.{may_next, next_is, follows_as}
+use Rattle.sock_core.proofs.Stepping.{written, goes}
+use Rattle.sock_core.proofs.TableAsides.{goes_by_word, same_ids, slots_kept, made_aside}
+use Rattle.sock_core.proofs.TableGoes.{may_next, next_is}
 use Rattle.sock_core.proofs.table.Table.put_call.Goals as goal
 
 pub put_call-found-requires : goal.put_call-found-requires
@@ -25,9 +24,8 @@ next-next-requires g c =
     let asked = asked_of seat.call in
     let aside = asides.PutCall c.args.slot asked in
     let made = subst (λ (a : Asked). slots.Makes c.self.inside.ids (asides.PutCall c.args.slot a) (core.some c.put_call-found.result) c.put_call-found.new.self) (c.in-Ok.ensures ∙ ap asked_of c.in-Some.ensures) c.put_call-found.ensures in
-    let same = same_ids c.self.inside.ids c.put_call-found.new.self aside (core.some c.put_call-found.result) made in
     let t = c.args.self.now in
-    let sizes = c.sizes-sizes.ensures ∙ ap (λ (p : IdPlan). sizes_of c.self.inside.plan p) same ∙ ap (λ (x : TableState). table_sizes x) c.self.view_is in
+    let sizes = c.sizes-sizes.ensures ∙ ap (λ (p : IdPlan). sizes_of c.self.inside.plan p) (same_ids _ _ _ _ made) ∙ ap (λ (x : TableState). table_sizes x) c.self.view_is in
     let found = subst (λ (x : TableState). FoundBeside x seat (steps.PutCall c.args.slot) c.put_call-found.result) c.self.view_is (made.finds [] [] c.self.inside.ending core.none) in
     let m = may_next {t = t} c.sizes-sizes.result seat c.put_call-found.result sizes (c.requires.fits.1 c.put_call-found.result found) c.requires.stand.1 (goes_by_word (around (table_sizes t) seat) seat.point aside c.requires.next tt) in
     record { within = m.within; ids = m.ids; word = m.word; aside = m.aside; link = m.link; told = m.told; step = m.step }
@@ -36,49 +34,18 @@ pub follow-requires : goal.follow-requires
 follow-requires g c = record { room = λ o name id e. c.requires.room.0; more = inr c.requires.room.1 }
 
 pub invariant_of-self : goal.invariant_of-self
-invariant_of-self g c =
-    let seat = seat_data c.args.place.now in
-    let asked = asked_of seat.call in
-    let aside = asides.PutCall c.args.slot asked in
-    let made = subst (λ (a : Asked). slots.Makes c.self.inside.ids (asides.PutCall c.args.slot a) (core.some c.put_call-found.result) c.put_call-found.new.self) (c.in-Ok.ensures ∙ ap asked_of c.in-Some.ensures) c.put_call-found.ensures in
-    let same = same_ids c.self.inside.ids c.put_call-found.new.self aside (core.some c.put_call-found.result) made in
-    (c.self.invariant.0 ∙ ap (λ (p : IdPlan). p.slots) (sym same), c.self.invariant.1)
+invariant_of-self g c = (slots_kept c.self.invariant.0 c.put_call-found.ensures, c.self.invariant.1)
 
 pub invariant_of-self-2 : goal.invariant_of-self-2
-invariant_of-self-2 g c =
-    let seat = seat_data c.args.place.now in
-    let asked = asked_of seat.call in
-    let aside = asides.PutCall c.args.slot asked in
-    let made = subst (λ (a : Asked). slots.Makes c.self.inside.ids (asides.PutCall c.args.slot a) (core.some c.put_call-found.result) c.put_call-found.new.self) (c.in-Ok.ensures ∙ ap asked_of c.in-Some.ensures) c.put_call-found.ensures in
-    let same = same_ids c.self.inside.ids c.put_call-found.new.self aside (core.some c.put_call-found.result) made in
-    (c.self.invariant.0 ∙ ap (λ (p : IdPlan). p.slots) (sym same), c.self.invariant.1)
+invariant_of-self-2 g c = (slots_kept c.self.invariant.0 c.put_call-found.ensures, c.self.invariant.1)
 
 pub returns-clause-ok : goal.returns-clause-ok
 returns-clause-ok g c seat_number =
     let seat = seat_data c.args.place.now in
-    let asked = asked_of seat.call in
-    let aside = asides.PutCall c.args.slot asked in
-    let made = subst (λ (a : Asked). slots.Makes c.self.inside.ids (asides.PutCall c.args.slot a) (core.some c.put_call-found.result) c.put_call-found.new.self) (c.in-Ok.ensures ∙ ap asked_of c.in-Some.ensures) c.put_call-found.ensures in
-    let same = same_ids c.self.inside.ids c.put_call-found.new.self aside (core.some c.put_call-found.result) made in
+    let same = same_ids _ _ _ _ c.put_call-found.ensures in
     let sizes = c.sizes-sizes.ensures ∙ ap (λ (p : IdPlan). sizes_of c.self.inside.plan p) same in
     let ready = subst (λ (x : TableState). IsReady x seat) (sym c.self.view_is) c.requires.stand.0 in
-    let next = behind_aside (seat_program (sizes_of c.self.inside.plan c.self.inside.ids.plan) seat) aside c.put_call-found.result (next_along seat (firsts.Aside (steps.PutCall c.args.slot)) c.self.view_is c.requires.next) tt in
-    makes_along c.self.view_is (record {
-      is = (
-        refl,
-        record {
-          next = next.next;
-          is = next.is;
-          found = next.found;
-          ids = subst (λ (f : core.Option ℕ). slots.Makes c.self.inside.ids aside f c.put_call-found.new.self) next.found_is made;
-          goes = goes (next_program (around c.sizes-sizes.result seat) c.next-next.result) (record { plan = refl; id_plan = same; calls = refl; ending = refl; inns = refl }) sizes
-              (follows_as c.deref_mut.ensures.value (written c.self.inside.outcomes.len c.follow.new.outcomes _ (omega (arith, c.self.inside.outcomes.ok))) c.follow.ensures)
-              refl
-              (next_is c.sizes-sizes.result seat c.next-next.result c.put_call-found.result c.calling.result sizes ready c.calling.ensures c.next-next.ensures.program ∙ next.behind);
-          words = refl;
-          letters = refl;
-          links = refl;
-          ends = refl;
-        },
-      );
-    })
+    made_aside (steps.PutCall c.args.slot) c.put_call-found.result c.self.view_is c.requires.next tt (subst (λ (a : Asked). slots.Makes c.self.inside.ids (asides.PutCall c.args.slot a) (core.some c.put_call-found.result) c.put_call-found.new.self) (c.in-Ok.ensures ∙ ap asked_of c.in-Some.ensures) c.put_call-found.ensures)
+    (goes (next_program (around c.sizes-sizes.result seat) c.next-next.result) (record { plan = refl; id_plan = same; calls = refl; ending = refl; inns = refl }) sizes c.deref_mut.ensures.value (written c.self.inside.outcomes.len c.follow.new.outcomes _ (omega (arith, c.self.inside.outcomes.ok))) c.follow.ensures refl
+    (next_is c.sizes-sizes.result seat c.next-next.result c.put_call-found.result c.calling.result sizes ready c.calling.ensures c.next-next.ensures.program))
+    refl refl refl refl

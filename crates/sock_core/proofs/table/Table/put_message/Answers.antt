@@ -10,7 +10,7 @@ use Rattle.sock_core.specs.Machines.{TableState, table_sizes}
 use Rattle.sock_core.proofs.Stepping.{written, makes_along, goes, next_along}
 use Rattle.sock_core.proofs.TableCuts.{on_err, cut_along, cut_ids}
 use Rattle.sock_core.proofs.TableRoom.{room_for}
-use Rattle.sock_core.proofs.TableGoes.{may_next, follows_as, hand_put, put_next, put_flat}
+use Rattle.sock_core.proofs.TableGoes.{may_next, hand_put, put_next, put_flat}
 use Rattle.sock_core.proofs.table.Table.put_message.Goals as goal
 
 pub next-next-requires : goal.next-next-requires
@@ -39,31 +39,27 @@ returns-clause-ok g c seat_number =
     let seat = seat_data c.args.place.now in
     let sizes = c.sizes-sizes.ensures in
     let letter = c.in_ok-put_message.ensures.letters in
-    makes_along c.self.view_is (record {
-      is = (
-        refl,
-        record {
-          words = refl;
-          letters = record {
-            letter = letter.0;
-            author_is = letter.1;
-            bytes = ap bytes_of letter.2;
-            parts = ap parts_of letter.2;
-            fresh_are = ap letters_in (written c.self.inside.letters.len c.put_message.new.letters _ (omega (arith, c.self.inside.letters.ok))) ∙ letter.3 ∙ ap (λ ls. slice_set (letters_in ls) c.args.request (Some letter.0)) c.deref_mut.ensures.value;
-          };
-          holders = refl;
-          nexts = refl;
-          outs = refl;
-          ids = refl;
-          ends = refl;
-          goes = goes (next_program (around c.sizes-sizes.result (seat_data (record c.args.place.now { hand = c.put_message.new.hand }))) c.next-next.result) (record { plan = refl; id_plan = refl; calls = refl; ending = refl; inns = refl }) sizes
-              (follows_as c.deref_mut-2.ensures.value (written c.self.inside.outcomes.len c.follow.new.outcomes _ (omega (arith, c.self.inside.outcomes.ok))) c.follow.ensures)
-              refl
-              (put_next c.sizes-sizes.result (sizes_of c.self.inside.plan c.self.inside.ids.plan) seat (seat_data (record c.args.place.now { hand = c.put_message.new.hand })) (message_in c.put_message.new.hand) c.next-next.result c.calling.result c.args.request (heading_by c.args.author (parts_of seat.message)) (bytes_of seat.message) sizes
-              (hand_put c.args.place.now c.put_message.new.hand c.in_ok-put_message.ensures.rest.1) (next_along seat (firsts.PutMessage c.args.request c.args.author) c.self.view_is c.requires.next) c.calling.ensures c.next-next.ensures.program);
-        },
-      );
-    })
+    makes_along c.self.view_is (
+      refl,
+      record {
+        words = refl;
+        letters = record {
+          letter = letter.0;
+          author_is = letter.1;
+          bytes = ap bytes_of letter.2;
+          parts = ap parts_of letter.2;
+          fresh_are = ap letters_in (written c.self.inside.letters.len c.put_message.new.letters _ (omega (arith, c.self.inside.letters.ok))) ∙ letter.3 ∙ ap (λ ls. slice_set (letters_in ls) c.args.request (Some letter.0)) c.deref_mut.ensures.value;
+        };
+        holders = refl;
+        nexts = refl;
+        outs = refl;
+        ids = refl;
+        ends = refl;
+        goes = goes (next_program (around c.sizes-sizes.result (seat_data (record c.args.place.now { hand = c.put_message.new.hand }))) c.next-next.result) (record { plan = refl; id_plan = refl; calls = refl; ending = refl; inns = refl }) sizes c.deref_mut-2.ensures.value (written c.self.inside.outcomes.len c.follow.new.outcomes _ (omega (arith, c.self.inside.outcomes.ok))) c.follow.ensures refl
+            (put_next c.sizes-sizes.result (sizes_of c.self.inside.plan c.self.inside.ids.plan) seat (seat_data (record c.args.place.now { hand = c.put_message.new.hand })) (message_in c.put_message.new.hand) c.next-next.result c.calling.result c.args.request (heading_by c.args.author (parts_of seat.message)) (bytes_of seat.message) sizes
+            (hand_put c.args.place.now c.put_message.new.hand c.in_ok-put_message.ensures.rest.1) (next_along seat (firsts.PutMessage c.args.request c.args.author) c.self.view_is c.requires.next) c.calling.ensures c.next-next.ensures.program);
+      },
+    )
 
 pub returns-in_err-put_message-clause-err : goal.returns-in_err-put_message-clause-err
 returns-in_err-put_message-clause-err g c =

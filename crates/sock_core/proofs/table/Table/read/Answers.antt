@@ -1,34 +1,25 @@
 use Rattle.std.proofs.Common.{◌≡◌, refl, ap, ◌∙◌, sym, subst}
-use Rattle.corr_core.specs.declared.marks.Plan.{Plan as IdPlan}
-use Rattle.seat_programs.specs.Asides as asides
 use Rattle.call_points.specs.declared.aside.Aside.TheVariants as variants
-use Rattle.call_slots.specs.Slots.{as_found}
 use Rattle.reader_points.specs.declared.point.ReadStep.{ReadStep}
 use Rattle.reader_points.specs.declared.point.ReadStep.TheVariants as steps
 use Rattle.sock_core.specs.Reading.{IsNextRead}
-use Rattle.sock_core.proofs.TableAsides.{same_ids}
+use Rattle.sock_core.proofs.TableAsides.{same_ids, slots_kept}
 use Rattle.sock_core.proofs.TableCuts.{cut_ids, cut_along}
 use Rattle.sock_core.proofs.TableReadings.{told_along, next_along, taken_told, step_along}
 use Rattle.sock_core.proofs.table.Table.read.Goals as goal
 
 pub invariant_of-self : goal.invariant_of-self
-invariant_of-self g c =
-    let same = same_ids c.self.inside.ids c.take_call.new.self (asides.TakeCall c.in-Aside-TakeCall.slot) (as_found c.take_call.result) c.take_call.ensures in
-    (c.self.invariant.0 ∙ ap (λ (p : IdPlan). p.slots) (sym same), c.self.invariant.1)
+invariant_of-self g c = (slots_kept c.self.invariant.0 c.take_call.ensures, c.self.invariant.1)
 
 pub invariant_of-self-in-Aside-TakeCall : goal.invariant_of-self-in-Aside-TakeCall
-invariant_of-self-in-Aside-TakeCall g c =
-    let same = same_ids c.self.inside.ids c.take_call.new.self (asides.TakeCall c.in-Aside-TakeCall.slot) (as_found c.take_call.result) c.take_call.ensures in
-    (c.self.invariant.0 ∙ ap (λ (p : IdPlan). p.slots) (sym same), c.self.invariant.1)
+invariant_of-self-in-Aside-TakeCall g c = (slots_kept c.self.invariant.0 c.take_call.ensures, c.self.invariant.1)
 
 pub returns-in_default-clause-err : goal.returns-in_default-clause-err
-returns-in_default-clause-err g c =
-    let same = same_ids c.self.inside.ids c.take_call.new.self (asides.TakeCall c.in-Aside-TakeCall.slot) (as_found c.take_call.result) c.take_call.ensures in
-    cut_along c.self.view_is (cut_ids _ _ refl same refl refl refl refl refl refl)
+returns-in_default-clause-err g c = cut_along c.self.view_is (cut_ids _ _ refl (same_ids _ _ _ _ c.take_call.ensures) refl refl refl refl refl refl)
 
 pub returns-in-Some-clause-ok : goal.returns-in-Some-clause-ok
 returns-in-Some-clause-ok g c =
-    let same = same_ids c.self.inside.ids c.take_call.new.self (asides.TakeCall c.in-Aside-TakeCall.slot) (as_found c.take_call.result) c.take_call.ensures in
+    let same = same_ids _ _ _ _ c.take_call.ensures in
     let reader = c.args.reader.now in
     let own = rw c.in-Aside-TakeCall.is at c.in-Aside-TakeCall.field-0-is in
     let is : c.args.step ≡ steps.Aside (variants.TakeCall c.in-Aside-TakeCall.slot) = c.in-Aside-TakeCall.is ∙ ap steps.Aside own in

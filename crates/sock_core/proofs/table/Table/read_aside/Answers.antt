@@ -1,48 +1,30 @@
-use Rattle.std.proofs.Common.{refl, arith, ap, ◌∙◌, length, ℕ, List, sym}
-use Rattle.corr_core.specs.declared.marks.Plan.{Plan as IdPlan}
-use Rattle.call_points.specs.Steps as aside_steps
+use Rattle.std.proofs.Common.{refl, arith, ap, ◌∙◌, length, ℕ, List}
 use Rattle.call_points.specs.Steps.{after_word}
-use Rattle.call_slots.specs.Steps.{word_found}
 use Rattle.reader_points.specs.declared.point.ReadStep.TheVariants as steps
 use Rattle.reader_seats.specs.Readers.{around, reader_program}
 use Rattle.sock_core.proofs.Stepping.{written}
-use Rattle.sock_core.proofs.TableAsides.{same_ids}
+use Rattle.sock_core.proofs.TableAsides.{same_ids, slots_kept}
 use Rattle.sock_core.proofs.TableCuts.{cut_ids, cut_along}
 use Rattle.sock_core.proofs.TableReadings.{told_along, next_along, goes_as, awaited_at, aside_waited, aside_moved}
 use Rattle.sock_core.proofs.table.Table.read_aside.Goals as goal
 use Rattle.sock_core.proofs.table.Table.read_aside.Goals.{in-Some, in-None}
 
 pub invariant_of-self : goal.invariant_of-self
-invariant_of-self g c =
-    let reader = c.args.reader.now in
-    let aside = aside_steps.step_of reader.asked c.args.step in
-    let made = c.step-found.ensures reader.asked in
-    let same = same_ids c.self.inside.ids c.step-found.new.self aside (word_found aside c.step-found.result) made in
-    (c.self.invariant.0 ∙ ap (λ (p : IdPlan). p.slots) (sym same), c.self.invariant.1)
+invariant_of-self g c = (slots_kept c.self.invariant.0 (c.step-found.ensures c.args.reader.now.asked), c.self.invariant.1)
 
 pub invariant_of-self-2 : goal.invariant_of-self-2
-invariant_of-self-2 g c =
-    let reader = c.args.reader.now in
-    let aside = aside_steps.step_of reader.asked c.args.step in
-    let made = c.step-found.ensures reader.asked in
-    let same = same_ids c.self.inside.ids c.step-found.new.self aside (word_found aside c.step-found.result) made in
-    (c.self.invariant.0 ∙ ap (λ (p : IdPlan). p.slots) (sym same), c.self.invariant.1)
+invariant_of-self-2 g c = (slots_kept c.self.invariant.0 (c.step-found.ensures c.args.reader.now.asked), c.self.invariant.1)
 
 pub returns-in_default-clause-err : goal.returns-in_default-clause-err
 returns-in_default-clause-err g c =
-    let reader = c.args.reader.now in
-    let aside = aside_steps.step_of reader.asked c.args.step in
-    let made = c.step-found.ensures reader.asked in
-    let same = same_ids c.self.inside.ids c.step-found.new.self aside (word_found aside c.step-found.result) made in
     let outcomes = written c.self.inside.outcomes.len c.follow_word.new.outcomes _ (omega (arith, c.self.inside.outcomes.ok)) in
-    cut_along c.self.view_is (cut_ids _ _ refl same refl refl refl refl refl (ap length outcomes ∙ c.follow_word.auto.outcomes ∙ ap length c.deref_mut.ensures.value))
+    cut_along c.self.view_is (cut_ids _ _ refl (same_ids _ _ _ _ (c.step-found.ensures c.args.reader.now.asked)) refl refl refl refl refl (ap length outcomes ∙ c.follow_word.auto.outcomes ∙ ap length c.deref_mut.ensures.value))
 
 pub returns-clause-ok : goal.returns-clause-ok
 returns-clause-ok g c =
     let reader = c.args.reader.now in
-    let aside = aside_steps.step_of reader.asked c.args.step in
     let made = c.step-found.ensures reader.asked in
-    let same = same_ids c.self.inside.ids c.step-found.new.self aside (word_found aside c.step-found.result) made in
+    let same = same_ids _ _ _ _ made in
     let outcomes = written c.self.inside.outcomes.len c.follow_word.new.outcomes _ (omega (arith, c.self.inside.outcomes.ok)) in
     let next = next_along reader (steps.Aside c.args.step) c.self.view_is c.requires.next in
     let goes = goes_as (λ (cs : List ℕ). after_word (reader_program cs reader) c.step-found.result) c.follow_word.new.self c.deref.ensures.value c.deref_mut.ensures.value outcomes c.in-Ok.ensures in

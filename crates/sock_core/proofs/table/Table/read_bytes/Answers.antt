@@ -1,6 +1,5 @@
 use Rattle.std.proofs.Common.{◌≡◌, refl, arith, ap, sym, ◌∙◌, length, take, subst, ℕ, Bool, true, false, List}
 use Rattle.std.proofs.Math.Seq.{map-set_same}
-use Rattle.std.proofs.lemmas.List.{length-take}
 use Rattle.sock_io.specs.declared.link.Take.TheVariants as takes
 use Rattle.sock_io.specs.Link.{end_of}
 use Rattle.reader_points.specs.declared.point.ReadStep.TheVariants as steps
@@ -15,7 +14,7 @@ use Rattle.sock_core.specs.declared.machine.On.TheVariants as on
 use Rattle.sock_core.specs.declared.machine.Tick.TheVariants.{Waits}
 use Rattle.sock_core.proofs.Stepping.{written}
 use Rattle.sock_core.proofs.TableCuts.{cut_halves, cut_take, cut_along, on_err}
-use Rattle.sock_core.proofs.TableReads.{reads_bytes, few_room, takes_again}
+use Rattle.sock_core.proofs.TableReads.{reads_bytes, fills, takes_again}
 use Rattle.sock_core.proofs.TableReadings.{next_along, told_along, goes_as, take_told}
 use Rattle.sock_core.proofs.TableTakes.{taken_from}
 use Rattle.sock_core.proofs.table.Table.read_bytes.Goals as goal
@@ -33,16 +32,10 @@ pub returns-in_default-follow_take-clause-err : goal.returns-in_default-follow_t
 returns-in_default-follow_take-clause-err g c =
     let reader = c.args.reader.now in
     let next = next_along reader (steps.Aside (variants.TakeBytes c.args.link c.args.count)) c.self.view_is c.requires.next in
-    let room = take c.args.count c.take_into-answer.new.room in
     let outcomes = written c.self.inside.outcomes.len c.follow_take.new.outcomes _ (omega (arith, c.self.inside.outcomes.ok)) in
-    let few = few_room reader.point in
-    let is = (reads_bytes (around c.self.inside.calls.items reader) reader.point c.args.link c.args.count next).1 in
-    let long = length-take c.args.count c.take_into-answer.new.room in
-    let kept = c.take_into-answer.auto.room in
-    let inside = c.if-from-len.false in
-    let from = taken_from (λ e. g.O.Out.state e.out) (λ e. g.I.In.state e.inn) _ _ c.self.inside.ends.items c.from-2.result c.args.link c.args.count c.index_mut-ends.result.now c.settle.new.ends _ c.from-2.ensures (omega (arith, inside, c.from.ensures, c.len.ensures, c.self.inside.ends.ok)) c.index_mut-ends.ensures.value refl refl refl room c.take_into-answer.result
-    (omega (arith, few, is, long, kept, c.deref_mut.ensures.len, c.self.invariant.1)) c.in_ok-settle.ensures.out c.in_ok-settle.ensures.inn c.in_ok-settle.ensures.settled refl c.take_into-answer.ensures refl refl in
-    cut_along c.self.view_is (cut_take _ _ c.args.link c.args.count (taking_of room c.take_into-answer.result) from refl refl refl refl refl refl refl
+    let from = taken_from (λ e. g.O.Out.state e.out) (λ e. g.I.In.state e.inn) _ _ c.self.inside.ends.items c.from-2.result c.args.link c.args.count c.index_mut-ends.result.now c.settle.new.ends _ c.from-2.ensures (omega (arith, c.if-from-len.false, c.from.ensures, c.len.ensures, c.self.inside.ends.ok)) c.index_mut-ends.ensures.value refl refl refl _ c.take_into-answer.result
+    (fills (around c.self.inside.calls.items reader) reader.point c.args.link c.args.count c.take_into-answer.new.room next (omega (arith, c.take_into-answer.auto.room, c.deref_mut.ensures.len, c.self.invariant.1))) c.in_ok-settle.ensures.out c.in_ok-settle.ensures.inn c.in_ok-settle.ensures.settled refl c.take_into-answer.ensures refl refl in
+    cut_along c.self.view_is (cut_take _ _ c.args.link c.args.count _ from refl refl refl refl refl refl refl
     (map-set_same (λ e. g.O.Out.state e.out) c.self.inside.ends.items c.from-2.result _ c.index_mut-ends.result.now (c.in_ok-settle.ensures.out ∙ ap (λ e. g.O.Out.state e.out) c.index_mut-ends.ensures.value))
     (ap length outcomes ∙ c.follow_take.auto.outcomes ∙ ap length c.deref_mut-2.ensures.value))
 
@@ -52,15 +45,10 @@ returns-clause-ok g c i =
     let next = next_along reader (steps.Aside (variants.TakeBytes c.args.link c.args.count)) c.self.view_is c.requires.next in
     let room = take c.args.count c.take_into-answer.new.room in
     let outcomes = written c.self.inside.outcomes.len c.follow_take.new.outcomes _ (omega (arith, c.self.inside.outcomes.ok)) in
-    let few = few_room reader.point in
-    let is = (reads_bytes (around c.self.inside.calls.items reader) reader.point c.args.link c.args.count next).1 in
-    let long = length-take c.args.count c.take_into-answer.new.room in
-    let kept = c.take_into-answer.auto.room in
-    let inside = c.if-from-len.false in
-    let from = taken_from (λ e. g.O.Out.state e.out) (λ e. g.I.In.state e.inn) _ _ c.self.inside.ends.items c.from-2.result c.args.link c.args.count c.index_mut-ends.result.now c.settle.new.ends _ c.from-2.ensures (omega (arith, inside, c.from.ensures, c.len.ensures, c.self.inside.ends.ok)) c.index_mut-ends.ensures.value refl refl refl room c.take_into-answer.result
-    (omega (arith, few, is, long, kept, c.deref_mut.ensures.len, c.self.invariant.1)) c.in_ok-settle.ensures.out c.in_ok-settle.ensures.inn c.in_ok-settle.ensures.settled refl c.take_into-answer.ensures refl refl in
+    let from = taken_from (λ e. g.O.Out.state e.out) (λ e. g.I.In.state e.inn) _ _ c.self.inside.ends.items c.from-2.result c.args.link c.args.count c.index_mut-ends.result.now c.settle.new.ends _ c.from-2.ensures (omega (arith, c.if-from-len.false, c.from.ensures, c.len.ensures, c.self.inside.ends.ok)) c.index_mut-ends.ensures.value refl refl refl room c.take_into-answer.result
+    (fills (around c.self.inside.calls.items reader) reader.point c.args.link c.args.count c.take_into-answer.new.room next (omega (arith, c.take_into-answer.auto.room, c.deref_mut.ensures.len, c.self.invariant.1))) c.in_ok-settle.ensures.out c.in_ok-settle.ensures.inn c.in_ok-settle.ensures.settled refl c.take_into-answer.ensures refl refl in
     let answer = c.take_into-answer.result in
-    let lies = c.deref-2.ensures.value ∙ written c.self.inside.room.len c.take_into-answer.new.room _ (omega (arith, kept, c.deref_mut.ensures.len, c.self.inside.room.ok)) in
+    let lies = c.deref-2.ensures.value ∙ written c.self.inside.room.len c.take_into-answer.new.room _ (omega (arith, c.take_into-answer.auto.room, c.deref_mut.ensures.len, c.self.inside.room.ok)) in
     let own : take c.args.count c.deref-2.result.now ≡ room = ap (λ (xs : List ℕ). take c.args.count xs) lies in
     let follows = subst (λ (xs : List ℕ). GoesOn c.deref.result.now (after_taking (reader_program c.deref.result.now reader) (at_last c.self.inside.ending (taking_of xs answer))) c.follow_take.new.self c.deref_mut-2.result.now c.follow_take.new.outcomes) own c.in-Ok.ensures in
     let goes = goes_as (λ (cs : List ℕ). after_taking (reader_program cs reader) (at_last c.self.inside.ending (taking_of room answer))) c.follow_take.new.self c.deref.ensures.value c.deref_mut-2.ensures.value outcomes follows in
@@ -73,15 +61,10 @@ returns-in-Empty-clause-ok g c i =
     let reader = c.args.reader.now in
     let next = next_along reader (steps.Aside (variants.TakeBytes c.args.link c.args.count)) c.self.view_is c.requires.next in
     let room = take c.args.count c.take_into-answer.new.room in
-    let few = few_room reader.point in
     let takes_bytes = reads_bytes (around c.self.inside.calls.items reader) reader.point c.args.link c.args.count next in
-    let is = takes_bytes.1 in
-    let long = length-take c.args.count c.take_into-answer.new.room in
-    let kept = c.take_into-answer.auto.room in
-    let inside = c.if-from-len.false in
     let off : c.self.inside.ending ≡ false = c.if-not-self.true in
-    let from = taken_from (λ e. g.O.Out.state e.out) (λ e. g.I.In.state e.inn) _ _ c.self.inside.ends.items c.from-2.result c.args.link c.args.count c.index_mut-ends.result.now c.settle.new.ends _ c.from-2.ensures (omega (arith, inside, c.from.ensures, c.len.ensures, c.self.inside.ends.ok)) c.index_mut-ends.ensures.value refl refl refl room takes.Empty
-    (omega (arith, few, is, long, kept, c.deref_mut.ensures.len, c.self.invariant.1)) c.in_ok-settle.ensures.out c.in_ok-settle.ensures.inn c.in_ok-settle.ensures.settled refl c.in-Empty.ensures refl refl in
+    let from = taken_from (λ e. g.O.Out.state e.out) (λ e. g.I.In.state e.inn) _ _ c.self.inside.ends.items c.from-2.result c.args.link c.args.count c.index_mut-ends.result.now c.settle.new.ends _ c.from-2.ensures (omega (arith, c.if-from-len.false, c.from.ensures, c.len.ensures, c.self.inside.ends.ok)) c.index_mut-ends.ensures.value refl refl refl room takes.Empty
+    (fills (around c.self.inside.calls.items reader) reader.point c.args.link c.args.count c.take_into-answer.new.room next (omega (arith, c.take_into-answer.auto.room, c.deref_mut.ensures.len, c.self.invariant.1))) c.in_ok-settle.ensures.out c.in_ok-settle.ensures.inn c.in_ok-settle.ensures.settled refl c.in-Empty.ensures refl refl in
     told_along c.self.view_is (take_told i reader reader c.args.link c.args.count Nothing (Waits (on.In c.args.link)) (record { plan = refl; id_plan = refl; calls = refl; ending = refl; letters = refl; nexts = refl }) next from (takes_again c.self.inside.calls.items reader c.self.inside.ending _ takes_bytes.0 off) refl refl refl
     (map-set_same (λ e. g.O.Out.state e.out) c.self.inside.ends.items c.from-2.result _ c.index_mut-ends.result.now (c.in_ok-settle.ensures.out ∙ ap (λ e. g.O.Out.state e.out) c.index_mut-ends.ensures.value))
     (λ e. refl) (λ e. let h : true ≡ false = ap (λ (b : Bool). is_nothing b (OfTake Nothing)) (sym off) ∙ e in cc))

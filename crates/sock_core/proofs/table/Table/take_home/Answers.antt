@@ -7,7 +7,6 @@ use Rattle.client_seats.specs.Seats.{seat_program}
 use Rattle.sock_core.proofs.Stepping.{written, makes_along, goes, same_sizes, links_are}
 use Rattle.seat_states.proofs.StepFacts.{takes_link}
 use Rattle.sock_core.specs.Machines.{table_sizes}
-use Rattle.sock_core.proofs.TableGoes.{follows_as}
 use Rattle.sock_core.proofs.table.Table.take_home.Goals as goal
 
 pub with_link-next-requires : goal.with_link-next-requires
@@ -18,20 +17,15 @@ follow-requires g c = record { room = λ o name id e. c.requires.room.0; more = 
 
 pub returns : goal.returns
 returns g c =
-    let sizes = c.sizes.ensures in
-    makes_along c.self.view_is (record {
-      is = (
-        refl,
-        record {
-          words = refl;
-          letters = refl;
-          links = links_are _ _ (written c.self.inside.holders.len c.take_home-places.new.holders _ (omega (arith, c.self.inside.holders.ok)) ∙ c.take_home-places.ensures.holders ∙ ap (λ hs. slice_set hs c.args.link (Some c.args.seat)) c.deref_mut.ensures.value) refl;
-          ids = refl;
-          ends = refl;
-          goes = goes (next_program (around c.sizes.result (seat_data c.args.place.now)) c.with_link-next.result) (record { plan = refl; id_plan = refl; calls = refl; ending = refl; inns = refl }) sizes
-              (follows_as c.deref_mut-2.ensures.value (written c.self.inside.outcomes.len c.follow.new.outcomes _ (omega (arith, c.self.inside.outcomes.ok))) c.follow.ensures)
-              refl
-              (c.with_link-next.ensures.program (around c.sizes.result (seat_data c.args.place.now)) ∙ same_sizes c.sizes.result (sizes_of c.self.inside.plan c.self.inside.ids.plan) (seat_data c.args.place.now) (λ x. after_link x c.take_home-places.result) sizes ∙ ap (after_link (seat_program (sizes_of c.self.inside.plan c.self.inside.ids.plan) (seat_data c.args.place.now))) (rw c.deref.ensures.value at c.take_home-places.ensures.places));
-        },
-      );
-    })
+    makes_along c.self.view_is (
+      refl,
+      record {
+        words = refl;
+        letters = refl;
+        links = links_are _ _ (written c.self.inside.holders.len c.take_home-places.new.holders _ (omega (arith, c.self.inside.holders.ok)) ∙ c.take_home-places.ensures.holders ∙ ap (λ hs. slice_set hs c.args.link (Some c.args.seat)) c.deref_mut.ensures.value) refl;
+        ids = refl;
+        ends = refl;
+        goes = goes (next_program (around c.sizes.result (seat_data c.args.place.now)) c.with_link-next.result) (record { plan = refl; id_plan = refl; calls = refl; ending = refl; inns = refl }) c.sizes.ensures c.deref_mut-2.ensures.value (written c.self.inside.outcomes.len c.follow.new.outcomes _ (omega (arith, c.self.inside.outcomes.ok))) c.follow.ensures refl
+            (c.with_link-next.ensures.program (around c.sizes.result (seat_data c.args.place.now)) ∙ same_sizes c.sizes.result (sizes_of c.self.inside.plan c.self.inside.ids.plan) (seat_data c.args.place.now) (λ x. after_link x c.take_home-places.result) c.sizes.ensures ∙ ap (after_link (seat_program (sizes_of c.self.inside.plan c.self.inside.ids.plan) (seat_data c.args.place.now))) (rw c.deref.ensures.value at c.take_home-places.ensures.places));
+      },
+    )

@@ -9,7 +9,6 @@ use Rattle.client_seats.specs.Seats.{seat_data, around}
 use Rattle.sock_core.specs.Letters.{letters_in}
 use Rattle.sock_core.specs.Machines.{TableState, table_sizes}
 use Rattle.sock_core.proofs.Stepping.{written, makes_along, goes, message_is}
-use Rattle.sock_core.proofs.TableGoes.{follows_as}
 use Rattle.sock_core.proofs.table.Table.take_message.Goals as goal
 
 pub with_message-next-requires : goal.with_message-next-requires
@@ -26,23 +25,18 @@ follow-requires g c = record { room = λ o name id e. c.requires.room.0; more = 
 pub returns : goal.returns
 returns g c seat_number =
     let seat = seat_data c.args.place.now in
-    let sizes = c.sizes.ensures in
     let taken = c.take_message-author.ensures.taken in
-    makes_along c.self.view_is (record {
-      is = (
-        refl,
-        record {
-          letter = taken.0;
-          at = rw c.deref_mut.ensures.value at taken.1;
-          words = refl;
-          letters = ap letters_in (written c.self.inside.letters.len c.take_message-author.new.letters _ (omega (arith, c.self.inside.letters.ok))) ∙ c.take_message-author.ensures.letters ∙ ap (λ ls. slice_set (letters_in ls) c.args.request None) c.deref_mut.ensures.value;
-          links = refl;
-          ids = refl;
-          ends = refl;
-          goes = goes (next_program (around c.sizes.result (record seat { out = option_map outgoing_of c.take_message-author.new.out })) c.with_message-next.result) (record { plan = refl; id_plan = refl; calls = refl; ending = refl; inns = refl }) sizes
-              (follows_as c.deref_mut-2.ensures.value (written c.self.inside.outcomes.len c.follow.new.outcomes _ (omega (arith, c.self.inside.outcomes.ok))) c.follow.ensures)
-              refl
-              (message_is c.sizes.result (sizes_of c.self.inside.plan c.self.inside.ids.plan) seat (option_map outgoing_of c.take_message-author.new.out) c.with_message-next.result c.take_message-author.result taken.0.author (parcel_of taken.0.message).parts (parcel_of taken.0.message).bytes sizes taken.3 taken.2 c.with_message-next.ensures.program);
-        },
-      );
-    })
+    makes_along c.self.view_is (
+      refl,
+      record {
+        letter = taken.0;
+        at = rw c.deref_mut.ensures.value at taken.1;
+        words = refl;
+        letters = ap letters_in (written c.self.inside.letters.len c.take_message-author.new.letters _ (omega (arith, c.self.inside.letters.ok))) ∙ c.take_message-author.ensures.letters ∙ ap (λ ls. slice_set (letters_in ls) c.args.request None) c.deref_mut.ensures.value;
+        links = refl;
+        ids = refl;
+        ends = refl;
+        goes = goes (next_program (around c.sizes.result (record seat { out = option_map outgoing_of c.take_message-author.new.out })) c.with_message-next.result) (record { plan = refl; id_plan = refl; calls = refl; ending = refl; inns = refl }) c.sizes.ensures c.deref_mut-2.ensures.value (written c.self.inside.outcomes.len c.follow.new.outcomes _ (omega (arith, c.self.inside.outcomes.ok))) c.follow.ensures refl
+            (message_is c.sizes.result (sizes_of c.self.inside.plan c.self.inside.ids.plan) seat (option_map outgoing_of c.take_message-author.new.out) c.with_message-next.result c.take_message-author.result taken.0.author (parcel_of taken.0.message).parts (parcel_of taken.0.message).bytes c.sizes.ensures taken.3 taken.2 c.with_message-next.ensures.program);
+      },
+    )

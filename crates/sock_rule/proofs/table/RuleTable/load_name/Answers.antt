@@ -5,20 +5,7 @@ use Rattle.sock_rule.proofs.Naming.{finds_name_on, found_seat}
 use Rattle.sock_rule.proofs.table.RuleTable.load_name.Goals as goal
 
 pub load-requires : goal.load-requires
-load-requires g c = let a = c.requires.seat in (
-  a.0,
-  omega (arith, c.args.self.now.sized, c.requires.name),
-  finds_name_on (shows_by c.args.self.now.table.shared.key) rose _ _ _ _ _ c.args.self.now.planned a.1 a.2 c.args.name c.requires.name,
-)
+load-requires g c = let a = c.requires.seat in (a.0, omega (arith, c.args.self.now.sized, c.requires.name), finds_name_on (shows_by c.args.self.now.table.shared.key) rose _ _ _ _ _ c.args.self.now.planned a.1 a.2 c.args.name c.requires.name)
 
-pub returns-clause-view : goal.returns-clause-view
-returns-clause-view g c = c.load.ensures.2.0.0
-
-pub returns-clause-inside : goal.returns-clause-inside
-returns-clause-inside g c = subst (λ q. c.load.result ≢ 0 → (c.load.result - 1) % 4294967296 < q.slots) c.requires.seat.1 c.load.ensures.2.1
-
-pub returns-clause-stays : goal.returns-clause-stays
-returns-clause-stays g c = c.load.ensures.2.0.2
-
-pub returns-clause-seat : goal.returns-clause-seat
-returns-clause-seat g c = found_seat _ _ c.args.seat.now c.load.new.seat _ c.load.result c.requires.seat c.load.ensures.0 _ c.load.ensures.2.0.0.view
+pub returns : goal.returns
+returns g c = let t = c.load.ensures.2 in record { seat = found_seat _ _ c.args.seat.now c.load.new.seat _ c.load.result c.requires.seat c.load.ensures.0 _ t.0.0.view; view = t.0.0; inside = subst (λ q. c.load.result ≢ 0 → (c.load.result - 1) % 4294967296 < q.slots) c.requires.seat.1 t.1; stays = t.0.2 }

@@ -8,11 +8,5 @@ use Rattle.sock_rule.proofs.table.RuleTable.set_odd.Goals as goal
 pub fetch_or-found-requires : goal.fetch_or-found-requires
 fetch_or-found-requires g c = let a = c.requires.seat in (a.0, omega (arith, c.args.self.now.sized, c.requires.slot), fails (shows_by c.args.self.now.table.shared.key) rose c.args.self.now.table.shared.key.plan _ _ _ (a.1 ∙ sym c.args.self.now.planned) a.2 c.args.at (subst (λ q. c.args.at < q.slots) (sym c.args.self.now.planned) c.requires.slot) c.requires.held.0 c.requires.held.1 c.requires.room)
 
-pub returns-clause-view : goal.returns-clause-view
-returns-clause-view g c = rw c.set_odd.ensures.step.0 ((c.fetch_or-found.ensures.2 c.args.at refl).0)
-
-pub returns-clause-fits : goal.returns-clause-fits
-returns-clause-fits g c = rw c.set_odd.ensures.step.0 ((c.fetch_or-found.ensures.2 c.args.at refl).1)
-
-pub returns-clause-seat : goal.returns-clause-seat
-returns-clause-seat g c = still_seat _ _ c.args.seat.now c.fetch_or-found.new.seat _ c.requires.seat c.fetch_or-found.ensures.0 ((c.fetch_or-found.ensures.2 c.args.at refl).0) refl refl
+pub returns : goal.returns
+returns g c = let t = c.fetch_or-found.ensures.2 c.args.at refl in let s = c.set_odd.ensures.step in record { seat = still_seat _ _ c.args.seat.now c.fetch_or-found.new.seat _ c.requires.seat c.fetch_or-found.ensures.0 t.0 refl refl; view = rw s.0 t.0; fits = rw s.0 t.1 }

@@ -3,19 +3,12 @@ use Rattle.sock_model.specs.Layout.{open_index}
 use Rattle.sock_rule.specs.Rows.{PutAt}
 use Rattle.sock_rule.specs.OnKey.{shows_by}
 use Rattle.sock_rule.specs.Shows.{rose}
-use Rattle.sock_rule.proofs.Naming.{stored_id, stores_open_on}
+use Rattle.sock_rule.proofs.Naming.{stores_open_on}
 use Rattle.sock_rule.proofs.Seating.{still_seat}
 use Rattle.sock_rule.proofs.table.RuleTable.store_open.Goals as goal
 
 pub store-requires : goal.store-requires
-store-requires g c = let a = c.requires.seat in let e = c.word-word.ensures in let r = stored_id c.args.self.now.plan c.args.seat.now.me.0 c.args.id.0 _ (ap (λ (n : ℕ). n + 1) e) c.requires.inside c.requires.known in (
-  a.0,
-  omega (arith, c.args.self.now.sized, c.requires.operation),
-  stores_open_on (shows_by c.args.self.now.table.shared.key) rose _ _ _ _ _ c.args.self.now.planned a.1 a.2 c.args.operation _ c.requires.operation r.0 r.1 r.2,
-)
+store-requires g c = let a = c.requires.seat in (a.0, omega (arith, c.args.self.now.sized, c.requires.operation), stores_open_on (shows_by c.args.self.now.table.shared.key) rose _ _ _ _ _ c.args.self.now.planned a.1 a.2 c.args.operation c.args.id.0 _ c.requires.operation (ap (λ (n : ℕ). n + 1) c.word-word.ensures) c.requires.inside c.requires.known)
 
-pub returns-clause-view : goal.returns-clause-view
-returns-clause-view g c = subst (λ (n : ℕ). PutAt (open_index c.args.self.now.plan c.args.operation) n c.args.seat.now.me c.store.new.seat.me) (ap (λ (n : ℕ). n + 1) c.word-word.ensures) c.store.ensures.2
-
-pub returns-clause-seat : goal.returns-clause-seat
-returns-clause-seat g c = still_seat _ _ c.args.seat.now c.store.new.seat _ c.requires.seat c.store.ensures.0 c.store.ensures.2.view refl refl
+pub returns : goal.returns
+returns g c = record { seat = still_seat _ _ c.args.seat.now c.store.new.seat _ c.requires.seat c.store.ensures.0 c.store.ensures.2.view refl refl; view = subst (λ (n : ℕ). PutAt (open_index c.args.self.now.plan c.args.operation) n c.args.seat.now.me c.store.new.seat.me) (ap (λ (n : ℕ). n + 1) c.word-word.ensures) c.store.ensures.2 }

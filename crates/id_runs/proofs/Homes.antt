@@ -1,28 +1,18 @@
 -- Whatever a seat does on the sockets, what holds of the headings of all messages goes on.
 use Rattle.std.proofs.Common.{◌≡◌, ℕ, ⊎_elim, List, [], ◌∷◌, ◌++◌, set, refl, sym, subst}
-use Rattle.std.specs.List.{AllByRecursion}
 use mathlib.Core.Option.{Option, none, some, some-injective, some-ne-none}
 use lib.ListN.{get_elem?}
 use Rattle.atomic_table.proofs.Lists.{at_set}
 use Rattle.sock_words.specs.declared.plain.Plan.{Plan}
-use Rattle.sock_io.specs.declared.link.Put.{Put}
-use Rattle.sock_io.specs.declared.link.Put.TheVariants as puts
-use Rattle.sock_model.specs.declared.chain.Heading.{Heading}
-use Rattle.sock_model.specs.declared.home.Home.{Home}
-use Rattle.sock_model.specs.declared.home.Home.TheVariants.{Empty, Link, Message}
+use Rattle.seat_programs.specs.sock_io.specs.declared.link.Put.{Put}
+use Rattle.seat_programs.specs.sock_io.specs.declared.link.Put.TheVariants as puts
+use Rattle.seat_programs.specs.sock_model.specs.declared.chain.Heading.{Heading}
+use Rattle.seat_programs.specs.sock_model.specs.declared.home.Home.{Home}
+use Rattle.seat_programs.specs.sock_model.specs.declared.home.Home.TheVariants.{Empty, Link, Message}
 use Rattle.seat_programs.specs.Calls.{Call, TakeLink, FinishLink, PutLink, PutMessage}
 use Rattle.seat_programs.specs.Cores.{homes_after, hand_after, lies_at, first_of, others_of, finished, link_place}
 use Rattle.seat_programs.specs.Ticks.{fed, with_places, onto_first}
-
-abbrev pub FitsHome : (Heading → Type 0) → Home → Type 0
-FitsHome F (Message heading bytes) = F heading
-FitsHome F other = Unit {0}
-
-abbrev pub HandFits : (Heading → Type 0) → List Home → Type 0
-HandFits F hand = AllByRecursion (FitsHome F) hand
-
-abbrev pub HomesFit : (Heading → Type 0) → List (Option Home) → Type 0
-HomesFit F homes = (i : ℕ) (x : Home) → get_elem? homes i ≡ some (some x) → FitsHome F x
+use Rattle.id_runs.specs.Goes.{FitsHome, HandFits, HomesFit}
 
 pub home_more : (F G : Heading → Type 0) → ((h : Heading) → F h → G h) → (x : Home) → FitsHome F x → FitsHome G x
 home_more F G f (Message heading bytes) fit = f heading fit

@@ -1,7 +1,0 @@
-use Rattle.std.proofs.Common.{◌≡◌, map, drop}
-use Rattle.brpc_model.specs.Operations.{slots_in, size}
-use Rattle.script_items.specs.Meaning.{item}
-use Rattle.script_lang.proofs.sizes.slot_count.Given as goal
-
-abbrev pub invariant-loop-line : goal.invariant-loop-line
-invariant-loop-line l = size slots_in 31 (map item (drop l.line-index l.line-items)) ≡ size slots_in 31 l.script

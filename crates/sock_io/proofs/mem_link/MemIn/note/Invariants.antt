@@ -1,8 +1,0 @@
-use Rattle.std.proofs.Common.{◌++◌, ◌∷◌, []}
-use Rattle.sock_io.proofs.mem_link.MemIn.note.Given as goal
-
-abbrev pub ghost-of : goal.ghost-of
-ghost-of a = a.by.now.list
-
-abbrev pub ghost-of-2 : goal.ghost-of-2
-ghost-of-2 a = a.by.now.0.list ++ a.by.now.1 ∷ []
