@@ -257,12 +257,12 @@ module _ {S : Type 0} (z : TableId) (p : Plan) (y : TableId) where
   pub rested_found : (s t : Seat S View) (c d : CallSeat) → MayAct z p s → IsSeat z p t → t.me.1 ≡ s.me.1 → (IsBetween p s.me.0 → IsBetween p t.me.0) → SameTokens p s.me.0 t.me.0 → Keeps s.me.0 t.me.0 → KeepsSeat y c d → Rested z p y s t c d
   rested_found s t c d may seat slots between same k keeps = record { rest = rest_same z p s t may.idle seat slots (between may.idle.between) same; refs = k.refs; seen = k.seen; keeps = keeps }
 
-  -- and what else the client has for calls changed
   pub rested_same : (s t : Seat S View) (c d e : CallSeat) → Rested z p y s t c d → e.seat ≡ d.seat → Rested z p y s t c e
   rested_same s t c d e r same = record { rest = r.rest; refs = r.refs; seen = r.seen; keeps = keeps_same y c d e r.keeps same }
 
-  pub rested_then : (s t u : Seat S View) (c d e : CallSeat) → Rested z p y s t c d → Rested z p y t u d e → Rested z p y s u c e
-  rested_then s t u c d e a b = record { rest = rest_then z p s t u a.rest b.rest; refs = refs_then s.me.0 t.me.0 u.me.0 a.refs b.refs; seen = seen_then s.me.0 t.me.0 u.me.0 a.seen b.seen; keeps = keeps_then y c d e a.keeps b.keeps }
+  -- between the two what else the client has for calls may have changed
+  pub rested_then : (s t u : Seat S View) (c d e f : CallSeat) → Rested z p y s t c d → Rested z p y t u e f → e.seat ≡ d.seat → Rested z p y s u c f
+  rested_then s t u c d e f a b same = record { rest = rest_then z p s t u a.rest b.rest; refs = refs_then s.me.0 t.me.0 u.me.0 a.refs b.refs; seen = seen_then s.me.0 t.me.0 u.me.0 a.seen b.seen; keeps = keeps_then y c e f (keeps_same y c d e a.keeps same) b.keeps }
 
 -- ## A client between two retries
 

@@ -101,8 +101,8 @@ returns-clause-by g c = record { socket = c.in-Some.socket; at = (both c.find.ne
 
 pub returns-clause-rested : goal.returns-clause-rested
 returns-clause-rested g c = let z = c.args.tables.now.socks.rule.table.shared.table_id in let p = c.args.tables.now.socks.rule.plan in let y = c.args.tables.now.ids.table.shared.table_id in let e = c.find.ensures in let noted = record c.args.calls.now { seat = c.note.new.seat } in
-    rested_then z p y c.args.seat.now c.find.new.seat c.attempt_one.new.seat c.args.calls.now noted c.attempt_one.new.calls
-    (rested_found z p y c.args.seat.now c.find.new.seat c.args.calls.now noted c.requires.may e.seat e.slots e.between e.same (found_keeps p c.name.result c.find.result c.args.seat.now.me.0 c.find.new.seat.me.0 e.found) record { stays = stays_then c.args.calls.now.seat c.create.new.seat c.note.new.seat c.create.ensures.seat c.note.ensures.seat; ids = noted_free y c.args.calls.now.seat c.create.new.seat c.note.new.seat _ _ _ _ _ _ c.requires.ids.0 c.requires.ids.1 c.create.ensures.seat c.in-Ok.ensures.made c.note.ensures.seat c.note.ensures.stored }) c.attempt_one.ensures.rested
+    rested_then z p y c.args.seat.now c.find.new.seat c.attempt_one.new.seat c.args.calls.now noted _ c.attempt_one.new.calls
+    (rested_found z p y c.args.seat.now c.find.new.seat c.args.calls.now noted c.requires.may e.seat e.slots e.between e.same (found_keeps p c.name.result c.find.result c.args.seat.now.me.0 c.find.new.seat.me.0 e.found) record { stays = stays_then c.args.calls.now.seat c.create.new.seat c.note.new.seat c.create.ensures.seat c.note.ensures.seat; ids = noted_free y c.args.calls.now.seat c.create.new.seat c.note.new.seat _ _ _ _ _ _ c.requires.ids.0 c.requires.ids.1 c.create.ensures.seat c.in-Ok.ensures.made c.note.ensures.seat c.note.ensures.stored }) c.attempt_one.ensures.rested refl
 
 pub returns-clause-own : goal.returns-clause-own
 returns-clause-own g c = λ n o. c.attempt_one.ensures.own n (own_keeps n c.args.seat.now.me.0 c.find.new.seat.me.0 (found_keeps c.args.tables.now.socks.rule.plan c.name.result c.find.result c.args.seat.now.me.0 c.find.new.seat.me.0 c.find.ensures.found) o)

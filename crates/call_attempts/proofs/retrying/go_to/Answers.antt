@@ -40,8 +40,8 @@ returns-in-Some-clause-by g c = to_socket c.in-Some.socket (both c.find.new.seat
 
 pub returns-in-Some-clause-rested : goal.returns-in-Some-clause-rested
 returns-in-Some-clause-rested g c = let z = c.args.tables.now.socks.rule.table.shared.table_id in let p = c.args.tables.now.socks.rule.plan in let y = c.args.tables.now.ids.table.shared.table_id in let e = c.find.ensures in
-    rested_then z p y c.args.seat.now c.find.new.seat c.attempt_one.new.seat c.args.calls.now c.args.calls.now c.attempt_one.new.calls
-    (rested_found z p y c.args.seat.now c.find.new.seat c.args.calls.now c.args.calls.now c.requires.may e.seat e.slots e.between e.same (found_keeps p c.args.name c.find.result c.args.seat.now.me.0 c.find.new.seat.me.0 e.found) (keeps_none y c.args.calls.now c.requires.ids)) c.attempt_one.ensures.rested
+    rested_then z p y c.args.seat.now c.find.new.seat c.attempt_one.new.seat c.args.calls.now c.args.calls.now c.args.calls.now c.attempt_one.new.calls
+    (rested_found z p y c.args.seat.now c.find.new.seat c.args.calls.now c.args.calls.now c.requires.may e.seat e.slots e.between e.same (found_keeps p c.args.name c.find.result c.args.seat.now.me.0 c.find.new.seat.me.0 e.found) (keeps_none y c.args.calls.now c.requires.ids)) c.attempt_one.ensures.rested refl
 
 pub returns-in-Some-clause-own : goal.returns-in-Some-clause-own
 returns-in-Some-clause-own g c = λ n o. c.attempt_one.ensures.own n (own_keeps n c.args.seat.now.me.0 c.find.new.seat.me.0 (found_keeps c.args.tables.now.socks.rule.plan c.args.name c.find.result c.args.seat.now.me.0 c.find.new.seat.me.0 c.find.ensures.found) o)

@@ -29,7 +29,7 @@ pub retries-preserved : goal.retries-preserved
 retries-preserved g c = let z = c.args.tables.now.socks.rule.table.shared.table_id in let p = c.args.tables.now.socks.rule.plan in let y = c.args.tables.now.ids.table.shared.table_id in let i = c.retries.invariant in record {
   can_go = tt;
   is_finite = tt;
-  rested = rested_then z p y c.args.seat.now c.retries.seat c.retry_one.new.seat c.args.calls.now c.next_retry.new.calls c.retry_one.new.calls (rested_same z p y c.args.seat.now c.retries.seat c.args.calls.now c.retries.calls c.next_retry.new.calls i.rested c.next_retry.ensures.seat) c.retry_one.ensures.rested;
+  rested = rested_then z p y c.args.seat.now c.retries.seat c.retry_one.new.seat c.args.calls.now c.retries.calls c.next_retry.new.calls c.retry_one.new.calls i.rested c.retry_one.ensures.rested c.next_retry.ensures.seat;
   own = c.retry_one.ensures.own c.retries.sent i.own;
   retried = made_one g.O.Out.state p c.args.tables.now.ids.plan (both c.args.seat.now.me.0 c.args.calls.now) c.retries.seat.me.0 c.retries.calls c.next_retry.new.calls c.next_retry.ensures.seat i.retried c.in-Some-2.retry (both c.retry_one.new.seat.me.0 c.retry_one.new.calls) (one_taken _ c.in-Some-2.retry (books_of c.retries.calls) (books_of c.next_retry.new.calls) c.in-Some-2.is c.in_ok-retry.ensures.next.0) c.in_ok-retry_one.ensures.by;
 }
@@ -56,7 +56,7 @@ returns-in_default-clause-all g c = ends_fed g.O.Out.state c.args.tables.now.soc
 
 pub returns-in_err-retry_one-clause-rested : goal.returns-in_err-retry_one-clause-rested
 returns-in_err-retry_one-clause-rested g c = let z = c.args.tables.now.socks.rule.table.shared.table_id in let p = c.args.tables.now.socks.rule.plan in let y = c.args.tables.now.ids.table.shared.table_id in
-    rested_then z p y c.args.seat.now c.retries.seat c.retry_one.new.seat c.args.calls.now c.next_retry.new.calls c.retry_one.new.calls (rested_same z p y c.args.seat.now c.retries.seat c.args.calls.now c.retries.calls c.next_retry.new.calls c.retries.invariant.rested c.next_retry.ensures.seat) c.retry_one.ensures.rested
+    rested_then z p y c.args.seat.now c.retries.seat c.retry_one.new.seat c.args.calls.now c.retries.calls c.next_retry.new.calls c.retry_one.new.calls c.retries.invariant.rested c.retry_one.ensures.rested c.next_retry.ensures.seat
 
 pub returns-in_err-retry_one-clause-own : goal.returns-in_err-retry_one-clause-own
 returns-in_err-retry_one-clause-own g c = c.retry_one.ensures.own c.retries.sent c.retries.invariant.own
