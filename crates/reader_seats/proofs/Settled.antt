@@ -36,44 +36,17 @@ reached (Say o outcome next) h = absurd h
 reached (Sent o next) h = absurd h
 reached (Keep r next) h = absurd h
 reached (Retries requests after) h = absurd h
-reached (Do call next) h = record { resolved_same = refl; same = refl; silent = λ os. refl; none_kept = refl }
-reached Rest h = record { resolved_same = refl; same = refl; silent = λ os. refl; none_kept = refl }
-reached (TakeMessage q next) h = record { resolved_same = refl; same = refl; silent = λ os. refl; none_kept = refl }
-reached (TakeHome k next) h = record { resolved_same = refl; same = refl; silent = λ os. refl; none_kept = refl }
-reached (PutHome k n after) h = record { resolved_same = refl; same = refl; silent = λ os. refl; none_kept = refl }
-reached (PutBytes k asked bytes next) h = record { resolved_same = refl; same = refl; silent = λ os. refl; none_kept = refl }
-reached (AskReady k next) h = record { resolved_same = refl; same = refl; silent = λ os. refl; none_kept = refl }
-reached (Write w after) h = record { resolved_same = refl; same = refl; silent = λ os. refl; none_kept = refl }
-reached (Aside step next) h = record { resolved_same = refl; same = refl; silent = λ os. refl; none_kept = refl }
-reached (Round head next) h = record { resolved_same = refl; same = refl; silent = λ os. refl; none_kept = refl }
+reached other h = record { resolved_same = refl; same = refl; silent = λ os. refl; none_kept = refl }
 
 has_step : (a : Context) (point : ReadPoint) → HasStep (point_program a point)
-has_step a points.Rest = tt
-has_step a (points.Open link o) = tt
-has_step a (points.Take r) = tt
 has_step a (points.Lock r l locks.Read) = tt
-has_step a (points.Lock r l (locks.Exchange from)) = tt
 has_step a (points.Answer b id answers.Take) = tt
 has_step a (points.Answer b id (answers.End o ends.End)) = tt
-has_step a (points.Answer b id (answers.End o ends.Free)) = tt
 has_step a (points.Close c closes.AddRef) = tt
-has_step a (points.Close c closes.SetOdd) = tt
-has_step a (points.Close c closes.StoreCode) = tt
-has_step a (points.Close c closes.ReleaseFirst) = tt
 has_step a (points.Close c (closes.Release releases.SubRef)) = tt
-has_step a (points.Close c (closes.Release (releases.Recycle from))) = tt
-has_step a (points.Close c (closes.Release (releases.LoadLink w))) = tt
-has_step a (points.Close c (closes.Release (releases.TakeLink w k))) = tt
-has_step a (points.Close c (closes.Release (releases.FinishLink w k))) = tt
-has_step a (points.Close c (closes.Release (releases.PutLink w k))) = tt
-has_step a (points.Close c (closes.Release releases.FreeSlot)) = tt
-has_step a (points.Load c o) = tt
 has_step a (points.Post l posts.Load) = tt
-has_step a (points.Post l (posts.Exchange from)) = tt
 has_step a (points.Fail l (fails.Take word)) = tt
-has_step a (points.Fail l (fails.Judge word)) = tt
-has_step a (points.Fail l (fails.Free o)) = tt
-has_step a (points.Discard link total) = tt
+has_step a other = tt
 
 module _ (calls : List ℕ) (reader : ReaderData) (program : Program) (is : reader_program calls reader ≡ program) (os : List (Option Outcome)) where
   is_reached : IsReached program

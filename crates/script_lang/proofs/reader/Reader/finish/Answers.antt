@@ -1,23 +1,25 @@
-use Rattle.std.proofs.Common.{rules, ◌≡◌, option_map, None, Ok, map, refl, ap, sym, ◌∙◌}
+use Rattle.std.proofs.Common.{rules, ◌≡◌, ℕ, Bool, List, Option, option_map, None, Ok, map, refl, ap, sym, ◌∙◌}
 use Rattle.std.specs.List.{find}
 use Rattle.script_items.specs.Meaning.{item}
+use Rattle.script_lang.specs.declared.uses.CallUse.{CallUse}
 use Rattle.script_lang.proofs.Whole.{whole_is, fault_in, is_absent, is_hanging}
 use Rattle.script_lang.proofs.reader.Reader.finish.Goals as goal
+
+-- the line of the first use of a kind, of the uses that are kept
+first_of : (found : Option ℕ) (p : CallUse → Bool) (listed kept : List CallUse) → found ≡ option_map (λ u. u.line) (find p listed) → listed ≡ kept → found ≡ option_map (λ u. u.line) (find p kept)
+first_of found p listed kept is same = is ∙ ap (λ us. option_map (λ u. u.line) (find p us)) same
 
 pub returns-in-Some : goal.returns-in-Some
 returns-in-Some c = λ said knows.
     let self = c.args.self in
-    let lost : c.first_lost.result ≡ option_map (λ u. u.line) (find (is_absent self.calls) self.uses.items) =
-    c.first_lost.ensures ∙ ap (λ us. option_map (λ u. u.line) (find (is_absent self.calls) us)) c.deref.ensures.value in
+    let lost = first_of c.first_lost.result (is_absent self.calls) _ self.uses.items c.first_lost.ensures c.deref.ensures.value in
     whole_is self said knows c.first_lost.result _ lost refl ∙ ap (λ l. fault_in l 10 (fault_in (option_map (λ u. u.line) (find (is_hanging self.counts.unserved) self.uses.items)) 11 (Ok (map item self.lines.items)))) c.in-Some.is
 
 pub returns-in-Some-first_hanging : goal.returns-in-Some-first_hanging
 returns-in-Some-first_hanging c = λ said knows.
     let self = c.args.self in
-    let lost : c.first_lost.result ≡ option_map (λ u. u.line) (find (is_absent self.calls) self.uses.items) =
-    c.first_lost.ensures ∙ ap (λ us. option_map (λ u. u.line) (find (is_absent self.calls) us)) c.deref.ensures.value in
-    let hanging : c.first_hanging.result ≡ option_map (λ u. u.line) (find (is_hanging self.counts.unserved) self.uses.items) =
-    c.first_hanging.ensures ∙ ap (λ us. option_map (λ u. u.line) (find (is_hanging self.counts.unserved) us)) c.deref-2.ensures.value in
+    let lost = first_of c.first_lost.result (is_absent self.calls) _ self.uses.items c.first_lost.ensures c.deref.ensures.value in
+    let hanging = first_of c.first_hanging.result (is_hanging self.counts.unserved) _ self.uses.items c.first_hanging.ensures c.deref-2.ensures.value in
     let none : c.first_lost.result ≡ None = search rules in
     whole_is self said knows c.first_lost.result c.first_hanging.result lost hanging
     ∙ ap (λ l. fault_in l 10 (fault_in c.first_hanging.result 11 (Ok (map item self.lines.items)))) none
@@ -26,10 +28,8 @@ returns-in-Some-first_hanging c = λ said knows.
 pub returns : goal.returns
 returns c = λ said knows.
     let self = c.args.self in
-    let lost : c.first_lost.result ≡ option_map (λ u. u.line) (find (is_absent self.calls) self.uses.items) =
-    c.first_lost.ensures ∙ ap (λ us. option_map (λ u. u.line) (find (is_absent self.calls) us)) c.deref.ensures.value in
-    let hanging : c.first_hanging.result ≡ option_map (λ u. u.line) (find (is_hanging self.counts.unserved) self.uses.items) =
-    c.first_hanging.ensures ∙ ap (λ us. option_map (λ u. u.line) (find (is_hanging self.counts.unserved) us)) c.deref-2.ensures.value in
+    let lost = first_of c.first_lost.result (is_absent self.calls) _ self.uses.items c.first_lost.ensures c.deref.ensures.value in
+    let hanging = first_of c.first_hanging.result (is_hanging self.counts.unserved) _ self.uses.items c.first_hanging.ensures c.deref-2.ensures.value in
     let none : c.first_lost.result ≡ None = search rules in
     let none-2 : c.first_hanging.result ≡ None = search rules in
     whole_is self said knows c.first_lost.result c.first_hanging.result lost hanging
