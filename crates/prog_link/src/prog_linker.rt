@@ -45,7 +45,7 @@ pub struct ProgLinker<N: Net<Stream = TcpStream, Listener = TcpListener> + Drop>
 }
 
 impl<N: Net<Stream = TcpStream, Listener = TcpListener> + Drop> Model for ProgLinker<N> {
-    ghost use Rattle.std.specs.Prelude.{◌≡◌, ◌+◌, [], length};
+    ghost use Rattle.std.specs.Prelude.{◌≡◌, ◌+◌, true, [], length};
     ghost use Rattle.sock_io.specs.Link.{LinkerState};
     ghost use Rattle.prog_link.specs.Linker.{InMemory, OverRings, OverTcp, count_kind};
 
