@@ -1,4 +1,4 @@
-use Rattle.std.proofs.Common.{rules, ◌≡◌, length, ap, subst, arith}
+use Rattle.std.proofs.Common.{rules, ◌≡◌, refl, length, ap, subst, arith}
 use Rattle.std.proofs.Props.{props}
 use Rattle.std.proofs.Math.Logic.{∥∥₁_elim}
 use Rattle.sock_io.specs.Link.{end_of}
