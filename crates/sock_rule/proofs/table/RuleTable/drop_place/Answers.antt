@@ -16,8 +16,8 @@ use Rattle.sock_rule.proofs.table.RuleTable.drop_place.Goals as goal
 pub lay_home-requires-clause-top : goal.lay_home-requires-clause-top
 lay_home-requires-clause-top g c = c.requires.top ∙ (λ i. (sym c.request-slot.ensures i, Empty) ∷ rest c.args.seat.now.me.1)
 
-pub place_word-word-requires-clause-place : goal.place_word-word-requires-clause-place
-place_word-word-requires-clause-place g c = c.requires.may.2.place_in
+pub place_word-word-requires : goal.place_word-word-requires
+place_word-word-requires g c = record { place = c.requires.may.2.place_in }
 
 pub store-requires : goal.store-requires
 store-requires g c = let same = ap (λ m. m.0) c.lay_home.ensures.view in let a = c.requires.seat in let m = c.requires.may in (

@@ -4,8 +4,8 @@ use Rattle.sock_rule.specs.Shows.{rose}
 use Rattle.sock_rule.proofs.Owning.{reads_back_on, read_back_seat}
 use Rattle.sock_rule.proofs.table.RuleTable.read_back.Goals as goal
 
-pub next_word-word-requires-clause-request : goal.next_word-word-requires-clause-request
-next_word-word-requires-clause-request g c = omega (arith, c.requires.ticket.1, c.request.ensures)
+pub next_word-word-requires : goal.next_word-word-requires
+next_word-word-requires g c = omega (arith, c.requires.ticket.1, c.request.ensures)
 
 pub load-requires : goal.load-requires
 load-requires g c = let a = c.requires.seat in (a.0, omega (arith, c.args.self.now.sized, c.requires.ticket.1, c.request.ensures, c.next_word-word.ensures), reads_back_on (shows_by c.args.self.now.table.shared.key) rose c.args.self.now.table.shared.key.plan c.args.self.now.plan _ _ _ a.1 a.2 c.args.self.now.planned c.args.at.0 _ (omega (arith, c.request.ensures, c.next_word-word.ensures)) c.requires.may)
