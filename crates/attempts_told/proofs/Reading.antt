@@ -19,7 +19,7 @@ use Rattle.call_whys.specs.call_told.proofs.Readers.{AllRead, link_read}
 use Rattle.attempts_told.proofs.Bounds.{Unmoved, unmoved_then, unmoved_noted, unmoved_quiet, unmoved_got, unmoved_ended, unmoved_post}
 
 unmoved_reads : Spans Unmoved
-unmoved_reads = record { in_turn = unmoved_then; noted = unmoved_noted; looks = unmoved_quiet; locks = λ i v w word. unmoved_got i word v w; posts = unmoved_post; ends = λ i f n. unmoved_ended {n} i f }
+unmoved_reads = record { in_turn = unmoved_then; noted = unmoved_noted; looks = unmoved_quiet; locks = λ i v w word. unmoved_got i word v w; posts = unmoved_post; ends = λ i f n. unmoved_ended {n = n} i f }
 
 pub rest_unmoved : (code : ℕ) (p : Plan) (os : List ℕ) (b b' : Books) → RestEnded p code os b b' → Unmoved b.view b'.view
 rest_unmoved = rest_reads unmoved_reads

@@ -1,5 +1,5 @@
 -- What a reader posted when its reading ended: each error that it queued is for the attempt that a word of an operation names, with its link.
-use Rattle.std.proofs.Common.{◌≡◌, ℕ, ◌<◌, ◌⊎◌, inl, inr, Bool, true, false, List, [], ◌∷◌, Some, None, eqb-true, refl, ap, arith}
+use Rattle.std.proofs.Common.{◌≡◌, ℕ, ◌<◌, ◌⊎◌, inl, inr, Bool, true, false, List, [], ◌∷◌, Some, None, eqb-true, refl, ap, subst, arith}
 use Rattle.std.specs.Prelude.{Option, position, ◌==◌}
 use Rattle.std.specs.List.{remove}
 use mathlib.Core.Logic.{dite}
