@@ -23,15 +23,15 @@ invariant_of-result g c =
     let l : LinksData = record { holders = c.in-Ok.parts.holders.items; nexts = c.in-Ok.parts.nexts.items; outs = map (λ e. g.O.Out.state e.out) c.args.ends.items; inns = map (λ e. g.I.In.state e.inn) c.args.ends.items } in
     let m : MachineState = machine_of_parts c.args.wanted.plan c.in-Ok.parts.words.items (letters_in c.in-Ok.parts.letters.items) l c.in-Ok.parts.ids c.args.wanted.calls.items (map seat_data c.in-Ok.parts.seats.items) c.in-Ok.parts.readers.items c.args.wanted.opens.items c.in-Ok.parts.outcomes.items (map (λ e. end_of (g.O.Out.state e.out) (g.I.In.state e.inn)) c.args.ends.items) in
     let ids = ap (λ (a : Calls). a.plan) (parts.ids_are 0) in
-    let new_ = parts_new c.args.wanted.plan c.args.wanted.id_plan clients c.args.wanted.calls.items c.args.wanted.opens.items l _ m.letters _ _ _ _ parts (all_open (λ e. g.O.Out.state e.out) c.args.ends.items l refl c.requires.unused.unused.fresh) in
+    let new_ = parts_new c.args.wanted.plan c.args.wanted.id_plan clients c.args.wanted.calls.items c.args.wanted.opens.items l _ m.letters _ _ _ _ parts (all_open (λ e. g.O.Out.state e.out) c.args.ends.items l refl c.requires.unused.fresh) in
     let many = length-map c.args.wanted.clients.items (λ tasks. tasks.items) in
     let outs = length-map c.args.ends.items (λ e. g.O.Out.state e.out) in
     let inns = length-map c.args.ends.items (λ e. g.I.In.state e.inn) in
     let ends = length-map c.args.ends.items (λ e. end_of (g.O.Out.state e.out) (g.I.In.state e.inn)) in
     let all : length c.args.ends.items ≡ c.args.wanted.plan.links = omega (arith, c.args.ends.ok, c.requires.links.0) in (
       machine_begins c.args.wanted.plan c.args.wanted.id_plan clients m c.requires.for_ refl ids new_ parts.words_are parts.seats_are parts.readers_are parts.ids_are refl parts.outcomes_are (vec_capacity c.in-Ok.parts.told)
-          (nothing_taken (λ e. g.O.Out.state e.out) c.args.ends.items l refl c.requires.unused.unused) (nothing_given (λ e. g.I.In.state e.inn) c.args.ends.items l refl c.requires.unused.unused.silent)
-          (none_closing (λ e. g.I.In.state e.inn) c.args.ends.items l refl c.requires.unused.unused.unclosed)
+          (nothing_taken (λ e. g.O.Out.state e.out) c.args.ends.items l refl c.requires.unused.unused) (nothing_given (λ e. g.I.In.state e.inn) c.args.ends.items l refl c.requires.unused.silent)
+          (none_closing (λ e. g.I.In.state e.inn) c.args.ends.items l refl c.requires.unused.unclosed)
           (outs ∙ all) (inns ∙ all) (ends ∙ all) c.requires.links.1 (omega (arith, many, c.args.wanted.clients.ok, c.requires.seats)) c.in-Ok.ensures.told_room,
       c.in-Ok.ensures.told,
       c.in-Ok.ensures.places,
@@ -44,13 +44,13 @@ returns-clause-core g c =
     let parts = c.in-Ok.ensures.parts c.args.wanted.calls.items in
     let l : LinksData = record { holders = c.in-Ok.parts.holders.items; nexts = c.in-Ok.parts.nexts.items; outs = map (λ e. g.O.Out.state e.out) c.args.ends.items; inns = map (λ e. g.I.In.state e.inn) c.args.ends.items } in
     let m : MachineState = machine_of_parts c.args.wanted.plan c.in-Ok.parts.words.items (letters_in c.in-Ok.parts.letters.items) l c.in-Ok.parts.ids c.args.wanted.calls.items (map seat_data c.in-Ok.parts.seats.items) c.in-Ok.parts.readers.items c.args.wanted.opens.items c.in-Ok.parts.outcomes.items (map (λ e. end_of (g.O.Out.state e.out) (g.I.In.state e.inn)) c.args.ends.items) in
-    let new_ = parts_new c.args.wanted.plan c.args.wanted.id_plan clients c.args.wanted.calls.items c.args.wanted.opens.items l _ m.letters _ _ _ _ parts (all_open (λ e. g.O.Out.state e.out) c.args.ends.items l refl c.requires.unused.unused.fresh) in
+    let new_ = parts_new c.args.wanted.plan c.args.wanted.id_plan clients c.args.wanted.calls.items c.args.wanted.opens.items l _ m.letters _ _ _ _ parts (all_open (λ e. g.O.Out.state e.out) c.args.ends.items l refl c.requires.unused.fresh) in
     begins_core c.args.wanted.plan c.args.wanted.id_plan clients m c.requires.for_ refl (ap (λ (a : Calls). a.plan) (parts.ids_are 0)) new_ parts.words_are parts.seats_are parts.readers_are parts.ids_are refl parts.outcomes_are
 
 pub returns-clause-agrees : goal.returns-clause-agrees
 returns-clause-agrees g c =
     let l : LinksData = record { holders = c.in-Ok.parts.holders.items; nexts = c.in-Ok.parts.nexts.items; outs = map (λ e. g.O.Out.state e.out) c.args.ends.items; inns = map (λ e. g.I.In.state e.inn) c.args.ends.items } in
-    (nothing_taken (λ e. g.O.Out.state e.out) c.args.ends.items l refl c.requires.unused.unused, nothing_given (λ e. g.I.In.state e.inn) c.args.ends.items l refl c.requires.unused.unused.silent)
+    (nothing_taken (λ e. g.O.Out.state e.out) c.args.ends.items l refl c.requires.unused.unused, nothing_given (λ e. g.I.In.state e.inn) c.args.ends.items l refl c.requires.unused.silent)
 
 pub returns-clause-plain : goal.returns-clause-plain
 returns-clause-plain g c =
