@@ -46,7 +46,7 @@ use Rattle.call_errors.specs.rpc_client.proofs.Delivering.{accepted_refs, delive
 use Rattle.call_errors.specs.declared.seats.CallSeat.{CallSeat}
 use Rattle.call_errors.specs.declared.retries.Retry.{Retry}
 use Rattle.call_errors.specs.Books.{Books, books_of, stand_of, starving, KeepsSeat}
-use Rattle.call_errors.proofs.Keeping.{keeps_then}
+use Rattle.call_errors.proofs.Keeping as keeping
 use Rattle.call_writes.specs.Sending.{Rested}
 use Rattle.call_attempts.specs.Both.{Both, both, wanting}
 use Rattle.call_attempts.specs.Retrying.{TookNext, without_oldest, RetriedBy, GaveUp, Retried, one_more, RetriedAll, RanOut, for_frame, before_next}
@@ -262,7 +262,7 @@ module _ {S : Type 0} (z : TableId) (p : Plan) (y : TableId) where
 
   -- between the two what else the client has for calls may have changed
   pub rested_then : (s t u : Seat S View) (c d e f : CallSeat) → Rested z p y s t c d → Rested z p y t u e f → e.seat ≡ d.seat → Rested z p y s u c f
-  rested_then s t u c d e f a b same = record { rest = rest_then z p s t u a.rest b.rest; refs = refs_then s.me.0 t.me.0 u.me.0 a.refs b.refs; seen = seen_then s.me.0 t.me.0 u.me.0 a.seen b.seen; keeps = keeps_then y c e f (keeps_same y c d e a.keeps same) b.keeps }
+  rested_then s t u c d e f a b same = record { rest = rest_then z p s t u a.rest b.rest; refs = refs_then s.me.0 t.me.0 u.me.0 a.refs b.refs; seen = seen_then s.me.0 t.me.0 u.me.0 a.seen b.seen; keeps = keeping.keeps_then y c e f (keeps_same y c d e a.keeps same) b.keeps }
 
 -- ## A client between two retries
 

@@ -30,8 +30,8 @@ note-requires-clause-some g c = id_some c.in-Ok.id c.in-Ok.ensures.made.first_so
 pub new-requires : goal.new-requires
 new-requires g c = id_short c.in-Ok.id 0 (omega (arith, c.in-Ok.ensures.made.inside)) (omega arith)
 
-pub give_up-requires-clause-ids : goal.give_up-requires-clause-ids
-give_up-requires-clause-ids g c = noted_free c.args.tables.now.ids.table.shared.table_id c.args.calls.now.seat c.create.new.seat c.note.new.seat _ _ _ _ _ _ c.requires.ids.0 c.requires.ids.1 c.create.ensures.seat c.in-Ok.ensures.made c.note.ensures.seat c.note.ensures.stored
+pub give_up-requires : goal.give_up-requires
+give_up-requires g c = record { ids = noted_free c.args.tables.now.ids.table.shared.table_id c.args.calls.now.seat c.create.new.seat c.note.new.seat _ _ _ _ _ _ c.requires.ids.0 c.requires.ids.1 c.create.ensures.seat c.in-Ok.ensures.made c.note.ensures.seat c.note.ensures.stored }
 
 pub attempt_one-requires-clause-may : goal.attempt_one-requires-clause-may
 attempt_one-requires-clause-may g c = let z = c.args.tables.now.socks.rule.table.shared.table_id in let p = c.args.tables.now.socks.rule.plan in
