@@ -94,7 +94,7 @@ module _ (q : id_plan.Plan) (link : ℕ) (calls : List ℕ) (s t : InState) wher
     ends_by how.NoMemory ends thrown calm early = absurd (cc)
 
     pub shows_end : ShowsEnd bytes t (reading_code r.how)
-    shows_end = ends_by r.how r.read.ends r.thrown (r.calm refl).1 (shows_early q link calls s t id v w b b' r)
+    shows_end = ends_by r.how r.read.ends r.thrown (r.calm refl).1 shows_early
 
   end_if : (o : Option SocketId) (v w : View) (b b' : Books) (r : ReadIf q link calls false false s t o v w b b') (code : ℕ) → EndedIf q link calls s t o v w b b' r code → ShowsEnd (if_bytes q link calls false false s t o v w b b' r) t code
   end_if None v w b b' r code e = absurd e
