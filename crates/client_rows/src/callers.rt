@@ -6,7 +6,7 @@ ghost use Rattle.corr_id.specs.Opening.{AreNew};
 ghost use Rattle.call_client.specs.Acting.{MayGo};
 ghost use Rattle.call_client.specs.Running.{MayMakeAll};
 
-use crate::plans::ONE;
+use crate::sockets::ONE;
 use call_attempts::Tables;
 use call_client::{Caller, Spent};
 use corr_id::{IdSeat, IdTable};

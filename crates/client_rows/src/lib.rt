@@ -7,8 +7,6 @@ mod callers;
 #[cfg(test)]
 mod ids;
 #[cfg(test)]
-mod plans;
-#[cfg(test)]
 mod sockets;
 #[cfg(test)]
 mod words;

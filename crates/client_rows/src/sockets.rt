@@ -5,7 +5,6 @@ ghost use Rattle.sock_table.specs.Passes.{IsPass};
 ghost use Rattle.sock_table.specs.Refs.{Knows};
 ghost use Rattle.sock_open.specs.Made.{AreMade, AreNewSeats, PassesFrom};
 
-use crate::plans::ONE;
 use sock_io::MemOut;
 use sock_open::{Made, new_table};
 use sock_rule::SockSeat;
@@ -19,6 +18,17 @@ type Seat = SockSeat<MemOut>;
 type Pass = LinkPass<MemOut>;
 
 type Table = SockTable<MemOut>;
+
+/// One slot, link, name and seat, with four requests and three operations.
+pub(crate) const ONE: Plan = Plan {
+    slots: 1,
+    links: 1,
+    requests: 4,
+    names: 1,
+    operations: 3,
+    seats: 1,
+    first: 0,
+};
 
 /// A table of one slot and two links, with so many seats.
 fn begin(alloc: Global, seats: u16) -> Option<Made<MemOut>>

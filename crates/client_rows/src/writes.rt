@@ -6,7 +6,7 @@ ghost use Rattle.rpc_client.specs.Seats.{MayAct};
 ghost use Rattle.corr_id.specs.Seats.{Sits, IsFree};
 ghost use Rattle.corr_id.specs.Opening.{AreNew};
 
-use crate::plans::ONE;
+use crate::sockets::ONE;
 use call_errors::CallSeat;
 use call_writes::send_calling;
 use corr_id::{IdSeat, IdTable};
