@@ -89,7 +89,8 @@ fn post_code<R: Wait>(rt: &R, ids: &IdTable<Call>, calls: &mut AnswerSeat, code:
     let attempt = attempt_of(word);
     match ids.post(rt, &mut calls.seat, id_at(word), code, attempt) {
         Posted::Locked(lock) => end_lost(ids, calls, lock, code),
-        Posted::Queued | Posted::Gone { found: _ } | Posted::Stale { current: _ } => {}
+        Posted::Queued => {}
+        Posted::Gone { found: _ } | Posted::Stale { current: _ } => {}
         Posted::Crowded {
             first: _,
             second: _,
