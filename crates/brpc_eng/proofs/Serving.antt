@@ -3,8 +3,7 @@ use Rattle.std.proofs.Common.{◌≡◌, ℕ, ◌⊎◌, inl, inr, Bool, true, f
 use Rattle.serve_port.specs.declared.service.ServiceEnd.{ServiceEnd}
 use Rattle.serve_port.specs.declared.service.ServiceEnd.TheVariants as end_
 use Rattle.serve_port.specs.declared.service.ServeFault.{ServeFault}
-use Rattle.sock_io.specs.Link.{LinkerState}
-use Rattle.serve_port.specs.Serving.{ServedConnection, ServesAll, is_failing, is_faulty, is_whole, any_failing, any_faulty, all_whole}
+use Rattle.serve_port.specs.Serving.{ServedConnection, LinkerState, ServesAll, is_failing, is_faulty, is_whole, any_failing, any_faulty, all_whole}
 use Rattle.brpc_eng.specs.Answers.{Output, Links, TextWritten, WroteNothing, ServeEnds, ServedWhole, ServeRanOut, ServedPort, served_text}
 
 pub served_written : (out : Output) (count frames status : ℕ) (text : List ℕ) → text ≡ served_text count frames → TextWritten out text status → TextWritten out (served_text count frames) status ⊎ ((status ≡ 7) × WroteNothing out)

@@ -181,33 +181,44 @@ answered left c out inn k = record { put_is = refl; frames_are = k.follows.made 
 few_came : (left : ℕ) (c : Held) (out : OutState) (inn : InState) → (k : Talks left c out inn) → length k.came ≤ reading_limit
 few_came left c out inn k = let s = k.sum in omega (arith, s)
 
--- all that came was answered, and what came behind the last take is nothing
-ends_here : (left : ℕ) (c : Held) (out : OutState) (inn inn' : InState) (e : ServiceEnd) → (k : Talks left c out inn) → inn'.gave ≡ inn.gave → IfSome inn'.gave_bytes (λ x. x ≡ k.came)
-    → EndsBy e k.came (replies k.came) c.made (connection_of out inn') → Serves (record { end = e; frames = c.made }) (connection_of out inn')
-ends_here left c out inn inn' e k count gave ended = record {
+pub at_limit : (left : ℕ) (c : Held) (out : OutState) (inn : InState) → Talks left c out inn → left ≡ 0 → Serves (record { end = end_.AtLimit; frames = c.made }) (connection_of out inn)
+at_limit left c out inn k e = record {
   came = k.came;
   put = replies k.came;
   left = [];
-  gave = gave;
-  count = count ∙ k.count;
+  gave = k.gave;
+  count = k.count;
   few = few_came left c out inn k;
   took = k.took;
   begins = append-nil (replies k.came);
-  ended = ended;
+  ended = (answered left c out inn k, k.fine, (let s = k.sum in omega (arith, s, e)), record { puts = k.puts; takes = k.takes });
 }
 
-pub at_limit : (left : ℕ) (c : Held) (out : OutState) (inn : InState) → Talks left c out inn → left ≡ 0 → Serves (record { end = end_.AtLimit; frames = c.made }) (connection_of out inn)
-at_limit left c out inn k e = ends_here left c out inn inn end_.AtLimit k refl k.gave (answered left c out inn k, k.fine, (let s = k.sum in omega (arith, s, e)), record { puts = k.puts; takes = k.takes })
-
 pub at_end : (left : ℕ) (c : Held) (out : OutState) (inn inn' : InState) (room : List ℕ) (t : Take) → Talks left c out inn → TakeStep inn inn' room t → t ≡ take_.End → Serves (record { end = end_.AtEnd; frames = c.made }) (connection_of out inn')
-at_end left c out inn inn' room t k s e = let step = subst (TakeStep inn inn' room) e s in
-    ends_here left c out inn inn' end_.AtEnd k (omega (arith, step.gave)) (none_told inn.gave_bytes inn'.gave_bytes k.came step.bytes k.gave)
-    (answered left c out inn k, k.fine, step.end.0 refl, record { puts = k.puts; takes = step.kept (λ x. absurd (cc)) ∙ k.takes })
+at_end left c out inn inn' room t k s e = let step = subst (TakeStep inn inn' room) e s in record {
+  came = k.came;
+  put = replies k.came;
+  left = [];
+  gave = none_told inn.gave_bytes inn'.gave_bytes k.came step.bytes k.gave;
+  count = omega (arith, step.gave, k.count);
+  few = few_came left c out inn k;
+  took = k.took;
+  begins = append-nil (replies k.came);
+  ended = (answered left c out inn k, k.fine, step.end.0 refl, record { puts = k.puts; takes = step.kept (λ x. absurd (cc)) ∙ k.takes });
+}
 
 pub take_failed : (left : ℕ) (c : Held) (out : OutState) (inn inn' : InState) (room : List ℕ) (t : Take) → Talks left c out inn → TakeStep inn inn' room t → t ≡ take_.Failed → Serves (record { end = end_.TakeFailed; frames = c.made }) (connection_of out inn')
-take_failed left c out inn inn' room t k s e = let step = subst (TakeStep inn inn' room) e s in
-    ends_here left c out inn inn' end_.TakeFailed k (omega (arith, step.gave)) (none_told inn.gave_bytes inn'.gave_bytes k.came step.bytes k.gave)
-    (answered left c out inn k, k.fine, (let one : 1 ≤ inn'.faults = subst (λ n. Rose n inn'.faults) k.takes (step.failed refl) in omega (arith, one)), k.puts)
+take_failed left c out inn inn' room t k s e = let step = subst (TakeStep inn inn' room) e s in record {
+  came = k.came;
+  put = replies k.came;
+  left = [];
+  gave = none_told inn.gave_bytes inn'.gave_bytes k.came step.bytes k.gave;
+  count = omega (arith, step.gave, k.count);
+  few = few_came left c out inn k;
+  took = k.took;
+  begins = append-nil (replies k.came);
+  ended = (answered left c out inn k, k.fine, (let one : 1 ≤ inn'.faults = subst (λ n. Rose n inn'.faults) k.takes (step.failed refl) in omega (arith, one)), k.puts);
+}
 
 -- finishing the writing half changes nothing of that
 pub finished_same : (s : Service) (out out' : OutState) (inn : InState) → out'.took ≡ out.took → out'.faults ≡ out.faults → Serves s (connection_of out inn) → Serves s (connection_of out' inn)

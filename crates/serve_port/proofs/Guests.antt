@@ -8,8 +8,7 @@ use Rattle.sock_io.specs.declared.link.OpenFault.TheVariants as open_
 use Rattle.sock_io.specs.Causes.{Rose}
 use Rattle.serve_port.specs.declared.service.ServeFault.{ServeFault}
 use Rattle.serve_port.specs.declared.service.ServeFault.TheVariants as fault_
-use Rattle.sock_io.specs.Link.{LinkerState}
-use Rattle.serve_port.specs.Serving.{ServedConnection, IsServed, AnswersBy, ServesAll}
+use Rattle.serve_port.specs.Serving.{LinkerState, ServedConnection, IsServed, AnswersBy, ServesAll}
 use Rattle.serve_port.specs.Steps.{AcceptedBy, AcceptsRest, AcceptsBeside}
 
 module _ {G : Type 0} (served : G → Type 0) where

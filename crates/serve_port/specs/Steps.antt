@@ -8,12 +8,12 @@ use Rattle.sock_io.specs.declared.link.OpenFault.{OpenFault}
 use Rattle.sock_io.specs.declared.link.OpenFault.TheVariants as open_
 use Rattle.sock_io.specs.declared.stream.Failed.{Failed}
 use Rattle.sock_io.specs.Causes.{Rose}
-use Rattle.sock_io.specs.Link.{OutState, InState, LinkerState, connection_of}
+use Rattle.sock_io.specs.Link.{OutState, InState, connection_of}
 use Rattle.serve_port.specs.declared.service.ServiceEnd.{ServiceEnd}
 use Rattle.serve_port.specs.declared.service.ServiceEnd.TheVariants as end_
 use Rattle.serve_port.specs.declared.connection.Connection.{Connection}
 use Rattle.serve_port.specs.declared.tally.Tally.{Tally}
-use Rattle.serve_port.specs.Serving.{ServedConnection, Serves, any_failing, any_faulty, all_whole, frames_of}
+use Rattle.serve_port.specs.Serving.{ServedConnection, LinkerState, Serves, any_failing, any_faulty, all_whole, frames_of}
 
 -- ## Putting
 

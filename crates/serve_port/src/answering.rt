@@ -40,12 +40,9 @@ pub fn answer<R: Wait, O: Out>(
 {
     let mut replies = IoBuf::new(alloc);
     let Ok(faulty) = feed(conn, pool, piece, &mut replies) else {
-        drop(replies);
         return Err(ServiceEnd::NoMemory);
     };
-    let put = put_all(rt, pool, &mut replies, out);
-    drop(replies);
-    if put.is_err() {
+    if put_all(rt, pool, replies, out).is_err() {
         return Err(ServiceEnd::PutFailed);
     }
     if faulty {

@@ -1,5 +1,5 @@
 /// Why the service of a connection ended.
-#[derive(Clone, Copy)]
+#[derive(Clone, Copy, Debug, PartialEq, Eq)]
 pub enum ServiceEnd {
     /// Its reading half answered its end.
     AtEnd,
@@ -15,14 +15,14 @@ pub enum ServiceEnd {
 }
 
 /// How the service of a connection ended, and how many replies were made.
-#[derive(Clone, Copy)]
+#[derive(Clone, Copy, Debug, PartialEq, Eq)]
 pub struct Service {
     pub end: ServiceEnd,
     pub frames: u64,
 }
 
 /// Why connections weren't all served whole.
-#[derive(Clone, Copy)]
+#[derive(Clone, Copy, Debug, PartialEq, Eq)]
 pub enum ServeFault {
     /// An accept failed.
     AcceptFailed,

@@ -32,7 +32,7 @@ impl ServiceEnd {
 
 /// How many replies were made, unless these are more than are counted; and whether a half failed, whether the bytes of a
 /// connection went on with no frame, and whether all were read whole.
-#[derive(Clone, Copy)]
+#[derive(Clone, Copy, Debug, PartialEq, Eq)]
 pub struct Tally {
     pub frames: Option<u64>,
     pub failing: bool,

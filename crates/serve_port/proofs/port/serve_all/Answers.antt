@@ -1,6 +1,5 @@
 use Rattle.std.proofs.Common.{◌≡◌, sym, subst, rules}
-use Rattle.sock_io.specs.Link.{LinkerState}
-use Rattle.serve_port.specs.Serving.{ServesAll}
+use Rattle.serve_port.specs.Serving.{LinkerState, ServesAll}
 use Rattle.serve_port.specs.Steps.{HasServed, as_served}
 use Rattle.serve_port.proofs.Guests.{none_served, from_none, all_served}
 use Rattle.serve_port.proofs.port.serve_all.Goals as goal
