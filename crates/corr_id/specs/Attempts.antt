@@ -15,7 +15,7 @@ abbrev pub IsOutside : Bool → Parts → ℕ → Type 0
 IsOutside true w v = LacksAttempt w v
 IsOutside false w v = OutOf w v
 
--- its range has it
+-- its range has it; that of an attempt behind its first version
 abbrev pub IsWithin : Bool → Parts → ℕ → Type 0
 IsWithin true w v = (w.first < v) × (v < w.first + w.range)
 IsWithin false w v = (w.first ≤ v) × (v < w.first + w.range)

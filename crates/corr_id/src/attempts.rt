@@ -75,7 +75,7 @@ fn lacks_attempt(word: IdWord, version: u64) -> bool
     word.state() == IdWord::FREE || version <= first || version >= first + u64::from(word.range())
 }
 
-// Whether the word has ended or has another range than the version's; an attempt's is none but behind the first one.
+// Whether the word is free, or its range lacks the version; an attempt's is in a range only behind the first one.
 fn is_outside(word: IdWord, version: u64, attempt: bool) -> bool
     ensures out { result ≡ true → IsOutside attempt (parts word.0) version }
     ensures within { result ≡ false → IsWithin attempt (parts word.0) version }

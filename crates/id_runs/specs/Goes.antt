@@ -42,7 +42,7 @@ FitsSock other found = Unit {0}
 abbrev pub FitsOwner : IdPlan → Heading → Type 0
 FitsOwner q heading = heading.owner ≢ 0 → (id_slot heading.owner < q.slots) × (heading.attempt ≤ 6)
 
--- this holds of the headings of all messages
+-- it holds of the heading, where the home has a message
 abbrev pub FitsHome : (Heading → Type 0) → Home → Type 0
 FitsHome F (Message heading bytes) = F heading
 FitsHome F other = Unit {0}

@@ -89,6 +89,7 @@ impl<N: Net<Stream = TcpStream, Listener = TcpListener> + Drop> TcpLinker<N> {
 }
 
 impl<N: Net<Stream = TcpStream, Listener = TcpListener> + Drop> LinkerTells for TcpLinker<N> {
+    // A value of `LinkerState` by itself may say otherwise.
     ghost state = { λ l. record l { always_ready = true } };
 }
 

@@ -175,6 +175,7 @@ impl<N: Net<Stream = TcpStream, Listener = TcpListener> + Drop> ProgLinker<N> {
 }
 
 impl<N: Net<Stream = TcpStream, Listener = TcpListener> + Drop> LinkerTells for ProgLinker<N> {
+    // A value of `LinkerState` by itself may say otherwise.
     ghost state = { λ l. record l { always_ready = true } };
 }
 

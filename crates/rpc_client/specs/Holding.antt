@@ -43,7 +43,7 @@ pub record GaveOne (at : ℕ) (ended : Bool) (h : List Held) (v : View) (k : Lis
   pub left : k ≡ remove h at
   pub back : GaveBack (socket_id_slot held.id.0) v w (Hold (socket_id_version held.id.0)) ended
 
--- the outcome of that
+-- what is told of a reference that was given back, by whether its slot came free
 abbrev pub given_as : Bool → Outcome
 given_as true = outcome.Freed
 given_as false = outcome.Kept

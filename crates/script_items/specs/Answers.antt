@@ -15,7 +15,7 @@ abbrev pub Answers : {A B : Type 0} → (A → B) → Result A LineFault → Rea
 Answers says (Ok a) read = read ≡ Ok (says a)
 Answers says (Err fault) read = Faults fault read
 
--- where the lines before have so many clients and links
+-- this is said for any items before that have so many clients and links
 abbrev pub Behind : ℕ → ℕ → (List Item → Type 0) → Type 0
 Behind clients links Says = (before : List Item) → count_by is_client before ≡ clients → count_by is_open before ≡ links → Says before
 

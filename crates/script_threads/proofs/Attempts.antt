@@ -50,14 +50,14 @@ use Rattle.script_parts.proofs.MayCall.{IsOwnTask, all_own}
 use Rattle.script_parts.proofs.Placed.{each_notes}
 use Rattle.script_parts.proofs.Shown.{view_of, flat_mapped}
 use Rattle.script_threads.specs.Told.{IsThreadsRun}
-use Rattle.script_threads.proofs.Speaking.{cast_of}
+use Rattle.script_threads.proofs.Speaking.{parts_of}
 use Rattle.script_threads.proofs.Left.{all_seats, notes_of as notes_taken}
 use Rattle.script_threads.proofs.Placed.{left_told}
 use Rattle.script_threads.proofs.Sockets as sockets
 use Rattle.script_threads.proofs.Widened.{still_attempts}
 
 module _ (P : Type 0) {O I : Type 0} (g : Ghosts O) (out : O → OutState) (inn : I → InState) (bytes : List ℕ) (script : List Item) (reads : script_of bytes ≡ Ok script) (text : List ℕ) (links : List LinkEnd) (r : IsThreadsRun P g out inn script text links) where
-  open cast_of r use {p, q, all, readers, last, outcomes}
+  open parts_of r use {p, q, all, readers, last, outcomes}
 
   abbrev by_link : ℕ → Order
   by_link = orders (sockets.run P g out inn bytes script reads text links r) (sockets.differ P g out inn bytes script reads text links r)
@@ -71,7 +71,7 @@ module _ (P : Type 0) {O I : Type 0} (g : Ghosts O) (out : O → OutState) (inn 
   made : AllMade (IsOfCall all) last.notes
   made =
       let owns = subst (AllByRecursion (AllByRecursion IsOwnTask)) (sym r.left.tasks) (all_own script) in
-      made_beside p q (calls script) (opens script) readers r.left.readers_are r.ids (cast_of r).main r.rest.last (notes_taken r.left r.rest) r.rest.rest (IsOfCall all)
+      made_beside p q (calls script) (opens script) readers r.left.readers_are r.ids (parts_of r).main r.rest.last (notes_taken r.left r.rest) r.rest.rest (IsOfCall all)
       (subst (AllMade (IsOfCall all)) (notes_of_seats view_of r.ids)
       (ids_made (IsOfCall all) out p q r.left.setup r.left.clients (opens script) r.told r.ended r.left.ran.seats (map view_of r.ids) r.left.ran.ran (all_of_calls all owns)))
 
@@ -101,7 +101,7 @@ module _ (P : Type 0) {O I : Type 0} (g : Ghosts O) (out : O → OutState) (inn 
   pub own : (i f n : ℕ) → total (is_attempt f n) (notes_of i last.notes) ≤ total (λ (v : View Asked). advances i f n v) (map view_of r.ids)
   own i f n =
       let h : IdSeat → ℕ = λ x. advances i f n x.me.0 in let seats : List IdSeat = all_seats r.left in let behind : List IdSeat = map (λ (x : LinkReader g). x.ids) readers in
-      let a : total (is_attempt f n) (notes_of i last.notes) ≡ total (is_attempt f n) (notes_of i r.rest.main.me.0.notes) = rest_unmoved EEOF q (calls script) (cast_of r).main r.rest.last r.rest.rest i f n in
+      let a : total (is_attempt f n) (notes_of i last.notes) ≡ total (is_attempt f n) (notes_of i r.rest.main.me.0.notes) = rest_unmoved EEOF q (calls script) (parts_of r).main r.rest.last r.rest.rest i f n in
       let b = ap (λ (l : List (Noted Asked)). total (is_attempt f n) (notes_of i l)) (notes_taken r.left r.rest ∙ flat_mapped view_of (λ (v : View Asked). v.notes) seats) in
       let c : total (is_attempt f n) (notes_of i (flat_map (λ (v : View Asked). v.notes) (map view_of seats))) ≡ total h seats = each_notes i (is_attempt f n) (map view_of seats) ∙ total_map (λ (v : View Asked). advances i f n v) view_of seats in
       let both : total h seats ≡ total h r.ids + total h behind = total_append h r.ids behind in

@@ -18,7 +18,7 @@ use Rattle.script_parts.specs.call_whys.specs.Below.sock_deeds.proofs.Orders.{or
 use Rattle.script_parts.specs.calls_done.specs.Begun.{FirstAttempt, Stands, BecameUnopened, FoundFailing, FoundFull}
 use Rattle.script_parts.specs.calls_done.proofs.Begun.{first_attempt}
 use Rattle.script_threads.specs.Told.{seated_plan, IsThreadsRun}
-use Rattle.script_threads.proofs.Speaking.{cast_of}
+use Rattle.script_threads.proofs.Speaking.{parts_of}
 use Rattle.script_threads.proofs.Sockets as sockets
 
 -- nothing of it speaks of seats
@@ -33,7 +33,7 @@ abbrev pub AreBegun : List Item → List (Option Outcome) → Fixed → (ℕ →
 AreBegun script outcomes fixed gave orders = (c o : ℕ) (asked : Asked) → IsOperation (all_tasks script) outcomes c o (ops.Call asked) → FirstAttempt (plan_of script) (all_tasks script) outcomes fixed gave orders o (name_of asked 0)
 
 module _ (P : Type 0) {O I : Type 0} (g : Ghosts O) (out : O → OutState) (inn : I → InState) (bytes : List ℕ) (script : List Item) (reads : script_of bytes ≡ Ok script) (text : List ℕ) (links : List LinkEnd) (r : IsThreadsRun P g out inn script text links) where
-  open cast_of r use {all, outcomes}
+  open parts_of r use {all, outcomes}
 
   abbrev fixed : Fixed
   fixed = sockets.fixed P g out inn bytes script reads text links r

@@ -34,7 +34,7 @@ use Rattle.script_parts.proofs.Tellers.{HasResult, IsEndTold}
 use Rattle.script_parts.proofs.Tellers as tellers
 use Rattle.script_parts.specs.calls_done.proofs.Known.{IsOfCall}
 use Rattle.script_threads.specs.Told.{IsThreadsRun}
-use Rattle.script_threads.proofs.Speaking.{cast_of}
+use Rattle.script_threads.proofs.Speaking.{parts_of}
 use Rattle.script_threads.proofs.Reports.{text_of, text_outcomes}
 use Rattle.script_threads.proofs.Sockets as sockets
 use Rattle.script_parts.specs.call_whys.specs.Below.sock_deeds.proofs.Places.{map_back}
@@ -69,7 +69,7 @@ module _ {O : Type 0} {g : Ghosts O} {state : O → OutState} {p : Plan} {q : id
 -- ## A run of a script
 
 module _ (P : Type 0) {O I : Type 0} (g : Ghosts O) (out : O → OutState) (inn : I → InState) (bytes : List ℕ) (script : List Item) (reads : script_of bytes ≡ Ok script) (text : List ℕ) (links : List LinkEnd) (r : IsThreadsRun P g out inn script text links) where
-  open cast_of r use {p, q, all, outcomes}
+  open parts_of r use {p, q, all, outcomes}
 
   abbrev callers : List (Client g out p q)
   callers = all_clients r.left.ran
@@ -102,5 +102,5 @@ module _ (P : Type 0) {O I : Type 0} (g : Ghosts O) (out : O → OutState) (inn 
 -- of the outcomes that are reported
 module _ (P : Type 0) {O I : Type 0} (out : O → OutState) (inn : I → InState) (g : Ghosts O) (script : List Item) (text : List ℕ) (links : List LinkEnd) (r : IsThreadsRun P g out inn script text links) (bytes : List ℕ) (reads : script_of bytes ≡ Ok script) where
   pub text_kinds : (client : ℕ) (t : Task) (asked : Asked) (x : Outcome) → IsTask (all_tasks script) (text_of P out inn g script text links r bytes reads).outcomes client t → t.op ≡ ops.Call asked → Became (all_tasks script) (text_of P out inn g script text links r bytes reads).outcomes t.number x → IsOfCall x
-  text_kinds client t asked x is op became = kind P g out inn bytes script reads text links r client t asked (subst (λ (l : List (List Task)). IsTask l (cast_of r).outcomes client t) (sym r.left.tasks) is) op x
+  text_kinds client t asked x is op became = kind P g out inn bytes script reads text links r client t asked (subst (λ (l : List (List Task)). IsTask l (parts_of r).outcomes client t) (sym r.left.tasks) is) op x
       (subst (λ (os : List (Option Outcome)). Became (all_tasks script) os t.number x) (text_outcomes P out inn g script text links r bytes reads) became)

@@ -18,14 +18,14 @@ use Rattle.script_parts.specs.call_whys.specs.expire_told.proofs.Whole.{expire_w
 use Rattle.script_parts.specs.call_whys.specs.Below.sock_deeds.proofs.Orders.{orders}
 use Rattle.script_parts.specs.Told.{AreCallsTold}
 use Rattle.script_threads.specs.Told.{IsThreadsRun}
-use Rattle.script_threads.proofs.Speaking.{cast_of}
+use Rattle.script_threads.proofs.Speaking.{parts_of}
 use Rattle.script_threads.proofs.Attempts.{calls_apart}
 use Rattle.script_threads.proofs.Failing.{failed, again, expires}
 use Rattle.script_threads.proofs.Sockets as sockets
 use Rattle.script_threads.proofs.Telling.{keeps, of_calls, said, said_ended, begun_not}
 
 module _ (P : Type 0) {O I : Type 0} (g : Ghosts O) (out : O → OutState) (inn : I → InState) (bytes : List ℕ) (script : List Item) (reads : script_of bytes ≡ Ok script) (text : List ℕ) (links : List LinkEnd) (r : IsThreadsRun P g out inn script text links) where
-  open cast_of r use {p, all, last, outcomes}
+  open parts_of r use {p, all, last, outcomes}
 
   module _ (given : ℕ → List ℕ) (is_gave : given ≡ sockets.gave P g out inn bytes script reads text links r) where
     abbrev fixed : Fixed

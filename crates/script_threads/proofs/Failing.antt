@@ -93,7 +93,7 @@ use Rattle.script_parts.proofs.Sockets.{map_twice}
 use Rattle.script_parts.proofs.Tellers.{split, only_one, IsEndTold}
 use Rattle.script_parts.proofs.Tellers as tellers
 use Rattle.script_threads.specs.Told.{IsThreadsRun}
-use Rattle.script_threads.proofs.Speaking.{cast_of}
+use Rattle.script_threads.proofs.Speaking.{parts_of}
 use Rattle.script_threads.proofs.Early.{ShowsEarly, ShowsEnd, early_shown, reader_end, HasPlace, place_of}
 use Rattle.script_threads.proofs.Left.{all_seats, early_of, notes_of}
 use Rattle.script_threads.proofs.Attempts as attempts
@@ -110,7 +110,7 @@ all_places Q [] h = tt
 all_places Q (x ∷ xs) h = (h 0 x refl, all_places Q xs (λ j y at. h (suc j) y at))
 
 module _ (P : Type 0) {O I : Type 0} (g : Ghosts O) (out : O → OutState) (inn : I → InState) (bytes : List ℕ) (script : List Item) (reads : script_of bytes ≡ Ok script) (text : List ℕ) (links : List LinkEnd) (r : IsThreadsRun P g out inn script text links) where
-  open cast_of r use {p, q, all, readers, main, last, outcomes}
+  open parts_of r use {p, q, all, readers, main, last, outcomes}
 
   abbrev slots : ℕ
   slots = length (calls script)

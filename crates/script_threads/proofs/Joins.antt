@@ -20,7 +20,7 @@ use Rattle.script_parts.specs.call_whys.specs.expire_told.proofs.Joins.{joins_wh
 use Rattle.script_parts.proofs.Expiring.{asks_calls}
 use Rattle.script_threads.specs.Joins.{AreJoinsTold}
 use Rattle.script_threads.specs.Told.{seated_plan, IsThreadsRun}
-use Rattle.script_threads.proofs.Speaking.{cast_of}
+use Rattle.script_threads.proofs.Speaking.{parts_of}
 use Rattle.script_threads.proofs.Sockets.{are, may, have}
 use Rattle.script_threads.proofs.Telling.{keeps, said, said_ended, begun_not}
 
@@ -35,7 +35,7 @@ still p p' clients outcomes fixed gave orders last c o of NotBegun h = h
 still p p' clients outcomes fixed gave orders last c o of _ h = elim h [ ]
 
 module _ (P : Type 0) {O I : Type 0} (g : Ghosts O) (out : O → OutState) (inn : I → InState) (bytes : List ℕ) (script : List Item) (reads : script_of bytes ≡ Ok script) (text : List ℕ) (links : List LinkEnd) (r : IsThreadsRun P g out inn script text links) where
-  open cast_of r use {all, outcomes}
+  open parts_of r use {all, outcomes}
 
   of_calls : AreJoinsOfCalls all outcomes
   of_calls = subst (λ (l : List (List Task)). AreJoinsOfCalls l outcomes) (sym r.left.tasks) (joins_calls bytes script reads outcomes)

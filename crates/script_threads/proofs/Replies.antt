@@ -55,7 +55,7 @@ use Rattle.script_parts.specs.served_told.proofs.Own.{own_replies}
 use Rattle.script_threads.specs.Gave.{offered_for, WasReadOut, GaveOffer, GaveOffers}
 use Rattle.script_threads.specs.Served.{run_of, IsShort, IsServedText}
 use Rattle.script_threads.specs.Told.{HadGivenNone, IsThreadsRun, IsThreadsText}
-use Rattle.script_threads.proofs.Speaking.{cast_of}
+use Rattle.script_threads.proofs.Speaking.{parts_of}
 use Rattle.script_threads.proofs.Done.{GivesAll, GivesLast, text_complete}
 use Rattle.script_threads.proofs.Linked.{opens_link}
 use Rattle.script_threads.proofs.ReadOut.{ShowsOut, at_end, at_closing, at_failure, at_limit, read_or_none, found_none}
@@ -181,7 +181,7 @@ module _ (P : Type 0) {O I : Type 0} (out : O → OutState) (inn : I → InState
   abbrev is : IsThreadsText script text links
   is = text_of P out inn g script text links r bytes reads
 
-  open cast_of r use {p, q, all, readers, outcomes}
+  open parts_of r use {p, q, all, readers, outcomes}
 
   abbrev the_run : DeedRun g out p all outcomes r.places r.left.vrefs r.left.outs
   the_run = run P g out inn bytes script reads text links r

@@ -31,7 +31,7 @@ use Rattle.script_parts.proofs.Sayings.{long_each}
 use Rattle.script_parts.proofs.Shown.{view_of, outcomes_few}
 use Rattle.script_threads.specs.Told.{IsThreadsRun, IsThreadsText}
 use Rattle.script_threads.specs.Sockets.{AreSocketsTold}
-use Rattle.script_threads.proofs.Speaking.{cast_of}
+use Rattle.script_threads.proofs.Speaking.{parts_of}
 use Rattle.script_threads.proofs.Joins.{joins_told}
 use Rattle.script_threads.proofs.Left.{early_of, notes_of}
 use Rattle.script_threads.proofs.Attempts.{attempts_beside, attempts_last}
@@ -41,7 +41,7 @@ use Rattle.script_threads.proofs.Sockets.{run, differ, fixed, answered_sockets}
 use Rattle.script_threads.proofs.Telling.{told_once}
 
 module _ (P : Type 0) {O I : Type 0} (out : O → OutState) (inn : I → InState) (g : Ghosts O) (script : List Item) (text : List ℕ) (links : List LinkEnd) (r : IsThreadsRun P g out inn script text links) where
-  open cast_of r use {p, q, readers, main, outcomes}
+  open parts_of r use {p, q, readers, main, outcomes}
 
   -- ## What its clients told
 

@@ -18,12 +18,12 @@ use Rattle.script_parts.specs.report_fits.proofs.Numbering.{numbered_length}
 use Rattle.script_parts.specs.report_fits.proofs.Sizes.{keeps_limits}
 use Rattle.script_parts.specs.call_whys.proofs.Versions.{IsIdFor, shown_end}
 use Rattle.script_threads.specs.Told.{seated_ids, IsThreadsRun}
-use Rattle.script_threads.proofs.Speaking.{cast_of}
+use Rattle.script_threads.proofs.Speaking.{parts_of}
 use Rattle.script_threads.proofs.Attempts.{are_ids}
 use Rattle.script_threads.proofs.Reports.{text_of, text_outcomes}
 
 module _ (P : Type 0) {O I : Type 0} (g : Ghosts O) (out : O → OutState) (inn : I → InState) (bytes : List ℕ) (script : List Item) (reads : script_of bytes ≡ Ok script) (text : List ℕ) (links : List LinkEnd) (r : IsThreadsRun P g out inn script text links) where
-  open cast_of r use {last}
+  open parts_of r use {last}
 
   -- each call has a slot of ids, and there are at most 4,096
   few_slots : length (calls script) ≤ 4096
@@ -42,7 +42,7 @@ module _ (P : Type 0) {O I : Type 0} (g : Ghosts O) (out : O → OutState) (inn 
       (λ lt. omega (arith, few_slots, word, inside, is, lt))
       (λ ge. absurd (let none_ = r.rest.closing.ended_not a.slot a.first a.inside (omega (arith, ge)) in omega (arith, some_, none_)))
 
-  small_ids : (i id : ℕ) (outcome : Outcome) → slice_get (cast_of r).outcomes i ≡ Some (Some outcome) → shown_id outcome ≡ Some id → id < 281474976710656
+  small_ids : (i id : ℕ) (outcome : Outcome) → slice_get (parts_of r).outcomes i ≡ Some (Some outcome) → shown_id outcome ≡ Some id → id < 281474976710656
   small_ids i id outcome became shows = small_id i id ((are_ids P g out inn bytes script reads text links r).ends i outcome became id (shown_end outcome id shows))
 
   -- so is each id that an outcome shows of those whose report the text is

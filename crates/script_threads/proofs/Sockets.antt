@@ -58,7 +58,7 @@ use Rattle.script_parts.proofs.Tellers.{split, only_one, IsEndTold, from_told}
 use Rattle.script_parts.proofs.Tellers as tellers
 use Rattle.script_threads.specs.Sockets.{AreSocketsTold}
 use Rattle.script_threads.specs.Told.{IsThreadsRun}
-use Rattle.script_threads.proofs.Speaking.{cast_of}
+use Rattle.script_threads.proofs.Speaking.{parts_of}
 use Rattle.script_threads.proofs.Early.{ShowsEarly, early_shown}
 use Rattle.script_threads.proofs.Left.{early_of, notes_of}
 use Rattle.script_threads.proofs.Linked.{opens_link}
@@ -66,7 +66,7 @@ use Rattle.script_threads.proofs.Widened.{still_told}
 use Rattle.script_parts.specs.call_whys.specs.Below.sock_deeds.proofs.Places.{map_there, to_elem}
 
 module _ (P : Type 0) {O I : Type 0} (g : Ghosts O) (out : O → OutState) (inn : I → InState) (bytes : List ℕ) (script : List Item) (reads : script_of bytes ≡ Ok script) (text : List ℕ) (links : List LinkEnd) (r : IsThreadsRun P g out inn script text links) where
-  open cast_of r use {p, q, all, readers, main, last, outcomes}
+  open parts_of r use {p, q, all, readers, main, last, outcomes}
 
   abbrev readers_are : AreReaders p q (calls script) 0 (opens script) readers
   readers_are = r.left.readers_are

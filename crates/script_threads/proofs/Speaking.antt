@@ -20,7 +20,7 @@ use Rattle.script_threads.specs.Told.{seated_plan, seated_ids, begins_with, IsTh
 
 module _ {P : Type 0} {O I : Type 0} {g : Ghosts O} {out : O → OutState} {inn : I → InState} {script : List Item} {text : List ℕ} {links : List LinkEnd} (r : IsThreadsRun P g out inn script text links) where
   -- the sizes of its tables, the tasks of its clients with the setup's, and its readers; the seat that took in all, and what it has in the end; and what became of the operations
-  pub record Cast : Type 0 where
+  pub record RunParts : Type 0 where
     pub p : Plan
     pub q : id_plan.Plan
     pub all : List (List Task)
@@ -29,8 +29,8 @@ module _ {P : Type 0} {O I : Type 0} {g : Ghosts O} {out : O → OutState} {inn 
     pub last : View Asked
     pub outcomes : List (Option Outcome)
 
-  abbrev pub cast_of : Cast
-  cast_of = record {
+  abbrev pub parts_of : RunParts
+  parts_of = record {
     p = seated_plan script;
     q = seated_ids script;
     all = r.left.setup ∷ r.left.clients;

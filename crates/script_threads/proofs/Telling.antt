@@ -35,12 +35,12 @@ use Rattle.script_parts.proofs.Shown.{view_of, flat_mapped}
 use Rattle.script_parts.proofs.Sockets.{map_twice}
 use Rattle.script_parts.proofs.Tellers as tellers
 use Rattle.script_threads.specs.Told.{IsThreadsRun}
-use Rattle.script_threads.proofs.Speaking.{cast_of}
+use Rattle.script_threads.proofs.Speaking.{parts_of}
 use Rattle.script_threads.proofs.Left.{all_seats, early_of, notes_of, kept_of}
 use Rattle.script_threads.proofs.Sockets as sockets
 
 module _ (P : Type 0) {O I : Type 0} (g : Ghosts O) (out : O → OutState) (inn : I → InState) (bytes : List ℕ) (script : List Item) (reads : script_of bytes ≡ Ok script) (text : List ℕ) (links : List LinkEnd) (r : IsThreadsRun P g out inn script text links) where
-  open cast_of r use {p, q, all, readers, main, last, outcomes}
+  open parts_of r use {p, q, all, readers, main, last, outcomes}
 
   -- ## What is kept in mind
 

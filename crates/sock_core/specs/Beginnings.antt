@@ -52,15 +52,15 @@ pub record IsWanted (script : List Item) (p : Plan) (q : IdPlan) (clients : List
   pub calls_are : calls ≡ wants.calls script
   pub opens_are : opens ≡ wants.opens script
 
--- the links over which a machine begins: none is finished or was closed by its other end, and none took or gave anything
+-- the links over which a machine begins: none is finished or was closed by its other end, and none took or gave anything, as far as they tell
 pub record AreUnused {E : Type 0} (out_of : E → OutState) (in_of : E → InState) (links : List E) : Type 0 where
   pub fresh : AllByRecursion (λ (e : E). (out_of e).finished ≡ false) links
   pub unused : AllByRecursion (λ (e : E). IfSome (out_of e).took (λ bytes. bytes ≡ [])) links
   pub silent : AllByRecursion (λ (e : E). ((in_of e).gave ≡ 0) × IfSome (in_of e).gave_bytes (λ bytes. bytes ≡ [])) links
   pub unclosed : AllByRecursion (λ (e : E). IfSome (in_of e).closing (λ closing. closing ≡ false)) links
 
--- a machine over these links, which tells of them what they tell
-pub record IsOver {E : Type 0} (out_of : E → OutState) (in_of : E → InState) (links : List E) (m : MachineState) : Type 0 where
+-- a machine over these links, which tells of them what they tell, lacks no memory and isn't ending
+pub record TellsLinks {E : Type 0} (out_of : E → OutState) (in_of : E → InState) (links : List E) (m : MachineState) : Type 0 where
   pub enough : (m.short ≡ false) × (m.ending ≡ false)
   pub ends : m.ends ≡ map (λ (e : E). end_of (out_of e) (in_of e)) links
   pub outs : AllByRecursion (λ (e : E). (out_of e).always_ready ≡ true) links → AreAlwaysReady m.links

@@ -1,7 +1,7 @@
 -- A linker that says of itself what it said before.
 use Rattle.std.specs.Prelude.{◌≡◌}
 
--- what it was asked for, how many connections it accepted, what it gave back, its faults, and that it is always ready
+-- what it was asked for, how many connections it accepted, the links and the connections given back, its faults, and whether its links are always ready: all as before
 pub record SaysAsBefore {S A B C D E F : Type 0} (asked_of : S → A) (accepted_of : S → B) (back_of : S → C) (done_of : S → D) (faults_of : S → E) (ready_of : S → F) (before now : S) : Type 0 where
   pub asked : asked_of now ≡ asked_of before
   pub accepted : accepted_of now ≡ accepted_of before

@@ -6,7 +6,7 @@ ghost use Rattle.sock_io.specs.Link.{OutState, InState, end_of};
 ghost use Rattle.seat_programs.specs.Scripts.{beginning, programs, readers_from, all_programs, sizes_of, place_words};
 ghost use Rattle.sock_core.specs.Finish.{told_from};
 ghost use Rattle.run_theorems.specs.joint_runs.proofs.Starts.{AreFor};
-ghost use Rattle.sock_core.specs.Beginnings.{AreUnused, IsMade, IsOver};
+ghost use Rattle.sock_core.specs.Beginnings.{AreUnused, IsMade, TellsLinks};
 ghost use Rattle.sock_core.specs.Linkers.{SaysAsBefore};
 ghost use Rattle.sock_core.specs.Links.{Taken, Given, Agrees, AgreesGave};
 ghost use Rattle.sock_core.specs.Machines.{MOST_LEFT as most_left, HasSizes, core_with, ending_by};
@@ -403,7 +403,7 @@ impl<O: Out, I: In, P: Peer> Machine<O, I, P> {
         requires links { length ends.items ≡ length (link_names script.now) }
         requires unused { AreUnused (λ (e : _). O.state e.out) (λ (e : _). I.state e.inn) ends.items }
         ensures made { IfOk result (IsMade script.now) }
-        ensures over { IfOk result (IsOver (λ (e : _). O.state e.out) (λ (e : _). I.state e.inn) ends.items) }
+        ensures over { IfOk result (TellsLinks (λ (e : _). O.state e.out) (λ (e : _). I.state e.inn) ends.items) }
         ensures back { IfErr result (λ e. e.ends ≡ ends) }
     {
         let Ok(prepared) = Prepared::of(alloc, script) else {
@@ -422,7 +422,7 @@ impl<O: Out, I: In, P: Peer> Machine<O, I, P> {
         requires links { length ends.items ≡ length (link_names script) }
         requires unused { AreUnused (λ (e : _). O.state e.out) (λ (e : _). I.state e.inn) ends.items }
         ensures made { IfOk result (IsMade script) }
-        ensures over { IfOk result (IsOver (λ (e : _). O.state e.out) (λ (e : _). I.state e.inn) ends.items) }
+        ensures over { IfOk result (TellsLinks (λ (e : _). O.state e.out) (λ (e : _). I.state e.inn) ends.items) }
         ensures back { IfErr result (λ e. e.ends ≡ ends) }
     {
         let mut machine = Machine::start(alloc, script.into_wanted(), ends)?;
@@ -446,7 +446,7 @@ impl<O: Out, I: In, P: Peer> Machine<O, I, P> {
         ensures plain { IfOk result IsPlain }
         ensures plan { IfOk result (λ m. (m.plan ≡ wanted.plan) × (m.ids.plan ≡ wanted.id_plan)) }
         ensures opens { IfOk result (λ m. (m.opens ≡ wanted.opens.items) × (m.calls ≡ wanted.calls.items)) }
-        ensures over { IfOk result (IsOver (λ (e : _). O.state e.out) (λ (e : _). I.state e.inn) ends.items) }
+        ensures over { IfOk result (TellsLinks (λ (e : _). O.state e.out) (λ (e : _). I.state e.inn) ends.items) }
         ensures err { IfErr result (λ e. e.ends ≡ ends) }
     {
         let Wanted {

@@ -159,12 +159,12 @@ pub enum OpenFault {
     NoMemory,
 }
 
-/// All that is told of a linker, for the proofs.
+/// Whoever makes a linker says here all that it tells, for the proofs.
 pub trait LinkerTells {
     ghost state: { Self → LinkerState };
 }
 
-/// The parts of that, which contracts name.
+/// The same by its parts, which contracts name: for every linker.
 pub trait LinkerTold {
     ghost use Rattle.sock_io.specs.declared.link.LinkSpec.{LinkSpec};
 

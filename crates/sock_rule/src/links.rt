@@ -75,6 +75,7 @@ impl<O: Out> RuleTable<O> {
         self.lay_home(seat, slot, home);
         self.table.shared.load::<PutLink>(seat, 0);
     }
+
     // The link comes out of the home that the seat has in hand, which is empty then.
     pub(crate) fn take_home(&self, seat: &mut SockSeat<O>, slot: usize) -> LinkHome<O>
         requires seat { seat.old.table_id ≡ self.now.table.shared.table_id }

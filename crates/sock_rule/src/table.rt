@@ -92,6 +92,7 @@ impl<O: Out> RuleTable<O> {
     {
         self.table.shared.join_seat::<TakeIn>(seat, from);
     }
+
     // The place of a request's next word.
     pub(crate) fn next_word(&self, request: usize) -> usize
         requires request { request < self.now.plan.requests }

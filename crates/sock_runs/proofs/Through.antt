@@ -28,7 +28,7 @@ use Rattle.sock_runs.proofs.Records.{stores, loads, awaits, RecordsAt, Records}
 
 -- ## Kinds of steps
 
--- a step of which no walk asks anything
+-- a step of which no property along steps asks anything
 abbrev pub is_plain : Call → Bool
 is_plain (CreateLife i k) = false
 is_plain (StoreOpen o w) = false
@@ -73,13 +73,13 @@ is_of_errors (Unlocks i w advance) = true
 is_of_errors (Decides id asked w e) = true
 is_of_errors other = false
 
--- ## What a walk asks
+-- ## What a property along steps asks
 
 -- each of these steps keeps it
 abbrev pub PassesSteps : (Call → Bool) → (Program → Type 0) → Type 0
 PassesSteps these G = (call : Call) (next : ℕ → Program) → these call ≡ true → ((found : ℕ) → G (next found)) → G (Do call next)
 
--- what every walk asks: plain steps keep it, and so do what is said, the loops about errors, and the retry that is kept behind an exchange that advanced an attempt
+-- what every property asks: plain steps keep it, and so do what is said, the loops about errors, and the retry that is kept behind an exchange that advanced an attempt
 pub record PassesPlain (G : Program → Type 0) : Type 0 where
   pub step : PassesSteps is_plain G
   pub say : (o : ℕ) (outcome : Outcome) (next : Program) → G next → G (Say o outcome next)
