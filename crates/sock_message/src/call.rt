@@ -145,7 +145,11 @@ impl Call {
 }
 
 // A buffer of these bytes, in blocks from its start.
-pub(crate) fn in_blocks(alloc: Global, pool: &mut BlockPool, bytes: &[u8]) -> Result<IoBuf, NoMemory>
+pub(crate) fn in_blocks(
+    alloc: Global,
+    pool: &mut BlockPool,
+    bytes: &[u8],
+) -> Result<IoBuf, NoMemory>
     ensures bytes { IfOk result (λ b. b.items ≡ bytes.now) }
     ensures blocks { IfOk result LiesInBlocks }
 {
