@@ -21,6 +21,9 @@ tries-init g c = let w = parts c.args.lock.word.0 in let x = c.args.lock.content
       (stepped_first u c.args.lock.slot w x c.args.advance c.move_call-nothing.new.seat.me.0 c.args.lock.is_locked c.args.lock.fits c.args.lock.in_order c.requires.room m.1);
 }
 
+pub unlock_id-found-requires-clause-next : goal.unlock_id-found-requires-clause-next
+unlock_id-found-requires-clause-next g c = (c.tries.step, c.without_oldest-next.ensures, c.tries.invariant.stepped.room)
+
 pub returns-then-oldest-eq0-clause-unlocked : goal.returns-then-oldest-eq0-clause-unlocked
 returns-then-oldest-eq0-clause-unlocked g c =
     let u = c.args.seat.now.me.0 in let i = c.args.lock.slot in let p = parts c.args.lock.word.0 in let x = c.args.lock.content in let v = c.tries.seat.me.0 in let w = c.unlock_id-found.new.seat.me.0 in
