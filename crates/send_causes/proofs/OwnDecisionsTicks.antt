@@ -18,7 +18,7 @@ use Rattle.sock_model.specs.declared.home.Home.TheVariants.{Message}
 use Rattle.sock_model.specs.Messages.{Letter}
 use Rattle.sock_model.specs.Reads.{message, link_home}
 use Rattle.sock_model.specs.Weights.{total}
-use Rattle.slot_steps.proofs.Sums.{term_le, total-append, total-set}
+use Rattle.slot_steps.proofs.Sums.{term_le, total-append}
 use Rattle.corr_core.specs.Word.{Parts, parts, error_of, attempt_of, made_word, posted_word, unlocked_word, free_word}
 use Rattle.corr_core.specs.declared.marks.Plan.{Plan as IdPlan}
 use Rattle.id_rule.specs.Lawful.{all_words, tag_index, id_index, call_index, at_index}

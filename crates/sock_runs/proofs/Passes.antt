@@ -1,5 +1,5 @@
 -- What stands aside of the sockets passes: whatever its steps find that is as the rule of the ids says, the view allows what follows.
-use Rattle.std.proofs.Common.{◌≡◌, ◌≢◌, ℕ, zero, suc, ◌+◌, ◌-◌, ◌*◌, ◌/◌, ◌%◌, ◌<◌, ◌≤◌, ◌==◌, ◌&&◌, ◌||◌, not, Bool, true, false, List, [], ◌∷◌, ◌++◌, length, refl, sym, subst, arith, cond, eqb, eqb-true, eq-eqb, nat_lt, Some, None}
+use Rattle.std.proofs.Common.{◌≡◌, ◌≢◌, ℕ, zero, suc, ◌+◌, ◌-◌, ◌<◌, ◌≤◌, ◌==◌, ◌&&◌, ◌||◌, not, Bool, true, false, List, [], ◌∷◌, ◌++◌, length, refl, sym, subst, arith, cond, eqb, eqb-true, eq-eqb, nat_lt, Some, None}
 use Rattle.std.proofs.lemmas.Bool.{not-false, eqb-false, and_parts, or_parts}
 use Rattle.sock_words.specs.declared.plain.Plan.{Plan}
 use Rattle.sock_model.specs.declared.chain.Heading.{Heading}

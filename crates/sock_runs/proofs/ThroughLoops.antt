@@ -126,25 +126,27 @@ module _ (G : Program → Type 0) (g : PassesErrors G) where
 pub through_opens : (G : Program → Type 0) → PassesOpens G → (o : ℕ) (k : ℕ → Program) → ((x : ℕ) → G (k x)) → G (opens_round o k)
 through_opens G w o k after = w.load o _ (λ word. either_way (word == 0) _ _ G (w.wait o k after) (after word))
 
--- what readers do, where it is known how a reading ends
-module _ (Ends : Ended → Type 0) (G : Program → Type 0) (g : PassesReads Ends G) where
+-- what is read, where it is known how a reading ends
+module _ (Ends : Ended → Type 0) (G : Program → Type 0) (seeks : (i v : ℕ) (next : Locking → Program) → ((exit : Locking) → G (next exit)) → G (Round (Locks i (Version v) None) next)) (answers : (frame : Frame) (first : ℕ) (next : Program) → G next → G (answer frame first next))
+    (reads : (r : Reading) (next : Ended → Program) → ((how : Ended) → Ends how → G (next how)) → G (Round (Reads r) next)) (closed : (closed fault : Bool) (r : Reading) → Ends (ended_by 1014 closed fault r)) (faulted : (r : Reading) → Ends (ended_by 2002 false true r)) where
   through_read_on : (r : Reading) (bytes : List ℕ) (s : streams.Ending) (k : Ended → Program) → ((x : Ended) → Ends x → G (k x)) → G (read_on r bytes s k)
-  through_read_on r bytes (streams.Rest n) k after = either_way (nat_lt r.total LIMIT) _ _ G (g.reads (record r { rest = last_of n bytes }) k after) (after (ended_by 1014 false false (record r { rest = last_of n bytes })) (g.closed false false (record r { rest = last_of n bytes })))
-  through_read_on r bytes (streams.Fault at fault) k after = after (ended_by 2002 false true r) (g.faulted r)
+  through_read_on r bytes (streams.Rest n) k after = either_way (nat_lt r.total LIMIT) _ _ G (reads (record r { rest = last_of n bytes }) k after) (after (ended_by 1014 false false (record r { rest = last_of n bytes })) (closed false false (record r { rest = last_of n bytes })))
+  through_read_on r bytes (streams.Fault at fault) k after = after (ended_by 2002 false true r) (faulted r)
 
   pub through_took : (r : Reading) (k : Ended → Program) → ((x : Ended) → Ends x → G (k x)) → (t : Taking) → G (took r k t)
   through_took r k after (Bytes bytes) = let s = streams.stream (r.rest ++ bytes) in
-      through_responses G (λ i v next. g.locks i (Version v) None next) (through_answer G (locked g.plain.errors)) r.ids s.frames r.kept (λ kept. read_on (record { ids = r.ids; link = r.link; id = r.id; rest = r.rest; total = r.total + length bytes; kept = kept }) (r.rest ++ bytes) s.ending k)
+      through_responses G seeks answers r.ids s.frames r.kept (λ kept. read_on (record { ids = r.ids; link = r.link; id = r.id; rest = r.rest; total = r.total + length bytes; kept = kept }) (r.rest ++ bytes) s.ending k)
       (λ kept. through_read_on (record { ids = r.ids; link = r.link; id = r.id; rest = r.rest; total = r.total + length bytes; kept = kept }) (r.rest ++ bytes) s.ending k after)
-  through_took r k after Nothing = g.reads r k after
-  through_took r k after Closed = after (ended_by 1014 true false r) (g.closed true false r)
-  through_took r k after _ = after (ended_by 1014 false false r) (g.closed false false r)
+  through_took r k after Nothing = reads r k after
+  through_took r k after Closed = after (ended_by 1014 true false r) (closed true false r)
+  through_took r k after _ = after (ended_by 1014 false false r) (closed false false r)
 
-  pub through_discarded : (l total : ℕ) (k : ℕ → Program) → ((x : ℕ) → G (k x)) → (t : Taking) → G (discarded l total k t)
-  through_discarded l total k after (Bytes bytes) = either_way (nat_lt (total + length bytes) LIMIT) _ _ G (g.discards l (total + length bytes) k after) (after (total + length bytes))
-  through_discarded l total k after Nothing = g.discards l total k after
-  through_discarded l total k after _ = after total
+pub through_discarded : (G : Program → Type 0) → ((k total : ℕ) (next : ℕ → Program) → ((now : ℕ) → G (next now)) → G (Round (Discards k total) next)) → (l total : ℕ) (k : ℕ → Program) → ((x : ℕ) → G (k x)) → (t : Taking) → G (discarded l total k t)
+through_discarded G discards l total k after (Bytes bytes) = either_way (nat_lt (total + length bytes) LIMIT) _ _ G (discards l (total + length bytes) k after) (after (total + length bytes))
+through_discarded G discards l total k after Nothing = discards l total k after
+through_discarded G discards l total k after _ = after total
 
+module _ (Ends : Ended → Type 0) (G : Program → Type 0) (g : PassesReads Ends G) where
   -- what is known of how a loop ends
   abbrev pub Knows : (head : Head) → Exit head → Type 0
   Knows (Reads r) exit = Ends exit
@@ -158,5 +160,5 @@ module _ (Ends : Ended → Type 0) (G : Program → Type 0) (g : PassesReads End
   through_round joins (Locks i sought w) l k after = through_locks G (locked g.plain.errors) g.locks i sought w k (λ x. after x tt)
   through_round joins (Joins id) l k after = through_joins G (locked g.plain.errors) joins id k (λ x. after x tt)
   through_round joins (Opens o) l k after = absurd (some-ne-none o l)
-  through_round joins (Reads r) l k after = g.take r.link (room_of r.total) (took r k) (through_took r k after)
-  through_round joins (Discards n total) l k after = g.take n (room_of total) (discarded n total k) (through_discarded n total k (λ x. after x tt))
+  through_round joins (Reads r) l k after = g.take r.link (room_of r.total) (took r k) (through_took Ends G (λ i v next. g.locks i (Version v) None next) (through_answer G (locked g.plain.errors)) g.reads g.closed g.faulted r k after)
+  through_round joins (Discards n total) l k after = g.take n (room_of total) (discarded n total k) (through_discarded G g.discards n total k (λ x. after x tt))

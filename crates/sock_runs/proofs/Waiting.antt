@@ -27,7 +27,6 @@ use Rattle.sock_steps.specs.chain_steps.proofs.Frames.{in_size}
 use Rattle.sock_steps.specs.chain_steps.proofs.Heads.{held_of, slot_is}
 use Rattle.sock_steps.proofs.Maps.{gather_nil}
 use Rattle.sock_steps.proofs.RightSteps.{right_in, right_alone}
-use Rattle.seat_programs.specs.Writings.{Writing}
 use Rattle.seat_programs.specs.Writings as heads
 use Rattle.std.specs.Prelude as std
 use Rattle.seat_programs.specs.corr_core.specs.Word.{parts}
