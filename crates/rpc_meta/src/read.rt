@@ -2,11 +2,11 @@ ghost use Rattle.std.specs.Prelude.{◌≡◌, IfOk, IfSome, option_map};
 ghost use Rattle.pb_wire.specs.brpc_model.specs.Meta.{read_meta};
 ghost use Rattle.rpc_meta.specs.Answer.{answer_as};
 ghost use Rattle.rpc_meta.specs.Meaning.{request_of, response_of, meaning};
-ghost use Rattle.rpc_meta.specs.View.{request_viewed, response_viewed};
+ghost use Rattle.rpc_meta.specs.View.{viewed};
 
 use crate::fault::MetaFault;
 use crate::meta::{MetaBytes, RequestMeta, ResponseMeta, RpcMeta};
-use crate::view::{MetaView, RequestView, ResponseView};
+use crate::view::MetaView;
 use std::alloc::{AllocError, Global};
 
 impl RpcMeta {
@@ -17,8 +17,8 @@ impl RpcMeta {
         ensures { IfSome (answer_as meaning result) (λ read. read ≡ read_meta bytes.now) }
     {
         let view = MetaView::read(bytes)?;
-        let request = copy_request(alloc, view.request)?;
-        let response = copy_response(alloc, view.response)?;
+        let request = copy_request(alloc, view)?;
+        let response = copy_response(alloc, view)?;
         Ok(RpcMeta {
             request,
             response,
@@ -29,40 +29,31 @@ impl RpcMeta {
     }
 }
 
-/// A request with its names.
+// The request of a view, with names of its own.
 #[inline(always)]
-fn copy_request(
-    alloc: Global,
-    view: Option<RequestView<'_>>,
-) -> Result<Option<RequestMeta>, AllocError>
-    ensures { IfOk result (λ copied. option_map request_of copied ≡ option_map request_viewed view.entry) }
+fn copy_request(alloc: Global, view: MetaView<'_>) -> Result<Option<RequestMeta>, AllocError>
+    ensures { IfOk result (λ copied. option_map request_of copied ≡ (viewed view.entry).request) }
 {
-    let Some(view) = view else {
-        return Ok(None);
-    };
-    let service = MetaBytes::copy(alloc, view.service)?;
-    let method = MetaBytes::copy(alloc, view.method)?;
-    Ok(Some(RequestMeta {
-        service,
-        method,
-        log_id: view.log_id,
-    }))
+    match view.request {
+        Some(request) => Ok(Some(RequestMeta {
+            service: MetaBytes::copy(alloc, request.service)?,
+            method: MetaBytes::copy(alloc, request.method)?,
+            log_id: request.log_id,
+        })),
+        None => Ok(None),
+    }
 }
 
-/// A response with its text.
+// The response of a view, with a text of its own.
 #[inline(always)]
-fn copy_response(
-    alloc: Global,
-    view: Option<ResponseView<'_>>,
-) -> Result<Option<ResponseMeta>, AllocError>
-    ensures { IfOk result (λ copied. option_map response_of copied ≡ option_map response_viewed view.entry) }
+fn copy_response(alloc: Global, view: MetaView<'_>) -> Result<Option<ResponseMeta>, AllocError>
+    ensures { IfOk result (λ copied. option_map response_of copied ≡ (viewed view.entry).response) }
 {
-    let Some(view) = view else {
-        return Ok(None);
-    };
-    let text = MetaBytes::copy(alloc, view.text)?;
-    Ok(Some(ResponseMeta {
-        code: view.code,
-        text,
-    }))
+    match view.response {
+        Some(response) => Ok(Some(ResponseMeta {
+            code: response.code,
+            text: MetaBytes::copy(alloc, response.text)?,
+        })),
+        None => Ok(None),
+    }
 }
