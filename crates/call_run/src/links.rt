@@ -6,6 +6,7 @@ ghost use Rattle.corr_id.specs.Opening.{AreNew};
 ghost use Rattle.link_crew.specs.Beside.{IsReady};
 ghost use Rattle.call_run.specs.Links.{AreSeated, rest_of, HaveWorked, IsLinksRoom, HasMoreLinks, PartedOne, AreParted};
 
+use crate::hiring::next_seats;
 use crate::leaving::either;
 use call_client::{Tables, Told};
 use corr_id::IdSeat;
@@ -101,12 +102,7 @@ pub fn seat_links<O: Out, I: In, P: Peer>(
         let Some(rest) = rests.pop_front() else {
             unreachable!();
         };
-        let Some(seat) = seats.pop() else {
-            unreachable!();
-        };
-        let Some(id_seat) = ids.pop() else {
-            unreachable!();
-        };
+        let (seat, id_seat) = next_seats(seats, ids);
         let Rest { inn, peer } = rest;
         let beside = Beside::new(alloc, seat, id_seat, link, *operation, inn, peer);
         besides.push_reserved(beside);

@@ -8,7 +8,7 @@ ghost use Rattle.call_run.specs.Threads.{MayRunAll};
 ghost use Rattle.call_run.specs.Crew.{IsLeft, IsCast, IsCrew, CrewRan, HasEnded, AreBack};
 
 use crate::failing::end_sockets;
-use crate::hiring::{Room, hire, hire_all, room_for, rooms_for};
+use crate::hiring::{Room, hire, hire_all, next_seats, room_for, rooms_for};
 use crate::leaving::{Left, hand_in, hand_in_all, room_to_leave};
 use crate::opened::{Opening, opened_names, openings};
 use crate::worker::{Worker, run_workers};
@@ -70,10 +70,10 @@ pub fn prepare<O: Out>(
     let openings = openings(alloc, &setup)?;
     let names = Vec::with_capacity(alloc, openings.len())?;
     let workers = Vec::with_capacity(alloc, count)?;
-    let left = room_to_leave(alloc, count + 1)?;
     let last = Vec::with_capacity(alloc, 1)?;
-    let main = room_for(alloc, setup)?;
     let rooms = rooms_for(alloc, clients)?;
+    let main = room_for(alloc, setup)?;
+    let left = room_to_leave(alloc, count + 1)?;
     Ok(Cast {
         main,
         rooms,
@@ -125,12 +125,7 @@ pub fn crew_of<O: Out>(
         last,
     } = cast;
     passes.reverse();
-    let Some(seat) = dealt.pop() else {
-        unreachable!();
-    };
-    let Some(id_seat) = ids.pop() else {
-        unreachable!();
-    };
+    let (seat, id_seat) = next_seats(&mut dealt, &mut ids);
     let main = hire(alloc, 0, main, seat, id_seat, &mut passes);
     hire_all(
         alloc,
@@ -222,6 +217,7 @@ pub fn end<O: Out>(tables: Tables<O>, room: Closed<O>, left: Left<O>) -> Result<
         outs,
     } = socks.close_in(room, seats);
     if short {
+        drop(ids);
         return Err(NoRun { outs });
     }
     Ok(Ran {
