@@ -46,17 +46,12 @@ fn room_left<O: Out, I: In, P: Peer>(
     requires { count ≤ 64 }
     ensures { IfOk result (IsLinksRoom count) }
 {
-    let rests = VecDeque::with_capacity(alloc, count)?;
-    let seats = Vec::with_capacity(alloc, count + 1)?;
-    let ids = Vec::with_capacity(alloc, count)?;
-    let told = Vec::with_capacity(alloc, count)?;
-    let early = Vec::with_capacity(alloc, count)?;
     Ok(LinksLeft {
-        rests,
-        seats,
-        ids,
-        told,
-        early,
+        rests: VecDeque::with_capacity(alloc, count)?,
+        seats: Vec::with_capacity(alloc, count + 1)?,
+        ids: Vec::with_capacity(alloc, count)?,
+        told: Vec::with_capacity(alloc, count)?,
+        early: Vec::with_capacity(alloc, count)?,
         short: false,
     })
 }
