@@ -45,16 +45,23 @@ pub struct NoRun<O: Out> {
     pub outs: Vec<O>,
 }
 
-/// All that a run needs of memory before its tables are made. `last` has room for the seat that takes in all others.
+/// What a run has besides its clients: the `open`s of the setup, room for the names that they open and for what is left, and
+/// `last` with room for the seat that takes in all others.
+#[derive(Drop)]
+pub struct Kit<O: Out> {
+    pub openings: Vec<Opening>,
+    pub names: Vec<u16>,
+    pub left: Left<O>,
+    pub last: Vec<SockSeat<O>>,
+}
+
+/// All that a run needs of memory before its tables are made.
 #[derive(Drop)]
 pub struct Cast<O: Out> {
     pub main: Room<O>,
     pub rooms: Vec<Room<O>>,
     pub workers: Vec<Worker<O>>,
-    pub openings: Vec<Opening>,
-    pub names: Vec<u16>,
-    pub left: Left<O>,
-    pub last: Vec<SockSeat<O>>,
+    pub kit: Kit<O>,
 }
 
 /// Room for these clients and their setup.
@@ -90,10 +97,7 @@ pub fn prepare<O: Out>(
 pub struct Crew<O: Out> {
     pub main: Worker<O>,
     pub workers: Vec<Worker<O>>,
-    pub openings: Vec<Opening>,
-    pub names: Vec<u16>,
-    pub left: Left<O>,
-    pub last: Vec<SockSeat<O>>,
+    pub kit: Kit<O>,
 }
 
 /// Each client gets its seats, and the passes of its links.
@@ -119,10 +123,7 @@ pub fn crew_of<O: Out>(
         main,
         rooms,
         mut workers,
-        openings,
-        names,
-        left,
-        last,
+        kit,
     } = cast;
     passes.reverse();
     let (seat, id_seat) = next_seats(&mut dealt, &mut ids);
@@ -136,14 +137,7 @@ pub fn crew_of<O: Out>(
         &mut passes,
         &mut workers,
     );
-    Crew {
-        main,
-        workers,
-        openings,
-        names,
-        left,
-        last,
-    }
+    Crew { main, workers, kit }
 }
 
 /// Main makes the setup. Then each client makes its operations, on a thread of its own, once it found what the setup opened.
@@ -162,11 +156,14 @@ pub fn run_crew<O: Out + Send, G: Gate + Sync, R: Threads + Wait + Sync>(
     let Crew {
         mut main,
         mut workers,
+        kit,
+    } = crew;
+    let Kit {
         openings,
         mut names,
         mut left,
         last,
-    } = crew;
+    } = kit;
     main.work(rt, tables, &[], &OpenGate);
     opened_names(
         main.caller.outcomes.as_slice(),

@@ -44,8 +44,5 @@ returns g c = let z = c.args.tables.now.socks.rule.table.shared.table_id in let 
       hired = subst (λ k. AreHired z p y 1 k c.hire_all.new.workers.items) s.next c.hire_all.ensures.hired;
       tasks = c.hire_all.ensures.tasks;
       may = r.may;
-      openings_are = r.cast.openings_are;
-      names = r.cast.names;
-      left = r.cast.left;
-      last = r.cast.last;
+      kit = r.cast.kit;
     }
