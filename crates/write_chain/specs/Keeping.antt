@@ -15,7 +15,7 @@ use Rattle.write_chain.specs.declared.keep.Went.TheVariants as went
 use Rattle.write_chain.specs.declared.keep.Kept.{Kept}
 use Rattle.write_chain.specs.declared.keep.Kept.TheVariants as kept
 use Rattle.write_chain.specs.Noting.{Wrote, WroteDrop}
-use Rattle.write_chain.specs.Writing.{MayGoOn, GaveUp, FoundDead, HasMore}
+use Rattle.write_chain.specs.Writing.{MayGoOn, GoesOn, GaveUp, FoundDead, HasMore}
 
 -- what a message was dropped with: the code word that was read, or EFAILEDSOCKET where that was 0; it is the code that the seat found or stored before
 pub record IsCode (code id : ℕ) (v w : View) : Type 0 where
@@ -28,7 +28,7 @@ pub record IsCode (code id : ℕ) (v w : View) : Type 0 where
 abbrev pub WentBy : {O : Type 0} {g : Ghosts O} → Plan → List (List ℕ) → SockRef → Went O g → View → Me (SockHome O g) View → Type 0
 WentBy p ways sock (went.Done s) v m = (s ≡ sock) × GaveUp p sock.id.0 m
 WentBy p ways sock (went.Dropped r msg code) v m = (r.sock ≡ sock) × MayGoOn p ways r m × FoundDead sock.id.0 m.0 × IsCode code sock.id.0 v m.0
-WentBy p ways sock (went.Further r) v m = (r.sock ≡ sock) × MayGoOn p ways r m
+WentBy p ways sock (went.Further r) v m = GoesOn p ways sock r m
 
 -- the message was dropped
 abbrev pub IsDropped : {O : Type 0} {g : Ghosts O} → Went O g → Type 0
