@@ -88,7 +88,10 @@ module _ (p : Plan) (v a b : View) (id slot h k at own : ℕ) (c : Claim) (headi
 
   -- a busy head: the next word of the entry is connected then
   module _ (found : ℕ) (w x : View) (swapped : w ≡ queued b (ready_claim (filled_for c k heading bytes)) found) (connected : x ≡ without_loose w at) where
-    all : x ≡ without_loose (queued (with_claim (met_link slot h k v) (ready_claim (filled_for c k heading bytes))) (ready_claim (filled_for c k heading bytes)) found) at
+    abbrev behind : View
+    behind = without_loose (queued (with_claim (met_link slot h k v) c₂) c₂ found) at
+
+    all : x ≡ behind
     all = connected ∙ ap (λ (y : View). without_loose y at) (swapped ∙ ap (λ (y : View). queued y (ready_claim (filled_for c k heading bytes)) found) b_is)
 
     pub loose_there : get_elem? w.loose 0 ≡ some record { request = c.request; before = found }
@@ -96,19 +99,22 @@ module _ (p : Plan) (v a b : View) (id slot h k at own : ℕ) (c : Claim) (headi
 
     pub was_queued : Accepted [] p id heading bytes v x × (x.rights ≡ [])
     was_queued = (
-      was_accepted found x _ _ all (ap (λ (y : View). y.marks) connected ∙ ap (λ (y : View). y.marks) swapped)
+      was_accepted found x behind.loose behind.rights all (ap (λ (y : View). y.marks) connected ∙ ap (λ (y : View). y.marks) swapped)
         (ap (λ (y : View). y.loose) all ∙ (ap (λ (l : List Loose). filter (λ (z : Loose). not (eqb z.request at)) (record { request = c.request; before = found } ∷ l)) loose ∙ ap (λ t. cond (not t) (record { request = c.request; before = found } ∷ []) []) (eq-eqb c.request at request))),
       ap (λ (y : View). y.rights) all ∙ rights,
     )
 
   -- an idle head: the seat has the right to write
   module _ (found places : ℕ) (sent : List ℕ) (w : View) (swapped : w ≡ righted b (ready_claim (filled_for c k heading bytes)) found sent places) where
-    all_r : w ≡ righted (with_claim (met_link slot h k v) (ready_claim (filled_for c k heading bytes))) (ready_claim (filled_for c k heading bytes)) found sent places
+    abbrev behind_r : View
+    behind_r = righted (with_claim (met_link slot h k v) c₂) c₂ found sent places
+
+    all_r : w ≡ behind_r
     all_r = swapped ∙ ap (λ (y : View). righted y (ready_claim (filled_for c k heading bytes)) found sent places) b_is
 
     pub was_first : (a : Accepted [] p id heading bytes v w) × (x : Right) × (w.rights ≡ x ∷ []) × IsFirst x a.entry.link own
     was_first = (
-      was_accepted (found - IDLE) w _ _ all_r (ap (λ (y : View). y.marks) swapped) (ap (λ (y : View). y.loose) all_r ∙ loose),
+      was_accepted (found - IDLE) w behind_r.loose behind_r.rights all_r (ap (λ (y : View). y.marks) swapped) (ap (λ (y : View). y.loose) all_r ∙ loose),
       new_right (ready_claim (filled_for c k heading bytes)) found sent places,
       ap (λ (y : View). y.rights) all_r ∙ ap (λ (l : List Right). new_right (ready_claim (filled_for c k heading bytes)) found sent places ∷ l) rights,
       record { link_is = refl; last_is = ticket_is; stage = ap Rattle.sock_model.specs.declared.chain.Stage.TheVariants.Writes ticket_is; clean = refl; link_home = refl; idle = refl },
