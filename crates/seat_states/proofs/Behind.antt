@@ -39,6 +39,7 @@ use Rattle.seat_states.specs.declared.point.Sending.{Sending}
 use Rattle.seat_states.specs.declared.point.SendStep.TheVariants as sends
 use Rattle.seat_states.specs.declared.point.Writer.{Writer}
 use Rattle.seat_states.specs.declared.point.Current.{Current}
+use Rattle.seat_states.specs.declared.point.WriteStep.{WriteStep}
 use Rattle.seat_states.specs.declared.point.WriteStep.TheVariants as writes
 use Rattle.call_points.specs.Steps.{after_word}
 use Rattle.seat_states.specs.Points.{Context, client_on, holder_of, error_by, told, failed_look, look_program, claims_program, sent_program, written_program, behind_drop, after_program, refused_program, posted_program, with_asked, next_program, unopened_program, attempt_program, IsRefused, release_on, open_program, seek_program, release_program, send_program, write_program, then_program, gone_then, has_life, after_put, with_put}
@@ -136,6 +137,11 @@ took_all a w c asked n e = rw e refl
 -- and one that took a part
 pub took_part : (a : Context) (w : Writer) (c : Current) (asked : Bool) (n : ℕ) → nat_le (length a.left) n ≡ false → write_program (with_put (puts.Took n) a) w (writes.Look c false) ≡ after_put (write_program a w (writes.Put c asked)) (puts.Took n)
 took_part a w c asked n e = rw e refl
+
+-- a step that goes by a test
+pub writes_by : (a : Context) (w : Writer) (b : Bool) (x y : WriteStep) → next_program a (nexts.Point (points.Write w (if b then x else y))) ≡ (if b then write_program a w x else write_program a w y)
+writes_by a w true x y = refl
+writes_by a w false x y = refl
 
 -- a message has its place, and is the last or not
 pub passes : (a : Context) (w v : Writer) (now : Ticket) (c : Option OnCall) (last : Bool) → holder_of v.holder ≡ one_more (holder_of w.holder) → v.author ≡ w.author → (now.0 == w.holder.last.0) ≡ last →
