@@ -100,7 +100,7 @@ module _ (p : Plan) (v a b : View) (id slot h k at own : ℕ) (c : Claim) (headi
     pub was_queued : Accepted [] p id heading bytes v x × (x.rights ≡ [])
     was_queued = (
       was_accepted found x behind.loose behind.rights all (ap (λ (y : View). y.marks) connected ∙ ap (λ (y : View). y.marks) swapped)
-        (ap (λ (y : View). y.loose) all ∙ (ap (λ (l : List Loose). filter (λ (z : Loose). not (eqb z.request at)) (record { request = c.request; before = found } ∷ l)) loose ∙ ap (λ t. cond (not t) (record { request = c.request; before = found } ∷ []) []) (eq-eqb c.request at request))),
+          (ap (λ (y : View). y.loose) all ∙ (ap (λ (l : List Loose). filter (λ (z : Loose). not (eqb z.request at)) (record { request = c.request; before = found } ∷ l)) loose ∙ ap (λ t. cond (not t) (record { request = c.request; before = found } ∷ []) []) (eq-eqb c.request at request))),
       ap (λ (y : View). y.rights) all ∙ rights,
     )
 
