@@ -151,10 +151,6 @@ GoesBy p ways id last (doing.Back w) m = HasLink p ways id last (stage.Walks w.t
 abbrev pub MayGoOn : {O : Type 0} {g : Ghosts O} → Plan → List (List ℕ) → WriteRight O g → Me (SockHome O g) View → Type 0
 MayGoOn p ways right m = GoesBy p ways right.sock.id.0 right.last.0 right.doing m
 
--- by this right to write the socket
-abbrev pub GoesOn : {O : Type 0} {g : Ghosts O} → Plan → List (List ℕ) → SockRef → WriteRight O g → Me (SockHome O g) View → Type 0
-GoesOn p ways sock right m = (right.sock ≡ sock) × MayGoOn p ways right m
-
 -- and of the link, where it is in hand still
 abbrev pub FaultsBy : {O : Type 0} {g : Ghosts O} → ℕ → ℕ → Doing O g → View → Type 0
 FaultsBy n id First v = Unit {0}
