@@ -93,24 +93,7 @@ took_all sent begun bytes left took t b none_ = t ∙ ap (λ l. sent ++ l) (sym 
 module _ {O : Type 0} {g : Ghosts O} {p : Plan} {ways : List (List ℕ)} {id last : ℕ} where
   -- the right's sign that a look found the life live is this one now, and the rest of what is in hand stays
   abbrev stays_in_hand : (hand : InHand O g) (m n : Me (SockHome O g) View) (h : HasInHand p ways id last hand m) (clean : Bool) → IsWriter p id last hand.link (record h.right_is { clean = clean }) n.0 → (0 < faults_of hand.link n.0 → 0 < (g.state hand.home.out).faults) → n.1 ≡ m.1 → HasInHand p ways id last hand n
-  stays_in_hand hand m n h clean writer faults slots = record {
-    right_is = record h.right_is { clean = clean };
-    writer = writer;
-    has = record { away = h.has.away; link_in = h.has.link_in; places_are = h.has.places_are; own = h.has.own; way = h.has.way; unfinished = h.has.unfinished };
-    stage_is = h.stage_is;
-    ticket = h.ticket;
-    taken = h.taken;
-    place_is = h.place_is;
-    attempt_is = h.attempt_is;
-    owner_is = h.owner_is;
-    place_in = h.place_in;
-    begun = h.begun;
-    bytes_are = h.bytes_are;
-    took = h.took;
-    noted = faults;
-    few = h.few;
-    slots = slots ∙ h.slots;
-  }
+  stays_in_hand hand m n h clean writer faults slots = record { right_is = record h.right_is { clean = clean }; writer = writer; has = record { away = h.has.away; link_in = h.has.link_in; places_are = h.has.places_are; own = h.has.own; way = h.has.way; unfinished = h.has.unfinished }; stage_is = h.stage_is; ticket = h.ticket; taken = h.taken; place_is = h.place_is; attempt_is = h.attempt_is; owner_is = h.owner_is; place_in = h.place_in; begun = h.begun; bytes_are = h.bytes_are; took = h.took; noted = faults; few = h.few; slots = slots ∙ h.slots }
 
   -- where notes come
   pub part_noted : {L : ℕ → Type 0} (hand : InHand O g) (m n : Me (SockHome O g) View) (notes : List Mark) → Noted g.state L (socket_id_version id) notes → Became (socket_id_slot id) m.0 n.0 notes [] → n.1 ≡ m.1 → (0 < faults_of hand.link n.0 → 0 < (g.state hand.home.out).faults) → HasPart p ways id last hand m → HasPart p ways id last hand n
