@@ -18,4 +18,4 @@ pub returns-in-Err-Fault-clause-replayed : goal.returns-in-Err-Fault-clause-repl
 returns-in-Err-Fault-clause-replayed g c =
     replays_faulty _ _ _ _ _ _ _ c.in-Ok.ensures.came.0 c.deref.result.now c.in-Ok.bytes c.in-Ok.ensures.came.1 c.deref.ensures.value
     (c.read_script.ensures.fault c.in-Err-Fault.line c.in-Err-Fault.kind (c.in-Err-Fault.is ∙ ap (λ x. Err x) c.in-Err-Fault.field-0-is) ∙ ap₂ (λ a b. Err (a, b)) (sym c.in-Err-Fault.line-is) (sym c.in-Err-Fault.kind-is))
-    (c.requires.asked, c.requires.back) c.write_fault.ensures
+    c.requires.unopened c.write_fault.ensures
