@@ -40,30 +40,22 @@ pub fn run_with<R: Threads + Wait + Sync, S: Source, K: Sink, L: Linker, G: Gate
         ⊎ ((exit_status result ≡ 7) × (source.new ≡ source.old) × (out.new ≡ out.old) × (links.new ≡ links.old)) }
     ensures explained { Wrote (sink_over E.contents E.faults errors.old errors.new) (reason_text (exit_status result)) }
 {
-    let status = answer(rt, alloc, args, source, out, links, gate);
-    explain(errors, status);
-    ExitCode::from(status)
+    match all_of(alloc, args) {
+        Ok(args) => {
+            let status = brpc(rt, alloc, behind_first(&args), source, out, links, gate);
+            ended(status, errors)
+        }
+        Err(_) => ended(NO_MEMORY, errors),
+    }
 }
 
-/// The number that the top call answers to the arguments.
-fn answer<R: Threads + Wait + Sync, S: Source, K: Sink, L: Linker, G: Gate + Sync>(
-    rt: &R,
-    alloc: Global,
-    args: io::Result<Args>,
-    source: &mut S,
-    out: &mut K,
-    links: &mut L,
-    gate: &G,
-) -> u8
-    requires unopened { OpenedNothing (L.asked links.old) (L.back links.old) }
-    requires unaccepted { AcceptedNothing (L.accepted links.old) (L.done links.old) }
-    ensures { Answers (words_behind args) (source_over S.left S.faults source.old source.new) (sink_over K.contents K.faults out.old out.new) (linker_over L.always_ready (TellClosed L.I.state) (TellOffers L.O.state L.I.state) L.tells_in L.asked L.back L.accepted L.done L.faults links.old links.new) result
-        ⊎ ((result ≡ 7) × (source.new ≡ source.old) × (out.new ≡ out.old) × (links.new ≡ links.old)) }
+/// Says why the program ends with this number, and ends with it.
+fn ended<E: Sink>(status: u8, errors: &mut E) -> ExitCode
+    ensures code { exit_status result ≡ status }
+    ensures explained { Wrote (sink_over E.contents E.faults errors.old errors.new) (reason_text (exit_status result)) }
 {
-    match all_of(alloc, args) {
-        Ok(args) => brpc(rt, alloc, behind_first(&args), source, out, links, gate),
-        Err(_) => NO_MEMORY,
-    }
+    explain(errors, status);
+    ExitCode::from(status)
 }
 
 /// All arguments.
