@@ -37,17 +37,6 @@ fn over<R: Threads + Wait + Sync + Alloc<A = Global>>(
         "sinks" => over_sinks(rt, asked),
         "loops" => over_loops(rt, asked),
         "rings" => over_rings(rt, asked),
-        _ => over_noting(rt, word, asked),
-    }
-}
-
-/// And where more is told than what is written.
-fn over_noting<R: Threads + Wait + Sync + Alloc<A = Global>>(
-    rt: &R,
-    word: &str,
-    asked: Asked,
-) -> Result<String, AllocError> {
-    match word {
         "back" => back_of_sinks(rt, asked),
         "back-rings" => back_of_rings(rt, asked),
         "crowd" => over_crowd(rt, asked),
