@@ -27,14 +27,20 @@ fn load_line(alloc: Global, load: Load) -> Result<String, AllocError>
 fn sends_line(alloc: Global, sums: &Sums) -> Result<String, AllocError>
     ensures { IfOk result (λ text. string_bytes text ≡ sends_line sums.now) }
 {
-    format!(in alloc; "sends {} placed {} bytes {}\n", sums.sends, sums.placed, sums.placed_bytes)
+    format!(in alloc;
+        "sends {} placed {} bytes {}\n",
+        sums.sends, sums.placed, sums.placed_bytes
+    )
 }
 
 // `calls N answered A bytes B`.
 fn calls_line(alloc: Global, sums: &Sums) -> Result<String, AllocError>
     ensures { IfOk result (λ text. string_bytes text ≡ calls_line sums.now) }
 {
-    format!(in alloc; "calls {} answered {} bytes {}\n", sums.calls, sums.answered, sums.answered_bytes)
+    format!(in alloc;
+        "calls {} answered {} bytes {}\n",
+        sums.calls, sums.answered, sums.answered_bytes
+    )
 }
 
 // `other N`, and `end`.

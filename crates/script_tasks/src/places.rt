@@ -13,7 +13,11 @@ use std::collections::VecDeque;
 fn is_one(of_calls: bool, line: &Line) -> bool
     ensures { result ≡ is_one of_calls (item line.now) }
 {
-    if of_calls { is_call(line) } else { is_open(line) }
+    if of_calls {
+        is_call(line)
+    } else {
+        is_open(line)
+    }
 }
 
 /// The numbers of the operations that are calls, or else of those that open a link, in their order.
