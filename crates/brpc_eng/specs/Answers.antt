@@ -101,9 +101,9 @@ OpenedNothing asked ends = (asked ≡ []) × (ends ≡ [])
 abbrev pub OpenedNone : Links → Type 0
 OpenedNone links = OpenedNothing links.asked links.ends
 
--- no connection was accepted, and none was given back
-abbrev pub AcceptedNothing : ℕ → List ConnectionEnd → Type 0
-AcceptedNothing accepted done = (accepted ≡ 0) × (done ≡ [])
+-- no link was opened, no connection accepted, and none given back
+abbrev pub DidNothing : List LinkSpec → List LinkEnd → ℕ → List ConnectionEnd → Type 0
+DidNothing asked ends accepted done = OpenedNothing asked ends × (accepted ≡ 0) × (done ≡ [])
 
 -- the links that the lines of a script ask for were opened as they ask, in this mode, all of them where a report was written or begun, else the
 -- first of them; and each is given back, in order

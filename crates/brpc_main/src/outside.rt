@@ -1,4 +1,4 @@
-ghost use Rattle.brpc_eng.specs.Answers.{AcceptedNothing, OpenedNothing};
+ghost use Rattle.brpc_eng.specs.Answers.{DidNothing};
 
 use crate::run::run_with;
 use loop_link::LoopLinker;
@@ -40,8 +40,7 @@ fn run_over<
     E: Print,
     L: Linker,
 >(rt: &R, errors: &E, links: &mut L) -> ExitCode
-    requires unopened { OpenedNothing (L.asked links.old) (L.back links.old) }
-    requires unaccepted { AcceptedNothing (L.accepted links.old) (L.done links.old) }
+    requires unused { DidNothing (L.asked links.old) (L.back links.old) (L.accepted links.old) (L.done links.old) }
 {
     let mut source = StdSource::new(rt.reader());
     let mut out = StdSink::new(io::writer(rt));
