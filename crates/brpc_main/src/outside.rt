@@ -4,7 +4,7 @@ use crate::run::run_with;
 use loop_link::LoopLinker;
 use net_link::TcpLinker;
 use prog_link::ProgLinker;
-use sock_io::{Linker, OpenGate, StdSink, StdSource};
+use sock_io::{Linker, OpenGate, StdEdge};
 use std::alloc::Global;
 use std::env::{Args, Env};
 use std::net::{Net, TcpListener, TcpStream};
@@ -42,9 +42,9 @@ fn run_over<
 >(rt: &R, errors: &E, links: &mut L) -> ExitCode
     requires unused { DidNothing (L.asked links.old) (L.back links.old) (L.accepted links.old) (L.done links.old) }
 {
-    let mut source = StdSource::new(rt.reader());
-    let mut out = StdSink::new(io::writer(rt));
-    let mut errors = StdSink::new(io::writer(errors));
+    let mut source = StdEdge::new(rt.reader());
+    let mut out = StdEdge::new(io::writer(rt));
+    let mut errors = StdEdge::new(io::writer(errors));
     run_with(
         rt,
         rt.alloc(),
