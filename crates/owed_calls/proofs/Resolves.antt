@@ -14,11 +14,6 @@ use Rattle.owed_calls.specs.Owing.{Duty, Looking, Owing, Among, InList, DutyTo, 
 use Rattle.owed_calls.specs.Sound.{id_word_of, at_of, retry_tokens, Owed, by_seat, by_retry, by_reader, Past, tokens_at, Token, Distinct, ErrorPast, Stored, OwingLaw}
 use Rattle.owed_calls.proofs.Changes.{set_at, set_beside}
 
-pub set_twice : {A : Type 0} (l : List A) (i : ℕ) (a b : A) → set (set l i a) i b ≡ set l i b
-set_twice [] i a b = refl
-set_twice (x ∷ xs) zero a b = refl
-set_twice (x ∷ xs) (suc i) a b = ap (λ y. x ∷ y) (set_twice xs i a b)
-
 pub inside_of : {A : Type 0} (l : List A) (i : ℕ) (a : A) → get_elem? l i ≡ some a → i < length l
 inside_of [] i a at = absurd (some-ne-none a (sym at))
 inside_of (x ∷ xs) zero a at = omega arith

@@ -10,13 +10,14 @@ use Rattle.corr_core.specs.declared.marks.Plan.{Plan as IdPlan}
 use Rattle.seat_programs.specs.Heads.{Retry}
 use Rattle.seat_programs.specs.Programs.{Program, Do, Say, Sent, Rest, TakeMessage, TakeHome, PutHome, PutBytes, AskReady, Write, Aside, Round, Keep, Retries}
 use Rattle.seat_programs.specs.Cores.{Core, SeatState, waiting_at, resolved, still_waiting, next_step}
+use Rattle.joint_runs.specs.sock_steps.proofs.Maps.{set_twice}
 use Rattle.owed_calls.specs.Owing.{Duty, Free, Trying, Owing, Among, DutyTo, duty_tokens, with_duty, freed, with_keeps}
 use Rattle.owed_calls.specs.Owes.{Further, OwesOn}
 use Rattle.owed_calls.specs.Sound.{retry_tokens, Distinct, Stored, OwingLaw}
 use Rattle.owed_calls.proofs.Posts.{same_further, then_further}
 use Rattle.owed_calls.proofs.Changes.{set_at}
 use Rattle.owed_calls.proofs.Programs.{retry_goes, from_freed}
-use Rattle.owed_calls.proofs.Resolves.{set_twice, inside_of, same_but, Rewait, rewaits}
+use Rattle.owed_calls.proofs.Resolves.{inside_of, same_but, Rewait, rewaits}
 
 abbrev pub Few : Retry → Type 0
 Few r = r.attempt ≤ 6
