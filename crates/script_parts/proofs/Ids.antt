@@ -272,14 +272,13 @@ module _ {O : Type 0} {g : Ghosts O} {state : O → OutState} {readers : List (L
       where
         by_end : (by : Outcome) (x : Told) (e : IsEndTold slots v.notes x) → x.number ≡ o → x.outcome ≡ by → 0 < ends_of id by
         by_end by x e number outcome_is =
-            let low_ : e.first < 4294967296 = dite (dec_lt e.first (parts (slice_index words e.slot)).first)
-            (λ lt. (let w = low e.slot in omega arith))
-            (λ ge. absurd (let none_ = closing.ended_not e.slot e.first e.inside (omega arith) in let some_ = e.noted in omega arith)) in
             let its : IsIdOf slots v.notes o (e.slot * 4294967296 + e.first) = record {
               slot = e.slot;
               first = e.first;
               inside = e.inside;
-              low = low_;
+              low = dite (dec_lt e.first (parts (slice_index words e.slot)).first)
+                  (λ lt. (let w = low e.slot in omega arith))
+                  (λ ge. absurd (let none_ = closing.ended_not e.slot e.first e.inside (omega arith) in let some_ = e.noted in omega arith));
               id_is = refl;
               range = e.range;
               asked = e.asked;
