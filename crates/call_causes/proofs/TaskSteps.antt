@@ -106,22 +106,22 @@ module _ (p : Plan) (q : IdPlan) (clients : List (List Task)) (gives : ℕ → L
     pub plain : (m' : Mark) → IsLike m m' → w'.births ≡ w.births → ((k : ℕ) → IsEnd step k → ⊥) → ((o : ℕ) → IsStore step o → ⊥) → Changes m'
     plain m' like same none_ stored = let same_client = ap (λ (x : Mark). x.client) like in let same_done = ap (λ (x : Mark). x.done) like in let same_todo = ap (λ (x : Mark). x.todo) like in
         let same_makes = ap (λ (x : Mark). x.makes) like in let same_owes = ap (λ (x : Mark). x.owes) like in record {
-        client = same_client;
-        placed = ap (λ d. undo p q clients gives d m'.todo) same_done ∙ ap (undo p q clients gives m.done) same_todo;
-        told = subst (λ c. AreTold p q clients gives w' c m'.done) (sym same_client) (subst (AreTold p q clients gives w' m.client) (sym same_done) told_still);
-        quiet = subst (λ c. AreQuiet p q clients gives w' os c m'.done) (sym same_client) (subst (AreQuiet p q clients gives w' os m.client) (sym same_done) quiet_still);
-        done = λ t x. subst (In t) (sym same_done) x;
-        begun = λ c u _ x. (x.0, x.1, ⊎_elim (λ d. inl (subst (In u) (sym same_done) d)) (λ y. inr (y.0, same_todo ∙ y.1, same_makes ∙ y.2)) x.2);
-        born = λ c x. inl (subst (In c) same x);
-        made = λ c is. subst (In c) (sym same) (law.made j m c at (sym same_makes ∙ is));
-        called = λ o inside begun. let z = calls_same step found b knows o inside (stored o) in inl ((λ e. begun (z ∙ e)), z);
-        fresh = λ u x. subst (λ bs. In u (ahead p q clients gives bs m.todo)) same_makes (subst (λ ts. In u (ahead p q clients gives m'.makes ts)) same_todo x);
-        owes = λ c is. inl (sym same_owes ∙ is);
-        owed_still = λ c is. same_owes ∙ is;
-        passed = λ c there over. ⊎_elim (λ before. inl before) (λ x. absurd (none_ (id_slot c.id) x.1)) (passed_or c there over);
-        current = current_still;
-        passed_on = over_still;
-      }
+          client = same_client;
+          placed = ap (λ d. undo p q clients gives d m'.todo) same_done ∙ ap (undo p q clients gives m.done) same_todo;
+          told = subst (λ c. AreTold p q clients gives w' c m'.done) (sym same_client) (subst (AreTold p q clients gives w' m.client) (sym same_done) told_still);
+          quiet = subst (λ c. AreQuiet p q clients gives w' os c m'.done) (sym same_client) (subst (AreQuiet p q clients gives w' os m.client) (sym same_done) quiet_still);
+          done = λ t x. subst (In t) (sym same_done) x;
+          begun = λ c u _ x. (x.0, x.1, ⊎_elim (λ d. inl (subst (In u) (sym same_done) d)) (λ y. inr (y.0, same_todo ∙ y.1, same_makes ∙ y.2)) x.2);
+          born = λ c x. inl (subst (In c) same x);
+          made = λ c is. subst (In c) (sym same) (law.made j m c at (sym same_makes ∙ is));
+          called = λ o inside begun. let z = calls_same step found b knows o inside (stored o) in inl ((λ e. begun (z ∙ e)), z);
+          fresh = λ u x. subst (λ bs. In u (ahead p q clients gives bs m.todo)) same_makes (subst (λ ts. In u (ahead p q clients gives m'.makes ts)) same_todo x);
+          owes = λ c is. inl (sym same_owes ∙ is);
+          owed_still = λ c is. same_owes ∙ is;
+          passed = λ c there over. ⊎_elim (λ before. inl before) (λ x. absurd (none_ (id_slot c.id) x.1)) (passed_or c there over);
+          current = current_still;
+          passed_on = over_still;
+        }
 
   -- ## The call's word is stored
 

@@ -118,16 +118,16 @@ module _ (slots requests : ℕ) (calls : ℕ → Type 0) (way : Way) (done : Lis
     failed_goes h bs next refused k tr a = let i : ℕ = socket_id_slot h.id in let v : ℕ = socket_id_version h.id in let n : ℕ = holds i v tr in let some_ : 0 < n = its.held h.id h.link bs tr a in
         its.does h.id h.link bs tr (SetOdd i) (λ found. if eqb (vref_version found % 2) 0 then Do (StoreCode i v 1009) (λ _. Do (SubRef i) (λ _. next)) else next) (refl, refused) a
         (λ found. let one : List Entry = step (SetOdd i) found ∷ tr in
-            split_eq (vref_version found % 2) 0 (Do (StoreCode i v 1009) (λ _. Do (SubRef i) (λ _. next))) next (Goes bs one)
-            (λ even. let m : ℕ = holds i v one in let count : m ≡ n + 1 = even_holds i v found n some_ even in
-            let there : IsOn h.id h.link bs one = its.on h.id h.link bs tr (SetOdd i) found (refl, refused) (omega (arith, count)) a in
-            its.does h.id h.link bs one (StoreCode i v 1009) (λ _. Do (SubRef i) (λ _. next)) tt there
-            (λ code. let two : List Entry = step (StoreCode i v 1009) code ∷ one in
-                let b : IsOn h.id h.link bs two = its.on h.id h.link bs one (StoreCode i v 1009) code tt (omega (arith, count)) there in
-                its.does h.id h.link bs two (SubRef i) (λ _. next) tt b
-                (λ word. let left : holds i v (step (SubRef i) word ∷ two) ≡ m - 1 = sub_holds i v word m in
-                    k (step (SubRef i) word ∷ two) (its.on h.id h.link bs two (SubRef i) word tt (omega (arith, left, count, some_)) b))))
-            (λ odd. let same : holds i v one ≡ n = odd_holds i v found n odd in k one (its.on h.id h.link bs tr (SetOdd i) found (refl, refused) (omega (arith, same, some_)) a)))
+        split_eq (vref_version found % 2) 0 (Do (StoreCode i v 1009) (λ _. Do (SubRef i) (λ _. next))) next (Goes bs one)
+        (λ even. let m : ℕ = holds i v one in let count : m ≡ n + 1 = even_holds i v found n some_ even in
+        let there : IsOn h.id h.link bs one = its.on h.id h.link bs tr (SetOdd i) found (refl, refused) (omega (arith, count)) a in
+        its.does h.id h.link bs one (StoreCode i v 1009) (λ _. Do (SubRef i) (λ _. next)) tt there
+        (λ code. let two : List Entry = step (StoreCode i v 1009) code ∷ one in
+        let b : IsOn h.id h.link bs two = its.on h.id h.link bs one (StoreCode i v 1009) code tt (omega (arith, count)) there in
+        its.does h.id h.link bs two (SubRef i) (λ _. next) tt b
+        (λ word. let left : holds i v (step (SubRef i) word ∷ two) ≡ m - 1 = sub_holds i v word m in
+        k (step (SubRef i) word ∷ two) (its.on h.id h.link bs two (SubRef i) word tt (omega (arith, left, count, some_)) b))))
+        (λ odd. let same : holds i v one ≡ n = odd_holds i v found n odd in k one (its.on h.id h.link bs tr (SetOdd i) found (refl, refused) (omega (arith, same, some_)) a)))
 
     -- and the message is tried again, as one of a failed life
     refused_goes : (h : Holder) (now : ℕ) (heading : Heading) (left : List ℕ) (taken : ℕ) (bs : List ℕ) (tr : List Entry) → IsOn h.id h.link bs tr → Goes (h.link ∷ bs) tr (link_failed h (Write (Puts h now heading left taken false) after))
