@@ -29,7 +29,7 @@ use Rattle.sock_runs.specs.AtSteps.{Asks, AtSteps}
 use Rattle.sock_runs.specs.Fits.{FitsHead, FitsRetry}
 use Rattle.sock_runs.specs.GoesOn.{GoesOn}
 use Rattle.sock_runs.specs.Sound.{first_step}
-use Rattle.sock_runs.proofs.Through.{PassesPlain, PassesFails, PassesSends, PassesReads, any_end, is_plain_aside, reads_any, at_steps_plain, at_steps_sends, through_release, through_set_failed, through_fail}
+use Rattle.sock_runs.proofs.Through.{PassesPlain, PassesFails, PassesSends, PassesReads, any_end, is_plain_aside, reads_any, locked, at_steps_plain, at_steps_sends, through_release, through_set_failed, through_fail}
 use Rattle.sock_runs.proofs.ThroughLoops.{through_post, through_unlocks, through_round}
 use Rattle.sock_runs.proofs.ThroughSends.{through_block, through_write_link, through_send}
 use Rattle.sock_runs.proofs.ThroughCalls.{through_call, through_retry, through_join, through_reading}
@@ -174,7 +174,7 @@ module _ (requests : ℕ) where
     rests = through_release G goes_plain (socket_id_slot t.socket) (λ _. next) (λ _. after)
 
     fails : (code : ℕ) → G (failing code)
-    fails code = through_post G goes_plain t.id code t.heading.attempt rest rests
+    fails code = through_post G goes_plain.errors t.id code t.heading.attempt rest rests
 
     looks : (k found : ℕ) (b : Bool) → (vref_version found % 2 == 0) ≡ b → (vref_version found % 2 ≡ 0 → Goes (Claims t k 0) (cond b claiming (failing 1009)) ⊎ ((0 ≡ requests) × G (cond b claiming (failing 1009)))) × (vref_version found % 2 ≡ 1 → G (cond b claiming (failing 1009)))
     looks k found true is = (λ even. claims t bytes (failing 3001) rest (fails 3001) rests k requests 0 (omega arith), λ odd. absurd (let even : vref_version found % 2 ≡ 0 = eqb-true (vref_version found % 2) 0 is in omega (arith, even, odd)))
@@ -182,7 +182,7 @@ module _ (requests : ℕ) where
 
     ways : (found : ℕ) (b : Bool) → (vref_version found == socket_id_version t.socket) ≡ b → Ways t.socket found (cond b linking (release (socket_id_slot t.socket) (λ _. post t.id 1009 t.heading.attempt next)))
     ways found true is = inr (t, refl, eqb-true (vref_version found) (socket_id_version t.socket) is, few, (refl, refl, λ k. (refl, refl, λ _. (refl, λ word. looks k word (vref_version word % 2 == 0) refl))))
-    ways found false is = inl (through_release G goes_plain (socket_id_slot t.socket) (λ _. post t.id 1009 t.heading.attempt next) (λ _. through_post G goes_plain t.id 1009 t.heading.attempt next after))
+    ways found false is = inl (through_release G goes_plain (socket_id_slot t.socket) (λ _. post t.id 1009 t.heading.attempt next) (λ _. through_post G goes_plain.errors t.id 1009 t.heading.attempt next after))
 
     goes_tries : G (address t.socket linking (λ _. post t.id 1009 t.heading.attempt next))
     goes_tries = λ found. ways found (vref_version found == socket_id_version t.socket) refl
@@ -217,7 +217,7 @@ module _ (requests : ℕ) where
   -- ## The next step
 
   goes_unlocks_at : (p : Plan) (i w : ℕ) (advance : Bool) (next : Unlocking → Program) → FitsHead p (Unlocks i w advance) → G (Round (Unlocks i w advance) next) → G (unlocks_round i w advance next)
-  goes_unlocks_at p i w advance next fits x = through_unlocks G goes_plain i w advance next (λ exit. x exit (omega (arith, fits)))
+  goes_unlocks_at p i w advance next fits x = through_unlocks G (locked goes_plain.errors) i w advance next (λ exit. x exit (omega (arith, fits)))
 
   goes_round : (p : Plan) (v : View) (head : Head) (next : Exit head → Program) → GoesOn p v (Round head next) → G (Round head next) → G (round head next)
   goes_round p v (Unlocks i w advance) next g x = goes_unlocks_at p i w advance next g.0.0 x

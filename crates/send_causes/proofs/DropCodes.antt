@@ -20,7 +20,7 @@ use Rattle.seat_programs.specs.Clients.{HeldLife, operation, client_from, ending
 use Rattle.seat_programs.specs.Cores.{resolved, next_step}
 use Rattle.sock_runs.specs.AtSteps.{Asks, AtSteps, asks_words}
 use Rattle.sock_runs.specs.Sound.{first_step}
-use Rattle.sock_runs.proofs.Through.{PassesSteps, PassesPlain, PassesFails, PassesSends, PassesReads, is_plain, is_of_message, makes_life, is_of_errors, at_steps_plain, at_steps_sends, through_release, through_reach}
+use Rattle.sock_runs.proofs.Through.{PassesSteps, PassesPlain, PassesFails, PassesSends, PassesReads, is_plain, is_of_message, makes_life, by_errors, at_steps_plain, at_steps_sends, through_release, through_reach}
 use Rattle.sock_runs.proofs.ThroughLoops.{through_round}
 use Rattle.sock_runs.proofs.ThroughSends.{through_block, through_send, through_ending}
 use Rattle.sock_runs.proofs.ThroughCalls.{through_attempt, through_call, through_retry, through_join, through_reading}
@@ -73,12 +73,8 @@ module _ (mine : ℕ → ℕ → Type 0) (Other : ℕ → Type 0) (gone : Other 
   codes_these these odd code (StoreCode i h c) next is r = absurd (true≢false (sym is ∙ code i h c))
   codes_these these odd code call next is r = r
 
-  codes_errors : (head : Head) (next : Exit head → Program) → is_of_errors head ≡ true → ((exit : Exit head) → G (next exit)) → G (Round head next)
-  codes_errors (Reads r) next is x = absurd (true≢false (sym is))
-  codes_errors head next is r = r
-
   codes_plain : PassesPlain G
-  codes_plain = at_steps_plain (stores_asks mine Other) NoFail (codes_these is_plain (λ i. refl) (λ i h c. refl)) (λ behind r. r) (λ step next is r. r) codes_errors (λ id w next r. r)
+  codes_plain = at_steps_plain (stores_asks mine Other) NoFail (codes_these is_plain (λ i. refl) (λ i h c. refl)) (λ behind r. r) (λ step next is r. r) (by_errors G (λ id e w next r. r) (λ i w advance next r. r) (λ id asked w e next r. r)) (λ id w next r. r)
 
   codes_fails : (code : ℕ) → Other code → PassesFails G code
   codes_fails code low id next after = inl (λ found. either_way (vref_version found % 2 == 0) _ _ G ((inl low, λ _ _. after found)) (after found))

@@ -101,9 +101,9 @@ module _ (mine : ℕ → Type 0) where
       through_address (Firsts low) (firsts_plain low) socket _ (λ _. post id 1009 n next)
       (λ k _ found. either_way (vref_version found % 2 == 0) _ _ (Firsts low)
       (firsts_claims low requests 0 socket (heading_for asked id n) (frame_of asked id n) (post id 3001 n (release i (λ _. next))) (release i (λ _. next)) may
-      (through_post (Firsts low) (firsts_plain low) id 3001 n (release i (λ _. next)) (through_release (Firsts low) (firsts_plain low) i (λ _. next) (λ _. stays))) (through_release (Firsts (cond (eqb n 0) (asked.operation + 1) low)) (firsts_plain (cond (eqb n 0) (asked.operation + 1) low)) i (λ _. next) (λ _. goes)))
-      (through_post (Firsts low) (firsts_plain low) id 1009 n (release i (λ _. next)) (through_release (Firsts low) (firsts_plain low) i (λ _. next) (λ _. stays))))
-      (λ _. through_post (Firsts low) (firsts_plain low) id 1009 n next stays)
+      (through_post (Firsts low) (firsts_plain low).errors id 3001 n (release i (λ _. next)) (through_release (Firsts low) (firsts_plain low) i (λ _. next) (λ _. stays))) (through_release (Firsts (cond (eqb n 0) (asked.operation + 1) low)) (firsts_plain (cond (eqb n 0) (asked.operation + 1) low)) i (λ _. next) (λ _. goes)))
+      (through_post (Firsts low) (firsts_plain low).errors id 1009 n (release i (λ _. next)) (through_release (Firsts low) (firsts_plain low) i (λ _. next) (λ _. stays))))
+      (λ _. through_post (Firsts low) (firsts_plain low).errors id 1009 n next stays)
 
   -- ## Retries
 

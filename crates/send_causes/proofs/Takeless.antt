@@ -28,8 +28,8 @@ use Rattle.sock_runs.proofs.Cases.{ComesNext, tick_keeps_marks}
 use Rattle.sock_runs.proofs.Rounds.{begins_round}
 use Rattle.sock_runs.proofs.Passes.{goes_round}
 use Rattle.sock_runs.proofs.Ticks.{sound_ticks}
-use Rattle.sock_runs.proofs.Through.{PassesPlain, PassesFails, PassesSends, is_plain_aside, is_of_errors, at_steps_plain, at_steps_sends, through_set_failed, through_fail}
-use Rattle.sock_runs.proofs.ThroughLoops.{through_posts, through_unlocks, through_decides, through_locks, through_joins}
+use Rattle.sock_runs.proofs.Through.{PassesPlain, PassesFails, PassesSends, is_plain_aside, by_errors, locked, at_steps_plain, at_steps_sends, through_set_failed, through_fail}
+use Rattle.sock_runs.proofs.ThroughLoops.{through_errors, through_locks, through_joins}
 use Rattle.sock_runs.proofs.ThroughSends.{through_block, through_send, through_ended}
 use Rattle.sock_runs.proofs.ThroughCalls.{through_attempt, through_call, through_retry, through_join}
 use Rattle.sock_runs.proofs.ThroughClients.{through_open, through_back, through_operation}
@@ -63,15 +63,8 @@ module _ (J : Type 0) where
   takes_aside (TakeBytes k room) next is r = absurd (true≢false (sym is))
   takes_aside step next is r = r
 
-  takes_errors : (head : Head) (next : Exit head → Program) → is_of_errors head ≡ true → ((exit : Exit head) → NoTakes (next exit)) → NoTakes (Round head next)
-  takes_errors (Joins id) next is r = absurd (true≢false (sym is))
-  takes_errors (Opens o) next is r = absurd (true≢false (sym is))
-  takes_errors (Reads r) next is x = absurd (true≢false (sym is))
-  takes_errors (Discards k total) next is r = absurd (true≢false (sym is))
-  takes_errors head next is r = r
-
   takes_plain : PassesPlain NoTakes
-  takes_plain = at_steps_plain asks tt (λ call next is r. r) (λ behind r. r) takes_aside takes_errors (λ id w next r. r)
+  takes_plain = at_steps_plain asks tt (λ call next is r. r) (λ behind r. r) takes_aside (by_errors NoTakes (λ id e w next r. r) (λ i w advance next r. r) (λ id asked w e next r. r)) (λ id w next r. r)
 
   takes_fails : (code : ℕ) → PassesFails NoTakes code
   takes_fails = through_set_failed NoTakes takes_plain (λ call next is r. r)
@@ -104,11 +97,11 @@ module _ (J : Type 0) where
   -- ## Along ticks
 
   takes_round : (head : Head) (next : Exit head → Program) → NoTakes (Round head next) → NoTakes (round head next)
-  takes_round (Posts id e w) next x = through_posts NoTakes takes_plain id e w next x
-  takes_round (Unlocks i w advance) next x = through_unlocks NoTakes takes_plain i w advance next x
-  takes_round (Decides id asked w e) next x = through_decides NoTakes takes_plain id asked w e next x
-  takes_round (Locks i sought w) next x = through_locks NoTakes takes_plain (λ i sought w next r. r) i sought w next x
-  takes_round (Joins id) next x = through_joins NoTakes takes_plain (λ id next r. (x.0, r)) id next x.1
+  takes_round (Posts id e w) next x = through_errors NoTakes takes_plain.errors (Posts id e w) next refl x
+  takes_round (Unlocks i w advance) next x = through_errors NoTakes takes_plain.errors (Unlocks i w advance) next refl x
+  takes_round (Decides id asked w e) next x = through_errors NoTakes takes_plain.errors (Decides id asked w e) next refl x
+  takes_round (Locks i sought w) next x = through_locks NoTakes (locked takes_plain.errors) (λ i sought w next r. r) i sought w next x
+  takes_round (Joins id) next x = through_joins NoTakes (locked takes_plain.errors) (λ id next r. (x.0, r)) id next x.1
   takes_round _ next x = absurd x
 
   takes_first : (program : Program) → NoTakes program → NoTakes (first_step program)

@@ -28,9 +28,9 @@ pub record Operates (G : Program → Type 0) (sizes : Sizes) (held : List HeldLi
 module _ (G : Program → Type 0) (g : PassesPlain G) where
   -- where lives may be made
   pub through_open : PassesSteps makes_life G → (more i o name k : ℕ) (next : Program) → G next → G (open_from more i o name k next)
-  through_open makes zero i o name k next after = g.step (TakeLink k) _ refl (λ _. g.step (FinishLink k) _ refl (λ _. g.step (PutLink k) _ refl (λ _. makes (StoreOpen o _) _ refl (λ _. g.say o _ next after))))
+  through_open makes zero i o name k next after = g.step (TakeLink k) _ refl (λ _. g.step (FinishLink k) _ refl (λ _. g.step (PutLink k) _ refl (λ _. makes (StoreOpen o _) _ refl (λ _. g.errors.say o _ next after))))
   through_open makes (suc more) i o name k next after = g.step (ClaimSlot i) _ refl (λ found. either_way (found == 0) (make_socket o name k i next) (open_from more (i + 1) o name k next) G
-      (g.step (StoreLink i k) _ refl (λ _. g.step (ResetHead i k) _ refl (λ _. g.step (ClearCode i k) _ refl (λ _. makes (CreateLife i k) _ refl (λ found. makes (StoreOpen o _) _ refl (λ _. g.step (StoreName name _) _ refl (λ _. g.say o _ next after)))))))
+      (g.step (StoreLink i k) _ refl (λ _. g.step (ResetHead i k) _ refl (λ _. g.step (ClearCode i k) _ refl (λ _. makes (CreateLife i k) _ refl (λ found. makes (StoreOpen o _) _ refl (λ _. g.step (StoreName name _) _ refl (λ _. g.errors.say o _ next after)))))))
       (through_open makes more (i + 1) o name k next after))
 
   pub through_back : G Rest → (held : List HeldLife) → G (give_back held)
@@ -38,7 +38,7 @@ module _ (G : Program → Type 0) (g : PassesPlain G) where
   through_back rests (h ∷ hs) = through_release G g (socket_id_slot h.id) (λ _. give_back hs) (λ _. through_back rests hs)
 
   through_drop_of : (o : ℕ) (id : std.Option ℕ) (next : Program) → G next → G (drop_of o id next)
-  through_drop_of o None next after = g.say o _ next after
+  through_drop_of o None next after = g.errors.say o _ next after
   through_drop_of o (Some id) next after = through_drop G g o id next after
 
   pub through_operation : (sizes : Sizes) (held : List HeldLife) (o : ℕ) (next : List HeldLife → Program) (op : Op) → ((h : List HeldLife) → G (next h)) → Operates G sizes held o next op → G (operation sizes held o next op)

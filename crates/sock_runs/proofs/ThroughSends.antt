@@ -30,7 +30,7 @@ module _ (G H : Program → Type 0) (g : PassesPlain G) (l : PassesLinks G H) wh
       (told (TakeMessage (slot_of found) (λ heading bytes. Write (Puts h found heading bytes 0 false) next)) (l.message (slot_of found) _ (λ heading bytes. l.write (Puts h found heading bytes 0 false) next after)))))
 
   through_tell : (heading : Heading) (c : ℕ) (next : Program) → G next → G (tell_drop heading c next)
-  through_tell heading c next after = either_way (heading.owner == 0) _ _ G after (through_post G g heading.owner (cond (c == 0) 1009 c) heading.attempt next after)
+  through_tell heading c next after = either_way (heading.owner == 0) _ _ G after (through_post G g.errors heading.owner (cond (c == 0) 1009 c) heading.attempt next after)
 
   through_placed : (h : Holder) (now : ℕ) (heading : Heading) (next : Program) → H next → G (placed h now heading next)
   through_placed h now heading next after = g.step (StorePlace heading.place h.link h.places) _ refl (λ _. through_passed (one_more h) now (λ x. x) (λ x y. y) next after)
@@ -77,16 +77,16 @@ module _ (G : Program → Type 0) (s : PassesSends G) where
       either_way (nat_lt found IDLE) _ _ G (s.plain.step (Connect q found) _ refl (λ _. after)) (through_write_link G G s.plain s.links id q (ticket_of q n) next after))))
 
   through_claim : (more q o id : ℕ) (bytes : List ℕ) (next : Program) → G next → G (claim_from more q o id bytes next)
-  through_claim zero q o id bytes next after = through_release G s.plain (socket_id_slot id) _ (λ _. s.plain.say o Full next after)
+  through_claim zero q o id bytes next after = through_release G s.plain (socket_id_slot id) _ (λ _. s.plain.errors.say o Full next after)
   through_claim (suc more) q o id bytes next after = s.step (ClaimRequest id q) _ refl (λ found. either_way (found % 2 == 0) _ _ G
       (through_accept id q (found / 2) (heading_of o) bytes _ (through_release G s.plain (socket_id_slot id) (λ _. Sent o next) (λ _. s.sent o next after))) (through_claim more (q + 1) o id bytes next after))
 
   through_start : (requests o id : ℕ) (bytes : List ℕ) (next : Program) → G next → G (start requests o id bytes next)
   through_start requests o id bytes next after = s.step (LookWord id) _ refl (λ found. either_way (vref_version found % 2 == 0) _ _ G (through_claim requests 0 o id bytes next after)
-      (through_release G s.plain (socket_id_slot id) _ (λ _. s.plain.say o (Gone (record { 0 = found })) next after)))
+      (through_release G s.plain (socket_id_slot id) _ (λ _. s.plain.errors.say o (Gone (record { 0 = found })) next after)))
 
   pub through_send : (requests o name : ℕ) (bytes : List ℕ) (next : Program) → G next → G (send requests o name bytes next)
-  through_send requests o name bytes next after = through_reach G s.plain name _ _ _ (s.plain.say o Unopened next after) (λ id. through_start requests o id bytes next after) (λ found. s.plain.say o (Gone (record { 0 = found })) next after)
+  through_send requests o name bytes next after = through_reach G s.plain name _ _ _ (s.plain.errors.say o Unopened next after) (λ id. through_start requests o id bytes next after) (λ found. s.plain.errors.say o (Gone (record { 0 = found })) next after)
 
 -- of an ending
 module _ (G : Program → Type 0) (g : PassesPlain G) (fails : PassesFails G 1014) where
