@@ -194,22 +194,21 @@ module _ (m fresh : MachineState) (room i : ℕ) (step : Step) (tick : Tick) (is
     always_ready = λ always_ready. (made_prompt m fresh i w.seat w.seat' step first answer made always_ready, tt);
     closes = λ tell. made_closes m fresh i w.seat w.seat' step m.plan c first answer made;
     offers = λ k serve end h. (made_offers m fresh i w.seat w.seat' step m.plan k serve end c first answer made, made_offering m fresh i w.seat w.seat' step k serve end h first answer made);
-    later = s.later;
-    agrees = s.agrees;
-    later_gave = s.later_gave;
-    agrees_gave = s.agrees_gave;
+    so_far = s.so_far;
     core = s.core;
-    broken = subst (ShowFaults fresh) (sym (append-nil (broken_at c moment))) (made_broken m fresh i c (state_of m.plan m.links took program i) (own_at took gave) w.seat w.seat' step first answer made next unfinished);
-    told = tells_as m fresh _ _ (λ k. sym (append-nil (heard_at c moment k))) (made_told m fresh i c (state_of m.plan m.links took program i) (own_at took gave) w.seat w.seat' step first answer made next);
-    taken = made_taken m fresh i w.seat w.seat' step m.plan c first answer made s.answered;
-    takes = made_takes m fresh i w.seat w.seat' step m.plan c first answer made s.answered;
+    shows = record {
+      broken = subst (ShowFaults fresh) (sym (append-nil (broken_at c moment))) (made_broken m fresh i c (state_of m.plan m.links took program i) (own_at took gave) w.seat w.seat' step first answer made next unfinished);
+      told = tells_as m fresh _ _ (λ k. sym (append-nil (heard_at c moment k))) (made_told m fresh i c (state_of m.plan m.links took program i) (own_at took gave) w.seat w.seat' step first answer made next);
+      taken = made_taken m fresh i w.seat w.seat' step m.plan c first answer made s.answered;
+      takes = made_takes m fresh i w.seat w.seat' step m.plan c first answer made s.answered;
+    };
   }
 
   pub told_links : SameLinks m fresh
   told_links = made_links m fresh i w.seat w.seat' step first answer made
 
   pub told_table : SameTable m fresh
-  told_table = record { plan = base.plan; id_plan = base.id_plan; calls = base.calls; opens = w.opens; ending = base.ending }
+  told_table = record { plans = base.plans; opens = w.opens }
 
   -- it is a tick
   pub told_ticks : Ticked m fresh i tick
@@ -325,22 +324,21 @@ module _ (m fresh : MachineState) (room k : ℕ) (step : ReadStep) (tick : Tick)
       read_offers m fresh k w.reader w.reader' x serve end h (is.closed enough) w.at read_sized.letters_are read_sized.inns_are read_few took gave agrees agrees_gave begins given_answer read_made,
       read_offering m fresh k w.reader w.reader' x serve end h begins given_answer read_made,
     );
-    later = s.later;
-    agrees = s.agrees;
-    later_gave = s.later_gave;
-    agrees_gave = s.agrees_gave;
+    so_far = s.so_far;
     core = s.core;
-    broken = read_broken m fresh i w.reader w.reader' m.plan c own (read_own took gave) begins given_answer read_made;
-    told = read_told m fresh i w.reader w.reader' m.plan c own (read_own took gave) begins given_answer read_next read_made;
-    taken = read_taken m fresh i w.reader w.reader' m.plan c own (read_own took gave) begins given_answer read_next read_made;
-    takes = read_takes m fresh i w.reader w.reader' m.plan c own (read_own took gave) begins given_answer read_next read_made;
+    shows = record {
+      broken = read_broken m fresh i w.reader w.reader' m.plan c own (read_own took gave) begins given_answer read_made;
+      told = read_told m fresh i w.reader w.reader' m.plan c own (read_own took gave) begins given_answer read_next read_made;
+      taken = read_taken m fresh i w.reader w.reader' m.plan c own (read_own took gave) begins given_answer read_next read_made;
+      takes = read_takes m fresh i w.reader w.reader' m.plan c own (read_own took gave) begins given_answer read_next read_made;
+    };
   }
 
   pub read_links_stay : SameLinks m fresh
   read_links_stay = read_links m fresh k w.reader w.reader' begins given_answer read_made
 
   pub read_table : SameTable m fresh
-  read_table = record { plan = same.plan; id_plan = same.id_plan; calls = same.calls; opens = w.opens; ending = same.ending }
+  read_table = record { plans = same.plans; opens = w.opens }
 
   -- it is a tick
   pub read_ticks : Ticked m fresh i tick

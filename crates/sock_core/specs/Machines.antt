@@ -56,6 +56,13 @@ pub record TableState : Type 0 where
   pub outcomes : List (Option Outcome)
   pub ends : List LinkEnd
 
+-- the plans, the calls and whether the run is ending
+pub record SamePlans (old fresh : TableState) : Type 0 where
+  pub plan : fresh.plan ≡ old.plan
+  pub id_plan : fresh.ids.plan ≡ old.ids.plan
+  pub calls : fresh.calls ≡ old.calls
+  pub ending : fresh.ending ≡ old.ending
+
 abbrev pub table_of : MachineState → TableState
 table_of m = record { plan = m.plan; words = m.words; letters = m.letters; links = m.links; ids = m.ids; calls = m.calls; ending = m.ending; outcomes = m.outcomes; ends = m.ends }
 

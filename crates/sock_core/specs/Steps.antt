@@ -36,7 +36,7 @@ use Rattle.sock_core.specs.declared.letter.Letter.{Letter}
 use Rattle.client_seats.specs.Following.{IsWithFrame, IsPrepared}
 use Rattle.client_seats.specs.Seats.{SeatData, around, seat_program, bytes_of, parts_of, left_of, taken_of, left_parts_of, asked_of}
 use Rattle.sock_core.specs.Runs.{SameLink}
-use Rattle.sock_core.specs.Machines.{MachineState, TableState, machine_sizes, table_of, table_sizes}
+use Rattle.sock_core.specs.Machines.{MachineState, TableState, SamePlans, machine_sizes, table_of, table_sizes}
 
 -- ## Links as they are given back
 
@@ -210,10 +210,8 @@ OutsAfter other old fresh = fresh ≡ old
 
 -- what no step of a client changes
 pub record SameBase (old fresh : TableState) : Type 0 where
-  pub plan : fresh.plan ≡ old.plan
-  pub id_plan : fresh.ids.plan ≡ old.ids.plan
-  pub calls : fresh.calls ≡ old.calls
-  pub ending : fresh.ending ≡ old.ending
+  pub plans : SamePlans old fresh
+  pub open plans use *
   pub inns : fresh.links.inns ≡ old.links.inns
 
 -- the seat goes on with this program

@@ -55,7 +55,7 @@ returns-clause-made g c =
         ids = refl;
         ends = ap (map (λ e. end_of (g.O.Out.state e.out) (g.I.In.state e.inn))) ends ∙ c.end_link.ensures.ends ∙ ap (map (λ e. end_of (g.O.Out.state e.out) (g.I.In.state e.inn))) c.deref_mut-3.ensures.value;
         goes = goes (next_program (around c.sizes-sizes.result seat) c.next-next.result)
-            (record { plan = refl; id_plan = refl; calls = refl; ending = refl; inns = ap (map (λ e. g.I.In.state e.inn)) ends ∙ c.end_link.ensures.inns ∙ ap (map (λ e. g.I.In.state e.inn)) c.deref_mut-3.ensures.value })
+            (record { plans = record { plan = refl; id_plan = refl; calls = refl; ending = refl }; inns = ap (map (λ e. g.I.In.state e.inn)) ends ∙ c.end_link.ensures.inns ∙ ap (map (λ e. g.I.In.state e.inn)) c.deref_mut-3.ensures.value })
             sizes c.deref_mut-4.ensures.value (written c.self.inside.outcomes.len c.follow.new.outcomes _ (omega (arith, c.self.inside.outcomes.ok))) c.follow.ensures refl
             (next_is c.sizes-sizes.result seat c.next-next.result c.step_word-found.result c.calling.result sizes ready c.calling.ensures c.next-next.ensures.program
             ∙ ap (after_word (seat_program (sizes_of c.self.inside.plan c.self.inside.ids.plan) seat)) found);

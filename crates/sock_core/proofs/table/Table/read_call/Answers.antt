@@ -40,6 +40,6 @@ returns-clause-ok g c =
     let goes = goes_as (λ (cs : List ℕ). after_word (reader_program cs reader) c.step_word-found.result) c.follow_word.new.self c.deref.ensures.value c.deref_mut-4.ensures.value outcomes c.in-Ok.ensures in
     let awaited = awaited_at (around c.self.inside.calls.items reader) c.point-point.result reader.point c.step_word-found.result c.awaited_by_reader.result c.point-point.ensures c.awaited_by_reader.ensures.waits c.awaited_by_reader.ensures.on in
     elim c.match-awaited_by_reader.branch [
-      | in-Some w ↦ rw w.result-is (told_along c.self.view_is (call_waited c.args.seat reader c.follow_word.new.self c.args.call c.step_word-found.result c.awaited_by_reader.result awaited next (record { plan = refl; id_plan = refl; calls = refl; ending = refl; letters = refl; nexts = refl }) found goes words holders outs inns refl given w.in-Some.on w.in-Some.is))
-      | in-None w ↦ rw w.result-is (told_along c.self.view_is (call_moved c.args.seat reader c.follow_word.new.self c.args.call c.step_word-found.result c.awaited_by_reader.result awaited next (record { plan = refl; id_plan = refl; calls = refl; ending = refl; letters = refl; nexts = refl }) found goes words holders outs inns refl given w.kind.result w.kind.ensures w.in-None.is))
+      | in-Some w ↦ rw w.result-is (told_along c.self.view_is (call_waited c.args.seat reader c.follow_word.new.self c.args.call c.step_word-found.result c.awaited_by_reader.result awaited next (record { plans = record { plan = refl; id_plan = refl; calls = refl; ending = refl }; letters = refl; nexts = refl }) found goes words holders outs inns refl given w.in-Some.on w.in-Some.is))
+      | in-None w ↦ rw w.result-is (told_along c.self.view_is (call_moved c.args.seat reader c.follow_word.new.self c.args.call c.step_word-found.result c.awaited_by_reader.result awaited next (record { plans = record { plan = refl; id_plan = refl; calls = refl; ending = refl }; letters = refl; nexts = refl }) found goes words holders outs inns refl given w.kind.result w.kind.ensures w.in-None.is))
     ]
