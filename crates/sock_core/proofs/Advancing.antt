@@ -32,8 +32,8 @@ use Rattle.reader_seats.specs.Readers.{reader_program}
 use Rattle.sock_core.specs.declared.machine.Tick.{Tick}
 use Rattle.sock_core.specs.declared.machine.Tick.TheVariants.{Moved, Waits, Idle}
 use Rattle.sock_core.specs.Links.{LinksData, Taken, Given, Agrees, AgreesGave}
-use Rattle.sock_core.specs.Machines.{MachineState, READERS, IsMachine, IsSoundMachine, HasSizes, AreCalled, ArePaced, table_of, machine_sizes, state_of, core_with}
-use Rattle.sock_core.specs.Steps.{AsMany, IsSized, NextIs, FitsSlots, SameBase, MadeFirst}
+use Rattle.sock_core.specs.Machines.{MachineState, READERS, IsMachine, IsSoundMachine, HasSizes, AreCalled, ArePaced, table_of, machine_sizes, state_of, core_with, IsSized}
+use Rattle.sock_core.specs.Steps.{AsMany, NextIs, FitsSlots, SameBase, MadeFirst}
 use Rattle.sock_core.specs.Reading.{SameTables, NextReadIs, MadeRead, TickRead}
 use Rattle.sock_core.specs.Telling.{TickTold, Tells, is_waiting}
 use Rattle.sock_core.specs.Runs.{SameTable, SameLinks, ShowFaults, TickIs, Follows, Ticked}
@@ -58,13 +58,7 @@ use Rattle.sock_core.proofs.Ticked.{MayMake, SteppedWith, steps_by}
 
 module _ (m : MachineState) (sizes : ∥ HasSizes m ∥₁) where
   pub is_sized : IsSized (table_of m)
-  is_sized = record {
-    letters_are = ∥∥₁_elim sizes (hlevel props) (λ h. h.letters_are);
-    holders_are = ∥∥₁_elim sizes (hlevel props) (λ h. h.holders_are);
-    nexts_are = ∥∥₁_elim sizes (hlevel props) (λ h. h.nexts_are);
-    outs_are = ∥∥₁_elim sizes (hlevel props) (λ h. h.outs_are);
-    inns_are = ∥∥₁_elim sizes (hlevel props) (λ h. h.inns_are);
-  }
+  is_sized = ∥∥₁_elim sizes (hlevel props) (λ h. h.tables)
 
   pub few_seats : length m.seats ≤ READERS
   few_seats = ∥∥₁_elim sizes (hlevel props) (λ h. h.few_seats)

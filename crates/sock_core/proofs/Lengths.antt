@@ -97,11 +97,13 @@ module _ (old fresh : MachineState) (i : ℕ) (place seat' : SeatData) (step : S
 pub sizes_but : (old fresh : MachineState) → HasSizes old → AsMany (table_of old) (table_of fresh) → fresh.plan ≡ old.plan → fresh.ids.plan ≡ old.ids.plan → fresh.calls ≡ old.calls → length fresh.ends ≡ length old.ends → length fresh.seats ≡ length old.seats
     → length fresh.readers ≡ length old.readers → AllByRecursion (λ o. o < fresh.plan.operations) fresh.opens → length fresh.opens ≤ 32 → HasSizes fresh
 sizes_but old fresh h many plan id_plan calls ends seats readers opens few_opens = record {
-  letters_are = many.letters ∙ h.letters_are ∙ sym (ap (λ (p : Plan). p.requests) plan);
-  holders_are = many.holders ∙ h.holders_are ∙ links;
-  nexts_are = many.nexts ∙ h.nexts_are ∙ links;
-  outs_are = many.outs ∙ h.outs_are ∙ links;
-  inns_are = many.inns ∙ h.inns_are ∙ links;
+  tables = record {
+    letters_are = many.letters ∙ h.letters_are ∙ sym (ap (λ (p : Plan). p.requests) plan);
+    holders_are = many.holders ∙ h.holders_are ∙ links;
+    nexts_are = many.nexts ∙ h.nexts_are ∙ links;
+    outs_are = many.outs ∙ h.outs_are ∙ links;
+    inns_are = many.inns ∙ h.inns_are ∙ links;
+  };
   ends_are = ends ∙ h.ends_are ∙ links;
   seats_are = seats ∙ h.seats_are ∙ sym (ap (λ (p : Plan). p.seats) plan);
   some_seat = subst (λ (n : ℕ). 0 < n) (sym seats) h.some_seat;

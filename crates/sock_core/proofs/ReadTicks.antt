@@ -22,9 +22,8 @@ use Rattle.reader_points.specs.declared.point.ReadStep.TheVariants as steps
 use Rattle.reader_points.specs.Steps.{step_as}
 use Rattle.reader_seats.specs.Readers.{ReaderData, reader_program}
 use Rattle.sock_core.specs.Links.{LinksData, Taken, Given, Agrees, AgreesGave, homes_of, hand_of}
-use Rattle.sock_core.specs.Machines.{MachineState, READERS, table_of, state_of, waiting_of, given_by, calls_of, core_with}
+use Rattle.sock_core.specs.Machines.{MachineState, READERS, table_of, state_of, waiting_of, given_by, calls_of, core_with, IsSized}
 use Rattle.sock_core.specs.Reading.{SameTables, CallRead, AsideRead, TakeRead, MadeRead, given_in}
-use Rattle.sock_core.specs.Steps.{IsSized}
 use Rattle.sock_core.proofs.Changes.{none_changes}
 use Rattle.sock_core.proofs.Ranges.{get-range, set-range}
 use Rattle.sock_core.proofs.Seatings.{Stays, reader_set, read_at}

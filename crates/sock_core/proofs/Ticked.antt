@@ -37,8 +37,8 @@ use Rattle.seat_states.proofs.StepFacts as facts
 use Rattle.client_seats.specs.Seats.{SeatData, around, seat_program, bytes_of, parts_of}
 use Rattle.sock_core.specs.declared.letter.Letter.{Letter}
 use Rattle.sock_core.specs.Links.{LinksData, Taken, Given, Agrees, AgreesGave, SoFar, IsPaced, holder_of, is_done, link_with, homes_of, hand_of, letter_home}
-use Rattle.sock_core.specs.Machines.{MachineState, READERS, table_of, machine_sizes, state_of, waiting_of, given_by, core_with}
-use Rattle.sock_core.specs.Steps.{IsSized, OutsAfter, Goes, CallMade, AsideMade, MessageTaken, LinkTaken, LinkPut, LinkAsked, MadeFirst, holders_after}
+use Rattle.sock_core.specs.Machines.{MachineState, READERS, table_of, machine_sizes, state_of, waiting_of, given_by, core_with, IsSized}
+use Rattle.sock_core.specs.Steps.{OutsAfter, Goes, CallMade, AsideMade, MessageTaken, LinkTaken, LinkPut, LinkAsked, MadeFirst, holders_after}
 use Rattle.sock_core.proofs.Hands.{HasNone, HasOnly, lies_home, hand_only, home_at, letters_set}
 use Rattle.sock_core.proofs.Changes.{Changed, take_changes, give_changes, out_changes, none_changes}
 use Rattle.sock_core.proofs.Seatings.{client_set, calls_by, seat_at}

@@ -156,13 +156,18 @@ pub record IsSoundMachine (m : MachineState) : Type 0 where
   -- with those of the ending that it has still to begin
   pub bounded : left + 20 * length m.opens < MOST_LEFT
 
+-- the tables have the sizes that the plan says
+pub record IsSized (t : TableState) : Type 0 where
+  pub letters_are : length t.letters ≡ t.plan.requests
+  pub holders_are : length t.links.holders ≡ t.plan.links
+  pub nexts_are : length t.links.nexts ≡ t.plan.links
+  pub outs_are : length t.links.outs ≡ t.plan.links
+  pub inns_are : length t.links.inns ≡ t.plan.links
+
 -- each table has the sizes that its plan says, and there is a seat for each client and a reader for each link
 pub record HasSizes (m : MachineState) : Type 0 where
-  pub letters_are : length m.letters ≡ m.plan.requests
-  pub holders_are : length m.links.holders ≡ m.plan.links
-  pub nexts_are : length m.links.nexts ≡ m.plan.links
-  pub outs_are : length m.links.outs ≡ m.plan.links
-  pub inns_are : length m.links.inns ≡ m.plan.links
+  pub tables : IsSized (table_of m)
+  pub open tables use *
   pub ends_are : length m.ends ≡ m.plan.links
   pub seats_are : length m.seats ≡ m.plan.seats
   pub some_seat : 0 < length m.seats

@@ -165,14 +165,6 @@ StandsAt m i = (seat : SeatData) → get_elem? m.seats i ≡ core.some seat → 
 abbrev pub StepFits : MachineState → ℕ → Step → Type 0
 StepFits m i step = (seat : SeatData) → get_elem? m.seats i ≡ core.some seat → MayStand seat × Fits (table_of m) seat step
 
--- the tables have the sizes that the plan says
-pub record IsSized (t : TableState) : Type 0 where
-  pub letters_are : length t.letters ≡ t.plan.requests
-  pub holders_are : length t.links.holders ≡ t.plan.links
-  pub nexts_are : length t.links.nexts ≡ t.plan.links
-  pub outs_are : length t.links.outs ≡ t.plan.links
-  pub inns_are : length t.links.inns ≡ t.plan.links
-
 -- as many letters, links and outcomes as before
 pub record AsMany (old fresh : TableState) : Type 0 where
   pub letters : length fresh.letters ≡ length old.letters
