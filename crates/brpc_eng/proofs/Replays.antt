@@ -93,5 +93,5 @@ not_source (Err fault_.Sink) other e = cc
 not_source (Err fault_.TooLong) other e = cc
 not_source (Err fault_.NoMemory) other e = cc
 
-pub reads_still : (edges : Edges) (ended : Result StreamEnd PrintFault) (status : ℕ) → status ≡ answer.frames_status ended → PrintsFrames edges ended → status ≢ 4 → edges.read_faults_now ≡ edges.read_faults
+pub reads_still : (edges : Edges) (ended : Result StreamEnd PrintFault) (status : ℕ) → status ≡ answer.frames_status ended → PrintsFrames edges ended → status ≢ 4 → edges.source.faults_now ≡ edges.source.faults
 reads_still edges ended status is printed other = printed.reads (not_source ended (λ e. other (is ∙ e)))

@@ -268,14 +268,8 @@ pub record Loaded (seed clients count : ℕ) (out : Output) (links : Links) (sta
 -- what it found and left at the source and the sink
 abbrev pub edges_of : Input → Output → Edges
 edges_of input out = record {
-  given = input.given;
-  left = input.left;
-  read_faults = input.faults.before;
-  read_faults_now = input.faults.now;
-  before = out.before;
-  now = out.now;
-  write_faults = out.faults.before;
-  write_faults_now = out.faults.now;
+  source = record { before = input.given; now = input.left; faults = input.faults.before; faults_now = input.faults.now };
+  sink = record { before = out.before; now = out.now; faults = out.faults.before; faults_now = out.faults.now };
 }
 
 -- the status of each ending

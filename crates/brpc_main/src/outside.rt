@@ -4,7 +4,7 @@ use crate::run::run_with;
 use loop_link::LoopLinker;
 use net_link::TcpLinker;
 use prog_link::ProgLinker;
-use sock_io::{Linker, OpenGate, StdSink, StdSource};
+use sock_io::{Linker, OpenGate, StdEdge};
 use std::alloc::Global;
 use std::env::{Args, Env};
 use std::net::{Net, TcpListener, TcpStream};
@@ -45,9 +45,9 @@ fn run_over<
     requires accepted { L.accepted links.old ≡ 0 }
     requires done { L.done links.old ≡ [] }
 {
-    let mut source = StdSource::new(rt.reader());
-    let mut out = StdSink::new(io::writer(rt));
-    let mut errors = StdSink::new(io::writer(errors));
+    let mut source = StdEdge::new(rt.reader());
+    let mut out = StdEdge::new(io::writer(rt));
+    let mut errors = StdEdge::new(io::writer(errors));
     run_with(
         rt,
         rt.alloc(),

@@ -25,25 +25,27 @@ enum Own {
     Other,
 }
 
-/// A table of so many slots, and its seats.
-fn begin(alloc: Global, slots: u16, seats: u16) -> Option<(Table, Vec<Seat>)>
-    requires { (slots ≤ 4096) × (1 ≤ seats) × (seats ≤ 64) }
-    ensures plan { IfSome result (λ t. t.0.plan.slots ≡ slots) }
-    ensures seats { IfSome result (λ t. AreNew t.0.table.shared.table_id t.1.items) }
-{
-    match IdTable::new(alloc, slots, 1, seats) {
-        Ok(made) => Some(made),
-        Err(_) => None,
-    }
-}
-
-/// One of them.
+/// A seat of the table.
 fn one_of(table: &Table, seats: &mut Vec<Seat>) -> Option<Seat>
     requires { AreNew table.now.table.shared.table_id seats.old.items }
     ensures seat { IfSome result (λ s. Sits table.now.table.shared.table_id s × IsFree s.me.0) }
     ensures left { AreNew table.now.table.shared.table_id seats.new.items }
 {
     seats.pop()
+}
+
+/// A table of so many slots, a seat of it, and its other seats.
+fn begin(alloc: Global, slots: u16, seats: u16) -> Option<(Table, Seat, Vec<Seat>)>
+    requires { (slots ≤ 4096) × (1 ≤ seats) × (seats ≤ 64) }
+    ensures plan { IfSome result (λ t. t.0.plan.slots ≡ slots) }
+    ensures seat { IfSome result (λ t. Sits t.0.table.shared.table_id t.1 × IsFree t.1.me.0) }
+    ensures seats { IfSome result (λ t. AreNew t.0.table.shared.table_id t.2.items) }
+{
+    let Ok((table, mut all)) = IdTable::new(alloc, slots, 1, seats) else {
+        return None;
+    };
+    let seat = one_of(&table, &mut all)?;
+    Some((table, seat, all))
 }
 
 /// Posts an error for the whole call of this lock.
@@ -76,11 +78,8 @@ fn post_own<R: Wait + Abort>(
 // A slot gets a range of two versions, whose two queued errors are kept and whose end makes every version of it past.
 #[test]
 fn two_errors_are_kept(rt: HostRuntime) {
-    let Some((table, mut seats)) = begin(rt.alloc(), 1, 1) else {
+    let Some((table, mut seat, _seats)) = begin(rt.alloc(), 1, 1) else {
         panic!(&rt; "no memory");
-    };
-    let Some(mut seat) = one_of(&table, &mut seats) else {
-        panic!(&rt; "no seat");
     };
     assert!(&rt; matches!(table.create(&mut seat, 2, 7), Ok(1)));
     let first = table.lock(&rt, &mut seat, 1);
@@ -171,11 +170,8 @@ fn ended_in(table: &Table, seat: &mut Seat, version: u64) -> u32
 // Eight threads end ids of two slots; each id is ended by one of them.
 #[test]
 fn threads_end_each_id_once(rt: HostRuntime) {
-    let Some((table, mut seats)) = begin(rt.alloc(), 2, 9) else {
+    let Some((table, mut main, seats)) = begin(rt.alloc(), 2, 9) else {
         panic!(&rt; "no memory");
-    };
-    let Some(mut main) = one_of(&table, &mut seats) else {
-        panic!(&rt; "no seat");
     };
     let shared = &table;
     let host = &rt;

@@ -3,7 +3,7 @@ ghost use Rattle.sock_model.specs.Weights.{total};
 ghost use Rattle.sock_table.specs.Closed.{AllDone, IsDoneSeat};
 ghost use Rattle.sock_table.specs.Passes.{IsPass};
 ghost use Rattle.sock_table.specs.Refs.{Knows};
-ghost use Rattle.sock_open.specs.Made.{AreMade, AreNewSeats, PassesFrom};
+ghost use Rattle.sock_open.specs.Made.{AreNewSeats, PassesFrom};
 
 use sock_io::MemOut;
 use sock_open::{Made, new_table};
@@ -30,11 +30,24 @@ pub(crate) const ONE: Plan = Plan {
     first: 0,
 };
 
-/// A table of one slot and two links, with so many seats.
-fn begin(alloc: Global, seats: u16) -> Option<Made<MemOut>>
+/// The two passes, in the order of their links.
+fn both(table: &Table, mut passes: Vec<Pass>) -> Option<(Pass, Pass)>
+    requires { PassesFrom table.now.rule.table.shared.table_id table.now.rule.plan 0 passes.items }
+    ensures first { IfSome result (λ r. IsPass table.now.rule.table.shared.table_id table.now.rule.plan r.0) }
+    ensures second { IfSome result (λ r. IsPass table.now.rule.table.shared.table_id table.now.rule.plan r.1) }
+{
+    let second = passes.pop()?;
+    let first = passes.pop()?;
+    Some((first, second))
+}
+
+/// A table of one slot and two links, with so many seats, and the passes of its two links.
+fn begin(alloc: Global, seats: u16) -> Option<(Table, Vec<Seat>, Pass, Pass)>
     requires { (1 ≤ seats) × (seats ≤ 64) }
-    ensures plan { IfSome result (λ m. m.table.rule.plan ≡ record { slots = 1; links = 2; requests = 0; names = 1; operations = 0; seats = seats; first = 0 }) }
-    ensures made { IfSome result (λ m. AreMade m.table.rule.table.shared.table_id m.table.rule.plan m.seats.items m.passes.items) }
+    ensures plan { IfSome result (λ m. m.0.rule.plan ≡ record { slots = 1; links = 2; requests = 0; names = 1; operations = 0; seats = seats; first = 0 }) }
+    ensures seats { IfSome result (λ m. AreNewSeats m.0.rule.table.shared.table_id m.0.rule.plan m.1.items) }
+    ensures first { IfSome result (λ m. IsPass m.0.rule.table.shared.table_id m.0.rule.plan m.2) }
+    ensures second { IfSome result (λ m. IsPass m.0.rule.table.shared.table_id m.0.rule.plan m.3) }
 {
     let plan = Plan {
         links: 2,
@@ -49,18 +62,13 @@ fn begin(alloc: Global, seats: u16) -> Option<Made<MemOut>>
     let Ok(made) = new_table(alloc, &plan, outs) else {
         return None;
     };
-    Some(made)
-}
-
-/// The two passes, in the order of their links.
-fn both(table: &Table, mut passes: Vec<Pass>) -> Option<(Pass, Pass)>
-    requires { PassesFrom table.now.rule.table.shared.table_id table.now.rule.plan 0 passes.items }
-    ensures first { IfSome result (λ r. IsPass table.now.rule.table.shared.table_id table.now.rule.plan r.0) }
-    ensures second { IfSome result (λ r. IsPass table.now.rule.table.shared.table_id table.now.rule.plan r.1) }
-{
-    let second = passes.pop()?;
-    let first = passes.pop()?;
-    Some((first, second))
+    let Made {
+        table,
+        seats,
+        passes,
+    } = made;
+    let (first, second) = both(&table, passes)?;
+    Some((table, seats, first, second))
 }
 
 /// A seat of the table.
@@ -92,19 +100,11 @@ fn makes_one(table: &Table, mut seat: Seat, first: Pass, second: Pass) -> bool
 
 #[test]
 fn two_creates_on_one_slot(rt: HostRuntime) {
-    let Some(made) = begin(rt.alloc(), 1) else {
+    let Some((table, mut seats, first, second)) = begin(rt.alloc(), 1) else {
         panic!(&rt; "no memory");
     };
-    let Made {
-        table,
-        mut seats,
-        passes,
-    } = made;
     let Some(seat) = one_of(&table, &mut seats) else {
         panic!(&rt; "no seat");
-    };
-    let Some((first, second)) = both(&table, passes) else {
-        panic!(&rt; "no passes");
     };
     assert!(&rt; makes_one(&table, seat, first, second));
 }
@@ -234,14 +234,9 @@ fn three(alloc: Global, table: &Table, one: Seat, two: Seat, other: Seat) -> Opt
 #[test]
 fn an_id_reaches_only_its_life(rt: HostRuntime) {
     let alloc = rt.alloc();
-    let Some(made) = begin(alloc, 3) else {
+    let Some((table, mut seats, first, second)) = begin(alloc, 3) else {
         panic!(&rt; "no memory");
     };
-    let Made {
-        table,
-        mut seats,
-        passes,
-    } = made;
     let Some(mut main) = one_of(&table, &mut seats) else {
         panic!(&rt; "no seat");
     };
@@ -250,9 +245,6 @@ fn an_id_reaches_only_its_life(rt: HostRuntime) {
     };
     let Some(mut two) = one_of(&table, &mut seats) else {
         panic!(&rt; "no seat");
-    };
-    let Some((first, second)) = both(&table, passes) else {
-        panic!(&rt; "no passes");
     };
     let (mut main, made) = renew(&table, main, first);
     let Some(id) = made else {

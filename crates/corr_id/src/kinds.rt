@@ -1,5 +1,5 @@
 // A call for each kind of step.
-ghost use Rattle.std.specs.Prelude.{◌≡◌, ◌≢◌, ◌+◌, ◌*◌, ◌%◌, ◌<◌, ◌≤◌, ℕ, [], ◌∷◌, IsTrue, MatchOption};
+ghost use Rattle.std.specs.Prelude.{◌≡◌, ◌≢◌, ◌+◌, ◌*◌, ◌%◌, ◌<◌, ◌≤◌, ℕ, Bool, [], ◌∷◌, IsTrue, MatchOption};
 ghost use Rattle.corr_core.specs.Word.{parts, made_word, locked_word, posted_word, unlocked_word, free_word, tick};
 ghost use Rattle.corr_core.specs.Law.{LAST, total, is_made, is_advance};
 ghost use Rattle.corr_core.specs.declared.marks.Hand.TheVariants.{Empty, Full};
@@ -130,18 +130,10 @@ impl<C> IdTable<C> {
     }
 
     // I5: the id opens, or its oldest error is taken out. The answer is the word found.
-    pub(crate) fn unlock_id(
-        &self,
-        seat: &mut IdSeat<C>,
-        at: u16,
-        from: u64,
-        next: u64,
-        advance: bool,
-    ) -> u64
+    pub(crate) fn unlock_id(&self, seat: &mut IdSeat<C>, at: u16, from: u64, next: u64) -> u64
         requires seat { Sits self.now.table.shared.table_id seat.old }
         requires slot { at < self.now.table.shared.key.slots }
-        requires next { parts next ≡ unlocked_word (parts from) (tick advance) }
-        requires room { IsTrue advance → (parts from).attempt + 2 < (parts from).range }
+        requires next { (advance : Bool) × (parts next ≡ unlocked_word (parts from) (tick advance)) × (IsTrue advance → (parts from).attempt + 2 < (parts from).range) }
         requires lock { (c : C) × Locks at seat.old.me.0 (parts from) c (Full c) }
         ensures seat { Stays seat.old seat.new }
         ensures won { result ≡ from → (c : C) → Locks at seat.old.me.0 (parts from) c (Full c) → Became at (with_note at (Saw from) seat.old.me.0) seat.new.me.0 (tokens_left (parts from) (parts next) c) (advance_note at (parts from) (parts next)) }

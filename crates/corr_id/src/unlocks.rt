@@ -46,7 +46,7 @@ impl<C> IdTable<C> {
         let mut step = advance;
         'tries: loop {
             let next = without_oldest(from, step);
-            let found = self.unlock_id(seat, slot, from, next, step);
+            let found = self.unlock_id(seat, slot, from, next);
             if found != from {
                 from = found;
                 continue;

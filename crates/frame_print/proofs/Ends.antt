@@ -35,71 +35,71 @@ is_rest bytes held fs x e = let P : Stream → Type 0 = λ s. IsRest s.ending in
 lines_written : (bytes held : List ℕ) (o p : Option (List ℕ)) → (x : CutPrinted bytes o held p) → judged held ≡ NoneYet → Appends o p (frame_lines bytes)
 lines_written bytes held o p x e = let P : Stream → Type 0 = λ s. Appends o p (lines_of s) in subst P (sym (stream_rest bytes held x.frames x.cut e)) x.wrote
 
-pub ends_rest : (e : Edges) (bytes held : List ℕ) (p : Option (List ℕ)) → length bytes ≤ frames_limit → IsAtEnd e.left → CutPrinted bytes e.before held p → judged held ≡ NoneYet →
-    Appends p e.now (ending_line (Rest (length held))) → e.write_faults_now ≡ e.write_faults → PrintedRest e bytes
+pub ends_rest : (e : Edges) (bytes held : List ℕ) (p : Option (List ℕ)) → length bytes ≤ frames_limit → IsAtEnd e.source.now → CutPrinted bytes e.sink.before held p → judged held ≡ NoneYet →
+    Appends p e.sink.now (ending_line (Rest (length held))) → e.sink.faults_now ≡ e.sink.faults → PrintedRest e bytes
 ends_rest e bytes held p few end x waiting w kept = record {
   few = few;
   end = end;
   ending = is_rest bytes held x.frames x.cut waiting;
-  wrote = let P : Stream → Type 0 = λ s. Appends e.before e.now (text_of s) in
-      subst P (sym (stream_rest bytes held x.frames x.cut waiting)) (Appends-append e.before p e.now (flat_map frame_line x.frames) (ending_line (Rest (length held))) x.wrote w);
+  wrote = let P : Stream → Type 0 = λ s. Appends e.sink.before e.sink.now (text_of s) in
+      subst P (sym (stream_rest bytes held x.frames x.cut waiting)) (Appends-append e.sink.before p e.sink.now (flat_map frame_line x.frames) (ending_line (Rest (length held))) x.wrote w);
   kept = kept;
 }
 
-pub ends_unwritten : (e : Edges) (bytes held : List ℕ) (p : Option (List ℕ)) (faults : ℕ) → length bytes ≤ frames_limit → IsAtEnd e.left → CutPrinted bytes e.before held p → judged held ≡ NoneYet →
-    WrotePart p e.now (ending_line (Rest (length held))) → faults ≡ e.write_faults → Rose faults e.write_faults_now → SinkFailed e bytes
+pub ends_unwritten : (e : Edges) (bytes held : List ℕ) (p : Option (List ℕ)) (faults : ℕ) → length bytes ≤ frames_limit → IsAtEnd e.source.now → CutPrinted bytes e.sink.before held p → judged held ≡ NoneYet →
+    WrotePart p e.sink.now (ending_line (Rest (length held))) → faults ≡ e.sink.faults → Rose faults e.sink.faults_now → SinkFailed e bytes
 ends_unwritten e bytes held p faults few end x waiting w kept rose = record {
   few = few;
   ending = is_rest bytes held x.frames x.cut waiting;
-  wrote = let P : Stream → Type 0 = λ s. WrotePart e.before e.now (text_of s) in
+  wrote = let P : Stream → Type 0 = λ s. WrotePart e.sink.before e.sink.now (text_of s) in
       inr (
         end,
         (
-          subst P (sym (stream_rest bytes held x.frames x.cut waiting)) (front_behind e.before p e.now (flat_map frame_line x.frames) (ending_line (Rest (length held))) x.wrote w),
-          rose_from e.write_faults faults e.write_faults_now kept rose,
+          subst P (sym (stream_rest bytes held x.frames x.cut waiting)) (front_behind e.sink.before p e.sink.now (flat_map frame_line x.frames) (ending_line (Rest (length held))) x.wrote w),
+          rose_from e.sink.faults faults e.sink.faults_now kept rose,
         ),
       );
 }
 
-fault_written : (e : Edges) (p : Option (List ℕ)) (faults : ℕ) (s : Stream) (r : Result (Unit {0}) Failed) → Appends e.before p (lines_of s) → faults ≡ e.write_faults →
-    Writes p e.now faults e.write_faults_now (ending_line s.ending) r → Appends e.before e.now (text_of s) ⊎ (WrotePart e.before e.now (text_of s) × Rose e.write_faults e.write_faults_now)
-fault_written e p faults s (Ok done) w kept f = inl (Appends-append e.before p e.now (lines_of s) (ending_line s.ending) w f.whole)
-fault_written e p faults s (Err fault) w kept f = inr (front_behind e.before p e.now (lines_of s) (ending_line s.ending) w f.front, rose_from e.write_faults faults e.write_faults_now kept f.failed)
+fault_written : (e : Edges) (p : Option (List ℕ)) (faults : ℕ) (s : Stream) (r : Result (Unit {0}) Failed) → Appends e.sink.before p (lines_of s) → faults ≡ e.sink.faults →
+    Writes p e.sink.now faults e.sink.faults_now (ending_line s.ending) r → Appends e.sink.before e.sink.now (text_of s) ⊎ (WrotePart e.sink.before e.sink.now (text_of s) × Rose e.sink.faults e.sink.faults_now)
+fault_written e p faults s (Ok done) w kept f = inl (Appends-append e.sink.before p e.sink.now (lines_of s) (ending_line s.ending) w f.whole)
+fault_written e p faults s (Err fault) w kept f = inr (front_behind e.sink.before p e.sink.now (lines_of s) (ending_line s.ending) w f.front, rose_from e.sink.faults faults e.sink.faults_now kept f.failed)
 
-pub ends_fault : (e : Edges) (bytes held : List ℕ) (p : Option (List ℕ)) (faults start : ℕ) (f : FrameFault) (r : Result (Unit {0}) Failed) → length bytes ≤ frames_limit → CutPrinted bytes e.before held p →
-    judged held ≡ Faulty f → start ≡ length bytes - length held → faults ≡ e.write_faults → Writes p e.now faults e.write_faults_now (ending_line (Fault start f)) r → PrintedFault e bytes
+pub ends_fault : (e : Edges) (bytes held : List ℕ) (p : Option (List ℕ)) (faults start : ℕ) (f : FrameFault) (r : Result (Unit {0}) Failed) → length bytes ≤ frames_limit → CutPrinted bytes e.sink.before held p →
+    judged held ≡ Faulty f → start ≡ length bytes - length held → faults ≡ e.sink.faults → Writes p e.sink.now faults e.sink.faults_now (ending_line (Fault start f)) r → PrintedFault e bytes
 ends_fault e bytes held p faults start f r few x fault begins kept w =
     let e1 : start ≡ x.cut.size = omega (arith, begins, x.cut.sized) in
-    let P : ℕ → Type 0 = λ n. Writes p e.now faults e.write_faults_now (ending_line (Fault n f)) r in
+    let P : ℕ → Type 0 = λ n. Writes p e.sink.now faults e.sink.faults_now (ending_line (Fault n f)) r in
     let is = stream_fault bytes held x.frames x.cut f fault in
     let Q : Stream → Type 0 = λ s. IsFaulty s.ending in
-    let R : Stream → Type 0 = λ s. Appends e.before e.now (text_of s) ⊎ (WrotePart e.before e.now (text_of s) × Rose e.write_faults e.write_faults_now) in
+    let R : Stream → Type 0 = λ s. Appends e.sink.before e.sink.now (text_of s) ⊎ (WrotePart e.sink.before e.sink.now (text_of s) × Rose e.sink.faults e.sink.faults_now) in
     record {
       few = few;
       ending = subst Q (sym is) tt;
       wrote = subst R (sym is) (fault_written e p faults (frames_then x.frames (Fault x.cut.size f)) r x.wrote kept (subst P e1 w));
     }
 
-pub ends_source : (e : Edges) (bytes held : List ℕ) → length bytes ≤ frames_limit → CutPrinted bytes e.before held e.now → judged held ≡ NoneYet → (faults : ℕ) → faults ≡ e.read_faults →
-    Rose faults e.read_faults_now → SourceFailed e bytes
+pub ends_source : (e : Edges) (bytes held : List ℕ) → length bytes ≤ frames_limit → CutPrinted bytes e.sink.before held e.sink.now → judged held ≡ NoneYet → (faults : ℕ) → faults ≡ e.source.faults →
+    Rose faults e.source.faults_now → SourceFailed e bytes
 ends_source e bytes held few x waiting faults kept rose = record {
   few = few;
-  rose = rose_from e.read_faults faults e.read_faults_now kept rose;
+  rose = rose_from e.source.faults faults e.source.faults_now kept rose;
   ending = is_rest bytes held x.frames x.cut waiting;
-  wrote = lines_written bytes held e.before e.now x waiting;
+  wrote = lines_written bytes held e.sink.before e.sink.now x waiting;
 }
 
-pub ends_long : (e : Edges) (whole held piece : List ℕ) → length whole ≡ frames_limit → length piece ≡ 1 → CutPrinted whole e.before held e.now → judged held ≡ NoneYet → TooLong e (whole ++ piece)
+pub ends_long : (e : Edges) (whole held piece : List ℕ) → length whole ≡ frames_limit → length piece ≡ 1 → CutPrinted whole e.sink.before held e.sink.now → judged held ≡ NoneYet → TooLong e (whole ++ piece)
 ends_long e whole held piece all one x waiting =
     let front : take frames_limit (whole ++ piece) ≡ whole =
     ap (λ n. take n (whole ++ piece)) (sym all) ∙ (let le : length whole ≤ length whole = omega arith in take-append-le (length whole) whole piece le) ∙ take-length whole
     in
     let P : List ℕ → Type 0 = λ l. IsRest (stream l).ending in
-    let Q : List ℕ → Type 0 = λ l. Appends e.before e.now (frame_lines l) in
+    let Q : List ℕ → Type 0 = λ l. Appends e.sink.before e.sink.now (frame_lines l) in
     record {
       long = omega (arith, length-append whole piece, all, one);
       ending = subst P (sym front) (is_rest whole held x.frames x.cut waiting);
-      wrote = subst Q (sym front) (lines_written whole held e.before e.now x waiting);
+      wrote = subst Q (sym front) (lines_written whole held e.sink.before e.sink.now x waiting);
     }
 
 first_of : (fs gs : List Frame) → take (length fs) (fs ++ gs) ≡ fs
@@ -109,37 +109,37 @@ lines_first : (bytes held : List ℕ) (fs : List Frame) (s : Stream) → stream 
 lines_first bytes held fs s is = ap (λ (t : Stream). flat_map frame_line (take (length fs) t.frames)) is ∙ ap (λ l. flat_map frame_line l) (first_of fs s.frames)
 
 -- before a piece was fed
-pub ends_unfed : (e : Edges) (whole held piece : List ℕ) → length (whole ++ piece) ≤ frames_limit → CutPrinted whole e.before held e.now → NoMemory e (whole ++ piece)
+pub ends_unfed : (e : Edges) (whole held piece : List ℕ) → length (whole ++ piece) ≤ frames_limit → CutPrinted whole e.sink.before held e.sink.now → NoMemory e (whole ++ piece)
 ends_unfed e whole held piece few x =
-    let P : List ℕ → Type 0 = λ l. Appends e.before e.now l in
+    let P : List ℕ → Type 0 = λ l. Appends e.sink.before e.sink.now l in
     record {
       few = few;
       wrote = inl (length x.frames, subst P (sym (lines_first (whole ++ piece) held x.frames _ (stream_begins whole held x.frames x.cut piece))) x.wrote);
     }
 
-pub ends_memory : (e : Edges) (bytes held : List ℕ) → length bytes ≤ frames_limit → CutPrinted bytes e.before held e.now → NoMemory e bytes
+pub ends_memory : (e : Edges) (bytes held : List ℕ) → length bytes ≤ frames_limit → CutPrinted bytes e.sink.before held e.sink.now → NoMemory e bytes
 ends_memory e bytes held few x =
-    let P : List ℕ → Type 0 = λ l. Appends e.before e.now l in
+    let P : List ℕ → Type 0 = λ l. Appends e.sink.before e.sink.now l in
     record {
       few = few;
       wrote = inl (length x.frames, subst P (sym (lines_first bytes held x.frames _ (stream_whole bytes held x.frames x.cut))) x.wrote);
     }
 
 -- the sink failed in the line of a frame
-lines_lost : (e : Edges) (bytes held mid : List ℕ) (p : Option (List ℕ)) (faults : ℕ) → CutPrinted bytes e.before held p → faults ≡ e.write_faults → CutStopped held p mid e.now faults e.write_faults_now →
+lines_lost : (e : Edges) (bytes held mid : List ℕ) (p : Option (List ℕ)) (faults : ℕ) → CutPrinted bytes e.sink.before held p → faults ≡ e.sink.faults → CutStopped held p mid e.sink.now faults e.sink.faults_now →
     WroteSome e (frame_lines bytes)
 lines_lost e bytes held mid p faults x kept y =
     let fs = x.frames ++ y.frames in
     let cut : Cut bytes fs mid = cut_more bytes held mid x.frames y.frames x.cut y.cut in
     let more = stream_from cut.size mid in
-    let P : List ℕ → Type 0 = λ l. WrotePart e.before e.now l in
-    let front : WrotePart e.before e.now (flat_map frame_line fs) =
-    subst P (sym (flat_map-append frame_line x.frames y.frames)) (front_behind e.before p e.now (flat_map frame_line x.frames) (flat_map frame_line y.frames) x.wrote y.front)
+    let P : List ℕ → Type 0 = λ l. WrotePart e.sink.before e.sink.now l in
+    let front : WrotePart e.sink.before e.sink.now (flat_map frame_line fs) =
+    subst P (sym (flat_map-append frame_line x.frames y.frames)) (front_behind e.sink.before p e.sink.now (flat_map frame_line x.frames) (flat_map frame_line y.frames) x.wrote y.front)
     in
     let all : frame_lines bytes ≡ flat_map frame_line fs ++ flat_map frame_line more.frames =
     ap (λ (s : Stream). flat_map frame_line s.frames) (stream_whole bytes mid fs cut) ∙ flat_map-append frame_line fs more.frames
     in
-    (subst P (sym all) (front_before e.before e.now (flat_map frame_line fs) (flat_map frame_line more.frames) front), rose_from e.write_faults faults e.write_faults_now kept y.rose)
+    (subst P (sym all) (front_before e.sink.before e.sink.now (flat_map frame_line fs) (flat_map frame_line more.frames) front), rose_from e.sink.faults faults e.sink.faults_now kept y.rose)
 
 -- the frames that were cut before and after it
 cut_behind : (o : Option (List ℕ)) (bytes held mid new : List ℕ) (p q : Option (List ℕ)) (faults faults_now : ℕ) → (x : CutPrinted bytes o held p) → (y : CutStopped held p mid q faults faults_now) → (gs : List Frame) → Cut mid gs new →
@@ -154,15 +154,15 @@ judged_ends e bytes new fs (Ok end_.Fault) few lost x j =
     record {
       few = few;
       ending = subst Q (sym (stream_fault bytes new fs x j.0 j.1)) tt;
-      wrote = inr (front_before e.before e.now (frame_lines bytes) (ending_line (stream bytes).ending) lost.0, lost.1);
+      wrote = inr (front_before e.sink.before e.sink.now (frame_lines bytes) (ending_line (stream bytes).ending) lost.0, lost.1);
     }
 judged_ends e bytes new fs (Err fault_.Source) few lost x j = absurd j
 judged_ends e bytes new fs (Err fault_.Sink) few lost x j = record { few = few; ending = is_rest bytes new fs x j; wrote = inl lost }
 judged_ends e bytes new fs (Err fault_.TooLong) few lost x j = absurd j
 judged_ends e bytes new fs (Err fault_.NoMemory) few lost x j = record { few = few; wrote = inr lost }
 
-at_rest : (e : Edges) (bytes held : List ℕ) (p : Option (List ℕ)) (faults : ℕ) (r : Result StreamEnd PrintFault) → length bytes ≤ frames_limit → IsAtEnd e.left → CutPrinted bytes e.before held p →
-    judged held ≡ NoneYet → faults ≡ e.write_faults → RestPrinted p e.now faults e.write_faults_now (length held) r → EndsAs e bytes r
+at_rest : (e : Edges) (bytes held : List ℕ) (p : Option (List ℕ)) (faults : ℕ) (r : Result StreamEnd PrintFault) → length bytes ≤ frames_limit → IsAtEnd e.source.now → CutPrinted bytes e.sink.before held p →
+    judged held ≡ NoneYet → faults ≡ e.sink.faults → RestPrinted p e.sink.now faults e.sink.faults_now (length held) r → EndsAs e bytes r
 at_rest e bytes held p faults (Ok end_.Rest) few end x waiting kept w = ends_rest e bytes held p few end x waiting w.0 (w.1 ∙ kept)
 at_rest e bytes held p faults (Ok end_.Fault) few end x waiting kept w = absurd w
 at_rest e bytes held p faults (Err fault_.Source) few end x waiting kept w = absurd w
@@ -171,19 +171,19 @@ at_rest e bytes held p faults (Err fault_.TooLong) few end x waiting kept w = ab
 at_rest e bytes held p faults (Err fault_.NoMemory) few end x waiting kept w = absurd w
 
 -- at the end of the source
-pub ends_at_rest : (e : Edges) (bytes held : List ℕ) (p : Option (List ℕ)) (faults len : ℕ) (r : Result StreamEnd PrintFault) → length bytes ≤ frames_limit → IsAtEnd e.left → CutPrinted bytes e.before held p →
-    judged held ≡ NoneYet → len ≡ length held → faults ≡ e.write_faults → RestPrinted p e.now faults e.write_faults_now len r → EndsAs e bytes r
+pub ends_at_rest : (e : Edges) (bytes held : List ℕ) (p : Option (List ℕ)) (faults len : ℕ) (r : Result StreamEnd PrintFault) → length bytes ≤ frames_limit → IsAtEnd e.source.now → CutPrinted bytes e.sink.before held p →
+    judged held ≡ NoneYet → len ≡ length held → faults ≡ e.sink.faults → RestPrinted p e.sink.now faults e.sink.faults_now len r → EndsAs e bytes r
 ends_at_rest e bytes held p faults len r few end x waiting is kept w =
-    let P : ℕ → Type 0 = λ n. RestPrinted p e.now faults e.write_faults_now n r in
+    let P : ℕ → Type 0 = λ n. RestPrinted p e.sink.now faults e.sink.faults_now n r in
     at_rest e bytes held p faults r few end x waiting kept (subst P is w)
 
 -- where printing the whole frames stopped
-pub ends_in_cut : (e : Edges) (bytes held mid new : List ℕ) (p : Option (List ℕ)) (faults : ℕ) (x : PrintFault) (r : Result StreamEnd PrintFault) → length bytes ≤ frames_limit → CutPrinted bytes e.before held p →
-    faults ≡ e.write_faults → CutsWhole held p faults mid e.now e.write_faults_now (Err x) → EndsStopped mid new x r → EndsAs e bytes r
+pub ends_in_cut : (e : Edges) (bytes held mid new : List ℕ) (p : Option (List ℕ)) (faults : ℕ) (x : PrintFault) (r : Result StreamEnd PrintFault) → length bytes ≤ frames_limit → CutPrinted bytes e.sink.before held p →
+    faults ≡ e.sink.faults → CutsWhole held p faults mid e.sink.now e.sink.faults_now (Err x) → EndsStopped mid new x r → EndsAs e bytes r
 ends_in_cut e bytes held mid new p faults fault_.Source r few x kept w stopped = absurd w
 ends_in_cut e bytes held mid new p faults fault_.Sink r few x kept w stopped =
-    judged_ends e bytes new _ r few (lines_lost e bytes held mid p faults x kept w) (cut_behind e.before bytes held mid new p e.now faults e.write_faults_now x w stopped.frames stopped.cut) stopped.judges
+    judged_ends e bytes new _ r few (lines_lost e bytes held mid p faults x kept w) (cut_behind e.sink.before bytes held mid new p e.sink.now faults e.sink.faults_now x w stopped.frames stopped.cut) stopped.judges
 ends_in_cut e bytes held mid new p faults fault_.TooLong r few x kept w stopped = absurd w
 ends_in_cut e bytes held mid new p faults fault_.NoMemory r few x kept w stopped =
     let P : Result StreamEnd PrintFault → Type 0 = λ q. EndsAs e bytes q in
-    subst P (sym stopped) (ends_memory e bytes mid few (printed_more bytes held mid e.before p e.now x w))
+    subst P (sym stopped) (ends_memory e bytes mid few (printed_more bytes held mid e.sink.before p e.sink.now x w))

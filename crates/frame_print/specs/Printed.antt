@@ -16,39 +16,35 @@ frames_limit = 268435456
 
 -- ## What a call finds at its source and its sink, and what it leaves there
 
-pub record Edges : Type 0 where
-  -- what the source had to give, and what of that is left, where it tells
-  pub given : Option (List ℕ)
-  pub left : Option (List ℕ)
-  -- the source's count of faults before and after
-  pub read_faults : ℕ
-  pub read_faults_now : ℕ
-  -- what the sink had taken before, and what it has taken now, where it tells
+-- a source or a sink before and after
+pub record Side : Type 0 where
+  -- what it has to give or what it has taken, where it tells
   pub before : Option (List ℕ)
   pub now : Option (List ℕ)
-  -- the sink's count of faults before and after
-  pub write_faults : ℕ
-  pub write_faults_now : ℕ
+  -- its count of faults
+  pub faults : ℕ
+  pub faults_now : ℕ
 
--- those of a source and of a sink before and after, by what each tells of itself
+pub record Edges : Type 0 where
+  pub source : Side
+  pub sink : Side
+
+-- by what it tells of itself
+abbrev pub side_over : {S : Type 0} → (S → Option (List ℕ)) → (S → ℕ) → S → S → Side
+side_over told_of faults_of side side_now = record { before = told_of side; now = told_of side_now; faults = faults_of side; faults_now = faults_of side_now }
+
 abbrev pub edges_over : {S K : Type 0} → (S → Option (List ℕ)) → (S → ℕ) → S → S → (K → Option (List ℕ)) → (K → ℕ) → K → K → Edges
 edges_over left_of read_faults_of source source_now contents_of write_faults_of sink sink_now = record {
-  given = left_of source;
-  left = left_of source_now;
-  read_faults = read_faults_of source;
-  read_faults_now = read_faults_of source_now;
-  before = contents_of sink;
-  now = contents_of sink_now;
-  write_faults = write_faults_of sink;
-  write_faults_now = write_faults_of sink_now;
+  source = side_over left_of read_faults_of source source_now;
+  sink = side_over contents_of write_faults_of sink sink_now;
 }
 
 abbrev pub WroteAll : Edges → List ℕ → Type 0
-WroteAll edges text = Appends edges.before edges.now text
+WroteAll edges text = Appends edges.sink.before edges.sink.now text
 
 -- a beginning of the text, since the sink failed
 abbrev pub WroteSome : Edges → List ℕ → Type 0
-WroteSome edges text = WrotePart edges.before edges.now text × Rose edges.write_faults edges.write_faults_now
+WroteSome edges text = WrotePart edges.sink.before edges.sink.now text × Rose edges.sink.faults edges.sink.faults_now
 
 -- ## The stream of the bytes that came
 
@@ -73,10 +69,10 @@ IsFaulty (Fault start fault) = Unit {0}
 -- the source is at its end, and so is the stream, in a rest; the whole text was written, and no write failed
 pub record PrintedRest (edges : Edges) (bytes : List ℕ) : Type 0 where
   pub few : length bytes ≤ frames_limit
-  pub end : IsAtEnd edges.left
+  pub end : IsAtEnd edges.source.now
   pub ending : IsRest (stream bytes).ending
   pub wrote : WroteAll edges (frames_text bytes)
-  pub kept : edges.write_faults_now ≡ edges.write_faults
+  pub kept : edges.sink.faults_now ≡ edges.sink.faults
 
 -- the stream has a fault; the whole text was written, or the sink failed behind a beginning of it
 pub record PrintedFault (edges : Edges) (bytes : List ℕ) : Type 0 where
@@ -87,7 +83,7 @@ pub record PrintedFault (edges : Edges) (bytes : List ℕ) : Type 0 where
 -- the source failed, by its count, behind bytes without a fault; the lines of all their frames were written
 pub record SourceFailed (edges : Edges) (bytes : List ℕ) : Type 0 where
   pub few : length bytes ≤ frames_limit
-  pub rose : Rose edges.read_faults edges.read_faults_now
+  pub rose : Rose edges.source.faults edges.source.faults_now
   pub ending : IsRest (stream bytes).ending
   pub wrote : WroteAll edges (frame_lines bytes)
 
@@ -95,7 +91,7 @@ pub record SourceFailed (edges : Edges) (bytes : List ℕ) : Type 0 where
 pub record SinkFailed (edges : Edges) (bytes : List ℕ) : Type 0 where
   pub few : length bytes ≤ frames_limit
   pub ending : IsRest (stream bytes).ending
-  pub wrote : WroteSome edges (frame_lines bytes) ⊎ (IsAtEnd edges.left × WroteSome edges (frames_text bytes))
+  pub wrote : WroteSome edges (frame_lines bytes) ⊎ (IsAtEnd edges.source.now × WroteSome edges (frames_text bytes))
 
 -- one byte more came than is printed; the others have no fault, and the lines of all their frames were written
 pub record TooLong (edges : Edges) (bytes : List ℕ) : Type 0 where
@@ -120,6 +116,6 @@ EndsAs edges bytes (Err fault_.NoMemory) = NoMemory edges bytes
 -- these bytes came, and it ended so; a read failed only where that is answered
 pub record PrintsFrames (edges : Edges) (result : Result StreamEnd PrintFault) : Type 0 where
   pub bytes : List ℕ
-  pub came : Consumes edges.given edges.left bytes
+  pub came : Consumes edges.source.before edges.source.now bytes
   pub ended : EndsAs edges bytes result
-  pub reads : result ≢ Err fault_.Source → edges.read_faults_now ≡ edges.read_faults
+  pub reads : result ≢ Err fault_.Source → edges.source.faults_now ≡ edges.source.faults

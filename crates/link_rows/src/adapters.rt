@@ -1,6 +1,6 @@
 ghost use Rattle.std.specs.Prelude.{◌<◌, length};
 
-use sock_io::{Failed, Sink, Source, StdSink, StdSource};
+use sock_io::{Failed, Sink, Source, StdEdge};
 use std::io;
 use std::io::{Read, Write};
 
@@ -55,7 +55,7 @@ fn write_to<S: Sink>(sink: &mut S, piece: &[u8]) -> Result<usize, Failed>
 
 #[test]
 fn reader_that_fails_once(rt: HostRuntime) {
-    let mut source = StdSource::new(ShakyReader { calls: 0 });
+    let mut source = StdEdge::new(ShakyReader { calls: 0 });
     let mut room = [0; 4];
     for want in [Ok(3), Err(Failed), Ok(3)] {
         assert!(rt; read_from(&mut source, &mut room) == want);
@@ -64,7 +64,7 @@ fn reader_that_fails_once(rt: HostRuntime) {
 
 #[test]
 fn writer_that_fails_once(rt: HostRuntime) {
-    let mut sink = StdSink::new(ShakyWriter { calls: 0 });
+    let mut sink = StdEdge::new(ShakyWriter { calls: 0 });
     for want in [Ok(2), Err(Failed), Ok(2), Err(Failed), Ok(2)] {
         assert!(rt; write_to(&mut sink, b"abc") == want);
     }

@@ -1,6 +1,7 @@
 -- What a meta says whose names and text are seen where they lie.
 use Rattle.std.specs.Prelude.{option_map}
 use Rattle.rpc_meta.specs.brpc_model.specs.Meta as meta
+use Rattle.rpc_meta.specs.Meaning.{made_meta}
 use Rattle.prpc_frame.specs.declared.view.MetaView.{MetaView}
 use Rattle.prpc_frame.specs.declared.view.RequestView.{RequestView}
 use Rattle.prpc_frame.specs.declared.view.ResponseView.{ResponseView}
@@ -15,10 +16,4 @@ response_viewed r = record { code = r.code; text = r.text.now }
 
 -- a meta
 abbrev pub viewed : MetaView → meta.Meta
-viewed m = record {
-  request = option_map request_viewed m.request;
-  response = option_map response_viewed m.response;
-  compress_type = m.compress_type;
-  correlation_id = m.correlation_id;
-  attachment_size = m.attachment_size;
-}
+viewed m = made_meta (option_map request_viewed m.request) (option_map response_viewed m.response) m.compress_type m.correlation_id m.attachment_size

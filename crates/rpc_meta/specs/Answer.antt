@@ -6,7 +6,7 @@ use Rattle.rpc_meta.specs.declared.fault.MetaFault.{MetaFault}
 use Rattle.rpc_meta.specs.declared.fault.MetaFault.TheVariants.{Wire, NoService, NoMethod, Neither, NoMemory}
 use Rattle.rpc_meta.specs.declared.meta.RpcMeta.{RpcMeta}
 use Rattle.rpc_meta.specs.declared.meta.RequestMeta.{RequestMeta}
-use Rattle.rpc_meta.specs.Meaning.{request_of, meaning}
+use Rattle.rpc_meta.specs.Meaning.{request_of, made_meta, meaning}
 use Rattle.rpc_meta.specs.Gathered.{Names, Outcome, Gathered}
 
 -- a fault, or nothing for want of memory
@@ -40,13 +40,7 @@ response_from o = record { code = meta.int32 o.code; text = o.text }
 abbrev pub meta_with : Result (Option meta.RequestMeta) meta.MetaFault → Option meta.ResponseMeta → ℤ → ℕ → ℤ → Result meta.Meta meta.MetaFault
 meta_with (Err fault) response compress id size = Err fault
 meta_with (Ok None) None compress id size = Err meta.Neither
-meta_with (Ok request) response compress id size = Ok (record {
-  request = request;
-  response = response;
-  compress_type = compress;
-  correlation_id = id;
-  attachment_size = size;
-})
+meta_with (Ok request) response compress id size = Ok (made_meta request response compress id size)
 
 -- the meta that was gathered
 abbrev pub meta_from : Gathered → Result meta.Meta meta.MetaFault

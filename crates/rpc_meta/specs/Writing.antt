@@ -2,10 +2,15 @@
 use Rattle.std.specs.Prelude.{ℕ, ◌≡◌, ◌<◌, ◌^◌, ◌⊎◌, List, ◌++◌, length, take, Option, IfSome, IsSome, Result, MatchResult, FitsSigned}
 use Rattle.std.specs.Int.{w32}
 use Rattle.pb_wire.specs.brpc_model.specs.Meta.{RequestMeta, ResponseMeta, Meta}
+use Rattle.pb_wire.specs.brpc_model.specs.Spelling.{bytes_field, where_some}
 
 -- this piece is appended, or the call fails and what stood there stays in front
 abbrev pub Appends : {E : Type 0} → List ℕ → List ℕ → Result (Unit {0}) E → List ℕ → Type 0
 Appends old piece result new = MatchResult result (λ _. new ≡ old ++ piece) (λ _. take (length old) new ≡ old)
+
+-- the bytes of a part under a number, where there is one
+abbrev pub part_field : {S : Type 0} → ℕ → (S → List ℕ) → Option S → List ℕ
+part_field number bytes o = where_some (λ part. bytes_field number (bytes part)) o
 
 -- there is a request or a response
 abbrev pub HasPart : Meta → Type 0

@@ -1,7 +1,6 @@
 ghost use Rattle.std.specs.Prelude.{◌≡◌, ℕ, ◌≤◌, length};
 ghost use Rattle.pb_wire.specs.Told.{field_in, IsBefore};
-ghost use Rattle.rpc_meta.specs.Gathered.{name_added, outcome_added};
-ghost use Rattle.rpc_meta.specs.Parts.{names_of, outcome_of};
+ghost use Rattle.pb_wire.specs.brpc_model.specs.Wire.{Field as WireField};
 
 use pb_wire::{Field, Value};
 
@@ -40,37 +39,80 @@ pub struct MetaParts<'a> {
     pub attachment_size: u64,
 }
 
-/// Adds a field of a request whose places are in `bytes`.
-pub fn add_to_request<'a>(
-    mut request: RequestParts<'a>,
-    bytes: &'a [u8],
-    field: Field,
-) -> RequestParts<'a>
-    requires { IsBefore (length bytes.now) field.value }
-    ensures { names_of result ≡ name_added (names_of request.entry) (field_in bytes.now field) }
-{
-    match (field.number, field.value) {
-        (1, Value::Span(from, to)) => request.service = Some(&bytes[from..to]),
-        (2, Value::Span(from, to)) => request.method = Some(&bytes[from..to]),
-        (3, Value::Varint(number)) => request.log_id = Some(number),
-        _ => {}
-    }
-    request
+/// The last occurrences of the fields of a message inside a meta, so far.
+pub trait Message<'a>: Copy {
+    /// What they come to.
+    ghost Said: { Type 0 };
+
+    ghost said: { Self → Said };
+
+    ghost nothing: { Said };
+
+    ghost added: { Said → WireField → Said };
+
+    /// No field came yet.
+    fn none() -> Self
+        ensures { said result ≡ nothing };
+
+    /// Adds a field whose places are in `bytes`.
+    fn add(self, bytes: &'a [u8], field: Field) -> Self
+        requires { IsBefore (length bytes.now) field.value }
+        ensures { said result ≡ added (said self) (field_in bytes.now field) };
 }
 
-/// Adds a field of a response whose places are in `bytes`.
-pub fn add_to_response<'a>(
-    mut response: ResponseParts<'a>,
-    bytes: &'a [u8],
-    field: Field,
-) -> ResponseParts<'a>
-    requires { IsBefore (length bytes.now) field.value }
-    ensures { outcome_of result ≡ outcome_added (outcome_of response.entry) (field_in bytes.now field) }
-{
-    match (field.number, field.value) {
-        (1, Value::Varint(number)) => response.code = number,
-        (2, Value::Span(from, to)) => response.text = &bytes[from..to],
-        _ => {}
+impl<'a> Message<'a> for RequestParts<'a> {
+    ghost use Rattle.rpc_meta.specs.Gathered.{Names, no_names, name_added};
+    ghost use Rattle.rpc_meta.specs.Parts.{names_of};
+
+    ghost Said = { Names };
+
+    ghost said = { names_of };
+
+    ghost nothing = { no_names };
+
+    ghost added = { name_added };
+
+    fn none() -> RequestParts<'a> {
+        RequestParts {
+            service: None,
+            method: None,
+            log_id: None,
+        }
     }
-    response
+
+    fn add(mut self, bytes: &'a [u8], field: Field) -> RequestParts<'a> {
+        match (field.number, field.value) {
+            (1, Value::Span(from, to)) => self.service = Some(&bytes[from..to]),
+            (2, Value::Span(from, to)) => self.method = Some(&bytes[from..to]),
+            (3, Value::Varint(number)) => self.log_id = Some(number),
+            _ => {}
+        }
+        self
+    }
+}
+
+impl<'a> Message<'a> for ResponseParts<'a> {
+    ghost use Rattle.rpc_meta.specs.Gathered.{Outcome, no_outcome, outcome_added};
+    ghost use Rattle.rpc_meta.specs.Parts.{outcome_of};
+
+    ghost Said = { Outcome };
+
+    ghost said = { outcome_of };
+
+    ghost nothing = { no_outcome };
+
+    ghost added = { outcome_added };
+
+    fn none() -> ResponseParts<'a> {
+        ResponseParts { code: 0, text: &[] }
+    }
+
+    fn add(mut self, bytes: &'a [u8], field: Field) -> ResponseParts<'a> {
+        match (field.number, field.value) {
+            (1, Value::Varint(number)) => self.code = number,
+            (2, Value::Span(from, to)) => self.text = &bytes[from..to],
+            _ => {}
+        }
+        self
+    }
 }

@@ -1,13 +1,14 @@
-ghost use Rattle.std.specs.Prelude.{◌≡◌, ◌+◌, ◌*◌, ◌≤◌, ◌++◌, length, option_map, Some, Ok};
+ghost use Rattle.std.specs.Prelude.{◌≡◌, ◌+◌, ◌*◌, ◌≤◌, ◌++◌, length, option_map, Ok, IfSome};
 ghost use Rattle.pb_wire.specs.brpc_model.specs.Wire.{varint_bytes};
 ghost use Rattle.pb_wire.specs.brpc_model.specs.Meta.{read_meta};
-ghost use Rattle.pb_wire.specs.brpc_model.specs.Spelling.{number_field, bytes_field, where_not_0, where_not_empty, where_some, request_bytes, response_bytes, meta_bytes};
-ghost use Rattle.rpc_meta.specs.Meaning.{request_of, response_of, meaning};
-ghost use Rattle.rpc_meta.specs.Sizes.{IsRequestSize, IsResponseSize, AreSizes};
-ghost use Rattle.rpc_meta.specs.Writing.{HasPart, RequestFits, ResponseFits, MetaFits};
+ghost use Rattle.pb_wire.specs.brpc_model.specs.Spelling.{number_field, bytes_field, where_not_0, where_not_empty, meta_bytes};
+ghost use Rattle.rpc_meta.specs.Meaning.{meaning};
+ghost use Rattle.rpc_meta.specs.Sizes.{IsSizeOf, AreSizes};
+ghost use Rattle.rpc_meta.specs.Writing.{part_field, HasPart, MetaFits};
 
+use crate::fields::Part;
 use crate::front::{FRONT_BYTES, Front};
-use crate::meta::{MetaBytes, RequestMeta, ResponseMeta, RpcMeta};
+use crate::meta::{MetaBytes, RpcMeta};
 use crate::sizes::MetaSizes;
 use crate::write::spelled;
 
@@ -30,60 +31,24 @@ fn spell_meta(meta: &RpcMeta, sizes: MetaSizes, out: &mut Front)
     ensures exact { out.new ≡ out.old ++ meta_bytes (meaning meta.now) }
     ensures fits { MetaFits (meaning meta.now) }
 {
-    spell_request(&meta.request, sizes.request, out);
-    spell_response(&meta.response, sizes.response, out);
+    spell_part(1, &meta.request, sizes.request, out);
+    spell_part(2, &meta.response, sizes.response, out);
     spell_int(3, meta.compress_type, out);
     spell_number(4, meta.correlation_id, out);
     spell_int(5, meta.attachment_size, out);
 }
 
-/// Spells the request where there is one, behind its length.
-fn spell_request(request: &Option<RequestMeta>, size: usize, out: &mut Front)
-    requires size { IsRequestSize (option_map request_of request.now) size }
-    requires room { length out.old + length (where_some (λ r. bytes_field 1 (request_bytes r)) (option_map request_of request.now)) ≤ FRONT_BYTES }
-    ensures exact { out.new ≡ out.old ++ where_some (λ r. bytes_field 1 (request_bytes r)) (option_map request_of request.now) }
-    ensures fits { RequestFits (option_map request_of request.now) }
+/// Spells a part under a number where there is one, behind its length.
+fn spell_part<P: Part>(number: u8, part: &Option<P>, size: usize, out: &mut Front)
+    requires size { IsSizeOf P.bytes (option_map P.said part.now) size }
+    requires room { length out.old + length (part_field number P.bytes (option_map P.said part.now)) ≤ FRONT_BYTES }
+    ensures exact { out.new ≡ out.old ++ part_field number P.bytes (option_map P.said part.now) }
+    ensures fits { IfSome (option_map P.said part.now) P.Fits }
 {
-    if let Some(request) = request {
-        spell_head(1, size, out);
-        spell_names(request, out);
+    if let Some(part) = part {
+        spell_head(number, size, out);
+        part.spell_fields(out);
     }
-}
-
-/// Spells the fields of a request.
-fn spell_names(request: &RequestMeta, out: &mut Front)
-    requires { length out.old + length (request_bytes (request_of request.now)) ≤ FRONT_BYTES }
-    ensures exact { out.new ≡ out.old ++ request_bytes (request_of request.now) }
-    ensures fits { RequestFits (Some (request_of request.now)) }
-{
-    spell_name(1, &request.service, out);
-    spell_name(2, &request.method, out);
-    if let Some(log_id) = request.log_id {
-        spell_number(3, log_id, out);
-    }
-}
-
-/// Spells the response where there is one, in the same way.
-fn spell_response(response: &Option<ResponseMeta>, size: usize, out: &mut Front)
-    requires size { IsResponseSize (option_map response_of response.now) size }
-    requires room { length out.old + length (where_some (λ r. bytes_field 2 (response_bytes r)) (option_map response_of response.now)) ≤ FRONT_BYTES }
-    ensures exact { out.new ≡ out.old ++ where_some (λ r. bytes_field 2 (response_bytes r)) (option_map response_of response.now) }
-    ensures fits { ResponseFits (option_map response_of response.now) }
-{
-    if let Some(response) = response {
-        spell_head(2, size, out);
-        spell_outcome(response, out);
-    }
-}
-
-/// Spells the fields of a response.
-fn spell_outcome(response: &ResponseMeta, out: &mut Front)
-    requires { length out.old + length (response_bytes (response_of response.now)) ≤ FRONT_BYTES }
-    ensures exact { out.new ≡ out.old ++ response_bytes (response_of response.now) }
-    ensures fits { ResponseFits (Some (response_of response.now)) }
-{
-    spell_number(1, spelled(response.code), out);
-    spell_text(2, response.text.as_slice(), out);
 }
 
 /// Spells an int32 where it isn't 0.
@@ -99,7 +64,7 @@ fn spell_int(number: u8, value: i32, out: &mut Front)
 
 /// Spells a varint under a number.
 #[inline(always)]
-fn spell_number(number: u8, value: u64, out: &mut Front)
+pub(crate) fn spell_number(number: u8, value: u64, out: &mut Front)
     requires { length out.old + length (number_field number value) ≤ FRONT_BYTES }
     ensures { out.new ≡ out.old ++ number_field number value }
 {
@@ -109,7 +74,7 @@ fn spell_number(number: u8, value: u64, out: &mut Front)
 
 /// Spells bytes under a number, where there are any.
 #[inline(always)]
-fn spell_text(number: u8, bytes: &[u8], out: &mut Front)
+pub(crate) fn spell_text(number: u8, bytes: &[u8], out: &mut Front)
     requires { length out.old + length (where_not_empty number bytes.now) ≤ FRONT_BYTES }
     ensures { out.new ≡ out.old ++ where_not_empty number bytes.now }
 {
@@ -120,7 +85,7 @@ fn spell_text(number: u8, bytes: &[u8], out: &mut Front)
 
 /// Spells a name under a number.
 #[inline(always)]
-fn spell_name(number: u8, name: &MetaBytes, out: &mut Front)
+pub(crate) fn spell_name(number: u8, name: &MetaBytes, out: &mut Front)
     requires { length out.old + length (bytes_field number name.now) ≤ FRONT_BYTES }
     ensures { out.new ≡ out.old ++ bytes_field number name.now }
 {

@@ -1,12 +1,13 @@
-ghost use Rattle.std.specs.Prelude.{◌≡◌, ◌+◌, ◌*◌, ◌≤◌, ◌++◌, length, option_map, Some, Ok, IfSome, OnOk, if◌then◌else◌, is_ok};
+ghost use Rattle.std.specs.Prelude.{◌≡◌, ◌+◌, ◌*◌, ◌≤◌, ◌++◌, length, option_map, Ok, IfSome, OnOk, if◌then◌else◌, is_ok};
 ghost use Rattle.pb_wire.specs.brpc_model.specs.Wire.{varint_bytes};
 ghost use Rattle.pb_wire.specs.brpc_model.specs.Meta.{read_meta};
-ghost use Rattle.pb_wire.specs.brpc_model.specs.Spelling.{spelled_int, number_field, bytes_field, where_not_0, where_not_empty, where_some, request_bytes, response_bytes, meta_bytes};
-ghost use Rattle.rpc_meta.specs.Meaning.{request_of, response_of, meaning};
-ghost use Rattle.rpc_meta.specs.Sizes.{IsRequestSize, IsResponseSize, AreSizes};
-ghost use Rattle.rpc_meta.specs.Writing.{Appends, HasPart, RequestFits, ResponseFits, MetaFits};
+ghost use Rattle.pb_wire.specs.brpc_model.specs.Spelling.{spelled_int, number_field, bytes_field, where_not_0, where_not_empty, meta_bytes};
+ghost use Rattle.rpc_meta.specs.Meaning.{meaning};
+ghost use Rattle.rpc_meta.specs.Sizes.{IsSizeOf, AreSizes};
+ghost use Rattle.rpc_meta.specs.Writing.{Appends, part_field, HasPart, MetaFits};
 
-use crate::meta::{RequestMeta, ResponseMeta, RpcMeta};
+use crate::fields::Part;
+use crate::meta::RpcMeta;
 use crate::sizes::MetaSizes;
 use pb_wire::{NoMemory, varint_size, write_varint};
 
@@ -76,10 +77,10 @@ fn few_sizes(meta: &RpcMeta) -> Option<MetaSizes>
 fn any_sizes(meta: &RpcMeta) -> Option<MetaSizes>
     ensures { IfSome result (λ s. AreSizes s (meaning meta.now)) }
 {
-    let request = asked_size(&meta.request)?;
-    let response = answered_size(&meta.response)?;
-    let asked = whole_request(&meta.request, request)?;
-    let answered = whole_response(&meta.response, response)?;
+    let request = part_size(&meta.request)?;
+    let response = part_size(&meta.response)?;
+    let asked = whole_part(1, &meta.request, request)?;
+    let answered = whole_part(2, &meta.response, response)?;
     let numbers = int_size(3, meta.compress_type)
         + number_size(4, meta.correlation_id)
         + int_size(5, meta.attachment_size);
@@ -96,63 +97,26 @@ fn append_meta(meta: &RpcMeta, out: &mut Vec<u8>) -> Result<(), NoMemory>
     ensures written { Appends out.old.items (meta_bytes (meaning meta.now)) result out.new.items }
     ensures fits { OnOk result (MetaFits (meaning meta.now)) }
 {
-    append_request(&meta.request, out)?;
-    append_response(&meta.response, out)?;
+    append_part(1, &meta.request, out)?;
+    append_part(2, &meta.response, out)?;
     append_int(3, meta.compress_type, out)?;
     append_number(4, meta.correlation_id, out)?;
     append_int(5, meta.attachment_size, out)
 }
 
-/// Appends the request where there is one. Its length stands before it, so it is counted first.
-fn append_request(request: &Option<RequestMeta>, out: &mut Vec<u8>) -> Result<(), NoMemory>
-    ensures written { Appends out.old.items (where_some (λ r. bytes_field 1 (request_bytes r)) (option_map request_of request.now)) result out.new.items }
-    ensures fits { OnOk result (RequestFits (option_map request_of request.now)) }
+/// Appends a part under a number where there is one. Its length stands before it, so it is counted first.
+fn append_part<P: Part>(number: u8, part: &Option<P>, out: &mut Vec<u8>) -> Result<(), NoMemory>
+    ensures written { Appends out.old.items (part_field number P.bytes (option_map P.said part.now)) result out.new.items }
+    ensures fits { OnOk result (IfSome (option_map P.said part.now) P.Fits) }
 {
-    let Some(request) = request else {
+    let Some(part) = part else {
         return Ok(());
     };
-    let Some(size) = request_size(request) else {
+    let Some(size) = part.fields_size() else {
         return Err(NoMemory);
     };
-    append_head(1, size, out)?;
-    append_names(request, out)
-}
-
-/// Appends the fields of a request.
-fn append_names(request: &RequestMeta, out: &mut Vec<u8>) -> Result<(), NoMemory>
-    ensures written { Appends out.old.items (request_bytes (request_of request.now)) result out.new.items }
-    ensures fits { OnOk result (RequestFits (Some (request_of request.now))) }
-{
-    append_bytes(1, request.service.as_slice(), out)?;
-    append_bytes(2, request.method.as_slice(), out)?;
-    if let Some(log_id) = request.log_id {
-        append_number(3, log_id, out)?;
-    }
-    Ok(())
-}
-
-/// Appends the response where there is one, in the same way.
-fn append_response(response: &Option<ResponseMeta>, out: &mut Vec<u8>) -> Result<(), NoMemory>
-    ensures written { Appends out.old.items (where_some (λ r. bytes_field 2 (response_bytes r)) (option_map response_of response.now)) result out.new.items }
-    ensures fits { OnOk result (ResponseFits (option_map response_of response.now)) }
-{
-    let Some(response) = response else {
-        return Ok(());
-    };
-    let Some(size) = response_size(response) else {
-        return Err(NoMemory);
-    };
-    append_head(2, size, out)?;
-    append_outcome(response, out)
-}
-
-/// Appends the fields of a response.
-fn append_outcome(response: &ResponseMeta, out: &mut Vec<u8>) -> Result<(), NoMemory>
-    ensures written { Appends out.old.items (response_bytes (response_of response.now)) result out.new.items }
-    ensures fits { OnOk result (ResponseFits (Some (response_of response.now))) }
-{
-    append_number(1, spelled(response.code), out)?;
-    append_text(2, response.text.as_slice(), out)
+    append_head(number, size, out)?;
+    part.append_fields(out)
 }
 
 /// Appends an int32 where it isn't 0.
@@ -166,7 +130,7 @@ fn append_int(number: u8, value: i32, out: &mut Vec<u8>) -> Result<(), NoMemory>
 }
 
 /// Appends a varint under a number.
-fn append_number(number: u8, value: u64, out: &mut Vec<u8>) -> Result<(), NoMemory>
+pub(crate) fn append_number(number: u8, value: u64, out: &mut Vec<u8>) -> Result<(), NoMemory>
     ensures { Appends out.old.items (number_field number value) result out.new.items }
 {
     write_varint(out, u64::from(number) * 8)?;
@@ -174,7 +138,7 @@ fn append_number(number: u8, value: u64, out: &mut Vec<u8>) -> Result<(), NoMemo
 }
 
 /// Appends bytes under a number, where there are any.
-fn append_text(number: u8, bytes: &[u8], out: &mut Vec<u8>) -> Result<(), NoMemory>
+pub(crate) fn append_text(number: u8, bytes: &[u8], out: &mut Vec<u8>) -> Result<(), NoMemory>
     ensures { Appends out.old.items (where_not_empty number bytes.now) result out.new.items }
 {
     if bytes.is_empty() {
@@ -184,7 +148,7 @@ fn append_text(number: u8, bytes: &[u8], out: &mut Vec<u8>) -> Result<(), NoMemo
 }
 
 /// Appends bytes under a number.
-fn append_bytes(number: u8, bytes: &[u8], out: &mut Vec<u8>) -> Result<(), NoMemory>
+pub(crate) fn append_bytes(number: u8, bytes: &[u8], out: &mut Vec<u8>) -> Result<(), NoMemory>
     ensures { Appends out.old.items (bytes_field number bytes.now) result out.new.items }
 {
     append_head(number, bytes.len(), out)?;
@@ -200,68 +164,25 @@ fn append_head(number: u8, size: usize, out: &mut Vec<u8>) -> Result<(), NoMemor
     write_varint(out, size as u64)
 }
 
-/// How many bytes the request's fields have where there is one, where that fits.
-fn asked_size(request: &Option<RequestMeta>) -> Option<usize>
-    ensures { IfSome result (IsRequestSize (option_map request_of request.now)) }
+/// How many bytes the fields of a part have where there is one, where that fits.
+fn part_size<P: Part>(part: &Option<P>) -> Option<usize>
+    ensures { IfSome result (IsSizeOf P.bytes (option_map P.said part.now)) }
 {
-    match request {
-        Some(request) => request_size(request),
+    match part {
+        Some(part) => part.fields_size(),
         None => Some(0),
     }
 }
 
-/// How many bytes the response's fields have where there is one, where that fits.
-fn answered_size(response: &Option<ResponseMeta>) -> Option<usize>
-    ensures { IfSome result (IsResponseSize (option_map response_of response.now)) }
+/// How many bytes a part has where there is one, with what stands before its fields, where that fits.
+fn whole_part<P: Part>(number: u8, part: &Option<P>, size: usize) -> Option<usize>
+    requires { IsSizeOf P.bytes (option_map P.said part.now) size }
+    ensures { IfSome result (λ n. n ≡ length (part_field number P.bytes (option_map P.said part.now))) }
 {
-    match response {
-        Some(response) => response_size(response),
+    match part {
+        Some(_) => bytes_size(number, size),
         None => Some(0),
     }
-}
-
-/// How many bytes the request has where there is one, with what stands before its fields, where that fits.
-fn whole_request(request: &Option<RequestMeta>, size: usize) -> Option<usize>
-    requires { IsRequestSize (option_map request_of request.now) size }
-    ensures { IfSome result (λ n. n ≡ length (where_some (λ r. bytes_field 1 (request_bytes r)) (option_map request_of request.now))) }
-{
-    match request {
-        Some(_) => bytes_size(1, size),
-        None => Some(0),
-    }
-}
-
-/// How many bytes the response has where there is one, with what stands before its fields, where that fits.
-fn whole_response(response: &Option<ResponseMeta>, size: usize) -> Option<usize>
-    requires { IsResponseSize (option_map response_of response.now) size }
-    ensures { IfSome result (λ n. n ≡ length (where_some (λ r. bytes_field 2 (response_bytes r)) (option_map response_of response.now))) }
-{
-    match response {
-        Some(_) => bytes_size(2, size),
-        None => Some(0),
-    }
-}
-
-/// How many bytes the fields of a request have, where that fits.
-fn request_size(request: &RequestMeta) -> Option<usize>
-    ensures { IfSome result (λ n. n ≡ length (request_bytes (request_of request.now))) }
-{
-    let service = bytes_size(1, request.service.as_slice().len())?;
-    let method = bytes_size(2, request.method.as_slice().len())?;
-    let log_id = match request.log_id {
-        Some(log_id) => number_size(3, log_id),
-        None => 0,
-    };
-    service.checked_add(method)?.checked_add(log_id)
-}
-
-/// How many bytes the fields of a response have, where that fits.
-fn response_size(response: &ResponseMeta) -> Option<usize>
-    ensures { IfSome result (λ n. n ≡ length (response_bytes (response_of response.now))) }
-{
-    let code = number_size(1, spelled(response.code));
-    let text = text_size(2, response.text.as_slice())?;
-    code.checked_add(text)
 }
 
 /// How many bytes an int32 has, which isn't written where it is 0.
@@ -276,7 +197,7 @@ fn int_size(number: u8, value: i32) -> usize
 }
 
 /// How many bytes a varint under a number has.
-fn number_size(number: u8, value: u64) -> usize
+pub(crate) fn number_size(number: u8, value: u64) -> usize
     ensures size { result ≡ length (number_field number value) }
     ensures at_most { result ≤ 20 }
 {
@@ -284,7 +205,7 @@ fn number_size(number: u8, value: u64) -> usize
 }
 
 /// How many bytes these have under a number, where there are any and that fits.
-fn text_size(number: u8, bytes: &[u8]) -> Option<usize>
+pub(crate) fn text_size(number: u8, bytes: &[u8]) -> Option<usize>
     ensures { IfSome result (λ n. n ≡ length (where_not_empty number bytes.now)) }
 {
     if bytes.is_empty() {
@@ -294,7 +215,7 @@ fn text_size(number: u8, bytes: &[u8]) -> Option<usize>
 }
 
 /// How many bytes so many bytes under a number have, where that fits.
-fn bytes_size(number: u8, len: usize) -> Option<usize>
+pub(crate) fn bytes_size(number: u8, len: usize) -> Option<usize>
     ensures { IfSome result (λ n. n ≡ length (varint_bytes (number * 8 + 2) ++ varint_bytes len) + len) }
 {
     let head = varint_size(u64::from(number) * 8 + 2) + varint_size(len as u64);

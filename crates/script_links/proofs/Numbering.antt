@@ -33,7 +33,7 @@ all_more n (x ∷ xs) e h i = (let a = h.0 in omega arith, all_more n xs e h.1 i
 
 -- a link that was opened just now is untouched
 pub untouched : (out : OutState) (inn : InState) (number n : ℕ) → IsFresh out inn number → number ≡ n → IsUntouched n (end_of out inn)
-untouched out inn number n f e = record { link = f.link ∙ e; took = f.took; put_faults = f.put_faults; gave = f.gave_bytes; gave_count = f.gave; take_faults = f.take_faults; gave_end = f.gave_end; closed = f.closed; answers = f.answers; takes = f.takes }
+untouched out inn number n f e = let u = f.unused in record { link = f.link ∙ e; took = u.took; put_faults = u.put_faults; gave = u.gave_bytes; gave_count = u.gave; take_faults = u.take_faults; gave_end = u.gave_end; closed = f.closed; answers = u.answers; takes = u.takes }
 
 pub map_more : {A B : Type 0} (f : A → B) (xs : List A) (x : A) → map f (xs ++ x ∷ []) ≡ map f xs ++ f x ∷ []
 map_more f [] x = refl

@@ -31,16 +31,16 @@ new_offered out inn number spec fresh new took gave offers =
       inn = inn;
       inn_at = refl;
       took = [];
-      took_is = told_none out.took took fresh.took;
+      took_is = told_none out.took took fresh.unused.took;
       tells = record {
         gave = [];
-        gave_is = told_none inn.gave_bytes gave fresh.gave_bytes;
+        gave_is = told_none inn.gave_bytes gave fresh.unused.gave_bytes;
         offer = o.0;
         offer_is = o.1;
         serves = is.serve;
         ends = is.end;
       };
-      served = subst (λ (finished : Bool). IsServed [] finished [] o.0) (sym fresh.finished) is.served;
+      served = subst (λ (finished : Bool). IsServed [] finished [] o.0) (sym fresh.unused.finished) is.served;
     }
 
 -- the same halves, elsewhere in other lists

@@ -1,12 +1,7 @@
--- The adapters over std's readers and writers, by what callers see of them.
-use Rattle.std.specs.Prelude.{ℕ, List, Option}
+-- The adapter over std's readers and writers, by what callers see of it.
+use Rattle.std.specs.Prelude.{ℕ}
 
--- what the reader will give, where it tells, and the count of faults
-pub record ReaderState : Type 0 where
-  pub left : Option (List ℕ)
-  pub faults : ℕ
-
--- what the writer took, where it tells, and the count of faults
-pub record WriterState : Type 0 where
-  pub contents : Option (List ℕ)
+-- the reader or writer, and the count of faults
+pub record EdgeState (T : Type 0) : Type 0 where
+  pub inner : T
   pub faults : ℕ

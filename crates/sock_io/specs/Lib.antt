@@ -8,4 +8,5 @@ pub mod Meeting
 pub mod Memory
 pub mod Peer
 pub mod Shape
+pub mod Told
 pub mod Writing

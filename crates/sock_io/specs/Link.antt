@@ -260,17 +260,9 @@ pub record IsUnused (out : OutState) (inn : InState) : Type 0 where
 -- a link that was opened just now: it has this number, it took, gave and answered nothing, it wasn't found closed, and its other end didn't close its half
 pub record IsFresh (out : OutState) (inn : InState) (number : ℕ) : Type 0 where
   pub link : out.link ≡ number
-  pub took : IfSome out.took (λ bytes. bytes ≡ [])
-  pub answers : IfSome out.answers (λ answers. answers ≡ [])
-  pub put_faults : out.faults ≡ 0
-  pub finished : out.finished ≡ false
-  pub gave : inn.gave ≡ 0
-  pub gave_bytes : IfSome inn.gave_bytes (λ bytes. bytes ≡ [])
-  pub gave_end : inn.gave_end ≡ false
+  pub unused : IsUnused out inn
   pub closed : IfSome inn.closed (λ closed. closed ≡ false)
-  pub takes : IfSome inn.takes (λ takes. takes ≡ [])
   pub closing : IfSome inn.closing (λ closing. closing ≡ false)
-  pub take_faults : inn.faults ≡ 0
 
 -- the link that these halves are, as it is given back
 abbrev pub end_of : OutState → InState → LinkEnd

@@ -36,11 +36,15 @@ pub record MemInState : Type 0 where
 abbrev pub empty_in : Ending → MemInState
 empty_in ending = record { given = []; waiting = []; ending = ending; gave_end = false; closed = false; takes = [] }
 
+-- the other end may still give
+abbrev pub is_open : Ending → Bool
+is_open ending.Open = true
+is_open other = false
+
 -- the other end closed its half
 abbrev pub is_closing : Ending → Bool
-is_closing ending.Open = false
-is_closing ending.Ended = false
 is_closing ending.Closed = true
+is_closing other = false
 
 -- such a half as a reading half, which never fails
 abbrev pub mem_in : MemInState → InState

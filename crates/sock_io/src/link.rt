@@ -1,10 +1,11 @@
 ghost use Rattle.std.specs.Prelude.{◌≡◌, ◌≢◌, ℕ, ◌+◌, ◌<◌, ◌≤◌, ◌∷◌, ◌++◌, [], Bool, true, false, List, length, IfOk, IfSome, IsErrOf, OnErr, OnOk, IsTrue, None};
 ghost use Rattle.std.specs.List.{AllByRecursion};
 ghost use Rattle.brpc_model.specs.Link.{LinkEnd};
-ghost use Rattle.sock_io.specs.Causes.{Rose};
+ghost use Rattle.sock_io.specs.Causes.{OpenCause};
 ghost use Rattle.sock_io.specs.Link.{OutState, InState, PutStep, ReadyStep, FinishStep, TakeStep, SettleStep, IsSettled, IsNewOffer, IsFresh, IsUnused, ConnectionEnd, LinkerState, MayOpen, end_of, connection_of};
 ghost use Rattle.sock_io.specs.Meeting.{AreEnds, IsAskedPeer, MeetOut, MeetStep};
 ghost use Rattle.sock_io.specs.Peer.{PeerState, ServeStep, IsNewPeer};
+ghost use Rattle.sock_io.specs.Told.{SaysAsBefore};
 
 use crate::stream::NoMemory;
 use std::sync::Wait;
@@ -232,9 +233,7 @@ pub trait Linker: LinkerTold {
         ensures back { Self.back self.new ≡ Self.back self.old }
         ensures done { Self.done self.new ≡ Self.done self.old }
         ensures stays_prompt { Self.always_ready self.new ≡ Self.always_ready self.old }
-        ensures later { Self.faults self.old ≤ Self.faults self.new }
-        ensures failed { IsErrOf result OpenFault.Failed → Rose (Self.faults self.old) (Self.faults self.new) }
-        ensures kept { (¬ IsErrOf result OpenFault.Failed) → Self.faults self.new ≡ Self.faults self.old };
+        ensures cause { OpenCause (Self.faults self.old) (Self.faults self.new) result };
 
     /// Has a link's other end in memory answer what the link took since the last call, and close its half once the
     /// link was finished. Behind it the link is offered what belongs to all that it took. Other kinds of link do nothing
@@ -245,12 +244,7 @@ pub trait Linker: LinkerTold {
         ensures inn { SettleStep (Self.O.state ends.old.out) (Self.I.state ends.old.inn) (Self.I.state ends.new.inn) }
         ensures settled { OnOk result (IsSettled (Self.O.state ends.old.out) (Self.I.state ends.old.inn) (Self.I.state ends.new.inn)) }
         ensures err { OnErr result ((self.new ≡ self.old) × (ends.new ≡ ends.old)) }
-        ensures asked { Self.asked self.new ≡ Self.asked self.old }
-        ensures accepted { Self.accepted self.new ≡ Self.accepted self.old }
-        ensures back { Self.back self.new ≡ Self.back self.old }
-        ensures done { Self.done self.new ≡ Self.done self.old }
-        ensures stays_prompt { Self.always_ready self.new ≡ Self.always_ready self.old }
-        ensures faults { Self.faults self.new ≡ Self.faults self.old };
+        ensures says { SaysAsBefore Self.asked Self.accepted Self.back Self.done Self.faults Self.always_ready self.old self.new };
 
     /// Compares the ends of a link, once nobody else moves them: what its other end offers may become known by that.
     /// Besides that, what is told of the halves stays as it is. Most kinds of link do
@@ -260,12 +254,7 @@ pub trait Linker: LinkerTold {
         ensures out { MeetOut (Self.O.state ends.old.out) (Self.O.state ends.new.out) }
         ensures peer { Self.P.state ends.new.peer ≡ Self.P.state ends.old.peer }
         ensures inn { MeetStep (Self.O.state ends.old.out) (Self.P.state ends.old.peer) (Self.I.state ends.old.inn) (Self.I.state ends.new.inn) }
-        ensures asked { Self.asked self.new ≡ Self.asked self.old }
-        ensures accepted { Self.accepted self.new ≡ Self.accepted self.old }
-        ensures back { Self.back self.new ≡ Self.back self.old }
-        ensures done { Self.done self.new ≡ Self.done self.old }
-        ensures stays_prompt { Self.always_ready self.new ≡ Self.always_ready self.old }
-        ensures faults { Self.faults self.new ≡ Self.faults self.old };
+        ensures says { SaysAsBefore Self.asked Self.accepted Self.back Self.done Self.faults Self.always_ready self.old self.new };
 
     /// Accepts the next connection, and reserves the room for its `done`. The first call listens on 127.0.0.1 at the
     /// port.
@@ -278,9 +267,7 @@ pub trait Linker: LinkerTold {
         ensures back { Self.back self.new ≡ Self.back self.old }
         ensures done { Self.done self.new ≡ Self.done self.old }
         ensures stays_prompt { Self.always_ready self.new ≡ Self.always_ready self.old }
-        ensures later { Self.faults self.old ≤ Self.faults self.new }
-        ensures failed { IsErrOf result OpenFault.Failed → Rose (Self.faults self.old) (Self.faults self.new) }
-        ensures kept { (¬ IsErrOf result OpenFault.Failed) → Self.faults self.new ≡ Self.faults self.old };
+        ensures cause { OpenCause (Self.faults self.old) (Self.faults self.new) result };
 
     /// Takes a connection back.
     fn done(&mut self, out: Self::O, inn: Self::I)

@@ -1,6 +1,6 @@
 ghost use Rattle.std.specs.Prelude.{◌≡◌, ℕ, ◌<◌, ◌++◌, ◌∷◌, [], Some, Ok, None, false, true, OnErr, OnOk, drop, length, take};
 ghost use Rattle.sock_io.specs.Link.{TakeStep, of_take};
-ghost use Rattle.sock_io.specs.Memory.{TakesWaiting, mem_in, empty_in, take_answer, closing};
+ghost use Rattle.sock_io.specs.Memory.{TakesWaiting, mem_in, empty_in, take_answer, closing, is_open};
 ghost use Rattle.sock_io.specs.Peer.{no_peer};
 
 use crate::ending::Ending;
@@ -95,6 +95,16 @@ impl MemIn {
             gave_end: false,
             closed: false,
             takes: Ghosts::of(&0u8),
+        }
+    }
+
+    /// Whether the other end may still give.
+    pub fn is_open(&self) -> bool
+        ensures { result ≡ is_open self.now.ending }
+    {
+        match self.ending {
+            Ending::Open => true,
+            Ending::Ended | Ending::Closed => false,
         }
     }
 

@@ -3,6 +3,7 @@ ghost use Rattle.std.specs.Io.KnownBytes.{WriteAppends};
 ghost use Rattle.sock_io.specs.Causes.{HasCause, next_number};
 
 use crate::counts::{is_listed, next_call, risen};
+use crate::room::with_room;
 use crate::stream::{Failed, NoMemory, Sink};
 use std::alloc::Global;
 use std::marker::Model;
@@ -34,16 +35,14 @@ impl MemSink {
     pub fn new(alloc: Global, room: usize, fail: Vec<u64>) -> Result<Self, NoMemory>
         ensures { IfOk result (λ sink. sink ≡ record { contents = []; room = room; fail = fail.items; calls = 0; faults = 0 }) }
     {
-        match Vec::with_capacity(alloc, room) {
-            Ok(bytes) => Ok(MemSink {
-                bytes,
-                room,
-                fail,
-                calls: 0,
-                faults: 0,
-            }),
-            Err(_) => Err(NoMemory),
-        }
+        let bytes = with_room(alloc, room)?;
+        Ok(MemSink {
+            bytes,
+            room,
+            fail,
+            calls: 0,
+            faults: 0,
+        })
     }
 
     /// What it took.

@@ -9,6 +9,7 @@ use crate::answered::Answered;
 use crate::counts::{next_call, risen};
 use crate::link::{Out, Put, Ready};
 use crate::noted_links::noted;
+use crate::room::with_room;
 use crate::shape::{Shape, does_fail, does_pause};
 use crate::stream::NoMemory;
 use ghosts::Ghosts;
@@ -60,19 +61,17 @@ impl<O: Out> Shaped<O> {
         requires fresh { IfSome (O.state inner).put_bytes (λ bytes. bytes ≡ []) }
         ensures { IfOk result (λ s. s ≡ record { inner = O.state inner; shape = shape; puts = 0; paused = false; taken = []; faults = 0; answers = [] }) }
     {
-        match Vec::with_capacity(alloc, TAKEN_ROOM) {
-            Ok(taken) => Ok(Shaped {
-                inner,
-                taken,
-                shape,
-                puts: 0,
-                paused: false,
-                faults: 0,
-                finished: false,
-                answers: Ghosts::of(&0u8),
-            }),
-            Err(_) => Err(NoMemory),
-        }
+        let taken = with_room(alloc, TAKEN_ROOM)?;
+        Ok(Shaped {
+            inner,
+            taken,
+            shape,
+            puts: 0,
+            paused: false,
+            faults: 0,
+            finished: false,
+            answers: Ghosts::of(&0u8),
+        })
     }
 
     /// Whether it was finished.

@@ -1,40 +1,40 @@
-ghost use Rattle.std.specs.Prelude.{◌≡◌, ℕ};
+ghost use Rattle.std.specs.Prelude.{◌≡◌};
 
 use crate::counts::risen;
 use crate::stream::{Failed, Sink, Source};
 use std::io::{Read, Write};
 use std::marker::Model;
 
-/// A source over any reader. Each `Err` of the reader is a fault.
+/// A reader of std as a source, or a writer as a sink. Each `Err` of it is a fault, and so is a write that takes nothing.
 #[derive(Drop)]
-pub struct StdSource<R: Read + Drop> {
-    reader: R,
+pub struct StdEdge<T: Drop> {
+    inner: T,
     faults: u64,
 }
 
-impl<R: Read + Drop> Model for StdSource<R> {
-    ghost use Rattle.sock_io.specs.Edge.{ReaderState};
+impl<T: Drop> Model for StdEdge<T> {
+    ghost use Rattle.sock_io.specs.Edge.{EdgeState};
 
-    ghost Value = { ReaderState };
+    ghost Value = { EdgeState T };
 
-    ghost view = { λ s. record { left = R.remaining s.reader; faults = s.faults } };
+    ghost view = { λ e. record { inner = e.inner; faults = e.faults } };
 }
 
-impl<R: Read + Drop> StdSource<R> {
-    pub fn new(reader: R) -> Self
-        ensures { result ≡ record { left = R.remaining reader; faults = 0 } }
+impl<T: Drop> StdEdge<T> {
+    pub fn new(inner: T) -> Self
+        ensures { result ≡ record { inner = inner; faults = 0 } }
     {
-        StdSource { reader, faults: 0 }
+        StdEdge { inner, faults: 0 }
     }
 }
 
-impl<R: Read + Drop> Source for StdSource<R> {
-    ghost left = { λ s. s.left };
+impl<R: Read + Drop> Source for StdEdge<R> {
+    ghost left = { λ e. R.remaining e.inner };
 
-    ghost faults = { λ s. s.faults };
+    ghost faults = { λ e. e.faults };
 
     fn read(&mut self, room: &mut [u8]) -> Result<usize, Failed> {
-        match self.reader.read(room) {
+        match self.inner.read(room) {
             Ok(count) => Ok(count),
             Err(_) => {
                 self.faults = risen(self.faults);
@@ -44,36 +44,13 @@ impl<R: Read + Drop> Source for StdSource<R> {
     }
 }
 
-/// A sink over any writer. Each `Err` of the writer is a fault, and so is a write that takes nothing.
-#[derive(Drop)]
-pub struct StdSink<W: Write + Drop> {
-    writer: W,
-    faults: u64,
-}
+impl<W: Write + Drop> Sink for StdEdge<W> {
+    ghost contents = { λ e. W.contents e.inner };
 
-impl<W: Write + Drop> Model for StdSink<W> {
-    ghost use Rattle.sock_io.specs.Edge.{WriterState};
-
-    ghost Value = { WriterState };
-
-    ghost view = { λ s. record { contents = W.contents s.writer; faults = s.faults } };
-}
-
-impl<W: Write + Drop> StdSink<W> {
-    pub fn new(writer: W) -> Self
-        ensures { result ≡ record { contents = W.contents writer; faults = 0 } }
-    {
-        StdSink { writer, faults: 0 }
-    }
-}
-
-impl<W: Write + Drop> Sink for StdSink<W> {
-    ghost contents = { λ s. s.contents };
-
-    ghost faults = { λ s. s.faults };
+    ghost faults = { λ e. e.faults };
 
     fn write(&mut self, piece: &[u8]) -> Result<usize, Failed> {
-        match self.writer.write(piece) {
+        match self.inner.write(piece) {
             Ok(count) if count > 0 => Ok(count),
             _ => {
                 self.faults = risen(self.faults);

@@ -1,5 +1,5 @@
 -- A call as it is asked for, and the frame of each of its attempts.
-use Rattle.std.specs.Prelude.{ℕ, ◌+◌, ◌-◌, ◌%◌, ◌==◌, if◌then◌else◌, List, [], ◌∷◌, length, slice_index, pos, Some, None}
+use Rattle.std.specs.Prelude.{ℕ, ◌+◌, ◌-◌, ◌%◌, ◌==◌, if◌then◌else◌, List, [], ◌∷◌, length, slice_index, pos, Option, Some, None}
 use Rattle.brpc_model.specs.Meta.{Meta}
 use Rattle.brpc_model.specs.Frame.{Frame, frame_bytes}
 
@@ -12,6 +12,14 @@ pub record Asked : Type 0 where
   pub payload : List ℕ
   pub attachment : List ℕ
   pub range : ℕ
+
+-- without a call in hand nothing is asked
+abbrev pub nothing_asked : Asked
+nothing_asked = record { operation = 0; names = []; service = []; method = []; payload = []; attachment = []; range = 0 }
+
+abbrev pub asked_of : Option Asked → Asked
+asked_of None = nothing_asked
+asked_of (Some asked) = asked
 
 -- the number of the name to which an attempt goes
 abbrev pub name_of : Asked → ℕ → ℕ

@@ -67,15 +67,12 @@ impl Call {
         requires { KeepsLimits (record { operation = operation; names = names.items; service = service.now; method = method.now; payload = payload.now; attachment = attachment.now; range = range }) }
         ensures { IfOk result (λ c. c ≡ record { operation = operation; names = names.items; service = service.now; method = method.now; payload = payload.now; attachment = attachment.now; range = range }) }
     {
-        let service = Vec::from_slice(alloc, service)?;
-        let method = Vec::from_slice(alloc, method)?;
-        let (payload, attachment) = both_in_blocks(alloc, pool, payload, attachment)?;
         let body = Body {
             names,
-            service,
-            method,
-            payload,
-            attachment,
+            service: Vec::from_slice(alloc, service)?,
+            method: Vec::from_slice(alloc, method)?,
+            payload: in_blocks(alloc, pool, payload)?,
+            attachment: in_blocks(alloc, pool, attachment)?,
         };
         Ok(Call {
             operation,
@@ -89,16 +86,12 @@ impl Call {
         ensures { IfOk result (λ c. c ≡ self.now) }
     {
         let alloc = *self.body.names.allocator();
-        let names = Vec::from_slice(alloc, &self.body.names)?;
-        let service = Vec::from_slice(alloc, &self.body.service)?;
-        let method = Vec::from_slice(alloc, &self.body.method)?;
-        let (payload, attachment) = share_both(&self.body.payload, &self.body.attachment)?;
         let body = Body {
-            names,
-            service,
-            method,
-            payload,
-            attachment,
+            names: Vec::from_slice(alloc, &self.body.names)?,
+            service: Vec::from_slice(alloc, &self.body.service)?,
+            method: Vec::from_slice(alloc, &self.body.method)?,
+            payload: self.body.payload.share()?,
+            attachment: self.body.attachment.share()?,
         };
         Ok(Call {
             operation: self.operation,
@@ -152,7 +145,11 @@ impl Call {
 }
 
 // A buffer of these bytes, in blocks from its start.
-fn in_blocks(alloc: Global, pool: &mut BlockPool, bytes: &[u8]) -> Result<IoBuf, NoMemory>
+pub(crate) fn in_blocks(
+    alloc: Global,
+    pool: &mut BlockPool,
+    bytes: &[u8],
+) -> Result<IoBuf, NoMemory>
     ensures bytes { IfOk result (λ b. b.items ≡ bytes.now) }
     ensures blocks { IfOk result LiesInBlocks }
 {
@@ -161,41 +158,6 @@ fn in_blocks(alloc: Global, pool: &mut BlockPool, bytes: &[u8]) -> Result<IoBuf,
         Ok(()) => Ok(buf),
         Err(fault) => {
             drop(buf);
-            Err(fault)
-        }
-    }
-}
-
-// Two such buffers, of a payload and of an attachment.
-fn both_in_blocks(
-    alloc: Global,
-    pool: &mut BlockPool,
-    payload: &[u8],
-    attachment: &[u8],
-) -> Result<(IoBuf, IoBuf), NoMemory>
-    ensures bytes { IfOk result (λ b. (b.0.items ≡ payload.now) × (b.1.items ≡ attachment.now)) }
-    ensures blocks { IfOk result (λ b. LiesInBlocks b.0 × LiesInBlocks b.1) }
-{
-    let first = in_blocks(alloc, pool, payload)?;
-    match in_blocks(alloc, pool, attachment) {
-        Ok(second) => Ok((first, second)),
-        Err(fault) => {
-            drop(first);
-            Err(fault)
-        }
-    }
-}
-
-// Buffers equal to these two, over the same blocks.
-fn share_both(payload: &IoBuf, attachment: &IoBuf) -> Result<(IoBuf, IoBuf), NoMemory>
-    ensures bytes { IfOk result (λ b. (b.0.items ≡ payload.now.items) × (b.1.items ≡ attachment.now.items)) }
-    ensures sizes { IfOk result (λ b. (b.0.sizes ≡ payload.now.sizes) × (b.1.sizes ≡ attachment.now.sizes)) }
-{
-    let first = payload.share()?;
-    match attachment.share() {
-        Ok(second) => Ok((first, second)),
-        Err(fault) => {
-            drop(first);
             Err(fault)
         }
     }

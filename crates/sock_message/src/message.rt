@@ -1,5 +1,6 @@
 ghost use Rattle.std.specs.Prelude.{◌≡◌, length, IfOk};
 
+use crate::call::in_blocks;
 use crate::outgoing::Outgoing;
 use io_buf::{BlockPool, IoBuf, NoMemory};
 use std::alloc::Global;
@@ -28,14 +29,8 @@ impl Message {
     pub fn new(alloc: Global, pool: &mut BlockPool, bytes: &[u8]) -> Result<Message, NoMemory>
         ensures { IfOk result (λ m. m ≡ bytes.now) }
     {
-        let mut buf = IoBuf::new(alloc);
-        match buf.append_bytes(pool, bytes) {
-            Ok(()) => Ok(Message { buf }),
-            Err(fault) => {
-                drop(buf);
-                Err(fault)
-            }
-        }
+        let buf = in_blocks(alloc, pool, bytes)?;
+        Ok(Message { buf })
     }
 
     /// How many bytes it has.

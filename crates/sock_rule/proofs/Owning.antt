@@ -37,12 +37,12 @@ module _ {S : Type 0} (shows : S → Home) (rose : S → ℕ) (q p : Plan) (slot
       (subst (λ (z : Plan). Allows (OnTable shows rose z) slots id me (ref_index i) (λ n. n) (clean_told (step slots (ref_index i) 0 0 none) me)) (sym key) (looks_clean shows rose p slots id me mine some_ m.right m.one i m.life m.holds))
 
   pub places_on : (l k n word value : ℕ) → word ≡ place_index p l → value ≡ place_value false k n → MayStorePlace p l k n me.0 → Allows (OnTable shows rose q) slots id me word (λ _. value) (λ _. place_told (step slots word value 0 none) me value)
-  places_on l k n word value e v m = let r = m.right in
-      let same_word : place_index p m.right.heading.place ≡ word = ap (place_index p) m.place_is ∙ sym e in let same_value : place_value false m.right.link m.right.places ≡ value = (λ i. place_value false (m.link_is i) (m.places_are i)) ∙ sym v in
+  places_on l k n word value e v m = let t = m.placing in
+      let same_word : place_index p t.right.heading.place ≡ word = ap (place_index p) t.place_is ∙ sym e in let same_value : place_value false t.right.link t.right.places ≡ value = (λ i. place_value false (t.link_is i) (t.places_are i)) ∙ sym v in
       subst (λ (y : ℕ). Allows (OnTable shows rose q) slots id me word (λ _. y) (λ _. place_told (step slots word y 0 none) me y)) same_value
-      (subst (λ (x : ℕ). Allows (OnTable shows rose q) slots id me x (λ _. place_value false m.right.link m.right.places) (λ _. place_told (step slots x (place_value false m.right.link m.right.places) 0 none) me (place_value false m.right.link m.right.places))) same_word
-      (subst (λ (z : Plan). Allows (OnTable shows rose z) slots id me (place_index p m.right.heading.place) (λ _. place_value false m.right.link m.right.places) (λ _. place_told (step slots (place_index p m.right.heading.place) (place_value false m.right.link m.right.places) 0 none) me (place_value false m.right.link m.right.places))) (sym key)
-      (places shows rose p slots id me mine some_ m.right m.one m.now m.stage m.taken m.clean m.away (subst (λ (x : ℕ). x < 8 * p.operations) (sym m.place_is) m.place_in) (subst (λ (x : ℕ). x < 65536) (sym m.link_is) m.link_fits))))
+      (subst (λ (x : ℕ). Allows (OnTable shows rose q) slots id me x (λ _. place_value false t.right.link t.right.places) (λ _. place_told (step slots x (place_value false t.right.link t.right.places) 0 none) me (place_value false t.right.link t.right.places))) same_word
+      (subst (λ (z : Plan). Allows (OnTable shows rose z) slots id me (place_index p t.right.heading.place) (λ _. place_value false t.right.link t.right.places) (λ _. place_told (step slots (place_index p t.right.heading.place) (place_value false t.right.link t.right.places) 0 none) me (place_value false t.right.link t.right.places))) (sym key)
+      (places shows rose p slots id me mine some_ t.right t.one t.now t.stage t.taken m.clean t.away (subst (λ (x : ℕ). x < 8 * p.operations) (sym t.place_is) t.place_in) (subst (λ (x : ℕ). x < 65536) (sym t.link_is) m.link_fits))))
 
   pub frees_on : (now word value : ℕ) → word ≡ request_index p (slot_of now) → value ≡ 2 * (generation_of now + 1) → generation_of now < 140737488355327 → MayFreeRequest now me → Allows (OnTable shows rose q) slots id me word (λ _. value) (λ _. free_request_told (step slots word value 0 none) me value)
   frees_on now word value e v small m = subst (λ (y : ℕ). Allows (OnTable shows rose q) slots id me word (λ _. y) (λ _. free_request_told (step slots word y 0 none) me y)) (sym v)
@@ -55,12 +55,12 @@ module _ {S : Type 0} (shows : S → Home) (rose : S → ℕ) (q p : Plan) (slot
       (retires shows rose p slots id me mine some_ m.right m.one word now m.next m.value (rest me.1) (leads_by m.right.last now m.right.stage m.next m.follows) last_one m.home)
 
   pub drops_on : (l k n word value : ℕ) (y : ℕ × S) → word ≡ place_index p l → value ≡ place_value true k n → MayDropPlace p l k n (took_in (shows y.1)) me.0 → me.1 ≡ y ∷ rest me.1 → Allows (OnTable shows rose q) slots id me word (λ _. value) (λ _. drop_told shows (step slots word value 0 none) me value)
-  drops_on l k n word value y e v m top = let r = m.right in
-      let same_word : place_index p m.right.heading.place ≡ word = ap (place_index p) m.place_is ∙ sym e in let same_value : place_value true m.right.link m.right.places ≡ value = (λ i. place_value true (m.link_is i) (m.places_are i)) ∙ sym v in
+  drops_on l k n word value y e v m top = let t = m.placing in
+      let same_word : place_index p t.right.heading.place ≡ word = ap (place_index p) t.place_is ∙ sym e in let same_value : place_value true t.right.link t.right.places ≡ value = (λ i. place_value true (t.link_is i) (t.places_are i)) ∙ sym v in
       subst (λ (x : ℕ). Allows (OnTable shows rose q) slots id me word (λ _. x) (λ _. drop_told shows (step slots word x 0 none) me x)) same_value
-      (subst (λ (x : ℕ). Allows (OnTable shows rose q) slots id me x (λ _. place_value true m.right.link m.right.places) (λ _. drop_told shows (step slots x (place_value true m.right.link m.right.places) 0 none) me (place_value true m.right.link m.right.places))) same_word
-      (subst (λ (z : Plan). Allows (OnTable shows rose z) slots id me (place_index p m.right.heading.place) (λ _. place_value true m.right.link m.right.places) (λ _. drop_told shows (step slots (place_index p m.right.heading.place) (place_value true m.right.link m.right.places) 0 none) me (place_value true m.right.link m.right.places))) (sym key)
-      (drops shows rose p slots id me mine some_ m.right m.one m.now m.slot m.life y m.stage m.taken m.away (subst (λ (x : ℕ). x < 8 * p.operations) (sym m.place_is) m.place_in) m.part top m.holds m.seen)))
+      (subst (λ (x : ℕ). Allows (OnTable shows rose q) slots id me x (λ _. place_value true t.right.link t.right.places) (λ _. drop_told shows (step slots x (place_value true t.right.link t.right.places) 0 none) me (place_value true t.right.link t.right.places))) same_word
+      (subst (λ (z : Plan). Allows (OnTable shows rose z) slots id me (place_index p t.right.heading.place) (λ _. place_value true t.right.link t.right.places) (λ _. drop_told shows (step slots (place_index p t.right.heading.place) (place_value true t.right.link t.right.places) 0 none) me (place_value true t.right.link t.right.places))) (sym key)
+      (drops shows rose p slots id me mine some_ t.right t.one t.now m.slot m.life y t.stage t.taken t.away (subst (λ (x : ℕ). x < 8 * p.operations) (sym t.place_is) t.place_in) m.part top m.holds m.seen)))
 
   pub puts_on : (r : Right) (word k : ℕ) (y : S) (below : List (ℕ × S)) → me.0.rights ≡ r ∷ [] → r.link ≡ k → me.1 ≡ (p.requests + k, y) ∷ below → shows y ≡ home.Link k r.sent r.places false → r.at_home ≡ false → (0 < faults_of k me.0 → 0 < rose y) → Allows (OnTable shows rose q) slots id me word (λ n. n) (put_own_told (step slots word 0 0 none) me)
   puts_on r word k y below one is top shown gone known = subst (λ (z : Plan). Allows (OnTable shows rose z) slots id me word (λ n. n) (put_own_told (step slots word 0 0 none) me)) (sym key)

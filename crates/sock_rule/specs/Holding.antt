@@ -51,20 +51,24 @@ pub record MayLookToWrite (p : Plan) (i : ℕ) (v : View) : Type 0 where
 abbrev pub LookedToWrite : {S : Type 0} → Right → ℕ → ℕ → Me S View → Me S View → Type 0
 LookedToWrite r i found m n = WordFits i found m.0 × (version_of found % 2 ≡ 0 → n ≡ (with_right (looked i found m.0) (record r { clean = true }), m.1)) × (version_of found % 2 ≢ 0 → n ≡ (looked i found m.0, m.1))
 
--- P1 of a message that the link took whole
-pub record MayStorePlace (p : Plan) (l k places : ℕ) (v : View) : Type 0 where
+-- the message that the right took is for the place l, and takes the next place of its link k, which is in hand
+pub record MayPlace (p : Plan) (l k places : ℕ) (v : View) : Type 0 where
   pub right : Right
   pub one : Rights right v
   pub now : ℕ
   pub stage : right.stage ≡ Writes now
   pub taken : right.taken ≡ true
-  pub clean : right.clean ≡ true
   pub away : right.at_home ≡ false
   pub place_is : right.heading.place ≡ l
   pub place_in : l < 8 * p.operations
   pub link_is : right.link ≡ k
-  pub link_fits : k < 65536
   pub places_are : right.places ≡ places
+
+-- P1 of a message that the link took whole
+pub record MayStorePlace (p : Plan) (l k places : ℕ) (v : View) : Type 0 where
+  pub placing : MayPlace p l k places v
+  pub clean : placing.right.clean ≡ true
+  pub link_fits : k < 65536
 
 -- what a link took of a message that is dropped is a part of it at most, and only a clean right took any
 abbrev pub Part : Right → List ℕ → Type 0
@@ -72,20 +76,11 @@ Part q n = (n ≡ q.sent) ⊎ ((q.clean ≡ true) × (part : List ℕ) × (rest 
 
 -- P1 of a message that is dropped, where the seat found that the life of its link was failed; the link took this by then
 pub record MayDropPlace (p : Plan) (l k places : ℕ) (took : List ℕ) (v : View) : Type 0 where
-  pub right : Right
-  pub one : Rights right v
-  pub now : ℕ
-  pub stage : right.stage ≡ Writes now
-  pub taken : right.taken ≡ true
-  pub away : right.at_home ≡ false
-  pub place_is : right.heading.place ≡ l
-  pub place_in : l < 8 * p.operations
-  pub link_is : right.link ≡ k
-  pub places_are : right.places ≡ places
-  pub part : Part right took
+  pub placing : MayPlace p l k places v
+  pub part : Part placing.right took
   pub slot : ℕ
   pub life : ℕ
-  pub holds : HoldsLink p v slot life right.link
+  pub holds : HoldsLink p v slot life placing.right.link
   pub seen : 0 < marks_of (is_saw (life + 1)) slot v
 
 -- what follows an entry whose request is given back

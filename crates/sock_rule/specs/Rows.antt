@@ -1,14 +1,19 @@
 -- What a step on a table notes beside what the rows of the sockets say.
-use Rattle.std.specs.Prelude.{◌≡◌, ℕ, ◌-◌, ◌/◌, ◌%◌, ◌==◌, cond, List, ◌∷◌}
+use Rattle.std.specs.Prelude.{◌≡◌, ℕ, ◌+◌, ◌-◌, ◌/◌, ◌%◌, ◌<◌, ◌==◌, cond, List, ◌∷◌, Option, Some, None}
 use mathlib.Core.Option.{some}
 use lib.ListN.{get_elem?}
 use Rattle.atomic_table.specs.Table.{Me}
+use Rattle.sock_words.specs.declared.plain.Plan.{Plan}
+use Rattle.sock_words.specs.declared.socket_id.SocketId.{SocketId}
+use Rattle.sock_words.specs.Words.{socket_id_version, socket_id_slot}
 use Rattle.sock_model.specs.declared.chain.Heading.{Heading}
 use Rattle.sock_model.specs.declared.view.View.{View}
 use Rattle.sock_model.specs.declared.view.StoredWord.{StoredWord}
+use Rattle.sock_model.specs.Layout.{open_index}
 use Rattle.sock_model.specs.Marks.{latest}
 use Rattle.sock_rule.specs.OnTable.{Follows}
-use Rattle.sock_model.specs.SlotRows.{met, wrote}
+use Rattle.sock_model.specs.SlotRows.{marks_of, met, wrote}
+use Rattle.sock_model.specs.Weights.{is_known}
 use Rattle.sock_model.specs.Rule.{noting}
 
 -- the word of an operation that got no socket
@@ -46,3 +51,13 @@ pub record PutAt {S : Type 0} (x word : ℕ) (m n : Me S View) : Type 0 where
   pub all : List StoredWord
   pub view : n ≡ (put_at x word all m.0, m.1)
   pub history : IsHistory x word m.0 all
+
+-- the id is of a slot of the table, and the seat knows its life
+pub record Knows (p : Plan) (v : View) (id : ℕ) : Type 0 where
+  pub inside : socket_id_slot id < p.slots
+  pub known : 0 < marks_of (is_known (socket_id_version id)) (socket_id_slot id) v
+
+-- what it stores at an operation: the id of its socket, or that it got none
+abbrev pub NotedBy : {S : Type 0} → Plan → ℕ → Option SocketId → Me S View → Me S View → Type 0
+NotedBy {S} p o (Some id) m n = PutAt (open_index p o) (id.0 + 1) m n
+NotedBy {S} p o None m n = PutAt (open_index p o) NOTHING m n

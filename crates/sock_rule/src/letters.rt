@@ -29,11 +29,11 @@ impl<O: Out> RuleTable<O> {
         ensures asked { Asked self.now.plan at result.found seat.old.me seat.new.me }
         ensures won { IsTrue result.won ↔ (result.found % 2 ≡ 0) }
     {
-        let word = 6 * self.plan.slots as usize
+        let index = 6 * self.plan.slots as usize
             + self.plan.names as usize
             + self.plan.operations as usize
             + at as usize;
-        let found = self.table.shared.fetch_or::<ClaimRequest>(seat, word, 1);
+        let found = self.table.shared.fetch_or::<ClaimRequest>(seat, index, 1);
         chain_core::claim_request(found)
     }
 
@@ -58,8 +58,8 @@ impl<O: Out> RuleTable<O> {
             .shared
             .exchange(seat, home, SockHome::Message(msg));
         drop(old);
-        let word = 6 * slot as usize + 2;
-        self.table.shared.load::<FillHome>(seat, word)
+        let index = 6 * slot as usize + 2;
+        self.table.shared.load::<FillHome>(seat, index)
     }
 
     /// C7, store of `UNCONNECTED` into the own next word.
@@ -70,8 +70,8 @@ impl<O: Out> RuleTable<O> {
         ensures seat { IsSeat self.now.table.shared.table_id self.now.plan seat.new }
         ensures view { (c : Claim) → Claims c seat.old.me.0 → seat.new.me ≡ (with_claim seat.old.me.0 (ready_claim c), seat.old.me.1) }
     {
-        let word = self.next_word(at as usize);
-        self.table.shared.store::<Unconnect>(seat, word, u64::MAX);
+        let index = self.next_index(at as usize);
+        self.table.shared.store::<Unconnect>(seat, index, u64::MAX);
     }
 
     /// C2, swap of the head with the own ticket: the message is accepted.
@@ -82,9 +82,9 @@ impl<O: Out> RuleTable<O> {
         ensures seat { IsSeat self.now.table.shared.table_id self.now.plan seat.new }
         ensures view { (c : Claim) → Claims c seat.old.me.0 → Swapped c result.found seat.old.me seat.new.me }
     {
-        let word = 6 * at as usize + 3;
+        let index = 6 * at as usize + 3;
         let new = own.word();
-        let found = self.table.shared.swap::<SwapHead>(seat, word, new);
+        let found = self.table.shared.swap::<SwapHead>(seat, index, new);
         chain_core::swap_head(found, own)
     }
 
@@ -96,8 +96,8 @@ impl<O: Out> RuleTable<O> {
         ensures seat { IsSeat self.now.table.shared.table_id self.now.plan seat.new }
         ensures view { seat.new.me ≡ (without_loose seat.old.me.0 at, seat.old.me.1) }
     {
-        let word = self.next_word(at as usize);
+        let index = self.next_index(at as usize);
         let value = before.word();
-        self.table.shared.store::<Connect>(seat, word, value);
+        self.table.shared.store::<Connect>(seat, index, value);
     }
 }

@@ -30,11 +30,11 @@ impl<O: Out> RuleTable<O> {
         ensures way { (O.state result.out).way ≡ way_at self.now.ways.list link }
         ensures known { 0 < faults_of link seat.old.me.0 → 0 < (O.state result.out).faults }
     {
-        let word = 6 * at as usize + 2;
+        let index = 6 * at as usize + 2;
         let said = self.said();
         self.table
             .shared
-            .compare_exchange_with::<TakeLast>(seat, word, 0, 0, &said);
+            .compare_exchange_with::<TakeLast>(seat, index, 0, 0, &said);
         drop(said);
         let slot = self.plan.requests as usize + link as usize;
         self.take_home(seat, slot)

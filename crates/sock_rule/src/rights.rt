@@ -36,11 +36,11 @@ impl<O: Out> RuleTable<O> {
         ensures way { (O.state result.out).way ≡ way_at self.now.ways.list link }
         ensures known { 0 < faults_of link seat.old.me.0 → 0 < (O.state result.out).faults }
     {
-        let word = 6 * at as usize + 2;
+        let index = 6 * at as usize + 2;
         let said = self.said();
         self.table
             .shared
-            .compare_exchange_with::<TakeOwn>(seat, word, 0, 0, &said);
+            .compare_exchange_with::<TakeOwn>(seat, index, 0, 0, &said);
         drop(said);
         let slot = self.plan.requests as usize + link as usize;
         self.take_home(seat, slot)
@@ -54,8 +54,8 @@ impl<O: Out> RuleTable<O> {
         ensures seat { IsSeat self.now.table.shared.table_id self.now.plan seat.new }
         ensures view { (r : Right) → Rights r seat.old.me.0 → seat.new.me ≡ (noting_fault at r.link seat.old.me.0, seat.old.me.1) }
     {
-        let word = 6 * at as usize + 2;
-        self.table.shared.load::<NoteFault>(seat, word);
+        let index = 6 * at as usize + 2;
+        self.table.shared.load::<NoteFault>(seat, index);
     }
 
     /// M2: the message of the ticket comes out of its home.
@@ -84,8 +84,8 @@ impl<O: Out> RuleTable<O> {
         ensures seat { IsSeat self.now.table.shared.table_id self.now.plan seat.new }
         ensures view { (r : Right) → Rights r seat.old.me.0 → LookedToWrite r at result.found seat.old.me seat.new.me }
     {
-        let word = 6 * at as usize + 1;
-        let found = self.table.shared.load::<LookToWrite>(seat, word);
+        let index = 6 * at as usize + 1;
+        let found = self.table.shared.load::<LookToWrite>(seat, index);
         ref_core::look_word(found)
     }
 
@@ -96,9 +96,9 @@ impl<O: Out> RuleTable<O> {
         ensures seat { IsSeat self.now.table.shared.table_id self.now.plan seat.new }
         ensures view { (r : Right) (now : ℕ) → Rights r seat.old.me.0 → r.stage ≡ Writes now → seat.new.me ≡ (with_right seat.old.me.0 (placed_right r now), seat.old.me.1) }
     {
-        let word = self.place_word(at as usize);
+        let index = self.place_index(at as usize);
         let place = value.word();
-        self.table.shared.store::<StorePlace>(seat, word, place);
+        self.table.shared.store::<StorePlace>(seat, index, place);
     }
 
     /// P1 with the dropped bit, of a message in hand: its link lies in the home of the request meanwhile.
@@ -120,9 +120,9 @@ impl<O: Out> RuleTable<O> {
     {
         let slot = now.request() as usize;
         self.lay_home(seat, slot, home);
-        let word = self.place_word(at as usize);
+        let index = self.place_index(at as usize);
         let place = value.word();
-        self.table.shared.store::<DropPlace>(seat, word, place);
+        self.table.shared.store::<DropPlace>(seat, index, place);
         self.take_home(seat, slot)
     }
 
@@ -135,12 +135,12 @@ impl<O: Out> RuleTable<O> {
         ensures seat { IsSeat self.now.table.shared.table_id self.now.plan seat.new }
         ensures view { (r : Right) → Rights r seat.old.me.0 → seat.new.me ≡ (with_right seat.old.me.0 (freed_right r), rest seat.old.me.1) }
     {
-        let word = 6 * self.plan.slots as usize
+        let index = 6 * self.plan.slots as usize
             + self.plan.names as usize
             + self.plan.operations as usize
             + now.request() as usize;
         let next = 2 * (now.generation() + 1);
-        self.table.shared.store::<FreeRequest>(seat, word, next);
+        self.table.shared.store::<FreeRequest>(seat, index, next);
     }
 
     /// The request of a message that has its place stays taken where its generation is the last one. Its home is back.
@@ -180,13 +180,13 @@ impl<O: Out> RuleTable<O> {
         ensures seat { IsSeat self.now.table.shared.table_id self.now.plan seat.new }
         ensures view { (r : Right) → Rights r seat.old.me.0 → Emptied r last.0 result.found seat.old.me seat.new.me }
     {
-        let word = 6 * at as usize + 3;
+        let index = 6 * at as usize + 3;
         let old = last.word();
         let new = old + 9_223_372_036_854_775_808;
         let found = self
             .table
             .shared
-            .compare_exchange::<EmptyHead>(seat, word, old, new);
+            .compare_exchange::<EmptyHead>(seat, index, old, new);
         chain_core::empty_head(found, last)
     }
 
@@ -198,8 +198,8 @@ impl<O: Out> RuleTable<O> {
         ensures seat { IsSeat self.now.table.shared.table_id self.now.plan seat.new }
         ensures view { (r : Right) → Rights r seat.old.me.0 → ReadOn r now.0 result seat.old.me seat.new.me }
     {
-        let word = self.next_word(now.request() as usize);
-        self.table.shared.load::<ReadNext>(seat, word)
+        let index = self.next_index(now.request() as usize);
+        self.table.shared.load::<ReadNext>(seat, index)
     }
 
     /// C5 on the walk, which waits while it finds `UNCONNECTED`.
@@ -210,8 +210,8 @@ impl<O: Out> RuleTable<O> {
         ensures seat { IsSeat self.now.table.shared.table_id self.now.plan seat.new }
         ensures view { (r : Right) (top after : ℕ) → Rights r seat.old.me.0 → r.stage ≡ Walks top at.0 after → ReadBack r top at.0 after result seat.old.me seat.new.me }
     {
-        let word = self.next_word(at.request() as usize);
-        self.table.shared.load::<ReadNext>(seat, word)
+        let index = self.next_index(at.request() as usize);
+        self.table.shared.load::<ReadNext>(seat, index)
     }
 
     /// C6, store of the successor, or 0, into the next word at which the walk stands.
@@ -222,7 +222,7 @@ impl<O: Out> RuleTable<O> {
         ensures seat { IsSeat self.now.table.shared.table_id self.now.plan seat.new }
         ensures view { (r : Right) (top after before : ℕ) → Rights r seat.old.me.0 → r.stage ≡ Turns top at.0 after before → seat.new.me ≡ (with_right seat.old.me.0 (turned_right r top at.0 before), seat.old.me.1) }
     {
-        let word = self.next_word(at.request() as usize);
-        self.table.shared.store::<ReverseNext>(seat, word, value);
+        let index = self.next_index(at.request() as usize);
+        self.table.shared.store::<ReverseNext>(seat, index, value);
     }
 }

@@ -22,8 +22,8 @@ impl<O: Out> RuleTable<O> {
         ensures view { seat.new.me ≡ (claimed at result.found seat.old.me.0, seat.old.me.1) }
         ensures won { IsTrue result.won ↔ (result.found ≡ 0) }
     {
-        let word = 6 * at as usize;
-        let found = self.table.shared.swap::<ClaimSlot>(seat, word, 1);
+        let index = 6 * at as usize;
+        let found = self.table.shared.swap::<ClaimSlot>(seat, index, 1);
         ref_core::claim_slot(found)
     }
 
@@ -37,8 +37,8 @@ impl<O: Out> RuleTable<O> {
         ensures step { result.next ≡ result.found + 1 }
         ensures fits { WordFits at result.found seat.old.me.0 }
     {
-        let word = 6 * at as usize + 1;
-        let found = self.table.shared.fetch_add::<AddRef>(seat, word, 1);
+        let index = 6 * at as usize + 1;
+        let found = self.table.shared.fetch_add::<AddRef>(seat, index, 1);
         ref_core::add_ref(found)
     }
 
@@ -52,8 +52,8 @@ impl<O: Out> RuleTable<O> {
         ensures step { result.next ≡ result.found + 1 }
         ensures version { (version_of result.found ≤ 4294967292) × (version_of result.found % 2 ≡ 0) }
     {
-        let word = 6 * at as usize + 1;
-        let found = self.table.shared.fetch_add::<CreateLife>(seat, word, 1);
+        let index = 6 * at as usize + 1;
+        let found = self.table.shared.fetch_add::<CreateLife>(seat, index, 1);
         ref_core::birth(found)
     }
 
@@ -71,8 +71,8 @@ impl<O: Out> RuleTable<O> {
         ensures top { (0 < nref_of result.found) × (version_of result.found ≤ 4294967294) }
         ensures fits { WordFits at result.found seat.old.me.0 }
     {
-        let word = 6 * at as usize + 1;
-        let found = self.table.shared.fetch_sub::<SubRef>(seat, word, 1);
+        let index = 6 * at as usize + 1;
+        let found = self.table.shared.fetch_sub::<SubRef>(seat, index, 1);
         ref_core::sub_ref(found)
     }
 
@@ -86,11 +86,11 @@ impl<O: Out> RuleTable<O> {
         ensures view { seat.new.me ≡ (failed at result.found seat.old.me.0, seat.old.me.1) }
         ensures fits { WordFits at result.found seat.old.me.0 }
     {
-        let word = 6 * at as usize + 1;
+        let index = 6 * at as usize + 1;
         let found = self
             .table
             .shared
-            .fetch_or::<SetOdd>(seat, word, 4_294_967_296);
+            .fetch_or::<SetOdd>(seat, index, 4_294_967_296);
         ref_core::set_odd(found)
     }
 
@@ -105,13 +105,13 @@ impl<O: Out> RuleTable<O> {
         ensures alone { result.found ≡ from.0 → marks_of is_busy at seat.old.me.0 ≡ 0 }
         ensures won { (result.found ≡ from.0 → result.won ≡ true) × (result.found ≢ from.0 → result.won ≡ false) }
     {
-        let word = 6 * at as usize + 1;
+        let index = 6 * at as usize + 1;
         let old = from.word();
         let next = old + 4_294_967_296;
         let found = self
             .table
             .shared
-            .compare_exchange::<Recycle>(seat, word, old, next);
+            .compare_exchange::<Recycle>(seat, index, old, next);
         ref_core::recycle(found, from)
     }
 
@@ -124,8 +124,8 @@ impl<O: Out> RuleTable<O> {
         ensures seat { IsSeat self.now.table.shared.table_id self.now.plan seat.new }
         ensures view { seat.new.me ≡ (freed at seat.old.me.0, seat.old.me.1) }
     {
-        let word = 6 * at as usize;
-        self.table.shared.store::<FreeSlot>(seat, word, 0);
+        let index = 6 * at as usize;
+        self.table.shared.store::<FreeSlot>(seat, index, 0);
     }
 
     /// A8, load of the reference word.
@@ -136,8 +136,8 @@ impl<O: Out> RuleTable<O> {
         ensures view { seat.new.me ≡ (looked at result.found seat.old.me.0, seat.old.me.1) }
         ensures fits { WordFits at result.found seat.old.me.0 }
     {
-        let word = 6 * at as usize + 1;
-        let found = self.table.shared.load::<LookWord>(seat, word);
+        let index = 6 * at as usize + 1;
+        let found = self.table.shared.load::<LookWord>(seat, index);
         ref_core::look_word(found)
     }
 }

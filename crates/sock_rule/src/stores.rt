@@ -18,10 +18,10 @@ impl<O: Out> RuleTable<O> {
         ensures seat { IsSeat self.now.table.shared.table_id self.now.plan seat.new }
         ensures view { seat.new.me ≡ (linked at link seat.old.me.0, seat.old.me.1) }
     {
-        let word = 6 * at as usize + 2;
+        let index = 6 * at as usize + 2;
         self.table
             .shared
-            .store::<StoreLink>(seat, word, link as u64);
+            .store::<StoreLink>(seat, index, link as u64);
     }
 
     /// S2: the link of a life that the seat holds.
@@ -34,8 +34,8 @@ impl<O: Out> RuleTable<O> {
         ensures same { (h k : ℕ) → 0 < marks_of (is_hold h) at seat.old.me.0 → 0 < marks_of (is_met h k) at seat.old.me.0 → result ≡ k }
         ensures inside { result < self.now.plan.links }
     {
-        let word = 6 * at as usize + 2;
-        self.table.shared.load::<MeetLink>(seat, word)
+        let index = 6 * at as usize + 2;
+        self.table.shared.load::<MeetLink>(seat, index)
     }
 
     /// S2 of whoever recycled the slot: the link of the life that ended.
@@ -47,8 +47,8 @@ impl<O: Out> RuleTable<O> {
         ensures view { (w : ℕ) → 0 < marks_of (is_recycled w) at seat.old.me.0 → seat.new.me ≡ (met_link at (w - 2) result seat.old.me.0, seat.old.me.1) }
         ensures inside { result < self.now.plan.links }
     {
-        let word = 6 * at as usize + 2;
-        self.table.shared.load::<MeetLast>(seat, word)
+        let index = 6 * at as usize + 2;
+        self.table.shared.load::<MeetLast>(seat, index)
     }
 
     /// S3: the head of a claimed slot is idle, without a ticket.
@@ -59,10 +59,10 @@ impl<O: Out> RuleTable<O> {
         ensures seat { IsSeat self.now.table.shared.table_id self.now.plan seat.new }
         ensures view { (k : ℕ) → 0 < marks_of (is_stage 1 k) at seat.old.me.0 → seat.new.me ≡ (staged at 1 k 2 seat.old.me.0, seat.old.me.1) }
     {
-        let word = 6 * at as usize + 3;
+        let index = 6 * at as usize + 3;
         self.table
             .shared
-            .store::<ResetHead>(seat, word, 9_223_372_036_854_775_808);
+            .store::<ResetHead>(seat, index, 9_223_372_036_854_775_808);
     }
 
     /// S4 of 0: a claimed slot has no code.
@@ -73,8 +73,8 @@ impl<O: Out> RuleTable<O> {
         ensures seat { IsSeat self.now.table.shared.table_id self.now.plan seat.new }
         ensures view { (k : ℕ) → 0 < marks_of (is_stage 2 k) at seat.old.me.0 → seat.new.me ≡ (staged at 2 k 3 seat.old.me.0, seat.old.me.1) }
     {
-        let word = 6 * at as usize + 4;
-        self.table.shared.store::<ClearCode>(seat, word, 0);
+        let index = 6 * at as usize + 4;
+        self.table.shared.store::<ClearCode>(seat, index, 0);
     }
 
     /// S4: the code of the life that the seat failed.
@@ -87,10 +87,10 @@ impl<O: Out> RuleTable<O> {
         ensures seat { IsSeat self.now.table.shared.table_id self.now.plan seat.new }
         ensures view { (h : ℕ) → 0 < marks_of (is_coding h) at seat.old.me.0 → seat.new.me ≡ (coded at h code seat.old.me.0, seat.old.me.1) }
     {
-        let word = 6 * at as usize + 4;
+        let index = 6 * at as usize + 4;
         self.table
             .shared
-            .store::<StoreCode>(seat, word, code as u64);
+            .store::<StoreCode>(seat, index, code as u64);
     }
 
     /// S5: the code of a life that the seat holds, or 0 where none was stored yet.
@@ -103,7 +103,7 @@ impl<O: Out> RuleTable<O> {
         ensures same { (h d : ℕ) → 0 < marks_of (is_hold h) at seat.old.me.0 → 0 < marks_of (is_told h d) at seat.old.me.0 → result ≡ d }
         ensures small { result < 4096 }
     {
-        let word = 6 * at as usize + 4;
-        self.table.shared.load::<ReadCode>(seat, word)
+        let index = 6 * at as usize + 4;
+        self.table.shared.load::<ReadCode>(seat, index)
     }
 }

@@ -94,7 +94,7 @@ impl<O: Out> RuleTable<O> {
     }
 
     // The place of a request's next word.
-    pub(crate) fn next_word(&self, request: usize) -> usize
+    pub(crate) fn next_index(&self, request: usize) -> usize
         requires request { request < self.now.plan.requests }
         ensures { result ≡ next_index self.now.plan request }
     {
@@ -106,7 +106,7 @@ impl<O: Out> RuleTable<O> {
     }
 
     // That of a label's place word.
-    pub(crate) fn place_word(&self, place: usize) -> usize
+    pub(crate) fn place_index(&self, place: usize) -> usize
         requires place { place < 8 * self.now.plan.operations }
         ensures { result ≡ place_index self.now.plan place }
     {

@@ -5,15 +5,14 @@ use lib.ListN.{get_elem?}
 use Rattle.sock_words.specs.declared.plain.Plan.{Plan}
 use Rattle.sock_words.specs.declared.socket_id.SocketId.{SocketId}
 use Rattle.sock_words.specs.Words.{socket_id_version, socket_id_slot}
-use Rattle.atomic_table.specs.Table.{Me}
 use Rattle.sock_model.specs.declared.view.View.{View}
 use Rattle.sock_model.specs.declared.view.StoredWord.{StoredWord}
 use Rattle.sock_model.specs.Layout.{name_index, open_index}
 use Rattle.sock_model.specs.SlotRows.{met}
-use Rattle.sock_rule.specs.Rows.{NOTHING, PutAt, IsHistory, finding}
+use Rattle.sock_rule.specs.Rows.{NOTHING, Knows, IsHistory, finding}
+pub use Rattle.sock_rule.specs.Rows.{NotedBy}
 use Rattle.sock_table.specs.declared.finding.Noted.{Noted}
 use Rattle.sock_table.specs.declared.finding.Noted.TheVariants as noted
-use Rattle.sock_table.specs.Refs.{Knows}
 
 -- the seat stored or found a word other than 0 at this place
 abbrev pub HasSeen : ℕ → View → Type 0
@@ -40,12 +39,7 @@ abbrev pub Found : Plan → ℕ → Option SocketId → View → View → Type 0
 Found p n (Some id) v w = Knows p w id.0 × FindsId (name_index p n) id.0 v w
 Found p n None v w = (w ≡ v) × ¬ HasSeen (name_index p n) v
 
--- what it stores at an operation: the id of its socket, or that it got none
-abbrev pub NotedBy : {S : Type 0} → Plan → ℕ → Option SocketId → Me S View → Me S View → Type 0
-NotedBy {S} p o (Some id) m n = PutAt (open_index p o) (id.0 + 1) m n
-NotedBy {S} p o None m n = PutAt (open_index p o) NOTHING m n
-
--- and what it reads there
+-- what it reads at an operation
 abbrev pub NotedAs : Plan → ℕ → Noted → View → View → Type 0
 NotedAs p o noted.NotYet v w = (w ≡ v) × ¬ HasSeen (open_index p o) v
 NotedAs p o noted.Nothing v w = FindsNothing (open_index p o) v w

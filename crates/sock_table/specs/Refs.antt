@@ -9,6 +9,7 @@ use Rattle.sock_model.specs.Weights.{is_ref, is_probe, is_claimed, is_any_coding
 use Rattle.sock_model.specs.SlotRows.{marks_of}
 use Rattle.sock_rule.specs.Becoming.{Became}
 use Rattle.sock_rule.specs.OnTable.{put_in}
+pub use Rattle.sock_rule.specs.Rows.{Knows}
 
 -- between two calls a seat has references and notes alone
 pub record IsBetween (p : Plan) (v : View) : Type 0 where
@@ -67,8 +68,3 @@ pub record MayAddress (p : Plan) (v : View) (id : ℕ) : Type 0 where
   pub inside : socket_id_slot id < p.slots
   pub known : 0 < marks_of (is_known (socket_id_version id)) (socket_id_slot id) v
   pub room : marks_of is_ref (socket_id_slot id) v < 65536
-
--- the id is of a slot of the table, and the seat knows its life
-pub record Knows (p : Plan) (v : View) (id : ℕ) : Type 0 where
-  pub inside : socket_id_slot id < p.slots
-  pub known : 0 < marks_of (is_known (socket_id_version id)) (socket_id_slot id) v

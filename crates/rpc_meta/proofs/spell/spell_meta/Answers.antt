@@ -47,23 +47,23 @@ pub spell_int-requires : goal.spell_int-requires
 spell_int-requires c =
     let m = c.args.meta.now in
     let before = c.args.out.now in
-    let two = joined before c.spell_request.new.out c.spell_response.new.out (asked m) (answered m) c.spell_request.ensures.exact c.spell_response.ensures.exact in
+    let two = joined before c.spell_part.new.out c.spell_part-2.new.out (asked m) (answered m) c.spell_part.ensures.exact c.spell_part-2.ensures.exact in
     let fits : to_z w32 (of_z w32 m.compress_type) ≡ m.compress_type = search rules in
-    let P : ℤ → Type 0 = λ z. length c.spell_response.new.out + length (where_not_0 3 z) ≤ 128 in
-    subst P (sym fits) (room_behind before c.spell_response.new.out (parts m) (where_not_0 3 m.compress_type) 128 two (room_3 before m (all_room before m c.args.sizes.all c.requires.sizes.all c.requires.room)))
+    let P : ℤ → Type 0 = λ z. length c.spell_part-2.new.out + length (where_not_0 3 z) ≤ 128 in
+    subst P (sym fits) (room_behind before c.spell_part-2.new.out (parts m) (where_not_0 3 m.compress_type) 128 two (room_3 before m (all_room before m c.args.sizes.all c.requires.sizes.all c.requires.room)))
 
 pub spell_number-requires : goal.spell_number-requires
 spell_number-requires c =
     let m = c.args.meta.now in
     let fits : to_z w32 (of_z w32 m.compress_type) ≡ m.compress_type = search rules in
-    let three = at_3 c.args.out.now c.spell_request.new.out c.spell_response.new.out c.spell_int.new.out m (to_z w32 (of_z w32 m.compress_type)) c.spell_request.ensures.exact c.spell_response.ensures.exact c.spell_int.ensures fits in
+    let three = at_3 c.args.out.now c.spell_part.new.out c.spell_part-2.new.out c.spell_int.new.out m (to_z w32 (of_z w32 m.compress_type)) c.spell_part.ensures.exact c.spell_part-2.ensures.exact c.spell_int.ensures fits in
     room_behind c.args.out.now c.spell_int.new.out (up_to_3 m) (number_field 4 m.correlation_id) 128 three (room_4 c.args.out.now m (all_room c.args.out.now m c.args.sizes.all c.requires.sizes.all c.requires.room))
 
 pub spell_int-requires-2 : goal.spell_int-requires-2
 spell_int-requires-2 c =
     let m = c.args.meta.now in
     let fits : to_z w32 (of_z w32 m.compress_type) ≡ m.compress_type = search rules in
-    let four = at_4 c.args.out.now c.spell_request.new.out c.spell_response.new.out c.spell_int.new.out c.spell_number.new.out m (to_z w32 (of_z w32 m.compress_type)) c.spell_request.ensures.exact c.spell_response.ensures.exact c.spell_int.ensures fits c.spell_number.ensures in
+    let four = at_4 c.args.out.now c.spell_part.new.out c.spell_part-2.new.out c.spell_int.new.out c.spell_number.new.out m (to_z w32 (of_z w32 m.compress_type)) c.spell_part.ensures.exact c.spell_part-2.ensures.exact c.spell_int.ensures fits c.spell_number.ensures in
     let size_fits : to_z w32 (of_z w32 m.attachment_size) ≡ m.attachment_size = search rules in
     let P : ℤ → Type 0 = λ z. length c.spell_number.new.out + length (where_not_0 5 z) ≤ 128 in
     subst P (sym size_fits) (room_behind c.args.out.now c.spell_number.new.out (up_to_4 m) (where_not_0 5 m.attachment_size) 128 four (all_room c.args.out.now m c.args.sizes.all c.requires.sizes.all c.requires.room))
@@ -72,6 +72,6 @@ pub returns-clause-exact : goal.returns-clause-exact
 returns-clause-exact c =
     let m = c.args.meta.now in
     let fits : to_z w32 (of_z w32 m.compress_type) ≡ m.compress_type = search rules in
-    let four = at_4 c.args.out.now c.spell_request.new.out c.spell_response.new.out c.spell_int.new.out c.spell_number.new.out m (to_z w32 (of_z w32 m.compress_type)) c.spell_request.ensures.exact c.spell_response.ensures.exact c.spell_int.ensures fits c.spell_number.ensures in
+    let four = at_4 c.args.out.now c.spell_part.new.out c.spell_part-2.new.out c.spell_int.new.out c.spell_number.new.out m (to_z w32 (of_z w32 m.compress_type)) c.spell_part.ensures.exact c.spell_part-2.ensures.exact c.spell_int.ensures fits c.spell_number.ensures in
     let size_fits : to_z w32 (of_z w32 m.attachment_size) ≡ m.attachment_size = search rules in
     joined c.args.out.now c.spell_number.new.out c.spell_int-2.new.out (up_to_4 m) (where_not_0 5 m.attachment_size) four (c.spell_int-2.ensures ∙ ap (λ (z : ℤ). c.spell_number.new.out ++ where_not_0 5 z) size_fits)

@@ -9,7 +9,7 @@ pub returns-clause-fresh : goal.returns-clause-fresh
 returns-clause-fresh g c old = opened_more _ _ _ c.in_ok-opened.opened old (search rules) (untouched _ _ _ _ c.in_ok-opened.ensures.fresh c.requires.opened)
 
 pub returns-clause-unfinished : goal.returns-clause-unfinished
-returns-clause-unfinished g c old = all_with _ _ _ c.in_ok-opened.opened old (search rules) c.in_ok-opened.ensures.fresh.finished
+returns-clause-unfinished g c old = all_with _ _ _ c.in_ok-opened.opened old (search rules) c.in_ok-opened.ensures.fresh.unused.finished
 
 pub returns-clause-prompt_each : goal.returns-clause-prompt_each
 returns-clause-prompt_each g c always_ready loop old = all_with _ _ _ c.in_ok-opened.opened old (search rules) (c.in_ok-opened.ensures.always_ready always_ready (ap (λ (s : LinkSpec). s.mode) c.spec_of.ensures ∙ loop))

@@ -7,14 +7,8 @@ use Rattle.sock_table.specs.Answers.{Holds, is_freed}
 use Rattle.sock_open.proofs.Testing.{done_between, kept_done, may_address, gone_same, visited, no_notes, holds_it, known_by}
 use Rattle.table_bench.proofs.pairs.poke.Goals as goal
 
-pub address-requires-clause-seat : goal.address-requires-clause-seat
-address-requires-clause-seat c = c.loop.invariant.0.seat
-
-pub address-requires-clause-may : goal.address-requires-clause-may
-address-requires-clause-may c = may_address _ _ c.loop.seat c.args.id.0 c.loop.invariant.0 c.loop.invariant.1.inside c.loop.invariant.1.known
-
-pub address-requires-clause-between : goal.address-requires-clause-between
-address-requires-clause-between c = done_between c.args.table.now.rule.table.shared.table_id c.args.table.now.rule.plan c.loop.seat c.loop.invariant.0
+pub address-requires : goal.address-requires
+address-requires c = let s = c.loop.invariant.0 in let k = c.loop.invariant.1 in record { seat = s.seat; may = may_address _ _ c.loop.seat c.args.id.0 s k.inside k.known; between = done_between c.args.table.now.rule.table.shared.table_id c.args.table.now.rule.plan c.loop.seat s }
 
 pub release-requires-clause-held : goal.release-requires-clause-held
 release-requires-clause-held c = let z = c.args.table.now.rule.table.shared.table_id in let p = c.args.table.now.rule.plan in let i : ℕ = c.args.id.0 in let a = c.in-Ok.ensures.held in let e = ap (λ (x : SocketId). x.0) a.0 in

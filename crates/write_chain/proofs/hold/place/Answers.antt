@@ -8,18 +8,20 @@ store_place-requires-clause-may g c = let h = c.requires.may.0 in (
   c.args.hand.link,
   c.args.hand.home.next,
   record {
-    right = h.right_is;
-    one = h.writer.one;
-    now = c.args.hand.now.0;
-    stage = h.stage_is;
-    taken = h.taken;
+    placing = record {
+      right = h.right_is;
+      one = h.writer.one;
+      now = c.args.hand.now.0;
+      stage = h.stage_is;
+      taken = h.taken;
+      away = h.has.away;
+      place_is = h.place_is;
+      place_in = h.place_in;
+      link_is = h.writer.link_is;
+      places_are = sym h.has.places_are;
+    };
     clean = c.requires.may.1;
-    away = h.has.away;
-    place_is = h.place_is;
-    place_in = h.place_in;
-    link_is = h.writer.link_is;
     link_fits = omega arith;
-    places_are = sym h.has.places_are;
   },
   omega (arith, c.pack-place.ensures.word),
 )

@@ -25,16 +25,18 @@ drop_place-home-requires-clause-may g c = let h = part_noted c.args.hand c.args.
   c.args.hand.link,
   c.args.hand.home.next,
   record {
-    right = h.0.right_is;
-    one = h.0.writer.one;
-    now = c.args.hand.now.0;
-    stage = h.0.stage_is;
-    taken = h.0.taken;
-    away = h.0.has.away;
-    place_is = h.0.place_is;
-    place_in = h.0.place_in;
-    link_is = h.0.writer.link_is;
-    places_are = sym h.0.has.places_are;
+    placing = record {
+      right = h.0.right_is;
+      one = h.0.writer.one;
+      now = c.args.hand.now.0;
+      stage = h.0.stage_is;
+      taken = h.0.taken;
+      away = h.0.has.away;
+      place_is = h.0.place_is;
+      place_in = h.0.place_in;
+      link_is = h.0.writer.link_is;
+      places_are = sym h.0.has.places_are;
+    };
     part = part_of c.args.hand c.code-told.new.seat.me h;
     slot = socket_id_slot c.args.sock.now.id.0;
     life = socket_id_version c.args.sock.now.id.0;

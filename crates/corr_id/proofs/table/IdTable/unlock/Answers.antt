@@ -21,6 +21,9 @@ tries-init g c = let w = parts c.args.lock.word.0 in let x = c.args.lock.content
       (stepped_first u c.args.lock.slot w x c.args.advance c.move_call-nothing.new.seat.me.0 c.args.lock.is_locked c.args.lock.fits c.args.lock.in_order c.requires.room m.1);
 }
 
+pub unlock_id-found-requires-clause-next : goal.unlock_id-found-requires-clause-next
+unlock_id-found-requires-clause-next g c = (c.tries.step, c.without_oldest-next.ensures, c.tries.invariant.stepped.room)
+
 pub returns-then-oldest-eq0-clause-unlocked : goal.returns-then-oldest-eq0-clause-unlocked
 returns-then-oldest-eq0-clause-unlocked g c =
     let u = c.args.seat.now.me.0 in let i = c.args.lock.slot in let p = parts c.args.lock.word.0 in let x = c.args.lock.content in let v = c.tries.seat.me.0 in let w = c.unlock_id-found.new.seat.me.0 in
@@ -28,25 +31,17 @@ returns-then-oldest-eq0-clause-unlocked g c =
     let zero : (parts n).oldest ≡ 0 = sym (c.oldest-oldest.ensures ∙ ap (λ (y : ℕ). (parts y).oldest) c.from_word.ensures) ∙ c.if-oldest-eq0.true in
     (n, q, replaced u i p x c.args.advance v w n q c.tries.step s is b, zero, opened_all u i p x c.args.advance v w n q c.tries.step s is b zero)
 
-pub take_call-lock-requires-clause-seat : goal.take_call-lock-requires-clause-seat
-take_call-lock-requires-clause-seat g c = let s = c.tries.invariant.stepped in let b = c.unlock_id-found.ensures.won c.if-found-from.false c.args.lock.content s.did.tokens in
-    (c.unlock_id-found.ensures.seat.0 ∙ (c.tries.invariant.same_table ∙ c.requires.seat.0), subst (λ (n : ℕ). 0 < n) (sym (b.share ∙ s.did.share)) c.requires.seat.1)
-
-pub take_call-lock-requires-clause-fits : goal.take_call-lock-requires-clause-fits
-take_call-lock-requires-clause-fits g c =
+pub take_call-lock-requires : goal.take_call-lock-requires
+take_call-lock-requires g c =
     let u = c.args.seat.now.me.0 in let i = c.args.lock.slot in let p = parts c.args.lock.word.0 in let x = c.args.lock.content in let v = c.tries.seat.me.0 in let w = c.unlock_id-found.new.seat.me.0 in
     let s = c.tries.invariant.stepped in let n = c.tries.from in let q = parts c.without_oldest-next.result in let is = c.without_oldest-next.ensures in let b = c.unlock_id-found.ensures.won c.if-found-from.false x s.did.tokens in
     let after = stepped_next u i p x c.args.advance v w n q c.tries.step s is b (λ z. c.if-oldest-eq0.false (c.oldest-oldest.ensures ∙ (ap (λ (y : ℕ). (parts y).oldest) c.from_word.ensures ∙ z))) in
-    let k = parts c.from_word-then-not-is_thrown_away.result.0 in let kk : k ≡ q = ap parts c.from_word-then-not-is_thrown_away.ensures in
-    (subst LockFits (sym kk) after.fits, ap (λ (y : Parts). y.state) kk ∙ after.two, (λ z. ap (λ (y : Parts). y.second) kk ∙ after.in_order (sym (ap (λ (y : Parts). y.oldest) kk) ∙ z)))
-
-pub take_call-lock-requires-clause-lock : goal.take_call-lock-requires-clause-lock
-take_call-lock-requires-clause-lock g c =
-    let u = c.args.seat.now.me.0 in let i = c.args.lock.slot in let p = parts c.args.lock.word.0 in let x = c.args.lock.content in let v = c.tries.seat.me.0 in let w = c.unlock_id-found.new.seat.me.0 in
-    let s = c.tries.invariant.stepped in let n = c.tries.from in let q = parts c.without_oldest-next.result in let is = c.without_oldest-next.ensures in let b = c.unlock_id-found.ensures.won c.if-found-from.false x s.did.tokens in
-    let after = stepped_next u i p x c.args.advance v w n q c.tries.step s is b (λ z. c.if-oldest-eq0.false (c.oldest-oldest.ensures ∙ (ap (λ (y : ℕ). (parts y).oldest) c.from_word.ensures ∙ z))) in
-    let k = parts c.from_word-then-not-is_thrown_away.result.0 in let kk : k ≡ q = ap parts c.from_word-then-not-is_thrown_away.ensures in
-    (x, subst (λ (y : Parts). Locks i w y x (Full x)) (sym kk) after.did.tokens)
+    let k = parts c.from_word-then-not-is_thrown_away.result.0 in let kk : k ≡ q = ap parts c.from_word-then-not-is_thrown_away.ensures in record {
+      seat = (c.unlock_id-found.ensures.seat.0 ∙ (c.tries.invariant.same_table ∙ c.requires.seat.0), subst (λ (n : ℕ). 0 < n) (sym (b.share ∙ s.did.share)) c.requires.seat.1);
+      slot = subst (λ q. c.args.lock.slot < q.slots) (sym c.args.self.now.planned) c.requires.lock.0;
+      fits = (subst LockFits (sym kk) after.fits, ap (λ (y : Parts). y.state) kk ∙ after.two, (λ z. ap (λ (y : Parts). y.second) kk ∙ after.in_order (sym (ap (λ (y : Parts). y.oldest) kk) ∙ z)));
+      lock = (x, subst (λ (y : Parts). Locks i w y x (Full x)) (sym kk) after.did.tokens);
+    }
 
 pub returns-then-not-is_thrown_away-clause-unlocked : goal.returns-then-not-is_thrown_away-clause-unlocked
 returns-then-not-is_thrown_away-clause-unlocked g c =

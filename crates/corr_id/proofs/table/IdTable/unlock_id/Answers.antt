@@ -12,8 +12,8 @@ pub compare_exchange-requires : goal.compare_exchange-requires
 compare_exchange-requires g c = let w = parts c.args.from in (
   c.requires.seat.0,
   omega (arith, c.args.self.now.sized),
-  unlocking c.args.self.now.table.shared.key c.args.self.now.table.shared.table_id.slots c.args.seat.now.id c.args.seat.now.me c.args.at c.requires.slot c.requires.seat.1 w.first w.range w.attempt w.oldest w.second c.requires.lock.0 c.requires.lock.1 c.args.from c.args.next (tick c.args.advance) c.requires.next
-      (ticks c.args.advance w.attempt w.range c.requires.room),
+  unlocking c.args.self.now.table.shared.key c.args.self.now.table.shared.table_id.slots c.args.seat.now.id c.args.seat.now.me c.args.at c.requires.slot c.requires.seat.1 w.first w.range w.attempt w.oldest w.second c.requires.lock.0 c.requires.lock.1 c.args.from c.args.next (tick c.requires.next.0) c.requires.next.1
+      (ticks c.requires.next.0 w.attempt w.range c.requires.next.2),
 )
 
 pub returns-clause-seat : goal.returns-clause-seat
@@ -21,7 +21,7 @@ returns-clause-seat g c = let w = parts c.args.from in let t = c.compare_exchang
 
 pub returns-clause-won : goal.returns-clause-won
 returns-clause-won g c = λ hit x has. let w = parts c.args.from in let t = (c.compare_exchange.ensures.2 c.args.at w.first w.range w.attempt w.oldest w.second x refl has).0 hit in let noted = with_note c.args.at (Saw c.args.from) c.args.seat.now.me.0 in
-    unlocked_became c.args.at noted c.compare_exchange.new.seat.me.0 w (parts c.args.next) (tick c.args.advance) x c.requires.next (ap (λ m. m.0) t ∙ ap (λ (y : ℕ). advanced_view c.args.at w.first w.attempt (parts c.args.next).attempt (popped_view c.args.at w.first w.range (parts c.args.next).attempt x (parts y).oldest (parts y).second (with_note c.args.at (Saw y) c.args.seat.now.me.0))) hit)
+    unlocked_became c.args.at noted c.compare_exchange.new.seat.me.0 w (parts c.args.next) (tick c.requires.next.0) x c.requires.next.1 (ap (λ m. m.0) t ∙ ap (λ (y : ℕ). advanced_view c.args.at w.first w.attempt (parts c.args.next).attempt (popped_view c.args.at w.first w.range (parts c.args.next).attempt x (parts y).oldest (parts y).second (with_note c.args.at (Saw y) c.args.seat.now.me.0))) hit)
 
 pub returns-clause-lost : goal.returns-clause-lost
 returns-clause-lost g c = λ miss x has. let w = parts c.args.from in let t = (c.compare_exchange.ensures.2 c.args.at w.first w.range w.attempt w.oldest w.second x refl has).1 miss in

@@ -7,11 +7,11 @@ use Rattle.sock_rule.proofs.Holding.{the_right}
 use Rattle.sock_rule.proofs.Owning.{reads_on_on}
 use Rattle.sock_rule.proofs.table.RuleTable.read_on.Goals as goal
 
-pub next_word-word-requires : goal.next_word-word-requires
-next_word-word-requires g c = omega (arith, c.requires.ticket.1, c.request.ensures)
+pub next_index-index-requires : goal.next_index-index-requires
+next_index-index-requires g c = omega (arith, c.requires.ticket.1, c.request.ensures)
 
 pub load-requires : goal.load-requires
-load-requires g c = let a = c.requires.seat in (a.0, omega (arith, c.args.self.now.sized, c.requires.ticket.1, c.request.ensures, c.next_word-word.ensures), reads_on_on (shows_by c.args.self.now.table.shared.key) rose c.args.self.now.table.shared.key.plan c.args.self.now.plan _ _ _ a.1 a.2 c.args.self.now.planned c.args.now.0 _ (omega (arith, c.request.ensures, c.next_word-word.ensures)) c.requires.may)
+load-requires g c = let a = c.requires.seat in (a.0, omega (arith, c.args.self.now.sized, c.requires.ticket.1, c.request.ensures, c.next_index-index.ensures), reads_on_on (shows_by c.args.self.now.table.shared.key) rose c.args.self.now.table.shared.key.plan c.args.self.now.plan _ _ _ a.1 a.2 c.args.self.now.planned c.args.now.0 _ (omega (arith, c.request.ensures, c.next_index-index.ensures)) c.requires.may)
 
 pub returns-clause-view : goal.returns-clause-view
 returns-clause-view g c = λ r one. let m = c.requires.may in let same = the_right c.args.seat.now.me.0.rights m.right r m.one one in

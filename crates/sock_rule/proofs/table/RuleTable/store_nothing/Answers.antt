@@ -12,8 +12,8 @@ store-requires g c = let a = c.requires.seat in (
   stores_nothing_on (shows_by c.args.self.now.table.shared.key) rose _ _ _ _ _ c.args.self.now.planned a.1 a.2 c.args.operation _ c.requires.operation c.args.self.now.some_slots refl,
 )
 
-pub returns-clause-view : goal.returns-clause-view
-returns-clause-view g c = c.store.ensures.2
+pub returns-clause-noted : goal.returns-clause-noted
+returns-clause-noted g c = c.store.ensures.2
 
 pub returns-clause-seat : goal.returns-clause-seat
 returns-clause-seat g c = still_seat _ _ c.args.seat.now c.store.new.seat _ c.requires.seat c.store.ensures.0 c.store.ensures.2.view refl refl

@@ -8,7 +8,7 @@ use Rattle.sock_rule.proofs.Seating.{still_seat}
 use Rattle.sock_rule.proofs.table.RuleTable.store_open.Goals as goal
 
 pub store-requires : goal.store-requires
-store-requires g c = let a = c.requires.seat in (a.0, omega (arith, c.args.self.now.sized, c.requires.operation), stores_open_on (shows_by c.args.self.now.table.shared.key) rose _ _ _ _ _ c.args.self.now.planned a.1 a.2 c.args.operation c.args.id.0 _ c.requires.operation (ap (λ (n : ℕ). n + 1) c.word-word.ensures) c.requires.inside c.requires.known)
+store-requires g c = let a = c.requires.seat in (a.0, omega (arith, c.args.self.now.sized, c.requires.operation), stores_open_on (shows_by c.args.self.now.table.shared.key) rose _ _ _ _ _ c.args.self.now.planned a.1 a.2 c.args.operation c.args.id.0 _ c.requires.operation (ap (λ (n : ℕ). n + 1) c.word-word.ensures) c.requires.known.inside c.requires.known.known)
 
 pub returns : goal.returns
-returns g c = record { seat = still_seat _ _ c.args.seat.now c.store.new.seat _ c.requires.seat c.store.ensures.0 c.store.ensures.2.view refl refl; view = subst (λ (n : ℕ). PutAt (open_index c.args.self.now.plan c.args.operation) n c.args.seat.now.me c.store.new.seat.me) (ap (λ (n : ℕ). n + 1) c.word-word.ensures) c.store.ensures.2 }
+returns g c = record { seat = still_seat _ _ c.args.seat.now c.store.new.seat _ c.requires.seat c.store.ensures.0 c.store.ensures.2.view refl refl; noted = subst (λ (n : ℕ). PutAt (open_index c.args.self.now.plan c.args.operation) n c.args.seat.now.me c.store.new.seat.me) (ap (λ (n : ℕ). n + 1) c.word-word.ensures) c.store.ensures.2 }

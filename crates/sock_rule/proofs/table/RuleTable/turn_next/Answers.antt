@@ -5,11 +5,11 @@ use Rattle.sock_rule.proofs.Seating.{still_seat}
 use Rattle.sock_rule.proofs.Owning.{turns_on}
 use Rattle.sock_rule.proofs.table.RuleTable.turn_next.Goals as goal
 
-pub next_word-word-requires : goal.next_word-word-requires
-next_word-word-requires g c = omega (arith, c.requires.ticket.1, c.request.ensures)
+pub next_index-index-requires : goal.next_index-index-requires
+next_index-index-requires g c = omega (arith, c.requires.ticket.1, c.request.ensures)
 
 pub store-requires : goal.store-requires
-store-requires g c = let a = c.requires.seat in (a.0, omega (arith, c.args.self.now.sized, c.requires.ticket.1, c.request.ensures, c.next_word-word.ensures), turns_on (shows_by c.args.self.now.table.shared.key) rose c.args.self.now.table.shared.key.plan c.args.self.now.plan _ _ _ a.1 a.2 c.args.self.now.planned c.args.at.0 _ c.args.value (omega (arith, c.request.ensures, c.next_word-word.ensures)) c.requires.may)
+store-requires g c = let a = c.requires.seat in (a.0, omega (arith, c.args.self.now.sized, c.requires.ticket.1, c.request.ensures, c.next_index-index.ensures), turns_on (shows_by c.args.self.now.table.shared.key) rose c.args.self.now.table.shared.key.plan c.args.self.now.plan _ _ _ a.1 a.2 c.args.self.now.planned c.args.at.0 _ c.args.value (omega (arith, c.request.ensures, c.next_index-index.ensures)) c.requires.may)
 
 pub returns-clause-view : goal.returns-clause-view
 returns-clause-view g c = λ r top after before one stage. c.store.ensures.2 r top c.args.at.0 after before one stage

@@ -6,7 +6,7 @@ use Rattle.sock_rule.proofs.Sending.{readies_on}
 use Rattle.sock_rule.proofs.table.RuleTable.unconnect.Goals as goal
 
 pub store-requires : goal.store-requires
-store-requires g c = let a = c.requires.seat in let r = c.requires.claimed in (a.0, omega (arith, c.args.self.now.sized, c.requires.request, c.next_word-word.ensures), readies_on (shows_by c.args.self.now.table.shared.key) rose c.args.self.now.table.shared.key.plan c.args.self.now.plan _ _ _ a.1 a.2 c.args.self.now.planned c.args.at _ c.requires.request c.next_word-word.ensures r.0 r.1 r.2)
+store-requires g c = let a = c.requires.seat in let r = c.requires.claimed in (a.0, omega (arith, c.args.self.now.sized, c.requires.request, c.next_index-index.ensures), readies_on (shows_by c.args.self.now.table.shared.key) rose c.args.self.now.table.shared.key.plan c.args.self.now.plan _ _ _ a.1 a.2 c.args.self.now.planned c.args.at _ c.requires.request c.next_index-index.ensures r.0 r.1 r.2)
 
 pub returns-clause-view : goal.returns-clause-view
 returns-clause-view g c = λ d is. c.store.ensures.2 d is

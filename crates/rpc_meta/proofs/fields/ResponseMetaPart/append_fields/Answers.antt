@@ -2,11 +2,11 @@ use Rattle.std.proofs.Common.{◌≡◌, ℕ, List, ◌++◌, ◌∙◌, ap, sub
 use Rattle.pb_wire.specs.brpc_model.specs.Spelling.{spelled_int, number_field, where_not_empty}
 use Rattle.rpc_meta.specs.Writing.{Appends}
 use Rattle.rpc_meta.proofs.Appending.{behind}
-use Rattle.rpc_meta.proofs.write.append_outcome.Goals as goal
+use Rattle.rpc_meta.proofs.fields.ResponseMetaPart.append_fields.Goals as goal
 
 pub returns-clause-written : goal.returns-clause-written
 returns-clause-written c =
-    let r = c.args.response.now in
+    let r = c.args.self.now in
     let before = c.args.out.now.items in
     let now = c.append_number.new.out.items in
     let said : c.spelled.result ≡ spelled_int r.code = search rules in

@@ -1,11 +1,11 @@
 use Rattle.std.proofs.Common.{◌≡◌, ℕ, ◌+◌, ◌≤◌, List, ◌++◌, length, ◌∙◌, ap, sym, subst, rules}
 use Rattle.pb_wire.specs.brpc_model.specs.Spelling.{spelled_int, number_field, where_not_empty}
 use Rattle.rpc_meta.proofs.Appending.{joined, room_for, room_behind}
-use Rattle.rpc_meta.proofs.spell.spell_outcome.Goals as goal
+use Rattle.rpc_meta.proofs.fields.ResponseMetaPart.spell_fields.Goals as goal
 
 pub spell_number-requires : goal.spell_number-requires
 spell_number-requires c =
-    let r = c.args.response.now in
+    let r = c.args.self.now in
     let before = c.args.out.now in
     let said : c.spelled.result ≡ spelled_int r.code = search rules in
     let P : ℕ → Type 0 = λ n. length before + length (number_field 1 n) ≤ 128 in
@@ -13,7 +13,7 @@ spell_number-requires c =
 
 pub spell_text-requires : goal.spell_text-requires
 spell_text-requires c =
-    let r = c.args.response.now in
+    let r = c.args.self.now in
     let before = c.args.out.now in
     let now = c.spell_number.new.out in
     let said : c.spelled.result ≡ spelled_int r.code = search rules in
@@ -23,7 +23,7 @@ spell_text-requires c =
 
 pub returns-clause-exact : goal.returns-clause-exact
 returns-clause-exact c =
-    let r = c.args.response.now in
+    let r = c.args.self.now in
     let before = c.args.out.now in
     let now = c.spell_number.new.out in
     let said : c.spelled.result ≡ spelled_int r.code = search rules in

@@ -1,0 +1,14 @@
+ghost use Rattle.std.specs.Prelude.{◌≡◌, ◌≤◌, [], IfOk, vec_capacity};
+
+use crate::stream::NoMemory;
+use std::alloc::Global;
+
+/// No bytes, with the room for so many.
+pub(crate) fn with_room(alloc: Global, room: usize) -> Result<Vec<u8>, NoMemory>
+    ensures { IfOk result (λ bytes. (bytes.items ≡ []) × (room ≤ vec_capacity bytes)) }
+{
+    match Vec::with_capacity(alloc, room) {
+        Ok(bytes) => Ok(bytes),
+        Err(_) => Err(NoMemory),
+    }
+}
