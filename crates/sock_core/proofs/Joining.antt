@@ -228,7 +228,7 @@ shows_as a b {failed} {failed'} {heard} {heard'} {got} {got'} s same same_heard 
 
 -- of the ticks of a seat that has no step left
 pub shows_idle : (a b : MachineState) {failed failed' : List ℕ} {heard heard' got got' : ℕ → List Answer} → LinksShow a b failed heard got → failed' ≡ [] → ((k : ℕ) → heard k ≡ heard' k) → ((k : ℕ) → got k ≡ got' k) → LinksShow a b failed' heard' got'
-shows_idle a b s whole same_heard same_got = shows_as a b (record { broken = show_faults_none b; told = s.told; taken = s.taken; takes = s.takes }) (sym whole) same_heard same_got
+shows_idle a b {failed} {failed'} {heard} {heard'} {got} {got'} s whole same_heard same_got = shows_as a b {failed = []} {failed' = failed'} {heard = heard} {heard' = heard'} {got = got} {got' = got'} (record { broken = show_faults_none b; told = s.told; taken = s.taken; takes = s.takes }) (sym whole) same_heard same_got
 
 -- ## Ticks, one behind another
 
