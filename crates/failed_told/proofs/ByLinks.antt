@@ -114,13 +114,11 @@ module _ {O : Type 0} {g : Ghosts O} {state : O → OutState} {readers : List (L
 
   -- the last attempt of the call that is operation o, with this id, may be on a link whose reading ended with the code
   pub record EndedOn (o : ℕ) (asked : Asked) (id code : ℕ) : Type 0 where
-    pub link : ℕ
-    pub on : MayBeOn p every outcomes fixed_here gave orders_here o (last_attempt notes o) (name_of asked (last_attempt notes o)) link
-    pub lost : LostOn p every outcomes fixed_here gave orders_here o (last_attempt notes o) link
-    pub read : Reads link code
-    -- the word by which the code came to it; with 1014 the link gave no response of the call
+    -- the word by which the code came to it, which names the link; with 1014 the link gave no response of the call
     pub word : ℕ
-    pub names : at_word_link word ≡ link
+    pub on : MayBeOn p every outcomes fixed_here gave orders_here o (last_attempt notes o) (name_of asked (last_attempt notes o)) (at_word_link word)
+    pub lost : LostOn p every outcomes fixed_here gave orders_here o (last_attempt notes o) (at_word_link word)
+    pub read : Reads (at_word_link word) code
     pub call_is : call_at word ≡ id
     pub its : IsIdOf slots notes o id
     pub alone : code ≡ EEOF → Alone word
@@ -140,14 +138,12 @@ module _ {O : Type 0} {g : Ghosts O} {state : O → OutState} {readers : List (L
       let below = subst (λ (m : ℕ). n.attempt ≤ last_attempt notes m) its n.low in
       let last : n.attempt ≡ last_attempt notes o = omega (arith, current, most, below) in
       record {
-        link = at_word_link word;
+        word = word;
         on = subst (λ (m : ℕ). MayBeOn p every outcomes fixed_here gave orders_here o m (name_of asked m) (at_word_link word)) last
             (subst (λ (a : Asked). MayBeOn p every outcomes fixed_here gave orders_here o n.attempt (name_of a n.attempt) (at_word_link word)) whose
             (subst (λ (m : ℕ). MayBeOn p every outcomes fixed_here gave orders_here m n.attempt (name_of n.asked n.attempt) (at_word_link word)) its n.on));
         lost = subst (λ (m : ℕ). LostOn p every outcomes fixed_here gave orders_here o m (at_word_link word)) last (subst (λ (m : ℕ). LostOn p every outcomes fixed_here gave orders_here m n.attempt (at_word_link word)) its n.lost);
         read = h.read;
-        word = word;
-        names = refl;
         call_is = same;
         its = id;
         alone = alone;
