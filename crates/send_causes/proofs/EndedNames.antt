@@ -52,7 +52,7 @@ use Rattle.outcome_causes.proofs.HomeCalls.{AreCalls, PutsAsked, calls_behind}
 use Rattle.send_causes.proofs.Ticks.{few_more, few_of, calls_waiting, fits_as}
 use Rattle.call_causes.proofs.Chains.{AreFewTries as AreTries}
 use Rattle.send_causes.proofs.Views.{row_same}
-use Rattle.send_causes.proofs.EndedTrails.{Of, NoCall, Makes, Knows, Trail, lost, Stays, IsOwnStore, MayAttempt, GoesDo, GoesAside, Follows}
+use Rattle.send_causes.proofs.EndedTrails.{Of, NoCall, Makes, Knows, Trail, lost, Stays, IsAtOf, IsOwnStore, MayAttempt, GoesDo, GoesAside, Follows}
 use Rattle.send_causes.proofs.SeatFacts.{seat_facts}
 use Rattle.send_causes.proofs.EndedPrograms.{follows_round, block_goes, retry_goes}
 use Rattle.report_fits.proofs.Lists.{all_map}
@@ -102,19 +102,11 @@ module _ (is_call : Asked → Type 0) (seen : List Store) (es : List Event) wher
 
   -- the at word of operation o is that of an attempt over a socket with its name, whose link it tells
   pub record StoredFor (o w : ℕ) : Type 0 where
-    pub asked : Asked
-    pub called : is_call asked
-    pub operation : asked.operation ≡ o
-    pub id : ℕ
-    pub attempt : ℕ
-    pub link : ℕ
+    pub of : IsAtOf is_call o w
     pub socket : ℕ
-    pub word : w ≡ at_word (id_first id) (id_slot id) link attempt
-    pub slot : id_slot id < 65536
-    pub small : link < 65535
-    pub few : attempt ≤ 6
-    pub named : IsNamed (name_of asked attempt, socket)
-    pub given : WasGiven es (socket_id_slot socket) (socket_id_version socket) link
+    pub slot : id_slot of.id < 65536
+    pub named : IsNamed (name_of of.asked of.attempt, socket)
+    pub given : WasGiven es (socket_id_slot socket) (socket_id_version socket) of.link
     pub stored : IsStored (o, w)
 
   -- so of each that is there
@@ -243,7 +235,7 @@ module _ (is_call : Asked → Type 0) (seen : List Store) (es fs : List Event) (
   over_up h link o some_ = let a = o some_ in (a.0, a.1, a.2, a.3, named_up (name_of a.0 h.attempt, a.1) a.4, given_up (socket_id_slot a.1) (socket_id_version a.1) link a.5, (a.6.0, given_up (socket_id_slot a.1) (socket_id_version a.1) a.6.0 a.6.1, a.6.2))
 
   pub for_up : (o w : ℕ) → StoredFor is_call seen es o w → StoredFor is_call seen fs o w
-  for_up o w x = record { asked = x.asked; called = x.called; operation = x.operation; id = x.id; attempt = x.attempt; link = x.link; socket = x.socket; word = x.word; slot = x.slot; small = x.small; few = x.few; named = named_up (name_of x.asked x.attempt, x.socket) x.named; given = given_up (socket_id_slot x.socket) (socket_id_version x.socket) x.link x.given; stored = x.stored }
+  for_up o w x = record { of = x.of; socket = x.socket; slot = x.slot; named = named_up (name_of x.of.asked x.of.attempt, x.socket) x.named; given = given_up (socket_id_slot x.socket) (socket_id_version x.socket) x.of.link x.given; stored = x.stored }
 
   pub view_up : (v : View) → ViewOver is_call seen es v → ViewOver is_call seen fs v
   view_up v o = (all_map (ClaimOver is_call seen es) (ClaimOver is_call seen fs) (λ x a. over_up x.heading x.link a) v.claims o.0, all_map (AllByRecursion (EntryOver is_call seen es)) (AllByRecursion (EntryOver is_call seen fs)) (λ l a. all_map (EntryOver is_call seen es) (EntryOver is_call seen fs) (λ e b. over_up e.heading e.link b) l a) v.lists o.1)
@@ -378,7 +370,7 @@ module _ (p : Plan) (q : IdPlan) (narrow : q.slots ≤ 65536) (is_call : Asked �
           (λ far. at_one (ids.at_index c.calls.plan o) w n (λ e. far (omega (arith, e))) low some_)
         where
           now : StoredFor is_call seen fs o w
-          now = for_up is_call seen es fs up o w record { asked = own.asked; called = own.called; operation = own.operation; id = own.id; attempt = own.attempt; link = own.link; socket = own.socket; word = own.word; slot = subst (HasSlot is_call seen es) own.knows true_here.4; small = own.small; few = own.few; named = (subst (AllByRecursion (IsNamed is_call seen es)) own.name true_here.0).0; given = true_here.2 (name_of own.asked own.attempt) own.socket own.link own.name own.linked; stored = shown }
+          now = for_up is_call seen es fs up o w record { of = own.of; socket = own.socket; slot = subst (HasSlot is_call seen es) own.knows true_here.4; named = (subst (AllByRecursion (IsNamed is_call seen es)) own.name true_here.0).0; given = true_here.2 (name_of own.of.asked own.of.attempt) own.socket own.of.link own.name own.linked; stored = shown }
 
       pub ats_behind : (step : Step) (after : Program) (found : Found step) (x : Trail) → MayId p q u step → IsShown step → GoesAside is_call t step after found x → AtsFor is_call seen fs (calls_after step found c.calls)
       ats_behind (ClaimId k) after found x may shown g = at_else (ids.tag_index k) 1 (λ o _. λ e. omega (arith, e))
