@@ -17,7 +17,7 @@ use Rattle.sock_model.specs.declared.chain.Entry.{Entry}
 use Rattle.sock_model.specs.declared.home.Home.{Home}
 use Rattle.sock_model.specs.declared.view.View.{View}
 use Rattle.sock_model.specs.declared.view.Hand.{Hand}
-use Rattle.sock_model.specs.ChainRows.{with_claim, entry_of, more, queued, righted, taken_right}
+use Rattle.sock_model.specs.ChainRows.{with_claim, entry_of, more, queued, righted}
 use Rattle.sock_model.specs.Memory.{IDLE}
 use Rattle.sock_model.specs.SlotRows.{met_link}
 use Rattle.corr_core.specs.declared.marks.Plan.{Plan as IdPlan}
@@ -30,18 +30,17 @@ use Rattle.sock_message.specs.Asked.{Asked, name_of}
 use Rattle.seat_programs.specs.Beside.{found_in, calls_after, more_given}
 use Rattle.seat_programs.specs.Calls.{Call, StoreName, LoadName, FindLink, ClaimRequest, PutMessage, Unconnect, SwapHead}
 use Rattle.seat_programs.specs.Heads.{Retry}
-use Rattle.seat_programs.specs.Programs.{Program, Do, Say, Sent, TakeMessage, TakeHome, PutHome, PutBytes, AskReady, Write, Aside, Round, Keep, Retries}
-use Rattle.seat_programs.specs.Cores.{Calls, Core, SeatState, word_of, found_at, words_after, word_after, homes_after, hand_after, lies_at, first_of, others_of, link_place, resolved, waiting_at, next_step, with_seat, stepped}
+use Rattle.seat_programs.specs.Programs.{Program, Do, Say, Sent, Write, Aside, Round, Keep, Retries}
+use Rattle.seat_programs.specs.Cores.{Calls, Core, SeatState, word_of, found_at, words_after, word_after, homes_after, hand_after, resolved, waiting_at, next_step, with_seat, stepped}
 use Rattle.seat_programs.specs.declared.task.Task.{Task}
-use Rattle.seat_programs.specs.Ticks.{Moment, IsAnswered, fed, with_places, onto_first, taken, ticked}
+use Rattle.seat_programs.specs.Ticks.{Moment, IsAnswered, taken, ticked}
 use Rattle.sock_runs.specs.May.{May}
-use Rattle.sock_runs.specs.Rows.{row, hand_at, new_claim, filled_claim, ready_claim, by_claim, exchanged, took_message, link_away, link_home_again, took_bytes}
+use Rattle.sock_runs.specs.Rows.{row, hand_at, new_claim, filled_claim, ready_claim, by_claim, exchanged}
 use Rattle.sock_runs.specs.Sound.{Sound, first_step, views_after}
-use Rattle.sock_runs.proofs.Cases.{with_rights, right_rights, put_rights}
+use Rattle.sock_runs.proofs.Cases.{with_rights}
 use Rattle.outcome_causes.specs.Causes.{WasGiven}
 use Rattle.outcome_causes.specs.Kept.{Story}
 use Rattle.outcome_causes.specs.Stories.{Event, In, last_name}
-use Rattle.outcome_causes.proofs.Cases.{tick_cases}
 use Rattle.outcome_causes.proofs.Events.{event, marked_given, given_by, last_some}
 use Rattle.outcome_causes.proofs.Means.{held_given}
 use Rattle.outcome_causes.proofs.Tests.{split}
@@ -53,7 +52,7 @@ use Rattle.send_causes.proofs.Ticks.{few_more, few_of, calls_waiting, fits_as}
 use Rattle.call_causes.proofs.Chains.{AreFewTries as AreTries}
 use Rattle.send_causes.proofs.Views.{row_same}
 use Rattle.send_causes.proofs.EndedTrails.{Of, NoCall, Makes, Knows, Trail, lost, Stays, IsAtOf, IsOwnStore, MayAttempt, GoesDo, GoesAside, Follows}
-use Rattle.send_causes.proofs.SeatFacts.{seat_facts}
+use Rattle.send_causes.proofs.SeatFacts.{seat_facts, tick_moves}
 use Rattle.send_causes.proofs.EndedPrograms.{follows_round, block_goes, retry_goes}
 use Rattle.report_fits.proofs.Lists.{all_map}
 
@@ -415,18 +414,11 @@ module _ (p : Plan) (q : IdPlan) (narrow : q.slots ≤ 65536) (is_call : Asked �
     shown_of seat v t at here trail u at_u _ next is = tt
 
     pub name_ticks : After (ticked p c m) (views_after p c vs m)
-    name_ticks = tick_cases p c vs m sound answered After unchanged
+    name_ticks = tick_moves (Follows is_call) lost (record { message = λ t q next g. g; home = λ t k next g. g; puts_home = λ t k n after g. g; put = λ t k asked bytes next g. g; ask = λ t k next g. g }) p c vs m sound answered After unchanged
+        (λ seat v at here. (trail_of seat at).0)
+        (λ seat v at here x is. first_as seat at x is)
+        (λ seat v at here. let t = trail_of seat at in moves m.seat seat v t.0 at here t.1)
         (λ seat v call next at here is goes. let t = trail_of seat at in steps m.seat seat v t.0 at here t.1 call next goes.0 (first_as seat at (Do call next) is) (fits_as p c seat.program call next is (fitting seat at)))
-        (λ seat v r next heading bytes at here is goes. let t = trail_of seat at in let w = right_rights v v.rights (λ x. taken_right x heading bytes) in
-        moves m.seat seat v t.0 at here t.1 (next heading bytes) seat.hand (set c.homes r none) (took_message heading bytes v) w.0 w.1 (first_as seat at (TakeMessage r next) is heading bytes))
-        (λ seat v k next n at here is goes. let t = trail_of seat at in let w = right_rights v v.rights (λ x. record x { at_home = false }) in
-        moves m.seat seat v t.0 at here t.1 (next n) (lies_at c.homes (link_place p k) ++ seat.hand) (set c.homes (link_place p k) none) (link_away v) w.0 w.1 (first_as seat at (TakeHome k next) is n))
-        (λ seat v k n after at here is goes. let t = trail_of seat at in let w = right_rights v v.rights (λ x. record x { at_home = true }) in
-        moves m.seat seat v t.0 at here t.1 after (others_of seat.hand) (set c.homes (link_place p k) (first_of (onto_first (with_places n) seat.hand))) (link_home_again v) w.0 w.1 (first_as seat at (PutHome k n after) is))
-        (λ seat v k asked bytes next answer at here is goes answer_is fits. let t = trail_of seat at in let w = put_rights v answer in
-        moves m.seat seat v t.0 at here t.1 (next answer) (onto_first (fed bytes answer) seat.hand) c.homes (took_bytes answer v) w.0 w.1 (first_as seat at (PutBytes k asked bytes next) is answer))
-        (λ seat v k next answer at here is goes answer_is. let t = trail_of seat at in subst (λ xs. After (with_seat m.seat (next answer) seat.hand c.words c.homes c) xs) (set_again vs m.seat v here)
-        (moves m.seat seat v t.0 at here t.1 (next answer) seat.hand c.homes v v.rights refl (first_as seat at (AskReady k next) is answer)))
         (λ seat v s next found at here is goes found_is. let t = trail_of seat at in let u = view_of seat at in
         asides m.seat seat v t.0 at here t.1 u.0 u.1 s next found (taken m.answer) found_is (may_as seat at (Aside s next) is).0 (shown_of seat v t.0 at here t.1 u.0 u.1 s next is) (first_as seat at (Aside s next) is))
 
