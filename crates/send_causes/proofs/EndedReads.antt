@@ -1,8 +1,8 @@
 -- A reader posts errors only behind the end of its reading, and for at words that it loaded which name its link.
-use Rattle.std.proofs.Common.{◌≡◌, ◌≢◌, ℕ, ◌+◌, ◌-◌, ◌%◌, ◌==◌, ◌&&◌, ◌⊎◌, inl, inr, not, nat_lt, ltb-false, eqb-true, eq-eqb, Bool, true, false, cond, List, [], ◌∷◌, ◌++◌, length, length-append, append-nil, refl, sym, ap, ◌∙◌, subst, arith}
+use Rattle.std.proofs.Common.{◌≡◌, ◌≢◌, ℕ, ◌+◌, ◌-◌, ◌==◌, ◌&&◌, ◌⊎◌, inl, inr, not, nat_lt, ltb-false, eqb-true, eq-eqb, Bool, true, false, cond, List, [], ◌∷◌, ◌++◌, length, length-append, append-nil, refl, sym, ap, ◌∙◌, subst, arith}
 use Rattle.std.proofs.lemmas.Bool.{true≢false}
 use Rattle.std.proofs.lemmas.List.Concat.{flat_map-append}
-use Rattle.sock_words.specs.Words.{socket_id_version, socket_id_slot, vref_version, at_word_first, at_word_slot, at_word_link, at_word_attempt}
+use Rattle.sock_words.specs.Words.{at_word_first, at_word_slot, at_word_link, at_word_attempt}
 use Rattle.sock_steps.proofs.Quiet.{either_way}
 use Rattle.corr_core.specs.Word.{parts, posted_word, code_of, error_of}
 use Rattle.brpc_model.specs.Frame.{Frame}
@@ -10,7 +10,7 @@ use Rattle.brpc_model.specs.Stream as streams
 use Rattle.label_runs.proofs.Loops.{id_back, not_true, and_left}
 use Rattle.seat_programs.specs.Asides.{Step, Found, LoadAt, PostId, TakeBytes, Taking, Bytes, Nothing, NoMore, AtEnd, Closed, Broken, call_id, id_slot, id_first}
 use Rattle.seat_programs.specs.Heads.{Head, Exit, Retry, Reading, Posts, Unlocks, Decides, Locks, Joins, Opens, Reads, Discards, Posting, WasGone, WasStale, WasCrowded, WasQueued, HasLocked, Ended}
-use Rattle.seat_programs.specs.Programs.{Program, Do, Say, Sent, Rest, TakeMessage, TakeHome, PutHome, PutBytes, AskReady, Write, Aside, Round, Keep, Retries, NO_SOCKET, release, address, set_failed}
+use Rattle.seat_programs.specs.Programs.{Program, Do, Say, Sent, Rest, TakeMessage, TakeHome, PutHome, PutBytes, AskReady, Write, Aside, Round, Keep, Retries, NO_SOCKET}
 use Rattle.seat_programs.specs.Posts.{packed, is_first, is_stale, is_full, judged, posts_round, post_with}
 use Rattle.seat_programs.specs.Readers.{LIMIT, last_of, ended_by, read_on, took, discarded, posted_last, post_each, thrown_away, read, reader}
 use Rattle.seat_programs.specs.Rounds.{round}
@@ -19,9 +19,9 @@ use Rattle.sock_runs.specs.Sound.{first_step}
 use Rattle.outcome_causes.specs.Stories.{In}
 use Rattle.outcome_causes.proofs.Plain.{in_left}
 use Rattle.run_theorems.specs.Heard.{bytes_found, given_by}
-use Rattle.sock_runs.proofs.Through.{PassesLocked, is_of_id, is_of_lock, given_release}
+use Rattle.sock_runs.proofs.Through.{PassesLocked, PassesWords, is_of_id, is_of_lock, through_set_failed}
 use Rattle.sock_runs.proofs.ThroughLoops.{through_unlocks, through_decides, through_locks, through_joins, through_answer, through_responses, through_opens}
-use Rattle.sock_runs.proofs.ThroughCalls.{through_posted_last}
+use Rattle.sock_runs.proofs.ThroughCalls.{through_posted_last, through_read_end}
 use Rattle.brpc_model.specs.Causes.{HasFault}
 use Rattle.call_causes.proofs.Streams.{faults_more, faults_follow, tied_more}
 use Rattle.send_causes.proofs.Closers.{gave_more, gave_none, last_in}
@@ -113,8 +113,8 @@ module _ (k : ℕ) (At : ℕ → ℕ → Type 0) where
     tell_locked : PassesLocked C
     tell_locked = record { say = λ o outcome next x. x; aside = asides; round = rounds; again = λ id w next kept is x exit. subst C (sym (is exit)) (x exit) }
 
-    tell_release : (i : ℕ) (next : Bool → Program) → ((b : Bool) → C (next b)) → C (release i next)
-    tell_release = given_release C (λ call next is x. x)
+    tell_words : PassesWords C
+    tell_words = record { step = λ call next is x. x; say = λ o outcome next x. x }
 
     tell_judged : (id e found : ℕ) (next : Posting → Program) → MayPost h id e → ((x : Posting) → C (next x)) → C (judged id e found next)
     tell_judged id e found next may after = let two : Program = cond (is_full (parts found)) (next (WasCrowded (code_of (parts found).oldest) (code_of (parts found).second))) (Round (Posts id e found) next) in
@@ -145,26 +145,13 @@ module _ (k : ℕ) (At : ℕ → ℕ → Type 0) where
         (through_posted_last C tell_locked (call_id (at_word_slot w) (at_word_first w)) (error_of c (at_word_attempt w)) kept (post_each os k c kept next) more))
         (λ _. more)))
 
-    tell_address : (id : ℕ) (held : Program) (gone : ℕ → Program) → C held → ((found : ℕ) → C (gone found)) → C (address id held gone)
-    tell_address id held gone goes after = λ found. either_way (vref_version found == socket_id_version id) held (release (socket_id_slot id) (λ _. gone found)) C goes (tell_release (socket_id_slot id) (λ _. gone found) (λ _. after found))
-
-    tell_set_failed : (id code : ℕ) (next : ℕ → Program) → ((found : ℕ) → C (next found)) → C (set_failed id code next)
-    tell_set_failed id code next after = λ found. either_way (vref_version found % 2 == 0) _ _ C (λ _ _. after found) (after found)
-
     thrown_tells : (how : Ended) → how.reading.link ≡ k → C (thrown_away how)
     thrown_tells how own = either_way (how.fault && nat_lt how.reading.total LIMIT) (Round (Discards how.reading.link how.reading.total) (λ _. Rest)) Rest C (own, λ n h'. tt) tt
 
-    abbrev last_posts : List ℕ → Ended → Program
-    last_posts calls how = post_each calls how.reading.link how.code how.reading.kept (thrown_away how)
-
     -- the end of a reading
     read_tells : (calls : List ℕ) (how : Ended) → EndsSo h how → C (read calls how)
-    read_tells calls how e = either_way how.closed (last_posts calls how) (address how.reading.id (set_failed how.reading.id how.code (λ _. release (socket_id_slot how.reading.id) (λ _. (last_posts calls how)))) (λ _. (last_posts calls how))) C lasts
-        (tell_address how.reading.id (set_failed how.reading.id how.code (λ _. release (socket_id_slot how.reading.id) (λ _. (last_posts calls how)))) (λ _. (last_posts calls how))
-        (tell_set_failed how.reading.id how.code (λ _. release (socket_id_slot how.reading.id) (λ _. (last_posts calls how))) (λ _. tell_release (socket_id_slot how.reading.id) (λ _. (last_posts calls how)) (λ _. lasts))) (λ _. lasts))
-      where
-        lasts : C (last_posts calls how)
-        lasts = subst (λ l. C (post_each calls l how.code how.reading.kept (thrown_away how))) (sym e.1) (tell_post_each calls how.code how.reading.kept (thrown_away how) e.0 (thrown_tells how e.1))
+    read_tells calls how e = through_read_end C tell_words calls how (through_set_failed C tell_words (λ call next is x. x) how.code)
+        (subst (λ l. C (post_each calls l how.code how.reading.kept (thrown_away how))) (sym e.1) (tell_post_each calls how.code how.reading.kept (thrown_away how) e.0 (thrown_tells how e.1)))
 
   -- ## Reading
 

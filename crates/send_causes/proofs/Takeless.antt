@@ -67,7 +67,7 @@ module _ (J : Type 0) where
   takes_plain = at_steps_plain asks tt (λ call next is r. r) (λ behind r. r) takes_aside (by_errors NoTakes (λ id e w next r. r) (λ i w advance next r. r) (λ id asked w e next r. r)) (λ id w next r. r)
 
   takes_fails : (code : ℕ) → PassesFails NoTakes code
-  takes_fails = through_set_failed NoTakes takes_plain (λ call next is r. r)
+  takes_fails = through_set_failed NoTakes takes_plain.words (λ call next is r. r)
 
   takes_sends : PassesSends NoTakes
   takes_sends = at_steps_sends asks tt takes_plain (λ call next is r. r) (λ behind r. r) (λ behind r. r) (λ behind r. r) (takes_fails 1009)
@@ -79,20 +79,20 @@ module _ (J : Type 0) where
 
   takes_operation : (sizes : Sizes) (held : List HeldLife) (o : ℕ) (next : List HeldLife → Program) (op : Op) → ((t : ℕ) → op ≡ ops.Join t → J) → ((h : List HeldLife) → NoTakes (next h)) → NoTakes (operation sizes held o next op)
   takes_operation sizes held o next op may after = through_operation NoTakes takes_plain sizes held o next op after (record {
-    opens = λ name k e. through_open NoTakes takes_plain (λ call next is r. r) sizes.slots 0 o name k (next held) (after held);
+    opens = λ name k e. through_open NoTakes takes_plain.words (λ call next is r. r) sizes.slots 0 o name k (next held) (after held);
     sends = λ name bytes e. through_send NoTakes takes_sends sizes.requests o name bytes (next held) (after held);
     calls = λ asked e. through_call NoTakes takes_plain sizes.requests asked (next held) (after held) (λ id socket. takes_attempt sizes.requests asked id 0 socket (next held) (after held)) sizes.ids;
     joins = λ t e. through_join NoTakes takes_plain (λ id next r. (may t e, r)) o t (next held) (after held);
-    fails = λ name code e. through_fail NoTakes takes_plain o name code (next held) (takes_fails code) (after held);
+    fails = λ name code e. through_fail NoTakes takes_plain.words o name code (next held) (takes_fails code) (after held);
   })
 
   pub client_takes : (sizes : Sizes) (ts : List Task) → ((t : Task) → lists.Has ts t → (o : ℕ) → t.op ≡ ops.Join o → J) → (held : List HeldLife) → NoTakes (client_from sizes held ts)
-  client_takes sizes [] may held = through_back NoTakes takes_plain tt held
+  client_takes sizes [] may held = through_back NoTakes takes_plain.words tt held
   client_takes sizes (t ∷ ts) may held = takes_operation sizes held t.number (λ h. client_from sizes h ts) t.op (may t (lists.has_first t ts)) (λ h. client_takes sizes ts (λ x has. may x (lists.has_later t ts x has)) h)
 
   pub ending_takes : (os : List ℕ) → NoTakes (ending_of os)
   ending_takes [] = tt
-  ending_takes (o ∷ os) = λ word. through_ended NoTakes takes_plain (takes_fails 1014) word (ending_of os) (ending_takes os)
+  ending_takes (o ∷ os) = λ word. through_ended NoTakes takes_plain.words (takes_fails 1014) word (ending_of os) (ending_takes os)
 
   -- ## Along ticks
 

@@ -14,7 +14,7 @@ use Rattle.sock_runs.specs.Sound.{first_step}
 use Rattle.send_causes.specs.Below.run_theorems.specs.Heard.{bytes_found}
 use Rattle.sock_runs.proofs.Through.{PassesPlain, is_plain_aside, by_errors, locked, through_set_failed}
 use Rattle.sock_runs.proofs.ThroughLoops.{through_errors, through_locks, through_joins, through_answer, through_responses, through_opens}
-use Rattle.sock_runs.proofs.ThroughCalls.{through_read_so}
+use Rattle.sock_runs.proofs.ThroughCalls.{through_post_each, through_read_end}
 use Rattle.brpc_model.specs.Causes.{HasFault}
 use Rattle.send_causes.specs.Below.call_causes.proofs.Streams.{faults_more, faults_follow, tied_more}
 
@@ -71,7 +71,7 @@ module _ (k : ℕ) where
 
     go_plain : PassesPlain C
     go_plain = record {
-      step = λ call next is x. x;
+      words = record { step = λ call next is x. x; say = λ o outcome next x. x };
       errors = record { say = λ o outcome next x. x; aside = asides; round = by_errors C (λ id e w next r. r) (λ i w advance next r. r) (λ id asked w e next r. r); again = λ id w next kept is x exit. subst C (sym (is exit)) (x exit) };
     }
 
@@ -84,7 +84,8 @@ module _ (k : ℕ) where
 
     -- the end of a reading
     pub read_goes : (calls : List ℕ) (how : Ended) → EndsSo g last how → C (read calls how)
-    read_goes calls how e = through_read_so C go_plain calls how (through_set_failed C go_plain (λ call next is x. x) how.code) (thrown_goes how e)
+    read_goes calls how e = through_read_end C go_plain.words calls how (through_set_failed C go_plain.words (λ call next is x. x) how.code)
+        (through_post_each C go_plain.errors calls how.reading.link how.code how.reading.kept (thrown_away how) (thrown_goes how e))
 
   -- ## Reading
 

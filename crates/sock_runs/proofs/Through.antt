@@ -112,9 +112,14 @@ PassesErrors = PassesBeside is_plain_aside is_of_errors
 abbrev pub PassesLocked : (Program → Type 0) → Type 0
 PassesLocked = PassesBeside is_of_id is_of_lock
 
+-- of plain steps on words, and of what is said
+pub record PassesWords (G : Program → Type 0) : Type 0 where
+  pub step : PassesSteps is_plain G
+  pub say : (o : ℕ) (outcome : Outcome) (next : Program) → G next → G (Say o outcome next)
+
 -- what every property asks
 pub record PassesPlain (G : Program → Type 0) : Type 0 where
-  pub step : PassesSteps is_plain G
+  pub words : PassesWords G
   pub errors : PassesErrors G
 
 -- lives are set failed with this code
@@ -225,7 +230,7 @@ module _ (G : Program → Type 0) (frees : PassesSteps is_freeing G) where
   pub given_release : (i : ℕ) (next : Bool → Program) → ((b : Bool) → G (next b)) → G (release i next)
   given_release i next after = frees (SubRef i) _ refl (λ found. either_way ((vref_version found % 2 == 1) && (vref_nref found == 1)) _ _ G (given_recycle i (found - 1) next after) (after false))
 
-module _ (G : Program → Type 0) (g : PassesPlain G) where
+module _ (G : Program → Type 0) (g : PassesWords G) where
   frees : PassesSteps is_freeing G
   frees call next is r = g.step call next (plain call is) r
     where
@@ -253,14 +258,14 @@ module _ (G : Program → Type 0) (g : PassesPlain G) where
       (failing (StoreCode (socket_id_slot id) (socket_id_version id) code) _ refl (λ _. g.step (SubRef (socket_id_slot id)) _ refl (λ _. after found))) (after found))
 
   pub through_fail : (o name code : ℕ) (next : Program) → PassesFails G code → G next → G (fail o name code next)
-  through_fail o name code next fails after = through_reach name _ _ _ (g.errors.say o _ next after)
-      (λ id. fails id _ (λ found. through_release (socket_id_slot id) _ (λ _. g.errors.say o (fail_outcome found) next after))) (λ found. g.errors.say o _ next after)
+  through_fail o name code next fails after = through_reach name _ _ _ (g.say o _ next after)
+      (λ id. fails id _ (λ found. through_release (socket_id_slot id) _ (λ _. g.say o (fail_outcome found) next after))) (λ found. g.say o _ next after)
 
   pub through_hold : (o name : ℕ) (held : ℕ → Program) (next : Program) → ((id : ℕ) → G (held id)) → G next → G (hold o name held next)
-  through_hold o name held next h after = through_reach name _ _ _ (g.errors.say o _ next after) (λ id. g.errors.say o Held (held id) (h id)) (λ found. g.errors.say o (Gone (record { 0 = found })) next after)
+  through_hold o name held next h after = through_reach name _ _ _ (g.say o _ next after) (λ id. g.say o Held (held id) (h id)) (λ found. g.say o (Gone (record { 0 = found })) next after)
 
   pub through_drop : (o id : ℕ) (next : Program) → G next → G (drop_held o id next)
-  through_drop o id next after = through_release (socket_id_slot id) _ (λ freed. g.errors.say o (cond freed Freed Kept) next after)
+  through_drop o id next after = through_release (socket_id_slot id) _ (λ freed. g.say o (cond freed Freed Kept) next after)
 
 -- where nothing is asked of a step that no message makes
 module _ (G : Program → Type 0) (others : (call : Call) (next : ℕ → Program) → is_of_message call ≡ false → ((found : ℕ) → G (next found)) → G (Do call next)) where
@@ -297,7 +302,7 @@ reads_any G plain looped take = record {
 
 -- where nothing is asked of what sets a life failed
 pub through_any_failed : (G : Program → Type 0) (g : Passes G) (code : ℕ) → PassesFails G code
-through_any_failed G g code = through_set_failed G g.sends.plain g.failing code
+through_any_failed G g code = through_set_failed G g.sends.plain.words g.failing code
 
 -- ## Properties along steps
 
@@ -311,7 +316,7 @@ module _ {S : Type 0} (asks : Asks S) (s : S) where
       → ((head : Head) (next : Exit head → Program) → is_of_errors head ≡ true → ((exit : Exit head) → B (next exit)) → B (Round head next))
       → ((id w : ℕ) (next : Unlocking → Program) → ((exit : Unlocking) → B (next exit)) → asks.loop s (Unlocks (id_slot id) w true) (λ t exit. AtSteps asks t (Keep (record { id = id; attempt = (parts w).attempt + 1 }) (next exit)))) → PassesPlain B
   at_steps_plain step said aside round again = record {
-    step = step;
+    words = record { step = step; say = λ o outcome next r. said (λ t. AtSteps asks t next) r };
     errors = record {
       say = λ o outcome next r. said (λ t. AtSteps asks t next) r;
       aside = aside;
@@ -391,7 +396,7 @@ module _ {S : Type 0} (rest : Type 0) (calls : S → Call → (ℕ → Program) 
       bare = at_steps_plain asked s (λ call next is r. let n = three_none call is in plain call next n.0 n.1 n.2 r) (λ behind r. r) (λ step next is r. r) of_errors (λ id w next r. looped (Unlocks (id_slot id) w true) refl (λ exit. Keep (record { id = id; attempt = (parts w).attempt + 1 }) (next exit)) r)
 
       fails : (code : ℕ) → PassesFails A code
-      fails = through_set_failed A bare failing
+      fails = through_set_failed A bare.words failing
 
   pub at_calls_follow : ((head : Head) (next : Exit head → Program) → A (Round head next) → (exit : Exit head) → A (next exit)) → Follows A
   at_calls_follow left = record { said = λ o outcome next r. r; sent = λ o next r. r; message = λ q next r. r; home = λ k next r. r; puts_home = λ k n after r. r; put = λ k asked bytes next r. r; ask = λ k next r. r; write = λ w after r. r; aside = λ step next r. r; round = left; keep = λ r next x. x; retries = λ requests after r. r }

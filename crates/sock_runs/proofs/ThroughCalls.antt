@@ -18,7 +18,7 @@ use Rattle.seat_programs.specs.Readers.{LIMIT, kept_for, ends_with, posted_last,
 use Rattle.seat_programs.specs.Rounds.{round}
 use Rattle.seat_programs.specs.Cores.{resolved, next_step}
 use Rattle.sock_runs.specs.Sound.{first_step}
-use Rattle.sock_runs.proofs.Through.{PassesErrors, PassesLocked, PassesPlain, PassesFails, PassesSends, PassesStores, PassesLocks, PassesJoins, PassesReads, PassesOpens, Passes, any_end, Follows, next_follows, locked, through_release, through_address}
+use Rattle.sock_runs.proofs.Through.{PassesErrors, PassesLocked, PassesWords, PassesPlain, PassesFails, PassesSends, PassesStores, PassesLocks, PassesJoins, PassesReads, PassesOpens, Passes, any_end, Follows, next_follows, locked, through_release, through_address}
 use Rattle.sock_runs.proofs.ThroughLoops.{through_post, through_post_with, through_posted, through_decide, through_decided, through_answer, through_opens, through_round}
 use Rattle.sock_runs.proofs.ThroughSends.{through_accept, through_block}
 
@@ -34,9 +34,9 @@ module _ (G : Program → Type 0) (s : PassesSends G) (stored : PassesStores G) 
       → G (address socket (Do (FindLink (socket_id_slot socket) (socket_id_version socket)) (λ k. Aside (StoreAt o (at_word (id_first id) (id_slot id) k n)) (λ _. Do (LookWord socket) (λ found.
       cond (vref_version found % 2 == 0) (claims_from requests 0 socket heading bytes (post id 3001 n (release (socket_id_slot socket) (λ _. next))) (release (socket_id_slot socket) (λ _. next)))
       (post id 1009 n (release (socket_id_slot socket) (λ _. next))))))) (λ _. post id 1009 n next))
-  through_tries requests o socket id n heading bytes next after = let goes : G (release (socket_id_slot socket) (λ _. next)) = through_release G s.plain (socket_id_slot socket) (λ _. next) (λ _. after) in
-      through_address G s.plain socket _ (λ _. post id 1009 n next)
-      (s.plain.step (FindLink (socket_id_slot socket) (socket_id_version socket)) _ refl (λ k. stored o (at_word (id_first id) (id_slot id) k n) _ (λ _. s.step (LookWord socket) _ refl (λ found.
+  through_tries requests o socket id n heading bytes next after = let goes : G (release (socket_id_slot socket) (λ _. next)) = through_release G s.plain.words (socket_id_slot socket) (λ _. next) (λ _. after) in
+      through_address G s.plain.words socket _ (λ _. post id 1009 n next)
+      (s.plain.words.step (FindLink (socket_id_slot socket) (socket_id_version socket)) _ refl (λ k. stored o (at_word (id_first id) (id_slot id) k n) _ (λ _. s.step (LookWord socket) _ refl (λ found.
       either_way (vref_version found % 2 == 0) _ _ G
       (through_claims requests 0 socket heading bytes (post id 3001 n (release (socket_id_slot socket) (λ _. next))) (release (socket_id_slot socket) (λ _. next)) (through_post G s.plain.errors id 3001 n (release (socket_id_slot socket) (λ _. next)) goes) goes)
       (through_post G s.plain.errors id 1009 n (release (socket_id_slot socket) (λ _. next)) goes)))))
@@ -59,12 +59,12 @@ module _ (G : Program → Type 0) (g : PassesPlain G) where
     through_claim_id (suc more) i socket = g.errors.aside (ClaimId i) _ refl (λ found. either_way (found == 0) _ _ G (through_begin_call socket i) (through_claim_id more (i + 1) socket))
 
     pub through_call : (ids : ℕ) → G (call requests ids asked next)
-    through_call ids = g.step (LoadName (name_of asked 0)) _ refl (λ word. either_way (word == 0) _ _ G (g.errors.say asked.operation Unopened next after) (through_claim_id ids 0 (word - 1)))
+    through_call ids = g.words.step (LoadName (name_of asked 0)) _ refl (λ word. either_way (word == 0) _ _ G (g.errors.say asked.operation Unopened next after) (through_claim_id ids 0 (word - 1)))
 
   -- a retry, where its attempt may come
   module _ (requests id n : ℕ) (next : Program) (after : G next) (tries : (asked : Asked) (socket : ℕ) → G (attempt requests asked id n socket next)) where
     through_tried : (asked : Asked) (exit : Unlocking) → G (tried_again requests id n asked next exit)
-    through_tried asked (IsOpen w) = g.step (LoadName (name_of asked n)) _ refl (λ word. either_way (word == 0) _ _ G (through_post G g.errors id 1009 n next after) (tries asked (word - 1)))
+    through_tried asked (IsOpen w) = g.words.step (LoadName (name_of asked n)) _ refl (λ word. either_way (word == 0) _ _ G (through_post G g.errors id 1009 n next after) (tries asked (word - 1)))
     through_tried asked (HasNext w e) = through_decide G (locked g.errors) id w e (decided id next) (through_decided G (locked g.errors) id next after)
 
     through_retry_locked : (exit : Locking) → G (retry_locked requests id n next exit)
@@ -100,10 +100,10 @@ module _ (G : Program → Type 0) (g : PassesErrors G) where
       (through_post_with G g (call_id (at_word_slot w) (at_word_first w)) (error_of c (at_word_attempt w)) (posted_last (call_id (at_word_slot w) (at_word_first w)) (error_of c (at_word_attempt w)) kept (post_each os k c kept next))
       (through_posted_last G (locked g) (call_id (at_word_slot w) (at_word_first w)) (error_of c (at_word_attempt w)) kept (post_each os k c kept next) more)) more))
 
-module _ (G : Program → Type 0) (g : PassesPlain G) where
-  -- the end of a reading, where its socket may be set failed and the rest thrown away
-  pub through_read_so : (calls : List ℕ) (how : Ended) → PassesFails G how.code → G (thrown_away how) → G (read calls how)
-  through_read_so calls how fails thrown = let last = through_post_each G g.errors calls how.reading.link how.code how.reading.kept (thrown_away how) thrown in either_way how.closed _ _ G last
+module _ (G : Program → Type 0) (g : PassesWords G) where
+  -- the end of a reading, where its socket may be set failed and its last posts come
+  pub through_read_end : (calls : List ℕ) (how : Ended) → PassesFails G how.code → G (post_each calls how.reading.link how.code how.reading.kept (thrown_away how)) → G (read calls how)
+  through_read_end calls how fails last = either_way how.closed _ _ G last
       (through_address G g how.reading.id _ _ (fails how.reading.id _ (λ _. through_release G g (socket_id_slot how.reading.id) _ (λ _. last))) (λ _. last))
 
 module _ (Ends : Ended → Type 0) (G : Program → Type 0) (g : PassesReads Ends G) (fails : (how : Ended) → Ends how → PassesFails G how.code) (rests : G Rest) where
@@ -111,7 +111,8 @@ module _ (Ends : Ended → Type 0) (G : Program → Type 0) (g : PassesReads End
   through_thrown_away how = either_way (how.fault && nat_lt how.reading.total LIMIT) _ _ G (g.discards how.reading.link how.reading.total (λ _. Rest) (λ _. rests)) rests
 
   through_read : (calls : List ℕ) (how : Ended) → Ends how → G (read calls how)
-  through_read calls how ends = through_read_so G g.plain calls how (fails how ends) (through_thrown_away how)
+  through_read calls how ends = through_read_end G g.plain.words calls how (fails how ends)
+      (through_post_each G g.plain.errors calls how.reading.link how.code how.reading.kept (thrown_away how) (through_thrown_away how))
 
   -- behind the word of its `open`
   pub through_reading : (calls : List ℕ) (k word : ℕ) → G (cond (word == NO_SOCKET) Rest (Round (Reads (record { ids = length calls; link = k; id = word - 1; rest = []; total = 0; kept = [] })) (read calls)))
