@@ -45,6 +45,15 @@ pub struct NoRun<O: Out> {
     pub outs: Vec<O>,
 }
 
+/// All that a run needs of memory before its tables are made.
+#[derive(Drop)]
+pub struct Cast<O: Out> {
+    pub main: Room<O>,
+    pub rooms: Vec<Room<O>>,
+    pub workers: Vec<Worker<O>>,
+    pub kit: Kit<O>,
+}
+
 /// What a run has besides its clients: the `open`s of the setup, room for the names that they open and for what is left, and
 /// `last` with room for the seat that takes in all others.
 #[derive(Drop)]
@@ -53,15 +62,6 @@ pub struct Kit<O: Out> {
     pub names: Vec<u16>,
     pub left: Left<O>,
     pub last: Vec<SockSeat<O>>,
-}
-
-/// All that a run needs of memory before its tables are made.
-#[derive(Drop)]
-pub struct Cast<O: Out> {
-    pub main: Room<O>,
-    pub rooms: Vec<Room<O>>,
-    pub workers: Vec<Worker<O>>,
-    pub kit: Kit<O>,
 }
 
 /// Room for these clients and their setup.
@@ -81,14 +81,17 @@ pub fn prepare<O: Out>(
     let rooms = rooms_for(alloc, clients)?;
     let main = room_for(alloc, setup)?;
     let left = room_to_leave(alloc, count + 1)?;
-    Ok(Cast {
-        main,
-        rooms,
-        workers,
+    let kit = Kit {
         openings,
         names,
         left,
         last,
+    };
+    Ok(Cast {
+        main,
+        rooms,
+        workers,
+        kit,
     })
 }
 
