@@ -2,6 +2,7 @@
 use Rattle.std.proofs.Common.{◌≡◌, ℕ, ◌+◌, ◌%◌, ◌≤◌, ◌==◌, ◌&&◌, ◌⊎◌, inl, inr, nat_lt, ltb-false, Bool, true, false, cond, List, [], ◌∷◌, ◌++◌, length, length-append, append-nil, refl, sym, ap, ◌∙◌, subst, arith}
 use Rattle.std.proofs.lemmas.Bool.{true≢false}
 use Rattle.std.proofs.lemmas.List.Concat.{flat_map-append}
+use Rattle.std.specs.Prelude.{Some, None}
 use Rattle.sock_words.specs.Words.{socket_id_version, socket_id_slot, vref_version}
 use Rattle.sock_steps.proofs.Quiet.{either_way}
 use Rattle.corr_core.specs.Word.{parts, code_of}
@@ -212,7 +213,8 @@ module _ (k id : ℕ) (Odd : List Taking → Type 0) (Lasts : Type 0) where
     calm_round held h (Decides i asked w e) next x = either_way (ends_call (parts w) e) _ _ (Calm held h)
         (through_end_id (Calm false h) (locked (calm_errors h)) (id_slot i) (next (HasEnded asked.operation (code_of e))) (x (HasEnded asked.operation (code_of e))))
         (λ _. through_advance (Calm false h) (locked (calm_errors h)) i w next x)
-    calm_round held h (Locks i sought w) next x = through_locks (Calm false h) (locked (calm_errors h)) (λ i sought w next y. y) i sought w next x
+    calm_round held h (Locks i sought None) next x = through_locks (Calm false h) (locked (calm_errors h)) (λ i sought w next y. y) i sought None next x
+    calm_round held h (Locks i sought (Some w)) next x = through_locks (Calm false h) (locked (calm_errors h)) (λ i sought w next y. y) i sought (Some w) next x
     calm_round held h (Joins i) next x = through_joins (Calm false h) (locked (calm_errors h)) (λ i next y. y) i next x
     calm_round held h (Opens o) next x = absurd x
     calm_round held h (Reads r) next x = let at = x.0 in (at.link, λ t some_. took_calm h r next at x.1 t some_)
