@@ -22,7 +22,7 @@ use Rattle.seat_states.specs.declared.point.Point.{Point}
 use Rattle.seat_states.specs.declared.point.Point.TheVariants as points
 use Rattle.seat_programs.specs.declared.task.Sizes.{Sizes}
 use Rattle.seat_programs.specs.Heads.{Retry}
-use Rattle.seat_programs.specs.Programs.{Program, Do, Say, Sent, Rest, TakeMessage, TakeHome, PutHome, PutBytes, AskReady, Write, Aside, Round, Keep, Retries}
+use Rattle.seat_programs.specs.Programs.{Program, Say, Sent, Keep, Retries}
 use Rattle.seat_programs.specs.Cores.{resolved, still_waiting, said, next_step}
 use Rattle.seat_states.specs.sock_runs.specs.Sound.{is_begun}
 use Rattle.seat_states.specs.Points.{Context, point_program, look_program}
@@ -34,84 +34,20 @@ look_begun a (authors.Send o) id = refl
 look_begun a (authors.Attempt t) id = refl
 
 pub begun : (a : Context) (p : Point) → is_begun (point_program a p) ≡ true
-begun a points.Rest = refl
-begun a (points.Open g (opens.Claim i)) = refl
-begun a (points.Open g (opens.StoreLink i)) = refl
-begun a (points.Open g (opens.ResetHead i)) = refl
-begun a (points.Open g (opens.ClearCode i)) = refl
-begun a (points.Open g (opens.CreateLife i)) = refl
-begun a (points.Open g (opens.StoreOpen i v)) = refl
-begun a (points.Open g (opens.StoreName i v)) = refl
 begun a (points.Open g opens.TakeLink) = refl
-begun a (points.Open g opens.FinishLink) = refl
-begun a (points.Open g opens.PutLink) = refl
-begun a (points.Open g opens.StoreNone) = refl
-begun a (points.Seek (aims.Hold o n) seeks.Load) = refl
-begun a (points.Seek (aims.Send o n) seeks.Load) = refl
-begun a (points.Seek (aims.Fail o n code) seeks.Load) = refl
-begun a (points.Seek (aims.End o) seeks.Load) = refl
 begun a (points.Seek aim (seeks.AddRef id)) = refl
+begun a (points.Seek (aims.End o) seeks.Load) = refl
 begun a (points.Fail f fails.SetOdd) = refl
-begun a (points.Fail f (fails.StoreCode w)) = refl
-begun a (points.Fail f (fails.ReleaseFirst w)) = refl
 begun a (points.Release i t releases.SubRef) = refl
-begun a (points.Release i t (releases.Recycle w)) = refl
-begun a (points.Release i t (releases.LoadLink w)) = refl
-begun a (points.Release i t (releases.TakeLink w k)) = refl
-begun a (points.Release i t (releases.FinishLink w k)) = refl
-begun a (points.Release i t (releases.PutLink w k)) = refl
-begun a (points.Release i t releases.FreeSlot) = refl
 begun a (points.Send s sends.Look) = look_begun a s.author s.id.0
-begun a (points.Send s (sends.Claim q)) = refl
-begun a (points.Send s (sends.PutMessage q own)) = refl
-begun a (points.Send s (sends.Unconnect q own)) = refl
-begun a (points.Send s (sends.SwapHead q own)) = refl
-begun a (points.Send s (sends.Connect q before)) = refl
-begun a (points.Send s (sends.FindLink q own)) = refl
-begun a (points.Send s (sends.TakeHome q own k)) = refl
-begun a (points.Send s (sends.TakeMessage q own k n)) = refl
-begun a (points.Write w (writes.FirstLook m)) = refl
-begun a (points.Write w (writes.Look m asked)) = refl
-begun a (points.Write w (writes.Put m asked)) = refl
-begun a (points.Write w (writes.Ask m)) = refl
-begun a (points.Write w (writes.SetOdd m)) = refl
-begun a (points.Write w (writes.StoreCode m)) = refl
-begun a (points.Write w (writes.ReleaseFirst m)) = refl
-begun a (points.Write w (writes.StorePlace m)) = refl
-begun a (points.Write w (writes.LoadCode m)) = refl
-begun a (points.Write w (writes.DropPlace m n)) = refl
-begun a (points.Write w (writes.ReadNext now c)) = refl
-begun a (points.Write w (writes.Free now next c)) = refl
-begun a (points.Write w (writes.TakeMessage next)) = refl
 begun a (points.Write w writes.PutHome) = refl
-begun a (points.Write w writes.EmptyHead) = refl
-begun a (points.Write w (writes.TakeHome found)) = refl
-begun a (points.Write w (writes.Walk top at after)) = refl
-begun a (points.Write w (writes.Turn top at after before)) = refl
-begun a (points.Write w (writes.TakeFirst top at)) = refl
 begun a (points.Call begins.LoadName) = refl
-begun a (points.Call (begins.ClaimId i socket)) = refl
-begun a (points.Call (begins.PutCall i socket)) = refl
-begun a (points.Call (begins.MakeId i socket)) = refl
-begun a (points.Call (begins.StoreCall id socket)) = refl
 begun a (points.Attempt t socket attempts.AddRef) = refl
-begun a (points.Attempt t socket attempts.FindLink) = refl
-begun a (points.Attempt t socket (attempts.StoreAt k)) = refl
 begun a (points.Post c after posts.Load) = refl
-begun a (points.Post c after (posts.Exchange from)) = refl
 begun a (points.Decide c after (decides.Take w)) = refl
-begun a (points.Decide c after (decides.Judge w)) = refl
-begun a (points.Decide c after (decides.Free o)) = refl
-begun a (points.Decide c after (decides.Unlock from advance n)) = refl
 begun a (points.Retry r (retries.Lock locks.Read)) = refl
-begun a (points.Retry r (retries.Lock (locks.Exchange from))) = refl
-begun a (points.Retry r (retries.TakeCall w)) = refl
-begun a (points.Retry r (retries.PutCall w)) = refl
-begun a (points.Retry r (retries.Unlock w advance)) = refl
-begun a (points.Retry r retries.LoadName) = refl
-begun a (points.Expire o t) = refl
-begun a (points.Join o (joins.LoadCall t)) = refl
 begun a (points.Join o (joins.Wait id)) = refl
+begun a _ = refl
 
 -- ## Programs at a step
 
@@ -123,20 +59,11 @@ pub record AtStep (w : List Retry) (program : Program) : Type 0 where
   pub said_is : (os : List (Option Outcome)) → said program os ≡ os
 
 pub at_step : (w : List Retry) (program : Program) → is_begun program ≡ true → AtStep w program
-at_step w (Do call next) e = record { resolved_is = refl; waiting_is = refl; next_is = refl; said_is = λ os. refl }
-at_step w Rest e = record { resolved_is = refl; waiting_is = refl; next_is = refl; said_is = λ os. refl }
-at_step w (TakeMessage q next) e = record { resolved_is = refl; waiting_is = refl; next_is = refl; said_is = λ os. refl }
-at_step w (TakeHome k next) e = record { resolved_is = refl; waiting_is = refl; next_is = refl; said_is = λ os. refl }
-at_step w (PutHome k n after) e = record { resolved_is = refl; waiting_is = refl; next_is = refl; said_is = λ os. refl }
-at_step w (PutBytes k asked bytes next) e = record { resolved_is = refl; waiting_is = refl; next_is = refl; said_is = λ os. refl }
-at_step w (AskReady k next) e = record { resolved_is = refl; waiting_is = refl; next_is = refl; said_is = λ os. refl }
-at_step w (Write x after) e = record { resolved_is = refl; waiting_is = refl; next_is = refl; said_is = λ os. refl }
-at_step w (Aside step next) e = record { resolved_is = refl; waiting_is = refl; next_is = refl; said_is = λ os. refl }
-at_step w (Round head next) e = record { resolved_is = refl; waiting_is = refl; next_is = refl; said_is = λ os. refl }
 at_step w (Say o outcome next) e = absurd (true≢false (sym e))
 at_step w (Sent o next) e = absurd (true≢false (sym e))
 at_step w (Keep r next) e = absurd (true≢false (sym e))
 at_step w (Retries requests after) e = absurd (true≢false (sym e))
+at_step w _ e = record { resolved_is = refl; waiting_is = refl; next_is = refl; said_is = λ os. refl }
 
 -- a seat that comes to a point goes on with its program
 pub follows_point : (sizes : Sizes) (old new : SeatData) (program : Program) (os : List (Option Outcome)) → is_begun program ≡ true → seat_program sizes new ≡ program → new.waiting ≡ old.waiting → FollowsOn sizes old new program os os

@@ -32,12 +32,14 @@ new_offered out inn number spec fresh new took gave offers =
       inn_at = refl;
       took = [];
       took_is = told_none out.took took fresh.unused.took;
-      gave = [];
-      gave_is = told_none inn.gave_bytes gave fresh.unused.gave_bytes;
-      offer = o.0;
-      offer_is = o.1;
-      serves = is.serve;
-      ends = is.end;
+      tells = record {
+        gave = [];
+        gave_is = told_none inn.gave_bytes gave fresh.unused.gave_bytes;
+        offer = o.0;
+        offer_is = o.1;
+        serves = is.serve;
+        ends = is.end;
+      };
       served = subst (λ (finished : Bool). IsServed [] finished [] o.0) (sym fresh.unused.finished) is.served;
     }
 
@@ -50,12 +52,7 @@ elsewhere outs outs' inns inns' k k' serve end outs_are inns_are h = record {
   inn_at = inns_are ∙ h.inn_at;
   took = h.took;
   took_is = h.took_is;
-  gave = h.gave;
-  gave_is = h.gave_is;
-  offer = h.offer;
-  offer_is = h.offer_is;
-  serves = h.serves;
-  ends = h.ends;
+  tells = h.tells;
   served = h.served;
 }
 

@@ -1,5 +1,5 @@
--- In a script without calls each client is at rest where the ending begins.
-use Rattle.std.proofs.Common.{◌≡◌, ℕ, ◌+◌, ◌<◌, ◌≤◌, true, false, List, [], ◌∷◌, ◌++◌, length, Ok, refl, sym, ap, subst, arith}
+-- In a script without calls each client is at rest where the ending begins, so that nothing comes late.
+use Rattle.std.proofs.Common.{◌≡◌, ℕ, ◌+◌, ◌<◌, ◌≤◌, true, false, List, [], ◌∷◌, ◌++◌, length, Ok, refl, ap, arith}
 use Rattle.std.proofs.lemmas.Bool.{true≢false}
 use Rattle.std.specs.Prelude as std
 use Rattle.std.specs.Prelude.{if◌then◌else◌}
@@ -10,17 +10,18 @@ use Rattle.seat_programs.specs.Cores.{Core}
 use Rattle.seat_programs.specs.Runs.{IsAtRest}
 use Rattle.seat_programs.specs.Scripts.{IsRunWithCalls, all_tasks, is_callless, is_later, played}
 use Rattle.seat_programs.specs.Tasks.{Numbered, calls, id_plan_of, numbered}
-use Rattle.sock_runs.proofs.Along.{seat_rests}
+use Rattle.outcome_causes.specs.Facts.{late_of_run, late_links_of_run}
+use Rattle.sock_runs.proofs.Along.{place_inside, seat_rests}
 use Rattle.sock_runs.proofs.Whole.{rested_ahead}
-use Rattle.send_causes.specs.Below.joint_runs.proofs.Runs.{first_views}
+use Rattle.calm_runs.specs.send_causes.specs.Below.joint_runs.proofs.Runs.{first_views}
 use Rattle.report_fits.proofs.Callless.{not_later}
 use Rattle.report_fits.proofs.Lists.{Has, has_first, filter_map_has}
 use Rattle.report_fits.proofs.Numbering.{are_from, is_numbered}
 use Rattle.report_fits.proofs.TaskLemmas.{tasks_length}
-use Rattle.send_causes.proofs.Early.{start, go, fitting}
-use Rattle.send_causes.proofs.Rests as rests
-use Rattle.send_causes.specs.Below.run_theorems.proofs.Starts.{made}
-use Rattle.script_run.proofs.Silent.{IsMute, MuteAt}
+use Rattle.calm_runs.specs.send_causes.proofs.Early.{start, go, fitting}
+use Rattle.calm_runs.specs.send_causes.proofs.Rests as rests
+use Rattle.calm_runs.specs.send_causes.specs.Below.run_theorems.proofs.Starts.{made}
+use Rattle.calm_runs.proofs.Nothing.{nothing_behind}
 
 -- ## No calls, and no id slot
 
@@ -48,7 +49,8 @@ module _ (bytes : List ℕ) (script : List Item) (reads : script_of bytes ≡ Ok
   pub clients_idle : (i : ℕ) → i ≤ clients script → IsAtRest (played script is.setup (is.scheduled ++ is.later)) i
   clients_idle i low = let z = inside i (let t = tasks_length script 0 (clients script + 1) in omega (arith, low, t)) in rests.clients_rest script (made bytes script reads) turns core is (no_slot script callless) i z.0 z.1
 
-  pub clients_rest : (i : ℕ) → 0 < i → i < length (all_tasks script) → MuteAt i (played script is.setup (is.scheduled ++ is.later))
-  clients_rest i some_ low seat at = let m = made bytes script reads in let z = inside i low in
-      subst IsMute (sym (seat_rests (played script is.setup (is.scheduled ++ is.later)) (rested_ahead script m.are (first_views script) (start script m turns core is) (go script m turns core is) turns core is (fitting script m turns core is))
-      i (rests.clients_rest script m turns core is (no_slot script callless) i z.0 z.1) seat at)) tt
+  -- so nothing comes late
+  pub nothing_late : (late_links_of_run script turns core is ≡ []) × (late_of_run script turns core is ≡ [])
+  nothing_late = let m = made bytes script reads in nothing_behind script m turns core is (λ i low seat at.
+      seat_rests (played script is.setup (is.scheduled ++ is.later)) (rested_ahead script m.are (first_views script) (start script m turns core is) (go script m turns core is) turns core is (fitting script m turns core is))
+      i (rests.clients_rest script m turns core is (no_slot script callless) i low (place_inside (played script is.setup (is.scheduled ++ is.later)).seats i seat at)) seat at)

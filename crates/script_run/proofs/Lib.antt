@@ -6,7 +6,6 @@ pub mod Homes
 pub mod Running
 pub mod Saying
 pub mod Callless
-pub mod Silent
 pub mod Idle
 pub mod Told
 pub mod Texts

@@ -8,26 +8,26 @@ use Rattle.sock_words.specs.declared.plain.Plan.{Plan}
 use Rattle.brpc_model.specs.Items.{Item}
 use Rattle.brpc_model.specs.Operations.{Turn, clients}
 use Rattle.seat_programs.specs.Cores.{Core, SeatState}
-use Rattle.seat_programs.specs.Ticks.{Answer, Moment, quiet, run, AreAnswered, IsAlwaysReady, broken_in}
+use Rattle.seat_programs.specs.Ticks.{Moment, quiet, run, AreAnswered, IsAlwaysReady, broken_in}
 use Rattle.seat_programs.specs.Runs.{IsAtRest, Scheduled, from_to, kind_in}
 use Rattle.seat_programs.specs.Scripts as scripts
 use Rattle.seat_programs.specs.Scripts.{IsRunWithCalls, Settles, AreStill, round_of, ticks_of, opened, set_up, is_ending, ending}
 use Rattle.seat_programs.specs.Tasks as tasks
 use Rattle.seat_programs.specs.Tasks.{plan_of, id_plan_of}
 use Rattle.brpc_model.specs.Script.{script_of}
-use Rattle.send_causes.specs.Below.owed_calls.specs.Lives.{ClosesInTime, ClosesInRun}
-use Rattle.send_causes.specs.Below.run_theorems.proofs.Lengths.{opened_sized, run_sized}
-use Rattle.send_causes.specs.Below.run_theorems.specs.Heard.{heard_in, taken_in, heard_of, taken_of}
-use Rattle.send_causes.specs.Below.run_theorems.specs.Offered.{AreOffered}
-use Rattle.send_causes.specs.Below.run_theorems.specs.OfferedRuns.{OffersInRun}
-use Rattle.send_causes.specs.Below.run_theorems.proofs.HeardRuns.{heard_on, taken_on}
+use Rattle.calm_runs.specs.send_causes.specs.Below.owed_calls.specs.Lives.{ClosesInTime, ClosesInRun}
+use Rattle.calm_runs.specs.send_causes.specs.Below.run_theorems.proofs.Lengths.{opened_sized, run_sized}
+use Rattle.calm_runs.specs.send_causes.specs.Below.run_theorems.specs.Heard.{heard_in, taken_in, heard_of, taken_of}
+use Rattle.calm_runs.specs.send_causes.specs.Below.run_theorems.specs.Offered.{AreOffered}
+use Rattle.calm_runs.specs.send_causes.specs.Below.run_theorems.specs.OfferedRuns.{OffersInRun}
+use Rattle.calm_runs.specs.send_causes.specs.Below.run_theorems.proofs.HeardRuns.{heard_on, taken_on}
 use Rattle.report_fits.proofs.Sizes.{keeps_limits}
 use Rattle.sock_core.specs.Links.{Taken, Given, AreAlwaysReady, TellClosing, IsOffering}
 use Rattle.sock_core.specs.Machines.{MachineState, core_with, ending_by}
 use Rattle.sock_core.specs.Runs as rounds
-use Rattle.sock_core.specs.Runs.{ShowFaults, LinksTell, TakesTell, ShowTakings, SettlesBy, SettledWith, Settled, round_by}
+use Rattle.sock_core.specs.Runs.{LinksShow, SettlesBy, SettledWith, Settled, round_by}
 use Rattle.sock_core.proofs.Resting.{rest_anyhow}
-use Rattle.sock_core.proofs.Joining.{run_append, answered_append, closes_append, offers_append, prompt_append, broken_append, show_faults_later, show_faults_join, tells_as, tells_join, takings_later, takings_join, takings_as, takes_join, takes_as}
+use Rattle.sock_core.proofs.Joining.{run_append, answered_append, closes_append, offers_append, prompt_append, broken_append, shows_join, shows_as}
 use Rattle.script_run.specs.Causes.{broken_of}
 use Rattle.sock_core.specs.Beginnings.{IsMade}
 use Rattle.script_run.specs.Played.{IsPlayable, PlayedWith, HasPlayed, HasRun}
@@ -68,6 +68,10 @@ settles_from script (suc n) c ms h = let more = settles_from script n (run (plan
 }
 
 -- ## The whole run
+
+-- what comes in three parts, of which the first two are one
+first_two : {A : Type 0} (xs ys zs : List A) {both : List A} → both ≡ xs ++ ys → xs ++ (ys ++ zs) ≡ both ++ zs
+first_two xs ys zs e = sym (append_assoc xs ys zs) ∙ ap (λ l. l ++ zs) (sym e)
 
 module _ (script : List Item) (turns : List Turn) (start mid end_ : MachineState) (made : IsMade script start) (played : HasPlayed (λ c. Scheduled start.plan c turns) start mid) (settled : Settled mid end_) (always_ready : AreAlwaysReady start.links) where
   abbrev p : Plan
@@ -172,55 +176,17 @@ module _ (script : List Item) (turns : List Turn) (start mid end_ : MachineState
     y.2,
   )
 
-  -- what links answered behind the schedule
-  abbrev heard_later : ℕ → List Answer
-  heard_later k = heard_in p (run p (set_up script n) now) later k ++ heard_in p rest.ended final k
-
-  abbrev taken_later : ℕ → List Answer
-  taken_later k = taken_in p (run p (set_up script n) now) later k ++ taken_in p rest.ended final k
-
-  broken : ShowFaults end_ (broken_of run_of)
-  broken = subst (ShowFaults end_) (ap (λ (bs : List ℕ). bs ++ broken_in p rest.ended final) (sym (broken_append p (set_up script n) now later)))
-      (subst (ShowFaults end_) (sym (append_assoc (broken_in p (set_up script n) now) (broken_in p (run p (set_up script n) now) later) (broken_in p rest.ended final)))
-      (show_faults_join end_ (broken_in p (set_up script n) now) (broken_in p (run p (set_up script n) now) later ++ broken_in p rest.ended final)
-      (show_faults_later mid end_ (broken_in p (set_up script n) now) (set (λ q c. ShowFaults mid (broken_in q c now)) first.follows.broken) settled.links)
-      (moved (λ q c. ShowFaults end_ (broken_in q c later ++ broken_in q rest.ended final)) rest.broken)))
-
-  told : LinksTell start end_ (heard_of run_of)
-  told = tells_as start end_ (λ k. heard_in p (set_up script n) now k ++ heard_later k) (heard_of run_of)
-      (λ k. sym (append_assoc (heard_in p (set_up script n) now k) (heard_in p (run p (set_up script n) now) later k) (heard_in p rest.ended final k))
-      ∙ ap (λ (l : List Answer). l ++ heard_in p rest.ended final k) (sym (heard_on p (set_up script n) now later k)))
-      (tells_join start mid end_ (heard_in p (set_up script n) now) heard_later played.1 settled.links (set (λ q c. LinksTell start mid (heard_in q c now)) first.follows.told)
-      (moved (λ q c. LinksTell mid end_ (λ k. heard_in q c later k ++ heard_in q rest.ended final k)) rest.told))
-
-  taken : ShowTakings end_ (taken_of run_of)
-  taken = takings_as end_ (λ k. taken_in p (set_up script n) now k ++ taken_later k) (taken_of run_of)
-      (λ k. sym (append_assoc (taken_in p (set_up script n) now k) (taken_in p (run p (set_up script n) now) later k) (taken_in p rest.ended final k))
-      ∙ ap (λ (l : List Answer). l ++ taken_in p rest.ended final k) (sym (taken_on p (set_up script n) now later k)))
-      (takings_join end_ (taken_in p (set_up script n) now) taken_later (takings_later mid end_ (taken_in p (set_up script n) now) (set (λ q c. ShowTakings mid (taken_in q c now)) first.follows.taken) settled.links)
-      (moved (λ q c. ShowTakings end_ (λ k. taken_in q c later k ++ taken_in q rest.ended final k)) rest.taken))
-
-  takes : TakesTell start end_ (taken_of run_of)
-  takes = takes_as start end_ (λ k. taken_in p (set_up script n) now k ++ taken_later k) (taken_of run_of)
-      (λ k. sym (append_assoc (taken_in p (set_up script n) now k) (taken_in p (run p (set_up script n) now) later k) (taken_in p rest.ended final k))
-      ∙ ap (λ (l : List Answer). l ++ taken_in p rest.ended final k) (sym (taken_on p (set_up script n) now later k)))
-      (takes_join start mid end_ (taken_in p (set_up script n) now) taken_later played.1 settled.links (set (λ q c. TakesTell start mid (taken_in q c now)) first.follows.takes)
-      (moved (λ q c. TakesTell mid end_ (λ k. taken_in q c later k ++ taken_in q rest.ended final k)) rest.takes))
+  -- what the links show
+  shows : LinksShow start end_ (broken_of run_of) (heard_of run_of) (taken_of run_of)
+  shows = shows_as start end_
+      (shows_join start mid end_ played.1 settled.links (set (λ q c. LinksShow start mid (broken_in q c now) (heard_in q c now) (taken_in q c now)) first.follows.shows)
+      (moved (λ q c. LinksShow mid end_ (broken_in q c later ++ broken_in q rest.ended final) (λ k. heard_in q c later k ++ heard_in q rest.ended final k) (λ k. taken_in q c later k ++ taken_in q rest.ended final k)) rest.shows))
+      (first_two (broken_in p (set_up script n) now) (broken_in p (run p (set_up script n) now) later) (broken_in p rest.ended final) (broken_append p (set_up script n) now later))
+      (λ k. first_two (heard_in p (set_up script n) now k) (heard_in p (run p (set_up script n) now) later k) (heard_in p rest.ended final k) (heard_on p (set_up script n) now later k))
+      (λ k. first_two (taken_in p (set_up script n) now k) (taken_in p (run p (set_up script n) now) later k) (taken_in p rest.ended final k) (taken_on p (set_up script n) now later k))
 
   pub has_run : HasRun script turns start end_
-  has_run = record {
-    took = rest.later;
-    gave = rest.later_gave;
-    agrees = rest.agrees;
-    agrees_gave = rest.agrees_gave;
-    run = run_of;
-    closes = closes;
-    offers = offers;
-    broken = broken;
-    told = told;
-    taken = taken;
-    takes = takes;
-  }
+  has_run = record { so_far = rest.so_far; run = run_of; closes = closes; offers = offers; shows = shows }
 
 pub run_answered : {T E : Type 0} (script : List Item) (turns : List Turn) (start mid end_ : MachineState) (r : Result T E) → IsMade script start → HasPlayed (λ c. Scheduled start.plan c turns) start mid → OnOk r (Settled mid end_) →
     OnOk r (AreAlwaysReady start.links → HasRun script turns start end_)

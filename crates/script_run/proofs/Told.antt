@@ -16,25 +16,24 @@ use Rattle.outcome_causes.specs.PlainTasks.{told_tasks_of}
 use Rattle.outcome_causes.specs.TaskCauses.{ToldTasks}
 use Rattle.outcome_causes.proofs.Members.{in_contains, contains_in}
 use Rattle.outcome_causes.proofs.Scripts.{lost_of_run, run_told}
-use Rattle.send_causes.proofs.Early.{closed_early, start, go, fitting}
-use Rattle.send_causes.proofs.Lists.{early_shown, closed_shown}
-use Rattle.send_causes.proofs.Plain.{broken_shown}
-use Rattle.send_causes.proofs.Sends as sends
-use Rattle.send_causes.proofs.AllTold.{told_of_run, told_last}
-use Rattle.send_causes.proofs.Assembled.{fixed_in_run}
+use Rattle.calm_runs.specs.send_causes.proofs.Early.{closed_early, start, go, fitting}
+use Rattle.calm_runs.specs.send_causes.proofs.Lists.{early_shown, closed_shown}
+use Rattle.calm_runs.specs.send_causes.proofs.Plain.{broken_shown}
+use Rattle.calm_runs.specs.send_causes.proofs.Sends as sends
+use Rattle.calm_runs.specs.send_causes.proofs.AllTold.{told_of_run, told_last}
+use Rattle.calm_runs.specs.send_causes.proofs.Assembled.{fixed_in_run}
 use Rattle.run_laws.specs.programs_allowed.specs.Openings.{all_seats}
 use Rattle.run_laws.specs.programs_allowed.proofs.Fresh.{opening_fresh}
-use Rattle.send_causes.specs.Below.joint_runs.proofs.Runs.{first_views}
-use Rattle.send_causes.specs.Below.owed_calls.specs.Lives.{ClosesInRun}
+use Rattle.calm_runs.specs.send_causes.specs.Below.joint_runs.proofs.Runs.{first_views}
+use Rattle.calm_runs.specs.send_causes.specs.Below.owed_calls.specs.Lives.{ClosesInRun}
 use Rattle.report_fits.proofs.Lists.{Has, has_from, has_none}
 use Rattle.report_fits.proofs.Reading.{InRange}
 use Rattle.report_fits.proofs.Sizes.{is_counted}
 use Rattle.report_fits.proofs.Targets.{AreThere, are_there}
-use Rattle.send_causes.specs.Below.run_theorems.proofs.Starts.{made}
+use Rattle.calm_runs.specs.send_causes.specs.Below.run_theorems.proofs.Starts.{made}
 use Rattle.script_run.specs.Causes.{HasCauses, gave_in, lost_before}
 use Rattle.script_run.proofs.Callless.{plain_task, no_call, all_told}
-use Rattle.script_run.proofs.Idle.{no_calls, no_slot, clients_rest}
-use Rattle.script_run.proofs.Silent.{none_late, no_late_link}
+use Rattle.script_run.proofs.Idle.{no_slot, nothing_late}
 
 module _ (bytes : List ℕ) (script : List Item) (reads : script_of bytes ≡ Ok script) (turns : List Turn) (core : Core) (run : IsRunWithCalls script turns core) (closes : ClosesInRun script turns core run) where
   abbrev orders : ℕ → Order
@@ -61,11 +60,8 @@ module _ (bytes : List ℕ) (script : List Item) (reads : script_of bytes ≡ Ok
   fixed_of = sends.fixed script (made bytes script reads) turns core run closes early [] [] [] (gave_in core) last
 
   module _ (callless : is_callless script ≡ true) where
-    late_none : late_of_run script turns core run ≡ []
-    late_none = none_late script (no_calls script callless) turns core run (clients_rest bytes script reads callless turns core run)
-
-    links_none : late_links_of_run script turns core run ≡ []
-    links_none = no_late_link script (no_calls script callless) turns core run (clients_rest bytes script reads callless turns core run)
+    none_late : (late_links_of_run script turns core run ≡ []) × (late_of_run script turns core run ≡ [])
+    none_late = nothing_late bytes script reads callless turns core run
 
     told_sends : ToldSends (plan_of script) (all_tasks script) core.outcomes fixed_of (gave_in core) orders last core
     told_sends = sends.run_sends script (made bytes script reads) turns core run closes early [] [] [] (gave_in core) last (λ k there. in_contains early k there) (no_slot script callless) (plain_task script core.outcomes callless)
@@ -82,8 +78,8 @@ module _ (bytes : List ℕ) (script : List Item) (reads : script_of bytes ≡ Ok
       closed = λ k there. absurd (nothing_there k [] refl there);
       late = record { links = λ k there. there; operations = λ o there. there; silent = λ k there. absurd (nothing_there k [] refl there); early = λ r there. absurd (nothing_there r [] refl there) };
       late_links = λ k there. there;
-      none_late = λ c. ap (λ (l : List ℕ). let late : Lateness = record { links = l; operations = late_of_run script turns core run; silent = []; early = [] } in late) links_none
-          ∙ ap (λ (l : List ℕ). let late : Lateness = record { links = []; operations = l; silent = []; early = [] } in late) late_none;
+      none_late = λ c. ap (λ (l : List ℕ). let late : Lateness = record { links = l; operations = late_of_run script turns core run; silent = []; early = [] } in late) none_late.0
+          ∙ ap (λ (l : List ℕ). let late : Lateness = record { links = []; operations = l; silent = []; early = [] } in late) none_late.1;
       plain = plain;
     }
 

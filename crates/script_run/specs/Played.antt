@@ -19,13 +19,13 @@ use Rattle.seat_programs.specs.Tasks.{plan_of}
 use Rattle.report_fits.specs.Ends.{AreEndsOf, AreTold}
 use Rattle.run_laws.specs.Laws.{KeepsLaws}
 use Rattle.sock_io.specs.Link.{InState}
-use Rattle.send_causes.specs.Below.owed_calls.specs.Lives.{ClosesInRun}
-use Rattle.sock_core.specs.Links.{Taken, Given, Agrees, AgreesGave, TellClosing, IsOffering}
+use Rattle.calm_runs.specs.send_causes.specs.Below.owed_calls.specs.Lives.{ClosesInRun}
+use Rattle.sock_core.specs.Links.{Taken, Given, SoFar, TellClosing, IsOffering}
 use Rattle.sock_core.specs.Machines.{MachineState, core_with}
-use Rattle.send_causes.specs.Below.run_theorems.specs.Heard.{as_told, as_taken, take_answers, heard_of, taken_of, heard_takes}
-use Rattle.send_causes.specs.Below.run_theorems.specs.OfferedRuns.{OffersInRun}
-use Rattle.send_causes.specs.Below.run_theorems.specs.Over.{IsAllOver}
-use Rattle.sock_core.specs.Runs.{ShowFaults, LinksTell, TakesTell, ShowsTaking, ShowTakings, Follows, Made}
+use Rattle.calm_runs.specs.send_causes.specs.Below.run_theorems.specs.Heard.{as_told, as_taken, take_answers, heard_of, taken_of, heard_takes}
+use Rattle.calm_runs.specs.send_causes.specs.Below.run_theorems.specs.OfferedRuns.{OffersInRun}
+use Rattle.calm_runs.specs.send_causes.specs.Below.run_theorems.specs.Over.{IsAllOver}
+use Rattle.sock_core.specs.Runs.{ShowsTaking, LinksShow, Follows, Made}
 use Rattle.sock_core.specs.Driving.{FirstRests}
 use Rattle.script_run.specs.Causes.{HasCauses, DropsTold, broken_of, gave_in}
 use Rattle.script_run.specs.declared.report.Print.{Print}
@@ -69,18 +69,14 @@ TellClosed {A} state = (inn : A) → ((state inn).closing ≢ None) × ((state i
 
 -- the machine was played from behind the setup to the end of a run, over links that are always ready in time
 pub record HasRun (script : List Item) (turns : List Turn) (start m : MachineState) : Type 0 where
-  pub took : Taken
-  pub gave : Given
-  pub agrees : Agrees m.links took
-  pub agrees_gave : AgreesGave m.links gave
+  pub so_far : SoFar m.links
+  pub open so_far use *
   pub run : IsRunWithCalls script turns (core_with m took gave)
   pub closes : TellClosing start.links → ClosesInRun script turns (core_with m took gave) run
   -- a link that was offered what belongs to it tells so in each take, and is offered it in the end
   pub offers : (k : ℕ) (serve : Bool) (end : Option ℕ) → IsOffering start.links k serve end → OffersInRun script turns (core_with m took gave) run k serve end × IsOffering m.links k serve end
-  pub broken : ShowFaults m (broken_of run)
-  pub told : LinksTell start m (heard_of run)
-  pub taken : ShowTakings m (taken_of run)
-  pub takes : TakesTell start m (taken_of run)
+  pub shows : LinksShow start m (broken_of run) (heard_of run) (taken_of run)
+  pub open shows use *
 
 -- each link that tells what its halves answered tells what they answered in the run, and no other link was asked
 pub record AreHeard (ends : List LinkEnd) (heard taken : ℕ → List Answer) : Type 0 where

@@ -32,8 +32,8 @@ use Rattle.reader_seats.specs.Readers.{reader_program}
 use Rattle.sock_core.specs.declared.machine.Tick.{Tick}
 use Rattle.sock_core.specs.declared.machine.Tick.TheVariants.{Moved, Waits, Idle}
 use Rattle.sock_core.specs.Links.{LinksData, Taken, Given, Agrees, AgreesGave}
-use Rattle.sock_core.specs.Machines.{MachineState, READERS, IsMachine, IsSoundMachine, HasSizes, AreCalled, ArePaced, table_of, machine_sizes, state_of, core_with}
-use Rattle.sock_core.specs.Steps.{AsMany, IsSized, NextIs, FitsSlots, SameBase, MadeFirst}
+use Rattle.sock_core.specs.Machines.{MachineState, READERS, IsMachine, IsSoundMachine, HasSizes, AreCalled, ArePaced, table_of, machine_sizes, state_of, core_with, IsSized}
+use Rattle.sock_core.specs.Steps.{AsMany, NextIs, FitsSlots, SameBase, MadeFirst}
 use Rattle.sock_core.specs.Reading.{SameTables, NextReadIs, MadeRead, TickRead}
 use Rattle.sock_core.specs.Telling.{TickTold, Tells, is_waiting}
 use Rattle.sock_core.specs.Runs.{SameTable, SameLinks, ShowFaults, TickIs, Follows, Ticked}
@@ -58,13 +58,7 @@ use Rattle.sock_core.proofs.Ticked.{MayMake, SteppedWith, steps_by}
 
 module _ (m : MachineState) (sizes : ∥ HasSizes m ∥₁) where
   pub is_sized : IsSized (table_of m)
-  is_sized = record {
-    letters_are = ∥∥₁_elim sizes (hlevel props) (λ h. h.letters_are);
-    holders_are = ∥∥₁_elim sizes (hlevel props) (λ h. h.holders_are);
-    nexts_are = ∥∥₁_elim sizes (hlevel props) (λ h. h.nexts_are);
-    outs_are = ∥∥₁_elim sizes (hlevel props) (λ h. h.outs_are);
-    inns_are = ∥∥₁_elim sizes (hlevel props) (λ h. h.inns_are);
-  }
+  is_sized = ∥∥₁_elim sizes (hlevel props) (λ h. h.tables)
 
   pub few_seats : length m.seats ≤ READERS
   few_seats = ∥∥₁_elim sizes (hlevel props) (λ h. h.few_seats)
@@ -194,22 +188,21 @@ module _ (m fresh : MachineState) (room i : ℕ) (step : Step) (tick : Tick) (is
     always_ready = λ always_ready. (made_prompt m fresh i w.seat w.seat' step first answer made always_ready, tt);
     closes = λ tell. made_closes m fresh i w.seat w.seat' step m.plan c first answer made;
     offers = λ k serve end h. (made_offers m fresh i w.seat w.seat' step m.plan k serve end c first answer made, made_offering m fresh i w.seat w.seat' step k serve end h first answer made);
-    later = s.later;
-    agrees = s.agrees;
-    later_gave = s.later_gave;
-    agrees_gave = s.agrees_gave;
+    so_far = s.so_far;
     core = s.core;
-    broken = subst (ShowFaults fresh) (sym (append-nil (broken_at c moment))) (made_broken m fresh i c (state_of m.plan m.links took program i) (own_at took gave) w.seat w.seat' step first answer made next unfinished);
-    told = tells_as m fresh _ _ (λ k. sym (append-nil (heard_at c moment k))) (made_told m fresh i c (state_of m.plan m.links took program i) (own_at took gave) w.seat w.seat' step first answer made next);
-    taken = made_taken m fresh i w.seat w.seat' step m.plan c first answer made s.answered;
-    takes = made_takes m fresh i w.seat w.seat' step m.plan c first answer made s.answered;
+    shows = record {
+      broken = subst (ShowFaults fresh) (sym (append-nil (broken_at c moment))) (made_broken m fresh i c (state_of m.plan m.links took program i) (own_at took gave) w.seat w.seat' step first answer made next unfinished);
+      told = tells_as m fresh _ _ (λ k. sym (append-nil (heard_at c moment k))) (made_told m fresh i c (state_of m.plan m.links took program i) (own_at took gave) w.seat w.seat' step first answer made next);
+      taken = made_taken m fresh i w.seat w.seat' step m.plan c first answer made s.answered;
+      takes = made_takes m fresh i w.seat w.seat' step m.plan c first answer made s.answered;
+    };
   }
 
   pub told_links : SameLinks m fresh
   told_links = made_links m fresh i w.seat w.seat' step first answer made
 
   pub told_table : SameTable m fresh
-  told_table = record { plan = base.plan; id_plan = base.id_plan; calls = base.calls; opens = w.opens; ending = base.ending }
+  told_table = record { plans = base.plans; opens = w.opens }
 
   -- it is a tick
   pub told_ticks : Ticked m fresh i tick
@@ -325,22 +318,21 @@ module _ (m fresh : MachineState) (room k : ℕ) (step : ReadStep) (tick : Tick)
       read_offers m fresh k w.reader w.reader' x serve end h (is.closed enough) w.at read_sized.letters_are read_sized.inns_are read_few took gave agrees agrees_gave begins given_answer read_made,
       read_offering m fresh k w.reader w.reader' x serve end h begins given_answer read_made,
     );
-    later = s.later;
-    agrees = s.agrees;
-    later_gave = s.later_gave;
-    agrees_gave = s.agrees_gave;
+    so_far = s.so_far;
     core = s.core;
-    broken = read_broken m fresh i w.reader w.reader' m.plan c own (read_own took gave) begins given_answer read_made;
-    told = read_told m fresh i w.reader w.reader' m.plan c own (read_own took gave) begins given_answer read_next read_made;
-    taken = read_taken m fresh i w.reader w.reader' m.plan c own (read_own took gave) begins given_answer read_next read_made;
-    takes = read_takes m fresh i w.reader w.reader' m.plan c own (read_own took gave) begins given_answer read_next read_made;
+    shows = record {
+      broken = read_broken m fresh i w.reader w.reader' m.plan c own (read_own took gave) begins given_answer read_made;
+      told = read_told m fresh i w.reader w.reader' m.plan c own (read_own took gave) begins given_answer read_next read_made;
+      taken = read_taken m fresh i w.reader w.reader' m.plan c own (read_own took gave) begins given_answer read_next read_made;
+      takes = read_takes m fresh i w.reader w.reader' m.plan c own (read_own took gave) begins given_answer read_next read_made;
+    };
   }
 
   pub read_links_stay : SameLinks m fresh
   read_links_stay = read_links m fresh k w.reader w.reader' begins given_answer read_made
 
   pub read_table : SameTable m fresh
-  read_table = record { plan = same.plan; id_plan = same.id_plan; calls = same.calls; opens = w.opens; ending = same.ending }
+  read_table = record { plans = same.plans; opens = w.opens }
 
   -- it is a tick
   pub read_ticks : Ticked m fresh i tick

@@ -8,10 +8,10 @@ use Rattle.seat_states.specs.declared.point.Step.{Step}
 use Rattle.reader_points.specs.declared.point.ReadStep.{ReadStep}
 use Rattle.sock_core.specs.declared.machine.Tick.{Tick}
 use Rattle.sock_core.specs.declared.machine.Tick.TheVariants.{Idle}
-use Rattle.sock_core.specs.Machines.{MachineState, READERS, IsMachine, table_of}
+use Rattle.sock_core.specs.Machines.{MachineState, READERS, IsMachine, table_of, IsSized}
 use Rattle.sock_core.specs.Reading.{NextReadIs, HasNoRead, ReadFits, TickRead, IsCutShort}
 use Rattle.sock_core.specs.Runs.{SameTable, SameLinks, Ticked}
-use Rattle.sock_core.specs.Steps.{IsSized, NextIs, HasNoStep, StepFits, PreparedAt}
+use Rattle.sock_core.specs.Steps.{NextIs, HasNoStep, StepFits, PreparedAt}
 use Rattle.sock_core.specs.Passing.{HasPassed}
 use Rattle.sock_core.specs.Telling.{TickTold}
 use Rattle.sock_core.specs.Driving.{Leaves, FirstRests}

@@ -1,6 +1,5 @@
 -- Programs that ask no link; the machine of which the ending begins; and what a tick's answer says.
 use Rattle.std.proofs.Common.{◌≡◌, refl, ℕ, ◌+◌, ◌-◌, ◌*◌, ◌%◌, ◌==◌, ◌&&◌, ◌<◌, ◌≤◌, nat_le, ⊎_elim, Bool, true, false, cond, List, [], ◌∷◌, length, Option, Result, Ok, Err, OnOk, ap, sym, ◌∙◌, arith, subst}
-use Rattle.std.specs.List.{AllByRecursion}
 use Rattle.std.proofs.Props.{props}
 use Rattle.std.proofs.Math.Logic.{∥∥₁_elim}
 use Rattle.std.proofs.Math.ListN.{length-set}
@@ -15,7 +14,6 @@ use Rattle.sock_words.specs.declared.outcome.Outcome.{Outcome}
 use Rattle.sock_words.specs.declared.plain.Plan.{Plan}
 use Rattle.corr_core.specs.declared.marks.Plan.{Plan as IdPlan}
 use Rattle.sock_model.specs.declared.home.Home.{Home}
-use Rattle.seat_programs.specs.declared.task.Sizes.{Sizes}
 use Rattle.seat_programs.specs.Heads.{Retry}
 use Rattle.seat_programs.specs.Programs.{Program, Do, Say, Sent, Rest, Retries, LAST_VERSION, NO_SOCKET, recycle, release, address, set_failed, end_open}
 use Rattle.seat_programs.specs.Clients.{ending_of}
@@ -33,19 +31,18 @@ use Rattle.id_runs.specs.Goes.{SoundIds}
 use Rattle.id_runs.proofs.Opening.{ending_ids, told_ids}
 use Rattle.run_theorems.specs.programs_allowed.proofs.Opens.{ending_resolved, ending_sound, told_sound}
 use Rattle.run_theorems.specs.programs_allowed.proofs.Lasting.{ending_lasts, told_lasts}
-use Rattle.call_slots.specs.Slots.{SlotState, calls_with}
-use Rattle.reader_seats.specs.Readers.{ReaderData}
 use Rattle.client_seats.specs.Seats.{SeatData, seat_program}
 use Rattle.sock_core.specs.declared.machine.Tick.{Tick}
 use Rattle.sock_core.specs.declared.machine.Tick.TheVariants as ticks
-use Rattle.sock_core.specs.Links.{LinksData, Taken, Given, Agrees, AgreesGave, ClosedAreDone, IsPaced, holder_of, homes_of, hand_of}
-use Rattle.sock_core.specs.Machines.{MachineState, IsMachine, IsSoundMachine, HasSizes, KeepsClosed, AreCalled, ArePaced, MOST_LEFT, READERS, machine_sizes, core_with, ending_by, waiting_of, given_by, table_of}
+use Rattle.sock_core.specs.Links.{Taken, Given, Agrees, AgreesGave, IsPaced, homes_of, hand_of}
+use Rattle.sock_core.specs.Machines.{MachineState, IsMachine, IsSoundMachine, HasSizes, KeepsClosed, ArePaced, MOST_LEFT, READERS, machine_sizes, core_with, ending_by, table_of}
 use Rattle.sock_core.specs.Steps.{Goes}
 use Rattle.sock_core.specs.Runs.{SameTable, SameLinks, Ticked, Led}
 use Rattle.sock_core.specs.Driving.{LastsAtMost, Leaves, IsLast, IsOther, AsksNone, IsPlain, FirstRests, BeganEnding, told_ending}
 use Rattle.sock_core.proofs.Changes.{none_changes}
 use Rattle.sock_core.proofs.Hands.{HasNone, hand_none}
 use Rattle.sock_core.proofs.Joining.{same_table_join, same_links_join}
+use Rattle.sock_core.proofs.Lengths.{many_same, sizes_but, sizes_stay}
 use Rattle.sock_core.proofs.Leading.{Passed, led_none, led_more, led_here, led_waits, led_idle}
 use Rattle.sock_core.proofs.Paces.{calm_paced, ending_calm}
 use Rattle.sock_core.proofs.Resting.{Rests, rest_anyhow, idle_core}
@@ -132,11 +129,14 @@ rests_none m many sound i seat at rest = ∥∥₁_elim sound (hlevel props) by_
 -- ## The ending begins
 
 module _ (old fresh : MachineState) (room : ℕ) (is : IsMachine old room) (enough : old.short ≡ false) (rest : FirstRests old) (w : BeganEnding old fresh) where
+  abbrev begun : MachineState
+  begun = record old { opens = []; seats = slice_set old.seats 0 w.seat' }
+
+  many : length begun.seats ≡ length old.seats
+  many = length-set old.seats 0 w.seat'
+
   own_waiting : w.seat.waiting ≡ []
   own_waiting = rest.1 w.seat w.at
-
-  same_sizes : machine_sizes fresh ≡ machine_sizes old
-  same_sizes = λ k. record { slots = (w.plan k).slots; requests = (w.plan k).requests; ids = (w.ids k).plan.slots }
 
   holders : length old.links.holders ≡ old.plan.links
   holders = ∥∥₁_elim is.sizes (hlevel props) (λ h. h.holders_are)
@@ -147,91 +147,59 @@ module _ (old fresh : MachineState) (room : ℕ) (is : IsMachine old room) (enou
   free : HasNone old.links 0
   free = rests_none old holders (is.sound enough) 0 w.seat w.at rest.0
 
-  goes : Goes (table_of old) (table_of fresh) w.seat w.seat' (ending_of old.opens)
+  goes : Goes (table_of old) (table_of begun) w.seat w.seat' (ending_of old.opens)
   goes = record {
-    base = record { plan = w.plan; id_plan = λ k. (w.ids k).plan; calls = w.calls; ending = w.ending; inns = λ k. (w.links k).inns };
+    base = record { plans = record { plan = refl; id_plan = refl; calls = refl; ending = refl }; inns = refl };
     program = w.program ∙ next_ending old.opens ∙ sym (ending_resolved w.seat.waiting old.opens).0;
     waiting = w.waiting ∙ sym (ending_resolved w.seat.waiting old.opens).1;
-    told = w.outcomes ∙ ending_says w.seat.waiting old.opens old.outcomes;
+    told = ending_says w.seat.waiting old.opens old.outcomes;
   }
+
+  begun_core : (took : Taken) (gave : Given) → core_with begun took gave ≡ ending_by old.opens (core_with old took gave)
+  begun_core took gave =
+      client_set old begun 0 w.seat w.seat' (ending_of old.opens) took took gave (hand_of old.links old.plan.links took 0) (homes_of old.links old.plan old.letters took) old.words w.at refl refl few goes refl
+      (none_changes old.plan 0 old.links old.links old.letters old.letters took _ refl refl)
+      ∙ ap (λ (x : List Home). with_seat 0 (ending_of old.opens) x old.words (homes_of old.links old.plan old.letters took) (core_with old took gave)) (hand_none old.links took old.plan.links 0 free)
 
   pub began_core : (took : Taken) (gave : Given) → core_with fresh took gave ≡ ending_by old.opens (core_with old took gave)
-  began_core took gave =
-      client_set old fresh 0 w.seat w.seat' (ending_of old.opens) took took gave (hand_of old.links old.plan.links took 0) (homes_of old.links old.plan old.letters took) old.words w.at w.seats w.readers few goes w.words
-      (none_changes old.plan 0 old.links fresh.links old.letters fresh.letters took _ w.links (ap (λ ls. homes_of old.links old.plan ls took) w.letters))
-      ∙ ap (λ (x : List Home). with_seat 0 (ending_of old.opens) x old.words (homes_of old.links old.plan old.letters took) (record (core_with old took gave) { calls = calls_with fresh.ids (waiting_of old.seats old.readers) (given_by old.plan.links gave) old.ending }))
-      (hand_none old.links took old.plan.links 0 free)
-      ∙ ap (λ (ids : SlotState). with_seat 0 (ending_of old.opens) [] old.words (homes_of old.links old.plan old.letters took) (record (core_with old took gave) { calls = calls_with ids (waiting_of old.seats old.readers) (given_by old.plan.links gave) old.ending })) w.ids
+  began_core took gave = ap (λ (m : MachineState). core_with m took gave) w.is ∙ begun_core took gave
 
-  began_sizes : HasSizes old → HasSizes fresh
-  began_sizes h = record {
-    letters_are = ap length w.letters ∙ h.letters_are ∙ ap (λ (q : Plan). q.requests) (sym w.plan);
-    holders_are = ap (λ (l : LinksData). length l.holders) w.links ∙ h.holders_are ∙ links_are;
-    nexts_are = ap (λ (l : LinksData). length l.nexts) w.links ∙ h.nexts_are ∙ links_are;
-    outs_are = ap (λ (l : LinksData). length l.outs) w.links ∙ h.outs_are ∙ links_are;
-    inns_are = ap (λ (l : LinksData). length l.inns) w.links ∙ h.inns_are ∙ links_are;
-    ends_are = ap length w.ends ∙ h.ends_are ∙ links_are;
-    seats_are = many ∙ h.seats_are ∙ ap (λ (q : Plan). q.seats) (sym w.plan);
-    some_seat = let b = h.some_seat in omega (arith, many, b);
-    few_seats = let b = h.few_seats in omega (arith, many, b);
-    readers_are = ap length w.readers ∙ h.readers_are ∙ links_are;
-    few_readers = let a = ap length w.readers in let b = h.few_readers in omega (arith, a, b);
-    slots_are = ap length w.calls ∙ h.slots_are ∙ ap (λ (x : SlotState). x.plan.slots) (sym w.ids);
-    few_slots = let a = ap (λ (x : SlotState). x.plan.slots) w.ids in let b = h.few_slots in omega (arith, a, b);
-    operations_are = ap (λ (x : SlotState). x.plan.operations) w.ids ∙ h.operations_are ∙ ap (λ (q : Plan). q.operations) (sym w.plan);
-    calls_are = subst (λ (x : SlotState). AllByRecursion (λ o. o < x.plan.operations) fresh.calls) (sym w.ids) (subst (λ (cs : List ℕ). AllByRecursion (λ o. o < old.ids.plan.operations) cs) (sym w.calls) h.calls_are);
-    id_seats_are = ap (λ (x : SlotState). x.plan.seats) w.ids ∙ h.id_seats_are ∙ ap (λ (rs : List ReaderData). READERS + length rs) (sym w.readers);
-    opens_are = subst (λ (os : List ℕ). AllByRecursion (λ o. o < fresh.plan.operations) os) (sym w.opens) tt;
-    few_opens = let a = ap length w.opens in omega (arith, a);
-    few_outcomes = let a = ap length w.outcomes in let b = h.few_outcomes in omega (arith, a, b);
-  }
-    where
-      links_are : old.plan.links ≡ fresh.plan.links
-      links_are = ap (λ (q : Plan). q.links) (sym w.plan)
+  begun_sizes : HasSizes old → HasSizes begun
+  begun_sizes h = sizes_but old begun h (many_same refl refl refl) refl refl refl refl many refl tt (omega arith)
 
-      many : length fresh.seats ≡ length old.seats
-      many = ap length w.seats ∙ length-set old.seats 0 w.seat'
-
-  began_sound : HasSizes old → IsSoundMachine old → IsSoundMachine fresh
-  began_sound h s = let c = core_with old s.took s.gave in let b = s.bounded in let none_ = ap length w.opens in let narrow = h.few_slots in
-      sound_as fresh old.plan old.ids.plan (ending_by old.opens c) s.took s.gave w.plan (ap (λ (x : SlotState). x.plan) w.ids) (began_core s.took s.gave) old s
-      (subst (λ (l : LinksData). Agrees l s.took) (sym w.links) s.agrees) (subst (λ (l : LinksData). AgreesGave l s.gave) (sym w.links) s.agrees_gave)
+  begun_sound : HasSizes old → IsSoundMachine old → IsSoundMachine begun
+  begun_sound h s = let c = core_with old s.took s.gave in let b = s.bounded in let narrow = h.few_slots in
+      sound_as begun old.plan old.ids.plan (ending_by old.opens c) s.took s.gave refl refl (begun_core s.took s.gave) old s s.agrees s.agrees_gave
       (seat_ahead c 0 (ending_of old.opens) [] c.words c.homes s.ahead)
       (ending_sound old.plan c s.views old.opens h.opens_are s.ahead (rest.0 s.took s.gave) s.sound)
       (ending_ids old.plan old.ids.plan (omega (arith, narrow)) h.operations_are c s.id_views old.opens (λ seat at. seat_rests c s.ahead 0 (rest.0 s.took s.gave) seat at) s.ids)
-      (s.left + 20 * length old.opens) (ending_lasts old.plan c s.views old.opens s.left s.lasts) (omega (arith, b, none_))
+      (s.left + 20 * length old.opens) (ending_lasts old.plan c s.views old.opens s.left s.lasts) (omega (arith, b))
 
-  began_paced : ArePaced (machine_sizes old) old.links old.seats → ArePaced (machine_sizes fresh) fresh.links fresh.seats
-  began_paced paced j s there = subst (λ (z : Sizes). IsPaced fresh.links.outs (seat_program z s)) (sym same_sizes) (subst (λ (l : LinksData). IsPaced l.outs (seat_program (machine_sizes old) s)) (sym w.links) (⊎_elim
+  begun_paced : ArePaced (machine_sizes old) old.links old.seats → ArePaced (machine_sizes begun) begun.links begun.seats
+  begun_paced paced j s there = ⊎_elim
       (λ t. subst (λ (x : SeatData). IsPaced old.links.outs (seat_program (machine_sizes old) x)) t.1 (subst (IsPaced old.links.outs) (sym w.program) (calm_paced old.links.outs _ (ending_calm old.opens))))
       (λ t. paced j s t.1)
-      (at_set old.seats 0 j w.seat' s (sym (ap (λ (ss : List SeatData). get_elem? ss j) w.seats) ∙ there))))
+      (at_set old.seats 0 j w.seat' s there)
 
-  began_closed : KeepsClosed old → KeepsClosed fresh
-  began_closed h = record {
-    done = subst ClosedAreDone (sym w.links) h.done;
-    held = λ k j own past. subst (λ (rs : List ReaderData). (READERS ≤ j) × (j < READERS + length rs)) (sym w.readers)
-        (h.held k j (ap (λ (l : LinksData). holder_of l k) (sym w.links) ∙ own) (let many = ap length w.seats ∙ length-set old.seats 0 w.seat' in omega (arith, many, past)));
-  }
+  begun_closed : KeepsClosed old → KeepsClosed begun
+  begun_closed h = record { done = h.done; held = λ k j own past. h.held k j own (omega (arith, many, past)) }
 
   pub began_keeps : IsMachine fresh room
-  began_keeps = record {
-    sizes = ∥∥₁_elim is.sizes (hlevel props) (λ h. ∣ began_sizes h ∣₁);
-    has_room = let a = ap length w.outcomes in let b = is.has_room in omega (arith, a, b);
-    sound = λ _. ∥∥₁_elim is.sizes (hlevel props) (λ h. ∥∥₁_elim (is.sound enough) (hlevel props) (λ s. ∣ began_sound h s ∣₁));
-    paced = λ _. ∥∥₁_elim (is.paced enough) (hlevel props) (λ paced. ∣ began_paced paced ∣₁);
-    closed = λ _. began_closed (is.closed enough);
-    called = λ _. subst AreCalled (sym w.ids) (is.called enough);
-  }
+  began_keeps = subst (λ (m : MachineState). IsMachine m room) (sym w.is) (record {
+    sizes = ∥∥₁_elim is.sizes (hlevel props) (λ h. ∣ begun_sizes h ∣₁);
+    has_room = is.has_room;
+    sound = λ _. ∥∥₁_elim is.sizes (hlevel props) (λ h. ∥∥₁_elim (is.sound enough) (hlevel props) (λ s. ∣ begun_sound h s ∣₁));
+    paced = λ _. ∥∥₁_elim (is.paced enough) (hlevel props) (λ paced. ∣ begun_paced paced ∣₁);
+    closed = λ _. begun_closed (is.closed enough);
+    called = is.called;
+  })
 
   pub began_plain : IsPlain fresh
-  began_plain seat at =
-      let inside : 0 < length old.seats = place_inside old.seats 0 w.seat w.at in
-      let same : w.seat' ≡ seat = core.some-injective w.seat' seat (sym (set_here old.seats 0 w.seat' inside) ∙ sym (ap (λ (ss : List SeatData). get_elem? ss 0) w.seats) ∙ at) in (
-        subst (λ (z : Sizes). AsksNone (seat_program z seat)) (sym same_sizes) (subst (λ (s : SeatData). AsksNone (seat_program (machine_sizes old) s)) same
-            (subst AsksNone (sym (w.program ∙ next_ending old.opens)) (ending_none old.opens))),
+  began_plain = subst IsPlain (sym w.is) (λ seat at.
+      let same : w.seat' ≡ seat = core.some-injective w.seat' seat (sym (set_here old.seats 0 w.seat' (place_inside old.seats 0 w.seat w.at)) ∙ at) in (
+        subst (λ (s : SeatData). AsksNone (seat_program (machine_sizes old) s)) same (subst AsksNone (sym (w.program ∙ next_ending old.opens)) (ending_none old.opens)),
         ap (λ (s : SeatData). s.waiting) (sym same) ∙ w.waiting ∙ own_waiting,
-      )
+      ))
 
 -- ## The run is ending
 
@@ -240,27 +208,7 @@ told_machine m s = let c = core_with m s.took s.gave in
     sound_as (told_ending m) m.plan m.ids.plan (is_ending c) s.took s.gave refl refl refl m s s.agrees s.agrees_gave s.ahead (told_sound m.plan c s.views s.sound) (told_ids m.plan m.ids.plan c s.id_views s.ids) s.left (told_lasts m.plan c s.views s.left s.lasts) s.bounded
 
 told_sizes : (m : MachineState) → HasSizes m → HasSizes (told_ending m)
-told_sizes m h = record {
-  letters_are = h.letters_are;
-  holders_are = h.holders_are;
-  nexts_are = h.nexts_are;
-  outs_are = h.outs_are;
-  inns_are = h.inns_are;
-  ends_are = h.ends_are;
-  seats_are = h.seats_are;
-  some_seat = h.some_seat;
-  few_seats = h.few_seats;
-  readers_are = h.readers_are;
-  few_readers = h.few_readers;
-  slots_are = h.slots_are;
-  few_slots = h.few_slots;
-  operations_are = h.operations_are;
-  calls_are = h.calls_are;
-  id_seats_are = h.id_seats_are;
-  opens_are = h.opens_are;
-  few_opens = h.few_opens;
-  few_outcomes = h.few_outcomes;
-}
+told_sizes m h = sizes_stay m (told_ending m) h (many_same refl refl refl) refl refl refl refl refl refl refl
 
 pub ending_keeps : (m : MachineState) (room : ℕ) → IsMachine m room → IsMachine (told_ending m) room
 ending_keeps m room is = record {

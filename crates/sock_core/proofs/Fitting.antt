@@ -45,8 +45,8 @@ use Rattle.reader_seats.specs.Readers.{ReaderData, reader_program}
 use Rattle.reader_seats.specs.Readers as readers
 use Rattle.sock_core.specs.declared.letter.Letter.{Letter}
 use Rattle.sock_core.specs.Links.{LinksData, IsPaced, letter_home}
-use Rattle.sock_core.specs.Machines.{MachineState, READERS, IsSoundMachine, AreCalled, ArePaced, table_of, machine_sizes, state_of, waiting_of, given_by, core_with}
-use Rattle.sock_core.specs.Steps.{IsSized, IsOfLinks, NextIs, MayGoOn, StandsAt, FitsSlots, Fits, StepFits, beside}
+use Rattle.sock_core.specs.Machines.{MachineState, READERS, IsSoundMachine, AreCalled, ArePaced, table_of, machine_sizes, state_of, waiting_of, given_by, core_with, IsSized}
+use Rattle.sock_core.specs.Steps.{IsOfLinks, NextIs, MayGoOn, StandsAt, FitsSlots, Fits, StepFits, beside}
 use Rattle.sock_core.specs.Reading.{NextReadIs, MayRead, FitsRead, ReadFits}
 use Rattle.sock_core.proofs.Answering.{AsksUnfinished}
 use Rattle.sock_core.proofs.PointFacts.{NoTake, finds_beside, takes_none, within_aside, finds_aside, finds_call, within_ids, reads_within, reads_word, reads_aside}

@@ -30,15 +30,15 @@ use Rattle.seat_programs.specs.declared.task.Sizes.{Sizes}
 use Rattle.client_seats.specs.Seats.{SeatData, seat_program}
 use Rattle.reader_seats.specs.Readers.{ReaderData, reader_program}
 use Rattle.sock_core.specs.Machines.{MachineState, READERS, machine_sizes, between, resting, clients_with, readers_with, seats_with, core_with}
-use Rattle.sock_core.specs.Runs.{SameLink, SameTable, SameLinks, ShowFaults, LinksTell, TakesTell, ShowsTaking, ShowTakings, Follows, Made, Ticked, Ran, RanWith}
+use Rattle.sock_core.specs.Runs.{SameLink, SameTable, SameLinks, ShowFaults, LinksTell, TakesTell, ShowsTaking, ShowTakings, LinksShow, Follows, Made, Ticked, Ran, RanWith}
 
 -- ## The table and its links
 
 pub same_table_none : (m : MachineState) → SameTable m m
-same_table_none m = record { plan = refl; id_plan = refl; calls = refl; opens = refl; ending = refl }
+same_table_none m = record { plans = record { plan = refl; id_plan = refl; calls = refl; ending = refl }; opens = refl }
 
 pub same_table_join : (a b c : MachineState) → SameTable a b → SameTable b c → SameTable a c
-same_table_join a b c h o = record { plan = o.plan ∙ h.plan; id_plan = o.id_plan ∙ h.id_plan; calls = o.calls ∙ h.calls; opens = o.opens ∙ h.opens; ending = o.ending ∙ h.ending }
+same_table_join a b c h o = record { plans = record { plan = o.plan ∙ h.plan; id_plan = o.id_plan ∙ h.id_plan; calls = o.calls ∙ h.calls; ending = o.ending ∙ h.ending }; opens = o.opens ∙ h.opens }
 
 pub same_link_none : (e : LinkEnd) → SameLink e e
 same_link_none e = record { link = refl; later = omega arith; more = omega arith; later_takes = omega arith; gave_end = λ h. h; closed = inl refl }
@@ -190,6 +190,46 @@ takings_join m first second f g k e at = subst (λ (l : List Taking). AllByRecur
 pub takings_as : (m : MachineState) (taken said : ℕ → List Answer) → ((k : ℕ) → taken k ≡ said k) → ShowTakings m taken → ShowTakings m said
 takings_as m taken said same shown k e at = subst (λ (l : List Answer). AllByRecursion (λ t. ShowsTaking t e) (as_taken l)) (same k) (shown k e at)
 
+-- ## All that links show
+
+pub shows_none : (a b : MachineState) {failed : List ℕ} {heard got : ℕ → List Answer} → b.ends ≡ a.ends → failed ≡ [] → ((k : ℕ) → heard k ≡ []) → ((k : ℕ) → got k ≡ []) → LinksShow a b failed heard got
+shows_none a b {failed} {heard} {got} same whole unheard ungot = record {
+  broken = subst (ShowFaults b) (sym whole) (show_faults_none b);
+  told = tells_none a b same heard unheard;
+  taken = takings_none b got ungot;
+  takes = takes_none a b same got ungot;
+}
+
+pub shows_join : (a b c : MachineState) {xs ys : List ℕ} {first second got more : ℕ → List Answer} → SameLinks a b → SameLinks b c → LinksShow a b xs first got → LinksShow b c ys second more → LinksShow a c (xs ++ ys) (λ k. first k ++ second k) (λ k. got k ++ more k)
+shows_join a b c {xs} {ys} {first} {second} {got} {more} links after s t = record {
+  broken = show_faults_join c xs ys (show_faults_later b c xs s.broken after) t.broken;
+  told = tells_join a b c first second links after s.told t.told;
+  taken = takings_join c got more (takings_later b c got s.taken after) t.taken;
+  takes = takes_join a b c got more links after s.takes t.takes;
+}
+
+-- the links stand as they stood
+pub shows_on : (a b c : MachineState) {failed : List ℕ} {heard got : ℕ → List Answer} → c.ends ≡ b.ends → LinksShow a b failed heard got → LinksShow a c failed heard got
+shows_on a b c {failed} {heard} {got} same s = record {
+  broken = λ k e has at. s.broken k e has (ap (λ (es : List LinkEnd). slice_get es k) (sym same) ∙ at);
+  told = tells_on a b c heard same s.told;
+  taken = λ k e at. s.taken k e (ap (λ (es : List LinkEnd). slice_get es k) (sym same) ∙ at);
+  takes = takes_on a b c got same s.takes;
+}
+
+-- the same, said otherwise
+pub shows_as : (a b : MachineState) {failed failed' : List ℕ} {heard heard' got got' : ℕ → List Answer} → LinksShow a b failed heard got → failed ≡ failed' → ((k : ℕ) → heard k ≡ heard' k) → ((k : ℕ) → got k ≡ got' k) → LinksShow a b failed' heard' got'
+shows_as a b {failed} {failed'} {heard} {heard'} {got} {got'} s same same_heard same_got = record {
+  broken = subst (ShowFaults b) same s.broken;
+  told = tells_as a b heard heard' same_heard s.told;
+  taken = takings_as b got got' same_got s.taken;
+  takes = takes_as a b got got' same_got s.takes;
+}
+
+-- of the ticks of a seat that has no step left
+pub shows_idle : (a b : MachineState) {failed failed' : List ℕ} {heard heard' got got' : ℕ → List Answer} → LinksShow a b failed heard got → failed' ≡ [] → ((k : ℕ) → heard k ≡ heard' k) → ((k : ℕ) → got k ≡ got' k) → LinksShow a b failed' heard' got'
+shows_idle a b {failed} {failed'} {heard} {heard'} {got} {got'} s whole same_heard same_got = shows_as a b {failed = []} {failed' = failed'} {heard = heard} {heard' = heard'} {got = got} {got' = got'} (record { broken = show_faults_none b; told = s.told; taken = s.taken; takes = s.takes }) (sym whole) same_heard same_got
+
 -- ## Ticks, one behind another
 
 pub seats_append : (xs ys : List Moment) → seats_of (xs ++ ys) ≡ seats_of xs ++ seats_of ys
@@ -245,15 +285,9 @@ follows_none m took gave agrees agrees_gave = record {
   always_ready = λ h. tt;
   closes = λ h. tt;
   offers = λ k serve end h. (tt, h);
-  later = took;
-  agrees = agrees;
-  later_gave = gave;
-  agrees_gave = agrees_gave;
+  so_far = record { took = took; gave = gave; agrees = agrees; agrees_gave = agrees_gave };
   core = refl;
-  broken = show_faults_none m;
-  told = tells_none m m refl _ (λ k. refl);
-  taken = takings_none m _ (λ k. refl);
-  takes = takes_none m m refl _ (λ k. refl);
+  shows = shows_none m m refl refl (λ k. refl) (λ k. refl);
 }
 
 module _ (a b c : MachineState) (took : Taken) (gave : Given) (xs ys : List Moment) (table : SameTable a b) (links : SameLinks a b) (after : SameLinks b c) (f : Follows a b took gave xs) (g : Follows b c f.later f.later_gave ys) where
@@ -270,19 +304,10 @@ module _ (a b c : MachineState) (took : Taken) (gave : Given) (xs ys : List Mome
     always_ready = λ always_ready. prompt_append xs ys (f.always_ready always_ready) (g.always_ready (links.always_ready always_ready));
     closes = λ tell. closes_append a.plan start xs ys (f.closes tell) (moved (λ p d. ClosesInTime p d ys) (g.closes (links.tell tell)));
     offers = λ k serve end h. let x = f.offers k serve end h in let y = g.offers k serve end x.1 in (offers_append a.plan k serve end start xs ys x.0 (moved (λ p d. AreOffered p k serve end d ys) y.0), y.1);
-    later = g.later;
-    agrees = g.agrees;
-    later_gave = g.later_gave;
-    agrees_gave = g.agrees_gave;
+    so_far = g.so_far;
     core = moved (λ p d. core_with c g.later g.later_gave ≡ run p d ys) g.core ∙ sym (run_append a.plan start xs ys);
-    broken = subst (ShowFaults c) (sym (broken_append a.plan start xs ys))
-        (show_faults_join c (broken_in a.plan start xs) (broken_in a.plan (run a.plan start xs) ys) (show_faults_later b c (broken_in a.plan start xs) f.broken after) (moved (λ p d. ShowFaults c (broken_in p d ys)) g.broken));
-    told = tells_as a c (λ k. heard_in a.plan start xs k ++ heard_in a.plan (run a.plan start xs) ys k) (heard_in a.plan start (xs ++ ys)) (λ k. sym (heard_on a.plan start xs ys k))
-        (tells_join a b c (heard_in a.plan start xs) (heard_in a.plan (run a.plan start xs) ys) links after f.told (moved (λ p d. LinksTell b c (heard_in p d ys)) g.told));
-    taken = takings_as c (λ k. taken_in a.plan start xs k ++ taken_in a.plan (run a.plan start xs) ys k) (taken_in a.plan start (xs ++ ys)) (λ k. sym (taken_on a.plan start xs ys k))
-        (takings_join c (taken_in a.plan start xs) (taken_in a.plan (run a.plan start xs) ys) (takings_later b c (taken_in a.plan start xs) f.taken after) (moved (λ p d. ShowTakings c (taken_in p d ys)) g.taken));
-    takes = takes_as a c (λ k. taken_in a.plan start xs k ++ taken_in a.plan (run a.plan start xs) ys k) (taken_in a.plan start (xs ++ ys)) (λ k. sym (taken_on a.plan start xs ys k))
-        (takes_join a b c (taken_in a.plan start xs) (taken_in a.plan (run a.plan start xs) ys) links after f.takes (moved (λ p d. TakesTell b c (taken_in p d ys)) g.takes));
+    shows = shows_as a c (shows_join a b c links after f.shows (moved (λ p d. LinksShow b c (broken_in p d ys) (heard_in p d ys) (taken_in p d ys)) g.shows))
+        (sym (broken_append a.plan start xs ys)) (λ k. sym (heard_on a.plan start xs ys k)) (λ k. sym (taken_on a.plan start xs ys k));
   }
 
 -- ## Runs, one behind another
@@ -417,15 +442,9 @@ follows_rest m took gave i n agrees agrees_gave rest = record {
   always_ready = λ h. quiet_prompt n i;
   closes = λ h. quiet_closes m.plan (core_with m took gave) n i;
   offers = λ k serve end h. (quiet_offers m.plan k serve end (core_with m took gave) n i, h);
-  later = took;
-  agrees = agrees;
-  later_gave = gave;
-  agrees_gave = agrees_gave;
+  so_far = record { took = took; gave = gave; agrees = agrees; agrees_gave = agrees_gave };
   core = sym (rests_on m.plan (core_with m took gave) i rest n);
-  broken = subst (ShowFaults m) (sym (quiet_broken m.plan (core_with m took gave) n i)) (show_faults_none m);
-  told = tells_none m m refl _ (rests_heard m.plan (core_with m took gave) i rest n);
-  taken = takings_none m _ (rests_taken m.plan (core_with m took gave) i rest n);
-  takes = takes_none m m refl _ (rests_taken m.plan (core_with m took gave) i rest n);
+  shows = shows_none m m refl (quiet_broken m.plan (core_with m took gave) n i) (rests_heard m.plan (core_with m took gave) i rest n) (rests_taken m.plan (core_with m took gave) i rest n);
 }
 
 -- more ticks of a seat that has no step left leave all as it is

@@ -42,8 +42,8 @@ use Rattle.seat_states.specs.Steps as kinds
 use Rattle.seat_states.proofs.StepFacts as facts
 use Rattle.client_seats.specs.Seats.{SeatData, around, seat_program}
 use Rattle.sock_core.specs.Links.{LinksData, Taken, Given, Agrees, AgreesGave, IsPaced, holder_of}
-use Rattle.sock_core.specs.Machines.{MachineState, IsSoundMachine, ArePaced, MOST_LEFT, table_of, machine_sizes, state_of, core_with}
-use Rattle.sock_core.specs.Steps.{IsSized, OutsAfter, SameBase, Goes, MadeFirst}
+use Rattle.sock_core.specs.Machines.{MachineState, IsSoundMachine, ArePaced, MOST_LEFT, table_of, machine_sizes, state_of, core_with, IsSized}
+use Rattle.sock_core.specs.Steps.{OutsAfter, SameBase, Goes, MadeFirst}
 use Rattle.seat_states.specs.declared.point.Step.{Step}
 use Rattle.sock_core.proofs.FirstSteps.{same_some}
 use Rattle.sock_core.proofs.Holding.{only_of}

@@ -93,15 +93,17 @@ module _ (old fresh : MachineState) (i : ℕ) (place seat' : SeatData) (step : S
   as_many (kinds.OfPut k asked bytes) answer w = asked_many w.2
   as_many (kinds.OfReady k) answer w = asked_many w.2
 
--- so the tables have the sizes that their plans say
-pub sizes_stay : (old fresh : MachineState) → HasSizes old → AsMany (table_of old) (table_of fresh) → fresh.plan ≡ old.plan → fresh.ids.plan ≡ old.ids.plan → fresh.calls ≡ old.calls → length fresh.ends ≡ length old.ends → length fresh.seats ≡ length old.seats
-    → length fresh.readers ≡ length old.readers → fresh.opens ≡ old.opens → HasSizes fresh
-sizes_stay old fresh h many plan id_plan calls ends seats readers opens = record {
-  letters_are = many.letters ∙ h.letters_are ∙ sym (ap (λ (p : Plan). p.requests) plan);
-  holders_are = many.holders ∙ h.holders_are ∙ links;
-  nexts_are = many.nexts ∙ h.nexts_are ∙ links;
-  outs_are = many.outs ∙ h.outs_are ∙ links;
-  inns_are = many.inns ∙ h.inns_are ∙ links;
+-- so the tables have the sizes that their plans say, whatever `open`s the ending goes over
+pub sizes_but : (old fresh : MachineState) → HasSizes old → AsMany (table_of old) (table_of fresh) → fresh.plan ≡ old.plan → fresh.ids.plan ≡ old.ids.plan → fresh.calls ≡ old.calls → length fresh.ends ≡ length old.ends → length fresh.seats ≡ length old.seats
+    → length fresh.readers ≡ length old.readers → AllByRecursion (λ o. o < fresh.plan.operations) fresh.opens → length fresh.opens ≤ 32 → HasSizes fresh
+sizes_but old fresh h many plan id_plan calls ends seats readers opens few_opens = record {
+  tables = record {
+    letters_are = many.letters ∙ h.letters_are ∙ sym (ap (λ (p : Plan). p.requests) plan);
+    holders_are = many.holders ∙ h.holders_are ∙ links;
+    nexts_are = many.nexts ∙ h.nexts_are ∙ links;
+    outs_are = many.outs ∙ h.outs_are ∙ links;
+    inns_are = many.inns ∙ h.inns_are ∙ links;
+  };
   ends_are = ends ∙ h.ends_are ∙ links;
   seats_are = seats ∙ h.seats_are ∙ sym (ap (λ (p : Plan). p.seats) plan);
   some_seat = subst (λ (n : ℕ). 0 < n) (sym seats) h.some_seat;
@@ -113,13 +115,19 @@ sizes_stay old fresh h many plan id_plan calls ends seats readers opens = record
   operations_are = ap (λ (q : marks.Plan). q.operations) id_plan ∙ h.operations_are ∙ sym (ap (λ (p : Plan). p.operations) plan);
   calls_are = subst (λ (q : marks.Plan). AllByRecursion (λ o. o < q.operations) fresh.calls) (sym id_plan) (subst (λ (os : List ℕ). AllByRecursion (λ o. o < old.ids.plan.operations) os) (sym calls) h.calls_are);
   id_seats_are = ap (λ (q : marks.Plan). q.seats) id_plan ∙ h.id_seats_are ∙ ap (λ (n : ℕ). READERS + n) (sym readers);
-  opens_are = subst (λ (p : Plan). AllByRecursion (λ o. o < p.operations) fresh.opens) (sym plan) (subst (λ (os : List ℕ). AllByRecursion (λ o. o < old.plan.operations) os) (sym opens) h.opens_are);
-  few_opens = subst (λ (os : List ℕ). length os ≤ 32) (sym opens) h.few_opens;
+  opens_are = opens;
+  few_opens = few_opens;
   few_outcomes = subst (λ (n : ℕ). n ≤ 4096) (sym many.outcomes) h.few_outcomes;
 }
   where
     links : old.plan.links ≡ fresh.plan.links
     links = sym (ap (λ (p : Plan). p.links) plan)
+
+pub sizes_stay : (old fresh : MachineState) → HasSizes old → AsMany (table_of old) (table_of fresh) → fresh.plan ≡ old.plan → fresh.ids.plan ≡ old.ids.plan → fresh.calls ≡ old.calls → length fresh.ends ≡ length old.ends → length fresh.seats ≡ length old.seats
+    → length fresh.readers ≡ length old.readers → fresh.opens ≡ old.opens → HasSizes fresh
+sizes_stay old fresh h many plan id_plan calls ends seats readers opens = sizes_but old fresh h many plan id_plan calls ends seats readers
+    (subst (λ (p : Plan). AllByRecursion (λ o. o < p.operations) fresh.opens) (sym plan) (subst (λ (os : List ℕ). AllByRecursion (λ o. o < old.plan.operations) os) (sym opens) h.opens_are))
+    (subst (λ (os : List ℕ). length os ≤ 32) (sym opens) h.few_opens)
 
 -- behind a step of seat i
 pub sizes_kept : (old fresh : MachineState) (i : ℕ) (seat' : SeatData) → HasSizes old → AsMany (table_of old) (table_of fresh) → SameBase (table_of old) (table_of fresh) → length fresh.ends ≡ length old.ends → fresh.seats ≡ slice_set old.seats i seat' → fresh.readers ≡ old.readers

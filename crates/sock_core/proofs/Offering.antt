@@ -59,12 +59,7 @@ module _ (l l' : LinksData) (k : ℕ) (serve : Bool) (end : Option ℕ) (h : IsO
     inn_at = inn_at;
     took = took;
     took_is = told;
-    gave = h.gave;
-    gave_is = h.gave_is;
-    offer = h.offer;
-    offer_is = h.offer_is;
-    serves = h.serves;
-    ends = h.ends;
+    tells = h.tells;
     served = served;
   }
 
@@ -136,12 +131,14 @@ module _ (old fresh : MachineState) (x room : ℕ) (taking : Taking) (f : TakenF
         inn_at = ap (λ (is : List InState). get_elem? is k) f.inns_are ∙ ap (get_elem? (slice_set old.links.inns x f.inn')) e ∙ set_here old.links.inns x f.inn' (place_inside old.links.inns x f.inn f.at);
         took = h.took;
         took_is = h.took_is;
-        gave = h.gave ++ given_in taking;
-        gave_is = f.bytes ∙ ap (λ (b : Option (List ℕ)). append_known b (given_in taking)) (ap (λ (i : InState). i.gave_bytes) (sym on.0) ∙ h.gave_is);
-        offer = on.1.offer;
-        offer_is = on.1.is;
-        serves = on.1.serve ∙ h.serves;
-        ends = on.1.end ∙ h.ends;
+        tells = record {
+          gave = h.gave ++ given_in taking;
+          gave_is = f.bytes ∙ ap (λ (b : Option (List ℕ)). append_known b (given_in taking)) (ap (λ (i : InState). i.gave_bytes) (sym on.0) ∙ h.gave_is);
+          offer = on.1.offer;
+          offer_is = on.1.is;
+          serves = on.1.serve ∙ h.serves;
+          ends = on.1.end ∙ h.ends;
+        };
         served = on.1.served;
       })
       (λ differ. offers_still old.links fresh.links k serve end h h.out (ap (λ (os : List OutState). get_elem? os k) outs ∙ h.out_at) (ap (λ (is : List InState). get_elem? is k) f.inns_are ∙ set_else old.links.inns x k f.inn' differ ∙ h.inn_at) h.took h.took_is h.served)

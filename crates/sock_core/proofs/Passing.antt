@@ -43,7 +43,7 @@ module _ (t : TableState) (seat : SeatData) (p q : Point) (next : Program) (same
     (silent : said (resolved seat.waiting (seat_program (table_sizes t) (seat_at seat q))) t.outcomes ≡ t.outcomes) where
   goes_to : Goes t t (seat_at seat p) (seat_at seat q) next
   goes_to = record {
-    base = record { plan = refl; id_plan = refl; calls = refl; ending = refl; inns = refl };
+    base = record { plans = record { plan = refl; id_plan = refl; calls = refl; ending = refl }; inns = refl };
     program = sym bare ∙ ap (λ x. next_step (resolved seat.waiting x)) (sym same);
     waiting = sym waits ∙ ap (still_waiting seat.waiting) (sym same);
     told = sym silent ∙ ap (λ x. said (resolved seat.waiting x) t.outcomes) (sym same);

@@ -25,10 +25,10 @@ use Rattle.sock_core.specs.declared.machine.Tick.TheVariants.{Moved, Waits, Idle
 use Rattle.sock_core.specs.Links.{LinksData, Taken, Given, IsPaced}
 use Rattle.sock_core.specs.Machines.{MachineState, READERS, IsMachine, IsSoundMachine, HasSizes, KeepsClosed, ArePaced, machine_sizes, table_of, between, resting, clients_with, readers_with, state_of, given_by, core_with}
 use Rattle.sock_core.specs.Reading.{IsCutShort}
-use Rattle.sock_core.specs.Runs.{SameTable, SameLinks, ShowFaults, LinksTell, TakesTell, ShowTakings, TickIs, Follows, Ticked}
+use Rattle.sock_core.specs.Runs.{SameTable, SameLinks, LinksShow, TickIs, Follows, Ticked}
 use Rattle.sock_core.specs.Steps.{PreparedAt, IsReady, MayStand, ReadyAt, StandsAt}
 use Rattle.sock_core.specs.Driving.{LastsAtMost, Leaves, FirstRests}
-use Rattle.sock_core.proofs.Joining.{same_links_none}
+use Rattle.sock_core.proofs.Joining.{same_table_none, same_links_none}
 use Rattle.sock_core.proofs.Keeping.{remade}
 use Rattle.sock_core.proofs.Lengths.{sizes_kept, sizes_stay}
 use Rattle.sock_core.proofs.Resting.{first_rests}
@@ -40,11 +40,13 @@ module _ (old new : MachineState) (ss : List SeatData) (same : (took : Taken) (g
   abbrev mid : MachineState
   mid = record old { seats = ss }
 
-  tells_before : (heard : ℕ → List Answer) → LinksTell mid new heard → LinksTell old new heard
-  tells_before heard t = record { each = t.each; none_beyond = t.none_beyond }
-
-  takes_before : (taken : ℕ → List Answer) → TakesTell mid new taken → TakesTell old new taken
-  takes_before taken t = record { each = t.each; none_beyond = t.none_beyond }
+  shows_before : {failed : List ℕ} {heard got : ℕ → List Answer} → LinksShow mid new failed heard got → LinksShow old new failed heard got
+  shows_before s = record {
+    broken = s.broken;
+    told = record { each = s.told.each; none_beyond = s.told.none_beyond };
+    taken = s.taken;
+    takes = record { each = s.takes.each; none_beyond = s.takes.none_beyond };
+  }
 
   follows_before : (took : Taken) (gave : Given) (ms : List Moment) → Follows mid new took gave ms → Follows old new took gave ms
   follows_before took gave ms f = let e : core_with mid took gave ≡ core_with old took gave = same took gave in record {
@@ -52,15 +54,9 @@ module _ (old new : MachineState) (ss : List SeatData) (same : (took : Taken) (g
     always_ready = f.always_ready;
     closes = λ tell. subst (λ (c : Core). ClosesInTime old.plan c ms) e (f.closes tell);
     offers = λ k serve end h. let x = f.offers k serve end h in (subst (λ (c : Core). AreOffered old.plan k serve end c ms) e x.0, x.1);
-    later = f.later;
-    agrees = f.agrees;
-    later_gave = f.later_gave;
-    agrees_gave = f.agrees_gave;
+    so_far = f.so_far;
     core = f.core ∙ ap (λ (c : Core). run old.plan c ms) e;
-    broken = subst (λ (c : Core). ShowFaults new (broken_in old.plan c ms)) e f.broken;
-    told = subst (λ (c : Core). LinksTell old new (heard_in old.plan c ms)) e (tells_before _ f.told);
-    taken = subst (λ (c : Core). ShowTakings new (taken_in old.plan c ms)) e f.taken;
-    takes = subst (λ (c : Core). TakesTell old new (taken_in old.plan c ms)) e (takes_before _ f.takes);
+    shows = subst (λ (c : Core). LinksShow old new (broken_in old.plan c ms) (heard_in old.plan c ms) (taken_in old.plan c ms)) e (shows_before f.shows);
   }
 
   is_before : (took : Taken) (gave : Given) (moment : Moment) (tick : Tick) → TickIs mid (core_with mid took gave) moment tick → TickIs old (core_with old took gave) moment tick
@@ -71,7 +67,7 @@ module _ (old new : MachineState) (ss : List SeatData) (same : (took : Taken) (g
   -- a tick of the one is one of the other
   pub ticked_before : (i : ℕ) (tick : Tick) → Ticked mid new i tick → Ticked old new i tick
   ticked_before i tick t = (
-    record { plan = t.0.plan; id_plan = t.0.id_plan; calls = t.0.calls; opens = t.0.opens; ending = t.0.ending },
+    record { plans = t.0.plans; opens = t.0.opens },
     record { as_many = t.1.as_many; each = t.1.each; always_ready = t.1.always_ready; tell = t.1.tell },
     λ took gave agrees agrees_gave. let w = t.2 took gave agrees agrees_gave in record { moment = w.moment; is_of = w.is_of; is = is_before took gave w.moment tick w.is; follows = follows_before took gave (w.moment ∷ []) w.follows },
   )
@@ -113,7 +109,7 @@ module _ (old fresh : MachineState) (i : ℕ) (w : PreparedAt old fresh i) where
   prepared_ticks new tick t = ticked_before old new (slice_set old.seats i w.seat') prepared_core i tick (subst (λ (m : MachineState). Ticked m new i tick) w.is t)
 
   made_table : SameTable old made
-  made_table = record { plan = refl; id_plan = refl; calls = refl; opens = refl; ending = refl }
+  made_table = let n = same_table_none old in record { plans = n.plans; opens = n.opens }
 
   made_links : SameLinks old made
   made_links = let n = same_links_none old in record { as_many = n.as_many; each = n.each; always_ready = n.always_ready; tell = n.tell }
@@ -123,7 +119,7 @@ module _ (old fresh : MachineState) (i : ℕ) (w : PreparedAt old fresh i) where
 
   made_sizes : HasSizes old → HasSizes made
   made_sizes h = sizes_kept old made i w.seat' h (record { letters = refl; holders = refl; nexts = refl; outs = refl; inns = refl; outcomes = refl })
-      (record { plan = refl; id_plan = refl; calls = refl; ending = refl; inns = refl }) refl refl refl refl
+      (record { plans = made_table.plans; inns = refl }) refl refl refl refl
 
   made_sound : (s : IsSoundMachine old) → (m : IsSoundMachine made) × (m.left ≡ s.left)
   made_sound s = remade made old.plan old.ids.plan (core_with old s.took s.gave) s.took s.gave s.views s.id_views s.left refl refl s.agrees s.agrees_gave (prepared_core s.took s.gave) s.ahead s.sound s.ids s.few s.lasts s.bounded
@@ -189,7 +185,7 @@ module _ (old fresh : MachineState) (i : ℕ) (w : PreparedAt old fresh i) where
 
 module _ (old fresh : MachineState) (w : IsCutShort old fresh) where
   cut_has_sizes : HasSizes old → HasSizes fresh
-  cut_has_sizes h = sizes_stay old fresh h w.many w.plan w.ids w.calls w.links.as_many w.seats w.readers w.opens
+  cut_has_sizes h = sizes_stay old fresh h w.many w.plan w.id_plan w.calls w.as_many w.seats w.readers w.opens
 
   pub cut_sizes : ∥ HasSizes old ∥₁ → ∥ HasSizes fresh ∥₁
   cut_sizes sizes = ∥∥₁_elim sizes (hlevel props) (λ h. ∣ cut_has_sizes h ∣₁)
@@ -205,4 +201,4 @@ module _ (old fresh : MachineState) (w : IsCutShort old fresh) where
   }
 
   pub cut_same : SameTable old fresh × SameLinks old fresh
-  cut_same = (record { plan = w.plan; id_plan = w.ids; calls = w.calls; opens = w.opens; ending = w.ending }, w.links)
+  cut_same = (record { plans = w.plans; opens = w.opens }, record { as_many = w.as_many; each = w.each; always_ready = w.always_ready; tell = w.tell })

@@ -22,9 +22,8 @@ use Rattle.reader_points.specs.declared.point.ReadStep.TheVariants as steps
 use Rattle.reader_points.specs.Steps.{step_as}
 use Rattle.reader_seats.specs.Readers.{ReaderData, reader_program}
 use Rattle.sock_core.specs.Links.{LinksData, Taken, Given, Agrees, AgreesGave, homes_of, hand_of}
-use Rattle.sock_core.specs.Machines.{MachineState, READERS, table_of, state_of, waiting_of, given_by, calls_of, core_with}
+use Rattle.sock_core.specs.Machines.{MachineState, READERS, table_of, state_of, waiting_of, given_by, calls_of, core_with, IsSized}
 use Rattle.sock_core.specs.Reading.{SameTables, CallRead, AsideRead, TakeRead, MadeRead, given_in}
-use Rattle.sock_core.specs.Steps.{IsSized}
 use Rattle.sock_core.proofs.Changes.{none_changes}
 use Rattle.sock_core.proofs.Ranges.{get-range, set-range}
 use Rattle.sock_core.proofs.Seatings.{Stays, reader_set, read_at}
@@ -120,14 +119,16 @@ module _ (old fresh : MachineState) (k : ℕ) (reader reader' : ReaderData) (at 
   answers first answer next fits s there = subst (λ (x : SeatState). IsAnswer x.program answer) (core.some-injective own s (sym own_at ∙ there)) (answers_first program first answer next fits)
 
   stays : SameTables (table_of old) (table_of fresh) → Stays old fresh
-  stays same = record { plan = same.plan; id_plan = same.id_plan; calls = same.calls; ending = same.ending; seats = seats }
+  stays same = record { plans = same.plans; seats = seats }
 
   call_steps : (call : calls.Call) → first_in program ≡ Some (OfCall call) → MayCall old.plan old.links i call → LettersBy call old.letters fresh.letters → CallRead (table_of old) (table_of fresh) i reader reader' call → SteppedWith old fresh i Unasked took gave
   call_steps call next may lettered w = record {
-    later = took;
-    agrees = call_agrees old.plan i old.letters sized.letters_are old.links fresh.links took sized.holders_are call w.outs agrees;
-    later_gave = gave;
-    agrees_gave = gives_same old.links fresh.links gave w.inns agrees_gave;
+    so_far = record {
+      took = took;
+      gave = gave;
+      agrees = call_agrees old.plan i old.letters sized.letters_are old.links fresh.links took sized.holders_are call w.outs agrees;
+      agrees_gave = gives_same old.links fresh.links gave w.inns agrees_gave;
+    };
     core = reader_set old fresh k reader reader' (aside_steps.after_word program (found_at old.words (word_of old.plan call))) took took gave gave (hand_after old.plan call before.homes own.hand) (homes_after old.plan call own.hand before.homes) (words_after before.words (word_of old.plan call) (word_after call (found_at before.words (word_of old.plan call)))) at (stays w.same) readers few w.goes w.words
         (call_changes old.plan i old.letters sized.letters_are old.links fresh.links took sized.holders_are call fresh.letters may lettered w.holders w.same.nexts w.outs w.inns)
         ∙ ap (λ ids. with_seat i (aside_steps.after_word program (found_at old.words (word_of old.plan call))) (hand_after old.plan call before.homes own.hand) (words_after before.words (word_of old.plan call) (word_after call (found_at before.words (word_of old.plan call)))) (homes_after old.plan call own.hand before.homes) (record before { calls = calls_with ids (waiting_of old.seats old.readers) (given_by old.plan.links gave) old.ending })) w.ids
@@ -137,10 +138,12 @@ module _ (old fresh : MachineState) (k : ℕ) (reader reader' : ReaderData) (at 
 
   aside_reads : (step : asides.Step) → first_in program ≡ Some (OfAside step) → AnswersFirst (OfAside step) Unasked → AsideRead (table_of old) (table_of fresh) i reader reader' step → SteppedWith old fresh i Unasked took gave
   aside_reads step next fits w = record {
-    later = took;
-    agrees = agrees_same old.links fresh.links took (ap (λ (l : LinksData). l.outs) w.links) agrees;
-    later_gave = gave;
-    agrees_gave = gives_same old.links fresh.links gave (ap (λ (l : LinksData). l.inns) w.links) agrees_gave;
+    so_far = record {
+      took = took;
+      gave = gave;
+      agrees = agrees_same old.links fresh.links took (ap (λ (l : LinksData). l.outs) w.links) agrees;
+      agrees_gave = gives_same old.links fresh.links gave (ap (λ (l : LinksData). l.inns) w.links) agrees_gave;
+    };
     core = reader_set old fresh k reader reader' (w.next w.found) took took gave gave own.hand before.homes before.words at (stays w.same) readers few w.goes w.words
         (none_changes old.plan i old.links fresh.links old.letters fresh.letters took before.homes w.links (ap (λ ls. homes_of old.links old.plan ls took) w.same.letters))
         ∙ ap (λ (a : Calls). with_seat i (w.next w.found) own.hand before.words before.homes (record before { calls = a })) (w.ids.changes (waiting_of old.seats old.readers) (given_by old.plan.links gave) old.ending)
@@ -150,10 +153,12 @@ module _ (old fresh : MachineState) (k : ℕ) (reader reader' : ReaderData) (at 
 
   take_reads : (j room : ℕ) (taking : Taking) → first_in program ≡ Some (OfAside (asides.TakeBytes j room)) → j < old.plan.links → TakeRead (table_of old) (table_of fresh) i reader reader' j room taking → SteppedWith old fresh i (OfTake taking) took gave
   take_reads j room taking next inside w = let f = w.from in let later : Given = later_at j (gave j ++ given_in taking) gave in record {
-    later = took;
-    agrees = agrees_same old.links fresh.links took w.outs agrees;
-    later_gave = later;
-    agrees_gave = gives_set old.links fresh.links gave j f.inn f.inn' (given_in taking) f.at f.inns_are f.gave f.bytes agrees_gave;
+    so_far = record {
+      took = took;
+      gave = later;
+      agrees = agrees_same old.links fresh.links took w.outs agrees;
+      agrees_gave = gives_set old.links fresh.links gave j f.inn f.inn' (given_in taking) f.at f.inns_are f.gave f.bytes agrees_gave;
+    };
     core = reader_set old fresh k reader reader' (w.next (at_last old.ending taking)) took took gave later own.hand before.homes before.words at (stays w.same) readers few w.goes w.words
         (record { own = ap (λ (l : LinksData). hand_of l old.plan.links took i) same_out; others = λ x differ. ap (λ (l : LinksData). hand_of l old.plan.links took x) same_out; homes_are = ap₂ (λ (l : LinksData) ls. homes_of l old.plan ls took) same_out w.same.letters })
         ∙ ap (λ (a : Calls). with_seat i (w.next (at_last old.ending taking)) own.hand before.words before.homes (record before { calls = a }))

@@ -18,8 +18,8 @@ use Rattle.client_seats.specs.Seats.{SeatData, seat_program}
 use Rattle.sock_core.specs.declared.machine.Tick.TheVariants as ticks
 use Rattle.sock_core.specs.Links.{LinksData, Taken, Given}
 use Rattle.sock_core.specs.Machines.{MachineState, READERS, core_with, machine_sizes, between, resting, clients_with, readers_with, seats_with}
-use Rattle.sock_core.specs.Runs.{ShowFaults, Follows, Ticked, TickedWith, Ran}
-use Rattle.sock_core.proofs.Joining.{same_table_none, same_links_none, rests, rest_answered, rest_heard, rest_taken, rests_on, rests_heard, rests_taken, rests_answered, seats_quiet, quiet_prompt, quiet_closes, quiet_offers, quiet_broken, show_faults_none, tells_none, tells_as, takings_none, takes_none, takes_as}
+use Rattle.sock_core.specs.Runs.{Follows, Ticked, TickedWith, Ran}
+use Rattle.sock_core.proofs.Joining.{same_table_none, same_links_none, rests, rest_answered, rest_heard, rest_taken, rests_on, rests_heard, rests_taken, rests_answered, seats_quiet, quiet_prompt, quiet_closes, quiet_offers, quiet_broken, shows_none, shows_idle}
 
 -- the seat has no step left, whatever its links took and gave
 abbrev pub Rests : MachineState → ℕ → Type 0
@@ -73,15 +73,9 @@ follows_idle a b i took gave t = record {
   always_ready = λ h. tt;
   closes = λ h. tt;
   offers = λ k serve end h. (tt, (t.follows.offers k serve end h).1);
-  later = t.follows.later;
-  agrees = t.follows.agrees;
-  later_gave = t.follows.later_gave;
-  agrees_gave = t.follows.agrees_gave;
+  so_far = t.follows.so_far;
   core = idle_core a b i took gave t;
-  broken = show_faults_none b;
-  told = tells_as a b _ _ (λ k. append-nil (heard_at (core_with a took gave) t.moment k) ∙ rest_heard (core_with a took gave) t.moment t.is k) t.follows.told;
-  taken = takings_none b _ (λ k. refl);
-  takes = takes_as a b _ _ (λ k. append-nil (taken_at (core_with a took gave) t.moment k) ∙ rest_taken (core_with a took gave) t.moment t.is k) t.follows.takes;
+  shows = shows_idle a b t.follows.shows refl (λ k. append-nil (heard_at (core_with a took gave) t.moment k) ∙ rest_heard (core_with a took gave) t.moment t.is k) (λ k. append-nil (taken_at (core_with a took gave) t.moment k) ∙ rest_taken (core_with a took gave) t.moment t.is k);
 }
 
 -- it is none at all
@@ -102,15 +96,10 @@ rest_ticks m i rest = (
       always_ready = λ h. (λ e. absurd (cc), tt);
       closes = λ h. quiet_closes m.plan (core_with m took gave) 1 i;
       offers = λ k serve end h. (quiet_offers m.plan k serve end (core_with m took gave) 1 i, h);
-      later = took;
-      agrees = agrees;
-      later_gave = gave;
-      agrees_gave = agrees_gave;
+      so_far = record { took = took; gave = gave; agrees = agrees; agrees_gave = agrees_gave };
       core = sym (rests m.plan (core_with m took gave) (quiet i) (rest took gave));
-      broken = show_faults_none m;
-      told = tells_none m m refl _ (λ k. append-nil (heard_at (core_with m took gave) (quiet i) k) ∙ rest_heard (core_with m took gave) (quiet i) (rest took gave) k);
-      taken = takings_none m _ (λ k. append-nil (taken_at (core_with m took gave) (quiet i) k) ∙ rest_taken (core_with m took gave) (quiet i) (rest took gave) k);
-      takes = takes_none m m refl _ (λ k. append-nil (taken_at (core_with m took gave) (quiet i) k) ∙ rest_taken (core_with m took gave) (quiet i) (rest took gave) k);
+      shows = shows_none m m refl refl (λ k. append-nil (heard_at (core_with m took gave) (quiet i) k) ∙ rest_heard (core_with m took gave) (quiet i) (rest took gave) k)
+          (λ k. append-nil (taken_at (core_with m took gave) (quiet i) k) ∙ rest_taken (core_with m took gave) (quiet i) (rest took gave) k);
     };
   },
 )
@@ -154,15 +143,10 @@ idle_ran a b i t n = (
       always_ready = λ h. quiet_prompt n i;
       closes = λ h. quiet_closes a.plan c n i;
       offers = λ k serve end h. (quiet_offers a.plan k serve end c n i, (w.follows.offers k serve end h).1);
-      later = w.follows.later;
-      agrees = w.follows.agrees;
-      later_gave = w.follows.later_gave;
-      agrees_gave = w.follows.agrees_gave;
+      so_far = w.follows.so_far;
       core = idle_core a b i took gave w ∙ sym (rests_on a.plan c i rest n);
-      broken = subst (ShowFaults b) (sym (quiet_broken a.plan c n i)) (show_faults_none b);
-      told = tells_as a b _ _ (λ k. append-nil (heard_at c w.moment k) ∙ rest_heard c w.moment w.is k ∙ sym (rests_heard a.plan c i rest n k)) w.follows.told;
-      taken = takings_none b _ (rests_taken a.plan c i rest n);
-      takes = takes_as a b _ _ (λ k. append-nil (taken_at c w.moment k) ∙ rest_taken c w.moment w.is k ∙ sym (rests_taken a.plan c i rest n k)) w.follows.takes;
+      shows = shows_idle a b w.follows.shows (quiet_broken a.plan c n i) (λ k. append-nil (heard_at c w.moment k) ∙ rest_heard c w.moment w.is k ∙ sym (rests_heard a.plan c i rest n k))
+          (λ k. append-nil (taken_at c w.moment k) ∙ rest_taken c w.moment w.is k ∙ sym (rests_taken a.plan c i rest n k));
     };
   },
 )
@@ -210,13 +194,7 @@ none_follows a b took gave i n ms rest are f = let u = unmoved a.plan i n (core_
   always_ready = λ h. tt;
   closes = λ h. tt;
   offers = λ k serve end h. (tt, (f.offers k serve end h).1);
-  later = f.later;
-  agrees = f.agrees;
-  later_gave = f.later_gave;
-  agrees_gave = f.agrees_gave;
+  so_far = f.so_far;
   core = f.core ∙ u.0;
-  broken = show_faults_none b;
-  told = tells_as a b _ _ u.1 f.told;
-  taken = takings_none b _ (λ k. refl);
-  takes = takes_as a b _ _ u.2 f.takes;
+  shows = shows_idle a b f.shows refl u.1 u.2;
 }

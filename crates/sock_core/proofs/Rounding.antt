@@ -175,36 +175,20 @@ MovedRounds p zero c ms = ms ≡ []
 MovedRounds p (suc n) c ms = (now later : List Moment) × (ms ≡ now ++ later) × (seats_of now ≡ round_by p) × (AreStill p c now → ⊥) × MovedRounds p n (run p c now) later
 
 module _ (p : Plan) where
+  -- what holds of later ticks holds behind such rounds too, where it does one round earlier
+  module _ (Holds : ℕ → Core → List Moment → Type 0) (earlier : (n : ℕ) (c : Core) (now later : List Moment) → seats_of now ≡ round_by p → (AreStill p c now → ⊥) → Holds n (run p c now) later → Holds (suc n) c (now ++ later)) where
+    behind_rounds : (n : ℕ) (c : Core) (xs ys : List Moment) → MovedRounds p n c xs → Holds 0 (run p c xs) ys → Holds n c (xs ++ ys)
+    behind_rounds zero c xs ys none_ h = subst (λ (l : List Moment). Holds 0 c (l ++ ys)) (sym none_) (subst (λ (l : List Moment). Holds 0 (run p c l) ys) none_ h)
+    behind_rounds (suc n) c xs ys rounds h = subst (Holds (suc n) c) (sym (ap (λ (l : List Moment). l ++ ys) rounds.2 ∙ append_assoc rounds.0 rounds.1 ys))
+        (earlier n c rounds.0 (rounds.1 ++ ys) rounds.3 rounds.4 (behind_rounds n (run p c rounds.0) rounds.1 ys rounds.5 (subst (λ (d : Core). Holds 0 d ys) (ap (run p c) rounds.2 ∙ run_append p c rounds.0 rounds.1) h)))
+
   -- one more, in which something moved
   moved_more : (n : ℕ) (c : Core) (xs ys : List Moment) → MovedRounds p n c xs → seats_of ys ≡ round_by p → (AreStill p (run p c xs) ys → ⊥) → MovedRounds p (suc n) c (xs ++ ys)
-  moved_more zero c xs ys none_ are moved = (
-    ys,
-    [],
-    ap (λ (l : List Moment). l ++ ys) none_ ∙ sym (append-nil ys),
-    are,
-    subst (λ (l : List Moment). AreStill p (run p c l) ys → ⊥) none_ moved,
-    refl,
-  )
-  moved_more (suc n) c xs ys rounds are moved = (
-    rounds.0,
-    rounds.1 ++ ys,
-    ap (λ (l : List Moment). l ++ ys) rounds.2 ∙ append_assoc rounds.0 rounds.1 ys,
-    rounds.3,
-    rounds.4,
-    moved_more n (run p c rounds.0) rounds.1 ys rounds.5 are (subst (λ (d : Core). AreStill p d ys → ⊥) (ap (run p c) rounds.2 ∙ run_append p c rounds.0 rounds.1) moved),
-  )
+  moved_more n c xs ys rounds are moved = behind_rounds (λ k. MovedRounds p (suc k)) (λ k d now later of_it went rest. (now, later, refl, of_it, went, rest)) n c xs ys rounds (ys, [], sym (append-nil ys), are, moved, refl)
 
   -- and one in which nothing did
   settles_after : (n : ℕ) (c : Core) (xs ys : List Moment) → MovedRounds p n c xs → seats_of ys ≡ round_by p → AreStill p (run p c xs) ys → SettlesAfter p n c (xs ++ ys)
-  settles_after zero c xs ys none_ are still = subst (λ (l : List Moment). (seats_of (l ++ ys) ≡ round_by p) × AreStill p c (l ++ ys)) (sym none_) (are, subst (λ (l : List Moment). AreStill p (run p c l) ys) none_ still)
-  settles_after (suc n) c xs ys rounds are still = (
-    rounds.0,
-    rounds.1 ++ ys,
-    ap (λ (l : List Moment). l ++ ys) rounds.2 ∙ append_assoc rounds.0 rounds.1 ys,
-    rounds.3,
-    rounds.4,
-    settles_after n (run p c rounds.0) rounds.1 ys rounds.5 are (subst (λ (d : Core). AreStill p d ys) (ap (run p c) rounds.2 ∙ run_append p c rounds.0 rounds.1) still),
-  )
+  settles_after n c xs ys rounds are still = behind_rounds (SettlesAfter p) (λ k d now later of_it went rest. (now, later, refl, of_it, went, rest)) n c xs ys rounds (are, still)
 
 pub record MovedWith (count : ℕ) (old new : MachineState) (took : Taken) (gave : Given) : Type 0 where
   pub moments : List Moment

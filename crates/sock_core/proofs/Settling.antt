@@ -9,10 +9,10 @@ use Rattle.run_theorems.specs.Offered.{AreOffered}
 use Rattle.run_theorems.specs.Heard.{heard_in, taken_in}
 use Rattle.sock_core.specs.Links.{LinksData, Taken, Given, Agrees, AgreesGave, AreAlwaysReady, TellClosing, IsOffering}
 use Rattle.sock_core.specs.Machines.{MachineState, core_with, ending_by}
-use Rattle.sock_core.specs.Runs.{SameLinks, ShowFaults, LinksTell, TakesTell, ShowTakings, SettlesBy, PlayedWith, PlayedOn, RanFirst, SettledWith, Settled}
+use Rattle.sock_core.specs.Runs.{SameLinks, LinksShow, SettlesBy, PlayedWith, PlayedOn, RanFirst, SettledWith, Settled}
 use Rattle.sock_core.specs.Driving.{told_ending}
 use Rattle.sock_core.proofs.Answering.{links_kept}
-use Rattle.sock_core.proofs.Joining.{same_links_join, show_faults_later, show_faults_join, tells_on, tells_join, takings_later, takings_join, takes_on, takes_join, prompt_append}
+use Rattle.sock_core.proofs.Joining.{same_links_join, shows_join, shows_on, prompt_append}
 
 -- links that are told of the ending are the same
 told_same : (m : MachineState) → SameLinks m (told_ending m)
@@ -78,23 +78,10 @@ module _ (a b c d f : MachineState) (played : PlayedOn a b) (plan : c.plan ≡ b
           let began : IsOffering c.links k serve end = subst (λ (l : LinksData). IsOffering l k serve end) (sym links) x'.1 in
           let y' = y.follows.offers k serve end (first.offers t g agreed agreed_gave k serve end began) in
           (x'.0, subst (λ (p : Plan). AreOffered p k serve end ended y.moments) plans y'.0, y'.1);
-      later = y.follows.later;
-      agrees = y.follows.agrees;
-      later_gave = y.follows.later_gave;
-      agrees_gave = y.follows.agrees_gave;
+      so_far = y.follows.so_far;
       core = subst (λ (p : Plan). core_with f y.follows.later y.follows.later_gave ≡ run p ended y.moments) plans y.follows.core;
-      broken = show_faults_join f (broken_in a.plan (core_with a took gave) x.moments) (broken_in a.plan ended y.moments)
-          (show_faults_later b f (broken_in a.plan (core_with a took gave) x.moments) x.follows.broken (same_links_join b told f ran_same final.1))
-          (subst (λ (p : Plan). ShowFaults f (broken_in p ended y.moments)) plans y.follows.broken);
-      told = tells_join a told f (heard_in a.plan (core_with a took gave) x.moments) (heard_in a.plan ended y.moments) (same_links_join a b told played.1 ran_same) final.1
-          (tells_on a b told (heard_in a.plan (core_with a took gave) x.moments) (first.ends ∙ ends) x.follows.told)
-          (subst (λ (p : Plan). LinksTell told f (heard_in p ended y.moments)) plans y.follows.told);
-      taken = takings_join f (taken_in a.plan (core_with a took gave) x.moments) (taken_in a.plan ended y.moments)
-          (takings_later b f (taken_in a.plan (core_with a took gave) x.moments) x.follows.taken (same_links_join b told f ran_same final.1))
-          (subst (λ (p : Plan). ShowTakings f (taken_in p ended y.moments)) plans y.follows.taken);
-      takes = takes_join a told f (taken_in a.plan (core_with a took gave) x.moments) (taken_in a.plan ended y.moments) (same_links_join a b told played.1 ran_same) final.1
-          (takes_on a b told (taken_in a.plan (core_with a took gave) x.moments) (first.ends ∙ ends) x.follows.takes)
-          (subst (λ (p : Plan). TakesTell told f (taken_in p ended y.moments)) plans y.follows.takes);
+      shows = shows_join a told f (same_links_join a b told played.1 ran_same) final.1 (shows_on a b told (first.ends ∙ ends) x.follows.shows)
+          (subst (λ (p : Plan). LinksShow told f (broken_in p ended y.moments) (heard_in p ended y.moments) (taken_in p ended y.moments)) plans y.follows.shows);
     }
 
   pub all_links : SameLinks a f

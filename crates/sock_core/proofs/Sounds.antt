@@ -40,8 +40,7 @@ use Rattle.seat_states.specs.Steps as kinds
 use Rattle.seat_states.proofs.StepFacts.{FitsSizes}
 use Rattle.sock_core.specs.declared.letter.Letter.{Letter}
 use Rattle.sock_core.specs.Links.{LinksData, Taken, holder_of, is_done, link_home, homes_of, hand_of}
-use Rattle.sock_core.specs.Machines.{MachineState, IsSoundMachine, table_of, machine_sizes, state_of, core_with}
-use Rattle.sock_core.specs.Steps.{IsSized}
+use Rattle.sock_core.specs.Machines.{MachineState, IsSoundMachine, table_of, machine_sizes, state_of, core_with, IsSized}
 use Rattle.sock_core.proofs.Hands.{HasNone, home_at}
 use Rattle.sock_core.proofs.Holding.{none_of, only_of, nothing_held}
 use Rattle.sock_core.proofs.FirstSteps.{same_some, first_is}

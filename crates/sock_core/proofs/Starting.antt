@@ -234,11 +234,13 @@ module _ (p : Plan) (q : IdPlan) (clients : List (List Task)) (m : MachineState)
       let told = ap length outcomes ∙ told_length (replicate p.operations None) own_programs ∙ length-replicate p.operations None in
       let links_same : p.links ≡ m.plan.links = ap (λ (x : Plan). x.links) (sym plan) in record {
         sizes = ∣ record {
-          letters_are = ap length new.letters_are ∙ length-replicate p.requests None ∙ ap (λ (x : Plan). x.requests) (sym plan);
-          holders_are = ap length new.holders_are ∙ length-replicate p.links None ∙ links_same;
-          nexts_are = ap length new.nexts_are ∙ length-replicate p.links 0 ∙ links_same;
-          outs_are = outs ∙ links_same;
-          inns_are = inns ∙ links_same;
+          tables = record {
+            letters_are = ap length new.letters_are ∙ length-replicate p.requests None ∙ ap (λ (x : Plan). x.requests) (sym plan);
+            holders_are = ap length new.holders_are ∙ length-replicate p.links None ∙ links_same;
+            nexts_are = ap length new.nexts_are ∙ length-replicate p.links 0 ∙ links_same;
+            outs_are = outs ∙ links_same;
+            inns_are = inns ∙ links_same;
+          };
           ends_are = ends ∙ links_same;
           seats_are = many ∙ seats_many ∙ ap (λ (x : Plan). x.seats) (sym plan);
           some_seat = (let a = f.are.some_ in omega (arith, a, many));

@@ -88,8 +88,14 @@ pub asked_in : {A : Type 0} (f : A → OutState) (e : A → LinkEnd) {items befo
     AskedAt (map f items) (map f wrote) (map e items) (map e wrote) k HasAnswered
 asked_in f e was is h = rw (← was, is) h
 
-pub outs_in : {A : Type 0} (f : A → OutState) (call : calls.Call) {items before wrote news : List A} → before ≡ items → wrote ≡ news → OutsAfter call (map f before) (map f news) → OutsAfter call (map f items) (map f wrote)
-outs_in f call was is h = rw (← was, is) h
+-- what a step leaves of their halves
+pub record HalvesAfter {A : Type 0} (f : A → OutState) (n : A → InState) (e : A → LinkEnd) (call : calls.Call) (items wrote : List A) : Type 0 where
+  pub outs : OutsAfter call (map f items) (map f wrote)
+  pub inns : map n wrote ≡ map n items
+  pub ends : map e wrote ≡ map e items
+
+pub halves_in : {A : Type 0} (f : A → OutState) (n : A → InState) (e : A → LinkEnd) (call : calls.Call) {items before wrote news : List A} → before ≡ items → wrote ≡ news → OutsAfter call (map f before) (map f news) → map n news ≡ map n before → map e news ≡ map e before → HalvesAfter f n e call items wrote
+halves_in f n e call was is outs inns ends = rw (← was, is) (record { outs = outs; inns = inns; ends = ends })
 
 -- with a message in hand
 pub message_is : (s sizes : Sizes) (seat : SeatData) (out' : Option OutgoingData) (n : Next) (author author' : Author) (parts bytes : List ℕ) → s ≡ sizes → out' ≡ Some (record { left = bytes; taken = 0; parts = parts }) → author ≡ author' →

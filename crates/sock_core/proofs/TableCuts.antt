@@ -31,10 +31,7 @@ tell_same l l' same tell k inn at = tell k inn (sym (ap (λ (is : List InState).
 module _ (t u : TableState) (plan : u.plan ≡ t.plan) (ids : u.ids.plan ≡ t.ids.plan) (own : u.calls ≡ t.calls) (ending : u.ending ≡ t.ending) where
   cut_by : AsMany t u → length u.ends ≡ length t.ends → ((k : ℕ) (a b : LinkEnd) → slice_get t.ends k ≡ Some a → slice_get u.ends k ≡ Some b → SameLink a b) → (AreAlwaysReady t.links → AreAlwaysReady u.links) → (TellClosing t.links → TellClosing u.links) → IsCutTable t u
   cut_by many as_many each always_ready tell = record {
-    plan = plan;
-    ids = ids;
-    calls = own;
-    ending = ending;
+    plans = record { plan = plan; id_plan = ids; calls = own; ending = ending };
     many = many;
     as_many = as_many;
     each = each;
@@ -123,15 +120,10 @@ cut_take t u k n taking from plan ids own ending letters holders nexts outs outc
 pub cut_machine : (m fresh : MachineState) → IsCutTable (table_of m) (table_of fresh) → fresh.short ≡ true → fresh.opens ≡ m.opens → length fresh.seats ≡ length m.seats → length fresh.readers ≡ length m.readers → IsCutShort m fresh
 cut_machine m fresh c short opens seats readers = record {
   short = short;
-  plan = c.plan;
-  ids = c.ids;
-  calls = c.calls;
-  ending = c.ending;
+  table = c;
   opens = opens;
-  many = c.many;
   seats = seats;
   readers = readers;
-  links = record { as_many = c.as_many; each = c.each; always_ready = c.always_ready; tell = c.tell };
 }
 
 pub short_along : {m n fresh : MachineState} → m ≡ n → IsCutShort m fresh → IsCutShort n fresh

@@ -36,9 +36,9 @@ use Rattle.sock_core.proofs.TableRoom.{IsCall}
 use Rattle.seat_states.proofs.StepFacts as facts
 use Rattle.client_seats.specs.Seats.{SeatData, around, seat_program, bytes_of, parts_of}
 use Rattle.sock_core.specs.declared.letter.Letter.{Letter}
-use Rattle.sock_core.specs.Links.{LinksData, Taken, Given, Agrees, AgreesGave, IsPaced, holder_of, is_done, link_with, homes_of, hand_of, letter_home}
-use Rattle.sock_core.specs.Machines.{MachineState, READERS, table_of, machine_sizes, state_of, waiting_of, given_by, core_with}
-use Rattle.sock_core.specs.Steps.{IsSized, OutsAfter, Goes, CallMade, AsideMade, MessageTaken, LinkTaken, LinkPut, LinkAsked, MadeFirst, holders_after}
+use Rattle.sock_core.specs.Links.{LinksData, Taken, Given, Agrees, AgreesGave, SoFar, IsPaced, holder_of, is_done, link_with, homes_of, hand_of, letter_home}
+use Rattle.sock_core.specs.Machines.{MachineState, READERS, table_of, machine_sizes, state_of, waiting_of, given_by, core_with, IsSized}
+use Rattle.sock_core.specs.Steps.{OutsAfter, Goes, CallMade, AsideMade, MessageTaken, LinkTaken, LinkPut, LinkAsked, MadeFirst, holders_after}
 use Rattle.sock_core.proofs.Hands.{HasNone, HasOnly, lies_home, hand_only, home_at, letters_set}
 use Rattle.sock_core.proofs.Changes.{Changed, take_changes, give_changes, out_changes, none_changes}
 use Rattle.sock_core.proofs.Seatings.{client_set, calls_by, seat_at}
@@ -71,10 +71,8 @@ MayMake p l i (kinds.OfReady k) = MayAsk p l i k
 
 -- a step of seat i, in which its link answered this, over links that had taken and given that: a tick
 pub record SteppedWith (old fresh : MachineState) (i : ℕ) (answer : Answer) (took : Taken) (gave : Given) : Type 0 where
-  pub later : Taken
-  pub agrees : Agrees fresh.links later
-  pub later_gave : Given
-  pub agrees_gave : AgreesGave fresh.links later_gave
+  pub so_far : SoFar fresh.links
+  pub open so_far use {took as later, gave as later_gave, agrees, agrees_gave}
   pub core : core_with fresh later later_gave ≡ ticked old.plan (core_with old took gave) (record { seat = i; answer = answer })
   pub answered : IsAnswered (core_with old took gave) (record { seat = i; answer = answer })
 
@@ -229,6 +227,10 @@ module _ (old fresh : MachineState) (i : ℕ) (seat seat' : SeatData) (at : get_
   answers : (first : First) (answer : Answer) → first_in program ≡ Some first → AnswersFirst first answer → IsAnswered before (record { seat = i; answer = answer })
   answers first answer next fits s there = subst (λ (x : SeatState). IsAnswer x.program answer) (core.some-injective own s (sym own_at ∙ there)) (answers_first program first answer next fits)
 
+  -- where the links took and gave nothing more
+  abbrev quietly : fresh.links.outs ≡ old.links.outs → fresh.links.inns ≡ old.links.inns → SoFar fresh.links
+  quietly outs inns = record { took = took; gave = gave; agrees = agrees_same old.links fresh.links took outs agrees; agrees_gave = gives_same old.links fresh.links gave inns agrees_gave }
+
   -- the ids stay
   same_calls : (next : Program) (later : Taken) (hand : List Home) (homes : List (core.Option Home)) (words : List ℕ) → fresh.ids ≡ old.ids →
       with_seat i next hand words homes (record before { calls = calls_by old fresh i seat seat' next took later gave hand homes words at }) ≡ with_seat i next hand words homes before
@@ -250,20 +252,19 @@ module _ (old fresh : MachineState) (i : ℕ) (seat seat' : SeatData) (at : get_
 
   call_steps : (call : calls.Call) (step : Step) → first_in program ≡ Some (OfCall call) → MayCall old.plan old.links i call → LettersBy call old.letters fresh.letters → CallMade (table_of old) (table_of fresh) i seat seat' call step → SteppedWith old fresh i Unasked took gave
   call_steps call step next may lettered w = let core = call_core call step next may lettered w in record {
-    later = took;
-    agrees = core.0;
-    later_gave = gave;
-    agrees_gave = gives_same old.links fresh.links gave w.goes.base.inns agrees_gave;
+    so_far = record {
+      took = took;
+      gave = gave;
+      agrees = core.0;
+      agrees_gave = gives_same old.links fresh.links gave w.goes.base.inns agrees_gave;
+    };
     core = core.1;
     answered = answers (OfCall call) Unasked next tt;
   }
 
   aside_steps' : (step : asides.Step) → first_in program ≡ Some (OfAside step) → AnswersFirst (OfAside step) Unasked → AsideMade (table_of old) (table_of fresh) i seat seat' step → SteppedWith old fresh i Unasked took gave
   aside_steps' step next fits w = record {
-    later = took;
-    agrees = agrees_same old.links fresh.links took (ap (λ (l : LinksData). l.outs) w.links) agrees;
-    later_gave = gave;
-    agrees_gave = gives_same old.links fresh.links gave w.goes.base.inns agrees_gave;
+    so_far = quietly (ap (λ (l : LinksData). l.outs) w.links) w.goes.base.inns;
     core = client_set old fresh i seat seat' (w.next w.found) took took gave own.hand before.homes before.words at seats readers few w.goes w.words
         (none_changes old.plan i old.links fresh.links old.letters fresh.letters took before.homes w.links (ap (λ ls. homes_of old.links old.plan ls took) w.letters))
         ∙ ap (λ (a : Calls). with_seat i (w.next w.found) own.hand before.words before.homes (record before { calls = a })) (w.ids.changes (waiting_of old.seats old.readers) (given_by old.plan.links gave) old.ending)
@@ -273,10 +274,7 @@ module _ (old fresh : MachineState) (i : ℕ) (seat seat' : SeatData) (at : get_
 
   message_steps : (q : ℕ) → first_in program ≡ Some (OfMessage q) → MessageTaken (table_of old) (table_of fresh) i seat seat' q → SteppedWith old fresh i Unasked took gave
   message_steps q next w = record {
-    later = took;
-    agrees = agrees_same old.links fresh.links took (ap (λ (l : LinksData). l.outs) w.links) agrees;
-    later_gave = gave;
-    agrees_gave = gives_same old.links fresh.links gave w.goes.base.inns agrees_gave;
+    so_far = quietly (ap (λ (l : LinksData). l.outs) w.links) w.goes.base.inns;
     core = moved _ took own.hand _ before.words w.goes w.words
         (none_changes old.plan i old.links fresh.links old.letters fresh.letters took _ w.links
         (ap (λ ls. homes_of old.links old.plan ls took) w.letters ∙ sym (letters_set old.plan old.letters sized.letters_are old.links took q None inside))) w.ids
@@ -292,10 +290,7 @@ module _ (old fresh : MachineState) (i : ℕ) (seat seat' : SeatData) (at : get_
 
   link_steps : (k : ℕ) → first_in program ≡ Some (OfLink k) → MayTake old.plan old.links i k → LinkTaken (table_of old) (table_of fresh) i seat seat' k → SteppedWith old fresh i Unasked took gave
   link_steps k next may w = record {
-    later = took;
-    agrees = agrees_same old.links fresh.links took (ap (λ (l : LinksData). l.outs) w.links) agrees;
-    later_gave = gave;
-    agrees_gave = gives_same old.links fresh.links gave w.goes.base.inns agrees_gave;
+    so_far = quietly (ap (λ (l : LinksData). l.outs) w.links) w.goes.base.inns;
     core = moved (after_link program (slice_index_or old.links.nexts k 0)) took _ _ _ w.goes w.words
         (letters_along w.letters (take_changes old.plan i k old.letters sized.letters_are old.links fresh.links took sized.holders_are may.0 may.1 may.2
         (ap (λ (l : LinksData). l.holders) w.links) (ap (λ (l : LinksData). l.nexts) w.links) (ap (λ (l : LinksData). l.outs) w.links))) w.ids
@@ -308,10 +303,7 @@ module _ (old fresh : MachineState) (i : ℕ) (seat seat' : SeatData) (at : get_
 
   home_steps : (k n : ℕ) → first_in program ≡ Some (OfHome k n) → MayAsk old.plan old.links i k → LinkPut (table_of old) (table_of fresh) i seat seat' k n → SteppedWith old fresh i Unasked took gave
   home_steps k n next may w = record {
-    later = took;
-    agrees = agrees_same old.links fresh.links took (ap (λ (l : LinksData). l.outs) w.links) agrees;
-    later_gave = gave;
-    agrees_gave = gives_same old.links fresh.links gave w.goes.base.inns agrees_gave;
+    so_far = quietly (ap (λ (l : LinksData). l.outs) w.links) w.goes.base.inns;
     core = moved (after_home program) took _ _ _ w.goes w.words
         (letters_along w.letters (home_changes old.plan i old.letters sized.letters_are old.links fresh.links took sized.holders_are k n may
         (ap (λ (l : LinksData). l.holders) w.links) (ap (λ (l : LinksData). l.nexts) w.links) (let a = may.0 in let b = sized.nexts_are in omega (arith, a, b)) (ap (λ (l : LinksData). l.outs) w.links))) w.ids
@@ -322,13 +314,15 @@ module _ (old fresh : MachineState) (i : ℕ) (seat seat' : SeatData) (at : get_
   put_steps : (k : ℕ) (asked : Bool) (bytes : List ℕ) (put : Put) → first_in program ≡ Some (kinds.OfPut k asked bytes) → MayAsk old.plan old.links i k →
       LinkAsked (table_of old) (table_of fresh) i seat seat' k (after_put program put) (λ out out'. PutStep out out' bytes put) → SteppedWith old fresh i (OfPut put) took gave
   put_steps k asked bytes put next may w = let a = w.asked in let step = a.answered in let bare = bare_put (around (machine_sizes old) seat) seat.point (facts.puts_piece (around (machine_sizes old) seat) seat.point k asked bytes next).0 in record {
-    later = later_at k (took k ++ taken_of bytes put) took;
-    agrees = agrees_set old.links fresh.links took (later_at k (took k ++ taken_of bytes put) took) k a.out' a.outs_are
-        (subst (λ o. IfSome o (λ bs. bs ≡ later_at k (took k ++ taken_of bytes put) took k)) (sym step.took)
-        (subst (λ t. IfSome (append_known a.out.took (taken_of bytes put)) (λ bs. bs ≡ t)) (sym (later_here k (took k ++ taken_of bytes put) took)) (known_more a.out.took (took k) (taken_of bytes put) (agrees k a.out a.at))))
-        (λ j differ. later_else k j (took k ++ taken_of bytes put) took differ) agrees;
-    later_gave = gave;
-    agrees_gave = gives_same old.links fresh.links gave w.goes.base.inns agrees_gave;
+    so_far = record {
+      took = later_at k (took k ++ taken_of bytes put) took;
+      gave = gave;
+      agrees = agrees_set old.links fresh.links took (later_at k (took k ++ taken_of bytes put) took) k a.out' a.outs_are
+          (subst (λ o. IfSome o (λ bs. bs ≡ later_at k (took k ++ taken_of bytes put) took k)) (sym step.took)
+          (subst (λ t. IfSome (append_known a.out.took (taken_of bytes put)) (λ bs. bs ≡ t)) (sym (later_here k (took k ++ taken_of bytes put) took)) (known_more a.out.took (took k) (taken_of bytes put) (agrees k a.out a.at))))
+          (λ j differ. later_else k j (took k ++ taken_of bytes put) took differ) agrees;
+      agrees_gave = gives_same old.links fresh.links gave w.goes.base.inns agrees_gave;
+    };
     core = moved (after_put program put) (later_at k (took k ++ taken_of bytes put) took) _ _ _ w.goes w.words
         (letters_along w.letters (put_changes old.plan i old.letters sized.letters_are old.links fresh.links took sized.holders_are k bytes put a.out a.out' may w.holders w.nexts a.at a.outs_are step.finished)) w.ids
         ∙ sym (ticks (OfPut put) ∙ put_tick old.plan i own before program put k asked bytes next bare);
@@ -338,10 +332,12 @@ module _ (old fresh : MachineState) (i : ℕ) (seat seat' : SeatData) (at : get_
   ready_steps : (k : ℕ) (ready : Ready) → first_in program ≡ Some (kinds.OfReady k) → MayAsk old.plan old.links i k →
       LinkAsked (table_of old) (table_of fresh) i seat seat' k (after_ready program ready) (λ out out'. ReadyStep out out' ready) → SteppedWith old fresh i (OfReady ready) took gave
   ready_steps k ready next may w = let a = w.asked in let step = a.answered in record {
-    later = took;
-    agrees = agrees_set old.links fresh.links took took k a.out' a.outs_are (subst (λ o. IfSome o (λ bs. bs ≡ took k)) (sym step.took) (agrees k a.out a.at)) (λ j differ. refl) agrees;
-    later_gave = gave;
-    agrees_gave = gives_same old.links fresh.links gave w.goes.base.inns agrees_gave;
+    so_far = record {
+      took = took;
+      gave = gave;
+      agrees = agrees_set old.links fresh.links took took k a.out' a.outs_are (subst (λ o. IfSome o (λ bs. bs ≡ took k)) (sym step.took) (agrees k a.out a.at)) (λ j differ. refl) agrees;
+      agrees_gave = gives_same old.links fresh.links gave w.goes.base.inns agrees_gave;
+    };
     core = moved (after_ready program ready) took own.hand before.homes _ w.goes w.words
         (letters_along w.letters (ready_changes old.plan i old.letters sized.letters_are old.links fresh.links took sized.holders_are k a.out a.out' may w.holders w.nexts a.at a.outs_are step.finished)) w.ids
         ∙ sym (ticks (OfReady ready) ∙ ready_tick old.plan i own before program ready k next (head_asks (around (machine_sizes old) seat) seat.point (facts.asks (around (machine_sizes old) seat) seat.point k next).0));

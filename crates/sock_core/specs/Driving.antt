@@ -76,24 +76,12 @@ TickedFirst old new = IsPlain new × (new.ends ≡ old.ends) × ((took : Taken) 
 
 -- ## The ending
 
--- seat 0 goes over the `open`s of the ending
+-- seat 0 goes over the `open`s of the ending, and all else is as it was
 pub record BeganEnding (old new : MachineState) : Type 0 where
-  pub plan : new.plan ≡ old.plan
-  pub words : new.words ≡ old.words
-  pub letters : new.letters ≡ old.letters
-  pub links : new.links ≡ old.links
-  pub ids : new.ids ≡ old.ids
-  pub calls : new.calls ≡ old.calls
-  pub ending : new.ending ≡ old.ending
-  pub readers : new.readers ≡ old.readers
-  pub outcomes : new.outcomes ≡ old.outcomes
-  pub ends : new.ends ≡ old.ends
-  pub short : new.short ≡ old.short
-  pub opens : new.opens ≡ []
   pub seat : SeatData
   pub at : get_elem? old.seats 0 ≡ core.some seat
   pub seat' : SeatData
-  pub seats : new.seats ≡ slice_set old.seats 0 seat'
+  pub is : new ≡ record old { opens = []; seats = slice_set old.seats 0 seat' }
   pub waiting : seat'.waiting ≡ seat.waiting
   pub program : seat_program (machine_sizes old) seat' ≡ next_step (ending_of old.opens)
 

@@ -67,6 +67,13 @@ module _ (l : LinksData) where
   abbrev pub AgreesGave : Given → Type 0
   AgreesGave gave = (k : ℕ) (inn : InState) → get_elem? l.inns k ≡ core.some inn → (inn.gave ≡ length (gave k)) × IfSome inn.gave_bytes (λ bytes. bytes ≡ gave k)
 
+  -- what they took and gave so far
+  pub record SoFar : Type 0 where
+    pub took : Taken
+    pub gave : Given
+    pub agrees : Agrees took
+    pub agrees_gave : AgreesGave gave
+
   -- a link whose other end closed its half is finished: nothing else has it do so
   abbrev pub ClosedAreDone : Type 0
   ClosedAreDone = (k : ℕ) (inn : InState) → get_elem? l.inns k ≡ core.some inn → inn.closing ≡ Some true → is_done k ≡ true

@@ -56,6 +56,13 @@ pub record TableState : Type 0 where
   pub outcomes : List (Option Outcome)
   pub ends : List LinkEnd
 
+-- the plans, the calls and whether the run is ending
+pub record SamePlans (old fresh : TableState) : Type 0 where
+  pub plan : fresh.plan ≡ old.plan
+  pub id_plan : fresh.ids.plan ≡ old.ids.plan
+  pub calls : fresh.calls ≡ old.calls
+  pub ending : fresh.ending ≡ old.ending
+
 abbrev pub table_of : MachineState → TableState
 table_of m = record { plan = m.plan; words = m.words; letters = m.letters; links = m.links; ids = m.ids; calls = m.calls; ending = m.ending; outcomes = m.outcomes; ends = m.ends }
 
@@ -149,13 +156,18 @@ pub record IsSoundMachine (m : MachineState) : Type 0 where
   -- with those of the ending that it has still to begin
   pub bounded : left + 20 * length m.opens < MOST_LEFT
 
+-- the tables have the sizes that the plan says
+pub record IsSized (t : TableState) : Type 0 where
+  pub letters_are : length t.letters ≡ t.plan.requests
+  pub holders_are : length t.links.holders ≡ t.plan.links
+  pub nexts_are : length t.links.nexts ≡ t.plan.links
+  pub outs_are : length t.links.outs ≡ t.plan.links
+  pub inns_are : length t.links.inns ≡ t.plan.links
+
 -- each table has the sizes that its plan says, and there is a seat for each client and a reader for each link
 pub record HasSizes (m : MachineState) : Type 0 where
-  pub letters_are : length m.letters ≡ m.plan.requests
-  pub holders_are : length m.links.holders ≡ m.plan.links
-  pub nexts_are : length m.links.nexts ≡ m.plan.links
-  pub outs_are : length m.links.outs ≡ m.plan.links
-  pub inns_are : length m.links.inns ≡ m.plan.links
+  pub tables : IsSized (table_of m)
+  pub open tables use *
   pub ends_are : length m.ends ≡ m.plan.links
   pub seats_are : length m.seats ≡ m.plan.seats
   pub some_seat : 0 < length m.seats

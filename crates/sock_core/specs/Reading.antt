@@ -29,8 +29,8 @@ use Rattle.reader_seats.specs.Readers.{ReaderData, reader_program}
 use Rattle.reader_seats.specs.GoesOn.{GoesOn}
 use Rattle.sock_core.specs.declared.machine.Tick.{Tick}
 use Rattle.sock_core.specs.Links.{AreAlwaysReady, TellClosing, is_done}
-use Rattle.sock_core.specs.Machines.{MachineState, TableState, table_of}
-use Rattle.sock_core.specs.Runs.{SameLink, ShowsTaking, SameLinks}
+use Rattle.sock_core.specs.Machines.{MachineState, TableState, SamePlans, table_of}
+use Rattle.sock_core.specs.Runs.{SameLink, ShowsTaking}
 use Rattle.sock_core.specs.Steps.{AsMany, OutsAfter, FitsSlots, IsOfLinks, holders_after, beside}
 use Rattle.sock_core.specs.Telling.{Tells}
 
@@ -65,10 +65,8 @@ ReadFits m k step = (reader : ReaderData) → get_elem? m.readers k ≡ core.som
 
 -- what no step of a reader changes
 pub record SameTables (old fresh : TableState) : Type 0 where
-  pub plan : fresh.plan ≡ old.plan
-  pub id_plan : fresh.ids.plan ≡ old.ids.plan
-  pub calls : fresh.calls ≡ old.calls
-  pub ending : fresh.ending ≡ old.ending
+  pub plans : SamePlans old fresh
+  pub open plans use *
   pub letters : fresh.letters ≡ old.letters
   pub nexts : fresh.links.nexts ≡ old.links.nexts
 
@@ -180,25 +178,19 @@ pub record TickRead (old fresh : MachineState) (i k : ℕ) (step : ReadStep) (ti
 
 -- the tables keep their sizes, and the links are those that they were
 pub record IsCutTable (old fresh : TableState) : Type 0 where
-  pub plan : fresh.plan ≡ old.plan
-  pub ids : fresh.ids.plan ≡ old.ids.plan
-  pub calls : fresh.calls ≡ old.calls
-  pub ending : fresh.ending ≡ old.ending
+  pub plans : SamePlans old fresh
+  pub open plans use *
   pub many : AsMany old fresh
   pub as_many : length fresh.ends ≡ length old.ends
   pub each : (k : ℕ) (a b : LinkEnd) → slice_get old.ends k ≡ Some a → slice_get fresh.ends k ≡ Some b → SameLink a b
   pub always_ready : AreAlwaysReady old.links → AreAlwaysReady fresh.links
   pub tell : TellClosing old.links → TellClosing fresh.links
 
--- the tables keep their sizes, the seats of clients stay, and the links are those that they were
+-- and so does the machine
 pub record IsCutShort (old fresh : MachineState) : Type 0 where
   pub short : fresh.short ≡ true
-  pub plan : fresh.plan ≡ old.plan
-  pub ids : fresh.ids.plan ≡ old.ids.plan
-  pub calls : fresh.calls ≡ old.calls
-  pub ending : fresh.ending ≡ old.ending
+  pub table : IsCutTable (table_of old) (table_of fresh)
+  pub open table use *
   pub opens : fresh.opens ≡ old.opens
-  pub many : AsMany (table_of old) (table_of fresh)
   pub seats : length fresh.seats ≡ length old.seats
   pub readers : length fresh.readers ≡ length old.readers
-  pub links : SameLinks old fresh

@@ -23,8 +23,8 @@ use Rattle.sock_core.specs.declared.machine.On.{On}
 use Rattle.sock_core.specs.declared.machine.On.TheVariants as on
 use Rattle.sock_core.specs.declared.machine.Tick.{Tick}
 use Rattle.sock_core.specs.declared.machine.Tick.TheVariants.{Moved, Waits, Idle}
-use Rattle.sock_core.specs.Links.{Taken, Given, Agrees, AgreesGave, AreAlwaysReady, TellClosing, IsOffering, StayOffered}
-use Rattle.sock_core.specs.Machines.{MachineState, READERS, core_with, ending_by}
+use Rattle.sock_core.specs.Links.{Taken, Given, Agrees, AgreesGave, SoFar, AreAlwaysReady, TellClosing, IsOffering, StayOffered}
+use Rattle.sock_core.specs.Machines.{MachineState, SamePlans, READERS, table_of, core_with, ending_by}
 
 -- ## Links
 
@@ -69,15 +69,20 @@ ShowsTaking other e = Unit {0}
 abbrev pub ShowTakings : MachineState → (ℕ → List Answer) → Type 0
 ShowTakings m taken = (k : ℕ) (e : LinkEnd) → slice_get m.ends k ≡ Some e → AllByRecursion (λ t. ShowsTaking t e) (as_taken (taken k))
 
+-- those that failed show it, and each tells and shows what its halves answered
+pub record LinksShow (old new : MachineState) (failed : List ℕ) (heard got : ℕ → List Answer) : Type 0 where
+  pub broken : ShowFaults new failed
+  pub told : LinksTell old new heard
+  pub taken : ShowTakings new got
+  pub takes : TakesTell old new got
+
 -- ## The table
 
 -- the sizes of the tables, what the ending goes over, and whether the run is ending
 pub record SameTable (old new : MachineState) : Type 0 where
-  pub plan : new.plan ≡ old.plan
-  pub id_plan : new.ids.plan ≡ old.ids.plan
-  pub calls : new.calls ≡ old.calls
+  pub plans : SamePlans (table_of old) (table_of new)
+  pub open plans use *
   pub opens : new.opens ≡ old.opens
-  pub ending : new.ending ≡ old.ending
 
 -- ## Ticks
 
@@ -117,15 +122,11 @@ pub record Follows (old new : MachineState) (took : Taken) (gave : Given) (momen
   -- a link that tells whether its other end closed its half answers that it is closed only where it is finished
   pub closes : TellClosing old.links → ClosesInTime old.plan (core_with old took gave) moments
   pub offers : KeepOffers old new (core_with old took gave) moments
-  pub later : Taken
-  pub agrees : Agrees new.links later
-  pub later_gave : Given
-  pub agrees_gave : AgreesGave new.links later_gave
+  pub so_far : SoFar new.links
+  pub open so_far use {took as later, gave as later_gave, agrees, agrees_gave}
   pub core : core_with new later later_gave ≡ run old.plan (core_with old took gave) moments
-  pub broken : ShowFaults new (broken_in old.plan (core_with old took gave) moments)
-  pub told : LinksTell old new (heard_in old.plan (core_with old took gave) moments)
-  pub taken : ShowTakings new (taken_in old.plan (core_with old took gave) moments)
-  pub takes : TakesTell old new (taken_in old.plan (core_with old took gave) moments)
+  pub shows : LinksShow old new (broken_in old.plan (core_with old took gave) moments) (heard_in old.plan (core_with old took gave) moments) (taken_in old.plan (core_with old took gave) moments)
+  pub open shows use *
 
 -- a tick of a seat
 pub record TickedWith (old new : MachineState) (seat : ℕ) (tick : Tick) (took : Taken) (gave : Given) : Type 0 where
@@ -223,15 +224,11 @@ pub record SettledWith (old new : MachineState) (took : Taken) (gave : Given) : 
   pub closes : TellClosing old.links → ClosesInTime old.plan (core_with old took gave) moments
   pub closes_again : TellClosing old.links → ClosesInTime old.plan ended final
   pub offers : (k : ℕ) (serve : Bool) (end : Option ℕ) → IsOffering old.links k serve end → AreOffered old.plan k serve end (core_with old took gave) moments × AreOffered old.plan k serve end ended final × IsOffering new.links k serve end
-  pub later : Taken
-  pub agrees : Agrees new.links later
-  pub later_gave : Given
-  pub agrees_gave : AgreesGave new.links later_gave
+  pub so_far : SoFar new.links
+  pub open so_far use {took as later, gave as later_gave, agrees, agrees_gave}
   pub core : core_with new later later_gave ≡ run old.plan ended final
-  pub broken : ShowFaults new (broken_in old.plan (core_with old took gave) moments ++ broken_in old.plan ended final)
-  pub told : LinksTell old new (λ k. heard_in old.plan (core_with old took gave) moments k ++ heard_in old.plan ended final k)
-  pub taken : ShowTakings new (λ k. taken_in old.plan (core_with old took gave) moments k ++ taken_in old.plan ended final k)
-  pub takes : TakesTell old new (λ k. taken_in old.plan (core_with old took gave) moments k ++ taken_in old.plan ended final k)
+  pub shows : LinksShow old new (broken_in old.plan (core_with old took gave) moments ++ broken_in old.plan ended final) (λ k. heard_in old.plan (core_with old took gave) moments k ++ heard_in old.plan ended final k) (λ k. taken_in old.plan (core_with old took gave) moments k ++ taken_in old.plan ended final k)
+  pub open shows use *
 
 -- the ending goes over nothing more, and the run is ending
 pub record Settled (old new : MachineState) : Type 0 where

@@ -36,7 +36,7 @@ use Rattle.sock_core.specs.declared.letter.Letter.{Letter}
 use Rattle.client_seats.specs.Following.{IsWithFrame, IsPrepared}
 use Rattle.client_seats.specs.Seats.{SeatData, around, seat_program, bytes_of, parts_of, left_of, taken_of, left_parts_of, asked_of}
 use Rattle.sock_core.specs.Runs.{SameLink}
-use Rattle.sock_core.specs.Machines.{MachineState, TableState, machine_sizes, table_of, table_sizes}
+use Rattle.sock_core.specs.Machines.{MachineState, TableState, SamePlans, machine_sizes, table_of, table_sizes}
 
 -- ## Links as they are given back
 
@@ -165,14 +165,6 @@ StandsAt m i = (seat : SeatData) → get_elem? m.seats i ≡ core.some seat → 
 abbrev pub StepFits : MachineState → ℕ → Step → Type 0
 StepFits m i step = (seat : SeatData) → get_elem? m.seats i ≡ core.some seat → MayStand seat × Fits (table_of m) seat step
 
--- the tables have the sizes that the plan says
-pub record IsSized (t : TableState) : Type 0 where
-  pub letters_are : length t.letters ≡ t.plan.requests
-  pub holders_are : length t.links.holders ≡ t.plan.links
-  pub nexts_are : length t.links.nexts ≡ t.plan.links
-  pub outs_are : length t.links.outs ≡ t.plan.links
-  pub inns_are : length t.links.inns ≡ t.plan.links
-
 -- as many letters, links and outcomes as before
 pub record AsMany (old fresh : TableState) : Type 0 where
   pub letters : length fresh.letters ≡ length old.letters
@@ -210,10 +202,8 @@ OutsAfter other old fresh = fresh ≡ old
 
 -- what no step of a client changes
 pub record SameBase (old fresh : TableState) : Type 0 where
-  pub plan : fresh.plan ≡ old.plan
-  pub id_plan : fresh.ids.plan ≡ old.ids.plan
-  pub calls : fresh.calls ≡ old.calls
-  pub ending : fresh.ending ≡ old.ending
+  pub plans : SamePlans old fresh
+  pub open plans use *
   pub inns : fresh.links.inns ≡ old.links.inns
 
 -- the seat goes on with this program

@@ -16,7 +16,7 @@ ghost use Rattle.sock_core.specs.Driving.{LastsAtMost, LeavesFewer, Leaves, IsLa
 use crate::finished::{Finished, gather, gather_places};
 use crate::inputs::Wanted;
 use crate::prepared::Prepared;
-use crate::setup::{Parts, parts_of};
+use crate::setup::parts_of;
 use crate::table::Table;
 use crate::tables::{READERS, Tables};
 use script_items::Script;
@@ -459,45 +459,32 @@ impl<O: Out, I: In, P: Peer> Machine<O, I, P> {
         let Ok(parts) = parts_of(alloc, &plan, &id_plan, clients, &opens) else {
             return Err(NotMade { ends });
         };
-        let Parts {
-            words,
-            letters,
-            holders,
-            nexts,
-            ids,
-            seats,
-            readers,
-            outcomes,
-            told,
-            places,
-            room,
-        } = parts;
         let table = Table {
             plan,
-            words,
-            letters,
+            words: parts.words,
+            letters: parts.letters,
             ends,
-            holders,
-            nexts,
-            ids,
+            holders: parts.holders,
+            nexts: parts.nexts,
+            ids: parts.ids,
             id_slots: id_plan.slots,
             calls,
             ending: false,
-            outcomes,
+            outcomes: parts.outcomes,
             alloc,
             pool: BlockPool::new(alloc),
-            room,
+            room: parts.room,
         };
         Ok(Machine {
             tables: Tables {
                 table,
-                seats,
-                readers,
+                seats: parts.seats,
+                readers: parts.readers,
                 opens,
                 short: false,
             },
-            told,
-            places,
+            told: parts.told,
+            places: parts.places,
         })
     }
 

@@ -3,7 +3,8 @@ ghost use Rattle.sock_io.specs.Link.{TakeStep};
 ghost use Rattle.seat_programs.specs.Ticks.{OfTake, is_nothing};
 ghost use Rattle.reader_seats.specs.GoesOn.{taking_of};
 ghost use Rattle.sock_core.specs.Linkers.{SaysAsBefore};
-ghost use Rattle.sock_core.specs.Steps.{IsSized, IsOnWord};
+ghost use Rattle.sock_core.specs.Machines.{IsSized};
+ghost use Rattle.sock_core.specs.Steps.{IsOnWord};
 ghost use Rattle.sock_core.specs.Reading.{IsNextRead, FitsRead, ReadTold, IsCutTable};
 
 use crate::machine::{On, Tick};

@@ -1,9 +1,9 @@
 ghost use Rattle.std.specs.Prelude.{◌≡◌, ◌+◌, ◌<◌, ℕ, true, Some, None, IfSome, IfNone, IfOk, OnOk, OnErr, length};
 ghost use Rattle.sock_core.specs.Linkers.{SaysAsBefore};
-ghost use Rattle.sock_core.specs.Machines.{MachineState, table_of};
+ghost use Rattle.sock_core.specs.Machines.{MachineState, table_of, IsSized};
 ghost use Rattle.client_seats.specs.Seats.{seat_data};
 ghost use Rattle.client_seats.specs.Following.{IsPrepared};
-ghost use Rattle.sock_core.specs.Steps.{IsSized, HasNoStep, NextIs, StepFits, PreparedAt, ReadyAt, StandsAt, MayStand};
+ghost use Rattle.sock_core.specs.Steps.{HasNoStep, NextIs, StepFits, PreparedAt, ReadyAt, StandsAt, MayStand};
 ghost use Rattle.sock_core.specs.Passing.{HasPassed};
 ghost use Rattle.sock_core.specs.Telling.{TickTold};
 ghost use Rattle.sock_core.specs.Reading.{NextReadIs, HasNoRead, ReadFits, TickRead, IsCutShort};

@@ -21,7 +21,7 @@ returns g c seat =
       _,
       refl,
       link_asked
-          (goes (next_program (around c.sizes.result (seat_data c.args.place.now)) c.ready_answered-next.result) (record { plan = refl; id_plan = refl; calls = refl; ending = refl; inns = ap (map (λ e. g.I.In.state e.inn)) (written c.self.inside.ends.len c.ask_ready-answer.new.ends _ (omega (arith, c.self.inside.ends.ok))) ∙ c.ask_ready-answer.ensures.inns ∙ ap (map (λ e. g.I.In.state e.inn)) c.deref_mut.ensures.value }) c.sizes.ensures c.deref_mut-2.ensures.value (written c.self.inside.outcomes.len c.follow.new.outcomes _ (omega (arith, c.self.inside.outcomes.ok))) c.follow.ensures refl
+          (goes (next_program (around c.sizes.result (seat_data c.args.place.now)) c.ready_answered-next.result) (record { plans = record { plan = refl; id_plan = refl; calls = refl; ending = refl }; inns = ap (map (λ e. g.I.In.state e.inn)) (written c.self.inside.ends.len c.ask_ready-answer.new.ends _ (omega (arith, c.self.inside.ends.ok))) ∙ c.ask_ready-answer.ensures.inns ∙ ap (map (λ e. g.I.In.state e.inn)) c.deref_mut.ensures.value }) c.sizes.ensures c.deref_mut-2.ensures.value (written c.self.inside.outcomes.len c.follow.new.outcomes _ (omega (arith, c.self.inside.outcomes.ok))) c.follow.ensures refl
           (c.ready_answered-next.ensures.program (around c.sizes.result (seat_data c.args.place.now)) ∙ same_sizes c.sizes.result (sizes_of c.self.inside.plan c.self.inside.ids.plan) (seat_data c.args.place.now) (λ x. after_ready x c.ask_ready-answer.result) c.sizes.ensures))
           (asked_in (λ e. g.O.Out.state e.out) (λ e. end_of (g.O.Out.state e.out) (g.I.In.state e.inn)) c.deref_mut.ensures.value (written c.self.inside.ends.len c.ask_ready-answer.new.ends _ (omega (arith, c.self.inside.ends.ok))) c.ask_ready-answer.ensures.outs)
           refl refl refl refl refl,

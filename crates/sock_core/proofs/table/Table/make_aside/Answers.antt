@@ -38,7 +38,7 @@ returns-clause-made g c seat_number =
     let sizes = c.sizes-sizes.ensures ∙ ap (λ (p : IdPlan). sizes_of c.self.inside.plan p) same in
     let ready = subst (λ (x : TableState). IsReady x seat) (sym c.self.view_is) c.requires.stand.0 in
     made_aside c.args.step c.step-found.result c.self.view_is c.requires.next (finds_word (asked_of seat.call) c.args.step c.requires.kind) made
-    (goes (next_program (around c.sizes-sizes.result seat) c.next-next.result) (record { plan = refl; id_plan = same; calls = refl; ending = refl; inns = refl }) sizes c.deref_mut.ensures.value (written c.self.inside.outcomes.len c.follow.new.outcomes _ (omega (arith, c.self.inside.outcomes.ok))) c.follow.ensures refl
+    (goes (next_program (around c.sizes-sizes.result seat) c.next-next.result) (record { plans = record { plan = refl; id_plan = same; calls = refl; ending = refl }; inns = refl }) sizes c.deref_mut.ensures.value (written c.self.inside.outcomes.len c.follow.new.outcomes _ (omega (arith, c.self.inside.outcomes.ok))) c.follow.ensures refl
     (next_is c.sizes-sizes.result seat c.next-next.result c.step-found.result c.calling.result sizes ready c.calling.ensures c.next-next.ensures.program))
     refl refl refl refl
 

@@ -1,4 +1,4 @@
-use Rattle.std.proofs.Common.{refl, arith, ap, ◌∙◌, subst, sym, inl, map, ℕ, List}
+use Rattle.std.proofs.Common.{refl, arith, ap, ◌∙◌, subst, sym, inl, ℕ, List}
 use Rattle.sock_io.specs.Link.{end_of}
 use Rattle.seat_programs.specs.Cores.{word_of, found_at}
 use Rattle.call_points.specs.Steps.{after_word}
@@ -10,7 +10,7 @@ use Rattle.seat_programs.specs.Scripts.{sizes_of}
 use Rattle.sock_core.specs.Machines.{TableState, table_sizes}
 use Rattle.sock_core.specs.Steps.{IsReady, MayGoOn}
 use Rattle.sock_core.specs.Telling.{waits_by}
-use Rattle.sock_core.proofs.Stepping.{written, makes_along, goes, outs_in}
+use Rattle.sock_core.proofs.Stepping.{written, makes_along, goes, halves_in}
 use Rattle.sock_core.proofs.TableRoom.{room_for}
 use Rattle.sock_core.proofs.TableGoes.{may_next, next_is, flat_next}
 use Rattle.sock_core.proofs.table.Table.make_call.Goals as goal
@@ -43,7 +43,7 @@ returns-clause-made g c =
     let sizes = c.sizes-sizes.ensures in
     let ready = subst (λ (x : TableState). IsReady x seat) (sym c.self.view_is) c.requires.stand.0 in
     let found = c.step_word-found.ensures.found ∙ ap (λ (ws : List ℕ). found_at ws (word_of c.self.inside.plan call)) c.deref_mut.ensures.value in
-    let ends = written c.self.inside.ends.len c.end_link.new.ends _ (omega (arith, c.self.inside.ends.ok)) in
+    let halves = halves_in (λ e. g.O.Out.state e.out) (λ e. g.I.In.state e.inn) (λ e. end_of (g.O.Out.state e.out) (g.I.In.state e.inn)) call c.deref_mut-3.ensures.value (written c.self.inside.ends.len c.end_link.new.ends _ (omega (arith, c.self.inside.ends.ok))) c.end_link.ensures.outs c.end_link.ensures.inns c.end_link.ensures.ends in
     makes_along c.self.view_is (
       refl,
       record {
@@ -51,11 +51,11 @@ returns-clause-made g c =
         letters = refl;
         holders = written c.self.inside.holders.len c.pass_link.new.holders _ (omega (arith, c.self.inside.holders.ok)) ∙ (rw c.deref_mut-2.ensures.value at c.pass_link.ensures);
         nexts = refl;
-        outs = outs_in (λ e. g.O.Out.state e.out) call c.deref_mut-3.ensures.value ends c.end_link.ensures.outs;
+        outs = halves.outs;
         ids = refl;
-        ends = ap (map (λ e. end_of (g.O.Out.state e.out) (g.I.In.state e.inn))) ends ∙ c.end_link.ensures.ends ∙ ap (map (λ e. end_of (g.O.Out.state e.out) (g.I.In.state e.inn))) c.deref_mut-3.ensures.value;
+        ends = halves.ends;
         goes = goes (next_program (around c.sizes-sizes.result seat) c.next-next.result)
-            (record { plan = refl; id_plan = refl; calls = refl; ending = refl; inns = ap (map (λ e. g.I.In.state e.inn)) ends ∙ c.end_link.ensures.inns ∙ ap (map (λ e. g.I.In.state e.inn)) c.deref_mut-3.ensures.value })
+            (record { plans = record { plan = refl; id_plan = refl; calls = refl; ending = refl }; inns = halves.inns })
             sizes c.deref_mut-4.ensures.value (written c.self.inside.outcomes.len c.follow.new.outcomes _ (omega (arith, c.self.inside.outcomes.ok))) c.follow.ensures refl
             (next_is c.sizes-sizes.result seat c.next-next.result c.step_word-found.result c.calling.result sizes ready c.calling.ensures c.next-next.ensures.program
             ∙ ap (after_word (seat_program (sizes_of c.self.inside.plan c.self.inside.ids.plan) seat)) found);

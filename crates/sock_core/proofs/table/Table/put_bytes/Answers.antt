@@ -31,7 +31,7 @@ returns-clause-ok g c seat_number asked =
       refl,
       link_asked
           (goes (next_program (around c.sizes.result (record seat { out = Some (outgoing_of c.put_bytes-answer.new.out) })) c.put_answered-next.result)
-          (record { plan = refl; id_plan = refl; calls = refl; ending = refl; inns = ap (map (λ e. g.I.In.state e.inn)) ends ∙ c.put_bytes-answer.ensures.inns ∙ ap (map (λ e. g.I.In.state e.inn)) c.deref_mut.ensures.value })
+          (record { plans = record { plan = refl; id_plan = refl; calls = refl; ending = refl }; inns = ap (map (λ e. g.I.In.state e.inn)) ends ∙ c.put_bytes-answer.ensures.inns ∙ ap (map (λ e. g.I.In.state e.inn)) c.deref_mut.ensures.value })
           c.sizes.ensures c.deref_mut-2.ensures.value (written c.self.inside.outcomes.len c.follow.new.outcomes _ (omega (arith, c.self.inside.outcomes.ok))) c.follow.ensures refl
           (put_is c.sizes.result (sizes_of c.self.inside.plan c.self.inside.ids.plan) seat (Some (outgoing_of c.put_bytes-answer.new.out)) c.put_answered-next.result put c.put_bytes-answer.result.1 c.sizes.ensures
           (c.put_bytes-answer.ensures.left ∙ sym (ap (λ o. left_behind put (left_of o)) is))

@@ -46,6 +46,6 @@ returns-clause-ok g c seat_number =
     let sizes = c.sizes-sizes.ensures ∙ ap (λ (p : IdPlan). sizes_of c.self.inside.plan p) same in
     let ready = subst (λ (x : TableState). IsReady x seat) (sym c.self.view_is) c.requires.stand.0 in
     made_aside (steps.PutCall c.args.slot) c.put_call-found.result c.self.view_is c.requires.next tt (subst (λ (a : Asked). slots.Makes c.self.inside.ids (asides.PutCall c.args.slot a) (core.some c.put_call-found.result) c.put_call-found.new.self) (c.in-Ok.ensures ∙ ap asked_of c.in-Some.ensures) c.put_call-found.ensures)
-    (goes (next_program (around c.sizes-sizes.result seat) c.next-next.result) (record { plan = refl; id_plan = same; calls = refl; ending = refl; inns = refl }) sizes c.deref_mut.ensures.value (written c.self.inside.outcomes.len c.follow.new.outcomes _ (omega (arith, c.self.inside.outcomes.ok))) c.follow.ensures refl
+    (goes (next_program (around c.sizes-sizes.result seat) c.next-next.result) (record { plans = record { plan = refl; id_plan = same; calls = refl; ending = refl }; inns = refl }) sizes c.deref_mut.ensures.value (written c.self.inside.outcomes.len c.follow.new.outcomes _ (omega (arith, c.self.inside.outcomes.ok))) c.follow.ensures refl
     (next_is c.sizes-sizes.result seat c.next-next.result c.put_call-found.result c.calling.result sizes ready c.calling.ensures c.next-next.ensures.program))
     refl refl refl refl

@@ -24,7 +24,7 @@ returns g c seat =
         links = links_are _ _ (written c.self.inside.holders.len c.put_home.new.holders _ (omega (arith, c.self.inside.holders.ok)) ∙ c.put_home.ensures.holders ∙ ap (λ hs. slice_set hs c.args.link None) c.deref_mut.ensures.value) (written c.self.inside.nexts.len c.put_home.new.nexts _ (omega (arith, c.self.inside.nexts.ok)) ∙ c.put_home.ensures.nexts ∙ ap (λ ns. slice_set ns c.args.link c.args.places) c.deref_mut-2.ensures.value);
         ids = refl;
         ends = refl;
-        goes = goes (next_program (around c.sizes.result (seat_data c.args.place.now)) c.link_home-next.result) (record { plan = refl; id_plan = refl; calls = refl; ending = refl; inns = refl }) c.sizes.ensures c.deref_mut-3.ensures.value (written c.self.inside.outcomes.len c.follow.new.outcomes _ (omega (arith, c.self.inside.outcomes.ok))) c.follow.ensures refl
+        goes = goes (next_program (around c.sizes.result (seat_data c.args.place.now)) c.link_home-next.result) (record { plans = record { plan = refl; id_plan = refl; calls = refl; ending = refl }; inns = refl }) c.sizes.ensures c.deref_mut-3.ensures.value (written c.self.inside.outcomes.len c.follow.new.outcomes _ (omega (arith, c.self.inside.outcomes.ok))) c.follow.ensures refl
             (c.link_home-next.ensures.program (around c.sizes.result (seat_data c.args.place.now)) ∙ same_sizes c.sizes.result (sizes_of c.self.inside.plan c.self.inside.ids.plan) (seat_data c.args.place.now) after_home c.sizes.ensures);
       },
     )

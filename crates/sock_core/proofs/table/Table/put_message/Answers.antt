@@ -55,7 +55,7 @@ returns-clause-ok g c seat_number =
         outs = refl;
         ids = refl;
         ends = refl;
-        goes = goes (next_program (around c.sizes-sizes.result (seat_data (record c.args.place.now { hand = c.put_message.new.hand }))) c.next-next.result) (record { plan = refl; id_plan = refl; calls = refl; ending = refl; inns = refl }) sizes c.deref_mut-2.ensures.value (written c.self.inside.outcomes.len c.follow.new.outcomes _ (omega (arith, c.self.inside.outcomes.ok))) c.follow.ensures refl
+        goes = goes (next_program (around c.sizes-sizes.result (seat_data (record c.args.place.now { hand = c.put_message.new.hand }))) c.next-next.result) (record { plans = record { plan = refl; id_plan = refl; calls = refl; ending = refl }; inns = refl }) sizes c.deref_mut-2.ensures.value (written c.self.inside.outcomes.len c.follow.new.outcomes _ (omega (arith, c.self.inside.outcomes.ok))) c.follow.ensures refl
             (put_next c.sizes-sizes.result (sizes_of c.self.inside.plan c.self.inside.ids.plan) seat (seat_data (record c.args.place.now { hand = c.put_message.new.hand })) (message_in c.put_message.new.hand) c.next-next.result c.calling.result c.args.request (heading_by c.args.author (parts_of seat.message)) (bytes_of seat.message) sizes
             (hand_put c.args.place.now c.put_message.new.hand c.in_ok-put_message.ensures.rest.1) (next_along seat (firsts.PutMessage c.args.request c.args.author) c.self.view_is c.requires.next) c.calling.ensures c.next-next.ensures.program);
       },

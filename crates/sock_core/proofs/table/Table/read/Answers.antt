@@ -24,5 +24,5 @@ returns-in-Some-clause-ok g c =
     let own = rw c.in-Aside-TakeCall.is at c.in-Aside-TakeCall.field-0-is in
     let is : c.args.step ≡ steps.Aside (variants.TakeCall c.in-Aside-TakeCall.slot) = c.in-Aside-TakeCall.is ∙ ap steps.Aside own in
     let next = next_along reader (steps.Aside (variants.TakeCall c.in-Aside-TakeCall.slot)) c.self.view_is (subst (λ (s : ReadStep). IsNextRead c.args.self.now reader s) is c.requires.next) in
-    step_along (sym is) (told_along c.self.view_is (taken_told c.args.seat reader c.follow_call.new.self c.in-Aside-TakeCall.slot c.in-Some.call (record { plan = refl; id_plan = same; calls = refl; ending = refl; letters = refl; nexts = refl }) next c.in-Some.ensures
+    step_along (sym is) (told_along c.self.view_is (taken_told c.args.seat reader c.follow_call.new.self c.in-Aside-TakeCall.slot c.in-Some.call (record { plans = record { plan = refl; id_plan = same; calls = refl; ending = refl }; letters = refl; nexts = refl }) next c.in-Some.ensures
     (c.follow_call.ensures c.self.inside.calls.items c.self.inside.outcomes.items) refl refl refl))

@@ -30,6 +30,6 @@ returns-clause-ok g c =
     let goes = goes_as (λ (cs : List ℕ). after_word (reader_program cs reader) c.step-found.result) c.follow_word.new.self c.deref.ensures.value c.deref_mut.ensures.value outcomes c.in-Ok.ensures in
     let awaited = awaited_at (around c.self.inside.calls.items reader) c.point-point.result reader.point c.step-found.result c.awaited_by_reader.result c.point-point.ensures c.awaited_by_reader.ensures.waits c.awaited_by_reader.ensures.on in
     elim c.match-awaited_by_reader.branch [
-      | in-Some w ↦ rw w.result-is (λ i. told_along c.self.view_is (aside_waited i reader c.follow_word.new.self c.args.step c.step-found.result c.awaited_by_reader.result awaited c.requires.kind next (record { plan = refl; id_plan = same; calls = refl; ending = refl; letters = refl; nexts = refl }) made goes refl refl refl w.in-Some.on w.in-Some.is))
-      | in-None w ↦ rw w.result-is (λ i. told_along c.self.view_is (aside_moved i reader c.follow_word.new.self c.args.step c.step-found.result c.awaited_by_reader.result awaited c.requires.kind next (record { plan = refl; id_plan = same; calls = refl; ending = refl; letters = refl; nexts = refl }) made goes refl refl refl w.kind.result (w.kind.ensures reader.asked) w.in-None.is))
+      | in-Some w ↦ rw w.result-is (λ i. told_along c.self.view_is (aside_waited i reader c.follow_word.new.self c.args.step c.step-found.result c.awaited_by_reader.result awaited c.requires.kind next (record { plans = record { plan = refl; id_plan = same; calls = refl; ending = refl }; letters = refl; nexts = refl }) made goes refl refl refl w.in-Some.on w.in-Some.is))
+      | in-None w ↦ rw w.result-is (λ i. told_along c.self.view_is (aside_moved i reader c.follow_word.new.self c.args.step c.step-found.result c.awaited_by_reader.result awaited c.requires.kind next (record { plans = record { plan = refl; id_plan = same; calls = refl; ending = refl }; letters = refl; nexts = refl }) made goes refl refl refl w.kind.result (w.kind.ensures reader.asked) w.in-None.is))
     ]

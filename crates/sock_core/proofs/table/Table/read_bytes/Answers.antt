@@ -52,7 +52,7 @@ returns-clause-ok g c i =
     let own : take c.args.count c.deref-2.result.now ≡ room = ap (λ (xs : List ℕ). take c.args.count xs) lies in
     let follows = subst (λ (xs : List ℕ). GoesOn c.deref.result.now (after_taking (reader_program c.deref.result.now reader) (at_last c.self.inside.ending (taking_of xs answer))) c.follow_take.new.self c.deref_mut-2.result.now c.follow_take.new.outcomes) own c.in-Ok.ensures in
     let goes = goes_as (λ (cs : List ℕ). after_taking (reader_program cs reader) (at_last c.self.inside.ending (taking_of room answer))) c.follow_take.new.self c.deref.ensures.value c.deref_mut-2.ensures.value outcomes follows in
-    told_along c.self.view_is (take_told i reader c.follow_take.new.self c.args.link c.args.count (taking_of room answer) c.take_tick.result (record { plan = refl; id_plan = refl; calls = refl; ending = refl; letters = refl; nexts = refl }) next from goes refl refl refl
+    told_along c.self.view_is (take_told i reader c.follow_take.new.self c.args.link c.args.count (taking_of room answer) c.take_tick.result (record { plans = record { plan = refl; id_plan = refl; calls = refl; ending = refl }; letters = refl; nexts = refl }) next from goes refl refl refl
     (map-set_same (λ e. g.O.Out.state e.out) c.self.inside.ends.items c.from-2.result _ c.index_mut-ends.result.now (c.in_ok-settle.ensures.out ∙ ap (λ e. g.O.Out.state e.out) c.index_mut-ends.ensures.value))
     (c.take_tick.ensures.waits room) (c.take_tick.ensures.moved room))
 
@@ -65,6 +65,6 @@ returns-in-Empty-clause-ok g c i =
     let off : c.self.inside.ending ≡ false = c.if-not-self.true in
     let from = taken_from (λ e. g.O.Out.state e.out) (λ e. g.I.In.state e.inn) _ _ c.self.inside.ends.items c.from-2.result c.args.link c.args.count c.index_mut-ends.result.now c.settle.new.ends _ c.from-2.ensures (omega (arith, c.if-from-len.false, c.from.ensures, c.len.ensures, c.self.inside.ends.ok)) c.index_mut-ends.ensures.value refl refl refl room takes.Empty
     (fills (around c.self.inside.calls.items reader) reader.point c.args.link c.args.count c.take_into-answer.new.room next (omega (arith, c.take_into-answer.auto.room, c.deref_mut.ensures.len, c.self.invariant.1))) c.in_ok-settle.ensures.out c.in_ok-settle.ensures.inn c.in_ok-settle.ensures.settled refl c.in-Empty.ensures refl refl in
-    told_along c.self.view_is (take_told i reader reader c.args.link c.args.count Nothing (Waits (on.In c.args.link)) (record { plan = refl; id_plan = refl; calls = refl; ending = refl; letters = refl; nexts = refl }) next from (takes_again c.self.inside.calls.items reader c.self.inside.ending _ takes_bytes.0 off) refl refl refl
+    told_along c.self.view_is (take_told i reader reader c.args.link c.args.count Nothing (Waits (on.In c.args.link)) (record { plans = record { plan = refl; id_plan = refl; calls = refl; ending = refl }; letters = refl; nexts = refl }) next from (takes_again c.self.inside.calls.items reader c.self.inside.ending _ takes_bytes.0 off) refl refl refl
     (map-set_same (λ e. g.O.Out.state e.out) c.self.inside.ends.items c.from-2.result _ c.index_mut-ends.result.now (c.in_ok-settle.ensures.out ∙ ap (λ e. g.O.Out.state e.out) c.index_mut-ends.ensures.value))
     (λ e. refl) (λ e. let h : true ≡ false = ap (λ (b : Bool). is_nothing b (OfTake Nothing)) (sym off) ∙ e in cc))

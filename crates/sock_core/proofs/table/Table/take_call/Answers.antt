@@ -61,7 +61,7 @@ returns-clause-ok g c seat_number =
         is = next.is;
         found = c.in-Some.call;
         ids = c.in-Some.ensures;
-        goes = goes (next_program (around c.sizes.result (seat_data c.has_room.new.place)) c.in-Ok.next) (record { plan = refl; id_plan = same; calls = refl; ending = refl; inns = refl }) sizes c.deref_mut.ensures.value (written c.self.inside.outcomes.len c.follow.new.outcomes _ (omega (arith, c.self.inside.outcomes.ok))) c.follow.ensures
+        goes = goes (next_program (around c.sizes.result (seat_data c.has_room.new.place)) c.in-Ok.next) (record { plans = record { plan = refl; id_plan = same; calls = refl; ending = refl }; inns = refl }) sizes c.deref_mut.ensures.value (written c.self.inside.outcomes.len c.follow.new.outcomes _ (omega (arith, c.self.inside.outcomes.ok))) c.follow.ensures
             (ap (λ (m : SeatData). m.waiting) (c.has_room.ensures.same ∙ c.in-Ok.ensures.hand.is))
             (ap (λ (m : SeatData). next_program (around c.sizes.result m) c.in-Ok.next) c.has_room.ensures.same
             ∙ c.in-Ok.ensures.next c.sizes.result

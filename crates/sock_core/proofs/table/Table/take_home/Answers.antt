@@ -25,7 +25,7 @@ returns g c =
         links = links_are _ _ (written c.self.inside.holders.len c.take_home-places.new.holders _ (omega (arith, c.self.inside.holders.ok)) ∙ c.take_home-places.ensures.holders ∙ ap (λ hs. slice_set hs c.args.link (Some c.args.seat)) c.deref_mut.ensures.value) refl;
         ids = refl;
         ends = refl;
-        goes = goes (next_program (around c.sizes.result (seat_data c.args.place.now)) c.with_link-next.result) (record { plan = refl; id_plan = refl; calls = refl; ending = refl; inns = refl }) c.sizes.ensures c.deref_mut-2.ensures.value (written c.self.inside.outcomes.len c.follow.new.outcomes _ (omega (arith, c.self.inside.outcomes.ok))) c.follow.ensures refl
+        goes = goes (next_program (around c.sizes.result (seat_data c.args.place.now)) c.with_link-next.result) (record { plans = record { plan = refl; id_plan = refl; calls = refl; ending = refl }; inns = refl }) c.sizes.ensures c.deref_mut-2.ensures.value (written c.self.inside.outcomes.len c.follow.new.outcomes _ (omega (arith, c.self.inside.outcomes.ok))) c.follow.ensures refl
             (c.with_link-next.ensures.program (around c.sizes.result (seat_data c.args.place.now)) ∙ same_sizes c.sizes.result (sizes_of c.self.inside.plan c.self.inside.ids.plan) (seat_data c.args.place.now) (λ x. after_link x c.take_home-places.result) c.sizes.ensures ∙ ap (after_link (seat_program (sizes_of c.self.inside.plan c.self.inside.ids.plan) (seat_data c.args.place.now))) (rw c.deref.ensures.value at c.take_home-places.ensures.places));
       },
     )

@@ -36,7 +36,7 @@ returns g c seat_number =
         links = refl;
         ids = refl;
         ends = refl;
-        goes = goes (next_program (around c.sizes.result (record seat { out = option_map outgoing_of c.take_message-author.new.out })) c.with_message-next.result) (record { plan = refl; id_plan = refl; calls = refl; ending = refl; inns = refl }) c.sizes.ensures c.deref_mut-2.ensures.value (written c.self.inside.outcomes.len c.follow.new.outcomes _ (omega (arith, c.self.inside.outcomes.ok))) c.follow.ensures refl
+        goes = goes (next_program (around c.sizes.result (record seat { out = option_map outgoing_of c.take_message-author.new.out })) c.with_message-next.result) (record { plans = record { plan = refl; id_plan = refl; calls = refl; ending = refl }; inns = refl }) c.sizes.ensures c.deref_mut-2.ensures.value (written c.self.inside.outcomes.len c.follow.new.outcomes _ (omega (arith, c.self.inside.outcomes.ok))) c.follow.ensures refl
             (message_is c.sizes.result (sizes_of c.self.inside.plan c.self.inside.ids.plan) seat (option_map outgoing_of c.take_message-author.new.out) c.with_message-next.result c.take_message-author.result taken.0.author (parcel_of taken.0.message).parts (parcel_of taken.0.message).bytes c.sizes.ensures taken.3 taken.2 c.with_message-next.ensures.program);
       },
     )

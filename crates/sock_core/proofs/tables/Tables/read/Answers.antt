@@ -1,7 +1,6 @@
 use Rattle.std.proofs.Common.{refl, sym, subst, arith}
 use Rattle.std.proofs.Math.ListN.{length-set}
-use Rattle.sock_core.specs.Machines.{MachineState, table_of}
-use Rattle.sock_core.specs.Steps.{IsSized}
+use Rattle.sock_core.specs.Machines.{MachineState, table_of, IsSized}
 use Rattle.sock_core.specs.Reading.{ReadFits}
 use Rattle.sock_core.proofs.Places.{view_of}
 use Rattle.sock_core.proofs.TablePlaces.{reader_within, read_here, read_fits, read_told, read_in, read_along}

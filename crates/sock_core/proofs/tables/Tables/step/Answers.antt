@@ -1,6 +1,6 @@
 use Rattle.std.proofs.Common.{refl, arith, subst, sym, inl}
-use Rattle.sock_core.specs.Machines.{MachineState, table_of}
-use Rattle.sock_core.specs.Steps.{IsSized, ReadyAt, StepFits}
+use Rattle.sock_core.specs.Machines.{MachineState, table_of, IsSized}
+use Rattle.sock_core.specs.Steps.{ReadyAt, StepFits}
 use Rattle.client_seats.specs.Seats.{seat_data}
 use Rattle.sock_core.proofs.Places.{seat_within, next_here, fits_here, ready_here, told_here, next_in, told_along}
 use Rattle.sock_core.proofs.TablePlaces.{same_many}

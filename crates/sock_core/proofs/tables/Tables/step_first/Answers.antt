@@ -1,8 +1,8 @@
 use Rattle.std.proofs.Common.{refl, arith, inr, subst, sym}
 use Rattle.std.proofs.lemmas.Bool.{false≢true}
-use Rattle.sock_core.specs.Machines.{MachineState, table_of}
+use Rattle.sock_core.specs.Machines.{MachineState, table_of, IsSized}
 use Rattle.sock_core.specs.Driving.{IsPlain}
-use Rattle.sock_core.specs.Steps.{IsSized, ReadyAt, StepFits}
+use Rattle.sock_core.specs.Steps.{ReadyAt, StepFits}
 use Rattle.sock_core.proofs.Places.{seat_within, next_here, fits_here, ready_here, plain_here, told_here, next_in, told_along}
 use Rattle.sock_core.proofs.TablePlaces.{tick_as}
 use Rattle.sock_core.proofs.tables.Tables.step_first.Goals as goal
