@@ -4,8 +4,8 @@ use Rattle.std.specs.List.{AllByRecursion}
 use Rattle.sock_words.specs.declared.plain.Plan.{Plan}
 use Rattle.sock_model.specs.declared.view.View.{View}
 use Rattle.programs_allowed.specs.corr_core.specs.declared.marks.Plan.{Plan as IdPlan}
-use Rattle.programs_allowed.specs.brpc_model.specs.Items.{Item}
-use Rattle.programs_allowed.specs.brpc_model.specs.Operations.{Turn}
+use Rattle.programs_allowed.specs.sock_runs.specs.brpc_model.specs.Items.{Item}
+use Rattle.programs_allowed.specs.sock_runs.specs.brpc_model.specs.Operations.{Turn}
 use Rattle.programs_allowed.specs.seat_programs.specs.Tasks.{opens, calls, plan_of, id_plan_of}
 use Rattle.programs_allowed.specs.seat_programs.specs.Cores.{Core}
 use Rattle.programs_allowed.specs.seat_programs.specs.Ticks.{Moment, AreAnswered, IsAlwaysReady, quiet, run}

@@ -63,19 +63,30 @@ abbrev pub LeavesPost : ℕ → Posting → Type 0
 LeavesPost id (HasLocked w) = (parts w).first ≡ id_first id
 LeavesPost id other = Unit {0}
 
-abbrev pub LeavesUnlock : ℕ → Unlocking → Type 0
-LeavesUnlock first (HasNext w e) = (parts w).first ≡ first
-LeavesUnlock first other = Unit {0}
-
 abbrev pub LeavesLock : Sought → Locking → Type 0
 LeavesLock (First f) (Has w) = (parts w).first ≡ f
 LeavesLock sought exit = Unit {0}
 
+-- where this is known of an error that comes next: of the first version of the word before, of the word, and of the error
+abbrev pub LeavesNext : (ℕ → ℕ → ℕ → Type 0) → ℕ → Unlocking → Type 0
+LeavesNext Next first (HasNext w e) = Next first w e
+LeavesNext Next first other = Unit {0}
+
+abbrev pub LeavesBy : (ℕ → ℕ → ℕ → Type 0) → (head : Head) → Exit head → Type 0
+LeavesBy Next (Posts id e w) exit = LeavesPost id exit
+LeavesBy Next (Unlocks i w advance) exit = ((parts w).attempt + advance_of advance ≤ 6) × LeavesNext Next (parts w).first exit
+LeavesBy Next (Locks i sought w) exit = LeavesLock sought exit
+LeavesBy Next other exit = Unit {0}
+
+-- the next word has the same first version
+abbrev pub IsOfFirst : ℕ → ℕ → ℕ → Type 0
+IsOfFirst first w e = (parts w).first ≡ first
+
+abbrev pub LeavesUnlock : ℕ → Unlocking → Type 0
+LeavesUnlock = LeavesNext IsOfFirst
+
 abbrev pub LeavesLabel : (head : Head) → Exit head → Type 0
-LeavesLabel (Posts id e w) exit = LeavesPost id exit
-LeavesLabel (Unlocks i w advance) exit = ((parts w).attempt + advance_of advance ≤ 6) × LeavesUnlock (parts w).first exit
-LeavesLabel (Locks i sought w) exit = LeavesLock sought exit
-LeavesLabel other exit = Unit {0}
+LeavesLabel = LeavesBy IsOfFirst
 
 -- these are the calls
 module _ (is_call : Asked → Type 0) where

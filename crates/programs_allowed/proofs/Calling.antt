@@ -30,7 +30,7 @@ use Rattle.sock_runs.specs.May.{Knows}
 use Rattle.sock_runs.specs.GoesOn.{GoesOn}
 use Rattle.sock_runs.proofs.Passes.{post_goes, way}
 use Rattle.sock_runs.specs.Has.{Has}
-use Rattle.programs_allowed.proofs.Has.{about_top, at_slot, of_hold}
+use Rattle.programs_allowed.proofs.Has.{about_top, at_slot, tokens}
 use Rattle.programs_allowed.proofs.Steps.{noted, first, loads_name}
 use Rattle.programs_allowed.proofs.Sending.{accept_goes}
 use Rattle.programs_allowed.proofs.Parts.{Ready, release_goes, address_goes}
@@ -61,7 +61,7 @@ module _ (p : Plan) (made : List Entry) (held : List HeldLife) (passes : List �
         → ((w : View) → Has (made ∷ []) (socket_id_slot id) (Hold (socket_id_version id) ∷ []) held passes [] w → GoesOn p w full) → GoesOn p v (claims_from left q id heading bytes full (release (socket_id_slot id) (λ _. next)))
     claims_goes zero q id {v} fits inside a none_ = none_ v a
     claims_goes (suc left) q id {v} fits inside a none_ = let i : ℕ = socket_id_slot id in let h : ℕ = socket_id_version id in (
-      (omega (arith, fits), (inside, first (Hold h) a (is_hold h) (of_hold h) (only-same h)), a.quiet.claims),
+      (omega (arith, fits), (inside, first (Hold h) a (is_hold h) (tokens (is_hold h) refl) (only-same h)), a.quiet.claims),
       λ found hand f. branch (claims_goes left (q + 1) id (omega (arith, fits)) inside a none_) (eqb (found % 2) 0) found hand.link,
     )
       where
@@ -84,7 +84,7 @@ module _ (p : Plan) (made : List Entry) (held : List HeldLife) (passes : List �
       cond (eqb (vref_version found % 2) 0) (claims_from p.requests 0 socket (heading_for asked id n) (frame_of asked id n) (post id 3001 n (release (socket_id_slot socket) (λ _. next))) (release (socket_id_slot socket) (λ _. next))) (post id 1009 n (release (socket_id_slot socket) (λ _. next)))))))
       (λ _. post id 1009 n next)
       (λ u b. (
-        (knows.0, first (Hold (socket_id_version socket)) b (is_hold (socket_id_version socket)) (of_hold (socket_id_version socket)) (only-same (socket_id_version socket))),
+        (knows.0, first (Hold (socket_id_version socket)) b (is_hold (socket_id_version socket)) (tokens (is_hold (socket_id_version socket)) refl) (only-same (socket_id_version socket))),
         λ k hand f. λ _ _. looks (noted b (Met (socket_id_version socket) k) (λ g o. o.met (socket_id_version socket) k)),
       ))
       (λ u found b. post_goes p u id 1009 n next (goes made (omega arith) u b))
@@ -92,7 +92,7 @@ module _ (p : Plan) (made : List Entry) (held : List HeldLife) (passes : List �
       looks : {w : View} → Has (made ∷ []) (socket_id_slot socket) (Hold (socket_id_version socket) ∷ []) held passes [] w → GoesOn p w (Do (LookWord socket) (λ found.
           cond (eqb (vref_version found % 2) 0) (claims_from p.requests 0 socket (heading_for asked id n) (frame_of asked id n) (post id 3001 n (release (socket_id_slot socket) (λ _. next))) (release (socket_id_slot socket) (λ _. next))) (post id 1009 n (release (socket_id_slot socket) (λ _. next)))))
       looks {w} c = let i : ℕ = socket_id_slot socket in (
-        (knows.0, inl c.quiet.rights, first (Hold (socket_id_version socket)) c (is_hold (socket_id_version socket)) (of_hold (socket_id_version socket)) (only-same (socket_id_version socket))),
+        (knows.0, inl c.quiet.rights, first (Hold (socket_id_version socket)) c (is_hold (socket_id_version socket)) (tokens (is_hold (socket_id_version socket)) refl) (only-same (socket_id_version socket))),
         λ found hand f. let d = noted c (Saw (vref_version found)) (λ g o. o.saw (vref_version found)) in let rest : Program = release (socket_id_slot socket) (λ _. next) in
             let yes : Program = claims_from p.requests 0 socket (heading_for asked id n) (frame_of asked id n) (post id 3001 n (release (socket_id_slot socket) (λ _. next))) (release (socket_id_slot socket) (λ _. next)) in let no : Program = post id 1009 n (release (socket_id_slot socket) (λ _. next)) in
             subst (λ rs. GoesOn p (by_right rs (looked_clean (socket_id_slot socket) found w) (looked (socket_id_slot socket) found w)) (cond (eqb (vref_version found % 2) 0) yes no)) (sym c.quiet.rights)

@@ -8,7 +8,7 @@ use native.Mathlib.Decide.{ℕ_discrete}
 use Rattle.sock_words.specs.Words.{socket_id_version, socket_id_slot}
 use Rattle.sock_model.specs.declared.chain.Entry.{Entry}
 use Rattle.sock_model.specs.declared.marks.Mark.{Mark}
-use Rattle.sock_model.specs.declared.marks.Mark.TheVariants.{Recycling, Hold}
+use Rattle.sock_model.specs.declared.marks.Mark.TheVariants.{Recycling, Hold, Tried, Known, Born, Saw, Failer, Stored, Told, Freer, Linked, Met}
 use Rattle.sock_model.specs.declared.marks.SlotMark.{SlotMark}
 use Rattle.sock_model.specs.declared.view.View.{View}
 use Rattle.sock_model.specs.declared.view.Hand.{Hand}
@@ -26,38 +26,27 @@ use Rattle.slot_steps.proofs.Slots.{probe_ref}
 
 -- ## Weights of tokens
 
-pub of_ref : OfTokens is_ref
-of_ref = record { tried = refl; known = λ x. refl; born = λ x. refl; saw = λ x. refl; failer = λ x. refl; stored = λ x y. refl; told = λ x y. refl; freer = λ x. refl; linked = λ x y. refl; met = λ x y. refl }
+-- what a weight counts of notes
+abbrev Notes : Type 0
+Notes = ℕ × (ℕ → ℕ) × (ℕ → ℕ) × (ℕ → ℕ) × (ℕ → ℕ) × (ℕ → ℕ → ℕ) × (ℕ → ℕ → ℕ) × (ℕ → ℕ) × (ℕ → ℕ → ℕ) × (ℕ → ℕ → ℕ)
 
-pub of_hold : (h : ℕ) → OfTokens (is_hold h)
-of_hold h = record { tried = refl; known = λ x. refl; born = λ x. refl; saw = λ x. refl; failer = λ x. refl; stored = λ x y. refl; told = λ x y. refl; freer = λ x. refl; linked = λ x y. refl; met = λ x y. refl }
+abbrev notes : (Mark → ℕ) → Notes
+notes f = (f Tried, λ h. f (Known h), λ h. f (Born h), λ w. f (Saw w), λ h. f (Failer h), λ h c. f (Stored h c), λ h c. f (Told h c), λ h. f (Freer h), λ h k. f (Linked h k), λ h k. f (Met h k))
 
-pub of_probe : OfTokens is_probe
-of_probe = record { tried = refl; known = λ x. refl; born = λ x. refl; saw = λ x. refl; failer = λ x. refl; stored = λ x y. refl; told = λ x y. refl; freer = λ x. refl; linked = λ x y. refl; met = λ x y. refl }
-
-pub of_zero : (h : ℕ) → OfTokens (is_zero h)
-of_zero h = record { tried = refl; known = λ x. refl; born = λ x. refl; saw = λ x. refl; failer = λ x. refl; stored = λ x y. refl; told = λ x y. refl; freer = λ x. refl; linked = λ x y. refl; met = λ x y. refl }
-
-pub of_any_coding : OfTokens is_any_coding
-of_any_coding = record { tried = refl; known = λ x. refl; born = λ x. refl; saw = λ x. refl; failer = λ x. refl; stored = λ x y. refl; told = λ x y. refl; freer = λ x. refl; linked = λ x y. refl; met = λ x y. refl }
-
-pub of_coding : (h : ℕ) → OfTokens (is_coding h)
-of_coding h = record { tried = refl; known = λ x. refl; born = λ x. refl; saw = λ x. refl; failer = λ x. refl; stored = λ x y. refl; told = λ x y. refl; freer = λ x. refl; linked = λ x y. refl; met = λ x y. refl }
-
-pub of_claimed : OfTokens is_claimed
-of_claimed = record { tried = refl; known = λ x. refl; born = λ x. refl; saw = λ x. refl; failer = λ x. refl; stored = λ x y. refl; told = λ x y. refl; freer = λ x. refl; linked = λ x y. refl; met = λ x y. refl }
-
-pub of_stage : (h c : ℕ) → OfTokens (is_stage h c)
-of_stage h c = record { tried = refl; known = λ x. refl; born = λ x. refl; saw = λ x. refl; failer = λ x. refl; stored = λ x y. refl; told = λ x y. refl; freer = λ x. refl; linked = λ x y. refl; met = λ x y. refl }
-
-pub of_recycled : (h : ℕ) → OfTokens (is_recycled h)
-of_recycled h = record { tried = refl; known = λ x. refl; born = λ x. refl; saw = λ x. refl; failer = λ x. refl; stored = λ x y. refl; told = λ x y. refl; freer = λ x. refl; linked = λ x y. refl; met = λ x y. refl }
-
-pub of_recycling : OfTokens is_recycling
-of_recycling = record { tried = refl; known = λ x. refl; born = λ x. refl; saw = λ x. refl; failer = λ x. refl; stored = λ x y. refl; told = λ x y. refl; freer = λ x. refl; linked = λ x y. refl; met = λ x y. refl }
-
-pub of_busy : OfTokens is_busy
-of_busy = record { tried = refl; known = λ x. refl; born = λ x. refl; saw = λ x. refl; failer = λ x. refl; stored = λ x y. refl; told = λ x y. refl; freer = λ x. refl; linked = λ x y. refl; met = λ x y. refl }
+-- where it computes to none, the weight is one of tokens
+pub tokens : (f : Mark → ℕ) → notes f ≡ notes (λ m. 0) → OfTokens f
+tokens f e = record {
+  tried = ap (λ (n : Notes). n.0) e;
+  known = λ h. ap (λ (n : Notes). n.1 h) e;
+  born = λ h. ap (λ (n : Notes). n.2 h) e;
+  saw = λ w. ap (λ (n : Notes). n.3 w) e;
+  failer = λ h. ap (λ (n : Notes). n.4 h) e;
+  stored = λ h c. ap (λ (n : Notes). n.5 h c) e;
+  told = λ h c. ap (λ (n : Notes). n.6 h c) e;
+  freer = λ h. ap (λ (n : Notes). n.7 h) e;
+  linked = λ h k. ap (λ (n : Notes). n.8 h k) e;
+  met = λ h k. ap (λ (n : Notes). n.9 h k) e;
+}
 
 -- ## What is held
 
@@ -113,13 +102,13 @@ module _ {lists : List (List Entry)} {s : ℕ} {t : List Mark} {held : List Held
 
   -- no reference to the word alone, and no code, beside the tokens at the slot
   pub probes : marks_of is_probe s v ≡ total is_probe t
-  probes = omega (arith, a.here is_probe of_probe, total_mono is_probe is_ref probe_ref (about s a.rest), a.idle.refs s, holds_none is_probe (λ h. refl) s held)
+  probes = omega (arith, a.here is_probe (tokens is_probe refl), total_mono is_probe is_ref probe_ref (about s a.rest), a.idle.refs s, holds_none is_probe (λ h. refl) s held)
 
   pub codings : marks_of is_any_coding s v ≡ total is_any_coding t
-  codings = omega (arith, a.here is_any_coding of_any_coding, a.idle.codes s, holds_none is_any_coding (λ h. refl) s held)
+  codings = omega (arith, a.here is_any_coding (tokens is_any_coding refl), a.idle.codes s, holds_none is_any_coding (λ h. refl) s held)
 
   pub refs_few : marks_of is_ref s v ≤ total is_ref t + length held
-  refs_few = omega (arith, a.here is_ref of_ref, a.idle.refs s, holds_few s held)
+  refs_few = omega (arith, a.here is_ref (tokens is_ref refl), a.idle.refs s, holds_few s held)
 
   -- a seat that writes no link has no right whose life it could lose
   pub keeps_rights : (i : ℕ) → KeepsRights i v
@@ -197,11 +186,11 @@ no_links (h ∷ hs) e = absurd (cons-ne-nil _ _ e)
 
 pub has_nothing : {lists : List (List Entry)} {s : ℕ} {passes : List ℕ} {v : View} → Has lists s [] [] passes [] v → HasNothing v
 has_nothing {lists} {s} {passes} {v} a = record {
-  refs = λ i. let b = at_slot a i in omega (arith, b.here is_ref of_ref, b.idle.refs i);
-  zeros = λ i w. let b = at_slot a i in omega (arith, b.here (is_zero w) (of_zero w), b.idle.zeros i w);
-  codes = λ i. let b = at_slot a i in omega (arith, b.here is_any_coding of_any_coding, b.idle.codes i);
-  claims = λ i. let b = at_slot a i in omega (arith, b.here is_claimed of_claimed, b.idle.claims i);
-  retired = λ i w some_. let b = at_slot a i in b.idle.retired i w (omega (arith, some_, b.here (is_recycled w) (of_recycled w)));
+  refs = λ i. let b = at_slot a i in omega (arith, b.here is_ref (tokens is_ref refl), b.idle.refs i);
+  zeros = λ i w. let b = at_slot a i in omega (arith, b.here (is_zero w) (tokens (is_zero w) refl), b.idle.zeros i w);
+  codes = λ i. let b = at_slot a i in omega (arith, b.here is_any_coding (tokens is_any_coding refl), b.idle.codes i);
+  claims = λ i. let b = at_slot a i in omega (arith, b.here is_claimed (tokens is_claimed refl), b.idle.claims i);
+  retired = λ i w some_. let b = at_slot a i in b.idle.retired i w (omega (arith, some_, b.here (is_recycled w) (tokens (is_recycled w) refl)));
   hands = no_links v.hands a.hands_are;
   quiet = a.quiet;
 }

@@ -30,7 +30,7 @@ use Rattle.sock_runs.specs.Writes.{IsNote, AreNotes, behind}
 use Rattle.sock_runs.specs.GoesOn.{GoesOn}
 use Rattle.slot_steps.proofs.Numbers.{only-same, pair-same}
 use Rattle.sock_runs.specs.Has.{Has, OfTokens}
-use Rattle.programs_allowed.proofs.Has.{probes, codings, refs_few, about_top, no_links, of_hold}
+use Rattle.programs_allowed.proofs.Has.{probes, codings, refs_few, about_top, no_links, tokens}
 use Rattle.programs_allowed.proofs.Held.{about_share}
 use Rattle.programs_allowed.proofs.Steps.{noted, first}
 use Rattle.programs_allowed.proofs.Parts.{Ready, release_goes, reach_goes}
@@ -107,7 +107,7 @@ module _ (p : Plan) {lists : List (List Entry)} {held : List HeldLife} {passes :
         last = refl;
         places = refl;
         away = refl;
-        holds = record { inside = inside; held = first (Hold h) a (is_hold h) (of_hold h) (only-same h); met = met };
+        holds = record { inside = inside; held = first (Hold h) a (is_hold h) (tokens (is_hold h) refl) (only-same h); met = met };
         room = omega (arith, refs_few a, few);
         no_probe = probes a;
         no_coding = codings a;
@@ -134,7 +134,7 @@ module _ (p : Plan) {lists : List (List Entry)} {held : List HeldLife} {passes :
   write_link_goes : {w : View} → Has lists (socket_id_slot id) (Hold (socket_id_version id) ∷ []) held passes [] w → 0 < marks_of (is_met (socket_id_version id) c.link) (socket_id_slot id) w → (q : ℕ) → slot_of (own_of c) ≡ q
       → GoesOn p (writing (new_right c found sent places) w) (write_link id q (own_of c) after)
   write_link_goes {w} a met q is = let i : ℕ = socket_id_slot id in let h : ℕ = socket_id_version id in let r : Right = new_right c found sent places in (
-    (inside, first (Hold h) a (is_hold h) (of_hold h) (only-same h)),
+    (inside, first (Hold h) a (is_hold h) (tokens (is_hold h) refl) (only-same h)),
     λ k hand f. subst (λ x. GoesOn p (writing r (met_link i h x w)) (TakeHome x (λ n. TakeMessage q (λ heading bytes. first_put (record { id = id; link = x; last = own_of c; places = n }) (own_of c) heading bytes after))))
         (sym (f.1 c.link met)) (home_goes (noted a (Met h c.link) (λ f o. o.met h c.link)) (omega (arith, about_top (is_met h c.link) i (Met h c.link) w.marks, pair-same h c.link)) q is),
   )
@@ -196,7 +196,7 @@ module _ (p : Plan) (made : List Entry) {held : List HeldLife} {passes : List �
                 own_is = refl;
                 request_in = in_table;
                 life = h;
-                holds = record { inside = inside; held = first (Hold h) a (is_hold h) (of_hold h) (only-same h); met = met };
+                holds = record { inside = inside; held = first (Hold h) a (is_hold h) (tokens (is_hold h) refl) (only-same h); met = met };
                 made = made;
                 taken_in = [];
                 lists = a.lists_are;
@@ -226,7 +226,7 @@ module _ (p : Plan) (made : List Entry) {held : List HeldLife} {passes : List �
       → GoesOn p v (claim_from left q o id bytes next)
   claim_from_goes zero q id fits inside a = release_says id Full inside a
   claim_from_goes (suc left) q id {v} fits inside a = let i : ℕ = socket_id_slot id in let h : ℕ = socket_id_version id in (
-    (omega (arith, fits), (inside, first (Hold h) a (is_hold h) (of_hold h) (only-same h)), a.quiet.claims),
+    (omega (arith, fits), (inside, first (Hold h) a (is_hold h) (tokens (is_hold h) refl) (only-same h)), a.quiet.claims),
     λ found hand f. branch (claim_from_goes left (q + 1) id (omega (arith, fits)) inside a) (eqb (found % 2) 0) found hand.link,
   )
     where
@@ -239,7 +239,7 @@ module _ (p : Plan) (made : List Entry) {held : List HeldLife} {passes : List �
 
   start_goes : (id : ℕ) {v : View} → socket_id_slot id < p.slots → Has (made ∷ []) (socket_id_slot id) (Hold (socket_id_version id) ∷ []) held passes [] v → GoesOn p v (start p.requests o id bytes next)
   start_goes id {v} inside a = let i : ℕ = socket_id_slot id in (
-    (inside, inl a.quiet.rights, first (Hold (socket_id_version id)) a (is_hold (socket_id_version id)) (of_hold (socket_id_version id)) (only-same (socket_id_version id))),
+    (inside, inl a.quiet.rights, first (Hold (socket_id_version id)) a (is_hold (socket_id_version id)) (tokens (is_hold (socket_id_version id)) refl) (only-same (socket_id_version id))),
     λ found hand f. let b = noted a (Saw (vref_version found)) (λ g o. o.saw (vref_version found)) in let gone : Program = release i (λ _. Say o (Gone (record { 0 = found })) next) in
         subst (λ rs. GoesOn p (by_right rs (looked_clean i found v) (looked i found v)) (cond (eqb (vref_version found % 2) 0) (claim_from p.requests 0 o id bytes next) gone)) (sym a.quiet.rights)
         (cond_both (eqb (vref_version found % 2) 0) (claim_from p.requests 0 o id bytes next) gone (GoesOn p (looked i found v)) (λ _. claim_from_goes p.requests 0 id (omega arith) inside b)

@@ -31,7 +31,7 @@ use Rattle.slot_steps.proofs.Frame.{about-without, about-without_else, passes-wi
 use Rattle.slot_steps.proofs.Slots.{probe_is, hold_is, zero_is, stage_is, any_recycled, recycled_le, busy-parts}
 use Rattle.slot_steps.proofs.Codes.{coding_as}
 use Rattle.sock_runs.specs.Has.{Has, OfTokens}
-use Rattle.programs_allowed.proofs.Has.{becomes, marked, kept, probes, codings, refs_few, keeps_rights, still, about_top, at_slot, no_links, of_ref, of_hold, of_probe, of_zero, of_coding, of_stage, of_recycled}
+use Rattle.programs_allowed.proofs.Has.{becomes, marked, kept, probes, codings, refs_few, keeps_rights, still, about_top, at_slot, no_links, tokens}
 
 -- ## Marks that come and go
 
@@ -82,7 +82,7 @@ stores_link p {lists} {s} {k} {t} {held} {passes} {links} {v} a inside next goes
     w = record v { marks = at s (Claimed 1 k) ∷ without_at s (is_stage 0 0) v.marks; passes = without_pass k v.passes }
 
     there : 0 < marks_of (is_stage 0 0) s v
-    there = first (Claimed 0 0) a (is_stage 0 0) (of_stage 0 0) (pair-same 0 0)
+    there = first (Claimed 0 0) a (is_stage 0 0) (tokens (is_stage 0 0) refl) (pair-same 0 0)
 
     pass : 0 < total (only k) v.passes
     pass = omega (arith, a.passes_are k, only-same k)
@@ -90,17 +90,17 @@ stores_link p {lists} {s} {k} {t} {held} {passes} {links} {v} a inside next goes
 module _ (p : Plan) {lists : List (List Entry)} {s k : ℕ} {t : List Mark} {held : List HeldLife} {passes links : List ℕ} {v : View} where
   pub resets : Has lists s (Claimed 1 k ∷ t) held passes links v → s < p.slots → (next : ℕ → Program)
       → ((w : View) (found : ℕ) → Has lists s (Claimed 2 k ∷ t) held passes links w → GoesOn p w (next found)) → GoesOn p v (Do (ResetHead s k) next)
-  resets a inside next goes = let there = first (Claimed 1 k) a (is_stage 1 k) (of_stage 1 k) (pair-same 1 k) in
+  resets a inside next goes = let there = first (Claimed 1 k) a (is_stage 1 k) (tokens (is_stage 1 k) refl) (pair-same 1 k) in
       ((inside, there), λ found hand e. goes (record v { marks = at s (Claimed 2 k) ∷ without_at s (is_stage 1 k) v.marks }) found (given (gone (Claimed 1 k) a (is_stage 1 k) (stage_is 1 k) there) (Claimed 2 k)))
 
   pub wipes : Has lists s (Claimed 2 k ∷ t) held passes links v → s < p.slots → (next : ℕ → Program)
       → ((w : View) (found : ℕ) → Has lists s (Claimed 3 k ∷ t) held passes links w → GoesOn p w (next found)) → GoesOn p v (Do (ClearCode s k) next)
-  wipes a inside next goes = let there = first (Claimed 2 k) a (is_stage 2 k) (of_stage 2 k) (pair-same 2 k) in
+  wipes a inside next goes = let there = first (Claimed 2 k) a (is_stage 2 k) (tokens (is_stage 2 k) refl) (pair-same 2 k) in
       ((inside, there), λ found hand e. goes (record v { marks = at s (Claimed 3 k) ∷ without_at s (is_stage 2 k) v.marks }) found (given (gone (Claimed 2 k) a (is_stage 2 k) (stage_is 2 k) there) (Claimed 3 k)))
 
   pub bears : Has lists s (Claimed 3 k ∷ t) held passes links v → s < p.slots → (next : ℕ → Program)
       → ((w : View) (found : ℕ) → Has lists s t held passes links w → 0 < marks_of (is_known (vref_version found)) s w → GoesOn p w (next found)) → GoesOn p v (Do (CreateLife s k) next)
-  bears a inside next goes = let there = first (Claimed 3 k) a (is_stage 3 k) (of_stage 3 k) (pair-same 3 k) in (
+  bears a inside next goes = let there = first (Claimed 3 k) a (is_stage 3 k) (tokens (is_stage 3 k) refl) (pair-same 3 k) in (
     (inside, there),
     λ found hand e. let h : ℕ = vref_version found in let es : List SlotMark = at s (Born h) ∷ at s (Linked h k) ∷ without_at s (is_stage 3 k) v.marks in
         goes (record v { marks = at s (Known h) ∷ es }) found
@@ -152,7 +152,7 @@ module _ (p : Plan) {lists : List (List Entry)} {s : ℕ} {t : List Mark} {held 
       → ((found : ℕ) (u : View) → ((eqb (vref_version found % 2) 1) && (eqb (vref_nref found) 1)) ≡ false → Has lists s t held passes links u → GoesOn p u (next found))
       → GoesOn p v (Do (SubRef s) next)
   subs e a (inl is) idle inside next last more = let b : Has lists s (Probe ∷ t) held passes links v = subst (λ x. Has lists s (x ∷ t) held passes links v) is a in
-      let there = first Probe b is_probe of_probe refl in let refs = b.here is_ref of_ref in (
+      let there = first Probe b is_probe (tokens is_probe refl) refl in let refs = b.here is_ref (tokens is_ref refl) in (
         (inside, omega arith, omega (arith, codings b), keeps_rights b s),
         λ found hand f. let own = f.0 in
             subst (λ g. GoesOn p (subbed s found g v) (next found)) (sym (back_probe found b))
@@ -160,7 +160,7 @@ module _ (p : Plan) {lists : List (List Entry)} {s : ℕ} {t : List Mark} {held 
             (λ odd one u. last found u (eqb-true _ 1 odd) (eqb-true _ 1 one) (omega arith) f.2) (λ no_ u. more found u no_)),
       )
   subs e a (inr is) idle inside next last more = let h : ℕ = is.0 in let b : Has lists s (Hold h ∷ t) held passes links v = subst (λ x. Has lists s (x ∷ t) held passes links v) is.1 a in
-      let there = first (Hold h) b (is_hold h) (of_hold h) (only-same h) in let refs = b.here is_ref of_ref in (
+      let there = first (Hold h) b (is_hold h) (tokens (is_hold h) refl) (only-same h) in let refs = b.here is_ref (tokens is_ref refl) in (
         (inside, omega arith, omega (arith, codings b), keeps_rights b s),
         λ found hand f. let own = f.0 in
             subst (λ g. GoesOn p (subbed s found g v) (next found)) (sym (back_hold found h b is.2 (f.1 h there)))
@@ -184,7 +184,7 @@ module _ (p : Plan) {lists : List (List Entry)} {s h : ℕ} {t : List Mark} {hel
   pub sets_odd : Has lists s (Hold h ∷ t) held passes links v → s < p.slots → total is_ref t + length held < 65539 → (x y : ℕ → Program)
       → ((u : View) (found : ℕ) → Has lists s (Coding h ∷ Hold h ∷ Hold h ∷ t) held passes links u → GoesOn p u (x found)) → ((u : View) (found : ℕ) → Has lists s (Hold h ∷ t) held passes links u → GoesOn p u (y found))
       → GoesOn p v (Do (SetOdd s) (λ found. cond (eqb (vref_version found % 2) 0) (x found) (y found)))
-  sets_odd a inside few x y first_ again = let there = first (Hold h) a (is_hold h) (of_hold h) (only-same h) in (
+  sets_odd a inside few x y first_ again = let there = first (Hold h) a (is_hold h) (tokens (is_hold h) refl) (only-same h) in (
     (inside, (h, there), omega (arith, refs_few a)),
     λ found hand f. let same = f h there in
         fail_branch a (eqb (vref_version found % 2) 0) (vref_version found) (λ e. let even = eqb-true (vref_version found % 2) 0 e in omega arith) (x found) (y found) (λ u. first_ u found) (λ u. again u found),
@@ -192,7 +192,7 @@ module _ (p : Plan) {lists : List (List Entry)} {s h : ℕ} {t : List Mark} {hel
 
   pub stores_code : (c : ℕ) → c ≢ 0 → Has lists s (Coding h ∷ t) held passes links v → s < p.slots → (next : ℕ → Program)
       → ((u : View) (found : ℕ) → Has lists s t held passes links u → GoesOn p u (next found)) → GoesOn p v (Do (StoreCode s h c) next)
-  stores_code c some_ a inside next goes = let there = first (Coding h) a (is_coding h) (of_coding h) (only-same h) in (
+  stores_code c some_ a inside next goes = let there = first (Coding h) a (is_coding h) (tokens (is_coding h) refl) (only-same h) in (
     (inside, there, some_),
     λ found hand e. goes (record v { marks = at s (Stored h c) ∷ at s (Told h c) ∷ without_at s (is_coding h) v.marks }) found
         (noted (noted (gone (Coding h) a (is_coding h) (coding_as h) there) (Told h c) (λ f o. o.told h c)) (Stored h c) (λ f o. o.stored h c)),
@@ -210,21 +210,21 @@ module _ (p : Plan) {lists : List (List Entry)} {s : ℕ} {t : List Mark} {held 
   pub recycles : {v : View} (from : ℕ) → Has lists s (Zero (vref_version from) ∷ t) held passes links v → s < p.slots → vref_version from % 2 ≡ 1 → vref_nref from ≡ 0 → vref_version from < 4294967295 → (x y : Program)
       → ((u : View) → Has lists s (Recycling (vref_version from + 1) ∷ t) held passes links u → GoesOn p u x) → ((u : View) → Has lists s t held passes links u → GoesOn p u y)
       → GoesOn p v (Do (Recycle s from) (λ found. cond (eqb found from) x y))
-  recycles {v} from a inside odd none_ low x y won lost = let w : ℕ = vref_version from in let there = first (Zero w) a (is_zero w) (of_zero w) (only-same w) in
+  recycles {v} from a inside odd none_ low x y won lost = let w : ℕ = vref_version from in let there = first (Zero w) a (is_zero w) (tokens (is_zero w) refl) (only-same w) in
       ((inside, there, odd, none_, low), λ found hand e. recycle_branch v (eqb found from) w (gone (Zero w) a (is_zero w) (zero_is w) there) x y won lost)
 
   pub loads_link : {v : View} (w : ℕ) → Has lists s (Recycling w ∷ t) held passes links v → s < p.slots → (next : ℕ → Program)
       → ((u : View) (k : ℕ) → k < p.links → total (only k) u.passes ≡ 0 → 0 < marks_of (is_met (w - 2) k) s u → Has lists s (Recycling w ∷ t) held passes links u → GoesOn p u (next k))
       → GoesOn p v (Do (LoadLink s w) next)
   loads_link {v} w a inside next goes = (
-    (inside, first (Recycling w) a (is_recycled w) (of_recycled w) (only-same w)),
+    (inside, first (Recycling w) a (is_recycled w) (tokens (is_recycled w) refl) (only-same w)),
     λ k hand f.
         goes (record v { marks = at s (Met (w - 2) k) ∷ v.marks }) k f.0 f.1 (omega (arith, about_top (is_met (w - 2) k) s (Met (w - 2) k) v.marks, pair-same (w - 2) k)) (noted a (Met (w - 2) k) (λ f o. o.met (w - 2) k)),
   )
 
   -- of the one slot that it recycled
   recycling_is : {v : View} (w : ℕ) → Has lists s (Recycling w ∷ t) held passes links v → marks_of is_busy s v ≤ 1 → (f : Mark → ℕ) → total f (without is_recycling (about s v.marks)) + f (Recycling w) ≡ marks_of f s v
-  recycling_is {v} w a once f = let ms : List Mark = about s v.marks in let there : 0 < total (is_recycled w) ms = first (Recycling w) a (is_recycled w) (of_recycled w) (only-same w) in
+  recycling_is {v} w a once f = let ms : List Mark = about s v.marks in let there : 0 < total (is_recycled w) ms = first (Recycling w) a (is_recycled w) (tokens (is_recycled w) refl) (only-same w) in
       let more : (x : Mark) → is_recycling x ≤ is_busy x = λ x. omega (arith, busy-parts x) in
       let q = sums.taken is_recycling ms (omega (arith, there, total_mono (is_recycled w) is_recycling (recycled_le w) ms)) in let y = any_recycled q.0 q.1 in
       let same : y.0 ≡ w = by_cases q.0 y.0 y.1 ms there once (q.2 (is_recycled w)) (q.2 is_busy) in
@@ -239,7 +239,7 @@ module _ (p : Plan) {lists : List (List Entry)} {s : ℕ} {t : List Mark} {held 
   pub frees : {v : View} (w : ℕ) → Has lists s (Recycling w ∷ t) held passes [] v → w ≤ LAST_VERSION → s < p.slots → (next : ℕ → Program)
       → ((u : View) (found : ℕ) → Has lists s t held passes [] u → GoesOn p u (next found)) → GoesOn p v (Do (FreeSlot s) next)
   frees {v} w a low inside next goes = (
-    (inside, (w, first (Recycling w) a (is_recycled w) (of_recycled w) (only-same w), low), no_links v.hands a.hands_are),
+    (inside, (w, first (Recycling w) a (is_recycled w) (tokens (is_recycled w) refl) (only-same w), low), no_links v.hands a.hands_are),
     λ found hand once.
         goes (freed s v) found (marked a (without_at s is_recycling v.marks) t (λ j n. about-without_else j s is_recycling v.marks n)
         (λ f o. omega (arith, ap (total f) (about-without s is_recycling v.marks), recycling_is p w a once f))),
@@ -252,7 +252,7 @@ module _ (p : Plan) {lists : List (List Entry)} {s k : ℕ} {t : List Mark} {hel
   pub takes_last : (w : ℕ) → Has lists s (Recycling w ∷ t) held passes [] v → s < p.slots → k < p.links → total (only k) v.passes ≡ 0 → 0 < marks_of (is_met (w - 2) k) s v → (next : ℕ → Program)
       → ((u : View) (found : ℕ) → Has lists s (Recycling w ∷ t) held passes (k ∷ []) u → GoesOn p u (next found)) → GoesOn p v (Do (TakeLink k) next)
   takes_last w a inside small spent there next goes = (
-    (small, no_links v.hands a.hands_are, inr (s, w, inside, first (Recycling w) a (is_recycled w) (of_recycled w) (only-same w), there), a.quiet.rights),
+    (small, no_links v.hands a.hands_are, inr (s, w, inside, first (Recycling w) a (is_recycled w) (tokens (is_recycled w) refl) (only-same w), there), a.quiet.rights),
     λ found hand is.
         subst (λ u. GoesOn p u (next found)) (sym (cond-false (ltb 0 (total (only hand.link) v.passes)) (spent_hand v hand) (with_hand v hand) (le-ltb 0 _ (omega (arith, spent, ap (λ x. total (only x) v.passes) is)))))
         (goes (with_hand v hand) found (becomes a (with_hand v hand) (Recycling w ∷ t) passes (k ∷ []) (λ j n. refl) (λ f o. refl) a.passes_are (λ i. is i ∷ a.hands_are i) (still a (with_hand v hand) refl refl refl refl))),

@@ -1,9 +1,6 @@
 pub mod Openings
-pub use Rattle.sock_runs.specs.brpc_model
-pub use Rattle.sock_runs.specs.chain_steps
 pub use Rattle.corr_core
 pub use Rattle.id_runs
 pub use Rattle.slot_steps
 pub use Rattle.seat_programs
 pub use Rattle.sock_runs
-pub use Rattle.sock_runs.specs.sock_steps

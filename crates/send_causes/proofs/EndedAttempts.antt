@@ -127,23 +127,23 @@ module _ (script : List Item) (made : AreMade script) (turns : List Turn) (core 
     pub life : Made (all_tasks script) core.outcomes (name_of asked attempt) link socket version
 
   pub of_load : (o w : ℕ) → StoredFor (IsCallOf script) (stores_of_run script turns core is) (let e = ending in e.named.events) o w → IsAttemptOn o w
-  of_load o w x = let own = own_store (record { operation = o; word = w }) x.stored x.id x.attempt x.link x.word x.small x.few x.slot in
+  of_load o w x = let own = own_store (record { operation = o; word = w }) x.stored x.of.id x.of.attempt x.of.link x.of.word x.of.small x.of.few x.slot in
       let sound = ended_sound script made.are vs begins goes turns core is fits in let rests = end_rests script made.are vs begins goes turns core is fits (owed script made turns core is closes) in let e = ending in
       let l = at_made (plan_of script) (told_tasks_of script) tasks core (views_ended script turns core is vs) e.named.events e.named.lost_links sound e.named.story rests (IsCallOf script) (stores_of_run script turns core is) o w x in record {
-        asked = x.asked;
-        called = x.called;
-        operation = x.operation;
-        attempt = x.attempt;
-        few = x.few;
+        asked = x.of.asked;
+        called = x.of.called;
+        operation = x.of.operation;
+        attempt = x.of.attempt;
+        few = x.of.few;
         some_ = λ z. own.1 (sym own.0 ∙ z);
         slot = subst (λ i. id_slot i < 65536) (sym own.0) x.slot;
-        link = x.link;
-        small = x.small;
-        word = x.word ∙ ap (λ i. at_word (id_first i) (id_slot i) x.link x.attempt) (sym own.0);
+        link = x.of.link;
+        small = x.of.small;
+        word = x.of.word ∙ ap (λ i. at_word (id_first i) (id_slot i) x.of.link x.of.attempt) (sym own.0);
         stored = x.stored;
         socket = l.0;
         version = l.1;
-        life = made_up (all_tasks script) (length (opens script)) core.outcomes (name_of x.asked x.attempt) x.link l.0 l.1 l.2;
+        life = made_up (all_tasks script) (length (opens script)) core.outcomes (name_of x.of.asked x.of.attempt) x.of.link l.0 l.1 l.2;
       }
 
   -- ## Messages

@@ -52,8 +52,8 @@ module _ (p : Plan) (clients : List (List Task)) (are : AreTasks p clients) (c :
         (socket_id_slot s, socket_id_version s, subst (λ z. Made clients c.outcomes (name_of asked n) z (socket_id_slot s) (socket_id_version s)) same l.1)
 
     -- so of an at word
-    pub at_made : (o w : ℕ) → (x : StoredFor is_call seen es o w) → HasLife x.asked x.attempt x.link
-    at_made o w x = named_life x.asked x.attempt x.socket x.link x.named x.given
+    pub at_made : (o w : ℕ) → (x : StoredFor is_call seen es o w) → HasLife x.of.asked x.of.attempt x.of.link
+    at_made o w x = named_life x.of.asked x.of.attempt x.socket x.of.link x.named x.given
 
     -- the at word was stored which tells this link
     abbrev HasStored : ℕ → ℕ → ℕ → ℕ → Type 0

@@ -17,7 +17,7 @@ use Rattle.sock_model.specs.declared.chain.Entry.{Entry}
 use Rattle.sock_model.specs.declared.home.Home.{Home}
 use Rattle.sock_model.specs.declared.view.View.{View}
 use Rattle.sock_model.specs.declared.view.Hand.{Hand}
-use Rattle.sock_model.specs.ChainRows.{with_claim, entry_of, more, queued, righted, taken_right}
+use Rattle.sock_model.specs.ChainRows.{with_claim, entry_of, more, queued, righted}
 use Rattle.sock_model.specs.Memory.{IDLE}
 use Rattle.sock_model.specs.SlotRows.{met_link}
 use Rattle.corr_core.specs.declared.marks.Plan.{Plan as IdPlan}
@@ -30,18 +30,17 @@ use Rattle.sock_message.specs.Asked.{Asked, name_of}
 use Rattle.seat_programs.specs.Beside.{found_in, calls_after, more_given}
 use Rattle.seat_programs.specs.Calls.{Call, StoreName, LoadName, FindLink, ClaimRequest, PutMessage, Unconnect, SwapHead}
 use Rattle.seat_programs.specs.Heads.{Retry}
-use Rattle.seat_programs.specs.Programs.{Program, Do, Say, Sent, TakeMessage, TakeHome, PutHome, PutBytes, AskReady, Write, Aside, Round, Keep, Retries}
-use Rattle.seat_programs.specs.Cores.{Calls, Core, SeatState, word_of, found_at, words_after, word_after, homes_after, hand_after, lies_at, first_of, others_of, link_place, resolved, waiting_at, next_step, with_seat, stepped}
+use Rattle.seat_programs.specs.Programs.{Program, Do, Say, Sent, Write, Aside, Round, Keep, Retries}
+use Rattle.seat_programs.specs.Cores.{Calls, Core, SeatState, word_of, found_at, words_after, word_after, homes_after, hand_after, resolved, waiting_at, next_step, with_seat, stepped}
 use Rattle.seat_programs.specs.declared.task.Task.{Task}
-use Rattle.seat_programs.specs.Ticks.{Moment, IsAnswered, fed, with_places, onto_first, taken, ticked}
+use Rattle.seat_programs.specs.Ticks.{Moment, IsAnswered, taken, ticked}
 use Rattle.sock_runs.specs.May.{May}
-use Rattle.sock_runs.specs.Rows.{row, hand_at, new_claim, filled_claim, ready_claim, by_claim, exchanged, took_message, link_away, link_home_again, took_bytes}
+use Rattle.sock_runs.specs.Rows.{row, hand_at, new_claim, filled_claim, ready_claim, by_claim, exchanged}
 use Rattle.sock_runs.specs.Sound.{Sound, first_step, views_after}
-use Rattle.sock_runs.proofs.Cases.{with_rights, right_rights, put_rights}
+use Rattle.sock_runs.proofs.Cases.{with_rights}
 use Rattle.outcome_causes.specs.Causes.{WasGiven}
 use Rattle.outcome_causes.specs.Kept.{Story}
 use Rattle.outcome_causes.specs.Stories.{Event, In, last_name}
-use Rattle.outcome_causes.proofs.Cases.{tick_cases}
 use Rattle.outcome_causes.proofs.Events.{event, marked_given, given_by, last_some}
 use Rattle.outcome_causes.proofs.Means.{held_given}
 use Rattle.outcome_causes.proofs.Tests.{split}
@@ -52,8 +51,8 @@ use Rattle.outcome_causes.proofs.HomeCalls.{AreCalls, PutsAsked, calls_behind}
 use Rattle.send_causes.proofs.Ticks.{few_more, few_of, calls_waiting, fits_as}
 use Rattle.call_causes.proofs.Chains.{AreFewTries as AreTries}
 use Rattle.send_causes.proofs.Views.{row_same}
-use Rattle.send_causes.proofs.EndedTrails.{Of, NoCall, Makes, Knows, Trail, lost, Stays, IsOwnStore, MayAttempt, GoesDo, GoesAside, Follows}
-use Rattle.send_causes.proofs.SeatFacts.{seat_facts}
+use Rattle.send_causes.proofs.EndedTrails.{Of, NoCall, Makes, Knows, Trail, lost, Stays, IsAtOf, IsOwnStore, MayAttempt, GoesDo, GoesAside, Follows}
+use Rattle.send_causes.proofs.SeatFacts.{seat_facts, tick_moves}
 use Rattle.send_causes.proofs.EndedPrograms.{follows_round, block_goes, retry_goes}
 use Rattle.report_fits.proofs.Lists.{all_map}
 
@@ -102,19 +101,11 @@ module _ (is_call : Asked → Type 0) (seen : List Store) (es : List Event) wher
 
   -- the at word of operation o is that of an attempt over a socket with its name, whose link it tells
   pub record StoredFor (o w : ℕ) : Type 0 where
-    pub asked : Asked
-    pub called : is_call asked
-    pub operation : asked.operation ≡ o
-    pub id : ℕ
-    pub attempt : ℕ
-    pub link : ℕ
+    pub of : IsAtOf is_call o w
     pub socket : ℕ
-    pub word : w ≡ at_word (id_first id) (id_slot id) link attempt
-    pub slot : id_slot id < 65536
-    pub small : link < 65535
-    pub few : attempt ≤ 6
-    pub named : IsNamed (name_of asked attempt, socket)
-    pub given : WasGiven es (socket_id_slot socket) (socket_id_version socket) link
+    pub slot : id_slot of.id < 65536
+    pub named : IsNamed (name_of of.asked of.attempt, socket)
+    pub given : WasGiven es (socket_id_slot socket) (socket_id_version socket) of.link
     pub stored : IsStored (o, w)
 
   -- so of each that is there
@@ -243,7 +234,7 @@ module _ (is_call : Asked → Type 0) (seen : List Store) (es fs : List Event) (
   over_up h link o some_ = let a = o some_ in (a.0, a.1, a.2, a.3, named_up (name_of a.0 h.attempt, a.1) a.4, given_up (socket_id_slot a.1) (socket_id_version a.1) link a.5, (a.6.0, given_up (socket_id_slot a.1) (socket_id_version a.1) a.6.0 a.6.1, a.6.2))
 
   pub for_up : (o w : ℕ) → StoredFor is_call seen es o w → StoredFor is_call seen fs o w
-  for_up o w x = record { asked = x.asked; called = x.called; operation = x.operation; id = x.id; attempt = x.attempt; link = x.link; socket = x.socket; word = x.word; slot = x.slot; small = x.small; few = x.few; named = named_up (name_of x.asked x.attempt, x.socket) x.named; given = given_up (socket_id_slot x.socket) (socket_id_version x.socket) x.link x.given; stored = x.stored }
+  for_up o w x = record { of = x.of; socket = x.socket; slot = x.slot; named = named_up (name_of x.of.asked x.of.attempt, x.socket) x.named; given = given_up (socket_id_slot x.socket) (socket_id_version x.socket) x.of.link x.given; stored = x.stored }
 
   pub view_up : (v : View) → ViewOver is_call seen es v → ViewOver is_call seen fs v
   view_up v o = (all_map (ClaimOver is_call seen es) (ClaimOver is_call seen fs) (λ x a. over_up x.heading x.link a) v.claims o.0, all_map (AllByRecursion (EntryOver is_call seen es)) (AllByRecursion (EntryOver is_call seen fs)) (λ l a. all_map (EntryOver is_call seen es) (EntryOver is_call seen fs) (λ e b. over_up e.heading e.link b) l a) v.lists o.1)
@@ -378,7 +369,7 @@ module _ (p : Plan) (q : IdPlan) (narrow : q.slots ≤ 65536) (is_call : Asked �
           (λ far. at_one (ids.at_index c.calls.plan o) w n (λ e. far (omega (arith, e))) low some_)
         where
           now : StoredFor is_call seen fs o w
-          now = for_up is_call seen es fs up o w record { asked = own.asked; called = own.called; operation = own.operation; id = own.id; attempt = own.attempt; link = own.link; socket = own.socket; word = own.word; slot = subst (HasSlot is_call seen es) own.knows true_here.4; small = own.small; few = own.few; named = (subst (AllByRecursion (IsNamed is_call seen es)) own.name true_here.0).0; given = true_here.2 (name_of own.asked own.attempt) own.socket own.link own.name own.linked; stored = shown }
+          now = for_up is_call seen es fs up o w record { of = own.of; socket = own.socket; slot = subst (HasSlot is_call seen es) own.knows true_here.4; named = (subst (AllByRecursion (IsNamed is_call seen es)) own.name true_here.0).0; given = true_here.2 (name_of own.of.asked own.of.attempt) own.socket own.of.link own.name own.linked; stored = shown }
 
       pub ats_behind : (step : Step) (after : Program) (found : Found step) (x : Trail) → MayId p q u step → IsShown step → GoesAside is_call t step after found x → AtsFor is_call seen fs (calls_after step found c.calls)
       ats_behind (ClaimId k) after found x may shown g = at_else (ids.tag_index k) 1 (λ o _. λ e. omega (arith, e))
@@ -423,18 +414,11 @@ module _ (p : Plan) (q : IdPlan) (narrow : q.slots ≤ 65536) (is_call : Asked �
     shown_of seat v t at here trail u at_u _ next is = tt
 
     pub name_ticks : After (ticked p c m) (views_after p c vs m)
-    name_ticks = tick_cases p c vs m sound answered After unchanged
+    name_ticks = tick_moves (Follows is_call) lost (record { message = λ t q next g. g; home = λ t k next g. g; puts_home = λ t k n after g. g; put = λ t k asked bytes next g. g; ask = λ t k next g. g }) p c vs m sound answered After unchanged
+        (λ seat v at here. (trail_of seat at).0)
+        (λ seat v at here x is. first_as seat at x is)
+        (λ seat v at here. let t = trail_of seat at in moves m.seat seat v t.0 at here t.1)
         (λ seat v call next at here is goes. let t = trail_of seat at in steps m.seat seat v t.0 at here t.1 call next goes.0 (first_as seat at (Do call next) is) (fits_as p c seat.program call next is (fitting seat at)))
-        (λ seat v r next heading bytes at here is goes. let t = trail_of seat at in let w = right_rights v v.rights (λ x. taken_right x heading bytes) in
-        moves m.seat seat v t.0 at here t.1 (next heading bytes) seat.hand (set c.homes r none) (took_message heading bytes v) w.0 w.1 (first_as seat at (TakeMessage r next) is heading bytes))
-        (λ seat v k next n at here is goes. let t = trail_of seat at in let w = right_rights v v.rights (λ x. record x { at_home = false }) in
-        moves m.seat seat v t.0 at here t.1 (next n) (lies_at c.homes (link_place p k) ++ seat.hand) (set c.homes (link_place p k) none) (link_away v) w.0 w.1 (first_as seat at (TakeHome k next) is n))
-        (λ seat v k n after at here is goes. let t = trail_of seat at in let w = right_rights v v.rights (λ x. record x { at_home = true }) in
-        moves m.seat seat v t.0 at here t.1 after (others_of seat.hand) (set c.homes (link_place p k) (first_of (onto_first (with_places n) seat.hand))) (link_home_again v) w.0 w.1 (first_as seat at (PutHome k n after) is))
-        (λ seat v k asked bytes next answer at here is goes answer_is fits. let t = trail_of seat at in let w = put_rights v answer in
-        moves m.seat seat v t.0 at here t.1 (next answer) (onto_first (fed bytes answer) seat.hand) c.homes (took_bytes answer v) w.0 w.1 (first_as seat at (PutBytes k asked bytes next) is answer))
-        (λ seat v k next answer at here is goes answer_is. let t = trail_of seat at in subst (λ xs. After (with_seat m.seat (next answer) seat.hand c.words c.homes c) xs) (set_again vs m.seat v here)
-        (moves m.seat seat v t.0 at here t.1 (next answer) seat.hand c.homes v v.rights refl (first_as seat at (AskReady k next) is answer)))
         (λ seat v s next found at here is goes found_is. let t = trail_of seat at in let u = view_of seat at in
         asides m.seat seat v t.0 at here t.1 u.0 u.1 s next found (taken m.answer) found_is (may_as seat at (Aside s next) is).0 (shown_of seat v t.0 at here t.1 u.0 u.1 s next is) (first_as seat at (Aside s next) is))
 

@@ -140,7 +140,7 @@ module _ (is_call : Asked → Type 0) where
             inr (inr (name_of asked n, socket, refl, refl, refl, refl)),
             λ _ _. (
               sending asked id n socket k,
-              (inr refl, record { asked = asked; called = called; operation = refl; id = id; attempt = n; link = k; socket = socket; knows = refl; name = refl; linked = refl; word = refl; small = low; few = few }),
+              (inr refl, record { of = record { asked = asked; called = called; operation = refl; id = id; attempt = n; link = k; word = refl; small = low; few = few }; socket = socket; knows = refl; name = refl; linked = refl }),
               looks_goes k (heading_for asked id n) (frame_of asked id n) (inr (asked, socket, called, refl, refl, refl, (k, refl, refl))),
             ),
           ),

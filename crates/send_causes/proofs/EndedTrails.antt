@@ -63,21 +63,25 @@ PutsBack i asked after u = (w : ℕ) × (advance : Bool) × (next : Exit (Unlock
 
 -- these are the calls
 module _ (is_call : Asked → Type 0) where
-  -- the at word is that of an attempt of the call, over the socket that was found under its name, and tells the socket's link
-  pub record IsOwnStore (t : Trail) (o w : ℕ) : Type 0 where
+  -- the at word of operation o is that of an attempt of its call, over this link
+  pub record IsAtOf (o w : ℕ) : Type 0 where
     pub asked : Asked
     pub called : is_call asked
     pub operation : asked.operation ≡ o
     pub id : ℕ
     pub attempt : ℕ
     pub link : ℕ
-    pub socket : ℕ
-    pub knows : t.of ≡ Knows o id
-    pub name : t.name ≡ (name_of asked attempt, socket) ∷ []
-    pub linked : t.linked ≡ link ∷ []
     pub word : w ≡ at_word (id_first id) (id_slot id) link attempt
     pub small : link < 65535
     pub few : attempt ≤ 6
+
+  -- and the socket is that which was found under its name, whose link the word tells
+  pub record IsOwnStore (t : Trail) (o w : ℕ) : Type 0 where
+    pub of : IsAtOf o w
+    pub socket : ℕ
+    pub knows : t.of ≡ Knows o of.id
+    pub name : t.name ≡ (name_of of.asked of.attempt, socket) ∷ []
+    pub linked : t.linked ≡ of.link ∷ []
 
   abbrev pub GoesAside : Trail → (step : Step) → Program → Found step → Trail → Type 0
   GoesAside t (MakeId i range) after found u = (u ≡ record { name = t.name; claimed = t.claimed; of = Makes (call_id i (parts found).first); linked = t.linked; stored = t.stored }) × StoresNext (call_id i (parts found).first) after

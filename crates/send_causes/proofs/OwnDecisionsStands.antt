@@ -12,7 +12,7 @@ use Rattle.seat_programs.specs.Heads.{Head, Exit, Posts, Unlocks, Decides, Locks
 use Rattle.seat_programs.specs.Posts.{WHOLE, advance_of, is_stale}
 use Rattle.seat_programs.specs.Writings.{Writing, Puts, Waits}
 use Rattle.seat_programs.specs.Programs.{Program, Do, Say, Sent, Rest, TakeMessage, TakeHome, PutHome, PutBytes, AskReady, Write, Aside, Round, Keep, Retries}
-use Rattle.label_runs.specs.Labels.{IsSoughtWord, LeavesPost, LeavesLock}
+use Rattle.label_runs.specs.Labels.{IsSoughtWord, LeavesNext, LeavesBy}
 
 -- a seat tries attempt n of the call with this id; nobody tries it any more; or it posted this error to the id, which it locked by that
 pub data Stand : Type 0 where
@@ -106,15 +106,15 @@ stand_behind (Unlocks i w advance) exit s = unlocks_stand i w advance s
 stand_behind (Locks i sought w) exit s = locked_stand exit s
 stand_behind head exit s = Calm
 
+-- the next word has the same first version, and its error is about the whole call
+abbrev pub IsWholeNext : ℕ → ℕ → ℕ → Type 0
+IsWholeNext first w e = ((parts w).first ≡ first) × (attempt_of e ≡ WHOLE)
+
 abbrev pub LeavesUnlock : ℕ → Unlocking → Type 0
-LeavesUnlock first (HasNext w e) = ((parts w).first ≡ first) × (attempt_of e ≡ WHOLE)
-LeavesUnlock first other = Unit {0}
+LeavesUnlock = LeavesNext IsWholeNext
 
 abbrev pub LeavesStand : (head : Head) → Exit head → Type 0
-LeavesStand (Posts id e w) exit = LeavesPost id exit
-LeavesStand (Unlocks i w advance) exit = ((parts w).attempt + advance_of advance ≤ 6) × LeavesUnlock (parts w).first exit
-LeavesStand (Locks i sought w) exit = LeavesLock sought exit
-LeavesStand other exit = Unit {0}
+LeavesStand = LeavesBy IsWholeNext
 
 -- ## Programs
 

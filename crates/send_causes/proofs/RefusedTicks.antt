@@ -3,7 +3,7 @@ use Rattle.std.proofs.Common.{◌≡◌, ◌≢◌, ℕ, zero, suc, ◌+◌, ◌
 use Rattle.std.specs.List.{AllByRecursion}
 use mathlib.Core.Logic.{dite}
 use native.Mathlib.Decide.{ℕ_discrete}
-use mathlib.Core.Option.{Option, some, none}
+use mathlib.Core.Option.{Option, some}
 use lib.ListN.{get_elem?}
 use Rattle.atomic_table.proofs.Lists.{at_set, set_again}
 use Rattle.sock_words.specs.declared.plain.Plan.{Plan}
@@ -14,7 +14,6 @@ use Rattle.sock_model.specs.declared.home.Home.{Home}
 use Rattle.sock_model.specs.declared.view.Hand.{Hand}
 use Rattle.sock_model.specs.declared.view.View.{View}
 use Rattle.sock_model.specs.Weights.{total}
-use Rattle.sock_model.specs.ChainRows.{taken_right}
 use Rattle.slot_steps.proofs.Sums.{term_le, total-append, total-set}
 use Rattle.corr_core.specs.Word.{parts}
 use Rattle.corr_core.specs.declared.marks.Plan.{Plan as IdPlan}
@@ -28,12 +27,11 @@ use Rattle.seat_programs.specs.Attempts.{retry}
 use Rattle.seat_programs.specs.Calls.{Call, PutMessage}
 use Rattle.seat_programs.specs.Heads.{Retry}
 use Rattle.seat_programs.specs.Programs.{Program, Do, Say, Sent, Rest, TakeMessage, TakeHome, PutHome, PutBytes, AskReady, Write, Aside, Round, Keep, Retries}
-use Rattle.seat_programs.specs.Cores.{Calls, Core, SeatState, word_of, found_at, words_after, word_after, homes_after, hand_after, lies_at, first_of, others_of, link_place, resolved, still_waiting, waiting_at, next_step, with_seat, stepped}
-use Rattle.seat_programs.specs.Ticks.{Moment, IsAnswered, fed, with_places, onto_first, taken, ticked}
-use Rattle.sock_runs.specs.Rows.{row, hand_at, took_message, link_away, link_home_again, took_bytes}
+use Rattle.seat_programs.specs.Cores.{Calls, Core, SeatState, word_of, found_at, words_after, word_after, homes_after, hand_after, resolved, still_waiting, waiting_at, next_step, with_seat, stepped}
+use Rattle.seat_programs.specs.Ticks.{Moment, IsAnswered, taken, ticked}
+use Rattle.sock_runs.specs.Rows.{row, hand_at}
 use Rattle.sock_runs.specs.Sound.{Sound, first_step, views_after}
-use Rattle.sock_runs.proofs.Cases.{with_rights, right_rights, put_rights}
-use Rattle.outcome_causes.proofs.Cases.{tick_cases}
+use Rattle.sock_runs.proofs.Cases.{with_rights}
 use Rattle.outcome_causes.proofs.Ticks.{elem_there}
 use Rattle.call_causes.specs.owed_calls.proofs.EndsStill.{mapped_at}
 use Rattle.label_runs.specs.Labels.{Trial, Idle, Tries, Sends, put_behind, Kept, Storing, unlocked_trial}
@@ -41,6 +39,7 @@ use Rattle.send_causes.specs.Counts.{pair_of, of_trial, of_retry, of_view, times
 use Rattle.send_causes.specs.Refused.{Deed, DidStep, DidPut, Charge, NoCharge, IsRefused, HasDropped, Doing, idle, begins, trial_in, FoundTaken, FoundLost, WasOther, WasOdd, WasNone, WhyRefused, WouldStore, WouldOwn, IsTrying, IsLast, Refuses, Moves, Remembers, Charges, did_aside, DidAt, IsRefusal, IsDrop, IsSpent, ChargeFits, ChargeLaw}
 use Rattle.send_causes.proofs.SeatFacts.{ids_first}
 use Rattle.outcome_causes.proofs.HomeCalls.{AreCalls}
+use Rattle.send_causes.proofs.SeatFacts.{tick_moves}
 use Rattle.send_causes.proofs.Ticks.{put_count, few_more, few_of, calls_waiting, fits_as, kept_count, kept_fits, pair_one, pair_same, waits_set}
 use Rattle.send_causes.proofs.Views.{row_count, rights_count}
 use Rattle.send_causes.proofs.Words.{made_on, finds_label, words_forward, makes_new, advances_new}
@@ -562,18 +561,11 @@ module _ (p : Plan) (q : IdPlan) (narrow : q.slots ≤ 65536) (is_call : Asked �
     would_as seat v s at here doing x is = subst (WouldOwnBy seat v s at here doing) is (would seat at)
 
     pub charge_ticks : After (ticked p c m) (views_after p c vs m)
-    charge_ticks = tick_cases p c vs m sound answered After nothing
+    charge_ticks = tick_moves (Charges p.requests is_call reads) idle (record { message = λ t q next g. g; home = λ t k next g. g; puts_home = λ t k n after g. g; put = λ t k asked bytes next g. g; ask = λ t k next g. g }) p c vs m sound answered After nothing
+        (λ seat v at here. (doing_of seat at).0)
+        (λ seat v at here x is. let d = doing_of seat at in (first_as seat v d.0 at here d.1 x is).goes)
+        (λ seat v at here. let d = doing_of seat at in moves seat v d.0 at here d.1)
         (λ seat v call next at here is goes. let d = doing_of seat at in steps seat v d.0 at here d.1 call next is (first_as seat v d.0 at here d.1 (Do call next) is) (would_as seat v d.0 at here d.1 (Do call next) is) (fits_as p c seat.program call next is (fitting seat at)))
-        (λ seat v r next heading bytes at here is goes. let d = doing_of seat at in let w = right_rights v v.rights (λ x. taken_right x heading bytes) in
-        moves seat v d.0 at here d.1 (next heading bytes) seat.hand (set c.homes r none) (took_message heading bytes v) w.0 w.1 ((first_as seat v d.0 at here d.1 (TakeMessage r next) is).goes heading bytes))
-        (λ seat v k next n at here is goes. let d = doing_of seat at in let w = right_rights v v.rights (λ x. record x { at_home = false }) in
-        moves seat v d.0 at here d.1 (next n) (lies_at c.homes (link_place p k) ++ seat.hand) (set c.homes (link_place p k) none) (link_away v) w.0 w.1 ((first_as seat v d.0 at here d.1 (TakeHome k next) is).goes n))
-        (λ seat v k n after at here is goes. let d = doing_of seat at in let w = right_rights v v.rights (λ x. record x { at_home = true }) in
-        moves seat v d.0 at here d.1 after (others_of seat.hand) (set c.homes (link_place p k) (first_of (onto_first (with_places n) seat.hand))) (link_home_again v) w.0 w.1 (first_as seat v d.0 at here d.1 (PutHome k n after) is).goes)
-        (λ seat v k asked bytes next answer at here is goes answer_is fits. let d = doing_of seat at in let w = put_rights v answer in
-        moves seat v d.0 at here d.1 (next answer) (onto_first (fed bytes answer) seat.hand) c.homes (took_bytes answer v) w.0 w.1 ((first_as seat v d.0 at here d.1 (PutBytes k asked bytes next) is).goes answer))
-        (λ seat v k next answer at here is goes answer_is. let d = doing_of seat at in subst (λ xs. After (with_seat m.seat (next answer) seat.hand c.words c.homes c) xs) (set_again vs m.seat v here)
-        (moves seat v d.0 at here d.1 (next answer) seat.hand c.homes v v.rights refl ((first_as seat v d.0 at here d.1 (AskReady k next) is).goes answer)))
         (λ seat v x next found at here is goes found_is. let d = doing_of seat at in let u = view_of seat at in
         asides seat v d.0 at here d.1 u.0 u.1 x next is (first_as seat v d.0 at here d.1 (Aside x next) is) found (taken m.answer) found_is (may_as seat at (Aside x next) is).0 (stored_own seat at x next is))
       where

@@ -26,20 +26,18 @@ use Rattle.seat_programs.specs.Beside.{found_in, calls_after}
 use Rattle.seat_programs.specs.Calls.{Call, PutMessage}
 use Rattle.seat_programs.specs.Heads.{Retry}
 use Rattle.seat_programs.specs.Programs.{Program, Do, Say, Sent, Rest, TakeMessage, TakeHome, PutHome, PutBytes, AskReady, Write, Aside, Round, Keep, Retries}
-use Rattle.seat_programs.specs.Cores.{Calls, Core, SeatState, word_of, found_at, words_after, word_after, homes_after, hand_after, lies_at, first_of, others_of, link_place, resolved, still_waiting, waiting_at, next_step, with_seat, stepped}
-use Rattle.seat_programs.specs.Ticks.{Moment, IsAnswered, fed, with_places, onto_first, taken, ticked}
+use Rattle.seat_programs.specs.Cores.{Calls, Core, SeatState, word_of, found_at, words_after, word_after, homes_after, hand_after, first_of, resolved, still_waiting, waiting_at, next_step, with_seat, stepped}
+use Rattle.seat_programs.specs.Ticks.{Moment, IsAnswered, taken, ticked}
 use Rattle.sock_runs.specs.May.{May}
-use Rattle.sock_runs.specs.Rows.{row, hand_at, took_message, link_away, link_home_again, took_bytes}
+use Rattle.sock_runs.specs.Rows.{row, hand_at}
 use Rattle.sock_runs.specs.Sound.{Sound, first_step, views_after}
-use Rattle.sock_runs.proofs.Cases.{with_rights, right_rights, put_rights}
-use Rattle.outcome_causes.proofs.Cases.{tick_cases}
-use Rattle.sock_model.specs.ChainRows.{taken_right}
+use Rattle.sock_runs.proofs.Cases.{with_rights}
 use Rattle.label_runs.specs.Labels.{Trial, Idle, Tries, Sends, IsOfTrial, MayPut, put_behind, Kept, Storing, unlocked_trial, Labels}
 use Rattle.label_runs.proofs.Programs.{labels_round, block_goes, retry_goes}
 use Rattle.send_causes.specs.Counts.{pair_of, of_trial, of_retry, of_view, times_of, WasMade, WasNow, ViewFits, TrialFits, IsOfCall, LabelLaw, StoresOwn}
 use Rattle.send_causes.proofs.Words.{made_on, finds_label, words_forward, makes_new, advances_new}
 use Rattle.outcome_causes.proofs.HomeCalls.{AreCalls, PutsAsked, calls_behind}
-use Rattle.send_causes.proofs.SeatFacts.{seat_facts}
+use Rattle.send_causes.proofs.SeatFacts.{seat_facts, tick_moves}
 use Rattle.send_causes.proofs.Views.{put_of, row_count, rights_count, PutsFit, row_fits, rights_fit}
 use Rattle.call_causes.proofs.Chains.{AreFewTries}
 
@@ -365,18 +363,11 @@ module _ (p : Plan) (q : IdPlan) (narrow : q.slots ≤ 65536) (is_call : Asked �
     open seat_facts (Labels is_call) (labels_first is_call) p q narrow c ts law.each law.programs us real_ids m.seat use {stand_of as trial_of, view_of, first_as, may_as}
 
     pub label_ticks : After (ticked p c m) (views_after p c vs m)
-    label_ticks = tick_cases p c vs m sound answered After (ts, law, λ id n some_. inl some_)
+    label_ticks = tick_moves (Labels is_call) Idle (record { message = λ t q next g. g; home = λ t k next g. g; puts_home = λ t k n after g. g; put = λ t k asked bytes next g. g; ask = λ t k next g. g }) p c vs m sound answered After (ts, law, λ id n some_. inl some_)
+        (λ seat v at here. (trial_of seat at).0)
+        (λ seat v at here x is. first_as seat at x is)
+        (λ seat v at here. let t = trial_of seat at in moves m.seat seat v t.0 at here t.1)
         (λ seat v call next at here is goes. let t = trial_of seat at in steps m.seat seat v t.0 at here t.1 call next goes.0 (first_as seat at (Do call next) is) (fits_as p c seat.program call next is (fitting seat at)))
-        (λ seat v r next heading bytes at here is goes. let t = trial_of seat at in let w = right_rights v v.rights (λ x. taken_right x heading bytes) in
-        moves m.seat seat v t.0 at here t.1 (next heading bytes) seat.hand (set c.homes r none) (took_message heading bytes v) w.0 w.1 (first_as seat at (TakeMessage r next) is heading bytes))
-        (λ seat v k next n at here is goes. let t = trial_of seat at in let w = right_rights v v.rights (λ x. record x { at_home = false }) in
-        moves m.seat seat v t.0 at here t.1 (next n) (lies_at c.homes (link_place p k) ++ seat.hand) (set c.homes (link_place p k) none) (link_away v) w.0 w.1 (first_as seat at (TakeHome k next) is n))
-        (λ seat v k n after at here is goes. let t = trial_of seat at in let w = right_rights v v.rights (λ x. record x { at_home = true }) in
-        moves m.seat seat v t.0 at here t.1 after (others_of seat.hand) (set c.homes (link_place p k) (first_of (onto_first (with_places n) seat.hand))) (link_home_again v) w.0 w.1 (first_as seat at (PutHome k n after) is))
-        (λ seat v k asked bytes next answer at here is goes answer_is fits. let t = trial_of seat at in let w = put_rights v answer in
-        moves m.seat seat v t.0 at here t.1 (next answer) (onto_first (fed bytes answer) seat.hand) c.homes (took_bytes answer v) w.0 w.1 (first_as seat at (PutBytes k asked bytes next) is answer))
-        (λ seat v k next answer at here is goes answer_is. let t = trial_of seat at in subst (λ xs. After (with_seat m.seat (next answer) seat.hand c.words c.homes c) xs) (set_again vs m.seat v here)
-        (moves m.seat seat v t.0 at here t.1 (next answer) seat.hand c.homes v v.rights refl (first_as seat at (AskReady k next) is answer)))
         (λ seat v s next found at here is goes found_is. let t = trial_of seat at in let u = view_of seat at in
         asides m.seat seat v t.0 at here t.1 u.0 u.1 s next found (taken m.answer) found_is (may_as seat at (Aside s next) is).0 (first_as seat at (Aside s next) is) (stored_own seat at s next is))
       where
