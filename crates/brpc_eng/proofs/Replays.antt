@@ -1,5 +1,5 @@
 -- How `replay` ends, by what its calls say.
-use Rattle.std.proofs.Common.{◌≡◌, ◌≢◌, ℕ, ◌≤◌, inl, List, length, Option, Some, Vec, Result, Ok, Err, refl, ap, sym, ◌∙◌, subst, arith, option_map}
+use Rattle.std.proofs.Common.{◌≡◌, ◌≢◌, ℕ, ◌≤◌, inl, inr, List, length, Option, Some, Vec, Result, Ok, Err, IsErrOf, refl, ap, sym, ◌∙◌, subst, arith, option_map}
 use Rattle.std.specs.declared.alloc.Global.{Global}
 use Rattle.brpc_model.specs.Items.{Item}
 use Rattle.brpc_model.specs.Script.{script_of}
@@ -10,7 +10,12 @@ use Rattle.brpc_eng.specs.declared.commands.Command.TheVariants.{Sim, Run, Gen, 
 use Rattle.sock_io.specs.declared.link.Mode.{Mode}
 use Rattle.seat_programs.specs.Scripts.{drawn_turns}
 use Rattle.brpc_eng.specs.Command.{meaning}
-use Rattle.brpc_eng.specs.Streams.{script_limit, ReadWhole}
+use Rattle.brpc_eng.specs.Streams.{script_limit, IsAtEnd, ReadWhole}
+use Rattle.brpc_eng.specs.declared.input.NoScript.{NoScript}
+use Rattle.brpc_eng.specs.declared.input.NoScript.TheVariants.{Unread, Faulty}
+use Rattle.brpc_eng.specs.declared.streams.InputFault.{InputFault}
+use Rattle.brpc_eng.specs.declared.streams.InputFault.TheVariants as unread
+use Rattle.brpc_eng.specs.Input.{CameAs, FaultTold}
 use Rattle.brpc_eng.specs.Answers as answer
 use Rattle.frame_print.specs.Printed.{Edges, PrintsFrames}
 use Rattle.frame_print.specs.declared.print.StreamEnd.{StreamEnd}
@@ -27,31 +32,45 @@ fault_written out line kind text e wrote = let P : List ℕ → Type 0 = λ x. a
 within_limit : (given left : Option (List ℕ)) (bytes : List ℕ) (read : Vec ℕ Global) → ReadWhole given left bytes (Ok read) → length bytes ≤ script_limit
 within_limit given left bytes read whole = whole.within (λ e. absurd (cc)) (λ e. absurd (cc))
 
-whole_input : {mode : Mode} (ran : answer.ScriptEnd) (input : answer.Input) (out : answer.Output) (links : answer.Links) (bytes : List ℕ) (read : Vec ℕ Global) (status : ℕ) → ReadWhole input.given input.left bytes (Ok read) →
-    answer.Replayed mode ran input out links bytes status → answer.ReplayedInput mode ran input out links status
-whole_input ran input out links bytes read status whole replayed =
-    let few = within_limit input.given input.left bytes read whole in
-    record { bytes = bytes; came = whole.came; most = whole.most; too_long = λ long. absurd (omega (arith, long, few)); replayed = replayed }
+-- ## The input
 
 -- the bytes that came are those that were read as a script
-came_is : (input : answer.Input) (bytes seen : List ℕ) (read : Vec ℕ Global) → ReadWhole input.given input.left bytes (Ok read) → seen ≡ read.items → seen ≡ bytes
-came_is input bytes seen read whole e = e ∙ whole.whole.0
+came_is : (given left : Option (List ℕ)) (bytes seen : List ℕ) (read : Vec ℕ Global) → ReadWhole given left bytes (Ok read) → seen ≡ read.items → seen ≡ bytes
+came_is given left bytes seen read whole e = e ∙ whole.whole.0
 
 pub read_few : (given left : Option (List ℕ)) (bytes seen : List ℕ) (read : Vec ℕ Global) → ReadWhole given left bytes (Ok read) → seen ≡ read.items → length seen ≤ script_limit
 read_few given left bytes seen read whole e = let few = within_limit given left bytes read whole in let long = ap length (e ∙ whole.whole.0) in omega (arith, few, long)
 
-pub replays_read : {mode : Mode} (ran : answer.ScriptEnd) (input : answer.Input) (out : answer.Output) (links : answer.Links) (status : ℕ) (bytes seen : List ℕ) (read : Vec ℕ Global) (script : List Item) →
-    ReadWhole input.given input.left bytes (Ok read) → seen ≡ read.items → script_of seen ≡ Ok script →
-    answer.OpenedBy mode script links status → ran script out links status → answer.ReplayedInput mode ran input out links status
-replays_read ran input out links status bytes seen read script whole s e opened ended =
-    let is : script_of bytes ≡ Ok script = ap script_of (sym (came_is input bytes seen read whole s)) ∙ e in
-    whole_input ran input out links bytes read status whole (answer.RanScript whole.whole.1 script is opened ended)
+pub read_as : (given left : Option (List ℕ)) (bytes seen : List ℕ) (read : Vec ℕ Global) (says : Result (List Item) (ℕ × ℕ)) → ReadWhole given left bytes (Ok read) → seen ≡ read.items → script_of seen ≡ says →
+    IsAtEnd left × (length bytes ≤ script_limit) × (script_of bytes ≡ says)
+read_as given left bytes seen read says whole s e = (whole.whole.1, within_limit given left bytes read whole, ap script_of (sym (came_is given left bytes seen read whole s)) ∙ e)
 
-pub replays_faulty : {mode : Mode} (ran : answer.ScriptEnd) (input : answer.Input) (out : answer.Output) (links : answer.Links) (status line kind : ℕ) (bytes seen : List ℕ) (read : Vec ℕ Global) →
-    ReadWhole input.given input.left bytes (Ok read) → seen ≡ read.items → script_of seen ≡ Err (line, kind) → answer.OpenedNone links → answer.FaultWritten out line kind status →
-    answer.ReplayedInput mode ran input out links status
-replays_faulty ran input out links status line kind bytes seen read whole s e back wrote =
-    whole_input ran input out links bytes read status whole (answer.FaultyScript whole.whole.1 line kind (ap script_of (sym (came_is input bytes seen read whole s)) ∙ e) back wrote)
+pub came_unread : (given left : Option (List ℕ)) (bytes : List ℕ) (fault : InputFault) → ReadWhole given left bytes (Err fault) → CameAs given left (Err (Unread fault))
+came_unread given left bytes unread.Failed whole = record { bytes = bytes; came = whole.came; is = whole.within (λ e. cc) (λ e. cc) }
+came_unread given left bytes unread.TooLong whole = record { bytes = bytes; came = whole.came; is = whole.too_long refl }
+came_unread given left bytes unread.NoMemory whole = record { bytes = bytes; came = whole.came; is = whole.most }
+
+-- a script was run
+pub replays_read : {mode : Mode} (ran : answer.ScriptEnd) (input : answer.Input) (out : answer.Output) (links : answer.Links) (status : ℕ) (script : List Item) → CameAs input.given input.left (Ok script) →
+    answer.OpenedBy mode script links status → ran script out links status → answer.ReplayedInput mode ran input out links status
+replays_read ran input out links status script came opened ended =
+    let few = came.is.1 in
+    record { bytes = came.bytes; came = came.came; most = omega (arith, few); too_long = λ long. absurd (omega (arith, long, few)); replayed = answer.RanScript came.is.0 script came.is.2 opened ended }
+
+-- there was none to run
+pub replays_none : {mode : Mode} (ran : answer.ScriptEnd) (input : answer.Input) (out : answer.Output) (links : answer.Links) (status : ℕ) (fault : NoScript) → CameAs input.given input.left (Err fault) →
+    (IsErrOf {T = List Item} (Err fault) (Unread unread.Failed) → answer.HaveRisen input.faults) → answer.OpenedNone links → FaultTold fault out status → answer.ReplayedInput mode ran input out links status
+replays_none ran input out links status (Faulty line kind) came failed none_ told =
+    let few = came.is.1 in
+    record { bytes = came.bytes; came = came.came; most = omega (arith, few); too_long = λ long. absurd (omega (arith, long, few)); replayed = answer.FaultyScript came.is.0 line kind came.is.2 none_ told }
+replays_none ran input out links status (Unread unread.Failed) came failed none_ told =
+    let few = came.is in
+    record { bytes = came.bytes; came = came.came; most = omega (arith, few); too_long = λ long. absurd (omega (arith, long, few)); replayed = answer.SourceFailed told.0 (failed refl) none_ told.1 }
+replays_none ran input out links status (Unread unread.TooLong) came failed none_ told =
+    let all = came.is in
+    record { bytes = came.bytes; came = came.came; most = omega (arith, all); too_long = λ long. inl told.0; replayed = answer.TooLong told.0 (omega (arith, all)) none_ told.1 }
+replays_none ran input out links status (Unread unread.NoMemory) came failed none_ told =
+    record { bytes = came.bytes; came = came.came; most = came.is; too_long = λ long. inr told.0; replayed = answer.NoMemory told.0 none_ told.1 }
 
 -- ## The words
 

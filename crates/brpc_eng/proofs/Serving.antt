@@ -3,7 +3,8 @@ use Rattle.std.proofs.Common.{◌≡◌, ℕ, ◌⊎◌, inl, inr, Bool, true, f
 use Rattle.serve_port.specs.declared.service.ServiceEnd.{ServiceEnd}
 use Rattle.serve_port.specs.declared.service.ServiceEnd.TheVariants as end_
 use Rattle.serve_port.specs.declared.service.ServeFault.{ServeFault}
-use Rattle.serve_port.specs.Serving.{ServedConnection, LinkerState, ServesAll, is_failing, is_faulty, is_whole, any_failing, any_faulty, all_whole}
+use Rattle.sock_io.specs.Link.{LinkerState}
+use Rattle.serve_port.specs.Serving.{ServedConnection, ServesConnections, is_failing, is_faulty, is_whole, any_failing, any_faulty, all_whole}
 use Rattle.brpc_eng.specs.Answers.{Output, Links, TextWritten, WroteNothing, ServeEnds, ServedWhole, ServeRanOut, ServedPort, served_text}
 
 pub served_written : (out : Output) (count frames status : ℕ) (text : List ℕ) → text ≡ served_text count frames → TextWritten out text status → TextWritten out (served_text count frames) status ⊎ ((status ≡ 7) × WroteNothing out)
@@ -46,7 +47,7 @@ none_faulty (s ∷ ss) w = let b = both_true (is_whole s.service.end) (all_whole
 
 module _ (count : ℕ) (old new : LinkerState) (asked : old.asked ≡ []) (back : old.back ≡ []) (accepted : old.accepted ≡ 0) (done : old.done ≡ []) (out : Output) (links : Links) (status : ℕ)
     (same_asked : links.asked ≡ new.asked) (same_back : links.ends ≡ new.back) (same_accepted : links.accepted ≡ new.accepted) (same_done : links.done ≡ new.done) where
-  module _ (r : Result ℕ ServeFault) (s : ServesAll count old new r) where
+  module _ (r : Result ℕ ServeFault) (s : ServesConnections count old new r) where
     pub port_of : ServeEnds count s.served out links status → ServedPort count out links status
     port_of ends = record {
       served = s.served;
@@ -58,6 +59,6 @@ module _ (count : ℕ) (old new : LinkerState) (asked : old.asked ≡ []) (back 
       ended = ends;
     }
 
-  pub port_whole : (frames : ℕ) → ServesAll count old new (Ok frames) → TextWritten out (served_text count frames) status ⊎ ((status ≡ 7) × WroteNothing out) → ServedPort count out links status
+  pub port_whole : (frames : ℕ) → ServesConnections count old new (Ok frames) → TextWritten out (served_text count frames) status ⊎ ((status ≡ 7) × WroteNothing out) → ServedPort count out links status
   port_whole frames s (inl w) = port_of (Ok frames) s (ServedWhole s.answer.0 s.answer.1 (subst (λ n. TextWritten out (served_text count n) status) s.answer.2 w))
   port_whole frames s (inr w) = port_of (Ok frames) s (ServeRanOut w.0 (none_failing s.served s.answer.1) (none_faulty s.served s.answer.1) w.1)

@@ -1,7 +1,6 @@
 -- The report of a run of which all is told fits. Where nothing went wrong, that of a script without calls is complete, whatever servers its links have: a `send` goes to a link without one.
 use Rattle.std.proofs.Common.{◌≡◌, ℕ, zero, suc, ◌*◌, ◌<◌, ◌⊎◌, inl, inr, Bool, true, false, if◌then◌else◌, List, [], ◌∷◌, length, slice_get, nat_lt, nat_le, option_and_then, Option, Some, Ok, Contains, refl, ap, sym, ◌∙◌, subst, arith}
 use Rattle.std.proofs.lemmas.Bool.Decides.{nat_tests}
-use Rattle.std.proofs.lemmas.List.{nil_from_length}
 use Rattle.std.proofs.lemmas.Option.{slice_get_within}
 use Rattle.sock_words.specs.declared.outcome.Outcome.{Outcome}
 use Rattle.sock_words.specs.declared.outcome.Outcome.TheVariants.{Unopened, Gone, Full, Placed, Dropped}
@@ -10,7 +9,6 @@ use Rattle.brpc_model.specs.Operations.{Operation, link_names, link_shapes, oper
 use Rattle.brpc_model.specs.Script.{script_of}
 use Rattle.brpc_model.specs.Places.{names}
 use Rattle.brpc_model.specs.Link.{LinkEnd}
-use Rattle.brpc_model.specs.Causes.{HasFault}
 use Rattle.brpc_model.specs.Report.{Report, report_text}
 use Rattle.brpc_model.specs.PlaceWords.{word_at, outcome_by_word}
 use Rattle.brpc_model.specs.Run.{Run, IsOperation, HasOutcome, IsLinkOf}
@@ -22,7 +20,7 @@ use Rattle.seat_programs.specs.Cores.{Core}
 use Rattle.seat_programs.specs.Tasks.{name_number, numbered, op_of, plan_of}
 use Rattle.seat_programs.specs.Scripts.{Reports, all_tasks, is_callless}
 use Rattle.seat_programs.specs.ToldCalls.{Fixed, Order, ToldCalls}
-use Rattle.report_fits.specs.Ends.{AreEndsOf, AreTold, EndsEarly}
+use Rattle.report_fits.specs.Ends.{AreEndsOf, AreTold}
 use Rattle.report_fits.proofs.Lists.{Has, has_later, has_from, contains_from, all_at, some_is}
 use Rattle.report_fits.proofs.Callless.{not_later}
 use Rattle.report_fits.proofs.TaskLemmas.{numbers_at, asks_at, mentions_send}
@@ -34,19 +32,9 @@ use Rattle.report_fits.proofs.Causes as causes
 use Rattle.report_fits.proofs.Fitting.{fits_run}
 use Rattle.report_fits.proofs.Places.{lateness, known_of}
 use Rattle.calls_over.specs.run_theorems.specs.Unserved.{IsInTime}
+use Rattle.calls_over.specs.run_theorems.proofs.Runs.{not_early}
 
 -- ## Links without a server
-
--- no bytes have no fault
-no_fault : HasFault [] → ⊥
-no_fault (start, fault, e) = cc
-
--- the reading of a link that gave nothing, and never failed, ended early by nothing
-not_early : (gave : List ℕ) (e : LinkEnd) → length gave ≡ e.gave_count → e.gave_count ≡ 0 → e.gave_end ≡ false → e.take_faults ≡ 0 → EndsEarly gave e → ⊥
-not_early gave e counted none_ open_ unfailed (inl ended) = cc
-not_early gave e counted none_ open_ unfailed (inr (inl fault)) = no_fault (subst HasFault (nil_from_length gave (omega (arith, counted, none_))) fault)
-not_early gave e counted none_ open_ unfailed (inr (inr (inl most))) = omega (arith, most, none_)
-not_early gave e counted none_ open_ unfailed (inr (inr (inr failed))) = omega (arith, failed, unfailed)
 
 -- each link was opened under its name, with a shape
 opened_with : (items : List Item) (k : ℕ) (name : List ℕ) → slice_get (link_names items) k ≡ Some name → (shape : Shape) × (slice_get (link_shapes items) k ≡ Some shape) × Has items (Open name shape)

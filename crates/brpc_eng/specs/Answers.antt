@@ -94,9 +94,16 @@ sink_over contents_of faults_of old new = record { before = contents_of old; now
 abbrev pub linker_over : {L : Type 0} → (L → Bool) → (tells offering : Type 0) → (Mode → Bool) → (L → List LinkSpec) → (L → List LinkEnd) → (L → ℕ) → (L → List ConnectionEnd) → (L → ℕ) → L → L → Links
 linker_over ready_of tells offering tells_in asked_of back_of accepted_of done_of faults_of old new = record { always_ready = ready_of old; tells = tells; offering = offering; tells_in = tells_in; asked = asked_of new; ends = back_of new; accepted = accepted_of new; done = done_of new; faults = faults_over faults_of old new }
 
--- no link was opened
+-- no link was opened, and none was given back
+abbrev pub OpenedNothing : List LinkSpec → List LinkEnd → Type 0
+OpenedNothing asked ends = (asked ≡ []) × (ends ≡ [])
+
 abbrev pub OpenedNone : Links → Type 0
-OpenedNone links = (links.asked ≡ []) × (links.ends ≡ [])
+OpenedNone links = OpenedNothing links.asked links.ends
+
+-- no link was opened, no connection accepted, and none given back
+abbrev pub DidNothing : List LinkSpec → List LinkEnd → ℕ → List ConnectionEnd → Type 0
+DidNothing asked ends accepted done = OpenedNothing asked ends × (accepted ≡ 0) × (done ≡ [])
 
 -- the links that the lines of a script ask for were opened as they ask, in this mode, all of them where a report was written or begun, else the
 -- first of them; and each is given back, in order

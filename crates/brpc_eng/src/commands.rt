@@ -8,7 +8,7 @@ use crate::draw::Draw;
 use script_items::number;
 
 /// What the words of the command line ask for.
-#[derive(Clone, Copy, Debug, PartialEq, Eq)]
+#[derive(Clone, Copy)]
 pub enum Command {
     /// `replay`: a script is read and run by its own schedule.
     Replay,

@@ -1,7 +1,7 @@
 ghost use Rattle.std.specs.Prelude.{◌*◌, ◌≤◌};
 
 /// A script that is drawn: `SEED CLIENTS OPS`.
-#[derive(Clone, Copy, Debug, PartialEq, Eq)]
+#[derive(Clone, Copy)]
 pub struct Draw {
     pub seed: u32,
     /// How many clients, 1 to 31.

@@ -7,6 +7,7 @@ mod draw;
 mod engine;
 mod frames;
 mod generated;
+mod input;
 mod load;
 mod replay;
 mod run;

@@ -1,8 +1,8 @@
-ghost use Rattle.std.specs.Prelude.{◌≡◌, ◌≢◌, []};
+ghost use Rattle.std.specs.Prelude.{◌≡◌, ◌≢◌};
 ghost use Rattle.script_links.specs.Offered.{TellOffers};
 ghost use Rattle.script_run.specs.Played.{TellClosed};
 ghost use Rattle.brpc_eng.specs.Status.{number_of};
-ghost use Rattle.brpc_eng.specs.Answers.{Loaded, linker_over, sink_over};
+ghost use Rattle.brpc_eng.specs.Answers.{OpenedNothing, Loaded, linker_over, sink_over};
 
 use crate::draw::Draw;
 use crate::run::write_report;
@@ -14,8 +14,7 @@ use std::alloc::Global;
 
 /// Draws a script, runs it by the schedule that its seed draws, and writes the summary of that run.
 pub fn load<K: Sink, L: Linker>(alloc: Global, draw: &Draw, out: &mut K, links: &mut L) -> Status
-    requires asked { L.asked links.old ≡ [] }
-    requires back { L.back links.old ≡ [] }
+    requires unopened { OpenedNothing (L.asked links.old) (L.back links.old) }
     ensures loaded { Loaded draw.now.seed draw.now.clients draw.now.operations (sink_over K.contents K.faults out.old out.new) (linker_over L.always_ready (TellClosed L.I.state) (TellOffers L.O.state L.I.state) L.tells_in L.asked L.back L.accepted L.done L.faults links.old links.new) (number_of result) }
     ensures linker { number_of result ≢ 8 → L.faults links.new ≡ L.faults links.old }
 {

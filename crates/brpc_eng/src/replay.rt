@@ -1,13 +1,11 @@
-ghost use Rattle.std.specs.Prelude.{◌≡◌, []};
 ghost use Rattle.script_links.specs.Offered.{TellOffers};
 ghost use Rattle.script_run.specs.Played.{TellClosed, turns_of};
 ghost use Rattle.brpc_eng.specs.Status.{number_of};
-ghost use Rattle.brpc_eng.specs.Answers.{Wrote, FaultWritten, ReplayedInput, by_turns, in_memory, CountsStand, faults_over, linker_over, sink_over, source_over};
+ghost use Rattle.brpc_eng.specs.Answers.{OpenedNothing, Wrote, FaultWritten, ReplayedInput, by_turns, in_memory, CountsStand, faults_over, linker_over, sink_over, source_over};
 
+use crate::input::{read_input, tell_fault};
 use crate::run::run_and_report;
 use crate::status::Status;
-use crate::streams::{InputFault, read_all};
-use script_lang::{ScriptError, read_script};
 use script_run::Schedule;
 use sock_io::{Linker, Sink, Source, write_all};
 use std::alloc::Global;
@@ -20,25 +18,13 @@ pub fn replay<S: Source, K: Sink, L: Linker>(
     links: &mut L,
     schedule: Schedule,
 ) -> Status
-    requires asked { L.asked links.old ≡ [] }
-    requires back { L.back links.old ≡ [] }
+    requires unopened { OpenedNothing (L.asked links.old) (L.back links.old) }
     ensures replayed { ReplayedInput in_memory (by_turns (λ script. turns_of script schedule)) (source_over S.left S.faults source.old source.new) (sink_over K.contents K.faults out.old out.new) (linker_over L.always_ready (TellClosed L.I.state) (TellOffers L.O.state L.I.state) L.tells_in L.asked L.back L.accepted L.done L.faults links.old links.new) (number_of result) }
     ensures counts { CountsStand (faults_over S.faults source.old source.new) (faults_over L.faults links.old links.new) (number_of result) }
 {
-    let bytes = match read_all(alloc, source) {
-        Ok(bytes) => bytes,
-        Err(InputFault::Failed) => return Status::SourceFailed,
-        Err(InputFault::TooLong) => return Status::TooLong,
-        Err(InputFault::NoMemory) => return Status::NoMemory,
-    };
-    match read_script(alloc, &bytes) {
-        Ok(script) => {
-            // The text isn't needed while the script runs.
-            drop(bytes);
-            run_and_report(alloc, script, schedule, out, links)
-        }
-        Err(ScriptError::Fault { line, kind }) => write_fault(alloc, line, kind, out),
-        Err(ScriptError::NoMemory) => Status::NoMemory,
+    match read_input(alloc, source) {
+        Ok(script) => run_and_report(alloc, script, schedule, out, links),
+        Err(fault) => tell_fault(alloc, fault, out),
     }
 }
 

@@ -1,13 +1,12 @@
-ghost use Rattle.std.specs.Prelude.{◌≡◌, ◌≢◌, ◌≤◌, ℕ, List, [], length, Ok, true};
+ghost use Rattle.std.specs.Prelude.{◌≡◌, ◌≢◌, true};
 ghost use Rattle.std.specs.List.{list_all};
-ghost use Rattle.brpc_model.specs.Script.{script_of};
 ghost use Rattle.sock_io.specs.declared.link.Mode.TheVariants as modes;
 ghost use Rattle.script_links.specs.Given.{has_piece};
 ghost use Rattle.script_links.specs.Offered.{TellOffers};
+ghost use Rattle.script_threads.specs.Served.{IsShort};
 ghost use Rattle.script_run.specs.Played.{TellClosed, turns_of};
 ghost use Rattle.brpc_eng.specs.Status.{number_of};
-ghost use Rattle.brpc_eng.specs.Streams.{script_limit};
-ghost use Rattle.brpc_eng.specs.Answers.{OpenedBy, Ran, TextWritten, linker_over, sink_over};
+ghost use Rattle.brpc_eng.specs.Answers.{OpenedNothing, OpenedBy, Ran, TextWritten, linker_over, sink_over};
 
 use crate::status::Status;
 use script_items::Script;
@@ -23,9 +22,8 @@ pub fn run_and_report<K: Sink, L: Linker>(
     out: &mut K,
     links: &mut L,
 ) -> Status
-    requires asked { L.asked links.old ≡ [] }
-    requires back { L.back links.old ≡ [] }
-    requires script { (bytes : List ℕ) × (script_of bytes ≡ Ok script) × (length bytes ≤ script_limit) }
+    requires unopened { OpenedNothing (L.asked links.old) (L.back links.old) }
+    requires short { IsShort script }
     requires pieces { list_all has_piece script ≡ true }
     ensures ran { Ran (turns_of script schedule) script (sink_over K.contents K.faults out.old out.new) (linker_over L.always_ready (TellClosed L.I.state) (TellOffers L.O.state L.I.state) L.tells_in L.asked L.back L.accepted L.done L.faults links.old links.new) (number_of result) }
     ensures opened { OpenedBy modes.Loop script (linker_over L.always_ready (TellClosed L.I.state) (TellOffers L.O.state L.I.state) L.tells_in L.asked L.back L.accepted L.done L.faults links.old links.new) (number_of result) }

@@ -10,7 +10,7 @@ use std::alloc::Global;
 const SCRIPT_LIMIT: usize = 1_048_576;
 
 /// Why the input wasn't read whole.
-#[derive(Clone, Copy, Debug, PartialEq, Eq)]
+#[derive(Clone, Copy)]
 pub enum InputFault {
     /// A read failed.
     Failed,

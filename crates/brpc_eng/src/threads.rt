@@ -1,18 +1,16 @@
-ghost use Rattle.std.specs.Prelude.{◌≡◌, ◌≢◌, true, []};
+ghost use Rattle.std.specs.Prelude.{◌≡◌, ◌≢◌, true};
 ghost use Rattle.std.specs.List.{list_all};
 ghost use Rattle.script_links.specs.Given.{has_piece};
 ghost use Rattle.script_links.specs.Offered.{TellOffers};
 ghost use Rattle.script_threads.specs.Served.{IsShort};
 ghost use Rattle.script_run.specs.Played.{TellClosed};
 ghost use Rattle.brpc_eng.specs.Status.{number_of};
-ghost use Rattle.brpc_eng.specs.Answers.{OpenedBy, RanOnThreads, ReplayedInput, RunTold, CountsStand, run_mode, faults_over, linker_over, sink_over, source_over};
+ghost use Rattle.brpc_eng.specs.Answers.{OpenedNothing, OpenedBy, RanOnThreads, ReplayedInput, RunTold, CountsStand, run_mode, faults_over, linker_over, sink_over, source_over};
 
-use crate::replay::write_fault;
+use crate::input::{read_input, tell_fault};
 use crate::run::write_report;
 use crate::status::Status;
-use crate::streams::{InputFault, read_all};
 use script_items::Script;
-use script_lang::{ScriptError, read_script};
 use script_threads::run_on_threads;
 use sock_io::{Gate, Linker, Mode, OpenFault, Sink, Source};
 use std::alloc::Global;
@@ -39,25 +37,13 @@ pub fn run_threads<R: Threads + Wait + Sync, S: Source, K: Sink, L: Linker, G: G
     links: &mut L,
     gate: &G,
 ) -> Status
-    requires asked { L.asked links.old ≡ [] }
-    requires back { L.back links.old ≡ [] }
+    requires unopened { OpenedNothing (L.asked links.old) (L.back links.old) }
     ensures replayed { ReplayedInput (run_mode port) (RanOnThreads (run_mode port)) (source_over S.left S.faults source.old source.new) (sink_over K.contents K.faults out.old out.new) (linker_over L.always_ready (TellClosed L.I.state) (TellOffers L.O.state L.I.state) L.tells_in L.asked L.back L.accepted L.done L.faults links.old links.new) (number_of result) }
     ensures counts { CountsStand (faults_over S.faults source.old source.new) (faults_over L.faults links.old links.new) (number_of result) }
 {
-    let bytes = match read_all(alloc, source) {
-        Ok(bytes) => bytes,
-        Err(InputFault::Failed) => return Status::SourceFailed,
-        Err(InputFault::TooLong) => return Status::TooLong,
-        Err(InputFault::NoMemory) => return Status::NoMemory,
-    };
-    match read_script(alloc, &bytes) {
-        Ok(script) => {
-            // The text isn't needed while the script runs.
-            drop(bytes);
-            threads_and_report(rt, alloc, port, &script, out, links, gate)
-        }
-        Err(ScriptError::Fault { line, kind }) => write_fault(alloc, line, kind, out),
-        Err(ScriptError::NoMemory) => Status::NoMemory,
+    match read_input(alloc, source) {
+        Ok(script) => threads_and_report(rt, alloc, port, &script, out, links, gate),
+        Err(fault) => tell_fault(alloc, fault, out),
     }
 }
 
@@ -71,8 +57,7 @@ fn threads_and_report<R: Threads + Wait + Sync, K: Sink, L: Linker, G: Gate + Sy
     links: &mut L,
     gate: &G,
 ) -> Status
-    requires asked { L.asked links.old ≡ [] }
-    requires back { L.back links.old ≡ [] }
+    requires unopened { OpenedNothing (L.asked links.old) (L.back links.old) }
     requires short { IsShort script.now }
     requires pieces { list_all has_piece script.now ≡ true }
     ensures ran { RanOnThreads (run_mode port) script.now (sink_over K.contents K.faults out.old out.new) (linker_over L.always_ready (TellClosed L.I.state) (TellOffers L.O.state L.I.state) L.tells_in L.asked L.back L.accepted L.done L.faults links.old links.new) (number_of result) }

@@ -1,4 +1,4 @@
-ghost use Rattle.std.specs.Prelude.{◌≡◌, []};
+ghost use Rattle.brpc_eng.specs.Answers.{DidNothing};
 
 use crate::run::run_with;
 use loop_link::LoopLinker;
@@ -40,10 +40,7 @@ fn run_over<
     E: Print,
     L: Linker,
 >(rt: &R, errors: &E, links: &mut L) -> ExitCode
-    requires asked { L.asked links.old ≡ [] }
-    requires back { L.back links.old ≡ [] }
-    requires accepted { L.accepted links.old ≡ 0 }
-    requires done { L.done links.old ≡ [] }
+    requires unused { DidNothing (L.asked links.old) (L.back links.old) (L.accepted links.old) (L.done links.old) }
 {
     let mut source = StdEdge::new(rt.reader());
     let mut out = StdEdge::new(io::writer(rt));

@@ -1,9 +1,9 @@
-ghost use Rattle.std.specs.Prelude.{◌≡◌, ◌⊎◌, [], IfOk, drop};
+ghost use Rattle.std.specs.Prelude.{◌≡◌, ◌⊎◌, IfOk, drop};
 ghost use Rattle.std.specs.Process.{exit_status};
 ghost use Rattle.std.specs.Vec.Iter.{into_iter_items};
 ghost use Rattle.script_links.specs.Offered.{TellOffers};
 ghost use Rattle.brpc_eng.specs.script_run.specs.Played.{TellClosed};
-ghost use Rattle.brpc_eng.specs.Answers.{Answers, Wrote, linker_over, sink_over, source_over};
+ghost use Rattle.brpc_eng.specs.Answers.{DidNothing, Answers, Wrote, linker_over, sink_over, source_over};
 ghost use Rattle.brpc_main.specs.Reasons.{reason_text};
 ghost use Rattle.brpc_main.specs.Words.{arguments, words_behind};
 
@@ -34,40 +34,27 @@ pub fn run_with<R: Threads + Wait + Sync, S: Source, K: Sink, L: Linker, G: Gate
     gate: &G,
     errors: &mut E,
 ) -> ExitCode
-    requires asked { L.asked links.old ≡ [] }
-    requires back { L.back links.old ≡ [] }
-    requires accepted { L.accepted links.old ≡ 0 }
-    requires done { L.done links.old ≡ [] }
+    requires unused { DidNothing (L.asked links.old) (L.back links.old) (L.accepted links.old) (L.done links.old) }
     ensures answers { Answers (words_behind args) (source_over S.left S.faults source.old source.new) (sink_over K.contents K.faults out.old out.new) (linker_over L.always_ready (TellClosed L.I.state) (TellOffers L.O.state L.I.state) L.tells_in L.asked L.back L.accepted L.done L.faults links.old links.new) (exit_status result)
         ⊎ ((exit_status result ≡ 7) × (source.new ≡ source.old) × (out.new ≡ out.old) × (links.new ≡ links.old)) }
     ensures explained { Wrote (sink_over E.contents E.faults errors.old errors.new) (reason_text (exit_status result)) }
 {
-    let status = answer(rt, alloc, args, source, out, links, gate);
-    explain(errors, status);
-    ExitCode::from(status)
+    match all_of(alloc, args) {
+        Ok(args) => {
+            let status = brpc(rt, alloc, behind_first(&args), source, out, links, gate);
+            ended(status, errors)
+        }
+        Err(_) => ended(NO_MEMORY, errors),
+    }
 }
 
-/// The number that the top call answers to the arguments.
-fn answer<R: Threads + Wait + Sync, S: Source, K: Sink, L: Linker, G: Gate + Sync>(
-    rt: &R,
-    alloc: Global,
-    args: io::Result<Args>,
-    source: &mut S,
-    out: &mut K,
-    links: &mut L,
-    gate: &G,
-) -> u8
-    requires asked { L.asked links.old ≡ [] }
-    requires back { L.back links.old ≡ [] }
-    requires accepted { L.accepted links.old ≡ 0 }
-    requires done { L.done links.old ≡ [] }
-    ensures { Answers (words_behind args) (source_over S.left S.faults source.old source.new) (sink_over K.contents K.faults out.old out.new) (linker_over L.always_ready (TellClosed L.I.state) (TellOffers L.O.state L.I.state) L.tells_in L.asked L.back L.accepted L.done L.faults links.old links.new) result
-        ⊎ ((result ≡ 7) × (source.new ≡ source.old) × (out.new ≡ out.old) × (links.new ≡ links.old)) }
+/// Says why the program ends with this number, and ends with it.
+fn ended<E: Sink>(status: u8, errors: &mut E) -> ExitCode
+    ensures code { exit_status result ≡ status }
+    ensures explained { Wrote (sink_over E.contents E.faults errors.old errors.new) (reason_text (exit_status result)) }
 {
-    match all_of(alloc, args) {
-        Ok(args) => brpc(rt, alloc, behind_first(&args), source, out, links, gate),
-        Err(_) => NO_MEMORY,
-    }
+    explain(errors, status);
+    ExitCode::from(status)
 }
 
 /// All arguments.

@@ -11,6 +11,7 @@ use Rattle.seat_programs.specs.Asides.{Step, MakeId, Found}
 use Rattle.seat_programs.specs.Programs.{Program, Say, Sent, Aside, Keep, Retries}
 use Rattle.seat_programs.specs.Cores.{resolved, said, next_step}
 use Rattle.sock_words.specs.declared.outcome.Outcome.{Outcome}
+use Rattle.owed_calls.specs.sock_steps.proofs.Maps.{set_twice}
 use Rattle.call_causes.specs.Scenes.{Birth, Saying, Scene, In, IsOver, IsOther, StaysWithin, Later}
 use Rattle.call_causes.specs.Says.{Claims, Mark, IsNextSaid, SaidBy, MayAside, Moves, Shows, SaysOn}
 use Rattle.call_causes.specs.Stories.{At, word_at, SlotFits, SlotsLaw, BirthsLaw, TasksLaw, ClaimsLaw, ReadsLaw, IsBehind, KnowsStep, mark_after}
@@ -26,7 +27,7 @@ use Rattle.call_causes.proofs.Numbered.{AreNumbered}
 use Rattle.call_causes.proofs.Sayings.{put_at, other_call}
 use Rattle.call_causes.proofs.TaskTicks.{changed}
 use Rattle.call_causes.proofs.TaskSteps.{changes}
-use Rattle.call_causes.proofs.Chains.{sayings_of, AreFewTries, KeepsFew, IsKept, chain, set_twice, said_first}
+use Rattle.call_causes.proofs.Chains.{sayings_of, AreFewTries, KeepsFew, IsKept, chain, said_first}
 
 -- what was said stays said
 pub sayings_keep : (x : Program) (ss : List Saying) (s : Saying) → In s ss → In s (sayings_of x ss)

@@ -10,6 +10,7 @@ use Rattle.seat_programs.specs.Heads.{Retry}
 use Rattle.seat_programs.specs.Attempts.{retry}
 use Rattle.seat_programs.specs.Programs.{Program, Do, Say, Sent, Rest, TakeMessage, TakeHome, PutHome, PutBytes, AskReady, Write, Aside, Round, Keep, Retries}
 use Rattle.seat_programs.specs.Cores.{resolved, said, next_step}
+use Rattle.owed_calls.specs.sock_steps.proofs.Maps.{set_twice}
 use Rattle.call_causes.specs.Scenes.{Saying, Scene, In, Said, Later, was_said, was_sent}
 use Rattle.call_causes.specs.Says.{Mark, with_done, with_owed, IsFree, IsNextSaid, SaidBy, SaysOn}
 use Rattle.call_causes.specs.Stories.{At, BirthsLaw, TasksLaw, unclaimed}
@@ -31,11 +32,6 @@ sayings_of other ss = ss
 
 abbrev pub AreFewTries : List Retry → Type 0
 AreFewTries ws = AllByRecursion (λ (r : Retry). r.attempt ≤ 6) ws
-
-pub set_twice : {A : Type 0} (l : List A) (i : ℕ) (a b : A) → set (set l i a) i b ≡ set l i b
-set_twice [] i a b = refl
-set_twice (x ∷ xs) zero a b = refl
-set_twice (x ∷ xs) (suc i) a b = ap (λ ys. x ∷ ys) (set_twice xs i a b)
 
 more_tries : (ws : List Retry) (r : Retry) → AreFewTries ws → r.attempt ≤ 6 → AreFewTries (ws ++ r ∷ [])
 more_tries [] r all one = (one, tt)

@@ -9,7 +9,8 @@ use Rattle.corr_core.specs.declared.marks.Plan.{Plan as IdPlan}
 use Rattle.seat_programs.specs.declared.task.Op.{Op}
 use Rattle.seat_programs.specs.declared.task.Op.TheVariants as ops
 use Rattle.seat_programs.specs.declared.task.Task.{Task}
-use Rattle.seat_programs.specs.Programs.{Program, Say, Sent, NO_SOCKET, release, address, reach, set_failed, make_socket, open_from, fail_outcome, fail}
+use Rattle.seat_programs.specs.Calls.{ClaimSlot, StoreLink, ResetHead, ClearCode, CreateLife, StoreOpen, StoreName, TakeLink, FinishLink, PutLink}
+use Rattle.seat_programs.specs.Programs.{Program, Do, Say, Sent, NO_SOCKET, release, address, reach, set_failed, make_socket, open_from, fail_outcome, fail}
 use Rattle.seat_programs.specs.Sends.{accept, heading_of, claim_from, start, send}
 use Rattle.seat_programs.specs.Clients.{HeldLife, held_under, without_name, give_back, drop_of, operation, client_from, ending_of}
 use Rattle.seat_programs.specs.Scripts.{sizes_of}
@@ -17,12 +18,12 @@ use Rattle.id_runs.proofs.Loops.{not_equal}
 use Rattle.call_causes.specs.Scenes.{Scene, In, Named, IsTaskOf, NoneFound, WhyOwn, IsJust}
 use Rattle.call_causes.specs.Says.{Mark, with_slot, with_done, IsFree, SaidBy, Again}
 use Rattle.call_causes.proofs.Lasting.{far}
-use Rattle.call_causes.proofs.Posts.{speech, way, again_same, follows_later}
+use Rattle.call_causes.proofs.Posts.{speech, way, again_same, then_does, then_way, follows_later}
 use Rattle.call_causes.proofs.Programs.{release_says, address_says, set_failed_says, accept_says, releases}
 use Rattle.call_causes.proofs.Calls.{IsCalls, IsNext, own_at, none_found, call_says, expire_says, join_says}
 
 module _ (p : Plan) (q : IdPlan) (clients : List (List Task)) (gives : ℕ → List ℕ) where
-  open speech p q clients gives use {Tells, Later', Ends}
+  open speech p q clients gives use {Tells, Later', Next, Ends}
 
   -- a `call` knows its operation, `expire` and `join` name calls, and a `fail` has the code of no call's end
   abbrev pub FitsOp : ℕ → Op → Type 0
@@ -62,42 +63,31 @@ module _ (p : Plan) (q : IdPlan) (clients : List (List Task)) (gives : ℕ → L
     some_word : (version i : ℕ) → socket_id version i + 1 ≢ 0
     some_word version i e = omega (arith, e)
 
-    open_says : (name k : ℕ) → t.op ≡ ops.Open name k → (next : Program) → Ends w (with_done t ts m) next → (more i : ℕ) (v : Scene) → Later' w v → SaidBy v (open_from more i t.number name k next) → Tells v m (open_from more i t.number name k next)
-    open_says name k op next goes zero i v l s = (
-      tt,
-      λ _ v2 l2 _ _. let f2 = far p q clients gives w v v2 l l2 in (
-        tt,
-        λ _ v3 l3 _ _. let f3 = far p q clients gives w v2 v3 f2 l3 in (
-          tt,
-          λ _ v4 l4 _ _. let f4 = far p q clients gives w v3 v4 f3 l4 in (
-            tt,
-            λ _ v5 l5 s5 _. says (ops.Open name k) op outcomes.SlotsFull next goes v5 m (far p q clients gives w v4 v5 f4 l5) s5.1 self tt tt,
-          ),
-        ),
-      ),
-    )
-    open_says name k op next goes (suc more) i v l s = (
-      tt,
-      λ found v2 l2 s2 _. let f2 = far p q clients gives w v v2 l l2 in way p q clients gives v2 m (found == 0) (make_socket t.number name k i next) (open_from more (i + 1) t.number name k next) s2
-          (λ _ _. (
-            tt,
-            λ _ v3 l3 _ _. let f3 = far p q clients gives w v2 v3 f2 l3 in (
-              tt,
-              λ _ v4 l4 _ _. let f4 = far p q clients gives w v3 v4 f3 l4 in (
-                tt,
-                λ _ v5 l5 _ _. let f5 = far p q clients gives w v4 v5 f4 l5 in (
-                  tt,
-                  λ born v6 l6 _ _. let f6 = far p q clients gives w v5 v6 f5 l6 in (
-                    tt,
-                    λ _ v7 l7 _ _. let f7 = far p q clients gives w v6 v7 f6 l7 in
-                        (some_word (vref_version born) i, λ _ v8 l8 s8 named. says (ops.Open name k) op (outcomes.Opened i (vref_version born) k) next goes v8 m (far p q clients gives w v7 v8 f7 l8) s8.1 self named tt),
-                  ),
-                ),
-              ),
-            ),
-          ))
-          (λ _ s'. open_says name k op next goes more (i + 1) v2 f2 s'),
-    )
+    open_says : (name k : ℕ) → t.op ≡ ops.Open name k → (next : Program) → Ends w (with_done t ts m) next → (more i : ℕ) → Next w m (open_from more i t.number name k next)
+    open_says name k op next goes zero i = let said : Program = Say t.number outcomes.SlotsFull next in
+        let stored : Program = Do (StoreOpen t.number NO_SOCKET) (λ _. said) in
+        let back : Program = Do (PutLink k) (λ _. stored) in
+        let finish : Program = Do (FinishLink k) (λ _. back) in
+        then_does p q clients gives w m (TakeLink k) (λ _. finish) tt
+        (λ _. then_does p q clients gives w m (FinishLink k) (λ _. back) tt
+        (λ _. then_does p q clients gives w m (PutLink k) (λ _. stored) tt
+        (λ _. then_does p q clients gives w m (StoreOpen t.number NO_SOCKET) (λ _. said) tt (λ _ v l s. says (ops.Open name k) op outcomes.SlotsFull next goes v m l s.1 self tt tt))))
+    open_says name k op next goes (suc more) i = let said : ℕ → Program = λ born. Say t.number (outcomes.Opened i (vref_version born) k) next in
+        let named : ℕ → Program = λ born. Do (StoreName name (socket_id (vref_version born) i + 1)) (λ _. said born) in
+        let stored : ℕ → Program = λ born. Do (StoreOpen t.number (socket_id (vref_version born) i + 1)) (λ _. named born) in
+        let made : Program = Do (CreateLife i k) stored in
+        let cleared : Program = Do (ClearCode i k) (λ _. made) in
+        let reset : Program = Do (ResetHead i k) (λ _. cleared) in
+        let linked : Program = Do (StoreLink i k) (λ _. reset) in
+        let others : Program = open_from more (i + 1) t.number name k next in
+        then_does p q clients gives w m (ClaimSlot i) (λ found. cond (found == 0) linked others) tt (λ found. then_way p q clients gives w m (found == 0) linked others
+        (λ _. then_does p q clients gives w m (StoreLink i k) (λ _. reset) tt
+        (λ _. then_does p q clients gives w m (ResetHead i k) (λ _. cleared) tt
+        (λ _. then_does p q clients gives w m (ClearCode i k) (λ _. made) tt
+        (λ _. then_does p q clients gives w m (CreateLife i k) stored tt
+        (λ born. then_does p q clients gives w m (StoreOpen t.number (socket_id (vref_version born) i + 1)) (λ _. named born) tt
+        (λ _ v l _. (some_word (vref_version born) i, λ _ v2 l2 s2 is_named. says (ops.Open name k) op (outcomes.Opened i (vref_version born) k) next goes v2 m (far p q clients gives w v v2 l l2) s2.1 self is_named tt)))))))
+        (λ _. open_says name k op next goes more (i + 1)))
 
     -- ## `send`
 

@@ -39,11 +39,11 @@ use Rattle.call_causes.proofs.HandledSteps.{Took, Onward, bytes_in}
 
 -- ## What a program takes
 
-abbrev take_of : Program → List ℕ
+abbrev pub take_of : Program → List ℕ
 take_of (Aside (TakeBytes l room) next) = l ∷ []
 take_of other = []
 
-taken_first : (program : Program) → taken_link program ≡ take_of (first_step program)
+pub taken_first : (program : Program) → taken_link program ≡ take_of (first_step program)
 taken_first (Round (Decides id asked w e) next) = either_way (Rattle.seat_programs.specs.Posts.ends_call (parts w) e) _ _ (λ x. [] ≡ take_of x) refl refl
 taken_first (Round (Locks i sought (Rattle.std.specs.Prelude.Some w)) next) = refl
 taken_first (Round (Locks i sought Rattle.std.specs.Prelude.None) next) = refl

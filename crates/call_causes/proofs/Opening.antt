@@ -20,6 +20,7 @@ use Rattle.seat_programs.specs.Readers.{reader}
 use Rattle.seat_programs.specs.Cores.{Core, SeatState, resolved, said, next_step}
 use Rattle.seat_programs.specs.Scripts.{opening_words, sizes_of, programs, readers_from, all_programs, beginning}
 use Rattle.id_runs.proofs.Opening.{unused}
+use Rattle.owed_calls.proofs.Resolves.{inside_of}
 use Rattle.call_causes.specs.Scenes.{Saying, Scene, In, IsOver, IsTaskOf, LeadsTo, Later}
 use Rattle.call_causes.specs.Says.{NoSlot, Mark, SaysOn}
 use Rattle.call_causes.specs.Stories.{At, word_at, SlotsLaw, BirthsLaw, TasksLaw, ClaimsLaw, ReadsLaw, HasStory}
@@ -51,11 +52,6 @@ repeated : {A : Type 0} (n i : ℕ) (x y : A) → get_elem? (replicate n x) i �
 repeated zero i x y e = absurd (some-ne-none y (sym e))
 repeated (suc n) zero x y e = (some-injective x y e, omega arith)
 repeated (suc n) (suc i) x y e = let r = repeated n i x y e in (r.0, (let z = r.1 in omega (arith, z)))
-
-inside_of : {A : Type 0} (xs : List A) (i : ℕ) (x : A) → get_elem? xs i ≡ core.some x → i < length xs
-inside_of [] i x e = absurd (some-ne-none x (sym e))
-inside_of (y ∷ xs) zero x e = omega arith
-inside_of (y ∷ xs) (suc i) x e = omega (arith, inside_of xs i x e)
 
 got_at : {A : Type 0} (xs : List (List A)) (i : ℕ) (x : List A) → get_elem? xs i ≡ core.some x → (get_or xs i [] ≡ x) × (slice_get xs i ≡ Some x)
 got_at [] i x e = absurd (some-ne-none x (sym e))

@@ -7,13 +7,14 @@ use Rattle.corr_core.specs.declared.marks.Plan.{Plan as IdPlan}
 use Rattle.sock_message.specs.Asked.{Asked}
 use Rattle.seat_programs.specs.declared.task.Task.{Task}
 use Rattle.seat_programs.specs.Asides.{PutCall, LockId, PostId, UnlockId, FreeId, call_id, id_slot, id_first}
+use Rattle.seat_programs.specs.Calls.{Call}
 use Rattle.seat_programs.specs.Heads.{Retry, Sought, First, Version, Posts, Unlocks, Decides, Locks, Joins, Posting, WasGone, WasStale, WasCrowded, WasQueued, HasLocked, Unlocking, IsOpen, HasNext, Deciding, HasEnded, GoesOn, Locking, NotThere, Has}
-use Rattle.seat_programs.specs.Programs.{Program, Aside, Round}
+use Rattle.seat_programs.specs.Programs.{Program, Do, Aside, Round}
 use Rattle.seat_programs.specs.Posts.{packed, advance_of, is_first, is_sought, is_stale, is_full, judged, posts_round, post_with, posted, post, popped, unlocks_round, end_id, is_final, ends_call, decide, unlocked, decides_round, decided, locking, locks_round, joins_round}
 use Rattle.id_runs.proofs.Keeps.{parts_packed}
 use Rattle.id_runs.proofs.Loops.{not_equal}
 use Rattle.call_causes.specs.Scenes.{Birth, Scene, IsBorn, WasPosted, WasDecided, IsOther, EndedAt, MayAdvance, CauseOf, of_expiry, of_other, FailedIn, by_expiry, by_other, Later}
-use Rattle.call_causes.specs.Says.{Shape, shape_of, HasShape, with_attempt, unlocked_by, Slot, NoSlot, Locked, Holds, Leaves, Mark, with_slot, with_owed, IsVacant, IsFree, put_in, taken_out, SaidBy, HasCodes, MayUnlock, Moves, Shows, IsSoughtIn, AtHead, Again, MatchesRange, LeavesPost, LeavesUnlock, IsLast, EndsBy, LeavesDecision, LeavesLock, YieldsPost, SaysOn}
+use Rattle.call_causes.specs.Says.{Shape, shape_of, HasShape, with_attempt, unlocked_by, Slot, NoSlot, Locked, Holds, Leaves, Mark, with_slot, with_owed, IsVacant, IsFree, put_in, taken_out, SaidBy, HasCodes, MayDo, MayUnlock, Moves, Shows, IsSoughtIn, AtHead, Again, MatchesRange, LeavesPost, LeavesUnlock, IsLast, EndsBy, LeavesDecision, LeavesLock, YieldsPost, SaysOn}
 use Rattle.call_causes.proofs.Lasting.{far, cause_on, unlock_on}
 
 -- ## Tests
@@ -99,6 +100,13 @@ module _ (p : Plan) (q : IdPlan) (clients : List (List Task)) (gives : ℕ → L
   -- what follows may follow from another vacant slot, and later
   pub then_on : (w v : Scene) (m : Mark) (x : Program) → After w v → Then w m x → Then v m x
   then_on w v m x l goes = λ w' l' s. goes w' (far p q clients gives w v w' l l') s
+
+  -- a step of whose word nothing is used
+  pub then_does : (w : Scene) (m : Mark) (call : Call) (next : ℕ → Program) → MayDo p q clients gives call → ((found : ℕ) → Then w m (next found)) → Then w m (Do call next)
+  then_does w m call next may goes = λ v l _. (may, λ found v2 l2 s2 _. goes found v2 (far p q clients gives w v v2 l l2) s2)
+
+  pub then_way : (w : Scene) (m : Mark) (b : Bool) (x y : Program) → (b ≡ true → Then w m x) → (b ≡ false → Then w m y) → Then w m (cond b x y)
+  then_way w m b x y f g = λ v l s. way v m b x y s (λ e. f e v l) (λ e. g e v l)
 
   pub follows_on : (w v : Scene) (m : Mark) (s : Slot) (x : Program) → After w v → Follows w m x → Follows v (with_slot s m) x
   follows_on w v m s x l goes = λ w' m' l' said a. goes w' m' (far p q clients gives w v w' l l') said (record { slot = a.slot; vacant = a.vacant; is = a.is })

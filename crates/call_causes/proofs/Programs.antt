@@ -13,7 +13,7 @@ use Rattle.corr_core.specs.declared.marks.Plan.{Plan as IdPlan}
 use Rattle.sock_message.specs.Asked.{Asked, frame_of}
 use Rattle.seat_programs.specs.declared.task.Task.{Task}
 use Rattle.seat_programs.specs.Parts.{part}
-use Rattle.seat_programs.specs.Calls.{SubRef, StoreCode, LoadLink, TakeLink, FinishLink, PutLink, FreeSlot, FreeRequest, ReadNext, ReverseNext, Connect, FindLink, LookWord}
+use Rattle.seat_programs.specs.Calls.{SubRef, Recycle, StoreCode, LoadLink, TakeLink, FinishLink, PutLink, FreeSlot, FreeRequest, ReadNext, ReverseNext, Connect, FindLink, LookWord}
 use Rattle.seat_programs.specs.Asides.{StoreAt, id_slot, id_first}
 use Rattle.seat_programs.specs.Programs.{Program, Do, TakeMessage, TakeHome, PutBytes, Write, Aside, LAST_VERSION, LAST_GENERATION, recycle, release, address, set_failed}
 use Rattle.seat_programs.specs.Posts.{post}
@@ -25,41 +25,34 @@ use Rattle.id_runs.proofs.Loops.{not_equal}
 use Rattle.call_causes.specs.Scenes.{Scene, IsOther}
 use Rattle.call_causes.specs.Says.{Mark, with_slot, IsFree, Again}
 use Rattle.call_causes.proofs.Lasting.{far}
-use Rattle.call_causes.proofs.Posts.{speech, way, again_same, then_on, follows_later, then_follows, post_says}
+use Rattle.call_causes.proofs.Posts.{speech, way, again_same, then_on, then_does, then_way, follows_later, then_follows, post_says}
 
 module _ (p : Plan) (q : IdPlan) (clients : List (List Task)) (gives : ℕ → List ℕ) where
   open speech p q clients gives use {Tells, Later', Next, Ends}
 
   -- ## Parts on sockets
 
-  pub recycle_says : (w : Scene) (m : Mark) (i from : ℕ) (next : Bool → Program) → ((b : Bool) → Next w m (next b)) → Tells w m (recycle i from next)
-  recycle_says w m i from next goes = (
-    tt,
-    λ found v l s _. way p q clients gives v m (eqb found from)
-        (Do (LoadLink i (vref_version from + 1)) (λ k. Do (TakeLink k) (λ _. Do (FinishLink k) (λ _. Do (PutLink k) (λ _. cond (leb (vref_version from + 1) LAST_VERSION) (Do (FreeSlot i) (λ _. next true)) (next true)))))) (next false) s
-        (λ _ _. (
-          tt,
-          λ k v2 l2 _ _. let f2 = far p q clients gives w v v2 l l2 in (
-            tt,
-            λ _ v3 l3 _ _. let f3 = far p q clients gives w v2 v3 f2 l3 in (
-              tt,
-              λ _ v4 l4 _ _. let f4 = far p q clients gives w v3 v4 f3 l4 in (
-                tt,
-                λ _ v5 l5 s5 _. let f5 = far p q clients gives w v4 v5 f4 l5 in
-                    way p q clients gives v5 m (leb (vref_version from + 1) LAST_VERSION) (Do (FreeSlot i) (λ _. next true)) (next true) s5
-                    (λ _ _. (tt, λ _ v6 l6 s6 _. goes true v6 (far p q clients gives w v5 v6 f5 l6) s6)) (λ _ s'. goes true v5 f5 s'),
-              ),
-            ),
-          ),
-        ))
-        (λ _ s'. goes false v l s'),
-  )
+  -- who wins the exchange ends the slot's link, and frees the slot
+  recycle_then : (w : Scene) (m : Mark) (i from : ℕ) (next : Bool → Program) → ((b : Bool) → Next w m (next b)) → Next w m (recycle i from next)
+  recycle_then w m i from next goes = let fits : Bool = leb (vref_version from + 1) LAST_VERSION in
+      let last : Program = cond fits (Do (FreeSlot i) (λ _. next true)) (next true) in
+      let back : ℕ → Program = λ k. Do (PutLink k) (λ _. last) in
+      let finish : ℕ → Program = λ k. Do (FinishLink k) (λ _. back k) in
+      let take : ℕ → Program = λ k. Do (TakeLink k) (λ _. finish k) in
+      let wins : Program = Do (LoadLink i (vref_version from + 1)) take in
+      then_does p q clients gives w m (Recycle i from) (λ found. cond (eqb found from) wins (next false)) tt (λ found. then_way p q clients gives w m (eqb found from) wins (next false)
+      (λ _. then_does p q clients gives w m (LoadLink i (vref_version from + 1)) take tt
+      (λ k. then_does p q clients gives w m (TakeLink k) (λ _. finish k) tt
+      (λ _. then_does p q clients gives w m (FinishLink k) (λ _. back k) tt
+      (λ _. then_does p q clients gives w m (PutLink k) (λ _. last) tt
+      (λ _. then_way p q clients gives w m fits (Do (FreeSlot i) (λ _. next true)) (next true) (λ _. then_does p q clients gives w m (FreeSlot i) (λ _. next true) tt (λ _. goes true)) (λ _. goes true))))))
+      (λ _. goes false))
 
   pub release_says : (w : Scene) (m : Mark) (i : ℕ) (next : Bool → Program) → ((b : Bool) → Next w m (next b)) → Tells w m (release i next)
   release_says w m i next goes = (
     tt,
     λ found v l s _. way p q clients gives v m ((vref_version found % 2 == 1) && (vref_nref found == 1)) (recycle i (found - 1) next) (next false) s
-        (λ _ _. recycle_says v m i (found - 1) next (λ b. then_on p q clients gives w v m (next b) l (goes b))) (λ _ s'. goes false v l s'),
+        (λ _ s'. recycle_then w m i (found - 1) next goes v l s') (λ _ s'. goes false v l s'),
   )
 
   pub address_says : (w : Scene) (m : Mark) (id : ℕ) (held : Program) (gone : ℕ → Program) → Next w m held → ((found : ℕ) → Next w m (gone found)) → Tells w m (address id held gone)

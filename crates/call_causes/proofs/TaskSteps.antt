@@ -29,19 +29,9 @@ abbrev IsStore : Step → ℕ → Type 0
 IsStore (StoreCall o id) k = o ≡ k
 IsStore other k = ⊥
 
--- the mark is the same, but for its slot and its bytes
-pub record IsLike (m m' : Mark) : Type 0 where
-  pub client : m'.client ≡ m.client
-  pub done : m'.done ≡ m.done
-  pub todo : m'.todo ≡ m.todo
-  pub makes : m'.makes ≡ m.makes
-  pub owes : m'.owes ≡ m.owes
-
-like_self : (m : Mark) → IsLike m m
-like_self m = record { client = refl; done = refl; todo = refl; makes = refl; owes = refl }
-
-like_slot : (m : Mark) (s : Slot) → IsLike m (with_slot s m)
-like_slot m s = record { client = refl; done = refl; todo = refl; makes = refl; owes = refl }
+-- the mark is the same, but for its slot, its link and its bytes
+abbrev pub IsLike : Mark → Mark → Type 0
+IsLike m m' = m' ≡ record m { slot = m'.slot; link = m'.link; bytes = m'.bytes }
 
 like_cond : (m x y : Mark) (b : Bool) → IsLike m x → IsLike m y → IsLike m (cond b x y)
 like_cond m x y true a c = a
@@ -114,23 +104,24 @@ module _ (p : Plan) (q : IdPlan) (clients : List (List Task)) (gives : ℕ → L
     -- ## A step that is no seat's but for its slot
 
     pub plain : (m' : Mark) → IsLike m m' → w'.births ≡ w.births → ((k : ℕ) → IsEnd step k → ⊥) → ((o : ℕ) → IsStore step o → ⊥) → Changes m'
-    plain m' like same none_ stored = record {
-      client = like.client;
-      placed = ap (λ d. undo p q clients gives d m'.todo) like.done ∙ ap (undo p q clients gives m.done) like.todo;
-      told = subst (λ c. AreTold p q clients gives w' c m'.done) (sym like.client) (subst (AreTold p q clients gives w' m.client) (sym like.done) told_still);
-      quiet = subst (λ c. AreQuiet p q clients gives w' os c m'.done) (sym like.client) (subst (AreQuiet p q clients gives w' os m.client) (sym like.done) quiet_still);
-      done = λ t x. subst (In t) (sym like.done) x;
-      begun = λ c u _ x. (x.0, x.1, ⊎_elim (λ d. inl (subst (In u) (sym like.done) d)) (λ y. inr (y.0, like.todo ∙ y.1, like.makes ∙ y.2)) x.2);
-      born = λ c x. inl (subst (In c) same x);
-      made = λ c is. subst (In c) (sym same) (law.made j m c at (sym like.makes ∙ is));
-      called = λ o inside begun. let z = calls_same step found b knows o inside (stored o) in inl ((λ e. begun (z ∙ e)), z);
-      fresh = λ u x. subst (λ bs. In u (ahead p q clients gives bs m.todo)) like.makes (subst (λ ts. In u (ahead p q clients gives m'.makes ts)) like.todo x);
-      owes = λ c is. inl (sym like.owes ∙ is);
-      owed_still = λ c is. like.owes ∙ is;
-      passed = λ c there over. ⊎_elim (λ before. inl before) (λ x. absurd (none_ (id_slot c.id) x.1)) (passed_or c there over);
-      current = current_still;
-      passed_on = over_still;
-    }
+    plain m' like same none_ stored = let same_client = ap (λ (x : Mark). x.client) like in let same_done = ap (λ (x : Mark). x.done) like in let same_todo = ap (λ (x : Mark). x.todo) like in
+        let same_makes = ap (λ (x : Mark). x.makes) like in let same_owes = ap (λ (x : Mark). x.owes) like in record {
+          client = same_client;
+          placed = ap (λ d. undo p q clients gives d m'.todo) same_done ∙ ap (undo p q clients gives m.done) same_todo;
+          told = subst (λ c. AreTold p q clients gives w' c m'.done) (sym same_client) (subst (AreTold p q clients gives w' m.client) (sym same_done) told_still);
+          quiet = subst (λ c. AreQuiet p q clients gives w' os c m'.done) (sym same_client) (subst (AreQuiet p q clients gives w' os m.client) (sym same_done) quiet_still);
+          done = λ t x. subst (In t) (sym same_done) x;
+          begun = λ c u _ x. (x.0, x.1, ⊎_elim (λ d. inl (subst (In u) (sym same_done) d)) (λ y. inr (y.0, same_todo ∙ y.1, same_makes ∙ y.2)) x.2);
+          born = λ c x. inl (subst (In c) same x);
+          made = λ c is. subst (In c) (sym same) (law.made j m c at (sym same_makes ∙ is));
+          called = λ o inside begun. let z = calls_same step found b knows o inside (stored o) in inl ((λ e. begun (z ∙ e)), z);
+          fresh = λ u x. subst (λ bs. In u (ahead p q clients gives bs m.todo)) same_makes (subst (λ ts. In u (ahead p q clients gives m'.makes ts)) same_todo x);
+          owes = λ c is. inl (sym same_owes ∙ is);
+          owed_still = λ c is. same_owes ∙ is;
+          passed = λ c there over. ⊎_elim (λ before. inl before) (λ x. absurd (none_ (id_slot c.id) x.1)) (passed_or c there over);
+          current = current_still;
+          passed_on = over_still;
+        }
 
   -- ## The call's word is stored
 
@@ -268,26 +259,18 @@ module _ (p : Plan) (q : IdPlan) (clients : List (List Task)) (gives : ℕ → L
   -- ## Each step
 
   pub changes : (step : Step) (found : Found step) → Behind step found → KnowsStep p q clients gives w step found → MayAside p q clients gives w m step → Changes (mark_after p q clients gives step found m)
-  changes (ClaimId i) found b knows may = plain (ClaimId i) found b knows may (cond (eqb found 0) (with_slot (Claims i None) m) m) (like_cond m (with_slot (Claims i None) m) m (eqb found 0) (like_slot m (Claims i None)) (like_self m)) b.births (λ k x. x) (λ o x. x)
-  changes (PutCall i asked) found b knows may = let s : Slot = Rattle.call_causes.specs.Says.put_in asked m.slot in plain (PutCall i asked) found b knows may (with_slot s m) (like_slot m s) b.births (λ k x. x) (λ o x. x)
+  changes (ClaimId i) found b knows may = plain (ClaimId i) found b knows may (cond (eqb found 0) (with_slot (Claims i None) m) m) (like_cond m (with_slot (Claims i None) m) m (eqb found 0) refl refl) b.births (λ k x. x) (λ o x. x)
+  changes (PutCall i asked) found b knows may = let s : Slot = Rattle.call_causes.specs.Says.put_in asked m.slot in plain (PutCall i asked) found b knows may (with_slot s m) refl b.births (λ k x. x) (λ o x. x)
   changes (MakeId i range) found b knows may = subst Changes (sym (ap (λ s. with_made (born_by p q clients gives (call_id i (parts found).first) (put_of p q clients gives s)) (with_slot NoSlot m)) may.3)) (news i range found b knows may)
   changes (StoreCall o id) found b knows may = subst Changes (sym (ap (λ ts. stored_by p q clients gives ts m) may.4)) (stores o id found b knows may)
-  changes (LoadCall o) found b knows may = plain (LoadCall o) found b knows may m (like_self m) b.births (λ k x. x) (λ o x. x)
-  changes (StoreAt o x) found b knows may = plain (StoreAt o x) found b knows may m (like_self m) b.births (λ k x. x) (λ o x. x)
-  changes (LoadAt o) found b knows may = plain (LoadAt o) found b knows may m (like_self m) b.births (λ k x. x) (λ o x. x)
-  changes (LoadIdWord i) found b knows may = plain (LoadIdWord i) found b knows may m (like_self m) b.births (λ k x. x) (λ o x. x)
   changes (LockId i from) found b knows may = let x : Mark = with_slot (Locked i (parts from).first (shape_of (parts from))) m in
-      plain (LockId i from) found b knows may (cond (eqb found from) x m) (like_cond m x m (eqb found from) (like_slot m (Locked i (parts from).first (shape_of (parts from)))) (like_self m)) b.births (λ k x. x) (λ o x. x)
+      plain (LockId i from) found b knows may (cond (eqb found from) x m) (like_cond m x m (eqb found from) refl refl) b.births (λ k x. x) (λ o x. x)
   changes (PostId i from e) found b knows may = let x : Mark = with_slot (Locked i (parts from).first (shape_of (parts from))) m in let y : Mark = cond (eqb (parts from).state 1) x m in
-      plain (PostId i from e) found b knows may (cond (eqb found from) y m) (like_cond m y m (eqb found from) (like_cond m x m (eqb (parts from).state 1) (like_slot m (Locked i (parts from).first (shape_of (parts from)))) (like_self m)) (like_self m)) b.births (λ k x. x) (λ o x. x)
+      plain (PostId i from e) found b knows may (cond (eqb found from) y m) (like_cond m y m (eqb found from) (like_cond m x m (eqb (parts from).state 1) refl refl) refl) b.births (λ k x. x) (λ o x. x)
   changes (UnlockId i from advance) found b knows may = let x : Mark = with_slot NoSlot m in let z : Mark = with_slot (Rattle.call_causes.specs.Says.with_attempt (parts (Rattle.call_causes.specs.Says.unlocked_by from advance)).attempt m.slot) m in let y : Mark = cond (eqb (parts from).oldest 0) x z in
-      plain (UnlockId i from advance) found b knows may (cond (eqb found from) y m) (like_cond m y m (eqb found from) (like_cond m x z (eqb (parts from).oldest 0) (like_slot m NoSlot) (like_slot m (Rattle.call_causes.specs.Says.with_attempt (parts (Rattle.call_causes.specs.Says.unlocked_by from advance)).attempt m.slot))) (like_self m)) b.births (λ k x. x) (λ o x. x)
+      plain (UnlockId i from advance) found b knows may (cond (eqb found from) y m) (like_cond m y m (eqb found from) (like_cond m x z (eqb (parts from).oldest 0) refl refl) refl) b.births (λ k x. x) (λ o x. x)
   changes (EndId i) found b knows may = subst Changes (sym (ap (λ s. with_owed (ended_of p q clients gives s) (with_slot (Leaves i) m)) may.3)) (finishes i found b knows may)
-  changes (FreeId i) found b knows may = plain (FreeId i) found b knows may (with_slot NoSlot m) (like_slot m NoSlot) b.births (λ k x. x) (λ o x. x)
-  changes (TakeCall i) found b knows may = let s : Slot = Rattle.call_causes.specs.Says.taken_out found m.slot in plain (TakeCall i) found b knows may (with_slot s m) (like_slot m s) b.births (λ k x. x) (λ o x. x)
-  changes (TakeBytes k room) (Bytes bytes) b knows may = plain (TakeBytes k room) (Bytes bytes) b knows may (Rattle.call_causes.specs.Says.with_bytes (m.bytes ++ bytes) m) (record { client = refl; done = refl; todo = refl; makes = refl; owes = refl }) b.births (λ k x. x) (λ o x. x)
-  changes (TakeBytes k room) asides.Nothing b knows may = plain (TakeBytes k room) asides.Nothing b knows may m (like_self m) b.births (λ k x. x) (λ o x. x)
-  changes (TakeBytes k room) asides.NoMore b knows may = plain (TakeBytes k room) asides.NoMore b knows may m (like_self m) b.births (λ k x. x) (λ o x. x)
-  changes (TakeBytes k room) asides.AtEnd b knows may = plain (TakeBytes k room) asides.AtEnd b knows may m (like_self m) b.births (λ k x. x) (λ o x. x)
-  changes (TakeBytes k room) asides.Closed b knows may = plain (TakeBytes k room) asides.Closed b knows may m (like_self m) b.births (λ k x. x) (λ o x. x)
-  changes (TakeBytes k room) asides.Broken b knows may = plain (TakeBytes k room) asides.Broken b knows may m (like_self m) b.births (λ k x. x) (λ o x. x)
+  changes (FreeId i) found b knows may = plain (FreeId i) found b knows may (with_slot NoSlot m) refl b.births (λ k x. x) (λ o x. x)
+  changes (TakeCall i) found b knows may = let s : Slot = Rattle.call_causes.specs.Says.taken_out found m.slot in plain (TakeCall i) found b knows may (with_slot s m) refl b.births (λ k x. x) (λ o x. x)
+  changes (TakeBytes k room) (Bytes bytes) b knows may = plain (TakeBytes k room) (Bytes bytes) b knows may (Rattle.call_causes.specs.Says.with_bytes (m.bytes ++ bytes) m) refl b.births (λ k x. x) (λ o x. x)
+  changes step found b knows may = plain step found b knows may m refl b.births (λ k x. x) (λ o x. x)

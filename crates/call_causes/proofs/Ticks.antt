@@ -34,6 +34,7 @@ use Rattle.id_runs.proofs.Loops.{ids_round}
 use Rattle.id_runs.proofs.Programs.{block_goes}
 use Rattle.id_runs.proofs.Owners.{steps_on}
 use Rattle.owed_calls.proofs.OwingTicks.{message_there}
+use Rattle.owed_calls.specs.sock_steps.proofs.Maps.{set_twice}
 use Rattle.call_causes.specs.Lists.{advances_by, advanced_with, advanced_at}
 use Rattle.call_causes.specs.Posts.{Post, posts_by, posted_with, posted_at}
 use Rattle.call_causes.specs.Decided.{Decision, decision_in, decided_at}
@@ -53,7 +54,7 @@ use Rattle.call_causes.proofs.Claiming.{HaveSlots, has_room, claims_after_step}
 use Rattle.call_causes.proofs.Links.{reads_after_step}
 use Rattle.call_causes.proofs.Knowing.{is_sized, are_low, finds, knows}
 use Rattle.call_causes.proofs.SockWords.{IsInside, names_after, AreOther, codes_after}
-use Rattle.call_causes.proofs.Chains.{sayings_of, AreFewTries, KeepsFew, set_twice}
+use Rattle.call_causes.proofs.Chains.{sayings_of, AreFewTries, KeepsFew}
 use Rattle.call_causes.proofs.Kept.{kept_slots, kept_claims, kept_reads}
 use Rattle.call_causes.proofs.AsideTicks.{sayings_keep, overs_keep, is_later, aside_ticks}
 use Rattle.call_causes.proofs.SockTicks.{IsBeside, beside_later, beside_slots, beside_births, beside_tasks, beside_said, beside_ticks}

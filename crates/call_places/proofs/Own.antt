@@ -61,23 +61,23 @@ module _ {O : Type 0} (g : Ghosts O) (state : O → OutState) (p : Plan) (q : id
     operation = λ n x at by s t a. by_one (operates x by s t a) s.me.0 t.me.0 (acted_grows state p q x.number x.op by s t a);
   }
 
-  -- the task was made, as one of these deeds, and its outcome is told
-  pub record IsMade (ds : List (Deed g state p q)) (told : List Told) (x : Task) : Type 0 where
-    pub place : ℕ
+  pub record Making (x : Task) : Type 0 where
     pub by : Option Outcome
     pub before : Stand g
     pub after : Stand g
     pub acted : Acted state p q x.number x.op by before after
-    pub there : get_elem? ds place ≡ some (operates x by before after acted)
-    pub tells : (o : Outcome) → by ≡ Some o → (i : ℕ) × (get_elem? told i ≡ some (record { number = x.number; outcome = o }))
+
+  -- the task was made, as one of these deeds, and its outcome is told
+  pub record IsMade (ds : List (Deed g state p q)) (told : List Told) (x : Task) : Type 0 where
+    pub place : ℕ
+    pub how : Making x
+    pub there : get_elem? ds place ≡ some (operates x how.by how.before how.after how.acted)
+    pub tells : (o : Outcome) → how.by ≡ Some o → (i : ℕ) × (get_elem? told i ≡ some (record { number = x.number; outcome = o }))
 
   made_first : (ds es : List (Deed g state p q)) (told more : List Told) (x : Task) → IsMade ds told x → IsMade (ds ++ es) (told ++ more) x
   made_first ds es told more x m = record {
     place = m.place;
-    by = m.by;
-    before = m.before;
-    after = m.after;
-    acted = m.acted;
+    how = m.how;
     there = append_first ds es m.place _ m.there;
     tells = λ o e. (let i = m.tells o e in (i.0, append_first told more i.0 _ i.1));
   }
@@ -85,10 +85,7 @@ module _ {O : Type 0} (g : Ghosts O) (state : O → OutState) (p : Plan) (q : id
   made_now : (ds waited : List (Deed g state p q)) (told : List Told) (x : Task) (by : Option Outcome) (s t : Stand g) (a : Acted state p q x.number x.op by s t) → IsMade (ds ++ (waited ++ operates x by s t a ∷ [])) (told ++ telling x.number by) x
   made_now ds waited told x by s t a = let now : Deed g state p q = operates x by s t a in record {
     place = length ds + (length waited + 0);
-    by = by;
-    before = s;
-    after = t;
-    acted = a;
+    how = record { by = by; before = s; after = t; acted = a };
     there = append_later ds (waited ++ now ∷ []) (length waited + 0) now (append_later waited (now ∷ []) 0 now refl);
     tells = told_last x.number by told;
   }

@@ -266,7 +266,7 @@ module _ {O : Type 0} {g : Ghosts O} {state : O → OutState} {readers : List (L
       -- the place words tell an order of each link
       pub are_places : ArePlaces places
       are_places = record {
-        tell = λ n. by_word n (none_or_message n);
+        tell = λ n. ⊎_elim (λ e. inl e) (λ w. inr (tells n w.0 w.1 w.2).1.has_position) (none_or_message n);
         once = λ a b k i h u. (
             let x = message_at a k i h in
             let y = message_at b k i u in
@@ -279,10 +279,6 @@ module _ {O : Type 0} {g : Ghosts O} {state : O → OutState} {readers : List (L
             );
       }
         where
-          by_word : (n : ℕ) → (word_at places n ≡ no_place) ⊎ ((k i : ℕ) × IsMessage n k i) → (word_at places n ≡ no_place) ⊎ HasPosition (word_at places n)
-          by_word n (inl e) = inl e
-          by_word n (inr w) = inr ((tells n w.0 w.1 w.2).1.has_position)
-
           below : (k lower : ℕ) (e : Entry) → k < p.links → get_elem? (on k accepted) lower ≡ some e → (b : Label) × StandsAt places b k lower
           below k lower e low_link at =
               let same : e.heading.place ≡ 8 * (e.heading.place / 8) + e.heading.place % 8 = omega arith in
@@ -292,9 +288,9 @@ module _ {O : Type 0} {g : Ghosts O} {state : O → OutState} {readers : List (L
       -- ## Sends
 
       -- the message of a send that was accepted has a place
-      pub send_placed : (j : ℕ) (c : Client g state p (ids_of p slots)) → get_elem? all j ≡ some c → (t : Task) (n : ℕ) (bytes : List ℕ) → t.op ≡ ops.Send n bytes → (m : IsMade g state p (ids_of p slots) (deeds_of c) c.thread.ended.outcomes.items t) → m.by ≡ None → HasPosition (word_at places (8 * t.number))
+      pub send_placed : (j : ℕ) (c : Client g state p (ids_of p slots)) → get_elem? all j ≡ some c → (t : Task) (n : ℕ) (bytes : List ℕ) → t.op ≡ ops.Send n bytes → (m : IsMade g state p (ids_of p slots) (deeds_of c) c.thread.ended.outcomes.items t) → m.how.by ≡ None → HasPosition (word_at places (8 * t.number))
       send_placed j c at t n bytes is m untold =
-          let e = send_entry state p (ids_of p slots) t.number n bytes t.op is m.by untold m.before m.after m.acted in
+          let e = send_entry state p (ids_of p slots) t.number n bytes t.op is m.how.by untold m.how.before m.how.after m.how.acted in
           let own = flat_there entries_of (deeds_of c) m.place _ 0 e.0 m.there e.1 in
           let seat = behind_own readers (map own_of all) j in
           let list = map_back (λ a. pick a run.closed.ordered.by accepted) run.closed.ordered.names seat.0 (own_of c) (ap (λ l. get_elem? l seat.0) (sym run.closed.ordered.lists_are ∙ lists_are) ∙ (seat.1 ∙ map_there own_of all j c at)) in

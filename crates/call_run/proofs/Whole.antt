@@ -47,7 +47,7 @@ twice f h (x ∷ xs) = ap (λ l. h (f x) ∷ l) (twice f h xs)
 module _ {O : Type 0} {g : Ghosts O} (state : O → OutState) (z : TableId) (p : Plan) (y : TableId) (q : id_plan.Plan) (c : Crew O g) (m : Worker O g) (names : List ℕ) (ys : List (Worker O g)) (l1 l2 : Left O g)
     (is : IsCrew z p y q c.main.tasks.items (made_by c.workers.items) c) (h : HasWorked state z p y q [] c.main m) (named : names ≡ opened_names m.caller.outcomes.items (openings c.main.tasks.items)) (len : length ys ≡ length c.workers.items)
     (each : (i : ℕ) (d : Worker O g) → i < length c.workers.items → HasWorked state z p y q names (get_or c.workers.items i d) (get_or ys i d))
-    (whole : List (Worker O g)) (one : HandedIn (m ∷ []) c.left l1) (all : HandedIn whole l1 l2) (lent : whole ≡ ys) where
+    (whole : List (Worker O g)) (one : HandedIn (m ∷ []) c.kit.left l1) (all : HandedIn whole l1 l2) (lent : whole ≡ ys) where
   woven : Woven z p y q state names (opens_of c.main.tasks.items) c.workers.items ys
   woven = weave z p y q state names 1 (opens_of c.main.tasks.items) c.workers.items ys len is.hired each
 
@@ -55,19 +55,19 @@ module _ {O : Type 0} {g : Ghosts O} (state : O → OutState) (z : TableId) (p :
   main_id = one_id z p y q state [] 0 0 c.main m h is.main_hired
 
   seats : l2.seats.items ≡ m.caller.seat ∷ map (λ (w : Worker O g). w.caller.seat) ys
-  seats = one_and (λ (w : Worker O g). w.caller.seat) c.left.seats.items l1.seats.items l2.seats.items m.caller.seat whole ys is.left.seats.0 one.seats all.seats lent
+  seats = one_and (λ (w : Worker O g). w.caller.seat) c.kit.left.seats.items l1.seats.items l2.seats.items m.caller.seat whole ys is.kit.left.seats.0 one.seats all.seats lent
 
   ids : l2.ids.items ≡ m.caller.calls.seat ∷ map (λ (w : Worker O g). w.caller.calls.seat) ys
-  ids = one_and (λ (w : Worker O g). w.caller.calls.seat) c.left.ids.items l1.ids.items l2.ids.items m.caller.calls.seat whole ys is.left.ids.0 one.ids all.ids lent
+  ids = one_and (λ (w : Worker O g). w.caller.calls.seat) c.kit.left.ids.items l1.ids.items l2.ids.items m.caller.calls.seat whole ys is.kit.left.ids.0 one.ids all.ids lent
 
   told : l2.told.items ≡ m.caller.outcomes ∷ map (λ (w : Worker O g). w.caller.outcomes) ys
-  told = one_and (λ (w : Worker O g). w.caller.outcomes) c.left.told.items l1.told.items l2.told.items m.caller.outcomes whole ys is.left.told.0 one.told all.told lent
+  told = one_and (λ (w : Worker O g). w.caller.outcomes) c.kit.left.told.items l1.told.items l2.told.items m.caller.outcomes whole ys is.kit.left.told.0 one.told all.told lent
 
   ended : l2.ended.items ≡ m.caller.calls.told ∷ map (λ (w : Worker O g). w.caller.calls.told) ys
-  ended = one_and (λ (w : Worker O g). w.caller.calls.told) c.left.ended.items l1.ended.items l2.ended.items m.caller.calls.told whole ys is.left.ended.0 one.ended all.ended lent
+  ended = one_and (λ (w : Worker O g). w.caller.calls.told) c.kit.left.ended.items l1.ended.items l2.ended.items m.caller.calls.told whole ys is.kit.left.ended.0 one.ended all.ended lent
 
   short : l2.short ≡ ((m.short || false) || list_any (λ (w : Worker O g). w.short) ys)
-  short = all.short ∙ (λ i. ((one.short ∙ ap (λ (b : Bool). b || (m.short || false)) is.left.calm) i || ap (list_any (λ (w : Worker O g). w.short)) lent i))
+  short = all.short ∙ (λ i. ((one.short ∙ ap (λ (b : Bool). b || (m.short || false)) is.kit.left.calm) i || ap (list_any (λ (w : Worker O g). w.short)) lent i))
 
   -- these are the seats of the table of sockets that they had
   pub all_left : IsLeft z p (length (made_by c.workers.items) + 1) l2.seats.items

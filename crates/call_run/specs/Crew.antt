@@ -23,6 +23,7 @@ use Rattle.rpc_reader.specs.Seats.{IsOpen}
 use Rattle.call_run.specs.declared.hiring.Room.{Room}
 use Rattle.call_run.specs.declared.worker.Worker.{Worker}
 use Rattle.call_run.specs.declared.leaving.Left.{Left}
+use Rattle.call_run.specs.declared.running.Kit.{Kit}
 use Rattle.call_run.specs.declared.running.Cast.{Cast}
 use Rattle.call_run.specs.declared.running.Crew.{Crew}
 use Rattle.call_run.specs.declared.running.Ran.{Ran}
@@ -66,6 +67,13 @@ AreLeft y = Each (λ s. IsOpen y s × (s.me.1 ≡ []))
 
 -- ## Those that run
 
+-- the openings of the setup, and room for their names and for what so many clients and the setup leave
+pub record IsKit {O : Type 0} {g : Ghosts O} (setup : List Task) (clients : ℕ) (k : Kit O g) : Type 0 where
+  pub openings_are : k.openings.items ≡ openings setup
+  pub names : IsRoom (length (openings setup)) k.names
+  pub left : IsRoomFor (clients + 1) k.left
+  pub last : IsRoom 1 k.last
+
 -- there is room for these clients and what they leave
 pub record IsCast {O : Type 0} {g : Ghosts O} (setup : List Task) (clients : List (List Task)) (c : Cast O g) : Type 0 where
   pub main_is : c.main.tasks.items ≡ setup
@@ -73,10 +81,7 @@ pub record IsCast {O : Type 0} {g : Ghosts O} (setup : List Task) (clients : Lis
   pub rooms : All HasRoom c.rooms.items
   pub tasks : map (λ (r : Room O g). r.tasks.items) c.rooms.items ≡ clients
   pub workers : IsRoom (length clients) c.workers
-  pub openings_are : c.openings.items ≡ openings setup
-  pub names : IsRoom (length (openings setup)) c.names
-  pub left : IsRoomFor (length clients + 1) c.left
-  pub last : IsRoom 1 c.last
+  pub kit : IsKit setup (length clients) c.kit
 
 -- each has its seats and the passes of its links
 pub record IsCrew {O : Type 0} {g : Ghosts O} (z : TableId) (p : Plan) (y : TableId) (q : id_plan.Plan) (setup : List Task) (clients : List (List Task)) (c : Crew O g) : Type 0 where
@@ -85,10 +90,7 @@ pub record IsCrew {O : Type 0} {g : Ghosts O} (z : TableId) (p : Plan) (y : Tabl
   pub hired : AreHired z p y 1 (opens_of setup) c.workers.items
   pub tasks : map (λ (w : Worker O g). w.tasks.items) c.workers.items ≡ clients
   pub may : MayRunAll p q setup clients
-  pub openings_are : c.openings.items ≡ openings setup
-  pub names : IsRoom (length (openings setup)) c.names
-  pub left : IsRoomFor (length clients + 1) c.left
-  pub last : IsRoom 1 c.last
+  pub kit : IsKit setup (length clients) c.kit
 
 -- all operations were made and all sockets ended, unless memory was wanting; what is left stands for a seat of each table for each client and the setup, in one seat of that of sockets
 pub record CrewRan {O : Type 0} {g : Ghosts O} (state : O → OutState) (z : TableId) (p : Plan) (y : TableId) (q : id_plan.Plan) (setup : List Task) (clients : List (List Task)) (opens : List ℕ) (l : Left O g) : Type 0 where

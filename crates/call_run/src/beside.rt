@@ -73,9 +73,9 @@ fn set_stage<O: Out, I: In, P: Peer>(
     ensures { IfOk result (IsStage plan.now slots links setup.items (map (λ v. v.items) clients.items)) }
 {
     let room = rooms(alloc, plan)?;
-    let cast = prepare(alloc, setup, clients)?;
     let links = room_for_links(alloc, links)?;
     let (ids, id_seats) = IdTable::new(alloc, slots, plan.operations, plan.seats)?;
+    let cast = prepare(alloc, setup, clients)?;
     Ok(Stage {
         room,
         cast,
@@ -226,13 +226,6 @@ pub fn run_beside<
     let Ok(stage) = set_stage(alloc, plan, slots, setup, clients, rests.len()) else {
         return Err(NoneBeside { outs, rests });
     };
-    let Stage {
-        room,
-        cast,
-        mut links,
-        ids,
-        mut id_seats,
-    } = stage;
     match new_table(alloc, plan, outs) {
         Ok(
             Made {
@@ -241,6 +234,13 @@ pub fn run_beside<
                 passes,
             },
         ) => {
+            let Stage {
+                room,
+                cast,
+                mut links,
+                ids,
+                mut id_seats,
+            } = stage;
             let tables = Tables { socks: table, ids };
             seat_links(
                 alloc,
@@ -255,6 +255,9 @@ pub fn run_beside<
             let (left, links) = run_both(rt, &tables, gate, opens, calls, crew, links);
             end_both(tables, room, left, links)
         }
-        Err(NoTable { outs }) => Err(NoneBeside { outs, rests }),
+        Err(NoTable { outs }) => {
+            drop(stage);
+            Err(NoneBeside { outs, rests })
+        }
     }
 }

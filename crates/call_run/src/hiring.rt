@@ -1,5 +1,5 @@
 // The clients of a script get their seats and their passes.
-ghost use Rattle.std.specs.Prelude.{◌≡◌, ◌-◌, ◌≤◌, ◌++◌, All, IfOk, length, map};
+ghost use Rattle.std.specs.Prelude.{◌≡◌, ◌-◌, ◌<◌, ◌≤◌, ◌++◌, ◌∷◌, [], All, IfOk, length, map};
 ghost use Rattle.atomic_table.specs.Seated.{TableId};
 ghost use Rattle.sock_words.specs.declared.plain.Plan.{Plan};
 ghost use Rattle.sock_table.specs.Passes.{IsPass};
@@ -99,6 +99,24 @@ pub fn hire<O: Out>(
     }
 }
 
+/// The next seat of each table, which stands last.
+pub fn next_seats<O: Out>(
+    seats: &mut Vec<SockSeat<O>>,
+    ids: &mut Vec<IdSeat<Call>>,
+) -> (SockSeat<O>, IdSeat<Call>)
+    requires { (0 < length seats.old.items) × (0 < length ids.old.items) }
+    ensures seats { seats.old.items ≡ seats.new.items ++ result.0 ∷ [] }
+    ensures ids { ids.old.items ≡ ids.new.items ++ result.1 ∷ [] }
+{
+    let Some(seat) = seats.pop() else {
+        unreachable!();
+    };
+    let Some(id_seat) = ids.pop() else {
+        unreachable!();
+    };
+    (seat, id_seat)
+}
+
 /// Each client gets a seat of both tables, and the next passes.
 pub fn hire_all<O: Out>(
     alloc: Global,
@@ -117,12 +135,7 @@ pub fn hire_all<O: Out>(
 {
     let mut number = 0u16;
     'hires: for room in rooms {
-        let Some(seat) = seats.pop() else {
-            unreachable!();
-        };
-        let Some(id_seat) = ids.pop() else {
-            unreachable!();
-        };
+        let (seat, id_seat) = next_seats(seats, ids);
         number += 1;
         let worker = hire(alloc, number, room, seat, id_seat, all);
         workers.push_reserved(worker);

@@ -25,15 +25,11 @@ pub struct Left<O: Out> {
 pub fn room_to_leave<O: Out>(alloc: Global, count: usize) -> Result<Left<O>, AllocError>
     ensures { IfOk result (IsRoomFor count) }
 {
-    let seats = Vec::with_capacity(alloc, count)?;
-    let ids = Vec::with_capacity(alloc, count)?;
-    let told = Vec::with_capacity(alloc, count)?;
-    let ended = Vec::with_capacity(alloc, count)?;
     Ok(Left {
-        seats,
-        ids,
-        told,
-        ended,
+        seats: Vec::with_capacity(alloc, count)?,
+        ids: Vec::with_capacity(alloc, count)?,
+        told: Vec::with_capacity(alloc, count)?,
+        ended: Vec::with_capacity(alloc, count)?,
         short: false,
     })
 }

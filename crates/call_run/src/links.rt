@@ -6,6 +6,7 @@ ghost use Rattle.corr_id.specs.Opening.{AreNew};
 ghost use Rattle.link_crew.specs.Beside.{IsReady};
 ghost use Rattle.call_run.specs.Links.{AreSeated, rest_of, HaveWorked, IsLinksRoom, HasMoreLinks, PartedOne, AreParted};
 
+use crate::hiring::next_seats;
 use crate::leaving::either;
 use call_client::{Tables, Told};
 use corr_id::IdSeat;
@@ -45,17 +46,12 @@ fn room_left<O: Out, I: In, P: Peer>(
     requires { count ≤ 64 }
     ensures { IfOk result (IsLinksRoom count) }
 {
-    let rests = VecDeque::with_capacity(alloc, count)?;
-    let seats = Vec::with_capacity(alloc, count + 1)?;
-    let ids = Vec::with_capacity(alloc, count)?;
-    let told = Vec::with_capacity(alloc, count)?;
-    let early = Vec::with_capacity(alloc, count)?;
     Ok(LinksLeft {
-        rests,
-        seats,
-        ids,
-        told,
-        early,
+        rests: VecDeque::with_capacity(alloc, count)?,
+        seats: Vec::with_capacity(alloc, count + 1)?,
+        ids: Vec::with_capacity(alloc, count)?,
+        told: Vec::with_capacity(alloc, count)?,
+        early: Vec::with_capacity(alloc, count)?,
         short: false,
     })
 }
@@ -101,12 +97,7 @@ pub fn seat_links<O: Out, I: In, P: Peer>(
         let Some(rest) = rests.pop_front() else {
             unreachable!();
         };
-        let Some(seat) = seats.pop() else {
-            unreachable!();
-        };
-        let Some(id_seat) = ids.pop() else {
-            unreachable!();
-        };
+        let (seat, id_seat) = next_seats(seats, ids);
         let Rest { inn, peer } = rest;
         let beside = Beside::new(alloc, seat, id_seat, link, *operation, inn, peer);
         besides.push_reserved(beside);

@@ -8,7 +8,7 @@ ghost use Rattle.call_run.specs.Threads.{MayRunAll};
 ghost use Rattle.call_run.specs.Crew.{IsLeft, IsCast, IsCrew, CrewRan, HasEnded, AreBack};
 
 use crate::failing::end_sockets;
-use crate::hiring::{Room, hire, hire_all, room_for, rooms_for};
+use crate::hiring::{Room, hire, hire_all, next_seats, room_for, rooms_for};
 use crate::leaving::{Left, hand_in, hand_in_all, room_to_leave};
 use crate::opened::{Opening, opened_names, openings};
 use crate::worker::{Worker, run_workers};
@@ -45,12 +45,19 @@ pub struct NoRun<O: Out> {
     pub outs: Vec<O>,
 }
 
-/// All that a run needs of memory before its tables are made. `last` has room for the seat that takes in all others.
+/// All that a run needs of memory before its tables are made.
 #[derive(Drop)]
 pub struct Cast<O: Out> {
     pub main: Room<O>,
     pub rooms: Vec<Room<O>>,
     pub workers: Vec<Worker<O>>,
+    pub kit: Kit<O>,
+}
+
+/// What a run has besides its clients: the `open`s of the setup, room for the names that they open and for what is left, and
+/// `last` with room for the seat that takes in all others.
+#[derive(Drop)]
+pub struct Kit<O: Out> {
     pub openings: Vec<Opening>,
     pub names: Vec<u16>,
     pub left: Left<O>,
@@ -70,18 +77,21 @@ pub fn prepare<O: Out>(
     let openings = openings(alloc, &setup)?;
     let names = Vec::with_capacity(alloc, openings.len())?;
     let workers = Vec::with_capacity(alloc, count)?;
-    let left = room_to_leave(alloc, count + 1)?;
     let last = Vec::with_capacity(alloc, 1)?;
-    let main = room_for(alloc, setup)?;
     let rooms = rooms_for(alloc, clients)?;
-    Ok(Cast {
-        main,
-        rooms,
-        workers,
+    let main = room_for(alloc, setup)?;
+    let left = room_to_leave(alloc, count + 1)?;
+    let kit = Kit {
         openings,
         names,
         left,
         last,
+    };
+    Ok(Cast {
+        main,
+        rooms,
+        workers,
+        kit,
     })
 }
 
@@ -90,10 +100,7 @@ pub fn prepare<O: Out>(
 pub struct Crew<O: Out> {
     pub main: Worker<O>,
     pub workers: Vec<Worker<O>>,
-    pub openings: Vec<Opening>,
-    pub names: Vec<u16>,
-    pub left: Left<O>,
-    pub last: Vec<SockSeat<O>>,
+    pub kit: Kit<O>,
 }
 
 /// Each client gets its seats, and the passes of its links.
@@ -119,18 +126,10 @@ pub fn crew_of<O: Out>(
         main,
         rooms,
         mut workers,
-        openings,
-        names,
-        left,
-        last,
+        kit,
     } = cast;
     passes.reverse();
-    let Some(seat) = dealt.pop() else {
-        unreachable!();
-    };
-    let Some(id_seat) = ids.pop() else {
-        unreachable!();
-    };
+    let (seat, id_seat) = next_seats(&mut dealt, &mut ids);
     let main = hire(alloc, 0, main, seat, id_seat, &mut passes);
     hire_all(
         alloc,
@@ -141,14 +140,7 @@ pub fn crew_of<O: Out>(
         &mut passes,
         &mut workers,
     );
-    Crew {
-        main,
-        workers,
-        openings,
-        names,
-        left,
-        last,
-    }
+    Crew { main, workers, kit }
 }
 
 /// Main makes the setup. Then each client makes its operations, on a thread of its own, once it found what the setup opened.
@@ -167,11 +159,14 @@ pub fn run_crew<O: Out + Send, G: Gate + Sync, R: Threads + Wait + Sync>(
     let Crew {
         mut main,
         mut workers,
+        kit,
+    } = crew;
+    let Kit {
         openings,
         mut names,
         mut left,
         last,
-    } = crew;
+    } = kit;
     main.work(rt, tables, &[], &OpenGate);
     opened_names(
         main.caller.outcomes.as_slice(),
@@ -222,6 +217,7 @@ pub fn end<O: Out>(tables: Tables<O>, room: Closed<O>, left: Left<O>) -> Result<
         outs,
     } = socks.close_in(room, seats);
     if short {
+        drop(ids);
         return Err(NoRun { outs });
     }
     Ok(Ran {

@@ -6,3 +6,4 @@ mod opening;
 mod words;
 
 pub use call_slots::CallSlots;
+pub use opening::push_zeros;

@@ -25,7 +25,7 @@ fn push_slots(words: &mut Vec<u64>, slots: u16) -> Result<(), AllocError>
 }
 
 /// Appends so many zeros.
-fn push_zeros(words: &mut Vec<u64>, count: usize) -> Result<(), AllocError>
+pub fn push_zeros(words: &mut Vec<u64>, count: usize) -> Result<(), AllocError>
     ensures { OnOk result (words.new.items ≡ words.old.items ++ replicate count 0) }
 {
     for _ in 0..count {

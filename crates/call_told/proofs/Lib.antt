@@ -2,6 +2,7 @@ pub mod Lists
 pub mod Noting
 pub mod Given
 pub mod Gains
+pub mod Steps
 pub mod Ending
 pub mod Linked
 pub mod Clients

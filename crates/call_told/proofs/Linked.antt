@@ -9,11 +9,12 @@ use Rattle.call_deeds.specs.Below.rpc_reader.specs.Books.{Books}
 use Rattle.call_deeds.specs.Below.rpc_reader.specs.Reading.{code_of}
 use Rattle.call_deeds.specs.Below.rpc_reader.specs.Running.{ReadLink}
 use Rattle.call_deeds.specs.Below.rpc_reader.specs.Resting.{RestEnded}
-use Rattle.call_told.specs.Answers.{IsGiven, AreGiven, IsLossCode, at_end, at_fault, at_want, TellsFrom}
+use Rattle.call_told.specs.Answers.{IsGiven, AreGiven, IsLossCode, at_end, at_fault, at_want, ToldFrom, TellsFrom}
 use Rattle.call_told.proofs.Noting.{Later}
 use Rattle.call_told.proofs.Given.{given_by}
 use Rattle.call_told.proofs.Gains.{met_bytes, rest_bytes}
-use Rattle.call_told.proofs.Ending.{Step, step_then, frames_step, posted_all, rest_step}
+use Rattle.call_told.proofs.Ending.{Step, laws, posted_all, rest_step}
+use Rattle.call_told.proofs.Steps.{step_then, frames_step}
 
 pub loss_of : (h : How) → IsLossCode (code_of h)
 loss_of how.Fault = at_fault refl
@@ -33,8 +34,8 @@ module _ (q : ids.Plan) (link : ℕ) (calls : List ℕ) (ending short : Bool) (s
   -- where all responses of what it gave are among those of these links
   pub read_step : (links : ℕ) (gave : ℕ → List ℕ) → ((f : model.Frame) → IsGiven 1 (λ k. read_bytes) f → IsGiven links gave f) → Step q links gave b b'
   read_step links gave given = let m = r.met in let met = r.read.met in
-      step_then q links gave b m b'
-      (frames_step q links gave met.frames b m (λ i f at responds. given _ (given_by 1 (λ k. read_bytes) 0 cut_bytes (rest_bytes q link calls ending short s t b b' r) r.read.left met.frames (omega arith) refl met.cut i f at responds)) met.met)
+      step_then q links gave Later (ToldFrom q.slots links gave) (laws q links gave) b m b'
+      (frames_step q links gave Later (ToldFrom q.slots links gave) (laws q links gave) met.frames b m (λ i f at responds. given _ (given_by 1 (λ k. read_bytes) 0 cut_bytes (rest_bytes q link calls ending short s t b b' r) r.read.left met.frames (omega arith) refl met.cut i f at responds)) met.met)
       (posted_all q links gave (code_of r.how) (loss_of r.how) link calls m b' r.posted)
 
 -- ## What is left of calls

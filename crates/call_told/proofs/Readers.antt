@@ -17,11 +17,13 @@ use Rattle.call_deeds.specs.Below.rpc_reader.specs.Running.{ReadToEnd, ReadLink,
 use Rattle.call_deeds.specs.Below.call_run.specs.Readers.{LinkReader, nothing_read, IsReader, AreReaders}
 use Rattle.call_deeds.specs.call_places.proofs.Reader.{MadeNone, none_noted, none_reads}
 use Rattle.call_deeds.specs.call_places.proofs.Spans.{link_reads}
-use Rattle.call_told.specs.Answers.{IsGiven, TellsFrom}
+use Rattle.call_told.specs.Answers.{IsGiven, ToldFrom, TellsFrom}
 use Rattle.call_told.proofs.Lists.{some_same, all_then}
 use Rattle.call_told.proofs.Given.{given_first, given_later}
 use Rattle.call_told.proofs.Gains.{Gains, gains_none, gains_read, gains_tell}
-use Rattle.call_told.proofs.Ending.{Step, step_same}
+use Rattle.call_told.proofs.Ending.{Step, laws}
+use Rattle.call_told.proofs.Noting.{Later}
+use Rattle.call_told.proofs.Steps.{step_same}
 use Rattle.call_told.proofs.Linked.{read_bytes, read_step}
 use Rattle.call_told.proofs.Making.{AllMade, later_made, all_made}
 use Rattle.call_told.proofs.Growing.{own_at}
@@ -70,7 +72,7 @@ module _ (q : ids.Plan) (link : ℕ) (calls : List ℕ) (ending short : Bool) (s
   if_gains (Some id) v w b b' r = gains_read q link calls ending short s t b b' (link_read id.0 v w b b' r)
 
   if_step : (links : ℕ) (gave : ℕ → List ℕ) (o : Option SocketId) (v w : sock_view.View) (b b' : Books) (r : ReadIf q link calls ending short s t o v w b b') → ((f : model.Frame) → IsGiven 1 (λ k. if_bytes o v w b b' r) f → IsGiven links gave f) → Step q links gave b b'
-  if_step links gave None v w b b' r given = step_same q links gave b b' r.2
+  if_step links gave None v w b b' r given = step_same q links gave Later (ToldFrom q.slots links gave) (laws q links gave) b b' r.2
   if_step links gave (Some id) v w b b' r given = read_step q link calls ending short s t b b' (link_read id.0 v w b b' r) links gave given
 
 -- ## Readers

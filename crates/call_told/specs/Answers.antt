@@ -75,6 +75,13 @@ module _ (links : ℕ) (gave : ℕ → List ℕ) where
     by_code : (code : ℕ) → IsLossCode code → by ≡ CallFailed (id_of slot w) code → EndedBy slot w by
     by_response : (f : Frame) → IsGivenResponse links gave slot w f → by ≡ ending_of (id_of slot w) f → EndedBy slot w by
 
+-- what was told behind those before, of which this is known, and what is kept then
+pub record Tells (links : ℕ) (gave : ℕ → List ℕ) (Is : View Asked → Told → Type 0) (b b' : Books) : Type 0 where
+  pub more : List Told
+  pub told : b'.told ≡ b.told ++ more
+  pub each : AllByRecursion (Is b'.view) more
+  pub early : AreGiven links gave b'.early
+
 -- over so many id slots
 module _ (slots links : ℕ) (gave : ℕ → List ℕ) where
   -- what was told is the end of a call for which the seat had the lock
@@ -87,12 +94,8 @@ module _ (slots links : ℕ) (gave : ℕ → List ℕ) where
     pub number : x.number ≡ call.operation
     pub by : EndedBy links gave slot word x.outcome
 
-  -- what was told behind those before, and what is kept then
-  pub record TellsFrom (b b' : Books) : Type 0 where
-    pub more : List Told
-    pub told : b'.told ≡ b.told ++ more
-    pub each : AllByRecursion (ToldFrom b'.view) more
-    pub early : AreGiven links gave b'.early
+  abbrev pub TellsFrom : Books → Books → Type 0
+  TellsFrom b b' = Tells links gave ToldFrom b b'
 
 -- ## What clients tell
 

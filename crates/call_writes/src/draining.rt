@@ -20,20 +20,18 @@ fn tell_dropped<R: Wait>(
     rt: &R,
     ids: &IdTable<Call>,
     calls: &mut CallSeat,
-    msg: Undelivered,
+    msg: &Undelivered,
     code: u16,
 )
     requires ids { HasNoLock ids.now.table.shared.table_id calls.old }
     requires code { (1 ≤ code) × (code ≤ 4095) }
     ensures keeps { KeepsSeat ids.now.table.shared.table_id calls.old calls.new }
-    ensures told { ToldDrop ids.now.plan.slots msg code (stand_of calls.old) (stand_of calls.new) }
+    ensures told { ToldDrop ids.now.plan.slots msg.now code (stand_of calls.old) (stand_of calls.new) }
 {
     if msg.owner == 0 {
-        drop(msg);
         return;
     }
     post_error(rt, ids, calls, msg.owner, code, Some(msg.label.attempt));
-    drop(msg);
 }
 
 /// Writes until the head is empty. The call of each message that is dropped is told at once.
@@ -61,7 +59,8 @@ fn drain<O: Out, R: Wait>(
                 msg,
                 code,
             } => {
-                tell_dropped(rt, ids, calls, msg, code);
+                tell_dropped(rt, ids, calls, &msg, code);
+                drop(msg);
                 right = next;
             }
         }

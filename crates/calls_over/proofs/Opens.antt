@@ -229,13 +229,8 @@ module _ (calm : CalmRun) where
     open_call = record {
       inside = inside;
       open_ = is_open;
-      id = id;
-      slot = slot_is;
-      first = first_is;
-      attempt = word.attempt;
-      at = refl;
       versions = room;
-      small = let f = first_is in let l = first_low in omega (arith, f, l);
+      small = let l = first_low in omega (arith, l);
       asked = its_attempt.asked;
       link = is_read.link;
       opening = is_read.opening_;

@@ -28,6 +28,7 @@ use Rattle.corr_core.specs.declared.marks.Plan.{Plan as IdPlan}
 use Rattle.sock_message.specs.Asked.{request_of}
 use Rattle.seat_programs.specs.declared.task.Op.TheVariants as ops
 use Rattle.seat_programs.specs.declared.task.Task.{Task}
+use Rattle.corr_core.specs.Word.{Parts}
 use Rattle.seat_programs.specs.Asides.{id_slot, id_first}
 use Rattle.seat_programs.specs.Readers.{has_response, slot_in, version_in}
 use Rattle.seat_programs.specs.Cores.{Core}
@@ -44,7 +45,7 @@ use Rattle.served_fits.specs.Below.call_causes.proofs.Handled.{IsResp}
 use Rattle.served_fits.specs.served_runs.specs.Offered.{OffersInRun}
 use Rattle.served_fits.specs.served_runs.proofs.Frames.{IsPiece, reply_is}
 use Rattle.served_fits.specs.served_calls.proofs.Frames.{SaysReply, piece_has, reply_to, reply_says}
-use Rattle.calls_over.specs.Open.{before, OpenCall}
+use Rattle.calls_over.specs.Open.{before, open_word, open_id, OpenCall}
 use Rattle.calls_over.proofs.Given.{gave_before}
 use Rattle.calls_over.proofs.Handled.{in_soon}
 use Rattle.calls_over.proofs.SoonPieces.{IsLow}
@@ -105,35 +106,41 @@ module _ (bytes : List ℕ) (script : List Item) (reads : script_of bytes ≡ Ok
       (shape, contains_from script (Open m.0 shape) (subst (λ n. Has script (Open n shape)) (some_is x.0 m.0 (sym x.1 ∙ link)) x.2), serves)
 
   module _ (i : ℕ) (o : OpenCall script turns core is i) where
-    abbrev g : Frame
-    g = reply_to o.asked (o.id + o.attempt + 1)
+    abbrev word : Parts
+    word = open_word script turns core is i
 
-    says : SaysReply (o.id + o.attempt + 1) g
-    says = reply_says o.asked (o.id + o.attempt + 1) g refl
+    abbrev id : ℕ
+    id = open_id script turns core is i
+
+    abbrev g : Frame
+    g = reply_to o.asked (id + word.attempt + 1)
+
+    says : SaysReply (id + word.attempt + 1) g
+    says = reply_says o.asked (id + word.attempt + 1) g refl
 
     -- its link gave the reply
     given_there : Has (stream (given (before script turns core is) o.link)).frames g
     given_there = let s = stands_before script (made bytes script reads) there range turns core is closes offers o.link o.shape o.opened o.serves (no_stray o.link o.shape o.opened o.serves) in
-        subst (λ l. Has (stream l).frames g) (sym all) (reply_given (id_plan_of script) (before script turns core is) o.took (request_of o.asked o.id o.attempt) g (s.took o.took o.took_so) o.request refl)
+        subst (λ l. Has (stream l).frames g) (sym all) (reply_given (id_plan_of script) (before script turns core is) o.took (request_of o.asked id word.attempt) g (s.took o.took o.took_so) o.request refl)
       where
         all : given (before script turns core is) o.link ≡ flat_map frame_bytes (reply_frames o.took)
         all = gave_before script turns core is offers o.link o.shape o.opened o.seat o.seat_there o.reading o.next o.reads o.of_link o.took o.took_so
             ∙ (ap (λ b. cond b (given_for o.shape o.took) []) o.serves ∙ ap (λ e. flat_map frame_bytes (first_of e (reply_frames o.took))) (no_end o.link o.shape o.opened))
 
-    few : o.attempt ≤ 6
-    few = let v = o.versions in let eight : (id_word_of (before script turns core is) i).range ≤ 8 = omega arith in omega (arith, v, eight)
+    few : word.attempt ≤ 6
+    few = let v = o.versions in let eight : word.range ≤ 8 = omega arith in omega (arith, v, eight)
 
     slot_is : slot_in g ≡ i
-    slot_is = ap id_slot says.same_id ∙ ((let s = o.small in let f = few in let z : id_slot (o.id + o.attempt + 1) ≡ id_slot o.id = omega (arith, s, f) in z) ∙ o.slot)
+    slot_is = ap id_slot says.same_id ∙ (let s = o.small in let f = few in let z : id_slot (id + word.attempt + 1) ≡ i = omega (arith, s, f) in z)
 
-    version_is : version_in g ≡ id_first o.id + o.attempt + 1
-    version_is = ap id_first says.same_id ∙ (let s = o.small in let f = few in let z : id_first (o.id + o.attempt + 1) ≡ id_first o.id + o.attempt + 1 = omega (arith, s, f) in z)
+    version_is : version_in g ≡ word.first + word.attempt + 1
+    version_is = ap id_first says.same_id ∙ (let s = o.small in let f = few in let z : id_first (id + word.attempt + 1) ≡ word.first + word.attempt + 1 = omega (arith, s, f) in z)
 
     response : IsResp o.link (id_plan_of script).slots g
     response = both_true (has_response g.meta.response) (nat_lt (slot_in g) (id_plan_of script).slots) (responds g.meta.response says.response) (lt-ltb (slot_in g) (id_plan_of script).slots (let s = slot_is in let l = o.inside in omega (arith, s, l)))
 
     behind : (id_word_of (before script turns core is) (slot_in g)).first < version_in g
-    behind = subst (λ j. (id_word_of (before script turns core is) j).first < version_in g) (sym slot_is) (let f = o.first in let v = version_is in omega (arith, f, v))
+    behind = subst (λ j. (id_word_of (before script turns core is) j).first < version_in g) (sym slot_is) (let v = version_is in omega (arith, v))
 
     -- its link's reader would have ended it
     pub no_open_call : ⊥

@@ -6,7 +6,8 @@ use Rattle.brpc_model.specs.Items.{Item, Shape}
 use Rattle.brpc_model.specs.Operations.{Turn, link_shapes}
 use Rattle.brpc_model.specs.Stream.{stream}
 use Rattle.sock_message.specs.Asked.{Asked, request_of}
-use Rattle.seat_programs.specs.Asides.{id_slot, id_first}
+use Rattle.corr_core.specs.Word.{Parts}
+use Rattle.seat_programs.specs.Asides.{call_id}
 use Rattle.seat_programs.specs.Cores.{Core, SeatState}
 use Rattle.seat_programs.specs.Heads.{Exit, Reading, Reads}
 use Rattle.seat_programs.specs.Programs.{Program, Round}
@@ -21,18 +22,20 @@ module _ (script : List Item) (turns : List Turn) (core : Core) (is : IsRunWithC
   abbrev pub before : Core
   before = played script is.setup (is.scheduled ++ is.later)
 
+  -- the word of id slot i there, and its id
+  abbrev pub open_word : ℕ → Parts
+  open_word i = id_word_of before i
+
+  abbrev pub open_id : ℕ → ℕ
+  open_id i = call_id i (open_word i).first
+
   -- id slot i is open there
   pub record OpenCall (i : ℕ) : Type 0 where
-    -- its id, and the attempt at which it stands; their versions fit
+    -- its versions fit
     pub inside : i < (id_plan_of script).slots
-    pub open_ : (id_word_of before i).state ≡ 1
-    pub id : ℕ
-    pub slot : id_slot id ≡ i
-    pub first : id_first id ≡ (id_word_of before i).first
-    pub attempt : ℕ
-    pub at : (id_word_of before i).attempt ≡ attempt
-    pub versions : attempt + 2 ≤ (id_word_of before i).range
-    pub small : id_first id + 8 ≤ 67108864
+    pub open_ : (open_word i).state ≡ 1
+    pub versions : (open_word i).attempt + 2 ≤ (open_word i).range
+    pub small : (open_word i).first + 8 ≤ 67108864
     -- the call
     pub asked : Asked
     -- the link of the attempt, which has the server
@@ -46,7 +49,7 @@ module _ (script : List Item) (turns : List Turn) (core : Core) (is : IsRunWithC
     -- what it took by then, the call's request among it
     pub took : List ℕ
     pub took_so : TookSoFar (plan_of script) before link took
-    pub request : Has (stream took).frames (request_of asked id attempt)
+    pub request : Has (stream took).frames (request_of asked (open_id i) (open_word i).attempt)
     -- its reader waits for bytes
     pub seat : SeatState
     pub seat_there : get_elem? before.seats (32 + link) ≡ some seat

@@ -114,13 +114,11 @@ module _ {O : Type 0} {g : Ghosts O} {state : O → OutState} {readers : List (L
 
   -- the last attempt of the call that is operation o, with this id, may be on a link whose reading ended with the code
   pub record EndedOn (o : ℕ) (asked : Asked) (id code : ℕ) : Type 0 where
-    pub link : ℕ
-    pub on : MayBeOn p every outcomes fixed_here gave orders_here o (last_attempt notes o) (name_of asked (last_attempt notes o)) link
-    pub lost : LostOn p every outcomes fixed_here gave orders_here o (last_attempt notes o) link
-    pub read : Reads link code
-    -- the word by which the code came to it; with 1014 the link gave no response of the call
+    -- the word by which the code came to it, which names the link; with 1014 the link gave no response of the call
     pub word : ℕ
-    pub names : at_word_link word ≡ link
+    pub on : MayBeOn p every outcomes fixed_here gave orders_here o (last_attempt notes o) (name_of asked (last_attempt notes o)) (at_word_link word)
+    pub lost : LostOn p every outcomes fixed_here gave orders_here o (last_attempt notes o) (at_word_link word)
+    pub read : Reads (at_word_link word) code
     pub call_is : call_at word ≡ id
     pub its : IsIdOf slots notes o id
     pub alone : code ≡ EEOF → Alone word
@@ -140,14 +138,12 @@ module _ {O : Type 0} {g : Ghosts O} {state : O → OutState} {readers : List (L
       let below = subst (λ (m : ℕ). n.attempt ≤ last_attempt notes m) its n.low in
       let last : n.attempt ≡ last_attempt notes o = omega (arith, current, most, below) in
       record {
-        link = at_word_link word;
+        word = word;
         on = subst (λ (m : ℕ). MayBeOn p every outcomes fixed_here gave orders_here o m (name_of asked m) (at_word_link word)) last
             (subst (λ (a : Asked). MayBeOn p every outcomes fixed_here gave orders_here o n.attempt (name_of a n.attempt) (at_word_link word)) whose
             (subst (λ (m : ℕ). MayBeOn p every outcomes fixed_here gave orders_here m n.attempt (name_of n.asked n.attempt) (at_word_link word)) its n.on));
         lost = subst (λ (m : ℕ). LostOn p every outcomes fixed_here gave orders_here o m (at_word_link word)) last (subst (λ (m : ℕ). LostOn p every outcomes fixed_here gave orders_here m n.attempt (at_word_link word)) its n.lost);
         read = h.read;
-        word = word;
-        names = refl;
         call_is = same;
         its = id;
         alone = alone;
@@ -184,16 +180,16 @@ module _ {O : Type 0} {g : Ghosts O} {state : O → OutState} {readers : List (L
       -- what was told of a call that failed, by a seat whose notes are among all
       (code : ℕ) (Known : View Asked → ℕ → Parts → Type 0) (v : View Asked) (inside_notes : (slot : ℕ) (f : Note Asked → ℕ) → total f (notes_of slot v.notes) ≤ total f (notes_of slot notes)) (x : Told) (t : ToldEnd q links gave code Known v x)
       (id with : ℕ) (is : x.outcome ≡ CallFailed id with) (client : ℕ) (asked : Asked) (task : IsOperation every outcomes client x.number (ops.Call asked)) (last : ℕ) where
-    of_lock : (c : Asked) × (j : ℕ) × (c.operation ≡ t.call.operation) × (get_elem? (notes_of t.slot notes) j ≡ some (Made t.word.first t.word.range c))
-    of_lock = lock_made v inside_notes t.slot t.word t.call t.inside t.lock
+    of_lock : (c : Asked) × (j : ℕ) × (c.operation ≡ t.of.call.operation) × (get_elem? (notes_of t.of.slot notes) j ≡ some (Made t.of.word.first t.of.word.range c))
+    of_lock = lock_made v inside_notes t.of.slot t.of.word t.of.call t.of.inside t.lock
 
     number_is : of_lock.0.operation ≡ x.number
-    number_is = of_lock.2 ∙ sym t.number
+    number_is = of_lock.2 ∙ sym t.of.number
 
     -- it asks for as many versions as the lock has
-    versions : t.word.range ≡ asked.range
+    versions : t.of.word.range ≡ asked.range
     versions =
-        let m = of_lock in let w = made t.slot m.1 t.word.first t.word.range m.0 t.inside m.3 in
+        let m = of_lock in let w = made t.of.slot m.1 t.of.word.first t.of.word.range m.0 t.of.inside m.3 in
         let s = same_task drun w.0 client record { number = m.0.operation; op = ops.Call m.0 } record { number = x.number; op = ops.Call asked } w.1 task number_is in
         w.2 ∙ ap (λ (a : Asked). a.range) (same_asked m.0 asked (ap (λ (y : Task). y.op) s.1))
 
@@ -204,17 +200,17 @@ module _ {O : Type 0} {g : Ghosts O} {state : O → OutState} {readers : List (L
     pub told_why : WhyTold
     told_why = by t.by
       where
-        by : EndsBy q links gave code Known v t.slot t.word x.outcome → WhyTold
+        by : EndsBy q links gave code Known v t.of.slot t.of.word x.outcome → WhyTold
         by (on_code known e) =
-            let all = inside_notes t.slot (is_ended_at t.word.first t.word.attempt) in let own = t.over in
+            let all = inside_notes t.of.slot (is_ended_at t.of.word.first t.of.word.attempt) in let own = t.over in
             inr (
-              same_end (id_of t.slot t.word) code id with (sym e ∙ is),
-              record { slot = t.slot; inside = t.inside; word = t.word; call = of_lock.0; number = number_is; place = of_lock.1; made = of_lock.3; over = omega (arith, all, own); known = known },
-              same_id (id_of t.slot t.word) code id with (sym e ∙ is),
+              same_end (id_of t.of.slot t.of.word) code id with (sym e ∙ is),
+              record { slot = t.of.slot; inside = t.of.inside; word = t.of.word; call = of_lock.0; number = number_is; place = of_lock.1; made = of_lock.3; over = omega (arith, all, own); known = known },
+              same_id (id_of t.of.slot t.of.word) code id with (sym e ∙ is),
             )
         by (on_response f given e) =
-            let u = unread (id_of t.slot t.word) id with f given.given.responds (sym e ∙ is) in let low = given.below in let wide = versions in let link_low = given.given.whole.0 in
-            let answered : IsAnsweredBy p every outcomes fixed_here gave orders_here asked (id_of t.slot t.word) (λ (frame : Frame). frame.meta.compress_type ≢ pos 0) =
+            let u = unread (id_of t.of.slot t.of.word) id with f given.given.responds (sym e ∙ is) in let low = given.below in let wide = versions in let link_low = given.given.whole.0 in
+            let answered : IsAnsweredBy p every outcomes fixed_here gave orders_here asked (id_of t.of.slot t.of.word) (λ (frame : Frame). frame.meta.compress_type ≢ pos 0) =
             (given.given.link, given.given.place, f, (omega (arith, link_low, few), given.given.whole.1), (given.given.responds, given.behind, omega (arith, low, wide)), u.compressed) in
             inl (ByCompression u.code_is (subst (λ (i : ℕ). IsAnsweredBy p every outcomes fixed_here gave orders_here asked i (λ (frame : Frame). frame.meta.compress_type ≢ pos 0)) u.id_is answered))
 

@@ -20,10 +20,11 @@ use Rattle.attempts_told.specs.call_whys.specs.expire_told.specs.call_told.specs
 use Rattle.attempts_told.specs.call_whys.specs.expire_told.specs.call_told.proofs.Gains.{met_bytes, rest_bytes}
 use Rattle.attempts_told.specs.call_whys.specs.expire_told.specs.call_told.proofs.Given.{given_by}
 use Rattle.attempts_told.specs.call_whys.specs.expire_told.specs.call_told.proofs.Linked.{read_bytes}
+use Rattle.attempts_told.specs.call_whys.specs.expire_told.specs.call_told.proofs.Steps.{step_then, frames_step}
 use Rattle.attempts_told.specs.call_whys.specs.expire_told.specs.call_told.proofs.Readers.{link_read, if_bytes, reader_gave}
 use Rattle.failed_told.proofs.Posts.{QueuedBy, Posts, posts_none, posts_then, posted_all, frames_stay}
-use Rattle.failed_told.proofs.Tells.{ToldEnd, Step, step_then, frames_step, IsPostFor, for_later, posts_step}
-use Rattle.failed_told.proofs.Views.{queued_in}
+use Rattle.failed_told.proofs.Tells.{ToldEnd, Step, laws, IsPostFor, for_later, posts_step}
+use Rattle.failed_told.proofs.Views.{Later, queued_in}
 
 -- ## One link
 
@@ -35,8 +36,8 @@ module _ (q : Plan) (link : ℕ) (calls : List ℕ) (ending : Bool) (s t : InSta
   -- and so is what it told more, but for responses among what the links gave
   pub link_tells : (links : ℕ) (gave : ℕ → List ℕ) → ((f : model.Frame) → IsGiven 1 (λ k. read_bytes q link calls ending false s t b b' r) f → IsGiven links gave f) → Step q links gave (reading.code_of r.how) (IsPostFor q link) b b'
   link_tells links gave given = let met = r.read.met in
-      step_then q links gave (reading.code_of r.how) (IsPostFor q link) (for_later q link) b r.met b'
-      (frames_step q links gave (reading.code_of r.how) (IsPostFor q link) (for_later q link) met.frames b r.met
+      step_then q links gave Later (ToldEnd q links gave (reading.code_of r.how) (IsPostFor q link)) (laws q links gave (reading.code_of r.how) (IsPostFor q link) (for_later q link)) b r.met b'
+      (frames_step q links gave Later (ToldEnd q links gave (reading.code_of r.how) (IsPostFor q link)) (laws q links gave (reading.code_of r.how) (IsPostFor q link) (for_later q link)) met.frames b r.met
       (λ i f at responds. given _ (given_by 1 (λ k. read_bytes q link calls ending false s t b b' r) 0 (met_bytes q link calls ending false s t b b' r) (rest_bytes q link calls ending false s t b b' r) r.read.left met.frames (omega arith) refl met.cut i f at responds)) met.met)
       (posts_step q links gave (reading.code_of r.how) link calls r.met b' r.posted)
 

@@ -251,7 +251,7 @@ module _ {O : Type 0} {g : Ghosts O} {state : O → OutState} {readers : List (L
           let one = same_task drun v.0 client b.1.task its_task (is_task run outcomes v.0 y.0 y.1 b.0 b.1.task task) is (sym mine ∙ b.3.operation) in
           let here : get_elem? (tasks_of y.0) b.0 ≡ some its_task = task ∙ ap some one.1 in
           let h = deed_of y.0.thread y.0.is b.0 its_task here in
-          by_first v.0 y.0 y.1 b.0 here h.by h.before h.after h.acted h.place h.there (λ z e. (let w = h.tells z e in says_own run outcomes said v.0 y.0 y.1 w.0 record { number = o; outcome = z } w.1))
+          by_first v.0 y.0 y.1 b.0 here h.how.by h.how.before h.how.after h.how.acted h.place h.there (λ z e. (let w = h.tells z e in says_own run outcomes said v.0 y.0 y.1 w.0 record { number = o; outcome = z } w.1))
 
       -- no client ended it, or found a later range in its slot
       module _ (over : (slot first : ℕ) → slot < slots → first < 4294967296 → 0 < total (is_made_for first o) (notes_of slot notes) → (c : ℕ) (x : Client g state p q) → get_elem? crew c ≡ some x → (total (is_ended first) (notes_of slot (view_of x).notes) ≡ 0) × FoundUpTo slot first (view_of x)) where

@@ -4,7 +4,6 @@
 #![tactic(auto)]
 
 mod bytes;
-mod expanded;
 mod frames;
 mod metas;
 mod reports;

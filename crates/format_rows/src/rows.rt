@@ -1,8 +1,8 @@
 //! What a row asks.
 use crate::bytes::said_of;
-use crate::expanded::{expanded, number};
 use crate::reports::{report, summary, untold};
 use crate::scripts::{drawn_seats, fault_or_count, large, printed, sizes, small};
+use row_text::{expanded, number};
 use script_items::{LineFault, read_line};
 use std::alloc::{AllocError, Global};
 
@@ -19,12 +19,18 @@ pub fn answer(alloc: Global, row: &str) -> Result<String, AllocError> {
     }
 }
 
+/// What stands between the quotes.
+fn unquoted(quoted: &str) -> &str {
+    let opened = quoted.strip_prefix("\"").unwrap_or(quoted);
+    opened.strip_suffix("\"").unwrap_or(opened)
+}
+
 /// The same of a text between quotes, or of bytes.
 fn said_by(alloc: Global, row: &str, word: &str, rest: &str) -> Result<String, AllocError> {
     if !rest.starts_with("\"") {
         return said_of(alloc, row, word, rest);
     }
-    let text = expanded(alloc, rest)?;
+    let text = expanded(alloc, unquoted(rest))?;
     script_said(alloc, row, word, text.as_str())
 }
 
@@ -61,7 +67,7 @@ fn line_said(alloc: Global, rest: &str) -> Result<String, AllocError> {
     let Some((count, quoted)) = rest.split_once(" ") else {
         return String::from_str(alloc, "no text");
     };
-    let text = expanded(alloc, quoted)?;
+    let text = expanded(alloc, unquoted(quoted))?;
     let line = text.as_bytes();
     match read_line(alloc, number(count), number(count), line) {
         Ok(said) => {

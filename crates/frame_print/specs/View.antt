@@ -1,7 +1,7 @@
 -- A frame as a line shows it, wherever its bytes lie.
 use Rattle.std.specs.Prelude.{ℕ, List}
 use Rattle.brpc_model.specs.Frame.{Frame}
-use Rattle.prpc_frame.specs.View.{viewed}
+use Rattle.rpc_meta.specs.View.{viewed}
 use Rattle.frame_print.specs.declared.view.BytesView.{BytesView}
 use Rattle.frame_print.specs.declared.view.BytesView.TheVariants.{Slice, Blocks}
 use Rattle.frame_print.specs.declared.view.FrameView.{FrameView}

@@ -1,7 +1,9 @@
 -- In a whole run with calls both tables are sound at each moment, and each tick finds what each table relies on.
 use Rattle.std.proofs.Common.{ℕ, zero, suc, ◌+◌, ◌*◌, ◌<◌, List, [], ◌∷◌, ◌++◌, length, replicate, sym, subst, arith}
 use Rattle.std.specs.List.{AllByRecursion}
+use Rattle.sock_words.specs.declared.plain.Plan.{Plan}
 use Rattle.sock_model.specs.declared.view.View.{View}
+use Rattle.programs_allowed.specs.corr_core.specs.declared.marks.Plan.{Plan as IdPlan}
 use Rattle.programs_allowed.specs.brpc_model.specs.Items.{Item}
 use Rattle.programs_allowed.specs.brpc_model.specs.Operations.{Turn}
 use Rattle.programs_allowed.specs.seat_programs.specs.Tasks.{opens, calls, plan_of, id_plan_of}
@@ -44,78 +46,104 @@ halves P [] ys all = (tt, all)
 halves P (x ∷ xs) ys all = let rest = halves P xs ys all.1 in ((all.0, rest.0), rest.1)
 
 module _ (script : List Item) (turns : List Turn) (end_ : Core) (r : IsRunWithCalls script turns end_) where
-  -- the setup, the clients and readers up to the ending, the ending, and what follows it
-  pub record IsSoundRun : Type 0 where
-    pub setup : AreBoth (plan_of script) (id_plan_of script) (opened script) (first_views script) (replicate r.setup (quiet 0))
-    pub clients : AreBoth (plan_of script) (id_plan_of script) (set_up script r.setup) (views_along (plan_of script) (opened script) (first_views script) (replicate r.setup (quiet 0))) (r.scheduled ++ r.later)
-    pub closing : AreBoth (plan_of script) (id_plan_of script) (closing_of script turns end_ r) (views_played script turns end_ r (first_views script)) (replicate r.last (quiet 0))
-    pub final : AreBoth (plan_of script) (id_plan_of script) r.ended (views_closed script turns end_ r (first_views script)) r.final
-    pub over : BothSound (plan_of script) (id_plan_of script) end_ (views_ended script turns end_ r (first_views script))
+  abbrev p : Plan
+  p = plan_of script
+
+  abbrev q : IdPlan
+  q = id_plan_of script
+
+  -- the setup, what is done up to the ending, and the ending
+  abbrev setting : List Moment
+  setting = replicate r.setup (quiet 0)
+
+  abbrev playing : List Moment
+  playing = r.scheduled ++ r.later
+
+  abbrev ending_ : List Moment
+  ending_ = replicate r.last (quiet 0)
+
+  -- the core and the views at the ending, and the views behind the setup and behind the ending
+  abbrev closing_core : Core
+  closing_core = closing_of script turns end_ r
+
+  abbrev views_set_up : List View
+  views_set_up = views_along p (opened script) (first_views script) setting
+
+  abbrev views_closing : List View
+  views_closing = views_played script turns end_ r (first_views script)
+
+  abbrev views_last : List View
+  views_last = views_closed script turns end_ r (first_views script)
+
+  -- what is so along the setup and the clients and readers up to the ending, along the ending and what follows it, and at the end
+  pub record AlongRun (Early Late : Core → List View → List Moment → Type 0) (Ended : Core → List View → Type 0) : Type 0 where
+    pub setup : Early (opened script) (first_views script) setting
+    pub clients : Early (set_up script r.setup) views_set_up playing
+    pub closing : Late closing_core views_closing ending_
+    pub final : Late r.ended views_last r.final
+    pub over : Ended end_ (views_ended script turns end_ r (first_views script))
+
+  abbrev pub IsSoundRun : Type 0
+  IsSoundRun = AlongRun (AreBoth p q) (AreBoth p q) (BothSound p q)
+
+  -- so many ticks are left, with so many more where seat 0 makes the ending
+  abbrev most : ℕ
+  most = MOST_TICKS + 20 * length (opens script)
+
+  abbrev pub IsBoundedRun : Type 0
+  IsBoundedRun = AlongRun (AreBounded p MOST_TICKS) (AreBounded p most) (IsBounded p most)
 
   pub are_fitting_in : IsSoundRun → AreFittingIn script turns end_ r
   are_fitting_in s = record {
-    of_setup = are_fitting (plan_of script) (id_plan_of script) (opened script) (first_views script) (replicate r.setup (quiet 0)) s.setup;
-    of_played = are_fitting (plan_of script) (id_plan_of script) (set_up script r.setup) (views_along (plan_of script) (opened script) (first_views script) (replicate r.setup (quiet 0))) (r.scheduled ++ r.later) s.clients;
-    of_closing = are_fitting (plan_of script) (id_plan_of script) (closing_of script turns end_ r) (views_played script turns end_ r (first_views script)) (replicate r.last (quiet 0)) s.closing;
-    of_final = are_fitting (plan_of script) (id_plan_of script) r.ended (views_closed script turns end_ r (first_views script)) r.final s.final;
+    of_setup = are_fitting p q (opened script) (first_views script) setting s.setup;
+    of_played = are_fitting p q (set_up script r.setup) views_set_up playing s.clients;
+    of_closing = are_fitting p q closing_core views_closing ending_ s.closing;
+    of_final = are_fitting p q r.ended views_last r.final s.final;
   }
 
+  -- from stretch to stretch, by what is so behind each
+  module _ (Early Late : Core → List View → List Moment → Type 0) (At Ended : Core → List View → Type 0) (behind : (c : Core) (vs : List View) (moments : List Moment) → Early c vs moments → At (run p c moments) (views_along p c vs moments))
+      (behind_late : (c : Core) (vs : List View) (moments : List Moment) → Late c vs moments → Ended (run p c moments) (views_along p c vs moments)) where
+    along_run : Early (opened script) (first_views script) setting → (At (set_up script r.setup) views_set_up → Early (set_up script r.setup) views_set_up playing) → (At (played script r.setup playing) views_closing → Late closing_core views_closing ending_)
+        → (Ended (run p closing_core ending_) views_last → Late r.ended views_last r.final) → AlongRun Early Late Ended
+    along_run setup plays closes ends =
+        let clients = plays (behind (opened script) (first_views script) setting setup) in
+        let closing = closes (behind (set_up script r.setup) views_set_up playing clients) in
+        let final = ends (behind_late closing_core views_closing ending_ closing) in record {
+          setup = setup;
+          clients = clients;
+          closing = closing;
+          final = final;
+          over = subst (λ c. Ended c (views_ended script turns end_ r (first_views script))) (sym r.is_end) (behind_late r.ended views_last r.final final);
+        }
+
+  setting_answered : AreAnswered p (opened script) setting
+  setting_answered = quiet_answered p (opened script) 0 r.setup r.is_set_up
+
+  ending_answered : AreAnswered p closing_core ending_
+  ending_answered = quiet_answered p closing_core 0 r.last (subst (λ c. IsAtRest c 0) r.is_ended r.is_over)
+
   module _ (made : AreMade script) where
-    abbrev Along : Core → List View → List Moment → Type 0
-    Along c vs moments = AreBoth (plan_of script) (id_plan_of script) c vs moments
-
-    along : (c : Core) (vs : List View) (moments : List Moment) → BothSound (plan_of script) (id_plan_of script) c vs → AreAnswered (plan_of script) c moments → Along c vs moments
-    along c vs moments both answered = joint_along (plan_of script) (id_plan_of script) (narrow (plan_of script) (id_plan_of script) (all_tasks script) (calls script) (opens script) made) made.operations c vs moments both answered
-
-    behind : (c : Core) (vs : List View) (moments : List Moment) → Along c vs moments → BothSound (plan_of script) (id_plan_of script) (run (plan_of script) c moments) (views_along (plan_of script) c vs moments)
-    behind c vs moments are = behind_both (plan_of script) (id_plan_of script) c vs moments are
-
-    setup_both : Along (opened script) (first_views script) (replicate r.setup (quiet 0))
-    setup_both = along (opened script) (first_views script) (replicate r.setup (quiet 0)) (opens_both (plan_of script) (id_plan_of script) (all_tasks script) (calls script) (opens script) made) (quiet_answered (plan_of script) (opened script) 0 r.setup r.is_set_up)
-
-    clients_both : Along (set_up script r.setup) (views_along (plan_of script) (opened script) (first_views script) (replicate r.setup (quiet 0))) (r.scheduled ++ r.later)
-    clients_both = along (set_up script r.setup) (views_along (plan_of script) (opened script) (first_views script) (replicate r.setup (quiet 0))) (r.scheduled ++ r.later) (behind (opened script) (first_views script) (replicate r.setup (quiet 0)) setup_both) r.answered
+    along : (c : Core) (vs : List View) (moments : List Moment) → BothSound p q c vs → AreAnswered p c moments → AreBoth p q c vs moments
+    along = joint_along p q (narrow p q (all_tasks script) (calls script) (opens script) made) made.operations
 
     -- no seat has an outcome to say before its next step
-    ahead : IsAhead (played script r.setup (r.scheduled ++ r.later))
-    ahead = run_ahead (plan_of script) (set_up script r.setup) (r.scheduled ++ r.later) (run_ahead (plan_of script) (opened script) (replicate r.setup (quiet 0))
-        (beginning_ahead (plan_of script) (id_plan_of script) (all_programs (programs (sizes_of (plan_of script) (id_plan_of script)) (all_tasks script)) (readers_from (calls script) 0 (opens script)))))
+    ahead : IsAhead (played script r.setup playing)
+    ahead = run_ahead p (set_up script r.setup) playing (run_ahead p (opened script) setting
+        (beginning_ahead p q (all_programs (programs (sizes_of p q) (all_tasks script)) (readers_from (calls script) 0 (opens script)))))
 
     -- seat 0 is at rest behind the setup, and stays so
-    idle : IsAtRest (played script r.setup (r.scheduled ++ r.later)) 0
-    idle = run_rests (plan_of script) (set_up script r.setup) (r.scheduled ++ r.later) 0 r.is_set_up
-
-    closing_both : Along (closing_of script turns end_ r) (views_played script turns end_ r (first_views script)) (replicate r.last (quiet 0))
-    closing_both = along (closing_of script turns end_ r) (views_played script turns end_ r (first_views script)) (replicate r.last (quiet 0))
-        (ending_both (plan_of script) (id_plan_of script) (all_tasks script) (calls script) (opens script) made (played script r.setup (r.scheduled ++ r.later)) (views_played script turns end_ r (first_views script)) ahead idle
-        (behind (set_up script r.setup) (views_along (plan_of script) (opened script) (first_views script) (replicate r.setup (quiet 0))) (r.scheduled ++ r.later) clients_both))
-        (quiet_answered (plan_of script) (closing_of script turns end_ r) 0 r.last (subst (λ d. IsAtRest d 0) r.is_ended r.is_over))
-
-    final_both : Along r.ended (views_closed script turns end_ r (first_views script)) r.final
-    final_both = along r.ended (views_closed script turns end_ r (first_views script)) r.final
-        (subst (λ d. BothSound (plan_of script) (id_plan_of script) d (views_closed script turns end_ r (first_views script))) (sym r.is_ended)
-        (told_both (plan_of script) (id_plan_of script) (run (plan_of script) (closing_of script turns end_ r) (replicate r.last (quiet 0))) (views_closed script turns end_ r (first_views script))
-        (behind (closing_of script turns end_ r) (views_played script turns end_ r (first_views script)) (replicate r.last (quiet 0)) closing_both)))
-        r.answered_again
+    idle : IsAtRest (played script r.setup playing) 0
+    idle = run_rests p (set_up script r.setup) playing 0 r.is_set_up
 
     pub joint_runs : IsSoundRun
-    joint_runs = record {
-      setup = setup_both;
-      clients = clients_both;
-      closing = closing_both;
-      final = final_both;
-      over = subst (λ d. BothSound (plan_of script) (id_plan_of script) d (views_ended script turns end_ r (first_views script))) (sym r.is_end) (behind r.ended (views_closed script turns end_ r (first_views script)) r.final final_both);
-    }
+    joint_runs = along_run (AreBoth p q) (AreBoth p q) (BothSound p q) (BothSound p q) (behind_both p q) (behind_both p q)
+        (along (opened script) (first_views script) setting (opens_both p q (all_tasks script) (calls script) (opens script) made) setting_answered)
+        (λ both. along (set_up script r.setup) views_set_up playing both r.answered)
+        (λ both. along closing_core views_closing ending_ (ending_both p q (all_tasks script) (calls script) (opens script) made (played script r.setup playing) views_closing ahead idle both) ending_answered)
+        (λ both. along r.ended views_last r.final (subst (λ c. BothSound p q c views_last) (sym r.is_ended) (told_both p q (run p closing_core ending_) views_last both)) r.answered_again)
 
   -- ## How many ticks are left
-
-  -- with so many more where seat 0 makes the ending
-  pub record IsBoundedRun : Type 0 where
-    pub setup : AreBounded (plan_of script) MOST_TICKS (opened script) (first_views script) (replicate r.setup (quiet 0))
-    pub clients : AreBounded (plan_of script) MOST_TICKS (set_up script r.setup) (views_along (plan_of script) (opened script) (first_views script) (replicate r.setup (quiet 0))) (r.scheduled ++ r.later)
-    pub closing : AreBounded (plan_of script) (MOST_TICKS + 20 * length (opens script)) (closing_of script turns end_ r) (views_played script turns end_ r (first_views script)) (replicate r.last (quiet 0))
-    pub final : AreBounded (plan_of script) (MOST_TICKS + 20 * length (opens script)) r.ended (views_closed script turns end_ r (first_views script)) r.final
-    pub over : IsBounded (plan_of script) (MOST_TICKS + 20 * length (opens script)) end_ (views_ended script turns end_ r (first_views script))
 
   module _ (made : AreMade script) (s : IsSoundRun) where
     -- the ticks of the setup and of the ending ask no link
@@ -123,39 +151,16 @@ module _ (script : List Item) (turns : List Turn) (end_ : Core) (r : IsRunWithCa
     quiet_prompt zero = tt
     quiet_prompt (suc n) = ((λ e. absurd (cc)), quiet_prompt n)
 
-    prompt_parts : AllByRecursion IsAlwaysReady (r.scheduled ++ r.later) × AllByRecursion IsAlwaysReady r.final
-    prompt_parts = halves IsAlwaysReady (r.scheduled ++ r.later) r.final r.always_ready
+    prompt_parts : AllByRecursion IsAlwaysReady playing × AllByRecursion IsAlwaysReady r.final
+    prompt_parts = halves IsAlwaysReady playing r.final r.always_ready
 
-    small : MOST_TICKS + 20 * length (opens script) < MOST_PAID
+    small : most < MOST_PAID
     small = let few = made.few_opens in omega (arith, few)
-
-    setup_bounded : AreBounded (plan_of script) MOST_TICKS (opened script) (first_views script) (replicate r.setup (quiet 0))
-    setup_bounded = bounded_along (plan_of script) (id_plan_of script) MOST_TICKS (omega arith) (opened script) (first_views script) (replicate r.setup (quiet 0)) s.setup (quiet_answered (plan_of script) (opened script) 0 r.setup r.is_set_up) (quiet_prompt r.setup)
-        (opens_bounded (plan_of script) (id_plan_of script) (all_tasks script) (calls script) (opens script) made)
-
-    clients_bounded : AreBounded (plan_of script) MOST_TICKS (set_up script r.setup) (views_along (plan_of script) (opened script) (first_views script) (replicate r.setup (quiet 0))) (r.scheduled ++ r.later)
-    clients_bounded = bounded_along (plan_of script) (id_plan_of script) MOST_TICKS (omega arith) (set_up script r.setup) (views_along (plan_of script) (opened script) (first_views script) (replicate r.setup (quiet 0))) (r.scheduled ++ r.later) s.clients r.answered prompt_parts.0
-        (behind_bounded (plan_of script) (id_plan_of script) MOST_TICKS (opened script) (first_views script) (replicate r.setup (quiet 0)) setup_bounded)
-
-    closing_bounded : AreBounded (plan_of script) (MOST_TICKS + 20 * length (opens script)) (closing_of script turns end_ r) (views_played script turns end_ r (first_views script)) (replicate r.last (quiet 0))
-    closing_bounded = bounded_along (plan_of script) (id_plan_of script) (MOST_TICKS + 20 * length (opens script)) small (closing_of script turns end_ r) (views_played script turns end_ r (first_views script)) (replicate r.last (quiet 0)) s.closing
-        (quiet_answered (plan_of script) (closing_of script turns end_ r) 0 r.last (subst (λ d. IsAtRest d 0) r.is_ended r.is_over)) (quiet_prompt r.last)
-        (ending_bounded (plan_of script) MOST_TICKS (played script r.setup (r.scheduled ++ r.later)) (views_played script turns end_ r (first_views script)) (opens script)
-        (behind_bounded (plan_of script) (id_plan_of script) MOST_TICKS (set_up script r.setup) (views_along (plan_of script) (opened script) (first_views script) (replicate r.setup (quiet 0))) (r.scheduled ++ r.later) clients_bounded))
-
-    final_bounded : AreBounded (plan_of script) (MOST_TICKS + 20 * length (opens script)) r.ended (views_closed script turns end_ r (first_views script)) r.final
-    final_bounded = bounded_along (plan_of script) (id_plan_of script) (MOST_TICKS + 20 * length (opens script)) small r.ended (views_closed script turns end_ r (first_views script)) r.final s.final r.answered_again prompt_parts.1
-        (subst (λ d. IsBounded (plan_of script) (MOST_TICKS + 20 * length (opens script)) d (views_closed script turns end_ r (first_views script))) (sym r.is_ended)
-        (told_bounded (plan_of script) (MOST_TICKS + 20 * length (opens script)) (run (plan_of script) (closing_of script turns end_ r) (replicate r.last (quiet 0))) (views_closed script turns end_ r (first_views script))
-        (behind_bounded (plan_of script) (id_plan_of script) (MOST_TICKS + 20 * length (opens script)) (closing_of script turns end_ r) (views_played script turns end_ r (first_views script)) (replicate r.last (quiet 0)) closing_bounded)))
 
     -- no run has more ticks that move, and each seat has few messages accepted all along
     pub joint_bounded : IsBoundedRun
-    joint_bounded = record {
-      setup = setup_bounded;
-      clients = clients_bounded;
-      closing = closing_bounded;
-      final = final_bounded;
-      over = subst (λ d. IsBounded (plan_of script) (MOST_TICKS + 20 * length (opens script)) d (views_ended script turns end_ r (first_views script))) (sym r.is_end)
-          (behind_bounded (plan_of script) (id_plan_of script) (MOST_TICKS + 20 * length (opens script)) r.ended (views_closed script turns end_ r (first_views script)) r.final final_bounded);
-    }
+    joint_bounded = along_run (AreBounded p MOST_TICKS) (AreBounded p most) (IsBounded p MOST_TICKS) (IsBounded p most) (behind_bounded p q MOST_TICKS) (behind_bounded p q most)
+        (bounded_along p q MOST_TICKS (omega arith) (opened script) (first_views script) setting s.setup setting_answered (quiet_prompt r.setup) (opens_bounded p q (all_tasks script) (calls script) (opens script) made))
+        (bounded_along p q MOST_TICKS (omega arith) (set_up script r.setup) views_set_up playing s.clients r.answered prompt_parts.0)
+        (λ b. bounded_along p q most small closing_core views_closing ending_ s.closing ending_answered (quiet_prompt r.last) (ending_bounded p MOST_TICKS (played script r.setup playing) views_closing (opens script) b))
+        (λ b. bounded_along p q most small r.ended views_last r.final s.final r.answered_again prompt_parts.1 (subst (λ c. IsBounded p most c views_last) (sym r.is_ended) (told_bounded p most (run p closing_core ending_) views_last b)))

@@ -43,7 +43,7 @@ use Rattle.sock_runs.proofs.Few.{row_same, IsShorter}
 use Rattle.sock_steps.proofs.RuleFrame.{accept_rule, Lasts, lasts_all, lasts_set, lasting_in, still_rule, same_rule}
 
 row_plan : (p : Plan) (call : Call) (found : ℕ) (hand : Hand) (v : View) → (row p call found hand v).plan ≡ v.plan
-row_plan p (SwapHead i own) found hand v = (sending_same p v found hand (SwapHead i own) refl).plan
+row_plan p (SwapHead i own) found hand v = ap (λ (w : View). w.plan) (sending_same p v found hand (SwapHead i own) refl)
 row_plan p call found hand v = (row_same p call found hand v refl).plan
 
 positive : (w : ℕ) → IsTrue (nat_lt 0 w) → w ≢ 0

@@ -16,10 +16,10 @@ use Rattle.sock_io.specs.declared.link.LinkSpec.{LinkSpec}
 use Rattle.sock_io.specs.Link.{TakeStep, OfferTaken, IsServed, IsNewOffer, given_of, end_of}
 use Rattle.sock_io.specs.Shape.{ShapedState, shaped_out}
 use Rattle.brpc_model.specs.Items.{Shape}
-use Rattle.sock_io.specs.Memory.{MemInState, closing, empty_in, is_closing, mem_in, take_answer}
+use Rattle.sock_io.specs.Memory.{MemInState, closing, empty_in, is_closing, is_open, mem_in, take_answer}
 use Rattle.sock_io.proofs.Offers.{gave_to_end, gave_to_closing}
 use Rattle.rpc_server.specs.Feeding.{is_fault, has_fault}
-use Rattle.loop_link.specs.Serving.{LoopPeerState, LoopInState, offer_of, loop_in, first_ending, new_in, is_reached, replies_for, ends_for, offered_for, gives_end, is_open, is_ended, IsOver, IsSteady, HasTold, IsTold, ending_for, IsOffered, Answers, Settled, NewReplies, first_left}
+use Rattle.loop_link.specs.Serving.{LoopPeerState, LoopInState, offer_of, loop_in, first_ending, new_in, is_reached, replies_for, ends_for, offered_for, gives_end, is_ended, IsOver, IsSteady, HasTold, IsTold, ending_for, IsOffered, Answers, Settled, NewReplies, first_left}
 use Rattle.loop_link.proofs.Following.{fault_stays_whole, replies_begin}
 use Rattle.loop_link.proofs.Fronts.{offered_more}
 
@@ -57,34 +57,30 @@ taken_front : (given got waiting given' waiting' : List ℕ) → Some given' ≡
 taken_front given got waiting given' waiting' more same = let e : given' ≡ given ++ got = cc in
     append_cancel_left given (got ++ waiting') waiting (sym (append_assoc given got waiting') ∙ ap (λ l. l ++ waiting') (sym e) ∙ same)
 
-pauses : (waiting : List ℕ) (e : Ending) (room : ℕ) (result : Take) → result ≡ take_answer waiting e room → (b : Ending) (t : Take) → take_answer [] b room ≡ t → ((n : ℕ) → t ≡ take_.Took n → ⊥) → ((c : Ending) → take_answer [] c room ≡ t → c ≡ b) → result ≡ t → (waiting ≡ []) × (e ≡ b)
-pauses [] e room result is b t shows none only same = (refl, only e (sym is ∙ same))
-pauses (x ∷ waiting) e room result is b t shows none only same = absurd (none _ (sym same ∙ is))
+-- what stands behind the bytes, as a take that gave none tells it
+behind : Take → Ending
+behind take_.End = ending.Ended
+behind take_.Closed = ending.Closed
+behind other = ending.Open
+
+behind_is : (e : Ending) (room : ℕ) → behind (take_answer [] e room) ≡ e
+behind_is ending.Open room = refl
+behind_is ending.Ended room = refl
+behind_is ending.Closed room = refl
+
+pauses : (waiting : List ℕ) (e : Ending) (room : ℕ) (result t : Take) → result ≡ take_answer waiting e room → ((n : ℕ) → t ≡ take_.Took n → ⊥) → result ≡ t → (waiting ≡ []) × (e ≡ behind t)
+pauses [] e room result t is none same = (refl, sym (behind_is e room) ∙ ap behind (sym is ∙ same))
+pauses (x ∷ waiting) e room result t is none same = absurd (none _ (sym same ∙ is))
 
 offer_taken : (old new : LoopInState) (room : List ℕ) (result : Take) → TakeStep (mem_in old.half) (mem_in new.half) room result → result ≡ take_answer old.half.waiting old.half.ending (length room)
     → new.half.given ++ new.half.waiting ≡ old.half.given ++ old.half.waiting → new.half.ending ≡ old.half.ending → new.peer ≡ old.peer → OfferTaken (offer_of old) (offer_of new) (given_of room result) result
 offer_taken old new room result step answer bytes ending_is peer = record {
   same = λ i. record { serve = (peer i).serve; end = (peer i).end; fed = (peer i).fed; waiting = new.half.waiting; ending = ending_is i };
   waiting = taken_front old.half.given (given_of room result) old.half.waiting new.half.given new.half.waiting step.bytes bytes;
-  empty = pauses old.half.waiting old.half.ending (length room) result answer ending.Open take_.Empty refl (λ n e. cc) only_open;
-  end = pauses old.half.waiting old.half.ending (length room) result answer ending.Ended take_.End refl (λ n e. cc) only_ended;
-  closed = pauses old.half.waiting old.half.ending (length room) result answer ending.Closed take_.Closed refl (λ n e. cc) only_closed;
+  empty = pauses old.half.waiting old.half.ending (length room) result take_.Empty answer (λ n e. cc);
+  end = pauses old.half.waiting old.half.ending (length room) result take_.End answer (λ n e. cc);
+  closed = pauses old.half.waiting old.half.ending (length room) result take_.Closed answer (λ n e. cc);
 }
-  where
-    only_open : (c : Ending) → take_answer [] c (length room) ≡ take_.Empty → c ≡ ending.Open
-    only_open ending.Open e = refl
-    only_open ending.Ended e = absurd (cc)
-    only_open ending.Closed e = absurd (cc)
-
-    only_ended : (c : Ending) → take_answer [] c (length room) ≡ take_.End → c ≡ ending.Ended
-    only_ended ending.Open e = absurd (cc)
-    only_ended ending.Ended e = refl
-    only_ended ending.Closed e = absurd (cc)
-
-    only_closed : (c : Ending) → take_answer [] c (length room) ≡ take_.Closed → c ≡ ending.Closed
-    only_closed ending.Open e = absurd (cc)
-    only_closed ending.Ended e = absurd (cc)
-    only_closed ending.Closed e = refl
 
 -- a take of the half is one of the link
 pub step_taken : (old new : LoopInState) (room room' : List ℕ) (result : Take) → length room' ≡ length room → TakeStep (mem_in old.half) (mem_in new.half) room' result → result ≡ take_answer old.half.waiting old.half.ending (length room)

@@ -6,7 +6,7 @@ use Rattle.brpc_model.specs.Served.{first_of}
 use Rattle.sock_io.specs.declared.ending.Ending.{Ending}
 use Rattle.sock_io.specs.declared.ending.Ending.TheVariants as ending
 use Rattle.sock_io.specs.Link.{InState, Offer, IsServed}
-use Rattle.sock_io.specs.Memory.{MemInState, empty_in, is_closing, mem_in}
+use Rattle.sock_io.specs.Memory.{MemInState, empty_in, is_closing, is_open, mem_in}
 use Rattle.rpc_server.specs.Held.{Held}
 use Rattle.rpc_server.specs.Feeding.{has_fault, Replied}
 
@@ -37,15 +37,9 @@ offered_for peer bytes = if peer.serve then replies_for peer.end bytes else []
 abbrev pub gives_end : LoopPeerState → List ℕ → Bool
 gives_end peer bytes = peer.serve && ends_for peer.end bytes
 
-abbrev pub is_open : Ending → Bool
-is_open ending.Open = true
-is_open ending.Ended = false
-is_open ending.Closed = false
-
 abbrev pub is_ended : Ending → Bool
-is_ended ending.Open = false
 is_ended ending.Ended = true
-is_ended ending.Closed = false
+is_ended other = false
 
 -- what stands behind the bytes: the end, where it is given; and where it isn't, the closing once the link was finished
 abbrev pub ending_for : (ended finished : Bool) → Ending

@@ -3,7 +3,6 @@
 
 mod counts;
 mod front;
-mod half;
 mod loop_in;
 mod loop_linker;
 mod loop_peer;
@@ -11,3 +10,4 @@ mod server;
 
 pub use loop_in::LoopIn;
 pub use loop_linker::LoopLinker;
+pub use server::feeds;

@@ -4,10 +4,9 @@ ghost use Rattle.sock_io.specs.Memory.{closing, is_closing};
 ghost use Rattle.loop_link.specs.Serving.{Settled, first_ending, loop_in, new_in, offer_of};
 
 use crate::counts::is_reached;
-use crate::half::Half;
 use crate::loop_peer::LoopPeer;
 use io_buf::BlockPool;
-use sock_io::{Ending, In, NoMemory, Take};
+use sock_io::{Ending, In, MemIn, NoMemory, Take};
 use std::alloc::Global;
 use std::marker::Model;
 
@@ -15,7 +14,7 @@ use std::marker::Model;
 /// The server answers frames of baidu_std.md.
 #[derive(Drop)]
 pub struct LoopIn {
-    half: Half,
+    half: MemIn,
     peer: LoopPeer,
 }
 
@@ -47,7 +46,7 @@ impl LoopIn {
         ensures { result ≡ new_in serve end }
     {
         LoopIn {
-            half: Half::new(alloc, first_ending(serve, end)),
+            half: MemIn::new(alloc, first_ending(serve, end)),
             peer: LoopPeer::new(serve, end),
         }
     }

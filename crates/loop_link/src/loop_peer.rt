@@ -1,13 +1,13 @@
 ghost use Rattle.std.specs.Prelude.{◌≡◌, ◌<◌, [], true, false, length, IfOk, OnErr, OnOk};
-ghost use Rattle.loop_link.specs.Serving.{Answers, IsOver, is_open};
+ghost use Rattle.sock_io.specs.Memory.{is_open};
+ghost use Rattle.loop_link.specs.Serving.{Answers, IsOver, ending_for};
 
 use crate::counts::gives_end;
 use crate::front::{gathered, given_len};
-use crate::half::Half;
 use crate::server::Server;
 use ghosts::Ghosts;
 use io_buf::BlockPool;
-use sock_io::NoMemory;
+use sock_io::{Ending, MemIn, NoMemory};
 use std::alloc::Global;
 use std::marker::Model;
 
@@ -56,7 +56,7 @@ impl LoopPeer {
         alloc: Global,
         pool: &mut BlockPool,
         took: &[u8],
-        inn: &mut Half,
+        inn: &mut MemIn,
     ) -> Result<(), NoMemory>
         ensures ok { OnOk result (Answers self.old took.now inn.old self.new inn.new) }
         ensures err { OnErr result ((self.new ≡ self.old) × (inn.new ≡ inn.old)) }
@@ -77,7 +77,7 @@ impl LoopPeer {
         let bytes = gathered(alloc, &fed.replies)?;
         let count = given_len(end, given, &bytes);
         inn.give(&bytes[..count])?;
-        inn.end_where(gives_end(end, made, fed.faulty));
+        end_where(inn, gives_end(end, made, fed.faulty));
         self.keep(fed.server, took.len());
         Ok(())
     }
@@ -91,7 +91,7 @@ impl LoopPeer {
 
     // Whether nothing is left to be fed to the server, as mostly where a reader looks again for bytes. Fewer bytes than it
     // was fed are another link's.
-    fn is_over(&self, took: &[u8], inn: &Half) -> bool
+    fn is_over(&self, took: &[u8], inn: &MemIn) -> bool
         ensures over { result ≡ true → IsOver self.now took.now inn.now }
         ensures live { result ≡ false → is_open inn.now.ending ≡ true }
         ensures enough { result ≡ false → length self.now.fed < length took.now }
@@ -151,5 +151,15 @@ impl LoopPeer {
         self.server = None;
         self.fed = Ghosts::of(&took);
         self.fed_len = took.len();
+    }
+}
+
+// Gives its end, where it has come to that.
+fn end_where(inn: &mut MemIn, ended: bool)
+    requires { inn.old.ending ≡ Ending.Open }
+    ensures { inn.new ≡ record inn.old { ending = ending_for ended false } }
+{
+    if ended {
+        inn.end();
     }
 }

@@ -80,8 +80,8 @@ impl Server {
     }
 }
 
-// Feeds the connection, and answers whether it met a frame fault.
-fn feeds(
+/// Feeds a server, and answers whether it met a frame fault.
+pub fn feeds(
     conn: &mut Conn,
     pool: &mut BlockPool,
     piece: &[u8],

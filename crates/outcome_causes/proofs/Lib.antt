@@ -5,7 +5,7 @@ pub mod Added
 pub mod Used
 pub mod Errors
 pub mod Pieces
-pub mod Puts
+pub mod Writers
 pub mod Sending
 pub mod Broken
 pub mod Calling

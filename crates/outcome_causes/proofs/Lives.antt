@@ -18,7 +18,7 @@ use Rattle.outcome_causes.specs.Causes.{Asks, OddAt, WasGiven, Cause, Good}
 use Rattle.outcome_causes.proofs.Members.{all_in, in_contains, contains_in, from_trace, to_trace}
 use Rattle.outcome_causes.proofs.Events.{event, once, birth_adds, fail_adds, marked_given, given_by, BeforeIn, cause_of, last_some}
 use Rattle.outcome_causes.proofs.Final.{Final, one_said}
-use Rattle.outcome_causes.proofs.Sending.{add_holds}
+use Rattle.outcome_causes.proofs.Writers.{add_holds}
 use Rattle.outcome_causes.proofs.Tasks.{one_link}
 
 -- what is known in the end

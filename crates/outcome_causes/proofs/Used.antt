@@ -2,14 +2,14 @@
 use Rattle.std.proofs.Common.{◌≡◌, ◌≢◌, ℕ, ◌<◌, ◌+◌, ◌*◌, ◌%◌, eqb, List, length, get_or, set, get_or-set_same, get_or-set_other, sym, subst, arith}
 use mathlib.Core.Logic.{dite}
 use native.Mathlib.Decide.{ℕ_discrete}
-use Rattle.sock_words.specs.Words.{socket_id_slot}
 use Rattle.sock_words.specs.declared.plain.Plan.{Plan}
 use Rattle.sock_model.specs.declared.view.View.{View}
-use Rattle.sock_model.specs.Layout.{tag_index, ref_index, link_index, head_index, code_index, name_index, open_index, request_index, next_index, place_index, all_words}
-use Rattle.seat_programs.specs.Calls.{Call, ClaimSlot, CreateLife, AddRef, SubRef, SetOdd, Recycle, FreeSlot, StoreLink, LoadLink, ResetHead, ClearCode, StoreCode, StoreName, LoadName, StoreOpen, LoadOpen, LookWord, FindLink, LoadCode, ClaimRequest, Unconnect, SwapHead, Connect, EmptyHead, ReadNext, ReverseNext, FreeRequest, StorePlace, DropPlace}
+use Rattle.sock_model.specs.Layout.{request_index, all_words}
+use Rattle.seat_programs.specs.Calls.{Call, ClaimRequest, FreeRequest}
 use Rattle.seat_programs.specs.Cores.{word_of, word_after, found_at, words_after}
 use Rattle.sock_runs.specs.May.{May}
 use Rattle.outcome_causes.proofs.Tests.{split}
+use Rattle.outcome_causes.proofs.Names.{word_beside}
 
 module _ (p : Plan) (v : View) (ws : List ℕ) (sized : length ws ≡ all_words p) (q : ℕ) (inside : q < p.requests) (used : 0 < get_or ws (request_index p q) 0) where
   abbrev Stays : Call → Type 0
@@ -22,38 +22,11 @@ module _ (p : Plan) (v : View) (ws : List ℕ) (sized : length ws ≡ all_words 
   here w some_ = let a : get_or (set ws (request_index p q) w) (request_index p q) 0 ≡ w = get_or-set_same ws (request_index p q) w 0 (omega (arith, sized)) in omega (arith, some_, a)
 
   pub word_stays : (call : Call) → May p v call → Stays call
-  word_stays (ClaimSlot i) may = else_ (tag_index i) _ (λ e. omega (arith, may))
-  word_stays (CreateLife i k) may = else_ (ref_index i) _ (λ e. omega (arith, may))
-  word_stays (AddRef id) may = else_ (ref_index (socket_id_slot id)) _ (λ e. omega (arith, may.0.0))
-  word_stays (SubRef i) may = else_ (ref_index i) _ (λ e. omega (arith, may))
-  word_stays (SetOdd i) may = else_ (ref_index i) _ (λ e. omega (arith, may.0))
-  word_stays (Recycle i from) may = else_ (ref_index i) _ (λ e. omega (arith, may.0))
-  word_stays (FreeSlot i) may = else_ (tag_index i) _ (λ e. omega (arith, may.0))
-  word_stays (StoreLink i k) may = else_ (link_index i) _ (λ e. omega (arith, may.0))
-  word_stays (LoadLink i w) may = else_ (link_index i) _ (λ e. omega (arith, may.0))
-  word_stays (ResetHead i k) may = else_ (head_index i) _ (λ e. omega (arith, may.0))
-  word_stays (ClearCode i k) may = else_ (code_index i) _ (λ e. omega (arith, may.0))
-  word_stays (StoreCode i h c) may = else_ (code_index i) _ (λ e. omega (arith, may.0))
-  word_stays (StoreName m w) may = else_ (name_index p m) w (λ e. omega (arith, may.0))
-  word_stays (LoadName m) may = else_ (name_index p m) _ (λ e. omega (arith, may))
-  word_stays (StoreOpen o w) may = else_ (open_index p o) w (λ e. omega (arith, may.0))
-  word_stays (LoadOpen o) may = else_ (open_index p o) _ (λ e. omega (arith, may))
-  word_stays (LookWord id) may = else_ (ref_index (socket_id_slot id)) _ (λ e. omega (arith, may.0))
-  word_stays (FindLink i h) may = else_ (link_index i) _ (λ e. omega (arith, may.0))
-  word_stays (LoadCode i h) may = else_ (code_index i) _ (λ e. omega (arith, may.0))
   word_stays (ClaimRequest id r) may = dite (ℕ_discrete r q)
       (λ same. subst (λ z. 0 < get_or (set ws (request_index p z) (word_after (ClaimRequest id z) (get_or ws (request_index p z) 0))) (request_index p q) 0) (sym same)
       (here (word_after (ClaimRequest id q) (get_or ws (request_index p q) 0)) (split (eqb (get_or ws (request_index p q) 0 % 2) 0) (get_or ws (request_index p q) 0 + 1) (get_or ws (request_index p q) 0) (λ n. 0 < n) (omega arith) used)))
       (λ far. else_ (request_index p r) _ (λ e. far (omega arith)))
-  word_stays (Unconnect r) may = else_ (next_index p r) _ (λ e. omega arith)
-  word_stays (SwapHead i own) may = else_ (head_index i) _ (λ e. omega (arith, may.0))
-  word_stays (Connect r before) may = else_ (next_index p r) _ (λ e. omega arith)
-  word_stays (EmptyHead i last) may = else_ (head_index i) _ (λ e. omega (arith, may.0))
-  word_stays (ReadNext r) may = else_ (next_index p r) _ (λ e. omega arith)
-  word_stays (ReverseNext r value) may = else_ (next_index p r) _ (λ e. omega arith)
   word_stays (FreeRequest r g) may = dite (ℕ_discrete r q)
       (λ same. subst (λ z. 0 < get_or (set ws (request_index p z) (2 * (g + 1))) (request_index p q) 0) (sym same) (here (2 * (g + 1)) (omega arith)))
       (λ far. else_ (request_index p r) _ (λ e. far (omega arith)))
-  word_stays (StorePlace l k m) may = else_ (place_index p l) _ (λ e. omega arith)
-  word_stays (DropPlace l k m) may = else_ (place_index p l) _ (λ e. omega arith)
-  word_stays _ may = used
+  word_stays call may = subst (λ n. 0 < n) (sym (word_beside ws (all_words p) (request_index p q) (word_of p call) (word_after call (found_at ws (word_of p call))) (λ e. omega arith))) used

@@ -1,5 +1,5 @@
 //! What a row asks of the top call, and what that answers.
-ghost use Rattle.std.specs.Prelude.{◌≡◌, []};
+ghost use Rattle.brpc_eng.specs.Answers.{DidNothing};
 
 use brpc_eng::brpc;
 use sock_io::{Gate, Linker, MemSink, MemSource};
@@ -35,10 +35,7 @@ pub fn answered<R: Threads + Wait + Sync + Alloc<A = Global>, L: Linker, G: Gate
     links: &mut L,
     gate: &G,
 ) -> Result<Answer, AllocError>
-    requires asked { L.asked links.old ≡ [] }
-    requires back { L.back links.old ≡ [] }
-    requires accepted { L.accepted links.old ≡ 0 }
-    requires done { L.done links.old ≡ [] }
+    requires unused { DidNothing (L.asked links.old) (L.back links.old) (L.accepted links.old) (L.done links.old) }
 {
     let alloc = rt.alloc();
     let reads = vec![in alloc; asked.read]?;

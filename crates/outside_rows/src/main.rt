@@ -24,22 +24,18 @@ use std::time::Clock;
 
 /// What is said of a row, or what `ports` says.
 fn answer_to<
-    R: Threads
-        + Wait
-        + Sync
-        + Clock
-        + Alloc<A = Global>
-        + Net<Stream = TcpStream, Listener = TcpListener>,
->(rt: &R, row: &str) -> Result<String, AllocError> {
+    R: Threads + Wait + Sync + Alloc<A = Global> + Net<Stream = TcpStream, Listener = TcpListener>,
+    C: Clock + Sync,
+>(rt: &R, clock: &C, row: &str) -> Result<String, AllocError> {
     if row == "ports" {
-        return over_ports(rt);
+        return over_ports(rt, clock);
     }
     said(rt, row)
 }
 
 fn main(rt: HostRuntime) -> io::Result<()> {
     for row in rt.lines(rt.alloc()) {
-        let answer = answer_to(&rt, row?.as_str())?;
+        let answer = answer_to(&rt, &rt, row?.as_str())?;
         println!(rt; "{answer}")?;
     }
     Ok(())

@@ -1,5 +1,5 @@
 //! The top call over each kind of links.
-ghost use Rattle.std.specs.Prelude.{◌≡◌, []};
+ghost use Rattle.brpc_eng.specs.Answers.{DidNothing};
 
 use crate::answer::{Answer, Asked, answered, shown};
 use crate::crowd::is_of_crowd;
@@ -96,16 +96,12 @@ fn given_back<R: Threads + Wait + Sync + Alloc<A = Global>, L: Linker + Drop>(
     asked: Asked,
     links: Noting<L>,
 ) -> Result<String, AllocError>
-    requires asked { L.asked links.inner ≡ [] }
-    requires back { L.back links.inner ≡ [] }
-    requires accepted { L.accepted links.inner ≡ 0 }
-    requires done { L.done links.inner ≡ [] }
+    requires unused { DidNothing (L.asked links.inner) (L.back links.inner) (L.accepted links.inner) (L.done links.inner) }
 {
     let alloc = rt.alloc();
     let mut links = links;
     let status = answered(rt, asked, &mut links, &OpenGate)?.status;
-    let noted = links.noted();
-    format!(in alloc; "{status} {noted:?}")
+    format!(in alloc; "{status} {:?}", links.noted())
 }
 
 /// Over links in memory, where an `open` fails.
@@ -136,9 +132,8 @@ pub fn over_crowd<R: Threads + Wait + Sync + Alloc<A = Global>>(
     let alloc = rt.alloc();
     let mut links = HeldLinker::new(rt, alloc, new_flags(alloc, false)?);
     let answer = answered(rt, asked, &mut links, &OpenGate)?;
-    let status = answer.status;
     let is_whole = is_of_crowd(alloc, answer.written.as_slice(), links.took())?;
-    format!(in alloc; "{status} whole {is_whole}")
+    format!(in alloc; "{} whole {is_whole}", answer.status)
 }
 
 /// Over a link whose first put lasts until client 2 comes to its second operation: that, and whether it came there.

@@ -62,38 +62,30 @@ fn run_once<
 
 /// The same, as soon as somebody listens.
 fn run_once_served<
-    R: Threads
-        + Wait
-        + Sync
-        + Clock
-        + Alloc<A = Global>
-        + Net<Stream = TcpStream, Listener = TcpListener>,
->(rt: &R, port: u16) -> Option<Answer> {
+    R: Threads + Wait + Sync + Alloc<A = Global> + Net<Stream = TcpStream, Listener = TcpListener>,
+    C: Clock + Sync,
+>(rt: &R, clock: &C, port: u16) -> Option<Answer> {
     for _ in 0..TRIES {
         let answer = run_once(rt, port)?;
         if answer.status != NO_LINK {
             return Some(answer);
         }
-        thread::sleep(rt, Duration::from_millis(PAUSE));
+        thread::sleep(clock, Duration::from_millis(PAUSE));
     }
     run_once(rt, port)
 }
 
 /// Both at once; at another port where this one was taken in between.
 fn both_at_once<
-    R: Threads
-        + Wait
-        + Sync
-        + Clock
-        + Alloc<A = Global>
-        + Net<Stream = TcpStream, Listener = TcpListener>,
->(rt: &R) -> Option<Beside> {
+    R: Threads + Wait + Sync + Alloc<A = Global> + Net<Stream = TcpStream, Listener = TcpListener>,
+    C: Clock + Sync,
+>(rt: &R, clock: &C) -> Option<Beside> {
     for _ in 0..PORTS {
         let port = free_port(rt).ok()?;
         let (served, ran) = thread::join(
             rt,
             move || serve_one(rt, port),
-            move || run_once_served(rt, port),
+            move || run_once_served(rt, clock, port),
         );
         let (server, client) = (served?, ran?);
         if server.status != NO_LINK || client.status != NO_LINK {
@@ -105,15 +97,11 @@ fn both_at_once<
 
 /// What both answer, the client to a script with one call.
 pub fn over_ports<
-    R: Threads
-        + Wait
-        + Sync
-        + Clock
-        + Alloc<A = Global>
-        + Net<Stream = TcpStream, Listener = TcpListener>,
->(rt: &R) -> Result<String, AllocError> {
+    R: Threads + Wait + Sync + Alloc<A = Global> + Net<Stream = TcpStream, Listener = TcpListener>,
+    C: Clock + Sync,
+>(rt: &R, clock: &C) -> Result<String, AllocError> {
     let alloc = rt.alloc();
-    let Some(Beside { server, client }) = both_at_once(rt) else {
+    let Some(Beside { server, client }) = both_at_once(rt, clock) else {
         return String::from_str(alloc, "no port or no memory");
     };
     let server = shown(alloc, &server)?;

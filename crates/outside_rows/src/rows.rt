@@ -4,6 +4,7 @@ use crate::over::{
     back_of_rings, back_of_sinks, both, over_connection, over_crowd, over_given, over_held,
     over_loops, over_rings, over_sinks,
 };
+use row_text::expanded;
 use std::alloc::{AllocError, Global};
 use std::sync::Wait;
 use std::thread::Threads;
@@ -37,17 +38,6 @@ fn over<R: Threads + Wait + Sync + Alloc<A = Global>>(
         "sinks" => over_sinks(rt, asked),
         "loops" => over_loops(rt, asked),
         "rings" => over_rings(rt, asked),
-        _ => over_noting(rt, word, asked),
-    }
-}
-
-/// And where more is told than what is written.
-fn over_noting<R: Threads + Wait + Sync + Alloc<A = Global>>(
-    rt: &R,
-    word: &str,
-    asked: Asked,
-) -> Result<String, AllocError> {
-    match word {
         "back" => back_of_sinks(rt, asked),
         "back-rings" => back_of_rings(rt, asked),
         "crowd" => over_crowd(rt, asked),
@@ -94,7 +84,7 @@ fn asked_by(alloc: Global, rest: &str) -> Result<Asked, AllocError> {
     let mut numbers = parts.next().unwrap_or("").split(' ');
     let words = words_of(alloc, parts.next().unwrap_or(""))?;
     let _ = parts.next();
-    let input = expanded(alloc, parts.next().unwrap_or(""))?;
+    let input = expanded(alloc, parts.next().unwrap_or(""))?.into_bytes();
     Ok(Asked {
         read: u64::from(number(numbers.next())),
         write: u64::from(number(numbers.next())),
@@ -109,7 +99,7 @@ fn asked_by(alloc: Global, rest: &str) -> Result<Asked, AllocError> {
 /// The number of these digits, 0 for others.
 fn number(digits: Option<&str>) -> u32 {
     match digits {
-        Some(digits) => digits.parse::<u32>().unwrap_or(0),
+        Some(digits) => row_text::number(digits),
         None => 0,
     }
 }
@@ -118,46 +108,6 @@ fn size(digits: Option<&str>) -> usize {
     match digits {
         Some(digits) => digits.parse::<usize>().unwrap_or(0),
         None => 0,
-    }
-}
-
-/// The bytes of a text, in which `|` stands for the end of a line and `^` for a return before it, and `*N TEXT*` for N times TEXT.
-fn expanded(alloc: Global, text: &str) -> Result<Vec<u8>, AllocError> {
-    let mut bytes = Vec::new(alloc);
-    let mut is_many = false;
-    for piece in text.split('*') {
-        if is_many {
-            push_many(&mut bytes, piece)?;
-        } else {
-            push_lines(&mut bytes, piece)?;
-        }
-        is_many = !is_many;
-    }
-    Ok(bytes)
-}
-
-fn push_many(bytes: &mut Vec<u8>, piece: &str) -> Result<(), AllocError> {
-    let Some((count, part)) = piece.split_once(" ") else {
-        return Ok(());
-    };
-    for _ in 0..number(Some(count)) {
-        push_lines(bytes, part)?;
-    }
-    Ok(())
-}
-
-fn push_lines(bytes: &mut Vec<u8>, part: &str) -> Result<(), AllocError> {
-    for byte in part.as_bytes() {
-        bytes.push(line_byte(*byte))?;
-    }
-    Ok(())
-}
-
-fn line_byte(byte: u8) -> u8 {
-    match byte {
-        b'|' => b'\n',
-        b'^' => b'\r',
-        _ => byte,
     }
 }
 
@@ -191,8 +141,8 @@ fn both_said<R: Threads + Wait + Sync + Alloc<A = Global>>(
     script: &str,
 ) -> Result<String, AllocError> {
     let alloc = rt.alloc();
-    let by_steps = asked_in(alloc, "replay", expanded(alloc, script)?)?;
-    let threads = asked_in(alloc, "run", expanded(alloc, script)?)?;
+    let by_steps = asked_in(alloc, "replay", expanded(alloc, script)?.into_bytes())?;
+    let threads = asked_in(alloc, "run", expanded(alloc, script)?.into_bytes())?;
     both(rt, by_steps, threads)
 }
 
@@ -202,7 +152,7 @@ fn given_said<R: Threads + Wait + Sync + Alloc<A = Global>>(
     digits: &str,
 ) -> Result<String, AllocError> {
     let alloc = rt.alloc();
-    let script = expanded(alloc, "open a|client|call a Echo.Echo 6869|")?;
+    let script = Vec::from_slice(alloc, b"open a\nclient\ncall a Echo.Echo 6869\n")?;
     let asked = asked_in(alloc, "replay", script)?;
     over_given(rt, asked, bytes_of(alloc, digits))
 }

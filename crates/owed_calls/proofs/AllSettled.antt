@@ -22,13 +22,9 @@ use Rattle.owed_calls.specs.Owing.{Free, Owing, InList, DutyTo, Among}
 use Rattle.owed_calls.specs.Owes.{OwesOn}
 use Rattle.owed_calls.specs.Sound.{id_word_of, Owed, by_seat, by_retry, by_reader, Failed, SoundOwing, AllRest, retry_tokens}
 use Rattle.owed_calls.specs.Settled.{IsAtRest, WaitsAside, WaitsForOpen, OpensKnown}
+use Rattle.owed_calls.proofs.Resolves.{inside_of}
 use Rattle.owed_calls.proofs.End.{beside, none_held}
 use Rattle.joint_runs.specs.id_runs.proofs.Loops.{and_left, and_right}
-
-inside_of : {A : Type 0} (l : List A) (i : ℕ) (a : A) → get_elem? l i ≡ some a → i < length l
-inside_of [] i a at = absurd (some-ne-none a (sym at))
-inside_of (x ∷ xs) zero a at = omega arith
-inside_of (x ∷ xs) (suc i) a at = let z = inside_of xs i a at in omega (arith, z)
 
 not_zero : (n : ℕ) → not (n == 0) ≡ true → n ≢ 0
 not_zero n e z = true≢false (sym e ∙ ap not (eq-eqb n 0 z))

@@ -7,32 +7,26 @@ use mathlib.Core.Option.{Option, none, some, some-injective, some-ne-none}
 use lib.ListN.{get_elem?}
 use Rattle.sock_words.specs.declared.kind.Kind.{Kind}
 use Rattle.sock_words.specs.declared.plain.Plan.{Plan}
-use Rattle.sock_io.specs.declared.link.Put.{Put}
-use Rattle.sock_io.specs.declared.link.Ready.{Ready}
 use Rattle.sock_model.specs.declared.home.Home.{Home}
 use Rattle.sock_model.specs.Messages.{Letter}
 use Rattle.sock_model.specs.Reads.{message, link_home}
-use Rattle.seat_programs.specs.Asides.{Step, Found, TakeBytes, Taking, Bytes}
-use Rattle.seat_programs.specs.Beside.{found_in, calls_after, more_given}
+use Rattle.seat_programs.specs.Asides.{Step, Found, TakeBytes, Bytes}
+use Rattle.seat_programs.specs.Beside.{found_in, calls_after}
 use Rattle.seat_programs.specs.Calls.{kind_of}
 use Rattle.seat_programs.specs.Asides.{kind_aside}
-use Rattle.seat_programs.specs.Programs.{Program, Do, Say, Sent, Rest, TakeMessage, TakeHome, PutHome, PutBytes, AskReady, Write, Aside, Round, Keep, Retries}
+use Rattle.seat_programs.specs.Programs.{Program, Do, Say, Sent, Rest, TakeMessage, TakeHome, PutBytes, AskReady, Write, Aside, Round, Keep, Retries}
 use Rattle.seat_programs.specs.Rounds.{round, kind_of_round}
 use Rattle.seat_programs.specs.Sends.{block}
 use Rattle.seat_programs.specs.Cores.{Calls, Core, SeatState}
-use Rattle.seat_programs.specs.Ticks.{Answer, Unasked, Moment, seats_of, taken, with_message, with_link, with_put, with_ready, with_found, step_with, tick_with, ticked, run, waits, IsAlwaysReady}
+use Rattle.seat_programs.specs.Ticks.{Answer, Unasked, Moment, seats_of, taken, with_message, with_link, with_found, step_with, tick_with, ticked, run, waits, IsAlwaysReady}
 use Rattle.seat_programs.specs.Runs.{kind_in, IsAtRest, from_to}
 use Rattle.seat_programs.specs.Scripts.{AreStill}
 use Rattle.joint_runs.specs.sock_runs.proofs.Waiting.{still}
 
 -- ## The run stays one that is ending
 
-given_keeps : (k : ℕ) (t : Taking) (a : Calls) → (more_given k t a).ending ≡ a.ending
-given_keeps k (Bytes bytes) a = refl
-given_keeps k _ a = refl
-
 after_keeps : (step : Step) (found : Found step) (a : Calls) → (calls_after step found a).ending ≡ a.ending
-after_keeps (TakeBytes k room) found a = given_keeps k found a
+after_keeps (TakeBytes k room) (Bytes bytes) a = refl
 after_keeps _ found a = refl
 
 module _ (p : Plan) (c : Core) (i : ℕ) (seat : SeatState) where
@@ -47,14 +41,6 @@ module _ (p : Plan) (c : Core) (i : ℕ) (seat : SeatState) where
   home_keeps k none next = refl
   home_keeps k (some home) next = refl
 
-  put_keeps : (bytes : List ℕ) (answer : Answer) (next : Put → Program) → Same (with_put p i seat c bytes answer next)
-  put_keeps bytes Unasked next = refl
-  put_keeps bytes _ next = refl
-
-  ready_keeps : (answer : Answer) (next : Ready → Program) → Same (with_ready p i seat c answer next)
-  ready_keeps Unasked next = refl
-  ready_keeps _ next = refl
-
   found_keeps : (step : Step) (x : Option (Found step)) (next : Found step → Program) → Same (with_found p i seat c step x next)
   found_keeps step none next = refl
   found_keeps step (some found) next = after_keeps step found c.calls
@@ -62,22 +48,17 @@ module _ (p : Plan) (c : Core) (i : ℕ) (seat : SeatState) where
   step_keeps : (answer : Answer) (program : Program) → Same (step_with p i seat c answer program)
   step_keeps answer (TakeMessage q next) = message_keeps q (message (λ (home : Home). home) c.homes q) (λ letter. next letter.0 letter.1)
   step_keeps answer (TakeHome k next) = home_keeps k (link_home (λ (home : Home). home) p c.homes k) next
-  step_keeps answer (PutBytes k asked bytes next) = put_keeps bytes answer next
-  step_keeps answer (AskReady k next) = ready_keeps answer next
+  step_keeps Unasked (PutBytes k asked bytes next) = refl
+  step_keeps _ (PutBytes k asked bytes next) = refl
+  step_keeps Unasked (AskReady k next) = refl
+  step_keeps _ (AskReady k next) = refl
   step_keeps answer (Aside step next) = found_keeps step (found_in step c.calls (taken answer)) next
   step_keeps answer _ = refl
 
   tick_keeps : (answer : Answer) (program : Program) → Same (tick_with p i seat c answer program)
   tick_keeps answer (Write w after) = step_keeps answer (block w after)
   tick_keeps answer (Round head next) = step_keeps answer (round head next)
-  tick_keeps answer (Do call next) = step_keeps answer (Do call next)
-  tick_keeps answer (TakeMessage q next) = step_keeps answer (TakeMessage q next)
-  tick_keeps answer (TakeHome k next) = step_keeps answer (TakeHome k next)
-  tick_keeps answer (PutHome k n after) = step_keeps answer (PutHome k n after)
-  tick_keeps answer (PutBytes k asked bytes next) = step_keeps answer (PutBytes k asked bytes next)
-  tick_keeps answer (AskReady k next) = step_keeps answer (AskReady k next)
-  tick_keeps answer (Aside step next) = step_keeps answer (Aside step next)
-  tick_keeps answer _ = refl
+  tick_keeps answer other = step_keeps answer other
 
 ticked_ending : (p : Plan) (c : Core) (m : Moment) → (ticked p c m).calls.ending ≡ c.calls.ending
 ticked_ending p c m = by_seat (get_elem? c.seats m.seat)

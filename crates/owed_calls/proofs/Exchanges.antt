@@ -1,5 +1,5 @@
 -- Each exchange on an id word keeps the law.
-use Rattle.std.proofs.Common.{◌≡◌, ℕ, ◌-◌, ◌<◌, ◌≤◌, ◌⊎◌, inl, inr, ⊎_elim, Bool, true, false, cond, eqb, eq-eqb, ne_eqb, List, Option, length, set, get_or, get_or-set_same, get_or-set_other, refl, sym, ap, ◌∙◌, subst, arith}
+use Rattle.std.proofs.Common.{◌≡◌, ℕ, ◌-◌, ◌<◌, ◌≤◌, ◌⊎◌, inl, inr, ⊎_elim, Bool, true, false, cond, eqb, eq-eqb, ne_eqb, List, ◌++◌, Option, length, set, get_or, get_or-set_same, get_or-set_other, refl, sym, ap, ◌∙◌, subst, arith}
 use Rattle.std.specs.Prelude as std
 use mathlib.Core.Logic.{dite}
 use native.Mathlib.Decide.{ℕ_discrete}
@@ -12,7 +12,7 @@ use Rattle.id_rule.specs.Lawful as ids
 use Rattle.seat_programs.specs.Asides.{id_slot, id_first}
 use Rattle.seat_programs.specs.Posts.{is_first}
 use Rattle.seat_programs.specs.Cores.{Core, SeatState, Calls, waiting_at}
-use Rattle.owed_calls.specs.Owing.{Duty, Free, Looking, Owing, Among, DutyTo, duty_tokens, freed, Posting, posts_on, leaves, has_ended}
+use Rattle.owed_calls.specs.Owing.{Duty, Free, Looking, Owing, Among, DutyTo, duty_tokens, with_duty, freed, Posting, posts_on, leaves, has_ended}
 use Rattle.owed_calls.specs.Sound.{id_word_of, at_of, retry_tokens, Past, Token, Distinct, IsAt, IsOpen, ErrorPast, Stored, OwingLaw}
 use Rattle.owed_calls.proofs.Posts.{true_false}
 use Rattle.owed_calls.proofs.Changes.{past_on}
@@ -85,46 +85,34 @@ module _ (q : IdPlan) (life : ℕ → Option ℕ) (calls : List ℕ) (c : Core) 
         still : (e : ℕ) → ErrorPast us id e → ErrorPast (set us i v) id e
         still e p some_ = ⊎_elim (λ y. inl y) (λ y. inr (past_on q life calls c c us i u v law at knows id (attempt_of e) y)) (p some_)
 
-    pub same_step : Step x u
-    same_step = record {
+    -- the duty is this one now, with none but its tokens
+    duty_step : (d : Duty) → ((id n : ℕ) → Among id n (duty_tokens d) → Among id n (duty_tokens u.duty)) → Distinct (duty_tokens d ++ retry_tokens (waiting_at c.calls.waiting i))
+        → ((id n : ℕ) → id_slot id < q.slots → IsOpen c id n → IsOpen (Set x) id n → DutyTo id n u.duty → DutyTo id n d) → Stored q calls (Set x) (set us i (with_duty d u)) d → Step x (with_duty d u)
+    duty_step d tokens distinct owes own = record {
       word = word_set x;
       ats = ats_set x;
       forward = forward;
       tokens_on = tokens_on;
-      opens = λ id n e f st a. opens id n u.duty e f st a;
-      errors = λ id low e f st. errors_on u (λ j m y. y) id e f st;
-      owes = λ id n low is is' d. d;
+      opens = λ id n e f st a. opens id n d e f st a;
+      errors = λ id low e f st. errors_on (with_duty d u) (λ j m y. y) id e f st;
+      owes = owes;
       knows = λ id n a. a;
       learns = λ id n a. inl (own_past id n a);
-      tokens = λ id n a. inl a;
-      distinct = law.distinct i u at;
+      tokens = λ id n a. inl (tokens id n a);
+      distinct = distinct;
       link = refl;
       left = refl;
       dead = refl;
       keeps = refl;
-      own = stored_there x (back_at x forward) u.duty (law.stored i u at);
+      own = own;
     }
+
+    pub same_step : Step x u
+    same_step = duty_step u.duty (λ id n a. a) (law.distinct i u at) (λ id n low is is' d. d) (stored_there x (back_at x forward) u.duty (law.stored i u at))
 
     -- and the seat owes nothing any more
     pub freed_step : ((id n : ℕ) → id_slot id < q.slots → IsOpen c id n → IsOpen (Set x) id n → DutyTo id n u.duty → ⊥) → Step x (freed u)
-    freed_step none_ = record {
-      word = word_set x;
-      ats = ats_set x;
-      forward = forward;
-      tokens_on = tokens_on;
-      opens = λ id n e f st a. opens id n Free e f st a;
-      errors = λ id low e f st. errors_on (freed u) (λ j m y. y) id e f st;
-      owes = λ id n low is is' d. absurd (none_ id n low is is' d);
-      knows = λ id n a. a;
-      learns = λ id n a. inl (own_past id n a);
-      tokens = λ id n a. absurd a;
-      distinct = tail;
-      link = refl;
-      left = refl;
-      dead = refl;
-      keeps = refl;
-      own = tt;
-    }
+    freed_step none_ = duty_step Free (λ id n a. absurd a) tail none_ tt
 
     -- a word of the id that its seat looks for a post, a lock or a look
     pub posting_keeps : (found : ℕ) (won : Bool) (v : Owing) → parts found ≡ id_word_of c s → (won ≡ true → (parts x).state ≡ 1 → ⊥) → Posting s found won u v → OwingLaw q life calls (Set x) (set us i v)

@@ -121,38 +121,24 @@ module _ (q : IdPlan) (life : ℕ → Option ℕ) (calls : List ℕ) (c : Core) 
     stored_with v knows (Looking id n k o) s = (s.0, s.1, past_on q life calls c c us i u v law at knows id n s.2, s.3, s.4)
     stored_with v knows _ s = tt
 
-    -- nothing but the duty, the knowledge or a flag changes
-    abbrev Q : Core
-    Q = record { words = ws; homes = hs; seats = ss; outcomes = os; calls = c.calls }
+    abbrev Known : Duty → List (ℕ × ℕ) → Owing
+    Known d ks = record { duty = d; knows = ks; keeps = u.keeps; link = u.link; left = u.left; dead = u.dead }
 
-    pub same_marks : Marks u
-    same_marks = record {
-      knows = λ id n a. a;
-      learns = λ id n a. inl (own_past id n a);
-      tokens = λ id n a. a;
-      distinct = law.distinct i u at;
-      owes = λ id n inside is d. by_seat i u (set_at us i u u at) d;
-      lefts = λ id n o k s inside is low lives word l left. by_reader o k s i u low lives word (set_at us i u u at) l left;
-      letters = here u (λ id n a. a);
-      link = refl;
-      reads = λ k s l e r. r;
-      failed = failed;
-      dead = λ k l d. failed k (law.dead i k u at l d);
-      own = stored_with u (λ id n a. a) u.duty (law.stored i u at);
-      keeps = λ e. e;
-    }
+    -- what the seat owed is owed still, where its marks are these
+    abbrev Owes : Owing → Type 0
+    Owes v = (id n : ℕ) → id_slot id < q.slots → IsOpen c id n → DutyTo id n u.duty → Owed q life (record { words = ws; homes = hs; seats = ss; outcomes = os; calls = c.calls }) (set us i v) id n
 
-    -- a duty changes
-    pub duty_marks : (d : Duty) → ((id n : ℕ) → Among id n (duty_tokens d) → Among id n (duty_tokens u.duty)) → Distinct (duty_tokens d ++ retry_tokens (waiting_at c.calls.waiting i))
-        → ((id n : ℕ) → id_slot id < q.slots → IsOpen c id n → DutyTo id n u.duty → Owed q life (record { words = ws; homes = hs; seats = ss; outcomes = os; calls = c.calls }) (set us i (with_duty d u)) id n) → Stored q calls c (set us i (with_duty d u)) d → Marks (with_duty d u)
-    duty_marks d tokens distinct owes own = record {
-      knows = λ id n a. a;
-      learns = λ id n a. inl (own_past id n a);
+    -- the duty and what is known change
+    known_marks : (d : Duty) (ks : List (ℕ × ℕ)) → ((id n : ℕ) → Among id n u.knows → Among id n ks) → ((id n : ℕ) → Among id n ks → Past us id n ⊎ (Among id n (duty_tokens u.duty) × (duty_tokens d ≡ [])))
+        → ((id n : ℕ) → Among id n (duty_tokens d) → Among id n (duty_tokens u.duty)) → Distinct (duty_tokens d ++ retry_tokens (waiting_at c.calls.waiting i)) → Owes (Known d ks) → Stored q calls c (set us i (Known d ks)) d → Marks (Known d ks)
+    known_marks d ks knows learns tokens distinct owes own = record {
+      knows = knows;
+      learns = learns;
       tokens = tokens;
       distinct = distinct;
       owes = owes;
-      lefts = λ id n o k s inside is low lives word l left. by_reader o k s i (with_duty d u) low lives word (set_at us i u (with_duty d u) at) l left;
-      letters = here (with_duty d u) (λ id n a. a);
+      lefts = λ id n o k s inside is low lives word l left. by_reader o k s i (Known d ks) low lives word (set_at us i u (Known d ks) at) l left;
+      letters = here (Known d ks) knows;
       link = refl;
       reads = λ k s l e r. r;
       failed = failed;
@@ -161,26 +147,20 @@ module _ (q : IdPlan) (life : ℕ → Option ℕ) (calls : List ℕ) (c : Core) 
       keeps = λ e. e;
     }
 
+    pub duty_marks : (d : Duty) → ((id n : ℕ) → Among id n (duty_tokens d) → Among id n (duty_tokens u.duty)) → Distinct (duty_tokens d ++ retry_tokens (waiting_at c.calls.waiting i)) → Owes (with_duty d u) → Stored q calls c (set us i (with_duty d u)) d → Marks (with_duty d u)
+    duty_marks d = known_marks d u.knows (λ id n a. a) (λ id n a. inl (own_past id n a))
+
+    pub same_marks : Marks u
+    same_marks = duty_marks u.duty (λ id n a. a) (law.distinct i u at) (λ id n inside is d. by_seat i u (set_at us i u u at) d) (stored_with u (λ id n a. a) u.duty (law.stored i u at))
+
     tail : Distinct (retry_tokens (waiting_at c.calls.waiting i))
     tail = distinct_tail (duty_tokens u.duty) (retry_tokens (waiting_at c.calls.waiting i)) (law.distinct i u at)
 
     -- the seat that tried gives up, and knows that its attempt is past
     pub told_marks : (id n : ℕ) → u.duty ≡ Trying id n → Marks (with_known id n (with_duty (Telling id n) u))
-    told_marks id n is = let v : Owing = with_known id n (with_duty (Telling id n) u) in record {
-      knows = λ i m a. inr a;
-      learns = λ j m a. ⊎_elim (λ e. inr (subst (λ (d : Duty). Among j m (duty_tokens d)) (sym is) (inl e), refl)) (λ b. inl (own_past j m b)) a;
-      tokens = λ j m a. absurd a;
-      distinct = tail;
-      owes = λ j m inside o d. by_seat i (with_known id n (with_duty (Telling id n) u)) (set_at us i u (with_known id n (with_duty (Telling id n) u)) at) (subst (DutyTo j m) is d);
-      lefts = λ j m o k s inside is low lives word l left. by_reader o k s i (with_known id n (with_duty (Telling id n) u)) low lives word (set_at us i u (with_known id n (with_duty (Telling id n) u)) at) l left;
-      letters = here (with_known id n (with_duty (Telling id n) u)) (λ j m a. inr a);
-      link = refl;
-      reads = λ k s l e r. r;
-      failed = failed;
-      dead = λ k l d. failed k (law.dead i k u at l d);
-      own = tt;
-      keeps = λ e. e;
-    }
+    told_marks id n is = known_marks (Telling id n) ((id, n) ∷ u.knows) (λ j m a. inr a)
+        (λ j m a. ⊎_elim (λ e. inr (subst (λ (d : Duty). Among j m (duty_tokens d)) (sym is) (inl e), refl)) (λ b. inl (own_past j m b)) a)
+        (λ j m a. absurd a) tail (λ j m inside o d. let v : Owing = with_known id n (with_duty (Telling id n) u) in by_seat i v (set_at us i u v at) (subst (DutyTo j m) is d)) tt
 
     -- a reader found its life failed
     pub dead_marks : (k : ℕ) → u.link ≡ k ∷ [] → Failed life (record { words = ws; homes = hs; seats = ss; outcomes = os; calls = c.calls }) k → Marks (with_dead u)

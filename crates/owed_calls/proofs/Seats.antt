@@ -10,13 +10,14 @@ use Rattle.corr_core.specs.declared.marks.Plan.{Plan as IdPlan}
 use Rattle.seat_programs.specs.Heads.{Retry}
 use Rattle.seat_programs.specs.Programs.{Program, Do, Say, Sent, Rest, TakeMessage, TakeHome, PutHome, PutBytes, AskReady, Write, Aside, Round, Keep, Retries}
 use Rattle.seat_programs.specs.Cores.{Core, SeatState, waiting_at, resolved, still_waiting, next_step}
+use Rattle.joint_runs.specs.sock_steps.proofs.Maps.{set_twice}
 use Rattle.owed_calls.specs.Owing.{Duty, Free, Trying, Owing, Among, DutyTo, duty_tokens, with_duty, freed, with_keeps}
 use Rattle.owed_calls.specs.Owes.{Further, OwesOn}
 use Rattle.owed_calls.specs.Sound.{retry_tokens, Distinct, Stored, OwingLaw}
 use Rattle.owed_calls.proofs.Posts.{same_further, then_further}
 use Rattle.owed_calls.proofs.Changes.{set_at}
 use Rattle.owed_calls.proofs.Programs.{retry_goes, from_freed}
-use Rattle.owed_calls.proofs.Resolves.{set_twice, inside_of, Rewait, rewaits}
+use Rattle.owed_calls.proofs.Resolves.{inside_of, same_but, Rewait, rewaits}
 
 abbrev pub Few : Retry → Type 0
 Few r = r.attempt ≤ 6
@@ -65,10 +66,7 @@ module _ (q : IdPlan) (life : ℕ → Option ℕ) (calls : List ℕ) (c : Core) 
         distinct = snoc_distinct ws r d.0 d.1;
         duty = λ id n o. inr (snoc_last id n ws r (subst (DutyTo id n) duty o));
         retry = λ id n a. inr (snoc_first id n ws r (subst (λ x. Among id n (retry_tokens x)) e a));
-        knows = refl;
-        link = refl;
-        left = refl;
-        dead = refl;
+        same = same_but u Free u.keeps;
         own = tt;
         kept = λ f. let z : true ≡ false = sym keeps ∙ f in absurd cc;
       }
@@ -80,10 +78,7 @@ module _ (q : IdPlan) (life : ℕ → Option ℕ) (calls : List ℕ) (c : Core) 
         distinct = subst (λ (x : Duty). Distinct (duty_tokens x ++ retry_tokens (r ∷ ws))) free (subst (λ x. Distinct (duty_tokens u.duty ++ retry_tokens x)) e (law.distinct i u at));
         duty = λ id n o. absurd (subst (DutyTo id n) free o);
         retry = λ id n a. subst (λ x. Among id n (retry_tokens x)) e a;
-        knows = refl;
-        link = refl;
-        left = refl;
-        dead = refl;
+        same = same_but u (Trying r.id r.attempt) u.keeps;
         own = tt;
         kept = λ f. let z : true ≡ false = sym keeps ∙ f in absurd cc;
       }
@@ -95,10 +90,7 @@ module _ (q : IdPlan) (life : ℕ → Option ℕ) (calls : List ℕ) (c : Core) 
         distinct = subst (λ x. Distinct (duty_tokens u.duty ++ retry_tokens x)) e (law.distinct i u at);
         duty = λ id n o. inl o;
         retry = λ id n a. inr (subst (λ x. Among id n (retry_tokens x)) e a);
-        knows = refl;
-        link = refl;
-        left = refl;
-        dead = refl;
+        same = same_but u u.duty b;
         own = law.stored i u at;
         kept = none_;
       }

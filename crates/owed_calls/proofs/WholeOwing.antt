@@ -37,7 +37,7 @@ use Rattle.owed_calls.proofs.OwingEnding.{owing_ending, owing_on}
 -- ## The ending
 
 gives_ending : (own : ℕ → ℕ → Type 0) (os : List ℕ) → Gives own (ending_of os)
-gives_ending own os = through_ending (Gives own) (gives_passes own).sends.plain (through_any_failed (Gives own) (gives_passes own) 1014) (gives_opens own) tt os
+gives_ending own os = through_ending (Gives own) (gives_passes own).sends.plain.words (through_any_failed (Gives own) (gives_passes own) 1014) (gives_opens own) tt os
 
 -- a seat that is at rest begins it
 pub linked_ending : (p : Plan) (own : ℕ → ℕ → Type 0) (os : List ℕ) (c : Core) (vs : List View) → Linked p own c vs → ((seat : SeatState) → get_elem? c.seats 0 ≡ some seat → seat.program ≡ Rest) → Linked p own (with_seat 0 (ending_of os) [] c.words c.homes c) vs

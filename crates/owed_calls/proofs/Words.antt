@@ -13,7 +13,7 @@ use Rattle.seat_programs.specs.Asides.{call_id, id_slot, id_first}
 use Rattle.seat_programs.specs.Heads.{Retry}
 use Rattle.seat_programs.specs.Cores.{Core, SeatState, Calls, waiting_at}
 use Rattle.owed_calls.specs.Owing.{Duty, Looking, Owing, Among, InList, DutyTo, duty_tokens}
-use Rattle.owed_calls.specs.Sound.{id_word_of, at_of, retry_tokens, Owed, by_seat, by_retry, by_reader, Past, Token, Distinct, HasEnded, IsAt, WasAt, IsOpen, ErrorPast, Stored, OwingLaw}
+use Rattle.owed_calls.specs.Sound.{id_word_of, at_of, retry_tokens, Owed, by_seat, by_retry, by_reader, Past, Token, Distinct, IsAt, IsOpen, ErrorPast, Stored, OwingLaw}
 use Rattle.owed_calls.proofs.Changes.{set_at, set_beside, change, past_on}
 
 -- an id word only goes forward
@@ -51,28 +51,6 @@ module _ (q : IdPlan) (life : ℕ → Option ℕ) (calls : List ℕ) (c : Core) 
     error_still : (id e : ℕ) → ErrorPast us id e → ErrorPast (set us i v) id e
     error_still id e p some_ = ⊎_elim (λ x. inl x) (λ x. inr (past_still id (attempt_of e) x)) (p some_)
 
-    ended : (id : ℕ) → HasEnded q c id → HasEnded q Then id
-    ended id e = ⊎_elim (λ same. (e.0, subst (λ (x : Parts). id_first id < x.first) (sym same) e.1))
-        (λ b. (
-          e.0,
-          subst (λ (x : Parts). id_first id < x.first) (sym b.1) (let low : id_first id < (id_word_of c s).first = subst (λ j. id_first id < (id_word_of c j).first) b.0 e.1 in
-              ⊎_elim (λ f. omega (arith, low, f)) (λ f. let z = f.0 in omega (arith, low, z)) m.forward),
-        )) (m.word (id_slot id) e.0)
-
-    was : (id n : ℕ) → WasAt q c id n → HasEnded q Then id ⊎ WasAt q Then id n
-    was id n x = ⊎_elim (λ same. inr (x.0, ap (λ (y : Parts). y.first) same ∙ x.1, subst (λ (y : Parts). 0 < y.state) (sym same) x.2, subst (λ (y : Parts). n ≤ y.attempt) (sym same) x.3))
-        (λ b. let first : (id_word_of c s).first ≡ id_first id = ap (λ j. (id_word_of c j).first) (sym b.0) ∙ x.1 in let some_ : 0 < (id_word_of c s).state = subst (λ j. 0 < (id_word_of c j).state) b.0 x.2 in let few : n ≤ (id_word_of c s).attempt = subst (λ j. n ≤ (id_word_of c j).attempt) b.0 x.3 in
-        ⊎_elim (λ f. inl (x.0, subst (λ (y : Parts). id_first id < y.first) (sym b.1) (omega (arith, f, first))))
-        (λ f. inr (x.0, ap (λ (y : Parts). y.first) b.1 ∙ f.0 ∙ first, subst (λ (y : Parts). 0 < y.state) (sym b.1) (f.1 some_).0, subst (λ (y : Parts). n ≤ y.attempt) (sym b.1) (let z = (f.1 some_).1 in omega (arith, few, z)))) m.forward)
-        (m.word (id_slot id) x.0)
-
-    tokens_on : (id n j : ℕ) → Token c us id n j → IsAt q c id n → HasEnded q Then id ⊎ IsAt q Then id n
-    tokens_on id n j t x = ⊎_elim (λ same. inr (x.0, ap (λ (y : Parts). y.first) same ∙ x.1, subst (λ (y : Parts). 0 < y.state) (sym same) x.2, ap (λ (y : Parts). y.attempt) same ∙ x.3))
-        (λ b. let first : (id_word_of c s).first ≡ id_first id = ap (λ j. (id_word_of c j).first) (sym b.0) ∙ x.1 in
-        ⊎_elim (λ f. inl (x.0, subst (λ (y : Parts). id_first id < y.first) (sym b.1) (omega (arith, f, first))))
-        (λ f. inr (x.0, ap (λ (y : Parts). y.first) b.1 ∙ f.0 ∙ first, subst (λ (y : Parts). 0 < y.state) (sym b.1) f.1, ap (λ (y : Parts). y.attempt) b.1 ∙ f.2)) (m.tokens_on id n j t b.0 x))
-        (m.word (id_slot id) x.0)
-
     -- whoever looks was at its attempt before, too
     back : (id n : ℕ) → Past us id n → IsAt q Then id n → IsAt q c id n
     back id n p x = ⊎_elim (λ same. (x.0, ap (λ (y : Parts). y.first) (sym same) ∙ x.1, subst (λ (y : Parts). 0 < y.state) same x.2, ap (λ (y : Parts). y.attempt) (sym same) ∙ x.3))
@@ -91,36 +69,43 @@ module _ (q : IdPlan) (life : ℕ → Option ℕ) (calls : List ℕ) (c : Core) 
         (λ here. let same = some-injective x u (sym e ∙ ap (get_elem? us) here ∙ at) in by_reader o k l i v low lives word' (set_at us i u v at) (m.link ∙ subst (λ (y : Owing). y.link ≡ k ∷ []) same linked) (subst (InList o) (sym m.left) (subst (λ (y : Owing). InList o y.left) same left)))
         (λ ne. by_reader o k l j x low lives word' (set_beside us i j v x ne e) linked left)
 
-    owed : (id n : ℕ) → id_slot id < q.slots → IsOpen Then id n → Owed q life Then (set us i v) id n
-    owed id n inside x = ⊎_elim
-        (λ same. let is : IsOpen c id n = (ap (λ (y : Parts). y.first) (sym same) ∙ x.0, ap (λ (y : Parts). y.state) (sym same) ∙ x.1, ap (λ (y : Parts). y.attempt) (sym same) ∙ x.2) in owed_still id n inside is x (law.owed id n inside is))
-        (λ b. ⊎_elim (λ is. owed_still id n inside is x (law.owed id n inside is)) (λ d. by_seat i v (set_at us i u v at) d)
-        (m.opens id n b.0 (ap (λ (y : Parts). y.first) (sym b.1) ∙ x.0) (ap (λ (y : Parts). y.state) (sym b.1) ∙ x.1) (ap (λ (y : Parts). y.attempt) (sym b.1) ∙ x.2)))
-        (m.word (id_slot id) inside)
-
-    errors : (id : ℕ) → id_slot id < q.slots → (id_word_of Then (id_slot id)).first ≡ id_first id → 0 < (id_word_of Then (id_slot id)).state → ErrorPast (set us i v) id (id_word_of Then (id_slot id)).oldest × ErrorPast (set us i v) id (id_word_of Then (id_slot id)).second
-    errors id inside f x = ⊎_elim
-        (λ same. subst (λ (y : Parts). ErrorPast (set us i v) id y.oldest × ErrorPast (set us i v) id y.second) (sym same)
-        (let e = law.errors id inside (ap (λ (y : Parts). y.first) (sym same) ∙ f) (subst (λ (y : Parts). 0 < y.state) same x) in (error_still id (id_word_of c (id_slot id)).oldest e.0, error_still id (id_word_of c (id_slot id)).second e.1)))
-        (λ b. subst (λ (y : Parts). ErrorPast (set us i v) id y.oldest × ErrorPast (set us i v) id y.second) (sym b.1) (m.errors id inside b.0 (ap (λ (y : Parts). y.first) (sym b.1) ∙ f) (subst (λ (y : Parts). 0 < y.state) b.1 x)))
-        (m.word (id_slot id) inside)
-
     still_stored : (d : Duty) → Stored q calls c us d → Stored q calls Then (set us i v) d
     still_stored (Looking id n k o) x = (x.0, x.1, past_still id n x.2, λ is. m.ats o x.0 ∙ x.3 (back id n x.2 is), x.4)
     still_stored _ x = tt
 
     pub worded : OwingLaw q life calls Then (set us i v)
     worded = change q life calls c Then us i u v law at record {
-      ended = ended;
-      was = was;
+      ended = λ id e. ⊎_elim (λ same. (e.0, subst (λ (x : Parts). id_first id < x.first) (sym same) e.1))
+          (λ b. (
+            e.0,
+            subst (λ (x : Parts). id_first id < x.first) (sym b.1) (let low : id_first id < (id_word_of c s).first = subst (λ j. id_first id < (id_word_of c j).first) b.0 e.1 in
+                ⊎_elim (λ f. omega (arith, low, f)) (λ f. let z = f.0 in omega (arith, low, z)) m.forward),
+          )) (m.word (id_slot id) e.0);
+      was = λ id n x. ⊎_elim (λ same. inr (x.0, ap (λ (y : Parts). y.first) same ∙ x.1, subst (λ (y : Parts). 0 < y.state) (sym same) x.2, subst (λ (y : Parts). n ≤ y.attempt) (sym same) x.3))
+          (λ b. let first : (id_word_of c s).first ≡ id_first id = ap (λ j. (id_word_of c j).first) (sym b.0) ∙ x.1 in let some_ : 0 < (id_word_of c s).state = subst (λ j. 0 < (id_word_of c j).state) b.0 x.2 in let few : n ≤ (id_word_of c s).attempt = subst (λ j. n ≤ (id_word_of c j).attempt) b.0 x.3 in
+          ⊎_elim (λ f. inl (x.0, subst (λ (y : Parts). id_first id < y.first) (sym b.1) (omega (arith, f, first))))
+          (λ f. inr (x.0, ap (λ (y : Parts). y.first) b.1 ∙ f.0 ∙ first, subst (λ (y : Parts). 0 < y.state) (sym b.1) (f.1 some_).0, subst (λ (y : Parts). n ≤ y.attempt) (sym b.1) (let z = (f.1 some_).1 in omega (arith, few, z)))) m.forward)
+          (m.word (id_slot id) x.0);
       waiting = waits;
-      tokens_on = tokens_on;
+      tokens_on = λ id n j t x. ⊎_elim (λ same. inr (x.0, ap (λ (y : Parts). y.first) same ∙ x.1, subst (λ (y : Parts). 0 < y.state) (sym same) x.2, ap (λ (y : Parts). y.attempt) same ∙ x.3))
+          (λ b. let first : (id_word_of c s).first ≡ id_first id = ap (λ j. (id_word_of c j).first) (sym b.0) ∙ x.1 in
+          ⊎_elim (λ f. inl (x.0, subst (λ (y : Parts). id_first id < y.first) (sym b.1) (omega (arith, f, first))))
+          (λ f. inr (x.0, ap (λ (y : Parts). y.first) b.1 ∙ f.0 ∙ first, subst (λ (y : Parts). 0 < y.state) (sym b.1) f.1, ap (λ (y : Parts). y.attempt) b.1 ∙ f.2)) (m.tokens_on id n j t b.0 x))
+          (m.word (id_slot id) x.0);
       knows = m.knows;
       learns = m.learns;
       tokens = m.tokens;
       distinct = m.distinct;
-      owed = owed;
-      errors = errors;
+      owed = λ id n inside x. ⊎_elim
+          (λ same. let is : IsOpen c id n = (ap (λ (y : Parts). y.first) (sym same) ∙ x.0, ap (λ (y : Parts). y.state) (sym same) ∙ x.1, ap (λ (y : Parts). y.attempt) (sym same) ∙ x.2) in owed_still id n inside is x (law.owed id n inside is))
+          (λ b. ⊎_elim (λ is. owed_still id n inside is x (law.owed id n inside is)) (λ d. by_seat i v (set_at us i u v at) d)
+          (m.opens id n b.0 (ap (λ (y : Parts). y.first) (sym b.1) ∙ x.0) (ap (λ (y : Parts). y.state) (sym b.1) ∙ x.1) (ap (λ (y : Parts). y.attempt) (sym b.1) ∙ x.2)))
+          (m.word (id_slot id) inside);
+      errors = λ id inside f x. ⊎_elim
+          (λ same. subst (λ (y : Parts). ErrorPast (set us i v) id y.oldest × ErrorPast (set us i v) id y.second) (sym same)
+          (let e = law.errors id inside (ap (λ (y : Parts). y.first) (sym same) ∙ f) (subst (λ (y : Parts). 0 < y.state) same x) in (error_still id (id_word_of c (id_slot id)).oldest e.0, error_still id (id_word_of c (id_slot id)).second e.1)))
+          (λ b. subst (λ (y : Parts). ErrorPast (set us i v) id y.oldest × ErrorPast (set us i v) id y.second) (sym b.1) (m.errors id inside b.0 (ap (λ (y : Parts). y.first) (sym b.1) ∙ f) (subst (λ (y : Parts). 0 < y.state) b.1 x)))
+          (m.word (id_slot id) inside);
       letters = λ r heading bytes e some_. let l = law.letters r heading bytes e some_ in (past_still heading.owner heading.attempt l.0, l.1);
       ats = λ o low some_. subst (λ x. Past (set us i v) (call_id (at_word_slot x) (at_word_first x)) (at_word_attempt x)) (sym (m.ats o low))
           (past_still (call_id (at_word_slot (at_of q c o)) (at_word_first (at_of q c o))) (at_word_attempt (at_of q c o)) (law.ats o low (λ z. some_ (m.ats o low ∙ z))));

@@ -110,7 +110,7 @@ module _ (own : ℕ → ℕ → Type 0) where
       (λ _ _ _ word. (tt, (mine, refl, λ _ _. after))) (names_open more (i + 1) o name k next mine after)
 
   names_client : (sizes : Sizes) (ts : List Task) (held : List HeldLife) → AllByRecursion (λ (t : Task). OwnsLink own t.number t.op) ts → G (client_from sizes held ts)
-  names_client sizes [] held mine = through_back G names_passes.sends.plain tt held
+  names_client sizes [] held mine = through_back G names_passes.sends.plain.words tt held
   names_client sizes (t ∷ ts) held mine = let after : (h : List HeldLife) → G (client_from sizes h ts) = λ h. names_client sizes ts h mine.1 in
       through_any G names_passes sizes held t.number (λ h. client_from sizes h ts) t.op after
       (λ name k e. names_open sizes.slots 0 t.number name k (client_from sizes held ts) (subst (OwnsLink own t.number) e mine.0) (after held))
@@ -126,7 +126,7 @@ module _ (own : ℕ → ℕ → Type 0) where
   names_others (suc n) calls os k (suc i) x e = names_others n calls os k i x e
 
   names_ending : (os : List ℕ) → G (ending_of os)
-  names_ending os = through_ending G names_passes.sends.plain (through_any_failed G names_passes 1014) names_opens tt os
+  names_ending os = through_ending G names_passes.sends.plain.words (through_any_failed G names_passes 1014) names_opens tt os
 
 -- ## All seats
 

@@ -6,7 +6,8 @@ use Rattle.std.proofs.Math.Seq.{take-length, drop-length}
 use Rattle.rpc_meta.specs.brpc_model.specs.Meta as metas
 use Rattle.rpc_meta.specs.brpc_model.specs.Meta.{Meta, read_meta}
 use Rattle.rpc_meta.specs.brpc_model.specs.Frame.{Judged, Faulty, Begins, AttachOver, body_judged, with_attachment}
-use Rattle.rpc_meta.specs.Answer.{answer}
+use Rattle.rpc_meta.specs.Meaning.{meaning}
+use Rattle.rpc_meta.specs.Answer.{answer_as}
 use Rattle.rpc_meta.specs.declared.fault.MetaFault.{MetaFault}
 use Rattle.rpc_meta.specs.declared.fault.MetaFault.TheVariants as fault_
 use Rattle.prpc_frame.specs.declared.fault.FrameFault.TheVariants as frame_
@@ -19,7 +20,7 @@ use Rattle.prpc_frame.specs.declared.fault.NextFault.TheVariants as next_
 
 -- the fault of a meta
 pub meta_faulty : (fault : MetaFault) (read : Result Meta metas.MetaFault) (behind : List ℕ) (body : ℕ) → (fault ≡ fault_.NoMemory → ⊥) →
-    IfSome (answer (Err fault)) (λ r. r ≡ read) → IsFault (body_judged read behind body) (frame_.Meta fault)
+    IfSome (answer_as meaning (Err fault)) (λ r. r ≡ read) → IsFault (body_judged read behind body) (frame_.Meta fault)
 meta_faulty (fault_.Wire w) read behind body n e = ap (λ (r : Result Meta metas.MetaFault). Some (body_judged r behind body)) e
 meta_faulty fault_.NoService read behind body n e = ap (λ (r : Result Meta metas.MetaFault). Some (body_judged r behind body)) e
 meta_faulty fault_.NoMethod read behind body n e = ap (λ (r : Result Meta metas.MetaFault). Some (body_judged r behind body)) e

@@ -6,6 +6,5 @@ pub mod Held
 pub mod Inside
 pub mod Leads
 pub mod Cuts
-pub mod View
 pub mod Front
 pub use Rattle.rpc_meta

@@ -4,8 +4,8 @@ ghost use Rattle.prpc_frame.specs.Header.{IsWhole};
 
 use crate::body::attachment_bytes;
 use crate::header::{HEADER_BYTES, Sizes, judge_header};
-use crate::view::{MetaView, view_meta};
 use io_buf::IoBuf;
+use rpc_meta::MetaView;
 
 /// A frame that lies in one piece of what a cutter holds.
 #[derive(Clone, Copy)]
@@ -39,7 +39,9 @@ pub fn read_front(bytes: &[u8]) -> Option<FrontFrame<'_>>
     let sizes = whole_sizes(bytes)?;
     let behind = HEADER_BYTES + sizes.meta as usize;
     let size = HEADER_BYTES + sizes.body as usize;
-    let meta = view_meta(&bytes[HEADER_BYTES..behind])?;
+    let Ok(meta) = MetaView::read(&bytes[HEADER_BYTES..behind]) else {
+        return None;
+    };
     let room = sizes.body - sizes.meta;
     let Ok(attached) = attachment_bytes(meta.attachment_size, room) else {
         return None;

@@ -12,7 +12,6 @@ mod fault;
 mod frame;
 mod front;
 mod header;
-mod view;
 
 pub use cutter::Cutter;
 pub use encoding::{begins_with_one_frame, encode};
@@ -20,5 +19,4 @@ pub use fault::{FrameFault, NextFault};
 pub use frame::Frame;
 pub use front::FrontFrame;
 pub use io_buf::{BlockPool, IoBuf, NoMemory};
-pub use rpc_meta::{MetaFault, RpcMeta};
-pub use view::{MetaView, RequestView, ResponseView};
+pub use rpc_meta::{MetaFault, MetaView, RequestView, ResponseView, RpcMeta};

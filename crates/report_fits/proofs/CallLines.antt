@@ -7,10 +7,12 @@ use Rattle.brpc_model.specs.Text.{number_in, name_in, method_in, service_in, hex
 use Rattle.brpc_model.specs.Items.{CallLine}
 use Rattle.brpc_model.specs.Lines.{names_in, bodies_in, call_in}
 
+abbrev pub AreNames : List (List ℕ) → Type 0
+AreNames ns = (1 ≤ length ns) × (length ns ≤ 2)
+
 -- a call names one name or two, its service and method have so many bytes, and so have its bodies together; it is retried so often
 pub record CallInRange (call : CallLine) : Type 0 where
-  pub some_name : 1 ≤ length call.names
-  pub few_names : length call.names ≤ 2
+  pub names : AreNames call.names
   pub service : length call.service ≤ 64
   pub method : length call.method ≤ 64
   pub bodies : length call.payload + length call.attachment ≤ 65280
@@ -35,9 +37,6 @@ service_range w = spelled_range _ _ 64 w
 
 method_range : (w : List ℕ) → IfOk (method_in w) (λ x. length x ≤ 64)
 method_range w = spelled_range _ _ 64 w
-
-abbrev AreNames : List (List ℕ) → Type 0
-AreNames ns = (1 ≤ length ns) × (length ns ≤ 2)
 
 one_name : (r : Reads (List ℕ)) → IfOk (Ok (λ n. n ∷ []) <*> r) AreNames
 one_name (Ok n) = (omega arith, omega arith)
@@ -91,7 +90,7 @@ made_range names service method bodies retry n s m b r =
     (part_with (Ok make_call <*> names <*> service) method Size Three
     (part_with (Ok make_call <*> names) service Size Two
     (part_with (Ok make_call) names AreNames One
-    (λ ns a. λ sv b. λ mt c. λ bd d. λ rt e. record { some_name = a.0; few_names = a.1; service = b; method = c; bodies = d; retry = e }) n) s) m) b) r
+    (λ ns a. λ sv b. λ mt c. λ bd d. λ rt e. record { names = a; service = b; method = c; bodies = d; retry = e }) n) s) m) b) r
 
 either_range : (b : Bool) (x y : Reads CallLine) → IfOk x CallInRange → IfOk y CallInRange → IfOk (if b then x else y) CallInRange
 either_range true x y g h = g

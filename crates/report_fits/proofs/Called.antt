@@ -36,7 +36,7 @@ pub called_fits : (script : List Item) → AllByRecursion InRange script → (ca
 called_fits script range call there o inside = let w = all_at InRange script (Call call) range there in record {
   operation = inside;
   names = λ n. mapped_within (names script) call.names (λ x h. mentioned_has script (Call call) x there h) (cond (eqb (length (map (name_number (names script)) call.names)) 1) 0 (n % 2))
-      (subst (λ k. cond (eqb k 1) 0 (n % 2) < length call.names) (sym (length-map call.names (name_number (names script)))) (inside_names n (length call.names) w.some_name w.few_names));
+      (subst (λ k. cond (eqb k 1) 0 (n % 2) < length call.names) (sym (length-map call.names (name_number (names script)))) (inside_names n (length call.names) w.names.0 w.names.1));
   range_low = omega arith;
   range_high = let few = w.retry in omega (arith, few);
   short = frame_short (asked_of (names script) o call) w.service w.method w.bodies;

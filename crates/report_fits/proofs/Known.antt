@@ -59,7 +59,7 @@ pub record NameOf (script : List Item) (call : CallLine) (o n : ℕ) : Type 0 wh
 pub attempt_name : (script : List Item) (call : CallLine) → CallInRange call → Has script (Call call) → (o n : ℕ) → NameOf script call o n
 attempt_name script call range there o n =
     let i : ℕ = cond (eqb (length call.names) 1) 0 (n % 2) in
-    let w = within call.names i (inside_names n (length call.names) range.some_name range.few_names) in
+    let w = within call.names i (inside_names n (length call.names) range.names.0 range.names.1) in
     let P : ℕ → Type 0 = λ l. slice_index (map (name_number (names script)) call.names) (cond (eqb l 1) 0 (n % 2)) ≡ name_number (names script) w.0 in
     record {
       name = w.0;

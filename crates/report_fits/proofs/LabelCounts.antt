@@ -1,5 +1,5 @@
 -- How many attempts a script has: each label of a send or of an attempt of a call is one.
-use Rattle.std.proofs.Common.{◌≡◌, ◌≢◌, ℕ, zero, suc, ◌+◌, ◌-◌, ◌*◌, ◌<◌, ◌≤◌, Bool, true, false, cond, if◌then◌else◌, nat_lt, List, [], ◌∷◌, length, sum_by, slice_get, Some, refl, ap, sym, ◌∙◌, arith}
+use Rattle.std.proofs.Common.{◌≡◌, ◌≢◌, ℕ, zero, suc, ◌+◌, ◌-◌, ◌*◌, ◌<◌, ◌≤◌, Bool, true, false, cond, nat_lt, List, [], ◌∷◌, length, sum_by, slice_get, Some, refl, ap, sym, ◌∙◌, arith}
 use Rattle.std.proofs.lemmas.Bool.Decides.{nat_tests}
 use Rattle.std.proofs.lemmas.List.Sums.{sum_by-cons}
 use Rattle.std.specs.List.{AllByRecursion}
@@ -46,24 +46,33 @@ first_of a (suc n) h = elim (nat_lt n a) as (λ b. nat_lt n a ≡ b → tally (�
 
 -- ## Attempts
 
--- this number is that of an attempt of one of the operations, each of which has eight numbers
+-- each operation has eight numbers: what is at a number, by its operation and how many of that operation's come before it
+abbrev pub at_number : {A : Type 0} → (Operation → ℕ → A) → A → List Operation → ℕ → A
+at_number f none_ [] j = none_
+at_number f none_ (op ∷ ops) j = cond (nat_lt j 8) (f op j) (at_number f none_ ops (j - 8))
+
+module _ {A : Type 0} (f : Operation → ℕ → A) (none_ : A) where
+  pub own_number : (op : Operation) (ops : List Operation) (j : ℕ) → j < 8 → at_number f none_ (op ∷ ops) j ≡ f op j
+  own_number op ops j low = let on : nat_lt j 8 ≡ true = grind (arith, nat_tests) in ap {B = A} (λ b. cond b (f op j) (at_number f none_ ops (j - 8))) on
+
+  pub later_number : (op : Operation) (ops : List Operation) (j : ℕ) → at_number f none_ (op ∷ ops) (8 + j) ≡ at_number f none_ ops j
+  later_number op ops j = let off : nat_lt (8 + j) 8 ≡ false = grind (arith, nat_tests) in let less : (8 + j) - 8 ≡ j = omega arith in
+      ap {B = A} (λ b. cond b (f op (8 + j)) (at_number f none_ ops ((8 + j) - 8))) off ∙ ap (at_number f none_ ops) less
+
+  pub number_there : (ops : List Operation) (o n : ℕ) (q : Operation) → slice_get ops o ≡ Some q → n < 8 → at_number f none_ ops (8 * o + n) ≡ f q n
+  number_there [] o n q e low = absurd (cc)
+  number_there (op ∷ ops) zero n q e low = let place : 8 * 0 + n ≡ n = omega arith in ap (at_number f none_ (op ∷ ops)) place ∙ (own_number op ops n low ∙ ap (λ x. f x n) (some_is op q e))
+  number_there (op ∷ ops) (suc o) n q e low = let place : 8 * suc o + n ≡ 8 + (8 * o + n) = omega arith in ap (at_number f none_ (op ∷ ops)) place ∙ (later_number op ops (8 * o + n) ∙ number_there ops o n q e low)
+
+abbrev counts : Operation → ℕ → Bool
+counts op n = nat_lt n (attempts_of op.item)
+
+-- this number is that of an attempt of one of the operations
 abbrev pub is_attempt : List Operation → ℕ → Bool
-is_attempt [] j = false
-is_attempt (op ∷ ops) j = if nat_lt j 8 then nat_lt j (attempts_of op.item) else is_attempt ops (j - 8)
+is_attempt = at_number counts false
 
 pub attempt_there : (ops : List Operation) (o n : ℕ) (q : Operation) → slice_get ops o ≡ Some q → n < attempts_of q.item → n < 8 → is_attempt ops (8 * o + n) ≡ true
-attempt_there [] o n q e h low = absurd (cc)
-attempt_there (op ∷ ops) zero n q e h low =
-    let place : 8 * 0 + n ≡ n = omega arith in
-    let small : nat_lt n 8 ≡ true = grind (arith, nat_tests) in
-    let here : n < attempts_of op.item = omega (arith, h, ap (λ (x : Operation). attempts_of x.item) (some_is op q e)) in
-    let on : nat_lt n (attempts_of op.item) ≡ true = grind (arith, nat_tests) in
-    ap (is_attempt (op ∷ ops)) place ∙ ap (λ b. if b then nat_lt n (attempts_of op.item) else is_attempt ops (n - 8)) small ∙ on
-attempt_there (op ∷ ops) (suc o) n q e h low =
-    let j = 8 * suc o + n in
-    let large : nat_lt j 8 ≡ false = grind (arith, nat_tests) in
-    let less : j - 8 ≡ 8 * o + n = omega arith in
-    ap (λ b. if b then nat_lt j (attempts_of op.item) else is_attempt ops (j - 8)) large ∙ ap (is_attempt ops) less ∙ attempt_there ops o n q e h low
+attempt_there ops o n q e h low = let on : counts q n ≡ true = grind (arith, nat_tests) in number_there counts false ops o n q e low ∙ on
 
 abbrev count_attempts : List Operation → ℕ
 count_attempts ops = sum_by (λ (op : Operation). attempts_of op.item) ops
@@ -74,12 +83,8 @@ tally_attempts (op ∷ ops) small =
     let n = length ops in
     let whole : 8 * suc n ≡ 8 + 8 * n = omega arith in
     let split : tally (is_attempt (op ∷ ops)) (8 * suc n) ≡ tally (is_attempt (op ∷ ops)) 8 + tally (λ j. is_attempt (op ∷ ops) (8 + j)) (8 * n) = ap (tally (is_attempt (op ∷ ops))) whole ∙ tally_split (is_attempt (op ∷ ops)) 8 (8 * n) in
-    let own : tally (is_attempt (op ∷ ops)) 8 ≡ attempts_of op.item = tally_same (is_attempt (op ∷ ops)) (λ j. nat_lt j (attempts_of op.item)) 8 (λ j low.
-    let on : nat_lt j 8 ≡ true = grind (arith, nat_tests) in ap (λ b. if b then nat_lt j (attempts_of op.item) else is_attempt ops (j - 8)) on) ∙ first_of (attempts_of op.item) 8 small.0 in
-    let later : tally (λ j. is_attempt (op ∷ ops) (8 + j)) (8 * n) ≡ tally (is_attempt ops) (8 * n) = tally_same (λ j. is_attempt (op ∷ ops) (8 + j)) (is_attempt ops) (8 * n) (λ j low. (
-    let off : nat_lt (8 + j) 8 ≡ false = grind (arith, nat_tests) in
-    let less : (8 + j) - 8 ≡ j = omega arith in
-    ap (λ b. if b then nat_lt (8 + j) (attempts_of op.item) else is_attempt ops ((8 + j) - 8)) off ∙ ap (is_attempt ops) less)) in
+    let own : tally (is_attempt (op ∷ ops)) 8 ≡ attempts_of op.item = tally_same (is_attempt (op ∷ ops)) (counts op) 8 (own_number counts false op ops) ∙ first_of (attempts_of op.item) 8 small.0 in
+    let later : tally (λ j. is_attempt (op ∷ ops) (8 + j)) (8 * n) ≡ tally (is_attempt ops) (8 * n) = tally_same (λ j. is_attempt (op ∷ ops) (8 + j)) (is_attempt ops) (8 * n) (λ j low. later_number counts false op ops j) in
     omega (arith, split, own, later, tally_attempts ops small.1, sum_by-cons (λ (x : Operation). attempts_of x.item) op ops)
 
 attempts_counted : (client number : ℕ) (items : List Item) → count_attempts (operations_from client number items) ≤ sum_by attempts_of items

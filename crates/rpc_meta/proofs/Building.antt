@@ -4,8 +4,9 @@ use Rattle.std.specs.Option.{is_some}
 use Rattle.pb_wire.specs.brpc_model.specs.Meta as meta
 use Rattle.rpc_meta.specs.declared.fault.MetaFault.{MetaFault}
 use Rattle.rpc_meta.specs.declared.fault.MetaFault.TheVariants.{Wire, NoService, NoMethod, Neither, NoMemory}
+use Rattle.rpc_meta.specs.Meaning.{meaning}
 use Rattle.rpc_meta.specs.Gathered.{Names, Outcome, Gathered}
-use Rattle.rpc_meta.specs.Answer.{meta_fault, answer, request_from, response_from, meta_with, meta_from}
+use Rattle.rpc_meta.specs.Answer.{meta_fault, answer_as, request_from, response_from, meta_with, meta_from}
 
 pub none_is : {A : Type 0} (o : Option A) → is_some o ≡ false → o ≡ None
 none_is None e = refl
@@ -25,7 +26,7 @@ failing y g whole h w =
 -- a request's fault is the meta's
 pub fails : (x : MetaFault) (g : Gathered) (whole : Result meta.Meta meta.MetaFault) →
     IfSome (option_map (λ (f : meta.MetaFault). Err f) (meta_fault x)) (λ (built : Result (Option meta.RequestMeta) meta.MetaFault). built ≡ request_from g.request) → meta_from g ≡ whole →
-    IfSome (answer (Err x)) (λ read. read ≡ whole)
+    IfSome (answer_as meaning (Err x)) (λ read. read ≡ whole)
 fails (Wire fault) g whole h w = failing _ g whole h w
 fails NoService g whole h w = failing meta.NoService g whole h w
 fails NoMethod g whole h w = failing meta.NoMethod g whole h w

@@ -132,7 +132,7 @@ of_request names c i s = record { request = Some names; response = None; compres
 
 -- a request of a service and a method, then the numbers
 pub straight_is : (bytes : List ℕ) (from to service_from service_to method_from c c_to i i_to s : ℕ) → SpanNext bytes 1 0 from to → SpanNext bytes 1 from service_from service_to →
-    SpanNext bytes 2 service_to method_from to → NumberOrNone bytes 3 to c c_to → NumberNext bytes 4 c_to i i_to → NumberOrNone bytes 5 i_to s (length bytes) →
+    SpanNext bytes 2 service_to method_from to → NumberOrNone bytes 3 to c c_to → NumberOrNone bytes 4 c_to i i_to → NumberOrNone bytes 5 i_to s (length bytes) →
     Ok (of_request (record { service = Some (slice_range bytes service_from service_to); method = Some (slice_range bytes method_from to); log_id = None }) c i s) ≡ gathered_after nothing bytes
 straight_is bytes from to service_from service_to method_from c c_to i i_to s request service method compress id size =
     let inside = two_fields bytes from service_to to (spanned 1 service_from (slice_range bytes service_from service_to)) (spanned 2 method_from (slice_range bytes method_from to)) service.later method.later request.inside service.spelled method.spelled in
@@ -142,6 +142,6 @@ straight_is bytes from to service_from service_to method_from c c_to i i_to s re
     sym
     (part_next nothing bytes 0 to (spanned 1 from (slice_range bytes from to)) (Request _) request.later request.inside request.spelled (ap (λ r. r >>= (λ inside. Ok (Request inside))) inside)
     ∙ may_next (λ c. of_request names c 0 0) bytes 3 to c c_to (λ m. refl) compress
-    ∙ plain_next (of_request names c 0 0) bytes 4 c_to i i_to id
+    ∙ may_next (λ i. of_request names c i 0) bytes 4 c_to i i_to (λ m. refl) id
     ∙ may_next (λ s. of_request names c i s) bytes 5 i_to s (length bytes) (λ m. refl) size
     ∙ ends)

@@ -4,9 +4,7 @@ use Rattle.pb_wire.specs.brpc_model.specs.Meta as meta
 use Rattle.pb_wire.specs.Told.{fault_of}
 use Rattle.rpc_meta.specs.declared.fault.MetaFault.{MetaFault}
 use Rattle.rpc_meta.specs.declared.fault.MetaFault.TheVariants.{Wire, NoService, NoMethod, Neither, NoMemory}
-use Rattle.rpc_meta.specs.declared.meta.RpcMeta.{RpcMeta}
-use Rattle.rpc_meta.specs.declared.meta.RequestMeta.{RequestMeta}
-use Rattle.rpc_meta.specs.Meaning.{request_of, made_meta, meaning}
+use Rattle.rpc_meta.specs.Meaning.{made_meta}
 use Rattle.rpc_meta.specs.Gathered.{Names, Outcome, Gathered}
 
 -- a fault, or nothing for want of memory
@@ -17,15 +15,10 @@ meta_fault NoMethod = Some meta.NoMethod
 meta_fault Neither = Some meta.Neither
 meta_fault NoMemory = None
 
--- a meta or its fault
-abbrev pub answer : Result RpcMeta MetaFault → Option (Result meta.Meta meta.MetaFault)
-answer (Ok m) = Some (Ok (meaning m))
-answer (Err fault) = option_map (λ f. Err f) (meta_fault fault)
-
--- a request, none, or the fault of a meta
-abbrev pub request_answer : Result (Option RequestMeta) MetaFault → Option (Result (Option meta.RequestMeta) meta.MetaFault)
-request_answer (Ok r) = Some (Ok (option_map request_of r))
-request_answer (Err fault) = option_map (λ f. Err f) (meta_fault fault)
+-- what was read, or its fault
+abbrev pub answer_as : {A B : Type 0} → (A → B) → Result A MetaFault → Option (Result B meta.MetaFault)
+answer_as said (Ok read) = Some (Ok (said read))
+answer_as said (Err fault) = option_map (λ f. Err f) (meta_fault fault)
 
 -- a request of these fields
 abbrev pub request_from : Option Names → Result (Option meta.RequestMeta) meta.MetaFault

@@ -1,4 +1,5 @@
 pub mod Meaning
+pub mod View
 pub mod Gathered
 pub mod Parts
 pub mod Steps

@@ -14,12 +14,11 @@ mod read;
 mod sizes;
 mod spell;
 mod straight;
+mod view;
 mod write;
 
 pub use fault::MetaFault;
 pub use front::{FRONT_BYTES, Front};
-pub use gather::gather_parts;
 pub use meta::{MetaBytes, RequestMeta, ResponseMeta, RpcMeta};
-pub use parts::{MetaParts, RequestParts, ResponseParts};
-pub use read::low_signed;
 pub use sizes::MetaSizes;
+pub use view::{MetaView, RequestView, ResponseView};

@@ -2,7 +2,7 @@ ghost use Rattle.std.specs.Prelude.{◌≡◌, ◌+◌, ◌*◌, ◌<◌, ◌≤
 ghost use Rattle.rpc_meta.specs.Gathered.{nothing};
 ghost use Rattle.rpc_meta.specs.Parts.{gathered_of};
 ghost use Rattle.rpc_meta.specs.Steps.{gathered_after};
-ghost use Rattle.rpc_meta.specs.Straight.{SpanNext, NumberNext, NumberOrNone};
+ghost use Rattle.rpc_meta.specs.Straight.{SpanNext, NumberOrNone};
 
 use crate::parts::{MetaParts, RequestParts};
 use pb_wire::read_varint;
@@ -20,7 +20,7 @@ pub fn gather_straight(bytes: &[u8]) -> Option<MetaParts<'_>>
         return None;
     }
     let (compress_type, at) = number_or_none(bytes, to, 3)?;
-    let (correlation_id, at) = number_next(bytes, at, 4)?;
+    let (correlation_id, at) = number_or_none(bytes, at, 4)?;
     let (attachment_size, at) = number_or_none(bytes, at, 5)?;
     if at != bytes.len() {
         return None;
@@ -66,22 +66,8 @@ fn number_or_none(bytes: &[u8], at: usize, number: u8) -> Option<(u64, usize)>
     ensures within { IfSome result (λ r. (at ≤ r.1) × (r.1 ≤ length bytes.now)) }
     ensures spelled { IfSome result (λ r. NumberOrNone bytes.now number at r.0 r.1) }
 {
-    if at < bytes.len() && bytes[at] == number * 8 {
-        return number_next(bytes, at, number);
-    }
-    Some((0, at))
-}
-
-/// The number that stands next under a number, with the place behind it.
-#[inline(always)]
-fn number_next(bytes: &[u8], at: usize, number: u8) -> Option<(u64, usize)>
-    requires place { at ≤ length bytes.now }
-    requires number { (1 ≤ number) × (number < 15) }
-    ensures within { IfSome result (λ r. (at ≤ r.1) × (r.1 ≤ length bytes.now)) }
-    ensures spelled { IfSome result (λ r. NumberNext bytes.now number at r.0 r.1) }
-{
     if at == bytes.len() || bytes[at] != number * 8 {
-        return None;
+        return Some((0, at));
     }
     match read_varint(bytes, at + 1) {
         Ok((value, next)) => Some((value, next)),

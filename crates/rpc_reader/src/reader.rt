@@ -8,7 +8,7 @@ ghost use Rattle.rpc_client.specs.Holding.{IsHolder};
 ghost use Rattle.rpc_reader.specs.Seats.{IsOpen, Rests};
 ghost use Rattle.rpc_reader.specs.Books.{books};
 ghost use Rattle.rpc_reader.specs.Reading.{code_of};
-ghost use Rattle.rpc_reader.specs.Running.{fails, throws, is_starved, FailedIf, ThrownIf, ReadToEnd, RanBy};
+ghost use Rattle.rpc_reader.specs.Running.{fails, throws, is_starved, FailedIf, ThrownIf, RanBy};
 
 use crate::books::AnswerSeat;
 use crate::failing::fail_id;
@@ -125,41 +125,6 @@ impl<O: Out> Reader<O> {
         }
     }
 
-    // The link of this socket is read to its end, and what still waits for it is told so.
-    fn read_to_end<I: In, R: Wait>(
-        &mut self,
-        rt: &R,
-        socks: &SockTable<O>,
-        ids: &IdTable<Call>,
-        id: SocketId,
-        calls: &[u16],
-        inn: &mut I,
-        ending: bool,
-    ) -> Result<(), NoMemory>
-        requires may { MayAct socks.now.rule.table.shared.table_id socks.now.rule.plan self.old.seat }
-        requires known { Knows socks.now.rule.plan self.old.seat.me.0 id.0 }
-        requires ids { IsOpen ids.now.table.shared.table_id self.old.calls.seat }
-        requires calls { All (λ o. o < ids.now.plan.operations) calls.now }
-        ensures rest { AtRest socks.now.rule.table.shared.table_id socks.now.rule.plan self.old.seat self.new.seat }
-        ensures refs { SameRefs self.old.seat.me.0 self.new.seat.me.0 }
-        ensures lists { self.new.seat.me.0.lists ≡ self.old.seat.me.0.lists }
-        ensures ids { Rests self.old.calls.seat self.new.calls.seat }
-        ensures read { ReadToEnd ids.now.plan self.old.link calls.now ending (is_err result) (I.state inn.old) (I.state inn.new) id.0 self.old.seat.me.0 self.new.seat.me.0 (books self.old.calls) (books self.new.calls) }
-    {
-        let alloc = self.calls.alloc;
-        let mut intake = Intake {
-            cutter: Cutter::new(alloc),
-            pool: BlockPool::new(alloc),
-            total: 0,
-        };
-        let how = read_all(rt, ids, &mut self.calls, &mut intake, inn, ending);
-        fail_if(socks, &mut self.seat, id, how);
-        post_all(rt, ids, &mut self.calls, self.link, how.code(), calls);
-        throw_if(rt, inn, how, intake.total, ending);
-        drop(intake);
-        calm(self.calls.starved, how)
-    }
-
     /// Waits for the socket of its link, which is that of this `open`; reads the link to its end, unless it got no socket; and
     /// then sees to the calls that still wait for it, of these operations. Where memory was wanting, all is done all the same,
     /// but an outcome may be told nowhere. In a run that is ending it waits for no bytes.
@@ -187,7 +152,20 @@ impl<O: Out> Reader<O> {
     {
         match wait_open(rt, socks, &mut self.seat, operation) {
             None => Ok(()),
-            Some(id) => self.read_to_end(rt, socks, ids, id, calls, inn, ending),
+            Some(id) => {
+                let alloc = self.calls.alloc;
+                let mut intake = Intake {
+                    cutter: Cutter::new(alloc),
+                    pool: BlockPool::new(alloc),
+                    total: 0,
+                };
+                let how = read_all(rt, ids, &mut self.calls, &mut intake, inn, ending);
+                fail_if(socks, &mut self.seat, id, how);
+                post_all(rt, ids, &mut self.calls, self.link, how.code(), calls);
+                throw_if(rt, inn, how, intake.total, ending);
+                drop(intake);
+                calm(self.calls.starved, how)
+            }
         }
     }
 

@@ -2,9 +2,9 @@
 use Rattle.std.proofs.Common.{◌≡◌, ℕ, zero, suc, ◌⊎◌, inl, inr, ⊎_elim, Bool, true, false, cond, eq-eqb, List, [], ◌∷◌, refl, sym, ap, ◌∙◌, subst, arith}
 use Rattle.corr_core.specs.Word.{parts, code_of}
 use Rattle.seat_programs.specs.Asides.{PutCall, id_slot}
-use Rattle.seat_programs.specs.Heads.{HasEnded, Posts, Unlocks, Decides, Locks, Joins, Opens, Reads, Discards}
+use Rattle.seat_programs.specs.Heads.{HasEnded, Unlocks, Decides, Locks}
 use Rattle.seat_programs.specs.Posts.{ends_call, end_id, unlocked}
-use Rattle.std.specs.Prelude.{Contains, if◌then◌else◌, ◌+◌, Some, None}
+use Rattle.std.specs.Prelude.{Contains, if◌then◌else◌, ◌+◌, None}
 use mathlib.Core.Option.{Option, none, some}
 use lib.ListN.{get_elem?}
 use Rattle.sock_words.specs.declared.plain.Plan.{Plan}
@@ -39,12 +39,7 @@ contains_none true k (n, low, is) = omega arith
 contains_none false k (n, low, is) = omega arith
 
 pub asked_first : (program : Program) → asked_link (first_step program) ≡ asked_link program
-asked_first (Write (Puts h now heading left taken asked) after) = refl
-asked_first (Write (Waits h now heading left taken) after) = refl
 asked_first (Write (Empties h) after) = refl
-asked_first (Write (Walks h top at after) then_) = refl
-asked_first (Round (Posts id e w) next) = refl
-asked_first (Round (Unlocks i w advance) next) = refl
 asked_first (Round (Decides id asked w e) next) = by_end (ends_call (parts w) e)
   where
     by_end : (b : Bool) → asked_link (if b then end_id (id_slot id) (next (HasEnded asked.operation (code_of e)))
@@ -52,11 +47,6 @@ asked_first (Round (Decides id asked w e) next) = by_end (ends_call (parts w) e)
     by_end true = refl
     by_end false = refl
 asked_first (Round (Locks i sought None) next) = refl
-asked_first (Round (Locks i sought (Some w)) next) = refl
-asked_first (Round (Joins id) next) = refl
-asked_first (Round (Opens o) next) = refl
-asked_first (Round (Reads r) next) = refl
-asked_first (Round (Discards l total) next) = refl
 asked_first _ = refl
 
 still_asks : (program : Program) → IsStill program → asked_link program ≡ []

@@ -1,4 +1,4 @@
-//! What one line of a script says, and how a line is read by itself.
+//! What one line of a script says, how a line is read by itself, and how its words are written.
 #![tactic(auto)]
 
 mod bytes;
@@ -14,6 +14,7 @@ mod read;
 mod script;
 mod sizes;
 mod words;
+mod writing;
 
 pub use bytes::{Bytes, Name};
 pub use fault::LineFault;
@@ -23,3 +24,4 @@ pub use numbers::number;
 pub use read::read_line;
 pub use script::Script;
 pub use sizes::{client_count, first_version, is_client, is_operation, request_count, slot_count};
+pub use writing::{push_hex, push_hex_word, push_number, push_number_word, push_word};

@@ -1,4 +1,4 @@
-ghost use Rattle.std.specs.Prelude.{◌≡◌, ◌≤◌, ◌&&◌, ◌||◌, ◌==◌, nat_le, length};
+ghost use Rattle.std.specs.Prelude.{◌≡◌, ◌≤◌, ◌&&◌, ◌||◌, ◌==◌, if◌then◌else◌, nat_le, length, Ok, Err};
 ghost use Rattle.std.specs.List.{list_all};
 ghost use Rattle.brpc_model.specs.Text.{has_bytes, is_name_byte, name_in, method_in, service_in, hex_in};
 ghost use Rattle.brpc_model.specs.Lines.{kind_in, seat_in};
@@ -43,34 +43,41 @@ fn is_sized(word: &[u8], most: usize) -> bool
     !word.is_empty() && word.len() <= most
 }
 
+/// A word of 1 to so many bytes, where all of them may stand in it.
+fn read_spelled(
+    alloc: Global,
+    word: &[u8],
+    most: usize,
+    may_all_stand: bool,
+) -> Result<Bytes, LineFault>
+    ensures { Answers (λ n. n) result (
+        if has_bytes word.now && nat_le (length word.now) most && may_all_stand then Ok word.now else Err 7) }
+{
+    if !(is_sized(word, most) && may_all_stand) {
+        return Err(BAD_NAME);
+    }
+    Ok(Bytes::new(Vec::from_slice(alloc, word)?))
+}
+
 /// A name: 1 to 16 letters, digits or `_`.
 pub fn read_name(alloc: Global, word: &[u8]) -> Result<Name, LineFault>
     ensures { Answers (λ n. n) result (name_in word.now) }
 {
-    if !(is_sized(word, 16) && has_name_bytes(word)) {
-        return Err(BAD_NAME);
-    }
-    Ok(Name::new(Vec::from_slice(alloc, word)?))
+    read_spelled(alloc, word, 16, has_name_bytes(word))
 }
 
 /// A method: 1 to 64 letters, digits or `_`.
 pub fn read_method(alloc: Global, word: &[u8]) -> Result<Bytes, LineFault>
     ensures { Answers (λ n. n) result (method_in word.now) }
 {
-    if !(is_sized(word, 64) && has_name_bytes(word)) {
-        return Err(BAD_NAME);
-    }
-    Ok(Bytes::new(Vec::from_slice(alloc, word)?))
+    read_spelled(alloc, word, 64, has_name_bytes(word))
 }
 
 /// A service: 1 to 64 letters, digits, `_` or dots.
 pub fn read_service(alloc: Global, word: &[u8]) -> Result<Bytes, LineFault>
     ensures { Answers (λ n. n) result (service_in word.now) }
 {
-    if !(is_sized(word, 64) && has_service_bytes(word)) {
-        return Err(BAD_NAME);
-    }
-    Ok(Bytes::new(Vec::from_slice(alloc, word)?))
+    read_spelled(alloc, word, 64, has_service_bytes(word))
 }
 
 /// The bytes that pairs of hexadecimal digits spell, of either case; `-` spells none.

@@ -4,7 +4,7 @@ ghost use Rattle.brpc_model.specs.Link.{LinkEnd};
 ghost use Rattle.sock_io.specs.declared.link.Ends.{Ends};
 ghost use Rattle.brpc_model.specs.Items.{is_open};
 ghost use Rattle.script_items.specs.Meaning.{item};
-ghost use Rattle.sock_io.specs.Causes.{Rose};
+ghost use Rattle.sock_io.specs.Causes.{OpenCause, Rose};
 ghost use Rattle.sock_io.specs.Link.{end_of};
 ghost use Rattle.script_items.specs.Meaning.{shape_of};
 ghost use Rattle.script_links.specs.Given.{IsUntouched, AreUntouched, AreNumbered, IsBeginning, has_piece, is_open_line, has_piece_line, spec_of, specs_of};
@@ -28,44 +28,7 @@ pub fn spec_of(mode: Mode, open: &OpenLine) -> LinkSpec
     }
 }
 
-/// Opens the link of a line behind those that were opened before.
-fn open_one<L: Linker>(
-    mode: Mode,
-    open: &OpenLine,
-    links: &mut L,
-    ends: &mut Vec<Ends<L::O, L::I, L::P>>,
-) -> Result<(), OpenFault>
-    requires piece { 0 < «open».now.shape.piece }
-    requires opened { length (L.asked links.old) ≡ length ends.old.items }
-    requires few { length ends.old.items < 256 }
-    ensures fresh { AreUntouched 0 (map (λ e. end_of (L.O.state e.out) (L.I.state e.inn)) ends.old.items) → AreUntouched 0 (map (λ e. end_of (L.O.state e.out) (L.I.state e.inn)) ends.new.items) }
-    ensures unfinished { AllByRecursion (λ (e : Ends L.O L.I L.P). (L.O.state e.out).finished ≡ false) ends.old.items → AllByRecursion (λ (e : Ends L.O L.I L.P). (L.O.state e.out).finished ≡ false) ends.new.items }
-    ensures unclosed { AllByRecursion (λ (e : Ends L.O L.I L.P). IfSome (L.I.state e.inn).closing (λ closing. closing ≡ false)) ends.old.items → AllByRecursion (λ (e : Ends L.O L.I L.P). IfSome (L.I.state e.inn).closing (λ closing. closing ≡ false)) ends.new.items }
-    ensures prompt_each { L.always_ready links.old ≡ true → mode ≡ Mode.Loop → AllByRecursion (λ (e : Ends L.O L.I L.P). (L.O.state e.out).always_ready ≡ true) ends.old.items → AllByRecursion (λ (e : Ends L.O L.I L.P). (L.O.state e.out).always_ready ≡ true) ends.new.items }
-    ensures count { OnOk result (length ends.new.items ≡ length ends.old.items + 1) }
-    ensures err { OnErr result (length ends.new.items ≡ length ends.old.items) }
-    ensures asked { OnOk result (L.asked links.new ≡ L.asked links.old ++ spec_of mode (shape_of «open».now.shape) ∷ []) }
-    ensures refused { OnErr result (L.asked links.new ≡ L.asked links.old) }
-    ensures offers { OnOk result (TellOffers L.O.state L.I.state → AreAsked (L.asked links.old) (map (λ e. L.O.state e.out) ends.old.items) (map (λ e. L.I.state e.inn) ends.old.items) → AreAsked (L.asked links.new) (map (λ e. L.O.state e.out) ends.new.items) (map (λ e. L.I.state e.inn) ends.new.items)) }
-    ensures ends { OnOk result (AreOpened L.tells_in L.O.state L.P.state L.I.state (L.asked links.old) ends.old.items → AreOpened L.tells_in L.O.state L.P.state L.I.state (L.asked links.new) ends.new.items) }
-    ensures opened { length (L.asked links.new) ≡ length ends.new.items }
-    ensures back { L.back links.new ≡ L.back links.old }
-    ensures always_ready { L.always_ready links.new ≡ L.always_ready links.old }
-    ensures later { L.faults links.old ≤ L.faults links.new }
-    ensures failed { IsErrOf result OpenFault.Failed → Rose (L.faults links.old) (L.faults links.new) }
-    ensures kept { (¬ IsErrOf result OpenFault.Failed) → L.faults links.new ≡ L.faults links.old }
-{
-    if ends.try_reserve(1).is_err() {
-        return Err(OpenFault::NoMemory);
-    }
-    let opened = links.open(&spec_of(mode, open))?;
-    if ends.push(opened).is_err() {
-        return Err(OpenFault::NoMemory);
-    }
-    Ok(())
-}
-
-/// Opens the link of a line, where it is an `open` line.
+/// Opens the link of a line behind those that were opened before, where it is an `open` line.
 fn open_line<L: Linker>(
     mode: Mode,
     line: &Line,
@@ -88,14 +51,19 @@ fn open_line<L: Linker>(
     ensures opened { length (L.asked links.new) ≡ length ends.new.items }
     ensures back { L.back links.new ≡ L.back links.old }
     ensures always_ready { L.always_ready links.new ≡ L.always_ready links.old }
-    ensures later { L.faults links.old ≤ L.faults links.new }
-    ensures failed { IsErrOf result OpenFault.Failed → Rose (L.faults links.old) (L.faults links.new) }
-    ensures kept { (¬ IsErrOf result OpenFault.Failed) → L.faults links.new ≡ L.faults links.old }
+    ensures cause { OpenCause (L.faults links.old) (L.faults links.new) result }
 {
-    match line {
-        Line::Open(open) => open_one(mode, open, links, ends),
-        _ => Ok(()),
+    let Line::Open(open) = line else {
+        return Ok(());
+    };
+    if ends.try_reserve(1).is_err() {
+        return Err(OpenFault::NoMemory);
     }
+    let opened = links.open(&spec_of(mode, open))?;
+    if ends.push(opened).is_err() {
+        return Err(OpenFault::NoMemory);
+    }
+    Ok(())
 }
 
 /// Opens the link of each `open` line in this mode, in order. Where one can't be opened, those before it are in `ends`.

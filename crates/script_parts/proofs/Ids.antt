@@ -1,5 +1,5 @@
 -- The ids of the calls of a run of a script: one at most was made for each operation, and what became of a call shows its own, where all that is told besides what the clients told of their own are ends of calls.
-use Rattle.std.proofs.Common.{◌≡◌, ◌≢◌, ℕ, ◌+◌, ◌*◌, ◌<◌, ◌≤◌, ◌⊎◌, inl, inr, false, true, List, [], ◌∷◌, ◌++◌, replicate, slice_get, Option, Some, None, refl, sym, ap, ◌∙◌, subst, arith}
+use Rattle.std.proofs.Common.{◌≡◌, ◌≢◌, ℕ, ◌+◌, ◌*◌, ◌<◌, ◌≤◌, ◌⊎◌, inl, inr, false, true, List, [], ◌∷◌, ◌++◌, Option, Some, None, refl, sym, ap, ◌∙◌, subst, arith}
 use Rattle.std.specs.Prelude.{slice_index}
 use Rattle.std.specs.List.{AllByRecursion}
 use mathlib.Core.Logic.{dite}
@@ -55,7 +55,6 @@ use Rattle.script_parts.proofs.Began.{only_is}
 use Rattle.script_parts.proofs.Clients as clients_of
 use Rattle.script_parts.proofs.MayCall.{IsOwnTask}
 use Rattle.script_parts.proofs.Said.{IsSaid, end_said}
-use Rattle.script_parts.proofs.Sayings.{told_each, none_told}
 use Rattle.script_parts.proofs.Tellers as tellers_of
 use Rattle.script_parts.proofs.Tellers.{IsEndTold, end_made, together}
 use Rattle.callless_fits.specs.sock_deeds.proofs.Places.{to_slice, map_there}
@@ -134,15 +133,12 @@ module _ {O : Type 0} {g : Ghosts O} {state : O → OutState} {readers : List (L
           let b = tellers_of.begun_of ran script tasks are notes have t.number (end_made slots notes t a) in
           let less = subst (λ n. n < many) b.has.number_is (tellers_of.low_number ran script tasks are b.place b.has.result.task (tellers_of.of_client ran script tasks are b.place b.client b.at t.number None b.has)) in
           let h = end_said many told tellers last t.number less record { teller = c; place = i; told = ts; one = t; by = at; at = there; number = refl } in
-          by h.0 h.1 (told_each (replicate many None) every t.number h.0 h.1)
+          by h.0 h.1
         where
-          by : (o : Outcome) → slice_get outcomes t.number ≡ Some (Some o) → (slice_get (replicate many None) t.number ≡ Some (Some o)) ⊎ ((d : ℕ) × (us : List Told) × (get_elem? every d ≡ some us) × ((j : ℕ) × (u : Told) × (get_elem? us j ≡ some u) × (u.number ≡ t.number) × (u.outcome ≡ o)))
-              → Became all outcomes t.number t.outcome
-          by o e (inl none_) = absurd (none_told many t.number o none_)
-          by o e (inr w) = elim (tellers_of.whose ran script tasks are notes have tellers last end_told w.0 w.3.0 w.1 w.3.1 w.2 w.3.2) [
-            | inl own ↦ absurd (tellers_of.apart ran script tasks are notes have w.0 w.3.0 w.1 w.3.1 own w.3.2 (subst (λ n. 0 < total (makes n) notes) (sym w.3.3) (end_made slots notes t a)))
-            | inr over ↦ (let same = one_end c i over.0 w.3.0 ts w.1 t w.3.1 at there over.1 w.3.2 a low w.3.3 in
-                e ∙ ap Some (ap Some (sym w.3.4 ∙ ap (λ (y : Told). y.outcome) same)))
+          by : (o : Outcome) → Became all outcomes t.number o → Became all outcomes t.number t.outcome
+          by o e = let w = tellers_of.told_of ran script tasks are notes have tellers last end_told t.number o e in elim w.3 [
+            | inl own ↦ absurd (tellers_of.apart ran script tasks are notes have own.0 own.1 own.2 w.0 own.3 own.4 (subst (λ n. 0 < total (makes n) notes) (sym w.1) (end_made slots notes t a)))
+            | inr over ↦ (let same = one_end c i over.0 over.1 ts over.2 t w.0 at there over.3 over.4 a low w.1 in e ∙ ap Some (ap Some (sym w.2 ∙ ap (λ (y : Told). y.outcome) same)))
           ]
 
     -- a call that began isn't unopened
@@ -225,14 +221,11 @@ module _ {O : Type 0} {g : Ghosts O} {state : O → OutState} {readers : List (L
   told_own d j ts x at there = all_at IsOwn ts j x (all_at (λ (us : List Told). AllByRecursion IsOwn us) told d ts (clients_of.owns state p table setup clients opens told ended ran.seats ids ran.ran) at) there
 
   ends_are : (o : ℕ) (by : Outcome) → Became asked_for became_all o by → (id : ℕ) → 0 < ends_of id by → Its o id
-  ends_are o by became id some_ = elim (told_each (replicate as_many None) ((told ++ tellers) ++ last ∷ []) o by became) [
-    | inl none_ ↦ absurd (none_told as_many o by none_)
-    | inr w ↦ (let x = w.3.1 in let shows : 0 < ends_of id x.outcome = subst (λ (y : Outcome). 0 < ends_of id y) (sym w.3.4) some_ in
-        elim (tellers_of.whose ran script tasks are v.notes have tellers last end_told w.0 w.3.0 w.1 x w.2 w.3.2) [
-          | inl own ↦ absurd (let a = own_none id x.outcome (told_own w.0 w.3.0 w.1 x own w.3.2) in omega arith)
-          | inr over ↦ subst (λ (n : ℕ). Its n id) w.3.3 (its_id x over.2 id shows)
-        ])
-  ]
+  ends_are o by became id some_ = let w = tellers_of.told_of ran script tasks are v.notes have tellers last end_told o by became in
+      let shows : 0 < ends_of id w.0.outcome = subst (λ (y : Outcome). 0 < ends_of id y) (sym w.2) some_ in elim w.3 [
+        | inl own ↦ absurd (let a = own_none id w.0.outcome (told_own own.0 own.1 own.2 w.0 own.3 own.4) in omega arith)
+        | inr over ↦ subst (λ (n : ℕ). Its n id) w.1 (its_id w.0 over.5 id shows)
+      ]
 
   one_task : (c d : ℕ) (t u : Task) → IsTask asked_for became_all c t → IsTask asked_for became_all d u → t.number ≡ u.number → t ≡ u
   one_task c d t u a b e = let same = tellers_of.same_task ran script tasks are c d t u a b e in λ i. record { number = e i; op = same.1 i }
@@ -272,14 +265,13 @@ module _ {O : Type 0} {g : Ghosts O} {state : O → OutState} {readers : List (L
       where
         by_end : (by : Outcome) (x : Told) (e : IsEndTold slots v.notes x) → x.number ≡ o → x.outcome ≡ by → 0 < ends_of id by
         by_end by x e number outcome_is =
-            let low_ : e.first < 4294967296 = dite (dec_lt e.first (parts (slice_index words e.slot)).first)
-            (λ lt. (let w = low e.slot in omega arith))
-            (λ ge. absurd (let none_ = closing.ended_not e.slot e.first e.inside (omega arith) in let some_ = e.noted in omega arith)) in
             let its : IsIdOf slots v.notes o (e.slot * 4294967296 + e.first) = record {
               slot = e.slot;
               first = e.first;
               inside = e.inside;
-              low = low_;
+              low = dite (dec_lt e.first (parts (slice_index words e.slot)).first)
+                  (λ lt. (let w = low e.slot in omega arith))
+                  (λ ge. absurd (let none_ = closing.ended_not e.slot e.first e.inside (omega arith) in let some_ = e.noted in omega arith));
               id_is = refl;
               range = e.range;
               asked = e.asked;

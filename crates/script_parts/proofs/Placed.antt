@@ -47,7 +47,7 @@ module _ {O : Type 0} {g : Ghosts O} {state : O → OutState} {readers : List (L
   -- a `send` is told or has a place
   pub send_told : (c k : ℕ) (ts : List Task) (t : Task) (n : ℕ) (message : List ℕ) → get_elem? (setup ∷ clients) c ≡ some ts → get_elem? ts k ≡ some t → t.op ≡ ops.Send n message
       → ((own : List Told) × (i : ℕ) × (x : Told) × (get_elem? told c ≡ some own) × (get_elem? own i ≡ some x) × (x.number ≡ t.number)) ⊎ HasPosition (word_at places (8 * t.number))
-  send_told c k ts t n message of_client in_it is = by made.by refl
+  send_told c k ts t n message of_client in_it is = by made.how.by refl
     where
       found : (cl : Client g state p (ids_of p slots)) × (get_elem? (all ran) c ≡ some cl) × (tasks_of cl ≡ ts)
       found = map_back tasks_of (all ran) c ts (ap (λ (l : List (List Task)). get_elem? l c) (tasks_are ran) ∙ of_client)
@@ -58,6 +58,6 @@ module _ {O : Type 0} {g : Ghosts O} {state : O → OutState} {readers : List (L
       told_at : get_elem? told c ≡ some found.0.thread.ended.outcomes.items
       told_at = ap (λ (l : List (List Told)). get_elem? l c) (sym (all_are ran (λ (x : Thread g). x.ended.outcomes.items) ∙ ran.ran.told_is)) ∙ map_there (λ (x : Client g state p (ids_of p slots)). x.thread.ended.outcomes.items) (all ran) c found.0 found.1
 
-      by : (o : Option Outcome) → made.by ≡ o → ((own : List Told) × (i : ℕ) × (x : Told) × (get_elem? told c ≡ some own) × (get_elem? own i ≡ some x) × (x.number ≡ t.number)) ⊎ HasPosition (word_at places (8 * t.number))
+      by : (o : Option Outcome) → made.how.by ≡ o → ((own : List Told) × (i : ℕ) × (x : Told) × (get_elem? told c ≡ some own) × (get_elem? own i ≡ some x) × (x.number ≡ t.number)) ⊎ HasPosition (word_at places (8 * t.number))
       by None e = inr (send_placed ran tasks fits notes are_laws has few_links few_numbers c found.0 found.1 t n message is made e)
       by (Some o) e = let w = made.tells o e in inl (found.0.thread.ended.outcomes.items, w.0, record { number = t.number; outcome = o }, told_at, w.1, refl)

@@ -282,6 +282,14 @@ module _ {O : Type 0} {g : Ghosts O} {state : O → OutState} {readers : List (L
       | inr w ↦ inr (w.0, w.1, end_told w.0 j ts x w.1 there)
     ]
 
+    -- so is each that became of an operation
+    pub told_of : (n : ℕ) (o : Outcome) → Became all outcomes n o → (x : Told) × (x.number ≡ n) × (x.outcome ≡ o) × (((d j : ℕ) × (ts : List Told) × (get_elem? told d ≡ some ts) × (get_elem? ts j ≡ some x))
+        ⊎ ((e j : ℕ) × (ts : List Told) × (get_elem? (tellers ++ last ∷ []) e ≡ some ts) × (get_elem? ts j ≡ some x) × IsEndTold slots notes x))
+    told_of n o became = elim (told_each (replicate many None) every n o became) [
+      | inl none_ ↦ absurd (none_told many n o none_)
+      | inr w ↦ (w.3.1, w.3.3, w.3.4, elim (whose w.0 w.3.0 w.1 w.3.1 w.2 w.3.2) [ inl own ↦ inl (w.0, w.3.0, w.1, own, w.3.2) | inr over ↦ inr (over.0, w.3.0, w.1, over.1, w.3.2, over.2) ])
+    ]
+
     pub long : length outcomes ≡ many
     long = long_each (replicate many None) every ∙ none_long many
 
@@ -290,17 +298,15 @@ module _ {O : Type 0} {g : Ghosts O} {state : O → OutState} {readers : List (L
         let o = own_told c i ts t at there in
         let less = subst (λ n. n < many) o.has.number_is (low_number c o.has.result.task (of_client c o.client o.at t.number (Some t.outcome) o.has)) in
         let h = own_said many told tellers last t.number less record { teller = c; place = i; told = ts; one = t; by = at; at = there; number = refl } in
-        by h.0 h.1 (told_each (replicate many None) every t.number h.0 h.1)
+        by h.0 h.1
       where
-        by : (o : Outcome) → slice_get outcomes t.number ≡ Some (Some o) → (slice_get (replicate many None) t.number ≡ Some (Some o)) ⊎ ((d : ℕ) × (us : List Told) × (get_elem? every d ≡ some us) × ((j : ℕ) × (u : Told) × (get_elem? us j ≡ some u) × (u.number ≡ t.number) × (u.outcome ≡ o)))
-            → Became all outcomes t.number t.outcome
-        by o e (inl none_) = absurd (none_told many t.number o none_)
-        by o e (inr w) = elim (whose w.0 w.3.0 w.1 w.3.1 w.2 w.3.2) [
+        by : (o : Outcome) → Became all outcomes t.number o → Became all outcomes t.number t.outcome
+        by o e = let w = told_of t.number o e in elim w.3 [
           | inl own ↦ (
-              let a = own_told c i ts t at there in let b = own_told w.0 w.3.0 w.1 w.3.1 own w.3.2 in
-              let same : Some w.3.1.outcome ≡ Some t.outcome = same_result w.0 c b.client a.client b.at a.at t.number (Some w.3.1.outcome) (Some t.outcome) (subst (λ n. HasResult b.client n (Some w.3.1.outcome)) w.3.3 b.has) a.has in
-              e ∙ ap Some (ap Some (sym w.3.4) ∙ same))
-          | inr over ↦ absurd (apart notes have c i ts t at there (subst (λ n. 0 < total (makes n) notes) w.3.3 (end_made slots notes w.3.1 over.2)))
+              let a = own_told c i ts t at there in let b = own_told own.0 own.1 own.2 w.0 own.3 own.4 in
+              let same : Some w.0.outcome ≡ Some t.outcome = same_result own.0 c b.client a.client b.at a.at t.number (Some w.0.outcome) (Some t.outcome) (subst (λ n. HasResult b.client n (Some w.0.outcome)) w.1 b.has) a.has in
+              e ∙ ap Some (ap Some (sym w.2) ∙ same))
+          | inr over ↦ absurd (apart notes have c i ts t at there (subst (λ n. 0 < total (makes n) notes) w.1 (end_made slots notes w.0 over.5)))
         ]
 
     unsaid : (c number n : ℕ) (message : List ℕ) → IsOperation all outcomes c number (ops.Send n message) → ((d i : ℕ) (ts : List Told) (t : Told) → get_elem? told d ≡ some ts → get_elem? ts i ≡ some t → t.number ≡ number → ⊥) → slice_get outcomes number ≡ Some None
@@ -311,25 +317,19 @@ module _ {O : Type 0} {g : Ghosts O} {state : O → OutState} {readers : List (L
       where
         by : (o : Option Outcome) → slice_get outcomes number ≡ Some o → slice_get outcomes number ≡ Some None
         by None e = e
-        by (Some o) e = elim (told_each (replicate many None) every number o e) [
-          | inl none_ ↦ absurd (none_told many number o none_)
-          | inr w ↦ elim (whose w.0 w.3.0 w.1 w.3.1 w.2 w.3.2) [
-            | inl own ↦ absurd (quiet w.0 w.3.0 w.1 w.3.1 own w.3.2 w.3.3)
-            | inr over ↦ (
-                let b = begun_of notes have number (subst (λ n. 0 < total (makes n) notes) w.3.3 (end_made slots notes w.3.1 over.2)) in
-                let sends : Task = record { number = number; op = ops.Send n message } in
-                let same : ops.Send n message ≡ ops.Call b.asked = (same_task c b.place sends b.has.result.task is (of_client b.place b.client b.at number None b.has) (sym b.has.number_is)).1 ∙ b.op in absurd (cc))
-          ]
+        by (Some o) e = let w = told_of number o e in elim w.3 [
+          | inl own ↦ absurd (quiet own.0 own.1 own.2 w.0 own.3 own.4 w.1)
+          | inr over ↦ (
+              let b = begun_of notes have number (subst (λ n. 0 < total (makes n) notes) w.1 (end_made slots notes w.0 over.5)) in
+              let sends : Task = record { number = number; op = ops.Send n message } in
+              let same : ops.Send n message ≡ ops.Call b.asked = (same_task c b.place sends b.has.result.task is (of_client b.place b.client b.at number None b.has) (sym b.has.number_is)).1 ∙ b.op in absurd (cc))
         ]
 
     -- that an operation is unopened a client told
     pub unopened : (n : ℕ) → Became all outcomes n outcome.Unopened → (c i : ℕ) × (ts : List Told) × (t : Told) × (get_elem? told c ≡ some ts) × (get_elem? ts i ≡ some t) × (t.number ≡ n)
-    unopened n became = elim (told_each (replicate many None) every n outcome.Unopened became) [
-      | inl none_ ↦ absurd (none_told many n outcome.Unopened none_)
-      | inr w ↦ elim (whose w.0 w.3.0 w.1 w.3.1 w.2 w.3.2) [
-        | inl own ↦ (w.0, w.3.0, w.1, w.3.1, own, w.3.2, w.3.3)
-        | inr over ↦ absurd (let a = over.2.is_end in let b = ap (ends_of (over.2.slot * 4294967296 + over.2.first)) w.3.4 in omega arith)
-      ]
+    unopened n became = let w = told_of n outcome.Unopened became in elim w.3 [
+      | inl own ↦ (own.0, own.1, own.2, w.0, own.3, own.4, w.1)
+      | inr over ↦ absurd (let a = over.5.is_end in let b = ap (ends_of (over.5.slot * 4294967296 + over.5.first)) w.2 in omega arith)
     ]
 
     alone : (n : ℕ) (by : Outcome) → Became all outcomes n by → (c : ℕ) × (t : Task) × IsTask all outcomes c t × (t.number ≡ n)
@@ -341,12 +341,9 @@ module _ {O : Type 0} {g : Ghosts O} {state : O → OutState} {readers : List (L
 
     -- what became of an operation for which an id was made is the end of a call
     pub became_end : (o : ℕ) (by : Outcome) → 0 < total (makes o) notes → Became all outcomes o by → (x : Told) × IsEndTold slots notes x × (x.number ≡ o) × (x.outcome ≡ by)
-    became_end o by made became = elim (told_each (replicate many None) every o by became) [
-      | inl none_ ↦ absurd (none_told many o by none_)
-      | inr w ↦ elim (whose w.0 w.3.0 w.1 w.3.1 w.2 w.3.2) [
-        | inl own ↦ absurd (apart notes have w.0 w.3.0 w.1 w.3.1 own w.3.2 (subst (λ n. 0 < total (makes n) notes) (sym w.3.3) made))
-        | inr over ↦ (w.3.1, over.2, w.3.3, w.3.4)
-      ]
+    became_end o by made became = let w = told_of o by became in elim w.3 [
+      | inl own ↦ absurd (apart notes have own.0 own.1 own.2 w.0 own.3 own.4 (subst (λ n. 0 < total (makes n) notes) (sym w.1) made))
+      | inr over ↦ (w.0, over.5, w.1, w.2)
     ]
 
     -- what each client told is what is reported

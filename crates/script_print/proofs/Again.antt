@@ -361,9 +361,7 @@ printed_same s =
       links_same = link_names_same p s body;
       clients_same = clients_same p s body;
       names_same = names_same p s body;
-      slots_same = size_printed slots_in 31 slots_only s ∙ sizes.0;
-      requests_same = size_printed requests_in 4096 requests_only s ∙ sizes.1;
-      first_same = size_printed first_in 0 first_only s ∙ sizes.2;
+      sizes_same = (size_printed slots_in 31 slots_only s ∙ sizes.0, size_printed requests_in 4096 requests_only s ∙ sizes.1, size_printed first_in 0 first_only s ∙ sizes.2);
       schedule_same = schedule_same p s (printed_turns s);
     }
 

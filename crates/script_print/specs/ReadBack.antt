@@ -16,9 +16,7 @@ pub record IsSameScript (a b : List Item) : Type 0 where
   pub links_same : link_names a ≡ link_names b
   pub clients_same : clients a ≡ clients b
   pub names_same : names a ≡ names b
-  pub slots_same : slots a ≡ slots b
-  pub requests_same : requests a ≡ requests b
-  pub first_same : first_version a ≡ first_version b
+  pub sizes_same : (slots a ≡ slots b) × (requests a ≡ requests b) × (first_version a ≡ first_version b)
   pub schedule_same : schedule a ≡ schedule b
 
 -- the text that is printed of the items is read as what was printed, and that is the same script

@@ -5,11 +5,11 @@ ghost use Rattle.sock_words.specs.KindText.{kind_text};
 ghost use Rattle.brpc_model.specs.ScriptText.{att_text, call_text, seat_text, target_text, item_text};
 ghost use Rattle.script_items.specs.Meaning.{call_of, seat_of, item};
 
-use crate::parts::{
-    push_hex, push_hex_word, push_names, push_number_word, push_option, push_seat, push_shape,
-    push_target, push_word,
+use crate::parts::{push_names, push_option, push_seat, push_shape, push_target};
+use script_items::{
+    CallLine, Line, Name, OpenLine, Seat, SendLine, Target, push_hex, push_hex_word,
+    push_number_word, push_word,
 };
-use script_items::{CallLine, Line, Name, OpenLine, Seat, SendLine, Target};
 use sock_words::Kind;
 use std::alloc::{AllocError, Global};
 

@@ -2,7 +2,8 @@ ghost use Rattle.std.specs.Prelude.{◌≡◌, ◌++◌, take, codes, decimal, S
 ghost use Rattle.script_report.specs.Lines.{label_at, label_words, labels_text, link_text, order_text, link_lines_text};
 
 use crate::operations::OperationPlace;
-use crate::writing::{push_hex_word, push_number, push_pair};
+use crate::writing::push_pair;
+use script_items::{push_hex_word, push_number};
 use std::alloc::{AllocError, Global};
 
 /// How many of the bytes that a link took are shown.

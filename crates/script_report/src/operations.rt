@@ -5,8 +5,8 @@ ghost use Rattle.brpc_model.specs.Operations.{operations};
 ghost use Rattle.script_items.specs.Meaning.{item};
 ghost use Rattle.script_report.specs.Lines.{place_of, outcome_text_line};
 
-use crate::writing::{push_hex_word, push_number, push_number_word, push_pair};
-use script_items::{Line, is_operation};
+use crate::writing::push_pair;
+use script_items::{Line, is_operation, push_hex_word, push_number, push_number_word};
 use sock_words::Outcome;
 use std::alloc::{AllocError, Global};
 

@@ -20,32 +20,27 @@ pub struct Load {
 fn load_line(alloc: Global, load: Load) -> Result<String, AllocError>
     ensures { IfOk result (λ text. string_bytes text ≡ load_line load.seed load.clients load.operations) }
 {
-    let Load {
-        seed,
-        clients,
-        operations,
-    } = load;
-    format!(in alloc; "load {seed} {clients} {operations}\n")
+    format!(in alloc; "load {} {} {}\n", load.seed, load.clients, load.operations)
 }
 
 // `sends N placed P bytes B`.
 fn sends_line(alloc: Global, sums: &Sums) -> Result<String, AllocError>
     ensures { IfOk result (λ text. string_bytes text ≡ sends_line sums.now) }
 {
-    let sends = sums.sends;
-    let placed = sums.placed;
-    let bytes = sums.placed_bytes;
-    format!(in alloc; "sends {sends} placed {placed} bytes {bytes}\n")
+    format!(in alloc;
+        "sends {} placed {} bytes {}\n",
+        sums.sends, sums.placed, sums.placed_bytes
+    )
 }
 
 // `calls N answered A bytes B`.
 fn calls_line(alloc: Global, sums: &Sums) -> Result<String, AllocError>
     ensures { IfOk result (λ text. string_bytes text ≡ calls_line sums.now) }
 {
-    let calls = sums.calls;
-    let answered = sums.answered;
-    let bytes = sums.answered_bytes;
-    format!(in alloc; "calls {calls} answered {answered} bytes {bytes}\n")
+    format!(in alloc;
+        "calls {} answered {} bytes {}\n",
+        sums.calls, sums.answered, sums.answered_bytes
+    )
 }
 
 // `other N`, and `end`.

@@ -12,8 +12,8 @@ use Rattle.script_tasks.specs.Along.{IsShort}
 call_short : (call : CallLine) → CallInRange call → (names : List (List ℕ)) (o : ℕ) → KeepsLimits (asked_of names o call)
 call_short call range names o =
     let count : length (map (name_number names) call.names) ≡ length call.names = length-map call.names (name_number names) in record {
-      some_name = omega (arith, count, range.some_name);
-      two_names = omega (arith, count, range.few_names);
+      some_name = omega (arith, count, range.names.0);
+      two_names = omega (arith, count, range.names.1);
       short_service = range.service;
       short_method = range.method;
       short_body = range.bodies;

@@ -1,6 +1,6 @@
 -- Tasks, `open`s, calls and the clients' operations, line by line.
 use Rattle.std.specs.Prelude.{◌≡◌, ℕ, zero, suc, ◌+◌, ◌-◌, ◌&&◌, nat_le, nat_lt, Bool, if◌then◌else◌, List, [], ◌∷◌, ◌++◌, option_map, option_to_list}
-use Rattle.brpc_model.specs.Items.{Item, Call, is_client, is_operation, is_open}
+use Rattle.brpc_model.specs.Items.{Item, Call, is_client, is_operation, is_open, is_call}
 use Rattle.sock_message.specs.Inside.{KeepsLimits}
 use Rattle.seat_programs.specs.declared.task.Op.{Op}
 use Rattle.seat_programs.specs.declared.task.Task.{Task}
@@ -21,6 +21,10 @@ tasks_along all names number link own (item ∷ items) =
     if is_client item then own ∷ tasks_along all names number link [] items
     else if is_operation item then tasks_along all names (number + 1) (if is_open item then link + 1 else link) (own ++ task_at all names number link item) items
     else tasks_along all names number link own items
+
+-- the sorts of operations whose numbers are wanted: a call, or else one that opens a link
+abbrev pub is_one : Bool → Item → Bool
+is_one of_calls item = if of_calls then is_call item else is_open item
 
 -- the numbers of the operations of one sort along these items, where the next operation has this one
 abbrev pub numbers_along : (Item → Bool) → ℕ → List Item → List ℕ

@@ -2,29 +2,48 @@ ghost use Rattle.std.specs.Prelude.{◌≡◌, ◌∷◌, map, IfOk};
 ghost use Rattle.seat_programs.specs.Tasks.{calls, opens};
 ghost use Rattle.script_items.specs.Meaning.{item};
 ghost use Rattle.report_fits.specs.Limits.{KeepsLimits};
-ghost use Rattle.script_tasks.specs.Along.{ends_along, operation_in};
+ghost use Rattle.script_tasks.specs.Along.{ends_along, is_one, numbers_along, operation_in};
 
 use crate::sizes::{is_call, is_open};
 use script_items::{Line, Target, is_client, is_operation};
 use std::alloc::{AllocError, Global};
 use std::collections::VecDeque;
 
+/// Whether the line is a call, or else opens a link.
+fn is_one(of_calls: bool, line: &Line) -> bool
+    ensures { result ≡ is_one of_calls (item line.now) }
+{
+    if of_calls {
+        is_call(line)
+    } else {
+        is_open(line)
+    }
+}
+
+/// The numbers of the operations that are calls, or else of those that open a link, in their order.
+fn numbers_of(alloc: Global, lines: &[Line], of_calls: bool) -> Result<Vec<u16>, AllocError>
+    requires { KeepsLimits (map item lines.now) }
+    ensures { IfOk result (λ numbers. numbers.items ≡ numbers_along (is_one of_calls) 0 (map item lines.now)) }
+{
+    let mut numbers = Vec::new(alloc);
+    let mut number = 0u16;
+    for line in lines {
+        if is_operation(line) {
+            if is_one(of_calls, line) {
+                numbers.push(number)?;
+            }
+            number += 1;
+        }
+    }
+    Ok(numbers)
+}
+
 /// The numbers of the `open` operations, in the order of their links.
 pub fn opens_of(alloc: Global, lines: &[Line]) -> Result<VecDeque<u16>, AllocError>
     requires { KeepsLimits (map item lines.now) }
     ensures { IfOk result (λ numbers. numbers.items ≡ opens (map item lines.now)) }
 {
-    let mut opens = VecDeque::new(alloc);
-    let mut number = 0u16;
-    for line in lines {
-        if is_operation(line) {
-            if is_open(line) {
-                opens.push_back(number)?;
-            }
-            number += 1;
-        }
-    }
-    Ok(opens)
+    Ok(VecDeque::from_vec(numbers_of(alloc, lines, false)?))
 }
 
 /// The numbers of the `call` operations, in their order.
@@ -32,17 +51,7 @@ pub fn calls_of(alloc: Global, lines: &[Line]) -> Result<Vec<u16>, AllocError>
     requires { KeepsLimits (map item lines.now) }
     ensures { IfOk result (λ numbers. numbers.items ≡ calls (map item lines.now)) }
 {
-    let mut calls = Vec::new(alloc);
-    let mut number = 0u16;
-    for line in lines {
-        if is_operation(line) {
-            if is_call(line) {
-                calls.push(number)?;
-            }
-            number += 1;
-        }
-    }
-    Ok(calls)
+    numbers_of(alloc, lines, true)
 }
 
 /// The number of the first operation of each client, the setup's first, and behind these how many operations there are.

@@ -362,9 +362,9 @@ module _ (P : Type 0) {O I : Type 0} (g : Ghosts O) (out : O → OutState) (inn 
     -- in the words of what is told
     on_link : (client number : ℕ) (asked : Asked) → IsOperation all outcomes client number (ops.Call asked) → (id code : ℕ) → EndedLink number asked id code → WhyRead client number asked id code (last_attempt notes number)
     on_link client number asked call id code h = elim h.read [
-      | inl f ↦ AtFault f.0 h.link h.on f.1
-      | inr e ↦ AtEnd e.0 h.link (record { on = h.on; ended = e.1; lost = h.lost }) (gave_none number id h.its client asked call h.link
-          (subst (λ (k : ℕ). NoResponseHere id (gave k)) h.names (subst (λ (i : ℕ). NoResponseHere i (gave (at_word_link h.word))) h.call_is (h.alone e.0))))
+      | inl f ↦ AtFault f.0 (at_word_link h.word) h.on f.1
+      | inr e ↦ AtEnd e.0 (at_word_link h.word) (record { on = h.on; ended = e.1; lost = h.lost }) (gave_none number id h.its client asked call (at_word_link h.word)
+          (subst (λ (i : ℕ). NoResponseHere i (gave (at_word_link h.word))) h.call_is (h.alone e.0)))
     ]
 
     -- the link of a reader whose reading ended early

@@ -7,7 +7,7 @@ use Rattle.sock_words.specs.declared.ticket.Ticket.{Ticket}
 use Rattle.sock_words.specs.Words.{socket_id_slot, socket_id_version, vref_version, ticket}
 use Rattle.sock_io.specs.declared.link.Put.TheVariants as puts
 use Rattle.sock_model.specs.Entries.{ticket_of, slot_of}
-use Rattle.sock_words.specs.declared.outcome.Outcome.TheVariants.{Full}
+use Rattle.sock_words.specs.declared.outcome.Outcome.TheVariants.{Full, Expired}
 use Rattle.seat_programs.specs.Calls.{ClaimRequest}
 use Rattle.seat_programs.specs.Heads.{Posting, HasLocked}
 use Rattle.seat_programs.specs.Posts.{post, posted}
@@ -39,6 +39,7 @@ use Rattle.seat_states.specs.declared.point.Sending.{Sending}
 use Rattle.seat_states.specs.declared.point.SendStep.TheVariants as sends
 use Rattle.seat_states.specs.declared.point.Writer.{Writer}
 use Rattle.seat_states.specs.declared.point.Current.{Current}
+use Rattle.seat_states.specs.declared.point.WriteStep.{WriteStep}
 use Rattle.seat_states.specs.declared.point.WriteStep.TheVariants as writes
 use Rattle.call_points.specs.Steps.{after_word}
 use Rattle.seat_states.specs.Points.{Context, client_on, holder_of, error_by, told, failed_look, look_program, claims_program, sent_program, written_program, behind_drop, after_program, refused_program, posted_program, with_asked, next_program, unopened_program, attempt_program, IsRefused, release_on, open_program, seek_program, release_program, send_program, write_program, then_program, gone_then, has_life, after_put, with_put}
@@ -137,20 +138,15 @@ took_all a w c asked n e = rw e refl
 pub took_part : (a : Context) (w : Writer) (c : Current) (asked : Bool) (n : ℕ) → nat_le (length a.left) n ≡ false → write_program (with_put (puts.Took n) a) w (writes.Look c false) ≡ after_put (write_program a w (writes.Put c asked)) (puts.Took n)
 took_part a w c asked n e = rw e refl
 
--- a message has its place, and isn't the last
-pub passes : (a : Context) (w v : Writer) (now : Ticket) (c : Option OnCall) → holder_of v.holder ≡ one_more (holder_of w.holder) → v.author ≡ w.author → (now.0 == w.holder.last.0) ≡ false →
-    write_program a v (writes.ReadNext now c) ≡ passed_telling (one_more (holder_of w.holder)) now.0 (told c) (written_program a w)
-passes a w v now c h author e =
-    let id : v.holder.id.0 ≡ w.holder.id.0 = ap (λ (h : heads.Holder). h.id) h in
-    let link : v.holder.link ≡ w.holder.link = ap (λ (h : heads.Holder). h.link) h in
-    let last : v.holder.last.0 ≡ w.holder.last.0 = ap (λ (h : heads.Holder). h.last) h in
-    let places : v.holder.places ≡ w.holder.places + 1 = ap (λ (h : heads.Holder). h.places) h in
-    rw (id, link, last, places, author, e) refl
+-- a step that goes by a test
+pub writes_by : (a : Context) (w : Writer) (b : Bool) (x y : WriteStep) → next_program a (nexts.Point (points.Write w (if b then x else y))) ≡ (if b then write_program a w x else write_program a w y)
+writes_by a w true x y = refl
+writes_by a w false x y = refl
 
--- and where it is the last
-pub passes_last : (a : Context) (w v : Writer) (now : Ticket) (c : Option OnCall) → holder_of v.holder ≡ one_more (holder_of w.holder) → v.author ≡ w.author → (now.0 == w.holder.last.0) ≡ true →
-    freed now.0 (behind_drop a v c None) ≡ passed_telling (one_more (holder_of w.holder)) now.0 (told c) (written_program a w)
-passes_last a w v now c h author e =
+-- a message has its place, and is the last or not
+pub passes : (a : Context) (w v : Writer) (now : Ticket) (c : Option OnCall) (last : Bool) → holder_of v.holder ≡ one_more (holder_of w.holder) → v.author ≡ w.author → (now.0 == w.holder.last.0) ≡ last →
+    (if last then freed now.0 (behind_drop a v c None) else write_program a v (writes.ReadNext now c)) ≡ passed_telling (one_more (holder_of w.holder)) now.0 (told c) (written_program a w)
+passes a w v now c is_last h author e =
     let id : v.holder.id.0 ≡ w.holder.id.0 = ap (λ (h : heads.Holder). h.id) h in
     let link : v.holder.link ≡ w.holder.link = ap (λ (h : heads.Holder). h.link) h in
     let last : v.holder.last.0 ≡ w.holder.last.0 = ap (λ (h : heads.Holder). h.last) h in
@@ -167,6 +163,11 @@ posts a t n slot = refl
 refuses : (id e : ℕ) (next : Program) (how : Posting) → IsRefused how → next ≡ posted id e next how
 refuses id e next (HasLocked w) r = absurd r
 refuses id e next _ r = refl
+
+-- an `expire` that ended its call tells that
+pub expires : (a : Context) (after : AfterStep) → refused_program a after Expired ≡ after_program a after
+expires a (afters.Expire o) = refl
+expires a after = refl
 
 pub refused : (a : Context) (c : OnCall) (after : AfterStep) (how : Posting) → IsRefused how → refused_program a after (expire_outcome how) ≡ posted_program a c after how
 refused a c (afters.Attempt slot) how r = refuses (id_of c.id) c.error.0 (after_program a (afters.Attempt slot)) how r

@@ -69,20 +69,11 @@ impl AfterStep {
         ensures program { (a : Context) → next_program a result ≡ after_program a self }
         ensures hand { link_behind result ≡ None }
     {
-        match self {
-            AfterStep::Attempt(None) => Next::GaveBack,
-            AfterStep::Attempt(Some(slot)) => releasing(
-                slot,
-                Continuation::GaveBack,
-                ReleaseStep::SubRef,
-            ),
-            AfterStep::Expire(operation) => Next::Said(operation, Outcome::Expired),
-            AfterStep::Drop(writer, next) => writer.freed(next),
-        }
+        self.telling(Outcome::Expired)
     }
 
-    /// How it goes on where a post has no lock; an `expire` tells so.
-    fn without_lock(self, outcome: Outcome) -> Next
+    /// How it goes on where an `expire` tells this.
+    fn telling(self, outcome: Outcome) -> Next
         ensures program { (a : Context) → next_program a result ≡ refused_program a self outcome }
         ensures hand { link_behind result ≡ None }
     {
@@ -103,7 +94,7 @@ impl AfterStep {
         ensures program { (a : Context) (c : OnCall) (how : Posting) → IsRefused how → outcome ≡ expire_outcome how → next_program a result ≡ posted_program a c self how }
         ensures hand { link_behind result ≡ None }
     {
-        self.without_lock(outcome)
+        self.telling(outcome)
     }
 
     /// How it goes on behind the step of a post.

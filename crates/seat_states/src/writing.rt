@@ -1,4 +1,5 @@
-ghost use Rattle.std.specs.Prelude.{◌≡◌, ◌==◌, ◌+◌, ◌<◌, ◌≤◌, ℕ, List, None, Some, Bool, false};
+ghost use Rattle.std.specs.Prelude.{◌≡◌, ◌==◌, ◌+◌, ◌%◌, ◌<◌, ◌≤◌, if◌then◌else◌, ℕ, List, None, Some, Bool, false};
+ghost use Rattle.sock_words.specs.Words.{vref_version};
 ghost use Rattle.sock_model.specs.Entries.{slot_of, generation_of};
 ghost use Rattle.seat_programs.specs.Sends.{one_more, freed, passed_telling};
 ghost use Rattle.sock_io.specs.declared.link.Put.{Put};
@@ -168,39 +169,14 @@ impl Writer {
         }
     }
 
-    /// What follows the first look: a put, or the loop, which drops nothing before it looked again.
-    fn looked_first(self, current: Current, found: Vref) -> Next
-        ensures program { (a : Context) → next_program a result ≡ after_word (write_program a self (WriteStep.FirstLook current)) found.0 }
-        ensures hand { link_behind result ≡ None }
+    /// What follows where a word of its socket was found: this step where the socket was failed, and that one where it lives.
+    fn by_life(self, found: u64, failed: WriteStep, lives: WriteStep) -> Next
+        ensures { result ≡ Next.Point (Point.Write self (if vref_version found % 2 == 0 then lives else failed)) }
     {
-        if found.is_failed() {
-            self.to(WriteStep::Look(current, false))
+        if Vref::from_word(found).is_failed() {
+            self.to(failed)
         } else {
-            self.to(WriteStep::Put(current, false))
-        }
-    }
-
-    /// What follows a look: a put, or the message is dropped.
-    fn looked(self, current: Current, asked: bool, found: Vref) -> Next
-        ensures program { (a : Context) → next_program a result ≡ after_word (write_program a self (WriteStep.Look current asked)) found.0 }
-        ensures hand { link_behind result ≡ None }
-    {
-        if found.is_failed() {
-            self.to(WriteStep::LoadCode(current))
-        } else {
-            self.to(WriteStep::Put(current, asked))
-        }
-    }
-
-    /// What follows the exchange that makes the version odd: who did so stores the code.
-    fn failed(self, current: Current, found: Vref) -> Next
-        ensures program { (a : Context) → next_program a result ≡ after_word (write_program a self (WriteStep.SetOdd current)) found.0 }
-        ensures hand { link_behind result ≡ None }
-    {
-        if found.is_failed() {
-            self.to(WriteStep::Look(current, false))
-        } else {
-            self.to(WriteStep::StoreCode(current))
+            self.to(lives)
         }
     }
 
@@ -331,9 +307,23 @@ impl Writer {
         ensures hand { link_behind result ≡ None }
     {
         match step {
-            WriteStep::FirstLook(current) => self.looked_first(current, Vref::from_word(found)),
-            WriteStep::Look(current, asked) => self.looked(current, asked, Vref::from_word(found)),
-            WriteStep::SetOdd(current) => self.failed(current, Vref::from_word(found)),
+            // Nothing is dropped before the loop looked again.
+            WriteStep::FirstLook(current) => self.by_life(
+                found,
+                WriteStep::Look(current, false),
+                WriteStep::Put(current, false),
+            ),
+            WriteStep::Look(current, asked) => self.by_life(
+                found,
+                WriteStep::LoadCode(current),
+                WriteStep::Put(current, asked),
+            ),
+            // Who made the version odd stores the code.
+            WriteStep::SetOdd(current) => self.by_life(
+                found,
+                WriteStep::Look(current, false),
+                WriteStep::StoreCode(current),
+            ),
             WriteStep::StoreCode(current) => self.to(WriteStep::ReleaseFirst(current)),
             WriteStep::ReleaseFirst(current) => self.to(WriteStep::Look(current, false)),
             WriteStep::LoadCode(current) => self.to(WriteStep::DropPlace(current, found as u16)),

@@ -102,9 +102,7 @@ module _ (p : Plan) (q : IdPlan) (narrow : q.slots ≤ 65536) (is_call : Asked �
               ranges = ranges;
               calls = calls;
               each = length-set ts i r.0 ∙ (law.each ∙ sym (length-set c.seats i next_seat));
-              programs = λ j s' y e et. ⊎_elim
-                  (λ b. ⊎_elim (λ d. subst (λ (z : SeatState). Follows is_call y z.program) b.1 (subst (λ z. Follows is_call z (next_step (resolved (waiting_at a.waiting i) x))) d.1 r.2)) (λ d. absurd (d.0 b.0)) (at_set ts i j r.0 y et))
-                  (λ b. ⊎_elim (λ d. absurd (b.0 d.0)) (λ d. law.programs j s' y b.1 d.1) (at_set ts i j r.0 y et)) (at_set c.seats i j next_seat s' e);
+              programs = pairs_set (λ (y : Trail) (z : SeatState). Follows is_call y z.program) c.seats ts i next_seat r.0 law.programs r.2;
             },
             stays,
           )

@@ -29,7 +29,7 @@ use Rattle.sock_runs.specs.AtSteps.{Asks, AtSteps}
 use Rattle.sock_runs.specs.Fits.{FitsHead, FitsRetry}
 use Rattle.sock_runs.specs.GoesOn.{GoesOn}
 use Rattle.sock_runs.specs.Sound.{first_step}
-use Rattle.sock_runs.proofs.Through.{PassesPlain, PassesFails, PassesSends, PassesReads, any_end, is_plain_aside, reads_any, at_steps_plain, at_steps_sends, through_release, through_set_failed, through_fail}
+use Rattle.sock_runs.proofs.Through.{PassesPlain, PassesFails, PassesSends, PassesReads, any_end, is_plain_aside, reads_any, locked, at_steps_plain, at_steps_sends, through_release, through_set_failed, through_fail}
 use Rattle.sock_runs.proofs.ThroughLoops.{through_post, through_unlocks, through_round}
 use Rattle.sock_runs.proofs.ThroughSends.{through_block, through_write_link, through_send}
 use Rattle.sock_runs.proofs.ThroughCalls.{through_call, through_retry, through_join, through_reading}
@@ -126,7 +126,7 @@ module _ (requests : ℕ) where
   goes_plain = at_steps_plain asks Free (λ call next is r. goes_call call next r) (λ behind r. r) goes_aside (λ head next is r. goes_loop head next r) (λ id w next r exit few. (few, r exit))
 
   goes_fails : (code : ℕ) → PassesFails G code
-  goes_fails = through_set_failed G goes_plain (λ call next is r. goes_call call next r)
+  goes_fails = through_set_failed G goes_plain.words (λ call next is r. goes_call call next r)
 
   goes_sends : PassesSends G
   goes_sends = at_steps_sends asks Free goes_plain (λ call next is r. goes_call call next r) (λ behind r. r) (λ behind r. r) (λ behind r. r) (goes_fails 1009)
@@ -171,10 +171,10 @@ module _ (requests : ℕ) where
     linking = Do (FindLink (socket_id_slot t.socket) (socket_id_version t.socket)) (λ k. Aside (StoreAt t.heading.operation (at_word (id_first t.id) (id_slot t.id) k t.heading.attempt)) (λ _. Do (LookWord t.socket) (λ found. cond (vref_version found % 2 == 0) claiming (failing 1009))))
 
     rests : G rest
-    rests = through_release G goes_plain (socket_id_slot t.socket) (λ _. next) (λ _. after)
+    rests = through_release G goes_plain.words (socket_id_slot t.socket) (λ _. next) (λ _. after)
 
     fails : (code : ℕ) → G (failing code)
-    fails code = through_post G goes_plain t.id code t.heading.attempt rest rests
+    fails code = through_post G goes_plain.errors t.id code t.heading.attempt rest rests
 
     looks : (k found : ℕ) (b : Bool) → (vref_version found % 2 == 0) ≡ b → (vref_version found % 2 ≡ 0 → Goes (Claims t k 0) (cond b claiming (failing 1009)) ⊎ ((0 ≡ requests) × G (cond b claiming (failing 1009)))) × (vref_version found % 2 ≡ 1 → G (cond b claiming (failing 1009)))
     looks k found true is = (λ even. claims t bytes (failing 3001) rest (fails 3001) rests k requests 0 (omega arith), λ odd. absurd (let even : vref_version found % 2 ≡ 0 = eqb-true (vref_version found % 2) 0 is in omega (arith, even, odd)))
@@ -182,7 +182,7 @@ module _ (requests : ℕ) where
 
     ways : (found : ℕ) (b : Bool) → (vref_version found == socket_id_version t.socket) ≡ b → Ways t.socket found (cond b linking (release (socket_id_slot t.socket) (λ _. post t.id 1009 t.heading.attempt next)))
     ways found true is = inr (t, refl, eqb-true (vref_version found) (socket_id_version t.socket) is, few, (refl, refl, λ k. (refl, refl, λ _. (refl, λ word. looks k word (vref_version word % 2 == 0) refl))))
-    ways found false is = inl (through_release G goes_plain (socket_id_slot t.socket) (λ _. post t.id 1009 t.heading.attempt next) (λ _. through_post G goes_plain t.id 1009 t.heading.attempt next after))
+    ways found false is = inl (through_release G goes_plain.words (socket_id_slot t.socket) (λ _. post t.id 1009 t.heading.attempt next) (λ _. through_post G goes_plain.errors t.id 1009 t.heading.attempt next after))
 
     goes_tries : G (address t.socket linking (λ _. post t.id 1009 t.heading.attempt next))
     goes_tries = λ found. ways found (vref_version found == socket_id_version t.socket) refl
@@ -197,16 +197,16 @@ module _ (requests : ℕ) where
 
   goes_operation : (sizes : Sizes) → sizes.requests ≡ requests → (held : List HeldLife) (o : ℕ) (next : List HeldLife → Program) (op : Op) → ((h : List HeldLife) → G (next h)) → G (operation sizes held o next op)
   goes_operation sizes size held o next op after = through_operation G goes_plain sizes held o next op after (record {
-    opens = λ name k e. through_open G goes_plain (λ call next is r. goes_call call next r) sizes.slots 0 o name k (next held) (after held);
+    opens = λ name k e. through_open G goes_plain.words (λ call next is r. goes_call call next r) sizes.slots 0 o name k (next held) (after held);
     sends = λ name bytes e. through_send G goes_sends sizes.requests o name bytes (next held) (after held);
     calls = λ asked e. subst (λ n. G (call n sizes.ids asked (next held))) (sym size)
         (through_call G goes_plain requests asked (next held) (after held) (λ id socket. goes_attempt asked id 0 socket (next held) (omega arith) (after held)) sizes.ids);
     joins = λ t e. through_join G goes_plain (λ id next r. r) o t (next held) (after held);
-    fails = λ name code e. through_fail G goes_plain o name code (next held) (goes_fails code) (after held);
+    fails = λ name code e. through_fail G goes_plain.words o name code (next held) (goes_fails code) (after held);
   })
 
   pub client_goes : (sizes : Sizes) → sizes.requests ≡ requests → (ts : List Task) (held : List HeldLife) → G (client_from sizes held ts)
-  client_goes sizes size [] held = (size, through_back G goes_plain tt held)
+  client_goes sizes size [] held = (size, through_back G goes_plain.words tt held)
   client_goes sizes size (t ∷ ts) held = (size, goes_operation sizes size held t.number (λ h. client_from sizes h ts) t.op (λ h. client_goes sizes size ts h))
 
   -- ## Readers
@@ -217,7 +217,7 @@ module _ (requests : ℕ) where
   -- ## The next step
 
   goes_unlocks_at : (p : Plan) (i w : ℕ) (advance : Bool) (next : Unlocking → Program) → FitsHead p (Unlocks i w advance) → G (Round (Unlocks i w advance) next) → G (unlocks_round i w advance next)
-  goes_unlocks_at p i w advance next fits x = through_unlocks G goes_plain i w advance next (λ exit. x exit (omega (arith, fits)))
+  goes_unlocks_at p i w advance next fits x = through_unlocks G (locked goes_plain.errors) i w advance next (λ exit. x exit (omega (arith, fits)))
 
   goes_round : (p : Plan) (v : View) (head : Head) (next : Exit head → Program) → GoesOn p v (Round head next) → G (Round head next) → G (round head next)
   goes_round p v (Unlocks i w advance) next g x = goes_unlocks_at p i w advance next g.0.0 x

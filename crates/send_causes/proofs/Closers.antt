@@ -2,7 +2,6 @@
 use Rattle.std.proofs.Common.{◌≡◌, ℕ, ◌+◌, ◌%◌, ◌≤◌, ◌==◌, ◌&&◌, ◌⊎◌, inl, inr, nat_lt, ltb-false, Bool, true, false, cond, List, [], ◌∷◌, ◌++◌, length, length-append, append-nil, refl, sym, ap, ◌∙◌, subst, arith}
 use Rattle.std.proofs.lemmas.Bool.{true≢false}
 use Rattle.std.proofs.lemmas.List.Concat.{flat_map-append}
-use Rattle.std.specs.Prelude.{Some, None}
 use Rattle.sock_words.specs.Words.{socket_id_version, socket_id_slot, vref_version}
 use Rattle.sock_steps.proofs.Quiet.{either_way}
 use Rattle.corr_core.specs.Word.{parts, code_of}
@@ -20,7 +19,9 @@ use Rattle.sock_runs.specs.Sound.{first_step}
 use Rattle.outcome_causes.specs.Stories.{In}
 use Rattle.outcome_causes.proofs.Plain.{in_left, in_right}
 use Rattle.run_theorems.specs.Heard.{bytes_found, given_by}
-use Rattle.send_causes.proofs.ReaderParts.{is_freeing, is_of_id, is_loop, ReadsOn, PostsOn, release_on, unlocks_on, end_id_on, unlocked_on, locks_on, joins_on, responses_on, posts_on, post_each_on}
+use Rattle.sock_runs.proofs.Through.{PassesErrors, is_freeing, is_plain_aside, by_errors, locked, given_release}
+use Rattle.sock_runs.proofs.ThroughLoops.{through_errors, through_end_id, through_advance, through_locks, through_joins, through_answer, through_responses}
+use Rattle.sock_runs.proofs.ThroughCalls.{through_post_each}
 use Rattle.brpc_model.specs.Causes.{HasFault}
 use Rattle.call_causes.proofs.Streams.{faults_more, faults_follow, tied_more}
 
@@ -107,28 +108,19 @@ module _ (k id : ℕ) (Odd : List Taking → Type 0) (Lasts : Type 0) where
     frees (StoreOpen o w) next is x = absurd (true≢false (sym is))
     frees call next is x = x
 
-    asides : (step : Step) (next : Found step → Program) → is_of_id step ≡ true → ((found : Found step) → C (next found)) → C (Aside step next)
+    asides : (step : Step) (next : Found step → Program) → is_plain_aside step ≡ true → ((found : Found step) → C (next found)) → C (Aside step next)
     asides (TakeBytes l room) next is x = absurd (true≢false (sym is))
     asides step next is x = x
 
-    rounds : (head : Head) (next : Exit head → Program) → is_loop head ≡ true → ((exit : Exit head) → C (next exit)) → C (Round head next)
-    rounds (Opens o) next is x = absurd (true≢false (sym is))
-    rounds (Reads r) next is x = absurd (true≢false (sym is))
-    rounds (Discards l total) next is x = absurd (true≢false (sym is))
-    rounds head next is x = x
-
-    calm_on : ReadsOn (Calm false h)
-    calm_on = record { frees = frees; say = λ o outcome next x. x; aside = asides; round = rounds; keep = λ r next x. x }
-
-    calm_posts : PostsOn (Calm false h)
-    calm_posts = record { load = λ o next x. x; post = λ i from e next x. x; round = λ id e w next x. x }
+    calm_errors : PassesErrors C
+    calm_errors = record { say = λ o outcome next x. x; aside = asides; round = by_errors C (λ id e w next r. r) (λ i w advance next r. r) (λ id asked w e next r. r); again = λ i w next kept is x exit. subst C (sym (is exit)) (x exit) }
 
     address_calm : (held : Program) (gone : ℕ → Program) → Calm true h held → ((found : ℕ) → C (gone found)) → C (address id held gone)
     address_calm held gone goes after = (refl, λ found. by found (vref_version found == socket_id_version id))
       where
         by : (found : ℕ) (b : Bool) → Calm b h (cond b held (release (socket_id_slot id) (λ _. gone found)))
         by found true = goes
-        by found false = release_on calm_on (socket_id_slot id) (λ _. gone found) (λ _. after found)
+        by found false = given_release C frees (socket_id_slot id) (λ _. gone found) (λ _. after found)
 
     set_failed_calm : (code : ℕ) (next : ℕ → Program) → Odd h × Codes h code → ((found : ℕ) → C (next found)) → Calm true h (set_failed id code next)
     set_failed_calm code next codes after = (refl, codes.0, refl, λ found. either_way (vref_version found % 2 == 0) _ _ C (codes.1, refl, refl, λ _ _. after found) (after found))
@@ -144,13 +136,13 @@ module _ (k id : ℕ) (Odd : List Taking → Type 0) (Lasts : Type 0) where
     read_calm calls how e = by how.closed refl
       where
         lasts : C (last_posts calls how)
-        lasts = post_each_on calm_on calm_posts calls how.reading.link how.code how.reading.kept (thrown_away how) (thrown_calm how e.1 e.3)
+        lasts = through_post_each C calm_errors calls how.reading.link how.code how.reading.kept (thrown_away how) (thrown_calm how e.1 e.3)
 
         by : (b : Bool) → how.closed ≡ b → C (cond b (last_posts calls how) (address how.reading.id (set_failed how.reading.id how.code (λ _. release (socket_id_slot how.reading.id) (λ _. (last_posts calls how)))) (λ _. (last_posts calls how))))
         by true is = lasts
         by false is = subst (λ x. C (address x (set_failed x how.code (λ _. release (socket_id_slot x) (λ _. (last_posts calls how)))) (λ _. (last_posts calls how)))) (sym e.2)
             (address_calm (set_failed id how.code (λ _. release (socket_id_slot id) (λ _. (last_posts calls how)))) (λ _. (last_posts calls how))
-            (set_failed_calm how.code (λ _. release (socket_id_slot id) (λ _. (last_posts calls how))) (e.0 is) (λ _. release_on calm_on (socket_id_slot id) (λ _. (last_posts calls how)) (λ _. lasts))) (λ _. lasts))
+            (set_failed_calm how.code (λ _. release (socket_id_slot id) (λ _. (last_posts calls how))) (e.0 is) (λ _. given_release C frees (socket_id_slot id) (λ _. (last_posts calls how)) (λ _. lasts))) (λ _. lasts))
 
   -- ## Reading
 
@@ -193,7 +185,7 @@ module _ (k id : ℕ) (Odd : List Taking → Type 0) (Lasts : Type 0) where
           goes (ended_by 2002 false true (with_more bytes kept)) (h ++ Bytes bytes ∷ []) ((λ _. (ends.fault (h ++ Bytes bytes ∷ []) faulty, inr (refl, faulty))), at.link, at.own, inl (inr (inl faulty)))
 
       took_calm : (t : Taking) → (t ≡ NoMore → Lasts) → Calm false (h ++ t ∷ []) (took r next t)
-      took_calm (Bytes bytes) some_ = responses_on (calm_on (h ++ Bytes bytes ∷ [])) r.ids (streams.stream (r.rest ++ bytes)).frames r.kept (λ kept. read_on (with_more bytes kept) (r.rest ++ bytes) (streams.stream (r.rest ++ bytes)).ending next)
+      took_calm (Bytes bytes) some_ = through_responses (Calm false (h ++ Bytes bytes ∷ [])) (λ i v next' x. x) (through_answer (Calm false (h ++ Bytes bytes ∷ [])) (locked (calm_errors (h ++ Bytes bytes ∷ [])))) r.ids (streams.stream (r.rest ++ bytes)).frames r.kept (λ kept. read_on (with_more bytes kept) (r.rest ++ bytes) (streams.stream (r.rest ++ bytes)).ending next)
           (λ kept. read_on_calm kept bytes (streams.stream (r.rest ++ bytes)).ending refl)
       took_calm Nothing some_ = (
         record { link = at.link; own = at.own; total = at.total ∙ ap length (sym (gave_none h Nothing refl)); tied = λ more f. subst (λ l. HasFault (l ++ more)) (sym (gave_none h Nothing refl)) (at.tied more f) },
@@ -215,14 +207,13 @@ module _ (k id : ℕ) (Odd : List Taking → Type 0) (Lasts : Type 0) where
 
     -- one round of a loop
     calm_round : (held : Bool) (h : List Taking) (head : Head) (next : Exit head → Program) → Calm held h (Round head next) → Calm held h (round head next)
-    calm_round held h (Posts i e w) next x = posts_on (calm_on h) (calm_posts h) i e w next x
-    calm_round held h (Unlocks i w advance) next x = unlocks_on (calm_on h) i w advance next x
+    calm_round held h (Posts i e w) next x = through_errors (Calm false h) (calm_errors h) (Posts i e w) next refl x
+    calm_round held h (Unlocks i w advance) next x = through_errors (Calm false h) (calm_errors h) (Unlocks i w advance) next refl x
     calm_round held h (Decides i asked w e) next x = either_way (ends_call (parts w) e) _ _ (Calm held h)
-        (end_id_on (calm_on h) (id_slot i) (next (HasEnded asked.operation (code_of e))) (x (HasEnded asked.operation (code_of e))))
-        (λ _ exit. unlocked_on (calm_on h) (record { id = i; attempt = (parts w).attempt + 1 }) next x exit)
-    calm_round held h (Locks i sought None) next x = locks_on (calm_on h) i sought None next x
-    calm_round held h (Locks i sought (Some w)) next x = locks_on (calm_on h) i sought (Some w) next x
-    calm_round held h (Joins i) next x = joins_on (calm_on h) i next x
+        (through_end_id (Calm false h) (locked (calm_errors h)) (id_slot i) (next (HasEnded asked.operation (code_of e))) (x (HasEnded asked.operation (code_of e))))
+        (λ _. through_advance (Calm false h) (locked (calm_errors h)) i w next x)
+    calm_round held h (Locks i sought w) next x = through_locks (Calm false h) (locked (calm_errors h)) (λ i sought w next y. y) i sought w next x
+    calm_round held h (Joins i) next x = through_joins (Calm false h) (locked (calm_errors h)) (λ i next y. y) i next x
     calm_round held h (Opens o) next x = absurd x
     calm_round held h (Reads r) next x = let at = x.0 in (at.link, λ t some_. took_calm h r next at x.1 t some_)
     calm_round held h (Discards l total) next x = (x.0, λ t some_. discarded_calm h l total next x.0 x.1 x.2 t)

@@ -20,7 +20,7 @@ use Rattle.seat_programs.specs.Clients.{HeldLife, operation, client_from, ending
 use Rattle.seat_programs.specs.Cores.{resolved, next_step}
 use Rattle.sock_runs.specs.AtSteps.{Asks, AtSteps, asks_words}
 use Rattle.sock_runs.specs.Sound.{first_step}
-use Rattle.sock_runs.proofs.Through.{PassesSteps, PassesPlain, PassesFails, PassesSends, PassesReads, is_plain, is_of_message, makes_life, is_of_errors, at_steps_plain, at_steps_sends, through_release, through_reach}
+use Rattle.sock_runs.proofs.Through.{PassesSteps, PassesPlain, PassesFails, PassesSends, PassesReads, is_plain, is_of_message, makes_life, by_errors, at_steps_plain, at_steps_sends, through_release, through_reach}
 use Rattle.sock_runs.proofs.ThroughLoops.{through_round}
 use Rattle.sock_runs.proofs.ThroughSends.{through_block, through_send, through_ending}
 use Rattle.sock_runs.proofs.ThroughCalls.{through_attempt, through_call, through_retry, through_join, through_reading}
@@ -73,12 +73,8 @@ module _ (mine : ℕ → ℕ → Type 0) (Other : ℕ → Type 0) (gone : Other 
   codes_these these odd code (StoreCode i h c) next is r = absurd (true≢false (sym is ∙ code i h c))
   codes_these these odd code call next is r = r
 
-  codes_errors : (head : Head) (next : Exit head → Program) → is_of_errors head ≡ true → ((exit : Exit head) → G (next exit)) → G (Round head next)
-  codes_errors (Reads r) next is x = absurd (true≢false (sym is))
-  codes_errors head next is r = r
-
   codes_plain : PassesPlain G
-  codes_plain = at_steps_plain (stores_asks mine Other) NoFail (codes_these is_plain (λ i. refl) (λ i h c. refl)) (λ behind r. r) (λ step next is r. r) codes_errors (λ id w next r. r)
+  codes_plain = at_steps_plain (stores_asks mine Other) NoFail (codes_these is_plain (λ i. refl) (λ i h c. refl)) (λ behind r. r) (λ step next is r. r) (by_errors G (λ id e w next r. r) (λ i w advance next r. r) (λ id asked w e next r. r)) (λ id w next r. r)
 
   codes_fails : (code : ℕ) → Other code → PassesFails G code
   codes_fails code low id next after = inl (λ found. either_way (vref_version found % 2 == 0) _ _ G ((inl low, λ _ _. after found)) (after found))
@@ -102,15 +98,15 @@ module _ (mine : ℕ → ℕ → Type 0) (Other : ℕ → Type 0) (gone : Other 
 
   -- what a `fail` stores is its own code
   codes_fail : (o name code : ℕ) (next : Program) → mine o code → G next → G (fail o name code next)
-  codes_fail o name code next own after = through_reach G codes_plain name (Say o Unopened next) (λ id. set_failed id code (λ found. release (socket_id_slot id) (λ _. Say o (fail_outcome found) next))) (λ found. Say o (Gone (record { 0 = found })) next) after
+  codes_fail o name code next own after = through_reach G codes_plain.words name (Say o Unopened next) (λ id. set_failed id code (λ found. release (socket_id_slot id) (λ _. Say o (fail_outcome found) next))) (λ found. Say o (Gone (record { 0 = found })) next) after
       (λ id. inr (o, code, own, λ found. by id found (vref_version found % 2 == 0) refl)) (λ found. after)
     where
       by : (id found : ℕ) (b : Bool) → (vref_version found % 2 == 0) ≡ b
           → ((vref_version found % 2 ≡ 0) × SaysFailed o (cond b (Do (StoreCode (socket_id_slot id) (socket_id_version id) code) (λ _. Do (SubRef (socket_id_slot id)) (λ _. release (socket_id_slot id) (λ _. Say o (fail_outcome found) next)))) (release (socket_id_slot id) (λ _. Say o (fail_outcome found) next)))
           × Stores mine Other (Fails o code (socket_id_slot id)) (cond b (Do (StoreCode (socket_id_slot id) (socket_id_version id) code) (λ _. Do (SubRef (socket_id_slot id)) (λ _. release (socket_id_slot id) (λ _. Say o (fail_outcome found) next)))) (release (socket_id_slot id) (λ _. Say o (fail_outcome found) next))))
           ⊎ G (cond b (Do (StoreCode (socket_id_slot id) (socket_id_version id) code) (λ _. Do (SubRef (socket_id_slot id)) (λ _. release (socket_id_slot id) (λ _. Say o (fail_outcome found) next)))) (release (socket_id_slot id) (λ _. Say o (fail_outcome found) next)))
-      by id found true even = inl (eqb-true (vref_version found % 2) 0 even, (refl, ap (λ b. cond b Failed (Already (record { 0 = found }))) even), (inr (o, refl), λ _ _. through_release G codes_plain (socket_id_slot id) (λ _. Say o (fail_outcome found) next) (λ _. after)))
-      by id found false odd = inr (through_release G codes_plain (socket_id_slot id) (λ _. Say o (fail_outcome found) next) (λ _. after))
+      by id found true even = inl (eqb-true (vref_version found % 2) 0 even, (refl, ap (λ b. cond b Failed (Already (record { 0 = found }))) even), (inr (o, refl), λ _ _. through_release G codes_plain.words (socket_id_slot id) (λ _. Say o (fail_outcome found) next) (λ _. after)))
+      by id found false odd = inr (through_release G codes_plain.words (socket_id_slot id) (λ _. Say o (fail_outcome found) next) (λ _. after))
 
   -- a `fail` is one of the seat's own
   abbrev pub OwnsFail : ℕ → Op → Type 0
@@ -119,7 +115,7 @@ module _ (mine : ℕ → ℕ → Type 0) (Other : ℕ → Type 0) (gone : Other 
 
   codes_operation : (sizes : Sizes) (held : List HeldLife) (o : ℕ) (next : List HeldLife → Program) (op : Op) → OwnsFail o op → ((h : List HeldLife) → G (next h)) → G (operation sizes held o next op)
   codes_operation sizes held o next op owns goes = through_operation G codes_plain sizes held o next op goes (record {
-    opens = λ name k e. through_open G codes_plain (codes_these makes_life (λ i. refl) (λ i h c. refl)) sizes.slots 0 o name k (next held) (goes held);
+    opens = λ name k e. through_open G codes_plain.words (codes_these makes_life (λ i. refl) (λ i h c. refl)) sizes.slots 0 o name k (next held) (goes held);
     sends = λ name bytes e. through_send G codes_sends sizes.requests o name bytes (next held) (goes held);
     calls = λ asked e. through_call G codes_plain sizes.requests asked (next held) (goes held) (λ id socket. codes_attempt sizes.requests asked id 0 socket (next held) (goes held)) sizes.ids;
     joins = λ t e. through_join G codes_plain (λ id next r. r) o t (next held) (goes held);
@@ -127,11 +123,11 @@ module _ (mine : ℕ → ℕ → Type 0) (Other : ℕ → Type 0) (gone : Other 
   })
 
   pub client_codes : (sizes : Sizes) (ts : List Task) (held : List HeldLife) → AllByRecursion (λ (t : Task). OwnsFail t.number t.op) ts → G (client_from sizes held ts)
-  client_codes sizes [] held owns = through_back G codes_plain tt held
+  client_codes sizes [] held owns = through_back G codes_plain.words tt held
   client_codes sizes (t ∷ ts) held owns = codes_operation sizes held t.number (λ h. client_from sizes h ts) t.op owns.0 (λ h. client_codes sizes ts h owns.1)
 
   pub ending_codes : Other 1014 → (os : List ℕ) → G (ending_of os)
-  ending_codes over os = through_ending G codes_plain (codes_fails 1014 over) (record { load = λ o next r. r; wait = λ o next r. r }) tt os
+  ending_codes over os = through_ending G codes_plain.words (codes_fails 1014 over) (record { load = λ o next r. r; wait = λ o next r. r }) tt os
 
   pub reader_codes : ((code : ℕ) → IsOtherCode code → Other code) → (calls : List ℕ) (k o : ℕ) → G (reader calls k o)
   reader_codes others calls k o = λ word. through_reading (λ how. IsOtherCode how.code) G codes_reads (λ how low. codes_fails how.code (others how.code low)) tt calls k word

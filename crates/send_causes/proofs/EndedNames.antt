@@ -275,15 +275,11 @@ module _ (p : Plan) (q : IdPlan) (narrow : q.slots ≤ 65536) (is_call : Asked �
           set ts i r.0,
           record {
             views = λ j y e. ⊎_elim (λ b. subst (ViewOver is_call seen fs) b.1 view) (λ b. view_up is_call seen es fs up y (law.views j y b.1)) (at_set vs i j w y e);
-            trails = λ j y z ev et. ⊎_elim
-                (λ b. ⊎_elim (λ d. subst (IsTrue is_call seen fs y) b.1 (subst (λ y. IsTrue is_call seen fs y r.0) d.1 (stays_true is_call seen fs w u r.0 r.1 true_))) (λ d. absurd (d.0 b.0)) (at_set vs i j w y ev))
-                (λ b. ⊎_elim (λ d. absurd (b.0 d.0)) (λ d. true_up is_call seen es fs up y z (law.trails j y z d.1 b.1)) (at_set vs i j w y ev)) (at_set ts i j r.0 z et);
+            trails = pairs_set (λ (z : Trail) (y : View). IsTrue is_call seen fs y z) vs ts i w r.0 (λ j y z ev et. true_up is_call seen es fs up y z (law.trails j y z ev et)) (stays_true is_call seen fs w u r.0 r.1 true_);
             calls = calls;
             ats = ats;
             each = length-set ts i r.0 ∙ (law.each ∙ sym (length-set c.seats i (record { program = next_step (resolved (waiting_at a.waiting i) x); hand = hand })));
-            programs = λ j s' y e et. ⊎_elim
-                (λ b. ⊎_elim (λ d. subst (λ (z : SeatState). Follows is_call y z.program) b.1 (subst (λ z. Follows is_call z (next_step (resolved (waiting_at a.waiting i) x))) d.1 r.2)) (λ d. absurd (d.0 b.0)) (at_set ts i j r.0 y et))
-                (λ b. ⊎_elim (λ d. absurd (b.0 d.0)) (λ d. law.programs j s' y b.1 d.1) (at_set ts i j r.0 y et)) (at_set c.seats i j (record { program = next_step (resolved (waiting_at a.waiting i) x); hand = hand }) s' e);
+            programs = pairs_set (λ (y : Trail) (z : SeatState). Follows is_call y z.program) c.seats ts i (record { program = next_step (resolved (waiting_at a.waiting i) x); hand = hand }) r.0 law.programs r.2;
           },
         )
 

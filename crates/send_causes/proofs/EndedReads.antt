@@ -1,26 +1,27 @@
 -- A reader posts errors only behind the end of its reading, and for at words that it loaded which name its link.
-use Rattle.std.proofs.Common.{◌≡◌, ◌≢◌, ℕ, ◌+◌, ◌-◌, ◌%◌, ◌==◌, ◌&&◌, ◌⊎◌, inl, inr, not, nat_lt, ltb-false, eqb-true, eq-eqb, Bool, true, false, cond, List, [], ◌∷◌, ◌++◌, length, length-append, append-nil, refl, sym, ap, ◌∙◌, subst, arith}
+use Rattle.std.proofs.Common.{◌≡◌, ◌≢◌, ℕ, ◌+◌, ◌-◌, ◌==◌, ◌&&◌, ◌⊎◌, inl, inr, not, nat_lt, ltb-false, eqb-true, eq-eqb, Bool, true, false, cond, List, [], ◌∷◌, ◌++◌, length, length-append, append-nil, refl, sym, ap, ◌∙◌, subst, arith}
 use Rattle.std.proofs.lemmas.Bool.{true≢false}
 use Rattle.std.proofs.lemmas.List.Concat.{flat_map-append}
-use Rattle.std.specs.Prelude.{Some, None}
-use Rattle.sock_words.specs.Words.{socket_id_version, socket_id_slot, vref_version, at_word_first, at_word_slot, at_word_link, at_word_attempt}
+use Rattle.sock_words.specs.Words.{at_word_first, at_word_slot, at_word_link, at_word_attempt}
 use Rattle.sock_steps.proofs.Quiet.{either_way}
 use Rattle.corr_core.specs.Word.{parts, posted_word, code_of, error_of}
 use Rattle.brpc_model.specs.Frame.{Frame}
 use Rattle.brpc_model.specs.Stream as streams
 use Rattle.label_runs.proofs.Loops.{id_back, not_true, and_left}
 use Rattle.seat_programs.specs.Asides.{Step, Found, LoadAt, PostId, TakeBytes, Taking, Bytes, Nothing, NoMore, AtEnd, Closed, Broken, call_id, id_slot, id_first}
-use Rattle.seat_programs.specs.Heads.{Head, Exit, Retry, Reading, Posts, Unlocks, Decides, Locks, Joins, Opens, Reads, Discards, Posting, WasGone, WasStale, WasCrowded, WasQueued, HasLocked, HasEnded, Ended}
-use Rattle.seat_programs.specs.Programs.{Program, Do, Say, Sent, Rest, TakeMessage, TakeHome, PutHome, PutBytes, AskReady, Write, Aside, Round, Keep, Retries, NO_SOCKET, release, address, set_failed}
-use Rattle.seat_programs.specs.Posts.{packed, is_first, is_stale, is_full, judged, posts_round, post_with, ends_call}
-use Rattle.seat_programs.specs.Readers.{LIMIT, last_of, ended_by, read_on, took, discarded, opens_round, posted_last, post_each, thrown_away, read, reader}
+use Rattle.seat_programs.specs.Heads.{Head, Exit, Retry, Reading, Posts, Unlocks, Decides, Locks, Joins, Opens, Reads, Discards, Posting, WasGone, WasStale, WasCrowded, WasQueued, HasLocked, Ended}
+use Rattle.seat_programs.specs.Programs.{Program, Do, Say, Sent, Rest, TakeMessage, TakeHome, PutHome, PutBytes, AskReady, Write, Aside, Round, Keep, Retries, NO_SOCKET}
+use Rattle.seat_programs.specs.Posts.{packed, is_first, is_stale, is_full, judged, posts_round, post_with}
+use Rattle.seat_programs.specs.Readers.{LIMIT, last_of, ended_by, read_on, took, discarded, posted_last, post_each, thrown_away, read, reader}
 use Rattle.seat_programs.specs.Rounds.{round}
 use Rattle.seat_programs.specs.Cores.{resolved, next_step}
 use Rattle.sock_runs.specs.Sound.{first_step}
 use Rattle.outcome_causes.specs.Stories.{In}
 use Rattle.outcome_causes.proofs.Plain.{in_left}
 use Rattle.run_theorems.specs.Heard.{bytes_found, given_by}
-use Rattle.send_causes.proofs.ReaderParts.{is_of_id, is_loop, ReadsOn, release_on, unlocks_on, end_id_on, unlocked_on, locks_on, joins_on, responses_on, posted_last_on}
+use Rattle.sock_runs.proofs.Through.{PassesLocked, PassesWords, is_of_id, is_of_lock, through_set_failed}
+use Rattle.sock_runs.proofs.ThroughLoops.{through_unlocks, through_decides, through_locks, through_joins, through_answer, through_responses, through_opens}
+use Rattle.sock_runs.proofs.ThroughCalls.{through_posted_last, through_read_end}
 use Rattle.brpc_model.specs.Causes.{HasFault}
 use Rattle.call_causes.proofs.Streams.{faults_more, faults_follow, tied_more}
 use Rattle.send_causes.proofs.Closers.{gave_more, gave_none, last_in}
@@ -104,14 +105,16 @@ module _ (k : ℕ) (At : ℕ → ℕ → Type 0) where
     asides (PostId i from e) next is x = absurd (true≢false (sym is))
     asides step next is x = x
 
-    rounds : (head : Head) (next : Exit head → Program) → is_loop head ≡ true → ((exit : Exit head) → C (next exit)) → C (Round head next)
-    rounds (Posts id e w) next is x = absurd (true≢false (sym is))
-    rounds (Reads r) next is x = absurd (true≢false (sym is))
-    rounds (Discards l total) next is x = absurd (true≢false (sym is))
-    rounds head next is x = x
+    rounds : (head : Head) (next : Exit head → Program) → is_of_lock head ≡ true → ((exit : Exit head) → C (next exit)) → C (Round head next)
+    rounds (Unlocks i w advance) next is x = x
+    rounds (Decides id asked w e) next is x = x
+    rounds _ next is x = absurd (true≢false (sym is))
 
-    tell_on : ReadsOn (Tells h)
-    tell_on = record { frees = λ call next is x. x; say = λ o outcome next x. x; aside = asides; round = rounds; keep = λ r next x. x }
+    tell_locked : PassesLocked C
+    tell_locked = record { say = λ o outcome next x. x; aside = asides; round = rounds; again = λ id w next kept is x exit. subst C (sym (is exit)) (x exit) }
+
+    tell_words : PassesWords C
+    tell_words = record { step = λ call next is x. x; say = λ o outcome next x. x }
 
     tell_judged : (id e found : ℕ) (next : Posting → Program) → MayPost h id e → ((x : Posting) → C (next x)) → C (judged id e found next)
     tell_judged id e found next may after = let two : Program = cond (is_full (parts found)) (next (WasCrowded (code_of (parts found).oldest) (code_of (parts found).second))) (Round (Posts id e found) next) in
@@ -130,9 +133,6 @@ module _ (k : ℕ) (At : ℕ → ℕ → Type 0) where
     tell_post_with : (id e : ℕ) (next : Posting → Program) → MayPost h id e → ((x : Posting) → C (next x)) → C (post_with id e next)
     tell_post_with id e next may after = (λ found. tell_judged id e found next may after)
 
-    tell_opens : (o : ℕ) (next : ℕ → Program) → ((x : ℕ) → C (next x)) → C (opens_round o next)
-    tell_opens o next after = (λ word. either_way (word == 0) _ _ C (after) (after word))
-
     tell_post_each : (os : List ℕ) (c : ℕ) (kept : List Frame) (next : Program) → WasOver c h → C next → C (post_each os k c kept next)
     tell_post_each [] c kept next over after = after
     tell_post_each (o ∷ os) c kept next over after = λ w at. (let id : ℕ = call_id (at_word_slot w) (at_word_first w) in let e : ℕ = error_of c (at_word_attempt w) in
@@ -142,29 +142,16 @@ module _ (k : ℕ) (At : ℕ → ℕ → Type 0) where
         (λ some_. way (at_word_link w == k) (post_with (call_id (at_word_slot w) (at_word_first w)) (error_of c (at_word_attempt w)) (posted_last (call_id (at_word_slot w) (at_word_first w)) (error_of c (at_word_attempt w)) kept (post_each os k c kept next))) (post_each os k c kept next)
         (λ own. tell_post_with (call_id (at_word_slot w) (at_word_first w)) (error_of c (at_word_attempt w)) (posted_last (call_id (at_word_slot w) (at_word_first w)) (error_of c (at_word_attempt w)) kept (post_each os k c kept next))
         (record { operation = o; word = w; code = c; loaded = at; some_ = λ z. true≢false (sym (eq-eqb w 0 z) ∙ some_); link = eqb-true (at_word_link w) k own; id_is = refl; error_is = refl; over = over })
-        (posted_last_on tell_on (call_id (at_word_slot w) (at_word_first w)) (error_of c (at_word_attempt w)) kept (post_each os k c kept next) more))
+        (through_posted_last C tell_locked (call_id (at_word_slot w) (at_word_first w)) (error_of c (at_word_attempt w)) kept (post_each os k c kept next) more))
         (λ _. more)))
-
-    tell_address : (id : ℕ) (held : Program) (gone : ℕ → Program) → C held → ((found : ℕ) → C (gone found)) → C (address id held gone)
-    tell_address id held gone goes after = λ found. either_way (vref_version found == socket_id_version id) held (release (socket_id_slot id) (λ _. gone found)) C goes (release_on tell_on (socket_id_slot id) (λ _. gone found) (λ _. after found))
-
-    tell_set_failed : (id code : ℕ) (next : ℕ → Program) → ((found : ℕ) → C (next found)) → C (set_failed id code next)
-    tell_set_failed id code next after = λ found. either_way (vref_version found % 2 == 0) _ _ C (λ _ _. after found) (after found)
 
     thrown_tells : (how : Ended) → how.reading.link ≡ k → C (thrown_away how)
     thrown_tells how own = either_way (how.fault && nat_lt how.reading.total LIMIT) (Round (Discards how.reading.link how.reading.total) (λ _. Rest)) Rest C (own, λ n h'. tt) tt
 
-    abbrev last_posts : List ℕ → Ended → Program
-    last_posts calls how = post_each calls how.reading.link how.code how.reading.kept (thrown_away how)
-
     -- the end of a reading
     read_tells : (calls : List ℕ) (how : Ended) → EndsSo h how → C (read calls how)
-    read_tells calls how e = either_way how.closed (last_posts calls how) (address how.reading.id (set_failed how.reading.id how.code (λ _. release (socket_id_slot how.reading.id) (λ _. (last_posts calls how)))) (λ _. (last_posts calls how))) C lasts
-        (tell_address how.reading.id (set_failed how.reading.id how.code (λ _. release (socket_id_slot how.reading.id) (λ _. (last_posts calls how)))) (λ _. (last_posts calls how))
-        (tell_set_failed how.reading.id how.code (λ _. release (socket_id_slot how.reading.id) (λ _. (last_posts calls how))) (λ _. release_on tell_on (socket_id_slot how.reading.id) (λ _. (last_posts calls how)) (λ _. lasts))) (λ _. lasts))
-      where
-        lasts : C (last_posts calls how)
-        lasts = subst (λ l. C (post_each calls l how.code how.reading.kept (thrown_away how))) (sym e.1) (tell_post_each calls how.code how.reading.kept (thrown_away how) e.0 (thrown_tells how e.1))
+    read_tells calls how e = through_read_end C tell_words calls how (through_set_failed C tell_words (λ call next is x. x) how.code)
+        (subst (λ l. C (post_each calls l how.code how.reading.kept (thrown_away how))) (sym e.1) (tell_post_each calls how.code how.reading.kept (thrown_away how) e.0 (thrown_tells how e.1)))
 
   -- ## Reading
 
@@ -193,7 +180,7 @@ module _ (k : ℕ) (At : ℕ → ℕ → Type 0) where
         (inr (refl, subst HasFault (append-nil (given_by (h ++ Bytes bytes ∷ []))) (all_tied bytes [] (subst HasFault (sym (append-nil (r.rest ++ bytes))) (start, fault, is)))), at.link)
 
     tell_took : (t : Taking) → Tells (h ++ t ∷ []) (took r next t)
-    tell_took (Bytes bytes) = responses_on (tell_on (h ++ Bytes bytes ∷ [])) r.ids (streams.stream (r.rest ++ bytes)).frames r.kept (λ kept. read_on (with_more bytes kept) (r.rest ++ bytes) (streams.stream (r.rest ++ bytes)).ending next)
+    tell_took (Bytes bytes) = through_responses (Tells (h ++ Bytes bytes ∷ [])) (λ i v next' x. x) (through_answer (Tells (h ++ Bytes bytes ∷ [])) (tell_locked (h ++ Bytes bytes ∷ []))) r.ids (streams.stream (r.rest ++ bytes)).frames r.kept (λ kept. read_on (with_more bytes kept) (r.rest ++ bytes) (streams.stream (r.rest ++ bytes)).ending next)
         (λ kept. tell_read_on kept bytes (streams.stream (r.rest ++ bytes)).ending refl)
     tell_took Nothing = (
       record { link = at.link; total = at.total ∙ ap length (sym (gave_none h Nothing refl)); tied = λ more f. subst (λ l. HasFault (l ++ more)) (sym (gave_none h Nothing refl)) (at.tied more f) },
@@ -215,14 +202,11 @@ module _ (k : ℕ) (At : ℕ → ℕ → Type 0) where
   -- one round of a loop
   tell_round : (h : List Taking) (head : Head) (next : Exit head → Program) → Tells h (Round head next) → Tells h (round head next)
   tell_round h (Posts i e w) next x = tell_posts h i e w next x.0 x.1 x.2
-  tell_round h (Unlocks i w advance) next x = unlocks_on (tell_on h) i w advance next x
-  tell_round h (Decides i asked w e) next x = either_way (ends_call (parts w) e) _ _ (Tells h)
-      (end_id_on (tell_on h) (id_slot i) (next (HasEnded asked.operation (code_of e))) (x (HasEnded asked.operation (code_of e))))
-      (λ _ exit. unlocked_on (tell_on h) (record { id = i; attempt = (parts w).attempt + 1 }) next x exit)
-  tell_round h (Locks i sought None) next x = locks_on (tell_on h) i sought None next x
-  tell_round h (Locks i sought (Some w)) next x = locks_on (tell_on h) i sought (Some w) next x
-  tell_round h (Joins i) next x = joins_on (tell_on h) i next x
-  tell_round h (Opens o) next x = tell_opens h o next x
+  tell_round h (Unlocks i w advance) next x = through_unlocks (Tells h) (tell_locked h) i w advance next x
+  tell_round h (Decides i asked w e) next x = through_decides (Tells h) (tell_locked h) i asked w e next x
+  tell_round h (Locks i sought w) next x = through_locks (Tells h) (tell_locked h) (λ i sought w next y. y) i sought w next x
+  tell_round h (Joins i) next x = through_joins (Tells h) (tell_locked h) (λ id next y. y) i next x
+  tell_round h (Opens o) next x = through_opens (Tells h) (record { load = λ o next y. y; wait = λ o next y. y }) o next x
   tell_round h (Reads r) next x = let at = x.0 in (at.link, λ t. tell_took h r next at x.1 t)
   tell_round h (Discards l total) next x = (x.0, λ t. tell_discarded h l total next x.0 x.1 t)
 

@@ -1,6 +1,6 @@
 -- A tick keeps what is said of the posts of a reader.
 use Rattle.std.proofs.Common.{◌≡◌, ◌≢◌, ℕ, ◌+◌, ◌==◌, eq-eqb, Bool, true, false, cond, List, [], ◌∷◌, ◌++◌, map, filter, set, append-nil, inl, inr, ⊎_elim, refl, sym, ap, ◌∙◌, subst}
-use Rattle.std.specs.Prelude.{slice_index, Some, None}
+use Rattle.std.specs.Prelude.{slice_index, None}
 use mathlib.Core.Logic.{dite}
 use mathlib.Core.Option.{Option, none, some}
 use native.Mathlib.Decide.{ℕ_discrete}
@@ -19,7 +19,7 @@ use Rattle.seat_programs.specs.Asides.{Step, Found, LoadAt, PostId, TakeBytes, T
 use Rattle.seat_programs.specs.Beside.{at_last, taking_in, found_in}
 use Rattle.seat_programs.specs.Heads.{Decides, Locks}
 use Rattle.seat_programs.specs.Posts.{ends_call}
-use Rattle.seat_programs.specs.Writings.{Puts, Waits, Empties, Walks}
+use Rattle.seat_programs.specs.Writings.{Empties}
 use Rattle.seat_programs.specs.Programs.{Program, Do, TakeMessage, TakeHome, PutHome, PutBytes, AskReady, Write, Aside, Round, Say, Sent, Rest, Keep}
 use Rattle.seat_programs.specs.Cores.{Core, SeatState, word_of, found_at, waiting_at}
 use Rattle.seat_programs.specs.Ticks.{Answer, OfPut, OfReady, OfTake, Moment, taken, with_message, with_link, with_put, with_ready, with_found, step_with, tick_with, ticked}
@@ -39,12 +39,8 @@ takes_by other = []
 
 pub takes_first : (program : Program) → taken_link program ≡ takes_by (first_step program)
 takes_first (Round (Decides id asked w e) next) = either_way (ends_call (parts w) e) _ _ (λ x. [] ≡ takes_by x) refl refl
-takes_first (Round (Locks i sought (Some w)) next) = refl
 takes_first (Round (Locks i sought None) next) = refl
-takes_first (Write (Puts h now heading left took put) after) = refl
-takes_first (Write (Waits h now heading left took) after) = refl
 takes_first (Write (Empties h) after) = refl
-takes_first (Write (Walks h top at after) then_) = refl
 takes_first (Aside (TakeBytes k room) next) = refl
 takes_first _ = refl
 

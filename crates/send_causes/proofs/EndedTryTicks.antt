@@ -6,13 +6,12 @@ use mathlib.Core.Logic.{dite}
 use native.Mathlib.Decide.{ℕ_discrete}
 use mathlib.Core.Option.{Option, some, none}
 use lib.ListN.{get_elem?}
-use Rattle.atomic_table.proofs.Lists.{at_set}
 use Rattle.sock_words.specs.declared.plain.Plan.{Plan}
 use Rattle.sock_words.specs.Words.{at_word, at_word_attempt}
 use Rattle.sock_model.specs.declared.home.Home.{Home}
 use Rattle.sock_model.specs.declared.view.View.{View}
 use Rattle.sock_model.specs.Weights.{total}
-use Rattle.slot_steps.proofs.Sums.{term_le, total-append, total-set}
+use Rattle.slot_steps.proofs.Sums.{term_le, total-append}
 use Rattle.corr_core.specs.Word.{parts}
 use Rattle.corr_core.specs.declared.marks.Plan.{Plan as IdPlan}
 use Rattle.id_runs.specs.Held.{IdView, MayId}
@@ -35,7 +34,7 @@ use Rattle.send_causes.specs.EndedCalls.{Store, stores_by, stored_at}
 use Rattle.send_causes.proofs.Words.{made_on, finds_label, words_forward, makes_new, advances_new}
 use Rattle.send_causes.proofs.Readings.{ticks_first}
 use Rattle.outcome_causes.proofs.HomeCalls.{AreCalls, PutsAsked, calls_behind}
-use Rattle.send_causes.proofs.Ticks.{few_more, few_of, calls_waiting, fits_as, pair_one, pair_same, waits_set, labels_first}
+use Rattle.send_causes.proofs.Ticks.{few_more, few_of, calls_waiting, fits_as, pair_one, pair_same, waiting_set, once_more, old_or_new, pairs_set, labels_first}
 use Rattle.call_causes.proofs.Chains.{AreFewTries as AreTries}
 use Rattle.label_runs.proofs.Programs.{retry_goes}
 use Rattle.send_causes.proofs.SeatFacts.{seat_facts}
@@ -139,10 +138,7 @@ module _ (p : Plan) (q : IdPlan) (narrow : q.slots ≤ 65536) (is_call : Asked �
       next_seat = record { program = next_step (resolved (waiting_at a.waiting i) x); hand = hand }
 
       near : (id n : ℕ) → tries_of id n (with_seat i x hand ws hs (record c { calls = a })) (set ts i r.trial) + of_try id n t ≤ tries_of id n c ts + of_try id n u
-      near id n = let one = total-set (of_try id n) ts i t r.trial at_trial in
-          let three = waits_set (total (of_retry id n)) refl a.waiting i (still_waiting (waiting_at a.waiting i) x) in
-          let four : total (total (of_retry id n)) a.waiting ≡ total (total (of_retry id n)) c.calls.waiting = ap (total (total (of_retry id n))) g.kept in
-          let five = r.fewer id n in omega (arith, one, three, four, five)
+      near id n = waiting_set (of_try id n) (of_retry id n) ts i t r.trial u a.waiting c.calls.waiting (still_waiting (waiting_at a.waiting i) x) at_trial g.kept (r.fewer id n)
 
       bound : (id n : ℕ) → tries_of id n (with_seat i x hand ws hs (record c { calls = a })) (set ts i r.trial) ≤ tries_of id n c ts + g.new id n
       bound id n = let b = near id n in let f = g.fewer id n in omega (arith, b, f)
@@ -164,14 +160,11 @@ module _ (p : Plan) (q : IdPlan) (narrow : q.slots ≤ 65536) (is_call : Asked �
       goes_on = record {
         trials = set ts i r.trial;
         behind = record {
-          once = λ id n. dite (ℕ_discrete (g.new id n) 0) (λ z. let b = bound id n in let o = law.once id n in omega (arith, b, z, o))
-              (λ ne. let b = bound id n in let f = g.fresh id n (omega (arith, ne)) in let one = f.0 in let none_ = f.1 in omega (arith, b, one, none_));
-          made = λ id n some_. dite (ℕ_discrete (g.new id n) 0) (λ z. let b = bound id n in g.words id n (law.made id n (omega (arith, b, z, some_)))) (λ ne. let f = g.fresh id n (omega (arith, ne)) in (f.2.0, inr f.2.1));
+          once = λ id n. once_more _ (g.new id n) _ (bound id n) (law.once id n) (λ more. let f = g.fresh id n more in (f.0, f.1));
+          made = λ id n. old_or_new _ (g.new id n) _ (bound id n) (λ some_. g.words id n (law.made id n some_)) (λ more. let f = g.fresh id n more in (f.2.0, inr f.2.1));
           calls = g.calls;
           each = length-set ts i r.trial ∙ (law.each ∙ sym (length-set c.seats i next_seat));
-          programs = λ j s' y es et. ⊎_elim
-              (λ b. ⊎_elim (λ d. subst (λ (z : SeatState). Labels is_call y z.program) b.1 (subst (λ z. Labels is_call z next_seat.program) d.1 r.stows)) (λ d. absurd (d.0 b.0)) (at_set ts i j r.trial y et))
-              (λ b. ⊎_elim (λ d. absurd (b.0 d.0)) (λ d. law.programs j s' y b.1 d.1) (at_set ts i j r.trial y et)) (at_set c.seats i j next_seat s' es);
+          programs = pairs_set (λ (y : Trial) (z : SeatState). Labels is_call y z.program) c.seats ts i next_seat r.trial law.programs r.stows;
           gone = λ y there. still_gone y (law.gone y there);
           single = law.single;
         };

@@ -64,7 +64,7 @@ module _ (mine : ℕ → Type 0) where
     firsts_plain = at_steps_plain asks low (others_plain G firsts_others) (λ then_ r. r) (λ step next is r. r) (λ head next is r. r) (λ id w next r exit. ((λ z. omega (arith, z)), r exit))
 
     firsts_fails : (code : ℕ) → PassesFails G code
-    firsts_fails = through_set_failed G firsts_plain (others_failing G firsts_others)
+    firsts_fails = through_set_failed G firsts_plain.words (others_failing G firsts_others)
 
     firsts_links : PassesLinks G G
     firsts_links = at_steps_links asks low low (λ id next r. r) (λ i last next more x y found. either_way (found == last) next (more found) G x (y found)) (λ then_ r. r) (λ then_ r. r) (firsts_fails 1009)
@@ -84,26 +84,26 @@ module _ (mine : ℕ → Type 0) where
       (firsts_claims low more (q + 1) id heading bytes full accepted may stays goes)
 
   firsts_claim_from : (low more q o id : ℕ) (bytes : List ℕ) (next : Program) → (low ≤ o) × mine o → Firsts low next → Firsts (o + 1) next → Firsts low (claim_from more q o id bytes next)
-  firsts_claim_from low zero q o id bytes next may stays goes = through_release (Firsts low) (firsts_plain low) (socket_id_slot id) (λ _. Say o Full next) (λ _. stays)
+  firsts_claim_from low zero q o id bytes next may stays goes = through_release (Firsts low) (firsts_plain low).words (socket_id_slot id) (λ _. Say o Full next) (λ _. stays)
   firsts_claim_from low (suc more) q o id bytes next may stays goes = λ found. either_way (found % 2 == 0) _ _ (Firsts low)
-      (firsts_accept low id q (found / 2) (heading_of o) bytes (release (socket_id_slot id) (λ _. Sent o next)) (λ _. may) (through_release (Firsts (o + 1)) (firsts_plain (o + 1)) (socket_id_slot id) (λ _. Sent o next) (λ _. goes)))
+      (firsts_accept low id q (found / 2) (heading_of o) bytes (release (socket_id_slot id) (λ _. Sent o next)) (λ _. may) (through_release (Firsts (o + 1)) (firsts_plain (o + 1)).words (socket_id_slot id) (λ _. Sent o next) (λ _. goes)))
       (firsts_claim_from low more (q + 1) o id bytes next may stays goes)
 
   firsts_send : (low requests o name : ℕ) (bytes : List ℕ) (next : Program) → (low ≤ o) × mine o → Firsts low next → Firsts (o + 1) next → Firsts low (send requests o name bytes next)
-  firsts_send low requests o name bytes next may stays goes = through_reach (Firsts low) (firsts_plain low) name (Say o Unopened next) (λ id. start requests o id bytes next) (λ found. Say o (Gone (record { 0 = found })) next) stays
-      (λ id found. either_way (vref_version found % 2 == 0) _ _ (Firsts low) (firsts_claim_from low requests 0 o id bytes next may stays goes) (through_release (Firsts low) (firsts_plain low) (socket_id_slot id) (λ _. Say o (Gone (record { 0 = found })) next) (λ _. stays)))
+  firsts_send low requests o name bytes next may stays goes = through_reach (Firsts low) (firsts_plain low).words name (Say o Unopened next) (λ id. start requests o id bytes next) (λ found. Say o (Gone (record { 0 = found })) next) stays
+      (λ id found. either_way (vref_version found % 2 == 0) _ _ (Firsts low) (firsts_claim_from low requests 0 o id bytes next may stays goes) (through_release (Firsts low) (firsts_plain low).words (socket_id_slot id) (λ _. Say o (Gone (record { 0 = found })) next) (λ _. stays)))
       (λ found. stays)
 
   -- ## Attempts
 
   firsts_attempt : (low requests : ℕ) (asked : Asked) (id n socket : ℕ) (next : Program) → (n ≡ 0 → (low ≤ asked.operation) × mine asked.operation) → Firsts low next → Firsts (cond (eqb n 0) (asked.operation + 1) low) next → Firsts low (attempt requests asked id n socket next)
   firsts_attempt low requests asked id n socket next may stays goes = let i : ℕ = socket_id_slot socket in
-      through_address (Firsts low) (firsts_plain low) socket _ (λ _. post id 1009 n next)
+      through_address (Firsts low) (firsts_plain low).words socket _ (λ _. post id 1009 n next)
       (λ k _ found. either_way (vref_version found % 2 == 0) _ _ (Firsts low)
       (firsts_claims low requests 0 socket (heading_for asked id n) (frame_of asked id n) (post id 3001 n (release i (λ _. next))) (release i (λ _. next)) may
-      (through_post (Firsts low) (firsts_plain low) id 3001 n (release i (λ _. next)) (through_release (Firsts low) (firsts_plain low) i (λ _. next) (λ _. stays))) (through_release (Firsts (cond (eqb n 0) (asked.operation + 1) low)) (firsts_plain (cond (eqb n 0) (asked.operation + 1) low)) i (λ _. next) (λ _. goes)))
-      (through_post (Firsts low) (firsts_plain low) id 1009 n (release i (λ _. next)) (through_release (Firsts low) (firsts_plain low) i (λ _. next) (λ _. stays))))
-      (λ _. through_post (Firsts low) (firsts_plain low) id 1009 n next stays)
+      (through_post (Firsts low) (firsts_plain low).errors id 3001 n (release i (λ _. next)) (through_release (Firsts low) (firsts_plain low).words i (λ _. next) (λ _. stays))) (through_release (Firsts (cond (eqb n 0) (asked.operation + 1) low)) (firsts_plain (cond (eqb n 0) (asked.operation + 1) low)).words i (λ _. next) (λ _. goes)))
+      (through_post (Firsts low) (firsts_plain low).errors id 1009 n (release i (λ _. next)) (through_release (Firsts low) (firsts_plain low).words i (λ _. next) (λ _. stays))))
+      (λ _. through_post (Firsts low) (firsts_plain low).errors id 1009 n next stays)
 
   -- ## Retries
 
@@ -115,17 +115,17 @@ module _ (mine : ℕ → Type 0) where
 
   firsts_operation : (sizes : Sizes) (held : List HeldLife) (low o : ℕ) (next : List HeldLife → Program) (op : Op) → OwnsCall o op → (low ≤ o) × mine o → ((h : List HeldLife) → Firsts low (next h)) → ((h : List HeldLife) → Firsts (o + 1) (next h)) → Firsts low (operation sizes held o next op)
   firsts_operation sizes held low o next op owns may stays goes = through_operation (Firsts low) (firsts_plain low) sizes held o next op stays (record {
-    opens = λ name k e. through_open (Firsts low) (firsts_plain low) (others_make (Firsts low) (firsts_others low)) sizes.slots 0 o name k (next held) (stays held);
+    opens = λ name k e. through_open (Firsts low) (firsts_plain low).words (others_make (Firsts low) (firsts_others low)) sizes.slots 0 o name k (next held) (stays held);
     sends = λ name bytes e. firsts_send low sizes.requests o name bytes (next held) may (stays held) (goes held);
     calls = λ asked e. let is : asked.operation ≡ o = subst (OwnsCall o) e owns in through_call (Firsts low) (firsts_plain low) sizes.requests asked (next held) (stays held)
         (λ id socket. firsts_attempt low sizes.requests asked id 0 socket (next held) (λ _. subst (λ x. (low ≤ x) × mine x) (sym is) may) (stays held) (subst (λ x. Firsts (x + 1) (next held)) (sym is) (goes held))) sizes.ids;
     joins = λ t e. through_join (Firsts low) (firsts_plain low) (λ id next r. r) o t (next held) (stays held);
-    fails = λ name code e. through_fail (Firsts low) (firsts_plain low) o name code (next held) (firsts_fails low code) (stays held);
+    fails = λ name code e. through_fail (Firsts low) (firsts_plain low).words o name code (next held) (firsts_fails low code) (stays held);
   })
 
   -- tasks in the order of their numbers
   pub client_firsts : (sizes : Sizes) (ts : List Task) (held : List HeldLife) (low : ℕ) → EachBefore Less ts → AllByRecursion (λ (t : Task). OwnsCall t.number t.op) ts → AllByRecursion (λ (t : Task). (low ≤ t.number) × mine t.number) ts → Firsts low (client_from sizes held ts)
-  client_firsts sizes [] held low sorted owns are = through_back (Firsts low) (firsts_plain low) tt held
+  client_firsts sizes [] held low sorted owns are = through_back (Firsts low) (firsts_plain low).words tt held
   client_firsts sizes (t ∷ ts) held low sorted owns are = firsts_operation sizes held low t.number (λ h. client_from sizes h ts) t.op owns.0 are.0
       (λ h. client_firsts sizes ts h low sorted.1 owns.1 are.1) (λ h. client_firsts sizes ts h (t.number + 1) sorted.1 owns.1 (later_are ts sorted.0 are.1))
     where
@@ -134,7 +134,7 @@ module _ (mine : ℕ → Type 0) where
       later_are (u ∷ us) less all = ((omega (arith, less.0), all.0.1), later_are us less.1 all.1)
 
   pub ending_firsts : (low : ℕ) (os : List ℕ) → Firsts low (ending_of os)
-  ending_firsts low os = through_ending (Firsts low) (firsts_plain low) (firsts_fails low 1014) (record { load = λ o next r. r; wait = λ o next r. r }) tt os
+  ending_firsts low os = through_ending (Firsts low) (firsts_plain low).words (firsts_fails low 1014) (record { load = λ o next r. r; wait = λ o next r. r }) tt os
 
   pub reader_firsts : (low : ℕ) (calls : List ℕ) (k o : ℕ) → Firsts low (reader calls k o)
   reader_firsts low calls k o = λ word. through_reading any_end (Firsts low) (firsts_reads low) (λ how e. firsts_fails low how.code) tt calls k word

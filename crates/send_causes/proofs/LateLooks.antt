@@ -28,7 +28,7 @@ use Rattle.sock_runs.specs.AtSteps.{Asks, AtSteps, asks_words}
 use Rattle.sock_runs.specs.Sound.{first_step}
 use Rattle.sock_runs.proofs.AtCalls.{every_exit}
 use Rattle.sock_runs.proofs.Records.{awaits}
-use Rattle.sock_runs.proofs.Through.{PassesPlain, PassesFails, PassesLinks, PassesReads, any_end, is_of_message, is_of_errors, others_plain, others_failing, others_make, reads_any, at_steps_plain, at_steps_links, through_release, through_address, through_reach, through_set_failed, through_fail}
+use Rattle.sock_runs.proofs.Through.{PassesPlain, PassesFails, PassesLinks, PassesReads, any_end, is_of_message, by_errors, others_plain, others_failing, others_make, reads_any, at_steps_plain, at_steps_links, through_release, through_address, through_reach, through_set_failed, through_fail}
 use Rattle.sock_runs.proofs.ThroughLoops.{through_post, through_errors, through_round}
 use Rattle.sock_runs.proofs.ThroughSends.{through_block, through_write_link}
 use Rattle.sock_runs.proofs.ThroughCalls.{through_call, through_retry, through_join, through_reading}
@@ -96,17 +96,11 @@ module _ (m : Mode) where
   looks_others (EmptyHead i last) next is r = absurd (true≢false is)
   looks_others call next is r = r
 
-  looks_errors : (head : Head) (next : Exit head → Program) → is_of_errors head ≡ true → ((exit : Exit head) → G (next exit)) → G (Round head next)
-  looks_errors (Posts id e w) next is r = r
-  looks_errors (Unlocks i w advance) next is r = r
-  looks_errors (Decides id asked w e) next is r = r
-  looks_errors _ next is r = absurd (true≢false (sym is))
-
   looks_plain : PassesPlain G
-  looks_plain = at_steps_plain asks m (others_plain G looks_others) (λ behind r. r) (λ step next is r. r) looks_errors (λ id w next r. r)
+  looks_plain = at_steps_plain asks m (others_plain G looks_others) (λ behind r. r) (λ step next is r. r) (by_errors G (λ id e w next r. r) (λ i w advance next r. r) (λ id asked w e next r. r)) (λ id w next r. r)
 
   looks_fails : (code : ℕ) → PassesFails G code
-  looks_fails = through_set_failed G looks_plain (others_failing G looks_others)
+  looks_fails = through_set_failed G looks_plain.words (others_failing G looks_others)
 
 -- ## Writing and waiting
 
@@ -128,19 +122,19 @@ looks_accept : (id q n : ℕ) (heading : Heading) (bytes : List ℕ) (next : Pro
 looks_accept id q n heading bytes next after = λ _ _. (refl, λ found. two_ways (nat_lt found IDLE) Idle Writes _ _ (λ _. after) (through_write_link (Looks Writes) (Looks Idle) (looks_plain Writes) looks_links id q (ticket_of q n) next after))
 
 looks_claim : (more q o id : ℕ) (bytes : List ℕ) (next : Program) → LooksOn next → Looks (Saw id) (claim_from more q o id bytes next)
-looks_claim zero q o id bytes next after = through_release (Looks (Saw id)) (looks_plain (Saw id)) (socket_id_slot id) (λ _. Say o Full next) (λ _. after (Saw id) tt)
+looks_claim zero q o id bytes next after = through_release (Looks (Saw id)) (looks_plain (Saw id)).words (socket_id_slot id) (λ _. Say o Full next) (λ _. after (Saw id) tt)
 looks_claim (suc more) q o id bytes next after = (
   refl,
   λ found. two_ways (found % 2 == 0) Claims (Saw id) _ _
-      (looks_accept id q (found / 2) (heading_of o) bytes (release (socket_id_slot id) (λ _. Sent o next)) (through_release (Looks Idle) (looks_plain Idle) (socket_id_slot id) (λ _. Sent o next) (λ _. after Idle tt))) (looks_claim more (q + 1) o id bytes next after),
+      (looks_accept id q (found / 2) (heading_of o) bytes (release (socket_id_slot id) (λ _. Sent o next)) (through_release (Looks Idle) (looks_plain Idle).words (socket_id_slot id) (λ _. Sent o next) (λ _. after Idle tt))) (looks_claim more (q + 1) o id bytes next after),
 )
 
 looks_start : (requests o id : ℕ) (bytes : List ℕ) (next : Program) → LooksOn next → Looks Idle (start requests o id bytes next)
 looks_start requests o id bytes next after = λ found. two_ways (vref_version found % 2 == 0) (Saw id) Idle _ _ (looks_claim requests 0 o id bytes next after)
-    (through_release (Looks Idle) (looks_plain Idle) (socket_id_slot id) (λ _. Say o (Gone (record { 0 = found })) next) (λ _. after Idle tt))
+    (through_release (Looks Idle) (looks_plain Idle).words (socket_id_slot id) (λ _. Say o (Gone (record { 0 = found })) next) (λ _. after Idle tt))
 
 looks_send : (requests o name : ℕ) (bytes : List ℕ) (next : Program) → LooksOn next → Looks Idle (send requests o name bytes next)
-looks_send requests o name bytes next after = through_reach (Looks Idle) (looks_plain Idle) name (Say o Unopened next) (λ id. start requests o id bytes next) (λ found. Say o (Gone (record { 0 = found })) next) (after Idle tt) (λ id. looks_start requests o id bytes next after) (λ found. after Idle tt)
+looks_send requests o name bytes next after = through_reach (Looks Idle) (looks_plain Idle).words name (Say o Unopened next) (λ id. start requests o id bytes next) (λ found. Say o (Gone (record { 0 = found })) next) (after Idle tt) (λ id. looks_start requests o id bytes next after) (λ found. after Idle tt)
 
 -- ## Calls
 
@@ -157,12 +151,12 @@ looks_tries : (requests o socket id n : ℕ) (heading : Heading) (bytes : List �
     cond (vref_version found % 2 == 0) (claims_from requests 0 socket heading bytes (post id 3001 n (release (socket_id_slot socket) (λ _. next))) (release (socket_id_slot socket) (λ _. next)))
     (post id 1009 n (release (socket_id_slot socket) (λ _. next))))))) (λ _. post id 1009 n next))
 looks_tries requests o socket id n heading bytes next after = let rest : Program = release (socket_id_slot socket) (λ _. next) in
-    let goes : LooksOn (release (socket_id_slot socket) (λ _. next)) = λ m calm. through_release (Looks m) (looks_plain m) (socket_id_slot socket) (λ _. next) (λ _. after m calm) in
-    through_address (Looks Idle) (looks_plain Idle) socket _ (λ _. post id 1009 n next)
+    let goes : LooksOn (release (socket_id_slot socket) (λ _. next)) = λ m calm. through_release (Looks m) (looks_plain m).words (socket_id_slot socket) (λ _. next) (λ _. after m calm) in
+    through_address (Looks Idle) (looks_plain Idle).words socket _ (λ _. post id 1009 n next)
     (λ k _ found. two_ways (vref_version found % 2 == 0) (Saw socket) Idle _ _
-    (looks_claims requests 0 socket heading bytes (post id 3001 n (release (socket_id_slot socket) (λ _. next))) (release (socket_id_slot socket) (λ _. next)) (through_post (Looks (Saw socket)) (looks_plain (Saw socket)) id 3001 n (release (socket_id_slot socket) (λ _. next)) (goes (Saw socket) tt)) (goes Idle tt))
-    (through_post (Looks Idle) (looks_plain Idle) id 1009 n (release (socket_id_slot socket) (λ _. next)) (goes Idle tt)))
-    (λ _. through_post (Looks Idle) (looks_plain Idle) id 1009 n next (after Idle tt))
+    (looks_claims requests 0 socket heading bytes (post id 3001 n (release (socket_id_slot socket) (λ _. next))) (release (socket_id_slot socket) (λ _. next)) (through_post (Looks (Saw socket)) (looks_plain (Saw socket)).errors id 3001 n (release (socket_id_slot socket) (λ _. next)) (goes (Saw socket) tt)) (goes Idle tt))
+    (through_post (Looks Idle) (looks_plain Idle).errors id 1009 n (release (socket_id_slot socket) (λ _. next)) (goes Idle tt)))
+    (λ _. through_post (Looks Idle) (looks_plain Idle).errors id 1009 n next (after Idle tt))
 
 looks_attempt : (requests : ℕ) (asked : Asked) (id n socket : ℕ) (next : Program) → LooksOn next → Looks Idle (attempt requests asked id n socket next)
 looks_attempt requests asked id n socket next after = looks_tries requests asked.operation socket id n (heading_for asked id n) (frame_of asked id n) next after
@@ -174,15 +168,15 @@ looks_retry requests id n next after = through_retry (Looks Idle) (looks_plain I
 
 looks_operation : (sizes : Sizes) (held : List HeldLife) (o : ℕ) (next : List HeldLife → Program) (op : Op) → ((h : List HeldLife) → LooksOn (next h)) → Looks Idle (operation sizes held o next op)
 looks_operation sizes held o next op after = through_operation (Looks Idle) (looks_plain Idle) sizes held o next op (λ h. after h Idle tt) (record {
-  opens = λ name k e. through_open (Looks Idle) (looks_plain Idle) (others_make (Looks Idle) (looks_others Idle)) sizes.slots 0 o name k (next held) (after held Idle tt);
+  opens = λ name k e. through_open (Looks Idle) (looks_plain Idle).words (others_make (Looks Idle) (looks_others Idle)) sizes.slots 0 o name k (next held) (after held Idle tt);
   sends = λ name bytes e. looks_send sizes.requests o name bytes (next held) (after held);
   calls = λ asked e. through_call (Looks Idle) (looks_plain Idle) sizes.requests asked (next held) (after held Idle tt) (λ id socket. looks_attempt sizes.requests asked id 0 socket (next held) (after held)) sizes.ids;
   joins = λ t e. through_join (Looks Idle) (looks_plain Idle) (λ id next r. (refl, r)) o t (next held) (after held Idle tt);
-  fails = λ name code e. through_fail (Looks Idle) (looks_plain Idle) o name code (next held) (looks_fails Idle code) (after held Idle tt);
+  fails = λ name code e. through_fail (Looks Idle) (looks_plain Idle).words o name code (next held) (looks_fails Idle code) (after held Idle tt);
 })
 
 pub client_looks : (sizes : Sizes) (ts : List Task) (held : List HeldLife) → LooksOn (client_from sizes held ts)
-client_looks sizes [] held = λ m calm. (calm, through_back (Looks Idle) (looks_plain Idle) tt held)
+client_looks sizes [] held = λ m calm. (calm, through_back (Looks Idle) (looks_plain Idle).words tt held)
 client_looks sizes (t ∷ ts) held = λ m calm. (calm, looks_operation sizes held t.number (λ h. client_from sizes h ts) t.op (λ h. client_looks sizes ts h))
 
 -- ## Readers
@@ -193,9 +187,9 @@ reader_looks calls k o = (refl, λ word. through_reading any_end (Looks Idle) lo
 -- ## The next step
 
 looks_round : (m : Mode) (head : Head) (next : Exit head → Program) → Looks m (Round head next) → Looks m (round head next)
-looks_round m (Posts id e w) next x = through_errors (Looks m) (looks_plain m) (Posts id e w) next refl x
-looks_round m (Unlocks i w advance) next x = through_errors (Looks m) (looks_plain m) (Unlocks i w advance) next refl x
-looks_round m (Decides id asked w e) next x = through_errors (Looks m) (looks_plain m) (Decides id asked w e) next refl x
+looks_round m (Posts id e w) next x = through_errors (Looks m) (looks_plain m).errors (Posts id e w) next refl x
+looks_round m (Unlocks i w advance) next x = through_errors (Looks m) (looks_plain m).errors (Unlocks i w advance) next refl x
+looks_round m (Decides id asked w e) next x = through_errors (Looks m) (looks_plain m).errors (Decides id asked w e) next refl x
 looks_round m (Opens o) next x = subst (λ n. Looks n (opens_round o next)) (sym x.0) (λ word. either_way (word == 0) _ _ (Looks Idle) (refl, x.1) (x.1 word))
 looks_round m head next x = subst (λ n. Looks n (round head next)) (sym x.0) (through_round any_end (Looks Idle) looks_reads (λ id next r. (refl, r)) head refl next (λ exit _. x.1 exit))
 

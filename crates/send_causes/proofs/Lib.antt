@@ -8,7 +8,6 @@ pub mod Apart
 pub mod Whole
 pub mod Labelled
 pub mod Takeless
-pub mod ReaderParts
 pub mod Closers
 pub mod Readings
 pub mod SeatTicks

@@ -1,16 +1,16 @@
 -- One round of each loop keeps to what its seat tries and posts.
-use Rattle.std.proofs.Common.{◌≡◌, ◌≢◌, ℕ, ◌+◌, ◌≤◌, ◌⊎◌, inl, inr, ◌&&◌, not, Bool, true, false, cond, eqb, eqb-true, leb, nat_lt, List, [], ◌∷◌, ◌++◌, Option, Some, None, length, refl, sym, ap, ◌∙◌, subst}
+use Rattle.std.proofs.Common.{◌≡◌, ◌≢◌, ℕ, ◌+◌, ◌≤◌, ◌⊎◌, inl, inr, not, Bool, true, false, cond, eqb, eqb-true, leb, Option, Some, None, refl, sym, ap, ◌∙◌, subst}
 use Rattle.brpc_model.specs.Frame.{Frame}
-use Rattle.brpc_model.specs.Stream as streams
 use Rattle.corr_core.specs.Word.{Parts, parts, posted_word, unlocked_word, code_of, attempt_of, error_of}
 use Rattle.corr_core.specs.Law.{LAST}
 use Rattle.sock_message.specs.Asked.{Asked}
-use Rattle.seat_programs.specs.Asides.{FreeId, UnlockId, Taking, Bytes, Nothing, Closed, PutCall, id_slot, id_first, call_id}
+use Rattle.seat_programs.specs.Asides.{FreeId, UnlockId, Taking, PutCall, id_slot, id_first, call_id}
 use Rattle.seat_programs.specs.Heads.{Head, Exit, Sought, First, Version, Reading, Posts, Unlocks, Decides, Locks, Joins, Opens, Reads, Discards, Retry, Posting, WasGone, WasStale, WasCrowded, WasQueued, HasLocked, Unlocking, IsOpen, HasNext, Deciding, HasEnded, GoesOn, Locking, NotThere, Has, Ended}
 use Rattle.seat_programs.specs.Posts.{WHOLE, packed, advance_of, is_first, is_sought, is_stale, is_full, judged, posted, post_with, post, popped, end_id, ends_call, decide, decided, unlocked, locking}
 use Rattle.seat_programs.specs.Programs.{Program, Say, Aside, Round}
-use Rattle.seat_programs.specs.Readers.{answer, answered, responses, read_on, took, discarded, last_of, slot_in, version_in, has_response, ending_of, is_early, ended_by as how_ended, LIMIT}
+use Rattle.seat_programs.specs.Readers.{answer, took, discarded, slot_in, ending_of}
 use Rattle.seat_programs.specs.Rounds.{round}
+use Rattle.sock_runs.proofs.ThroughLoops.{through_took, through_discarded}
 use Rattle.label_runs.specs.Labels.{IsSoughtWord}
 use Rattle.label_runs.proofs.Loops.{id_back, not_true, not_equal, and_left, locked_parts}
 use Rattle.send_causes.proofs.OwnDecisionsStands.{Stand, Calm, Trying, Past, Posted, Eases, MayPost, MayDecide, IsTryingAt, FindsAside, unlocked_stand, unlocks_stand, posted_stand, locked_stand, LeavesUnlock, LeavesStand, Aims}
@@ -217,32 +217,18 @@ locks_goes s i sought (Some from) k at goes = (tt, λ found _. by found (eqb fou
 pub answer_goes : (s : Stand) (frame : Frame) (first : ℕ) (next : Program) → Aims Calm next → Aims s (answer frame first next)
 answer_goes s frame first next goes = (tt, λ asked _. (Calm, inr (inl refl), end_goes Calm (slot_in frame) (Say asked.operation (ending_of (call_id (slot_in frame) first) frame) next) goes))
 
-responses_goes : (ids : ℕ) (fs kept : List Frame) (k : List Frame → Program) → ((kept' : List Frame) → Aims Calm (k kept')) → Aims Calm (responses ids fs kept k)
-responses_goes ids [] kept k goes = goes kept
-responses_goes ids (f ∷ fs) kept k goes = way Calm (has_response f.meta.response && nat_lt (slot_in f) ids)
-    (Round (Locks (slot_in f) (Version (version_in f)) None) (answered f kept (λ kept'. responses ids fs kept' k))) (responses ids fs kept k)
-    (λ _. (tt, exits (λ kept'. responses_goes ids fs kept' k goes))) (λ _. responses_goes ids fs kept k goes)
+sought : (i v : ℕ) (k : Locking → Program) → ((exit : Locking) → Aims Calm (k exit)) → Aims Calm (Round (Locks i (Version v) None) k)
+sought i v k goes = (tt, exits)
   where
-    exits : ((kept' : List Frame) → Aims Calm (responses ids fs kept' k)) → (exit : Locking) → LeavesStand (Locks (slot_in f) (Version (version_in f)) None) exit → Aims (locked_stand exit Calm) (answered f kept (λ kept'. responses ids fs kept' k) exit)
-    exits later (NotThere w) l = later (cond (is_early (version_in f) w) (kept ++ f ∷ []) kept)
-    exits later (Has w) l = answer_goes Calm f (parts w).first (responses ids fs kept k) (later kept)
+    exits : (exit : Locking) → LeavesStand (Locks i (Version v) None) exit → Aims (locked_stand exit Calm) (k exit)
+    exits (NotThere w) l = goes (NotThere w)
+    exits (Has w) l = goes (Has w)
 
-took_goes : (r : Reading) (k : Ended → Program) → ((exit : Ended) → Aims Calm (k exit)) → (t : Taking) → Aims Calm (took r k t)
-took_goes r k goes (Bytes bytes) = let s = streams.stream (r.rest ++ bytes) in
-    responses_goes r.ids s.frames r.kept (λ kept. read_on (record { ids = r.ids; link = r.link; id = r.id; rest = r.rest; total = r.total + length bytes; kept = kept }) (r.rest ++ bytes) s.ending k)
-    (λ kept. by_ending (record { ids = r.ids; link = r.link; id = r.id; rest = r.rest; total = r.total + length bytes; kept = kept }) (r.rest ++ bytes) s.ending)
-  where
-    by_ending : (r' : Reading) (bytes : List ℕ) (s : streams.Ending) → Aims Calm (read_on r' bytes s k)
-    by_ending r' bytes (streams.Rest n) = let x : Reading = record r' { rest = last_of n bytes } in way Calm (nat_lt r'.total LIMIT) (Round (Reads x) k) (k (how_ended 1014 false false x)) (λ _. (tt, λ exit _. goes exit)) (λ _. goes (how_ended 1014 false false x))
-    by_ending r' bytes (streams.Fault at_ fault) = goes (how_ended 2002 false true r')
-took_goes r k goes Nothing = (tt, λ exit _. goes exit)
-took_goes r k goes Closed = goes (how_ended 1014 true false r)
-took_goes r k goes _ = goes (how_ended 1014 false false r)
+took_goes : (r : Reading) (k : Ended → Program) → ((exit : Ended) → Unit {0} → Aims Calm (k exit)) → (t : Taking) → Aims Calm (took r k t)
+took_goes = through_took (λ how. Unit {0}) (Aims Calm) sought (answer_goes Calm) (λ r k goes. (tt, goes)) (λ closed fault r. tt) (λ r. tt)
 
 discarded_goes : (l total : ℕ) (k : ℕ → Program) → ((exit : ℕ) → Aims Calm (k exit)) → (t : Taking) → Aims Calm (discarded l total k t)
-discarded_goes l total k goes (Bytes bytes) = way Calm (nat_lt (total + length bytes) LIMIT) (Round (Discards l (total + length bytes)) k) (k (total + length bytes)) (λ _. (tt, λ exit _. goes exit)) (λ _. goes (total + length bytes))
-discarded_goes l total k goes Nothing = (tt, λ exit _. goes exit)
-discarded_goes l total k goes _ = goes total
+discarded_goes = through_discarded (Aims Calm) (λ l total k goes. (tt, λ exit _. goes exit))
 
 -- one round of each loop
 pub aims_round : (s : Stand) (head : Head) (k : Exit head → Program) → Aims s (Round head k) → Aims s (round head k)
@@ -253,5 +239,5 @@ aims_round s (Decides id asked word e) k g = decides_goes s id asked word e k g.
 aims_round s (Locks i sought from) k g = locks_goes s i sought from k g.0 g.1
 aims_round s (Joins id) k g = (tt, λ found _. (Calm, inr (inl refl), way Calm (is_first (id_first id) (parts found)) (Round (Joins id) k) (k found) (λ _. (tt, g.1)) (λ _. g.1 found tt)))
 aims_round s (Opens o) k g = (tt, λ word _. (Calm, inr (inl refl), way Calm (eqb word 0) (Round (Opens o) k) (k word) (λ _. (tt, g.1)) (λ _. g.1 word tt)))
-aims_round s (Reads r) k g = (tt, λ found _. (Calm, inr (inl refl), took_goes r k (λ exit. g.1 exit tt) found))
+aims_round s (Reads r) k g = (tt, λ found _. (Calm, inr (inl refl), took_goes r k g.1 found))
 aims_round s (Discards l total) k g = (tt, λ found _. (Calm, inr (inl refl), discarded_goes l total k (λ exit. g.1 exit tt) found))

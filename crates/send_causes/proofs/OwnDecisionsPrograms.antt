@@ -1,7 +1,8 @@
 -- The programs of clients, readers and the ending keep to what they try and post.
-use Rattle.std.proofs.Common.{◌≡◌, ◌≢◌, ℕ, zero, suc, ◌+◌, ◌-◌, ◌/◌, ◌%◌, ◌≤◌, ◌⊎◌, ◌==◌, ◌&&◌, inl, inr, Bool, true, false, cond, eqb, leb, nat_lt, nat_le, List, [], ◌∷◌, ◌++◌, Option, Some, None, length, drop, refl, sym, ap, ◌∙◌, subst, arith}
+use Rattle.std.proofs.Common.{◌≡◌, ◌≢◌, ℕ, zero, suc, ◌+◌, ◌-◌, ◌/◌, ◌%◌, ◌≤◌, ◌⊎◌, ◌==◌, ◌&&◌, inl, inr, Bool, true, false, cond, eqb, nat_lt, nat_le, List, [], ◌∷◌, ◌++◌, length, drop, refl, sym, ap, ◌∙◌, subst, arith}
+use Rattle.std.proofs.lemmas.Bool.{true≢false}
 use Rattle.brpc_model.specs.Frame.{Frame}
-use Rattle.sock_words.specs.Words.{socket_id_slot, socket_id_version, vref_version, vref_nref, at_word, at_word_first, at_word_slot, at_word_link, at_word_attempt}
+use Rattle.sock_words.specs.Words.{socket_id_slot, socket_id_version, vref_version, at_word, at_word_first, at_word_slot, at_word_link, at_word_attempt}
 use Rattle.sock_words.specs.declared.outcome.Outcome.TheVariants as outcomes
 use Rattle.sock_io.specs.declared.link.Put.{Put}
 use Rattle.sock_io.specs.declared.link.Put.TheVariants as puts
@@ -18,15 +19,19 @@ use Rattle.seat_programs.specs.declared.task.Sizes.{Sizes}
 use Rattle.seat_programs.specs.declared.task.Task.{Task}
 use Rattle.seat_programs.specs.Asides.{StoreAt, call_id, id_slot, id_first}
 use Rattle.seat_programs.specs.Attempts.{claims_from, heading_for, attempt, begin_call, claim_id, call, tried_again, retry_locked, retry, expire_outcome, expire, join}
-use Rattle.seat_programs.specs.Calls.{Call, SubRef, StoreCode, LoadLink, TakeLink, FinishLink, PutLink, FreeSlot, FreeRequest, ReadNext, FindLink, LookWord, ReverseNext, Connect}
-use Rattle.seat_programs.specs.Clients.{HeldLife, held_under, without_name, give_back, drop_of, operation, client_from, ending_of}
+use Rattle.seat_programs.specs.Calls.{Call, PutMessage, Unconnect, FreeRequest, ReadNext, FindLink, LookWord, ReverseNext, Connect}
+use Rattle.seat_programs.specs.Clients.{HeldLife, held_under, without_name, operation, client_from, ending_of}
 use Rattle.seat_programs.specs.Heads.{First, Posts, Joins, Reads, Discards, Posting, HasLocked, Unlocking, IsOpen, HasNext, Locking, NotThere, Has, Ended}
 use Rattle.seat_programs.specs.Parts.{part}
 use Rattle.seat_programs.specs.Posts.{WHOLE, post_with, posted, post, decided}
-use Rattle.seat_programs.specs.Programs.{Program, Do, Say, Sent, Rest, TakeMessage, TakeHome, PutBytes, Write, Aside, Round, NO_SOCKET, LAST_VERSION, LAST_GENERATION, recycle, release, address, reach, set_failed, make_socket, open_from, fail_outcome, fail}
+use Rattle.seat_programs.specs.Programs.{Program, Do, Say, Sent, Rest, TakeMessage, TakeHome, PutBytes, Write, Aside, Round, NO_SOCKET, LAST_GENERATION, release}
 use Rattle.seat_programs.specs.Readers.{kept_for, ends_with, posted_last, post_each, thrown_away, read, reader, LIMIT}
 use Rattle.seat_programs.specs.Sends.{freed as given_back, one_more, passed_telling, tell_drop, placed, dropped, put_answered, ready_answered, block, first_put, accept, write_link, heading_of, claim_from, start, send}
 use Rattle.seat_programs.specs.Writings.{Holder, Writing, Puts, Waits, Empties, Walks}
+use Rattle.sock_runs.proofs.Through.{PassesWords, PassesFails, is_of_message, others_plain, others_failing, others_make, through_release, through_address, through_reach, through_set_failed, through_fail, through_hold}
+use Rattle.sock_runs.proofs.ThroughSends.{through_ended}
+use Rattle.sock_runs.proofs.ThroughCalls.{through_read_end}
+use Rattle.sock_runs.proofs.ThroughClients.{through_open, through_back, through_drop_of}
 use Rattle.label_runs.specs.Labels.{LeavesLock}
 use Rattle.send_causes.proofs.OwnDecisionsStands.{Stand, Calm, Trying, Past, Posted, Eases, behind_message, MayPut, LeavesStand, locked_stand, posted_stand, Aims}
 use Rattle.label_runs.proofs.Loops.{id_back, not_equal}
@@ -34,37 +39,17 @@ use Rattle.send_causes.proofs.OwnDecisionsLoops.{way, next_is, post_with_goes, p
 
 -- ## Parts on sockets
 
+-- where no message is put, steps on words leave it
 module _ (t : Stand) where
-  recycle_goes : (i from : ℕ) (next : Bool → Program) → ((b : Bool) → Aims t (next b)) → Aims t (recycle i from next)
-  recycle_goes i from next goes = (
-    tt,
-    λ found _. (
-      t,
-      inl refl,
-      way t (eqb found from)
-          (Do (LoadLink i (vref_version from + 1)) (λ k. Do (TakeLink k) (λ _. Do (FinishLink k) (λ _. Do (PutLink k) (λ _. cond (leb (vref_version from + 1) LAST_VERSION) (Do (FreeSlot i) (λ _. next true)) (next true))))))
-          (next false)
-          (λ _. (tt, λ k _. (t, inl refl, (tt, λ _ _. (t, inl refl, (tt, λ _ _. (t, inl refl, (tt, λ _ _. (t, inl refl, way t (leb (vref_version from + 1) LAST_VERSION) (Do (FreeSlot i) (λ _. next true)) (next true) (λ _. (tt, λ _ _. (t, inl refl, goes true))) (λ _. goes true))))))))))
-          (λ _. goes false),
-    ),
-  )
+  others : (call : Call) (next : ℕ → Program) → is_of_message call ≡ false → ((found : ℕ) → Aims t (next found)) → Aims t (Do call next)
+  others (PutMessage q heading bytes) next is r = absurd (true≢false is)
+  others call next is r = (tt, λ found _. (t, inl refl, r found))
 
-  pub release_goes : (i : ℕ) (next : Bool → Program) → ((b : Bool) → Aims t (next b)) → Aims t (release i next)
-  release_goes i next goes = (tt, λ found _. (t, inl refl, way t ((vref_version found % 2 == 1) && (vref_nref found == 1)) (recycle i (found - 1) next) (next false) (λ _. recycle_goes i (found - 1) next goes) (λ _. goes false)))
+  words : PassesWords (Aims t)
+  words = record { step = others_plain (Aims t) others; say = λ o outcome next r. r }
 
-  pub address_goes : (id : ℕ) (held : Program) (gone : ℕ → Program) → Aims t held → ((found : ℕ) → Aims t (gone found)) → Aims t (address id held gone)
-  address_goes id held gone goes others = (tt, λ found _. (t, inl refl, way t (vref_version found == socket_id_version id) held (release (socket_id_slot id) (λ _. gone found)) (λ _. goes) (λ _. release_goes (socket_id_slot id) (λ _. gone found) (λ _. others found))))
-
-  set_failed_goes : (id code : ℕ) (next : ℕ → Program) → ((found : ℕ) → Aims t (next found)) → Aims t (set_failed id code next)
-  set_failed_goes id code next goes = (
-    tt,
-    λ found _. (
-      t,
-      inl refl,
-      way t (vref_version found % 2 == 0) (Do (StoreCode (socket_id_slot id) (socket_id_version id) code) (λ _. Do (SubRef (socket_id_slot id)) (λ _. next found))) (next found)
-          (λ _. (tt, λ _ _. (t, inl refl, (tt, λ _ _. (t, inl refl, goes found))))) (λ _. goes found),
-    ),
-  )
+  fails : (code : ℕ) → PassesFails (Aims t) code
+  fails = through_set_failed (Aims t) words (others_failing (Aims t) others)
 
 -- ## Writing
 
@@ -89,7 +74,7 @@ put_goes : (s : Stand) (h : Holder) (now : ℕ) (heading : Heading) (left : List
 put_goes s h now heading left taken after is goes (puts.Took n) = way s (nat_le (length left) n) (placed h now heading after) (Write (Puts h now heading (drop n left) (taken + n) false) after)
     (λ _. (tt, λ _ _. (Calm, inr (inl refl), passed_goes Calm (one_more h) now (λ x. x) after (λ x goes. goes) goes))) (λ _. (is, goes))
 put_goes s h now heading left taken after is goes puts.Again = (is, goes)
-put_goes s h now heading left taken after is goes puts.Failed = set_failed_goes s h.id 1009 (λ _. Write (Puts h now heading left taken false) after) (λ _. (is, goes))
+put_goes s h now heading left taken after is goes puts.Failed = fails s 1009 h.id (λ _. Write (Puts h now heading left taken false) after) (λ _. (is, goes))
 
 pub block_goes : (s : Stand) (w : Writing) (after : Program) → Aims s (Write w after) → Aims s (block w after)
 block_goes s (Puts h now heading left taken asked) after g = (
@@ -107,7 +92,7 @@ block_goes s (Waits h now heading left taken) after g = ready_goes
     ready_goes : (answer : Ready) → Aims s (ready_answered h now heading left taken after answer)
     ready_goes asks.Now = (g.0, g.1)
     ready_goes asks.NotYet = (g.0, g.1)
-    ready_goes asks.Failed = set_failed_goes s h.id 1009 (λ _. Write (Puts h now heading left taken false) after) (λ _. (g.0, g.1))
+    ready_goes asks.Failed = fails s 1009 h.id (λ _. Write (Puts h now heading left taken false) after) (λ _. (g.0, g.1))
 block_goes s (Empties h) after g = (tt, λ found _. (Calm, inl refl, way Calm (found == h.last) after (TakeHome h.link (λ places. Write (Walks (record h { places = places }) found found 0) after)) (λ _. g.1) (λ _. λ places. (tt, g.1))))
 block_goes s (Walks h top at after) then_ g = (
   tt,
@@ -137,29 +122,14 @@ write_goes id q own after g = (tt, λ k _. (Calm, inl refl, λ places. λ headin
 
 -- ## Messages
 
-accept_goes : (s : Stand) (id q g : ℕ) (heading : Heading) (bytes : List ℕ) (after : Program) → MayPut s (Rattle.seat_programs.specs.Calls.PutMessage q heading bytes) → Aims Calm after → Aims s (accept id q g heading bytes after)
+accept_goes : (s : Stand) (id q g : ℕ) (heading : Heading) (bytes : List ℕ) (after : Program) → MayPut s (PutMessage q heading bytes) → Aims Calm after → Aims s (accept id q g heading bytes after)
 accept_goes s id q g heading bytes after may goes = (
   may,
-  λ _ _. (
-    Calm,
-    inr (inl refl),
-    (
-      tt,
-      λ _ _. (
-        Calm,
-        inl refl,
-        (
-          tt,
-          λ found _. (
-            Calm,
-            inl refl,
-            way Calm (nat_lt found IDLE) (Do (Connect q found) (λ _. after)) (write_link id q (ticket_of q g) after) (λ _. (tt, λ _ _. (Calm, inl refl, goes))) (λ _. write_goes id q (ticket_of q g) after goes),
-          ),
-        ),
-      ),
-    ),
-  ),
+  λ _ _. (Calm, inr (inl refl), (words Calm).step (Unconnect q) _ refl (λ _. (tt, λ found _. (Calm, inl refl, swapped found)))),
 )
+  where
+    swapped : (found : ℕ) → Aims Calm (cond (nat_lt found IDLE) (Do (Connect q found) (λ _. after)) (write_link id q (ticket_of q g) after))
+    swapped found = way Calm (nat_lt found IDLE) _ _ (λ _. (words Calm).step (Connect q found) _ refl (λ _. goes)) (λ _. write_goes id q (ticket_of q g) after goes)
 
 claims_goes : (s : Stand) (more q id : ℕ) (heading : Heading) (bytes : List ℕ) (full accepted : Program) → (heading.owner ≡ 0) ⊎ (s ≡ Past heading.owner heading.attempt) → Aims s full → Aims Calm accepted → Aims s (claims_from more q id heading bytes full accepted)
 claims_goes s zero q id heading bytes full accepted may none_ goes = none_
@@ -177,7 +147,7 @@ claims_goes s (suc more) q id heading bytes full accepted may none_ goes = (
 
 module _ (requests : ℕ) (asked : Asked) (id n socket : ℕ) (next : Program) (few : n ≤ 6) (goes : Aims Calm next) where
   refused_goes : (code : ℕ) → Aims (Past id n) (post id code n (release (socket_id_slot socket) (λ _. next)))
-  refused_goes code = post_goes (Past id n) id code n (release (socket_id_slot socket) (λ _. next)) (inl refl) (release_goes Calm (socket_id_slot socket) (λ _. next) (λ _. goes))
+  refused_goes code = post_goes (Past id n) id code n (release (socket_id_slot socket) (λ _. next)) (inl refl) (through_release (Aims Calm) (words Calm) (socket_id_slot socket) (λ _. next) (λ _. goes))
 
   looks_goes : (heading : Heading) (bytes : List ℕ) → (heading.owner ≡ 0) ⊎ (Past id n ≡ Past heading.owner heading.attempt) → Aims (Past id n) (Do (LookWord socket) (λ found. cond (eqb (vref_version found % 2) 0)
       (claims_from requests 0 socket heading bytes (post id 3001 n (release (socket_id_slot socket) (λ _. next))) (release (socket_id_slot socket) (λ _. next))) (post id 1009 n (release (socket_id_slot socket) (λ _. next)))))
@@ -188,13 +158,13 @@ module _ (requests : ℕ) (asked : Asked) (id n socket : ℕ) (next : Program) (
       inl refl,
       way (Past id n) (eqb (vref_version found % 2) 0) (claims_from requests 0 socket heading bytes (post id 3001 n (release (socket_id_slot socket) (λ _. next))) (release (socket_id_slot socket) (λ _. next)))
           (post id 1009 n (release (socket_id_slot socket) (λ _. next)))
-          (λ _. claims_goes (Past id n) requests 0 socket heading bytes (post id 3001 n (release (socket_id_slot socket) (λ _. next))) (release (socket_id_slot socket) (λ _. next)) may (refused_goes 3001) (release_goes Calm (socket_id_slot socket) (λ _. next) (λ _. goes)))
+          (λ _. claims_goes (Past id n) requests 0 socket heading bytes (post id 3001 n (release (socket_id_slot socket) (λ _. next))) (release (socket_id_slot socket) (λ _. next)) may (refused_goes 3001) (through_release (Aims Calm) (words Calm) (socket_id_slot socket) (λ _. next) (λ _. goes)))
           (λ _. refused_goes 1009),
     ),
   )
 
   pub attempt_goes : Aims (Trying id n) (attempt requests asked id n socket next)
-  attempt_goes = address_goes (Trying id n) socket (Do (FindLink (socket_id_slot socket) (socket_id_version socket)) (λ k. Aside (StoreAt asked.operation (at_word (id_first id) (id_slot id) k n)) (λ _. Do (LookWord socket) (λ found. cond (eqb (vref_version found % 2) 0)
+  attempt_goes = through_address (Aims (Trying id n)) (words (Trying id n)) socket (Do (FindLink (socket_id_slot socket) (socket_id_version socket)) (λ k. Aside (StoreAt asked.operation (at_word (id_first id) (id_slot id) k n)) (λ _. Do (LookWord socket) (λ found. cond (eqb (vref_version found % 2) 0)
       (claims_from requests 0 socket (heading_for asked id n) (frame_of asked id n) (post id 3001 n (release (socket_id_slot socket) (λ _. next))) (release (socket_id_slot socket) (λ _. next))) (post id 1009 n (release (socket_id_slot socket) (λ _. next)))))))
       (λ _. post id 1009 n next)
       (tt, λ k low. (Trying id n, inl refl, (tt, λ _ _. (Past id n, (id, n, k, refl, refl, low, few, refl), looks_goes (heading_for asked id n) (frame_of asked id n) (inr refl)))))
@@ -293,92 +263,51 @@ join_goes o t next goes = (tt, λ id _. (Calm, inl refl, way Calm (eqb id 0) (Sa
 
 -- ## Clients
 
-open_goes : (more i o name k : ℕ) (next : Program) → Aims Calm next → Aims Calm (open_from more i o name k next)
-open_goes zero i o name k next goes = (tt, λ _ _. (Calm, inl refl, (tt, λ _ _. (Calm, inl refl, (tt, λ _ _. (Calm, inl refl, (tt, λ _ _. (Calm, inl refl, goes))))))))
-open_goes (suc more) i o name k next goes = (
-  tt,
-  λ found _. (
-    Calm,
-    inl refl,
-    way Calm (found == 0) (make_socket o name k i next) (open_from more (i + 1) o name k next)
-        (λ _. (tt, λ _ _. (Calm, inl refl, (tt, λ _ _. (Calm, inl refl, (tt, λ _ _. (Calm, inl refl, (tt, λ _ _. (Calm, inl refl, (tt, λ _ _. (Calm, inl refl, (tt, λ _ _. (Calm, inl refl, goes)))))))))))))
-        (λ _. open_goes more (i + 1) o name k next goes),
-  ),
-)
-
-reach_goes : (name : ℕ) (unopened : Program) (held gone : ℕ → Program) → Aims Calm unopened → ((id : ℕ) → Aims Calm (held id)) → ((found : ℕ) → Aims Calm (gone found)) → Aims Calm (reach name unopened held gone)
-reach_goes name unopened held gone none_ one others = (tt, λ word _. (Calm, inl refl, way Calm (word == 0) unopened (address (word - 1) (held (word - 1)) gone) (λ _. none_) (λ _. address_goes Calm (word - 1) (held (word - 1)) gone (one (word - 1)) others)))
-
 claim_from_goes : (more q o id : ℕ) (bytes : List ℕ) (next : Program) → Aims Calm next → Aims Calm (claim_from more q o id bytes next)
-claim_from_goes zero q o id bytes next goes = release_goes Calm (socket_id_slot id) (λ _. Say o outcomes.Full next) (λ _. goes)
+claim_from_goes zero q o id bytes next goes = through_release (Aims Calm) (words Calm) (socket_id_slot id) (λ _. Say o outcomes.Full next) (λ _. goes)
 claim_from_goes (suc more) q o id bytes next goes = (
   tt,
   λ found _. (
     Calm,
     inl refl,
     way Calm (found % 2 == 0) (accept id q (found / 2) (heading_of o) bytes (release (socket_id_slot id) (λ _. Sent o next))) (claim_from more (q + 1) o id bytes next)
-        (λ _. accept_goes Calm id q (found / 2) (heading_of o) bytes (release (socket_id_slot id) (λ _. Sent o next)) (inl refl) (release_goes Calm (socket_id_slot id) (λ _. Sent o next) (λ _. goes)))
+        (λ _. accept_goes Calm id q (found / 2) (heading_of o) bytes (release (socket_id_slot id) (λ _. Sent o next)) (inl refl) (through_release (Aims Calm) (words Calm) (socket_id_slot id) (λ _. Sent o next) (λ _. goes)))
         (λ _. claim_from_goes more (q + 1) o id bytes next goes),
   ),
 )
 
 send_goes : (requests o name : ℕ) (bytes : List ℕ) (next : Program) → Aims Calm next → Aims Calm (send requests o name bytes next)
-send_goes requests o name bytes next goes = reach_goes name (Say o outcomes.Unopened next) (λ id. start requests o id bytes next) (λ found. Say o (outcomes.Gone (record { 0 = found })) next) goes
+send_goes requests o name bytes next goes = through_reach (Aims Calm) (words Calm) name (Say o outcomes.Unopened next) (λ id. start requests o id bytes next) (λ found. Say o (outcomes.Gone (record { 0 = found })) next) goes
     (λ id. (
       tt,
       λ found _. (
         Calm,
         inl refl,
         way Calm (vref_version found % 2 == 0) (claim_from requests 0 o id bytes next) (release (socket_id_slot id) (λ _. Say o (outcomes.Gone (record { 0 = found })) next))
-            (λ _. claim_from_goes requests 0 o id bytes next goes) (λ _. release_goes Calm (socket_id_slot id) (λ _. Say o (outcomes.Gone (record { 0 = found })) next) (λ _. goes)),
+            (λ _. claim_from_goes requests 0 o id bytes next goes) (λ _. through_release (Aims Calm) (words Calm) (socket_id_slot id) (λ _. Say o (outcomes.Gone (record { 0 = found })) next) (λ _. goes)),
       ),
     ))
     (λ found. goes)
 
-fail_goes : (o name code : ℕ) (next : Program) → Aims Calm next → Aims Calm (fail o name code next)
-fail_goes o name code next goes = reach_goes name (Say o outcomes.Unopened next) (λ id. set_failed id code (λ found. release (socket_id_slot id) (λ _. Say o (fail_outcome found) next))) (λ found. Say o (outcomes.Gone (record { 0 = found })) next) goes
-    (λ id. set_failed_goes Calm id code (λ found. release (socket_id_slot id) (λ _. Say o (fail_outcome found) next)) (λ found. release_goes Calm (socket_id_slot id) (λ _. Say o (fail_outcome found) next) (λ _. goes)))
-    (λ found. goes)
-
-drop_goes : (o : ℕ) (h : Option ℕ) (next : Program) → Aims Calm next → Aims Calm (drop_of o h next)
-drop_goes o None next goes = goes
-drop_goes o (Some id) next goes = release_goes Calm (socket_id_slot id) (λ freed. Say o (cond freed outcomes.Freed outcomes.Kept) next) (λ _. goes)
-
 operation_goes : (sizes : Sizes) (held : List HeldLife) (o : ℕ) (next : List HeldLife → Program) (op : Op) → ((hs : List HeldLife) → Aims Calm (next hs)) → Aims Calm (operation sizes held o next op)
-operation_goes sizes held o next (ops.Open name k) goes = open_goes sizes.slots 0 o name k (next held) (goes held)
+operation_goes sizes held o next (ops.Open name k) goes = through_open (Aims Calm) (words Calm) (others_make (Aims Calm) (others Calm)) sizes.slots 0 o name k (next held) (goes held)
 operation_goes sizes held o next (ops.Send name bytes) goes = send_goes sizes.requests o name bytes (next held) (goes held)
 operation_goes sizes held o next (ops.Call asked) goes = call_goes sizes.requests sizes.ids asked (next held) (goes held)
 operation_goes sizes held o next (ops.Expire t) goes = expire_goes o t (next held) (goes held)
 operation_goes sizes held o next (ops.Join t) goes = join_goes o t (next held) (goes held)
-operation_goes sizes held o next (ops.Hold name) goes = reach_goes name (Say o outcomes.Unopened (next held)) (λ id. Say o outcomes.Held (next (held ++ (record { name = name; id = id }) ∷ []))) (λ found. Say o (outcomes.Gone (record { 0 = found })) (next held)) (goes held)
-    (λ id. goes (held ++ (record { name = name; id = id }) ∷ [])) (λ found. goes held)
-operation_goes sizes held o next (ops.Drop name) goes = drop_goes o (held_under name held) (next (without_name name held)) (goes (without_name name held))
-operation_goes sizes held o next (ops.Fail name code) goes = fail_goes o name code (next held) (goes held)
-
-give_goes : (held : List HeldLife) → Aims Calm (give_back held)
-give_goes [] = tt
-give_goes (h ∷ hs) = release_goes Calm (socket_id_slot h.id) (λ _. give_back hs) (λ _. give_goes hs)
+operation_goes sizes held o next (ops.Hold name) goes = through_hold (Aims Calm) (words Calm) o name _ (next held) (λ id. goes (held ++ (record { name = name; id = id }) ∷ [])) (goes held)
+operation_goes sizes held o next (ops.Drop name) goes = through_drop_of (Aims Calm) (words Calm) o (held_under name held) (next (without_name name held)) (goes (without_name name held))
+operation_goes sizes held o next (ops.Fail name code) goes = through_fail (Aims Calm) (words Calm) o name code (next held) (fails Calm code) (goes held)
 
 pub client_goes : (sizes : Sizes) (held : List HeldLife) (ts : List Task) → Aims Calm (client_from sizes held ts)
-client_goes sizes held [] = give_goes held
+client_goes sizes held [] = through_back (Aims Calm) (words Calm) tt held
 client_goes sizes held (t ∷ ts) = operation_goes sizes held t.number (λ held'. client_from sizes held' ts) t.op (λ hs. client_goes sizes hs ts)
 
 -- ## The ending
 
 pub ending_goes : (os : List ℕ) → Aims Calm (ending_of os)
 ending_goes [] = tt
-ending_goes (o ∷ os) = (
-  tt,
-  λ word _. (
-    Calm,
-    inl refl,
-    way Calm (word == 0) (ending_of os) (cond (word == NO_SOCKET) (ending_of os) (address (word - 1) (set_failed (word - 1) 1014 (λ _. release (socket_id_slot (word - 1)) (λ _. ending_of os))) (λ _. ending_of os)))
-        (λ _. ending_goes os)
-        (λ _. way Calm (word == NO_SOCKET) (ending_of os) (address (word - 1) (set_failed (word - 1) 1014 (λ _. release (socket_id_slot (word - 1)) (λ _. ending_of os))) (λ _. ending_of os)) (λ _. ending_goes os)
-        (λ _. address_goes Calm (word - 1) (set_failed (word - 1) 1014 (λ _. release (socket_id_slot (word - 1)) (λ _. ending_of os))) (λ _. ending_of os)
-        (set_failed_goes Calm (word - 1) 1014 (λ _. release (socket_id_slot (word - 1)) (λ _. ending_of os)) (λ _. release_goes Calm (socket_id_slot (word - 1)) (λ _. ending_of os) (λ _. ending_goes os))) (λ _. ending_goes os))),
-  ),
-)
+ending_goes (o ∷ os) = (tt, λ word _. (Calm, inl refl, through_ended (Aims Calm) (words Calm) (fails Calm 1014) word (ending_of os) (ending_goes os)))
 
 -- ## Readers
 
@@ -414,10 +343,7 @@ thrown_goes : (how : Ended) → Aims Calm (thrown_away how)
 thrown_goes how = way Calm (how.fault && nat_lt how.reading.total LIMIT) (Round (Discards how.reading.link how.reading.total) (λ _. Rest)) Rest (λ _. (tt, λ _ _. tt)) (λ _. tt)
 
 read_goes : (calls : List ℕ) (how : Ended) → Aims Calm (read calls how)
-read_goes calls how = let last : Program = post_each calls how.reading.link how.code how.reading.kept (thrown_away how) in let goes : Aims Calm last = each_goes calls how.reading.link how.code how.reading.kept (thrown_away how) (thrown_goes how) in
-    way Calm how.closed last (address how.reading.id (set_failed how.reading.id how.code (λ _. release (socket_id_slot how.reading.id) (λ _. last))) (λ _. last)) (λ _. goes)
-    (λ _. address_goes Calm how.reading.id (set_failed how.reading.id how.code (λ _. release (socket_id_slot how.reading.id) (λ _. last))) (λ _. last)
-    (set_failed_goes Calm how.reading.id how.code (λ _. release (socket_id_slot how.reading.id) (λ _. last)) (λ _. release_goes Calm (socket_id_slot how.reading.id) (λ _. last) (λ _. goes))) (λ _. goes))
+read_goes calls how = through_read_end (Aims Calm) (words Calm) calls how (fails Calm how.code) (each_goes calls how.reading.link how.code how.reading.kept (thrown_away how) (thrown_goes how))
 
 pub reader_goes : (calls : List ℕ) (k o : ℕ) → Aims Calm (reader calls k o)
 reader_goes calls k o = (tt, λ word _. way Calm (word == NO_SOCKET) Rest (Round (Reads (record { ids = length calls; link = k; id = word - 1; rest = []; total = 0; kept = [] })) (read calls)) (λ _. tt) (λ _. (tt, λ how _. read_goes calls how)))

@@ -18,7 +18,7 @@ use Rattle.sock_model.specs.declared.home.Home.TheVariants.{Message}
 use Rattle.sock_model.specs.Messages.{Letter}
 use Rattle.sock_model.specs.Reads.{message, link_home}
 use Rattle.sock_model.specs.Weights.{total}
-use Rattle.slot_steps.proofs.Sums.{term_le, total-append, total-set}
+use Rattle.slot_steps.proofs.Sums.{term_le, total-append}
 use Rattle.corr_core.specs.Word.{Parts, parts, error_of, attempt_of, made_word, posted_word, unlocked_word, free_word}
 use Rattle.corr_core.specs.declared.marks.Plan.{Plan as IdPlan}
 use Rattle.id_rule.specs.Lawful.{all_words, tag_index, id_index, call_index, at_index}
@@ -44,7 +44,7 @@ use Rattle.send_causes.specs.Counts.{pair_of, of_retry, word_of_id, WasMade, Was
 use Rattle.send_causes.proofs.Words.{made_on, finds_label, words_forward, makes_new, advances_new}
 use Rattle.send_causes.proofs.Readings.{ticks_first}
 use Rattle.send_causes.proofs.SeatFacts.{ids_first}
-use Rattle.send_causes.proofs.Ticks.{few_more, few_of, calls_waiting, pair_one, pair_same, waits_set}
+use Rattle.send_causes.proofs.Ticks.{few_more, few_of, calls_waiting, pair_one, pair_same, waiting_set, once_more, old_or_new, pairs_set}
 use Rattle.call_causes.proofs.Chains.{AreFewTries as AreTries}
 use Rattle.label_runs.proofs.Loops.{id_back}
 use Rattle.id_runs.specs.Goes.{HandFits, HomesFit}
@@ -245,10 +245,7 @@ module _ (p : Plan) (q : IdPlan) (narrow : q.slots ≤ 65536) (Taken : Post → 
       d = with_seat i x hand ws hs (record c { calls = a })
 
       near : (id n : ℕ) → tries_of id n (with_seat i x hand ws hs (record c { calls = a })) (set ss i r.stand) + of_stand id n s ≤ tries_of id n c ss + of_stand id n u
-      near id n = let one = total-set (of_stand id n) ss i s r.stand at_stand in
-          let three = waits_set (total (of_retry id n)) refl a.waiting i (still_waiting (waiting_at a.waiting i) x) in
-          let four : total (total (of_retry id n)) a.waiting ≡ total (total (of_retry id n)) c.calls.waiting = ap (total (total (of_retry id n))) g.kept in
-          let five = r.fewer id n in omega (arith, one, three, four, five)
+      near id n = waiting_set (of_stand id n) (of_retry id n) ss i s r.stand u a.waiting c.calls.waiting (still_waiting (waiting_at a.waiting i) x) at_stand g.kept (r.fewer id n)
 
       bound : (id n : ℕ) → tries_of id n (with_seat i x hand ws hs (record c { calls = a })) (set ss i r.stand) ≤ tries_of id n c ss + g.new id n
       bound id n = let b = near id n in let f = g.fewer id n in omega (arith, b, f)
@@ -282,13 +279,10 @@ module _ (p : Plan) (q : IdPlan) (narrow : q.slots ≤ 65536) (Taken : Post → 
       goes_on = (
         set ss i r.stand,
         record {
-          once = λ id n. dite (ℕ_discrete (g.new id n) 0) (λ z. let b = bound id n in let o = law.once id n in omega (arith, b, z, o))
-              (λ ne. let b = bound id n in let f = g.fresh id n (omega (arith, ne)) in let one = f.0 in let none_ = f.1 in omega (arith, b, one, none_));
-          made = λ id n some_. dite (ℕ_discrete (g.new id n) 0) (λ z. let b = bound id n in g.words id n (law.made id n (omega (arith, b, z, some_)))) (λ ne. let f = g.fresh id n (omega (arith, ne)) in (f.2.0, inr f.2.1));
+          once = λ id n. once_more _ (g.new id n) _ (bound id n) (law.once id n) (λ more. let f = g.fresh id n more in (f.0, f.1));
+          made = λ id n. old_or_new _ (g.new id n) _ (bound id n) (λ some_. g.words id n (law.made id n some_)) (λ more. let f = g.fresh id n more in (f.2.0, inr f.2.1));
           each = length-set ss i r.stand ∙ (law.each ∙ sym (length-set c.seats i next_seat));
-          programs = λ j s' y es et. ⊎_elim
-              (λ b. ⊎_elim (λ e. subst (λ (z : SeatState). Aims y z.program) b.1 (subst (λ z. Aims z next_seat.program) e.1 r.aims)) (λ e. absurd (e.0 b.0)) (at_set ss i j r.stand y et))
-              (λ b. ⊎_elim (λ e. absurd (b.0 e.0)) (λ e. law.programs j s' y b.1 e.1) (at_set ss i j r.stand y et)) (at_set c.seats i j next_seat s' es);
+          programs = pairs_set (λ (y : Stand) (z : SeatState). Aims y z.program) c.seats ss i next_seat r.stand law.programs r.aims;
           stands = λ j y at. ⊎_elim
               (λ b. subst (StandFits (IsPast q (with_seat i x hand ws hs (record c { calls = a })) (set ss i r.stand)) (Own L j)) b.1
               (subst (λ k. StandFits (IsPast q (with_seat i x hand ws hs (record c { calls = a })) (set ss i r.stand)) (Own L k) r.stand) (sym b.0) stand_now))

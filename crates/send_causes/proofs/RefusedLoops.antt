@@ -1,17 +1,17 @@
 -- One round of each loop posts what the seat is charged with.
-use Rattle.std.proofs.Common.{◌≡◌, ℕ, ◌+◌, ◌<◌, ◌≤◌, inl, inr, ◌&&◌, not, Bool, true, false, cond, eqb, eqb-true, leb, nat_lt, List, [], ◌∷◌, ◌++◌, Option, Some, None, length, refl, sym, ap, ◌∙◌, subst, arith}
+use Rattle.std.proofs.Common.{◌≡◌, ℕ, ◌+◌, ◌<◌, ◌≤◌, inl, inr, not, Bool, true, false, cond, eqb, eqb-true, leb, List, [], Option, Some, None, refl, sym, ap, ◌∙◌, subst, arith}
 use Rattle.brpc_model.specs.Frame.{Frame}
-use Rattle.brpc_model.specs.Stream as streams
 use Rattle.corr_core.specs.Word.{Parts, parts, posted_word, unlocked_word, code_of}
 use Rattle.corr_core.specs.Law.{LAST}
 use Rattle.sock_message.specs.Asked.{Asked}
-use Rattle.seat_programs.specs.Asides.{UnlockId, FreeId, Taking, Bytes, Nothing, Closed, PutCall, id_slot, id_first, call_id}
+use Rattle.seat_programs.specs.Asides.{UnlockId, FreeId, Taking, PutCall, id_slot, id_first, call_id}
 use Rattle.seat_programs.specs.Calls.{Call}
 use Rattle.seat_programs.specs.Heads.{Head, Exit, Sought, First, Version, Reading, Posts, Unlocks, Decides, Locks, Joins, Opens, Reads, Discards, Retry, Posting, WasGone, WasStale, WasCrowded, WasQueued, HasLocked, Unlocking, IsOpen, HasNext, Deciding, HasEnded, GoesOn, Locking, NotThere, Has, Ended}
 use Rattle.seat_programs.specs.Posts.{packed, advance_of, is_first, is_sought, is_stale, is_full, judged, posted, post_with, popped, end_id, ends_call, decide, decided, unlocked, locking}
 use Rattle.seat_programs.specs.Programs.{Program, Say, Aside, Round}
-use Rattle.seat_programs.specs.Readers.{answer, answered, responses, read_on, took, discarded, last_of, slot_in, version_in, has_response, ending_of, is_early, ended_by as how_ended, LIMIT}
+use Rattle.seat_programs.specs.Readers.{answer, took, discarded, slot_in, ending_of}
 use Rattle.seat_programs.specs.Rounds.{round}
+use Rattle.sock_runs.proofs.ThroughLoops.{through_took, through_discarded}
 use Rattle.label_runs.specs.Labels.{Trial, Idle, Tries, Kept, LeavesLabel, LeavesLock, LeavesUnlock, unlocks_trial, unlocked_trial, locked_trial, IsSoughtWord, FindsLabel}
 use Rattle.label_runs.proofs.Programs.{hit_is, miss_is, found_is}
 use Rattle.label_runs.proofs.Loops.{first_as, id_back, not_true, not_equal, and_left, locked_parts}
@@ -188,32 +188,18 @@ module _ (requests : ℕ) (is_call : Asked → Type 0) (reads : Bool) where
   pub answer_goes : (s : Doing) (frame : Frame) (first : ℕ) (next : Program) → Goes idle next → Goes s (answer frame first next)
   answer_goes s frame first next goes = (tt, λ asked _. let_go s.deeds s (end_id (slot_in frame) (Say asked.operation (ending_of (call_id (slot_in frame) first) frame) next)) (end_goes idle (slot_in frame) (Say asked.operation (ending_of (call_id (slot_in frame) first) frame) next) goes))
 
-  responses_goes : (ids : ℕ) (fs kept : List Frame) (k : List Frame → Program) → ((kept' : List Frame) → Goes idle (k kept')) → Goes idle (responses ids fs kept k)
-  responses_goes ids [] kept k goes = goes kept
-  responses_goes ids (f ∷ fs) kept k goes = way idle (has_response f.meta.response && nat_lt (slot_in f) ids)
-      (Round (Locks (slot_in f) (Version (version_in f)) None) (answered f kept (λ kept'. responses ids fs kept' k))) (responses ids fs kept k)
-      (λ _. ((tt, tt), λ exit l _. exits (λ kept'. responses_goes ids fs kept' k goes) exit)) (λ _. responses_goes ids fs kept k goes)
+  seeks : (i v : ℕ) (k : Locking → Program) → ((exit : Locking) → Goes idle (k exit)) → Goes idle (Round (Locks i (Version v) None) k)
+  seeks i v k goes = ((tt, tt), λ exit l _. exits exit)
     where
-      exits : ((kept' : List Frame) → Goes idle (responses ids fs kept' k)) → (exit : Locking) → Goes (bare (locked_trial exit Idle) []) (answered f kept (λ kept'. responses ids fs kept' k) exit)
-      exits later (NotThere w) = later (cond (is_early (version_in f) w) (kept ++ f ∷ []) kept)
-      exits later (Has w) = answer_goes idle f (parts w).first (responses ids fs kept k) (later kept)
+      exits : (exit : Locking) → Goes (bare (locked_trial exit Idle) []) (k exit)
+      exits (NotThere w) = goes (NotThere w)
+      exits (Has w) = goes (Has w)
 
   took_goes : (r : Reading) (k : Ended → Program) → ((exit : Ended) → LeavesCode requests is_call reads (Reads r) exit → Goes idle (k exit)) → (t : Taking) → Goes idle (took r k t)
-  took_goes r k goes (Bytes bytes) = let s = streams.stream (r.rest ++ bytes) in
-      responses_goes r.ids s.frames r.kept (λ kept. read_on (record { ids = r.ids; link = r.link; id = r.id; rest = r.rest; total = r.total + length bytes; kept = kept }) (r.rest ++ bytes) s.ending k)
-      (λ kept. by_ending (record { ids = r.ids; link = r.link; id = r.id; rest = r.rest; total = r.total + length bytes; kept = kept }) (r.rest ++ bytes) s.ending)
-    where
-      by_ending : (r' : Reading) (bytes : List ℕ) (s : streams.Ending) → Goes idle (read_on r' bytes s k)
-      by_ending r' bytes (streams.Rest n) = let x : Reading = record r' { rest = last_of n bytes } in way idle (nat_lt r'.total LIMIT) (Round (Reads x) k) (k (how_ended 1014 false false x)) (λ _. ((tt, tt), λ exit _ c. goes exit c)) (λ _. goes (how_ended 1014 false false x) (inl refl))
-      by_ending r' bytes (streams.Fault at_ fault) = goes (how_ended 2002 false true r') (inr refl)
-  took_goes r k goes Nothing = ((tt, tt), λ exit _ c. goes exit c)
-  took_goes r k goes Closed = goes (how_ended 1014 true false r) (inl refl)
-  took_goes r k goes _ = goes (how_ended 1014 false false r) (inl refl)
+  took_goes r = through_took (λ exit. LeavesCode requests is_call reads (Reads r) exit) (Goes idle) seeks (answer_goes idle) (λ r k goes. ((tt, tt), λ exit _. goes exit)) (λ closed fault r. inl refl) (λ r. inr refl) r
 
   discarded_goes : (l total : ℕ) (k : ℕ → Program) → ((exit : ℕ) → Goes idle (k exit)) → (t : Taking) → Goes idle (discarded l total k t)
-  discarded_goes l total k goes (Bytes bytes) = way idle (nat_lt (total + length bytes) LIMIT) (Round (Discards l (total + length bytes)) k) (k (total + length bytes)) (λ _. ((tt, tt), λ exit _ _. goes exit)) (λ _. goes (total + length bytes))
-  discarded_goes l total k goes Nothing = ((tt, tt), λ exit _ _. goes exit)
-  discarded_goes l total k goes _ = goes total
+  discarded_goes = through_discarded (Goes idle) (λ l total k goes. ((tt, tt), λ exit _ _. goes exit))
 
   joins_goes : (s : Doing) (id : ℕ) (k : ℕ → Program) → ((exit : ℕ) → Goes idle (k exit)) → Goes s (round (Joins id) k)
   joins_goes s id k goes = (tt, λ found _. let_go s.deeds s (cond (is_first (id_first id) (parts found)) (Round (Joins id) k) (k found)) (way idle (is_first (id_first id) (parts found)) (Round (Joins id) k) (k found) (λ _. ((tt, tt), λ exit _ _. goes exit)) (λ _. goes found)))

@@ -1,5 +1,5 @@
 -- An attempt that found no live socket under its name: the link of the socket was failing, or the run was ending.
-use Rattle.std.proofs.Common.{◌≡◌, ℕ, ◌+◌, ◌<◌, ◌⊎◌, inl, inr, Bool, true, false, cond, List, [], ◌∷◌, ◌++◌, length, replicate, Ok, Some, None, refl, sym, ap, ◌∙◌, subst, arith}
+use Rattle.std.proofs.Common.{◌≡◌, ℕ, ◌+◌, ◌<◌, ◌⊎◌, inl, inr, Bool, true, false, cond, List, [], ◌∷◌, ◌++◌, length, replicate, Ok, None, refl, sym, ap, ◌∙◌, subst, arith}
 use Rattle.std.specs.List.{AllByRecursion}
 use mathlib.Core.Option.{none, some}
 use lib.ListN.{get_elem?}
@@ -13,10 +13,10 @@ use Rattle.corr_core.specs.Word.{parts}
 use Rattle.sock_message.specs.Asked.{Asked}
 use Rattle.seat_programs.specs.Asides.{PutCall}
 use Rattle.seat_programs.specs.Calls.{AddRef, LookWord, LoadName}
-use Rattle.seat_programs.specs.Heads.{Posts, Unlocks, Decides, Locks, Joins, Opens, Reads, Discards}
+use Rattle.seat_programs.specs.Heads.{Posts, Unlocks, Decides, Locks}
 use Rattle.seat_programs.specs.Posts.{ends_call}
 use Rattle.seat_programs.specs.Programs.{Program, Write, Aside, Round}
-use Rattle.seat_programs.specs.Writings.{Puts, Waits, Empties, Walks}
+use Rattle.seat_programs.specs.Writings.{Empties}
 use Rattle.seat_programs.specs.Cores.{Core}
 use Rattle.seat_programs.specs.Tasks.{opens, calls, plan_of, id_plan_of}
 use Rattle.seat_programs.specs.Ticks.{Moment, quiet, ticked, run}
@@ -63,18 +63,8 @@ same_put (Round (Decides id asked w e) next) = by (ends_call (parts w) e)
         (Aside (PutCall (Rattle.seat_programs.specs.Asides.id_slot id) asked) (λ _. Round (Unlocks (Rattle.seat_programs.specs.Asides.id_slot id) w true) (Rattle.seat_programs.specs.Posts.unlocked (record { id = id; attempt = (parts w).attempt + 1 }) next)))) ≡ cond b [] (asked.operation ∷ [])
     by true = refl
     by false = refl
-same_put (Round (Posts id e w) next) = refl
-same_put (Round (Unlocks i w advance) next) = refl
 same_put (Round (Locks i sought None) next) = refl
-same_put (Round (Locks i sought (Some w)) next) = refl
-same_put (Round (Joins id) next) = refl
-same_put (Round (Opens o) next) = refl
-same_put (Round (Reads r) next) = refl
-same_put (Round (Discards k total) next) = refl
-same_put (Write (Puts h now heading left taken asked) after) = refl
-same_put (Write (Waits h now heading left taken) after) = refl
 same_put (Write (Empties h) after) = refl
-same_put (Write (Walks h top at last) after) = refl
 same_put _ = refl
 
 put_shown : (p : Plan) (ms : List Moment) (c : Core) (j : ℕ) (asked : Asked) → DidIn p c ms j (DidPut asked) → In asked.operation (shown_in put_at p c ms)

@@ -1,5 +1,6 @@
 -- The programs of clients, readers and the ending post what they are charged with.
-use Rattle.std.proofs.Common.{◌≡◌, ◌≢◌, ℕ, zero, suc, ◌+◌, ◌-◌, ◌*◌, ◌/◌, ◌%◌, ◌<◌, ◌≤◌, ◌⊎◌, ◌==◌, ◌&&◌, inl, inr, Bool, true, false, cond, eqb, eqb-true, eq-eqb, ne_eqb, leb, nat_lt, nat_le, List, [], ◌∷◌, ◌++◌, Option, Some, None, length, drop, refl, sym, ap, ◌∙◌, subst, arith}
+use Rattle.std.proofs.Common.{◌≡◌, ◌≢◌, ℕ, zero, suc, ◌+◌, ◌-◌, ◌*◌, ◌/◌, ◌%◌, ◌<◌, ◌≤◌, ◌⊎◌, ◌==◌, ◌&&◌, inl, inr, Bool, true, false, cond, eqb, eqb-true, eq-eqb, ne_eqb, leb, nat_lt, nat_le, List, [], ◌∷◌, ◌++◌, length, drop, refl, sym, ap, ◌∙◌, subst, arith}
+use Rattle.std.proofs.lemmas.Bool.{true≢false}
 use Rattle.std.specs.List.{AllByRecursion}
 use mathlib.Core.Logic.{dite}
 use native.Mathlib.Decide.{ℕ_discrete}
@@ -21,16 +22,20 @@ use Rattle.seat_programs.specs.declared.task.Sizes.{Sizes}
 use Rattle.seat_programs.specs.declared.task.Task.{Task}
 use Rattle.seat_programs.specs.Asides.{StoreAt, call_id, id_slot, id_first}
 use Rattle.seat_programs.specs.Attempts.{claims_from, heading_for, attempt, begin_call, claim_id, call, tried_again, retry_locked, retry, expire_outcome, expire, join}
-use Rattle.seat_programs.specs.Calls.{Call, SubRef, AddRef, StoreCode, SetOdd, LoadLink, TakeLink, FinishLink, PutLink, FreeSlot, LoadName, FreeRequest, ReadNext, FindLink, LookWord, ReverseNext, Connect, ClaimRequest, PutMessage, Recycle, LoadCode, DropPlace}
-use Rattle.seat_programs.specs.Clients.{HeldLife, held_under, without_name, give_back, drop_of, operation, client_from, ending_of}
+use Rattle.seat_programs.specs.Calls.{Call, LoadOpen, SubRef, AddRef, LoadLink, TakeLink, FinishLink, PutLink, FreeSlot, LoadName, FreeRequest, ReadNext, FindLink, LookWord, ReverseNext, Connect, ClaimRequest, PutMessage, Recycle, LoadCode, DropPlace}
+use Rattle.seat_programs.specs.Clients.{HeldLife, held_under, without_name, operation, client_from, ending_of}
 use Rattle.seat_programs.specs.Heads.{First, Joins, Reads, Discards, Posting, HasLocked, Unlocking, IsOpen, HasNext, Locking, NotThere, Has, Ended}
 use Rattle.seat_programs.specs.Parts.{part}
 use Rattle.seat_programs.specs.Posts.{post_with, posted, post, decided}
-use Rattle.seat_programs.specs.Programs.{Program, Do, Say, Sent, Rest, TakeMessage, TakeHome, PutBytes, Write, Aside, Round, NO_SOCKET, LAST_VERSION, LAST_GENERATION, recycle, release, address, reach, set_failed, make_socket, open_from, fail_outcome, fail}
+use Rattle.seat_programs.specs.Programs.{Program, Do, Say, Sent, Rest, TakeMessage, TakeHome, PutBytes, Write, Aside, Round, NO_SOCKET, LAST_VERSION, LAST_GENERATION, recycle, release}
 use Rattle.seat_programs.specs.Readers.{kept_for, ends_with, posted_last, post_each, thrown_away, read, reader, LIMIT}
 use Rattle.seat_programs.specs.Sends.{freed as given_back, one_more, passed_telling, tell_drop, placed, dropped, put_answered, ready_answered, block, first_put, accept, write_link, heading_of, claim_from, start, send}
 use Rattle.seat_programs.specs.Writings.{Holder, Writing, Puts, Waits, Empties, Walks}
 use Rattle.outcome_causes.specs.Stories.{In}
+use Rattle.sock_runs.proofs.Through.{PassesWords, PassesFails, is_of_message, others_plain, others_failing, others_make, through_release, through_reach, through_set_failed, through_fail, through_hold}
+use Rattle.sock_runs.proofs.ThroughSends.{through_ended}
+use Rattle.sock_runs.proofs.ThroughCalls.{through_read_end}
+use Rattle.sock_runs.proofs.ThroughClients.{through_open, through_back, through_drop_of}
 use Rattle.label_runs.proofs.Loops.{not_equal}
 use Rattle.label_runs.proofs.Operations.{OpCalls}
 use Rattle.label_runs.specs.Labels.{Trial, Idle, Tries, Sends, MayPut, Kept, LeavesLabel, LeavesLock, LeavesUnlock, locked_trial}
@@ -50,41 +55,16 @@ module _ (requests : ℕ) (is_call : Asked → Type 0) (reads : Bool) where
 
   -- ## Parts on sockets, which are forgotten
 
-  recycle_goes : (i from : ℕ) (next : Bool → Program) → ((b : Bool) → G idle (next b)) → G idle (recycle i from next)
-  recycle_goes i from next goes = (
-    tt,
-    λ found _. then_ (Recycle i from) _ found idle (split (eqb found from)
-        (Do (LoadLink i (vref_version from + 1)) (λ k. Do (TakeLink k) (λ _. Do (FinishLink k) (λ _. Do (PutLink k) (λ _. cond (leb (vref_version from + 1) LAST_VERSION) (Do (FreeSlot i) (λ _. next true)) (next true))))))
-        (next false)
-        (λ _. (
-          tt,
-          λ k _. then_ (LoadLink i (vref_version from + 1)) _ k idle (
-            tt,
-            λ a _. then_ (TakeLink k) _ a idle (
-              tt,
-              λ b _. then_ (FinishLink k) _ b idle (
-                tt,
-                λ d _. then_ (PutLink k) _ d idle
-                    (split (leb (vref_version from + 1) LAST_VERSION) (Do (FreeSlot i) (λ _. next true)) (next true) (λ _. (tt, λ e _. then_ (FreeSlot i) _ e idle (goes true))) (λ _. goes true)),
-              ),
-            ),
-          ),
-        ))
-        (λ _. goes false)),
-  )
+  -- steps on words that put no message leave nothing
+  others_go : (call : Call) (next : ℕ → Program) → is_of_message call ≡ false → ((found : ℕ) → G idle (next found)) → G idle (Do call next)
+  others_go (PutMessage q heading bytes) next is r = absurd (true≢false is)
+  others_go call next is r = (tt, λ found _. then_ call next found idle (r found))
 
-  pub release_goes : (s : Doing) (i : ℕ) (next : Bool → Program) → ((b : Bool) → G idle (next b)) → G s (release i next)
-  release_goes s i next goes = (tt, λ found _. then_ (SubRef i) _ found s (split ((vref_version found % 2 == 1) && (vref_nref found == 1)) (recycle i (found - 1) next) (next false) (λ _. recycle_goes i (found - 1) next goes) (λ _. goes false)))
+  words : PassesWords (G idle)
+  words = record { step = others_plain (G idle) others_go; say = λ o outcome next r. r }
 
-  address_goes : (s : Doing) (id : ℕ) (held : Program) (gone : ℕ → Program) → G idle held → ((found : ℕ) → G idle (gone found)) → G s (address id held gone)
-  address_goes s id held gone goes others = (tt, λ found _. then_ (AddRef id) _ found s (split (vref_version found == socket_id_version id) held (release (socket_id_slot id) (λ _. gone found)) (λ _. goes) (λ _. release_goes idle (socket_id_slot id) (λ _. gone found) (λ _. others found))))
-
-  set_failed_goes : (s : Doing) (id code : ℕ) (next : ℕ → Program) → ((found : ℕ) → G idle (next found)) → G s (set_failed id code next)
-  set_failed_goes s id code next goes = (
-    tt,
-    λ found _. then_ (SetOdd (socket_id_slot id)) _ found s (split (vref_version found % 2 == 0) (Do (StoreCode (socket_id_slot id) (socket_id_version id) code) (λ _. Do (SubRef (socket_id_slot id)) (λ _. next found))) (next found)
-        (λ _. (tt, λ a _. then_ (StoreCode (socket_id_slot id) (socket_id_version id) code) _ a idle (tt, λ b _. then_ (SubRef (socket_id_slot id)) _ b idle (goes found)))) (λ _. goes found)),
-  )
+  fails : (code : ℕ) → PassesFails (G idle) code
+  fails = through_set_failed (G idle) words (others_failing (G idle) others_go)
 
   -- ## Parts on sockets that are remembered
 
@@ -183,7 +163,7 @@ module _ (requests : ℕ) (is_call : Asked → Type 0) (reads : Bool) where
   put_goes mine h now heading left taken after goes (puts.Took n) = split (nat_le (length left) n) (placed h now heading after) (Write (Puts h now heading (drop n left) (taken + n) false) after)
       (λ _. (tt, λ found _. then_ (Rattle.seat_programs.specs.Calls.StorePlace heading.place h.link h.places) _ found idle (passed_goes mine (one_more h) now (λ x. x) after (λ x g. g) goes))) (λ _. (mine, goes))
   put_goes mine h now heading left taken after goes puts.Again = (mine, goes)
-  put_goes mine h now heading left taken after goes puts.Failed = set_failed_goes idle h.id 1009 (λ _. Write (Puts h now heading left taken false) after) (λ _. (mine, goes))
+  put_goes mine h now heading left taken after goes puts.Failed = fails 1009 h.id (λ _. Write (Puts h now heading left taken false) after) (λ _. (mine, goes))
 
   module _ (mine : reads ≡ false) where
     tell_goes : (heading : Heading) (code : ℕ) (ds : List Deed) (x : Program) → heading.owner ≢ 0 → G idle x → G (due (HasDropped heading code) ds) (tell_drop heading code x)
@@ -232,7 +212,7 @@ module _ (requests : ℕ) (is_call : Asked → Type 0) (reads : Bool) where
         ready_goes : (answer : Ready) → G idle (ready_answered h now heading left taken after answer)
         ready_goes asks.Now = (mine, g)
         ready_goes asks.NotYet = (mine, g)
-        ready_goes asks.Failed = set_failed_goes idle h.id 1009 (λ _. Write (Puts h now heading left taken false) after) (λ _. (mine, g))
+        ready_goes asks.Failed = fails 1009 h.id (λ _. Write (Puts h now heading left taken false) after) (λ _. (mine, g))
     block_goes (Empties h) after g = (tt, λ found _. then_ (Rattle.seat_programs.specs.Calls.EmptyHead (socket_id_slot h.id) h.last) _ found idle (split (found == h.last) after (TakeHome h.link (λ places. Write (Walks (record h { places = places }) found found 0) after)) (λ _. g) (λ _. λ places. (mine, g))))
     block_goes (Walks h top at after) last g = (
       tt,
@@ -305,7 +285,7 @@ module _ (requests : ℕ) (is_call : Asked → Type 0) (reads : Bool) where
     posts code ds x g = post_keeps (IsRefused id n code) ds id code n x (inr (inr (mine, (refl, refl)))) g
 
     gives_back : G idle (release (socket_id_slot socket) (λ _. next))
-    gives_back = release_goes idle (socket_id_slot socket) (λ _. next) (λ _. goes)
+    gives_back = through_release (G idle) words (socket_id_slot socket) (λ _. next) (λ _. goes)
 
     abbrev full : Program
     full = post id 3001 n (release (socket_id_slot socket) (λ _. next))
@@ -522,76 +502,43 @@ module _ (requests : ℕ) (is_call : Asked → Type 0) (reads : Bool) where
 
   -- ## Clients
 
-  open_goes : (more i o name k : ℕ) (next : Program) → G idle next → G idle (open_from more i o name k next)
-  open_goes zero i o name k next goes = (tt, λ a _. then_ (TakeLink k) _ a idle (tt, λ b _. then_ (FinishLink k) _ b idle (tt, λ d _. then_ (PutLink k) _ d idle (tt, λ e _. then_ (Rattle.seat_programs.specs.Calls.StoreOpen o NO_SOCKET) _ e idle goes))))
-  open_goes (suc more) i o name k next goes = (
-    tt,
-    λ found _. then_ (Rattle.seat_programs.specs.Calls.ClaimSlot i) _ found idle (split (found == 0) (make_socket o name k i next) (open_from more (i + 1) o name k next)
-        (λ _. (tt, λ a _. (idle, inl (inl refl, inr (refl, refl)), (tt, λ b _. (idle, inl (inl refl, inr (refl, refl)), (tt, λ d _. (idle, inl (inl refl, inr (refl, refl)), (tt, λ e _. (idle, inl (inl refl, inr (refl, refl)), (tt, λ f _. (idle, inl (inl refl, inr (refl, refl)), (tt, λ g _. (idle, inl (inl refl, inr (refl, refl)), goes)))))))))))))
-        (λ _. open_goes more (i + 1) o name k next goes)),
-  )
-
-  reach_goes : (name : ℕ) (unopened : Program) (held gone : ℕ → Program) → G idle unopened → ((id : ℕ) → G idle (held id)) → ((found : ℕ) → G idle (gone found)) → G idle (reach name unopened held gone)
-  reach_goes name unopened held gone none_ one others_ = (tt, λ word _. then_ (LoadName name) _ word idle (split (word == 0) unopened (address (word - 1) (held (word - 1)) gone) (λ _. none_) (λ _. address_goes idle (word - 1) (held (word - 1)) gone (one (word - 1)) others_)))
-
   claim_from_goes : (mine : reads ≡ false) (more q o id : ℕ) (bytes : List ℕ) (next : Program) → G idle next → G idle (claim_from more q o id bytes next)
-  claim_from_goes mine zero q o id bytes next goes = release_goes idle (socket_id_slot id) (λ _. Say o outcomes.Full next) (λ _. goes)
+  claim_from_goes mine zero q o id bytes next goes = through_release (G idle) words (socket_id_slot id) (λ _. Say o outcomes.Full next) (λ _. goes)
   claim_from_goes mine (suc more) q o id bytes next goes = (
     tt,
     λ found _. then_ (ClaimRequest id q) _ found idle (split (found % 2 == 0) (accept id q (found / 2) (heading_of o) bytes (release (socket_id_slot id) (λ _. Sent o next))) (claim_from more (q + 1) o id bytes next)
-        (λ _. accept_goes mine idle id q (found / 2) (heading_of o) bytes (release (socket_id_slot id) (λ _. Sent o next)) (inl (refl, refl)) (release_goes idle (socket_id_slot id) (λ _. Sent o next) (λ _. goes)))
+        (λ _. accept_goes mine idle id q (found / 2) (heading_of o) bytes (release (socket_id_slot id) (λ _. Sent o next)) (inl (refl, refl)) (through_release (G idle) words (socket_id_slot id) (λ _. Sent o next) (λ _. goes)))
         (λ _. claim_from_goes mine more (q + 1) o id bytes next goes)),
   )
 
   send_goes : (mine : reads ≡ false) (o name : ℕ) (bytes : List ℕ) (next : Program) → G idle next → G idle (send requests o name bytes next)
-  send_goes mine o name bytes next goes = reach_goes name (Say o outcomes.Unopened next) (λ id. start requests o id bytes next) (λ found. Say o (outcomes.Gone (record { 0 = found })) next) goes
+  send_goes mine o name bytes next goes = through_reach (G idle) words name (Say o outcomes.Unopened next) (λ id. start requests o id bytes next) (λ found. Say o (outcomes.Gone (record { 0 = found })) next) goes
       (λ id. (
         tt,
         λ found _. then_ (LookWord id) _ found idle (split (vref_version found % 2 == 0) (claim_from requests 0 o id bytes next) (release (socket_id_slot id) (λ _. Say o (outcomes.Gone (record { 0 = found })) next))
-            (λ _. claim_from_goes mine requests 0 o id bytes next goes) (λ _. release_goes idle (socket_id_slot id) (λ _. Say o (outcomes.Gone (record { 0 = found })) next) (λ _. goes))),
+            (λ _. claim_from_goes mine requests 0 o id bytes next goes) (λ _. through_release (G idle) words (socket_id_slot id) (λ _. Say o (outcomes.Gone (record { 0 = found })) next) (λ _. goes))),
       ))
       (λ found. goes)
 
-  fail_goes : (o name code : ℕ) (next : Program) → G idle next → G idle (fail o name code next)
-  fail_goes o name code next goes = reach_goes name (Say o outcomes.Unopened next) (λ id. set_failed id code (λ found. release (socket_id_slot id) (λ _. Say o (fail_outcome found) next))) (λ found. Say o (outcomes.Gone (record { 0 = found })) next) goes
-      (λ id. set_failed_goes idle id code (λ found. release (socket_id_slot id) (λ _. Say o (fail_outcome found) next)) (λ found. release_goes idle (socket_id_slot id) (λ _. Say o (fail_outcome found) next) (λ _. goes)))
-      (λ found. goes)
-
-  drop_goes : (o : ℕ) (h : Option ℕ) (next : Program) → G idle next → G idle (drop_of o h next)
-  drop_goes o None next goes = goes
-  drop_goes o (Some id) next goes = release_goes idle (socket_id_slot id) (λ freed. Say o (cond freed outcomes.Freed outcomes.Kept) next) (λ _. goes)
-
   operation_goes : (mine : reads ≡ false) (sizes : Sizes) → sizes.requests ≡ requests → (held : List HeldLife) (o : ℕ) (next : List HeldLife → Program) (op : Op) → OpCalls is_call op → ((hs : List HeldLife) → G idle (next hs)) → G idle (operation sizes held o next op)
-  operation_goes mine sizes size held o next (ops.Open name k) called goes = open_goes sizes.slots 0 o name k (next held) (goes held)
+  operation_goes mine sizes size held o next (ops.Open name k) called goes = through_open (G idle) words (others_make (G idle) others_go) sizes.slots 0 o name k (next held) (goes held)
   operation_goes mine sizes size held o next (ops.Send name bytes) called goes = subst (λ r. G idle (send r o name bytes (next held))) (sym size) (send_goes mine o name bytes (next held) (goes held))
   operation_goes mine sizes size held o next (ops.Call asked) called goes = subst (λ r. G idle (call r sizes.ids asked (next held))) (sym size) (call_goes mine sizes.ids asked called (next held) (goes held))
   operation_goes mine sizes size held o next (ops.Expire t) called goes = expire_goes mine o t (next held) (goes held)
   operation_goes mine sizes size held o next (ops.Join t) called goes = join_goes o t (next held) (goes held)
-  operation_goes mine sizes size held o next (ops.Hold name) called goes = reach_goes name (Say o outcomes.Unopened (next held)) (λ id. Say o outcomes.Held (next (held ++ (record { name = name; id = id }) ∷ []))) (λ found. Say o (outcomes.Gone (record { 0 = found })) (next held)) (goes held)
-      (λ id. goes (held ++ (record { name = name; id = id }) ∷ [])) (λ found. goes held)
-  operation_goes mine sizes size held o next (ops.Drop name) called goes = drop_goes o (held_under name held) (next (without_name name held)) (goes (without_name name held))
-  operation_goes mine sizes size held o next (ops.Fail name code) called goes = fail_goes o name code (next held) (goes held)
-
-  give_goes : (held : List HeldLife) → G idle (give_back held)
-  give_goes [] = tt
-  give_goes (h ∷ hs) = release_goes idle (socket_id_slot h.id) (λ _. give_back hs) (λ _. give_goes hs)
+  operation_goes mine sizes size held o next (ops.Hold name) called goes = through_hold (G idle) words o name _ (next held) (λ id. goes (held ++ (record { name = name; id = id }) ∷ [])) (goes held)
+  operation_goes mine sizes size held o next (ops.Drop name) called goes = through_drop_of (G idle) words o (held_under name held) (next (without_name name held)) (goes (without_name name held))
+  operation_goes mine sizes size held o next (ops.Fail name code) called goes = through_fail (G idle) words o name code (next held) (fails code) (goes held)
 
   pub client_goes : (mine : reads ≡ false) (sizes : Sizes) → sizes.requests ≡ requests → (held : List HeldLife) (ts : List Task) → AllByRecursion (λ (t : Task). OpCalls is_call t.op) ts → G idle (client_from sizes held ts)
-  client_goes mine sizes size held [] all = (mine, size, give_goes held)
+  client_goes mine sizes size held [] all = (mine, size, through_back (G idle) words tt held)
   client_goes mine sizes size held (t ∷ ts) all = (mine, size, operation_goes mine sizes size held t.number (λ held'. client_from sizes held' ts) t.op all.0 (λ hs. client_goes mine sizes size hs ts all.1))
 
   -- ## The ending
 
   pub ending_goes : (os : List ℕ) → G idle (ending_of os)
   ending_goes [] = tt
-  ending_goes (o ∷ os) = (
-    tt,
-    λ word _. then_ (Rattle.seat_programs.specs.Calls.LoadOpen o) _ word idle (split (word == 0) (ending_of os) (cond (word == NO_SOCKET) (ending_of os) (address (word - 1) (set_failed (word - 1) 1014 (λ _. release (socket_id_slot (word - 1)) (λ _. ending_of os))) (λ _. ending_of os)))
-        (λ _. ending_goes os)
-        (λ _. split (word == NO_SOCKET) (ending_of os) (address (word - 1) (set_failed (word - 1) 1014 (λ _. release (socket_id_slot (word - 1)) (λ _. ending_of os))) (λ _. ending_of os)) (λ _. ending_goes os)
-        (λ _. address_goes idle (word - 1) (set_failed (word - 1) 1014 (λ _. release (socket_id_slot (word - 1)) (λ _. ending_of os))) (λ _. ending_of os)
-        (set_failed_goes idle (word - 1) 1014 (λ _. release (socket_id_slot (word - 1)) (λ _. ending_of os)) (λ _. release_goes idle (socket_id_slot (word - 1)) (λ _. ending_of os) (λ _. ending_goes os))) (λ _. ending_goes os)))),
-  )
+  ending_goes (o ∷ os) = (tt, λ word _. then_ (LoadOpen o) _ word idle (through_ended (G idle) words (fails 1014) word (ending_of os) (ending_goes os)))
 
   -- ## Readers
 
@@ -624,10 +571,7 @@ module _ (requests : ℕ) (is_call : Asked → Type 0) (reads : Bool) where
     thrown_goes how = split (how.fault && nat_lt how.reading.total LIMIT) (Round (Discards how.reading.link how.reading.total) (λ _. Rest)) Rest (λ _. ((tt, tt), λ _ _ _. tt)) (λ _. tt)
 
     read_goes : (calls : List ℕ) (how : Ended) → (how.code ≡ 1014) ⊎ (how.code ≡ 2002) → G idle (read calls how)
-    read_goes calls how is = let last : Program = post_each calls how.reading.link how.code how.reading.kept (thrown_away how) in let goes : G idle last = each_goes calls how.reading.link how.code is how.reading.kept (thrown_away how) (thrown_goes how) in
-        split how.closed last (address how.reading.id (set_failed how.reading.id how.code (λ _. release (socket_id_slot how.reading.id) (λ _. last))) (λ _. last)) (λ _. goes)
-        (λ _. address_goes idle how.reading.id (set_failed how.reading.id how.code (λ _. release (socket_id_slot how.reading.id) (λ _. last))) (λ _. last)
-        (set_failed_goes idle how.reading.id how.code (λ _. release (socket_id_slot how.reading.id) (λ _. last)) (λ _. release_goes idle (socket_id_slot how.reading.id) (λ _. last) (λ _. goes))) (λ _. goes))
+    read_goes calls how is = through_read_end (G idle) words calls how (fails how.code) (each_goes calls how.reading.link how.code is how.reading.kept (thrown_away how) (thrown_goes how))
 
     pub reader_goes : (calls : List ℕ) (k o : ℕ) → G idle (reader calls k o)
     reader_goes calls k o = (

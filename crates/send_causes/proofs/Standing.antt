@@ -1,6 +1,6 @@
 -- Where the ending begins each seat is at rest, or waits for the end of a range, for the word of an `open`, or for bytes; and no id is locked.
 use Rattle.std.proofs.Common.{◌≡◌, ℕ, ◌<◌, ◌==◌, ◌⊎◌, inl, inr, ⊎_elim, not, eqb-true, eq-eqb, Bool, true, false, List, ◌++◌, length, get_or, replicate, sym, ap, ◌∙◌, subst}
-use Rattle.std.proofs.lemmas.Bool.{true≢false}
+use Rattle.std.proofs.lemmas.Bool.{true≢false, and_parts}
 use Rattle.std.specs.Prelude.{None, Some}
 use mathlib.Core.Option.{some, none, some-injective}
 use lib.ListN.{get_elem?}
@@ -19,7 +19,6 @@ use Rattle.seat_programs.specs.Tasks.{plan_of, id_plan_of}
 use Rattle.seat_programs.specs.Ticks.{Answer, Moment, IsAlwaysReady, quiet, waits, waits_at, waits_in}
 use Rattle.sock_runs.specs.Sound.{views_along}
 use Rattle.sock_runs.proofs.Along.{seat_rests, place_inside}
-use Rattle.sock_runs.proofs.Passes.{and_left, and_right}
 use Rattle.sock_runs.proofs.Waiting.{StandsAside}
 use Rattle.sock_runs.proofs.Whole.{views_played, rested_ahead}
 use Rattle.id_runs.specs.Held.{IdView}
@@ -36,8 +35,8 @@ use Rattle.send_causes.proofs.Takeless.{NoTakes, TakesNone}
 
 -- a range that has ended isn't sought
 not_sought : (sought : Sought) (w : Parts) → w.state ≡ 0 → is_sought sought w ≡ true → ⊥
-not_sought (First first) w ended is = true≢false (sym (and_right (w.first == first) (not (w.state == 0)) is) ∙ ap not (eq-eqb w.state 0 ended))
-not_sought (Version v) w ended is = true≢false (sym (and_left (not (w.state == 0)) _ is) ∙ ap not (eq-eqb w.state 0 ended))
+not_sought (First first) w ended is = true≢false (sym (and_parts (w.first == first) (not (w.state == 0)) is).1 ∙ ap not (eq-eqb w.state 0 ended))
+not_sought (Version v) w ended is = true≢false (sym (and_parts (not (w.state == 0)) _ is).0 ∙ ap not (eq-eqb w.state 0 ended))
 
 -- where a seat stands that makes no step
 pub data Stands (script : List Item) (c : Core) (program : Program) : Type 0 where
@@ -80,8 +79,8 @@ module _ (script : List Item) (made : AreMade script) (turns : List Turn) (core 
   by_head u seat (Reads r) next answer e g waits_ = reading r next e
   by_head u seat (Discards k total) next answer e g waits_ = discarding k total next e
   by_head u seat (Locks s sought None) next answer e g waits_ = let w : Parts = id_word_of rested s in absurd (⊎_elim
-      (λ ended. not_sought sought (id_word_of rested s) ended (and_left (is_sought sought (id_word_of rested s)) _ waits_))
-      (λ open_. true≢false (sym (and_right (is_sought sought (id_word_of rested s)) _ waits_) ∙ ap not (eq-eqb (id_word_of rested s).state 1 open_)))
+      (λ ended. not_sought sought (id_word_of rested s) ended (and_parts (is_sought sought (id_word_of rested s)) _ waits_).0)
+      (λ open_. true≢false (sym (and_parts (is_sought sought (id_word_of rested s)) _ waits_).1 ∙ ap not (eq-eqb (id_word_of rested s).state 1 open_)))
       (unlocked s g.0.1))
   by_head u seat (Locks s sought (Some word)) next answer e g waits_ = absurd (true≢false (sym waits_))
   by_head u seat _ next answer e g waits_ = absurd (true≢false (sym waits_))

@@ -28,8 +28,8 @@ use Rattle.sock_runs.proofs.Cases.{ComesNext, tick_keeps_marks}
 use Rattle.sock_runs.proofs.Rounds.{begins_round}
 use Rattle.sock_runs.proofs.Passes.{goes_round}
 use Rattle.sock_runs.proofs.Ticks.{sound_ticks}
-use Rattle.sock_runs.proofs.Through.{PassesPlain, PassesFails, PassesSends, is_plain_aside, is_of_errors, at_steps_plain, at_steps_sends, through_set_failed, through_fail}
-use Rattle.sock_runs.proofs.ThroughLoops.{through_posts, through_unlocks, through_decides, through_locks, through_joins}
+use Rattle.sock_runs.proofs.Through.{PassesPlain, PassesFails, PassesSends, is_plain_aside, by_errors, locked, at_steps_plain, at_steps_sends, through_set_failed, through_fail}
+use Rattle.sock_runs.proofs.ThroughLoops.{through_errors, through_locks, through_joins}
 use Rattle.sock_runs.proofs.ThroughSends.{through_block, through_send, through_ended}
 use Rattle.sock_runs.proofs.ThroughCalls.{through_attempt, through_call, through_retry, through_join}
 use Rattle.sock_runs.proofs.ThroughClients.{through_open, through_back, through_operation}
@@ -63,18 +63,11 @@ module _ (J : Type 0) where
   takes_aside (TakeBytes k room) next is r = absurd (true≢false (sym is))
   takes_aside step next is r = r
 
-  takes_errors : (head : Head) (next : Exit head → Program) → is_of_errors head ≡ true → ((exit : Exit head) → NoTakes (next exit)) → NoTakes (Round head next)
-  takes_errors (Joins id) next is r = absurd (true≢false (sym is))
-  takes_errors (Opens o) next is r = absurd (true≢false (sym is))
-  takes_errors (Reads r) next is x = absurd (true≢false (sym is))
-  takes_errors (Discards k total) next is r = absurd (true≢false (sym is))
-  takes_errors head next is r = r
-
   takes_plain : PassesPlain NoTakes
-  takes_plain = at_steps_plain asks tt (λ call next is r. r) (λ behind r. r) takes_aside takes_errors (λ id w next r. r)
+  takes_plain = at_steps_plain asks tt (λ call next is r. r) (λ behind r. r) takes_aside (by_errors NoTakes (λ id e w next r. r) (λ i w advance next r. r) (λ id asked w e next r. r)) (λ id w next r. r)
 
   takes_fails : (code : ℕ) → PassesFails NoTakes code
-  takes_fails = through_set_failed NoTakes takes_plain (λ call next is r. r)
+  takes_fails = through_set_failed NoTakes takes_plain.words (λ call next is r. r)
 
   takes_sends : PassesSends NoTakes
   takes_sends = at_steps_sends asks tt takes_plain (λ call next is r. r) (λ behind r. r) (λ behind r. r) (λ behind r. r) (takes_fails 1009)
@@ -86,29 +79,29 @@ module _ (J : Type 0) where
 
   takes_operation : (sizes : Sizes) (held : List HeldLife) (o : ℕ) (next : List HeldLife → Program) (op : Op) → ((t : ℕ) → op ≡ ops.Join t → J) → ((h : List HeldLife) → NoTakes (next h)) → NoTakes (operation sizes held o next op)
   takes_operation sizes held o next op may after = through_operation NoTakes takes_plain sizes held o next op after (record {
-    opens = λ name k e. through_open NoTakes takes_plain (λ call next is r. r) sizes.slots 0 o name k (next held) (after held);
+    opens = λ name k e. through_open NoTakes takes_plain.words (λ call next is r. r) sizes.slots 0 o name k (next held) (after held);
     sends = λ name bytes e. through_send NoTakes takes_sends sizes.requests o name bytes (next held) (after held);
     calls = λ asked e. through_call NoTakes takes_plain sizes.requests asked (next held) (after held) (λ id socket. takes_attempt sizes.requests asked id 0 socket (next held) (after held)) sizes.ids;
     joins = λ t e. through_join NoTakes takes_plain (λ id next r. (may t e, r)) o t (next held) (after held);
-    fails = λ name code e. through_fail NoTakes takes_plain o name code (next held) (takes_fails code) (after held);
+    fails = λ name code e. through_fail NoTakes takes_plain.words o name code (next held) (takes_fails code) (after held);
   })
 
   pub client_takes : (sizes : Sizes) (ts : List Task) → ((t : Task) → lists.Has ts t → (o : ℕ) → t.op ≡ ops.Join o → J) → (held : List HeldLife) → NoTakes (client_from sizes held ts)
-  client_takes sizes [] may held = through_back NoTakes takes_plain tt held
+  client_takes sizes [] may held = through_back NoTakes takes_plain.words tt held
   client_takes sizes (t ∷ ts) may held = takes_operation sizes held t.number (λ h. client_from sizes h ts) t.op (may t (lists.has_first t ts)) (λ h. client_takes sizes ts (λ x has. may x (lists.has_later t ts x has)) h)
 
   pub ending_takes : (os : List ℕ) → NoTakes (ending_of os)
   ending_takes [] = tt
-  ending_takes (o ∷ os) = λ word. through_ended NoTakes takes_plain (takes_fails 1014) word (ending_of os) (ending_takes os)
+  ending_takes (o ∷ os) = λ word. through_ended NoTakes takes_plain.words (takes_fails 1014) word (ending_of os) (ending_takes os)
 
   -- ## Along ticks
 
   takes_round : (head : Head) (next : Exit head → Program) → NoTakes (Round head next) → NoTakes (round head next)
-  takes_round (Posts id e w) next x = through_posts NoTakes takes_plain id e w next x
-  takes_round (Unlocks i w advance) next x = through_unlocks NoTakes takes_plain i w advance next x
-  takes_round (Decides id asked w e) next x = through_decides NoTakes takes_plain id asked w e next x
-  takes_round (Locks i sought w) next x = through_locks NoTakes takes_plain (λ i sought w next r. r) i sought w next x
-  takes_round (Joins id) next x = through_joins NoTakes takes_plain (λ id next r. (x.0, r)) id next x.1
+  takes_round (Posts id e w) next x = through_errors NoTakes takes_plain.errors (Posts id e w) next refl x
+  takes_round (Unlocks i w advance) next x = through_errors NoTakes takes_plain.errors (Unlocks i w advance) next refl x
+  takes_round (Decides id asked w e) next x = through_errors NoTakes takes_plain.errors (Decides id asked w e) next refl x
+  takes_round (Locks i sought w) next x = through_locks NoTakes (locked takes_plain.errors) (λ i sought w next r. r) i sought w next x
+  takes_round (Joins id) next x = through_joins NoTakes (locked takes_plain.errors) (λ id next r. (x.0, r)) id next x.1
   takes_round _ next x = absurd x
 
   takes_first : (program : Program) → NoTakes program → NoTakes (first_step program)

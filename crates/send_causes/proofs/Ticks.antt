@@ -69,6 +69,25 @@ waits_set f none_ [] i x = omega (arith, none_)
 waits_set f none_ (w ∷ ws) zero x = omega arith
 waits_set f none_ (w ∷ ws) (suc i) x = let r = waits_set f none_ ws i x in omega (arith, r)
 
+-- a state that changed, and with it the retries that wait of its seat
+pub waiting_set : {A : Type 0} (f : A → ℕ) (retry : Retry → ℕ) (ss : List A) (i : ℕ) (s t u : A) (waiting old : List (List Retry)) (rest : List Retry) → get_elem? ss i ≡ some s → waiting ≡ old → f t + total retry rest ≤ f u + total retry (waiting_at waiting i)
+    → (total f (set ss i t) + total (total retry) (set waiting i rest)) + f s ≤ (total f ss + total (total retry) old) + f u
+waiting_set f retry ss i s t u waiting old rest at kept fewer = let one = total-set f ss i s t at in let two = waits_set (total retry) refl waiting i rest in let three = ap (total (total retry)) kept in omega (arith, one, two, three, fewer)
+
+-- so much there was, and no more came than is new: at most one, where nothing comes anew to what was there; and so what there is was there or is new
+pub once_more : (old new all : ℕ) → all ≤ old + new → old ≤ 1 → (0 < new → (new ≤ 1) × (old ≡ 0)) → all ≤ 1
+once_more old new all bound once fresh = dite (ℕ_discrete new 0) (λ z. omega (arith, bound, once, z)) (λ ne. let f = fresh (omega (arith, ne)) in let one = f.0 in let none_ = f.1 in omega (arith, bound, one, none_))
+
+pub old_or_new : {M : Type 0} (old new all : ℕ) → all ≤ old + new → (0 < old → M) → (0 < new → M) → 0 < all → M
+old_or_new old new all bound there fresh some_ = dite (ℕ_discrete new 0) (λ z. there (omega (arith, bound, z, some_))) (λ ne. fresh (omega (arith, ne)))
+
+-- what is so of two lists, place by place, is so where it is of what is put in
+pub pairs_set : {A B : Type 0} (R : B → A → Type 0) (xs : List A) (ys : List B) (i : ℕ) (x : A) (y : B) → ((j : ℕ) (a : A) (b : B) → get_elem? xs j ≡ some a → get_elem? ys j ≡ some b → R b a) → R y x
+    → (j : ℕ) (a : A) (b : B) → get_elem? (set xs i x) j ≡ some a → get_elem? (set ys i y) j ≡ some b → R b a
+pairs_set R xs ys i x y there new j a b at_a at_b = ⊎_elim
+    (λ p. ⊎_elim (λ q. subst (R b) p.1 (subst (λ z. R z x) q.1 new)) (λ q. absurd (q.0 p.0)) (at_set ys i j y b at_b))
+    (λ p. ⊎_elim (λ q. absurd (p.0 q.0)) (λ q. there j a b p.1 q.1) (at_set ys i j y b at_b)) (at_set xs i j x a at_a)
+
 -- ## Retries that are kept and taken up
 
 pub few_more : (ws : List Retry) (r : Retry) → AreFewTries ws → r.attempt ≤ 6 → AreFewTries (ws ++ r ∷ [])
@@ -192,27 +211,22 @@ module _ (p : Plan) (q : IdPlan) (narrow : q.slots ≤ 65536) (is_call : Asked �
       next_seat = record { program = next_step (resolved (waiting_at a.waiting i) x); hand = hand }
 
       bound : (id n : ℕ) → times_of id n (with_seat i x hand ws hs (record c { calls = a })) (set vs i w) (set ts i r.trial) ≤ times_of id n c vs ts + g.new id n
-      bound id n = let one = total-set (of_trial id n) ts i t r.trial at_trial in let two = total-set (of_view id n) vs i v w at_view in
-          let three = waits_set (total (of_retry id n)) refl a.waiting i (still_waiting (waiting_at a.waiting i) x) in
-          let four : total (total (of_retry id n)) a.waiting ≡ total (total (of_retry id n)) c.calls.waiting = ap (total (total (of_retry id n))) g.kept in
-          let five = r.fewer id n in let six = g.fewer id n in omega (arith, one, two, three, four, five, six)
+      bound id n = let one = waiting_set (of_trial id n) (of_retry id n) ts i t r.trial u a.waiting c.calls.waiting (still_waiting (waiting_at a.waiting i) x) at_trial g.kept (r.fewer id n) in
+          let two = total-set (of_view id n) vs i v w at_view in let three = g.fewer id n in omega (arith, one, two, three)
 
       goes_on : After (with_seat i x hand ws hs (record c { calls = a })) (set vs i w)
       goes_on = (
         set ts i r.trial,
         record {
-          once = λ id n. dite (ℕ_discrete (g.new id n) 0) (λ z. let b = bound id n in let o = law.once id n in omega (arith, b, z, o))
-              (λ ne. let b = bound id n in let f = g.fresh id n (omega (arith, ne)) in let one = f.0 in let none_ = f.1 in omega (arith, b, one, none_));
-          made = λ id n some_. dite (ℕ_discrete (g.new id n) 0) (λ z. let b = bound id n in g.words id n (law.made id n (omega (arith, b, z, some_)))) (λ ne. let f = g.fresh id n (omega (arith, ne)) in (f.2.0, inr f.2.1));
+          once = λ id n. once_more _ (g.new id n) _ (bound id n) (law.once id n) (λ more. let f = g.fresh id n more in (f.0, f.1));
+          made = λ id n. old_or_new _ (g.new id n) _ (bound id n) (λ some_. g.words id n (law.made id n some_)) (λ more. let f = g.fresh id n more in (f.2.0, inr f.2.1));
           views = λ j y e. ⊎_elim (λ b. subst (ViewFits is_call ids p) b.1 g.view) (λ b. law.views j y b.1) (at_set vs i j w y e);
           trials = λ j y e. ⊎_elim (λ b. subst (TrialFits ids) b.1 (r.fits g.fits)) (λ b. law.trials j y b.1) (at_set ts i j r.trial y e);
           calls = g.calls;
           each = length-set ts i r.trial ∙ (law.each ∙ sym (length-set c.seats i next_seat));
-          programs = λ j s' y es et. ⊎_elim
-              (λ b. ⊎_elim (λ d. subst (λ (z : SeatState). Labels is_call y z.program) b.1 (subst (λ z. Labels is_call z next_seat.program) d.1 r.labels)) (λ d. absurd (d.0 b.0)) (at_set ts i j r.trial y et))
-              (λ b. ⊎_elim (λ d. absurd (b.0 d.0)) (λ d. law.programs j s' y b.1 d.1) (at_set ts i j r.trial y et)) (at_set c.seats i j next_seat s' es);
+          programs = pairs_set (λ (y : Trial) (z : SeatState). Labels is_call y z.program) c.seats ts i next_seat r.trial law.programs r.labels;
         },
-        λ id n some_. dite (ℕ_discrete (g.new id n) 0) (λ z. inl (let b = bound id n in omega (arith, b, z, some_))) (λ ne. inr (g.fresh id n (omega (arith, ne))).2),
+        λ id n. old_or_new _ (g.new id n) _ (bound id n) (λ some_. inl some_) (λ more. inr (g.fresh id n more).2),
       )
 
     fits_view : ViewFits is_call ids p v

@@ -8,16 +8,18 @@ use Rattle.brpc_model.specs.Causes.{reading_limit}
 use Rattle.brpc_model.specs.Frame.{frame_bytes}
 use Rattle.brpc_model.specs.Reply.{reply_frames, replies}
 use Rattle.rpc_server.specs.Held.{Held, unused}
-use Rattle.rpc_server.specs.Feeding.{has_fault, Replied}
+use Rattle.rpc_server.specs.Feeding.{has_fault}
 use Rattle.sock_io.specs.declared.link.Take.{Take}
 use Rattle.sock_io.specs.declared.link.Take.TheVariants as take_
 use Rattle.sock_io.specs.Causes.{Rose}
 use Rattle.sock_io.specs.Link.{OutState, InState, IsUnused, IsTakeCount, TakeStep, connection_of, given_of, taken_count}
+use Rattle.loop_link.specs.Serving.{Follows}
+use Rattle.loop_link.proofs.Following.{follows_next}
 use Rattle.serve_port.specs.declared.service.Service.{Service}
 use Rattle.serve_port.specs.declared.service.ServiceEnd.{ServiceEnd}
 use Rattle.serve_port.specs.declared.service.ServiceEnd.TheVariants as end_
 use Rattle.serve_port.specs.Serving.{AllAnswered, NoneFailed, EndsBy, Serves}
-use Rattle.serve_port.specs.Steps.{Follows, GoesOn, AnswersPiece}
+use Rattle.serve_port.specs.Steps.{GoesOn, AnswersPiece}
 
 -- ## Bytes that are told
 
@@ -32,16 +34,6 @@ none_told : (o p : Option (List ℕ)) (a : List ℕ) → p ≡ append_known o []
 none_told o p a e h = more_told o p a [] a e (append-nil a) h
 
 -- ## The server
-
-follows_next : (fed piece : List ℕ) (c c' : Held) (before now : List ℕ) → Follows fed c → Replied c piece c' before now → Follows (fed ++ piece) c'
-follows_next fed piece c c' before now f r = record {
-  made = omega (arith, r.counted, f.made, ap length (f.goes_on piece), length-append (reply_frames fed) (reply_frames (c.bytes ++ piece)));
-  goes_on = λ more.
-      ap reply_frames (append_assoc fed piece more) ∙ f.goes_on (piece ++ more) ∙ ap (λ l. reply_frames fed ++ l) (r.goes_on more)
-      ∙ sym (append_assoc (reply_frames fed) (reply_frames (c.bytes ++ piece)) (reply_frames (c'.bytes ++ more)))
-      ∙ ap (λ l. l ++ reply_frames (c'.bytes ++ more)) (sym (f.goes_on piece));
-  faults = λ more. ap has_fault (append_assoc fed piece more) ∙ f.faults (piece ++ more) ∙ r.faults more;
-}
 
 replies_next : (fed piece : List ℕ) (c : Held) → Follows fed c → replies (fed ++ piece) ≡ replies fed ++ replies (c.bytes ++ piece)
 replies_next fed piece c f = ap (flat_map frame_bytes) (f.goes_on piece) ∙ flat_map-append frame_bytes (reply_frames fed) (reply_frames (c.bytes ++ piece))
@@ -181,44 +173,33 @@ answered left c out inn k = record { put_is = refl; frames_are = k.follows.made 
 few_came : (left : ℕ) (c : Held) (out : OutState) (inn : InState) → (k : Talks left c out inn) → length k.came ≤ reading_limit
 few_came left c out inn k = let s = k.sum in omega (arith, s)
 
-pub at_limit : (left : ℕ) (c : Held) (out : OutState) (inn : InState) → Talks left c out inn → left ≡ 0 → Serves (record { end = end_.AtLimit; frames = c.made }) (connection_of out inn)
-at_limit left c out inn k e = record {
+-- all that came was answered, and what came behind the last take is nothing
+ends_here : (left : ℕ) (c : Held) (out : OutState) (inn inn' : InState) (e : ServiceEnd) → (k : Talks left c out inn) → inn'.gave ≡ inn.gave → IfSome inn'.gave_bytes (λ x. x ≡ k.came)
+    → EndsBy e k.came (replies k.came) c.made (connection_of out inn') → Serves (record { end = e; frames = c.made }) (connection_of out inn')
+ends_here left c out inn inn' e k count gave ended = record {
   came = k.came;
   put = replies k.came;
   left = [];
-  gave = k.gave;
-  count = k.count;
+  gave = gave;
+  count = count ∙ k.count;
   few = few_came left c out inn k;
   took = k.took;
   begins = append-nil (replies k.came);
-  ended = (answered left c out inn k, k.fine, (let s = k.sum in omega (arith, s, e)), record { puts = k.puts; takes = k.takes });
+  ended = ended;
 }
+
+pub at_limit : (left : ℕ) (c : Held) (out : OutState) (inn : InState) → Talks left c out inn → left ≡ 0 → Serves (record { end = end_.AtLimit; frames = c.made }) (connection_of out inn)
+at_limit left c out inn k e = ends_here left c out inn inn end_.AtLimit k refl k.gave (answered left c out inn k, k.fine, (let s = k.sum in omega (arith, s, e)), record { puts = k.puts; takes = k.takes })
 
 pub at_end : (left : ℕ) (c : Held) (out : OutState) (inn inn' : InState) (room : List ℕ) (t : Take) → Talks left c out inn → TakeStep inn inn' room t → t ≡ take_.End → Serves (record { end = end_.AtEnd; frames = c.made }) (connection_of out inn')
-at_end left c out inn inn' room t k s e = let step = subst (TakeStep inn inn' room) e s in record {
-  came = k.came;
-  put = replies k.came;
-  left = [];
-  gave = none_told inn.gave_bytes inn'.gave_bytes k.came step.bytes k.gave;
-  count = omega (arith, step.gave, k.count);
-  few = few_came left c out inn k;
-  took = k.took;
-  begins = append-nil (replies k.came);
-  ended = (answered left c out inn k, k.fine, step.end.0 refl, record { puts = k.puts; takes = step.kept (λ x. absurd (cc)) ∙ k.takes });
-}
+at_end left c out inn inn' room t k s e = let step = subst (TakeStep inn inn' room) e s in
+    ends_here left c out inn inn' end_.AtEnd k (omega (arith, step.gave)) (none_told inn.gave_bytes inn'.gave_bytes k.came step.bytes k.gave)
+    (answered left c out inn k, k.fine, step.end.0 refl, record { puts = k.puts; takes = step.kept (λ x. absurd (cc)) ∙ k.takes })
 
 pub take_failed : (left : ℕ) (c : Held) (out : OutState) (inn inn' : InState) (room : List ℕ) (t : Take) → Talks left c out inn → TakeStep inn inn' room t → t ≡ take_.Failed → Serves (record { end = end_.TakeFailed; frames = c.made }) (connection_of out inn')
-take_failed left c out inn inn' room t k s e = let step = subst (TakeStep inn inn' room) e s in record {
-  came = k.came;
-  put = replies k.came;
-  left = [];
-  gave = none_told inn.gave_bytes inn'.gave_bytes k.came step.bytes k.gave;
-  count = omega (arith, step.gave, k.count);
-  few = few_came left c out inn k;
-  took = k.took;
-  begins = append-nil (replies k.came);
-  ended = (answered left c out inn k, k.fine, (let one : 1 ≤ inn'.faults = subst (λ n. Rose n inn'.faults) k.takes (step.failed refl) in omega (arith, one)), k.puts);
-}
+take_failed left c out inn inn' room t k s e = let step = subst (TakeStep inn inn' room) e s in
+    ends_here left c out inn inn' end_.TakeFailed k (omega (arith, step.gave)) (none_told inn.gave_bytes inn'.gave_bytes k.came step.bytes k.gave)
+    (answered left c out inn k, k.fine, (let one : 1 ≤ inn'.faults = subst (λ n. Rose n inn'.faults) k.takes (step.failed refl) in omega (arith, one)), k.puts)
 
 -- finishing the writing half changes nothing of that
 pub finished_same : (s : Service) (out out' : OutState) (inn : InState) → out'.took ≡ out.took → out'.faults ≡ out.faults → Serves s (connection_of out inn) → Serves s (connection_of out' inn)

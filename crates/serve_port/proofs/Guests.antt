@@ -6,9 +6,10 @@ use Rattle.std.proofs.lemmas.List.Elements.{All-nil, All-cons, All-map, All-weak
 use Rattle.sock_io.specs.declared.link.OpenFault.{OpenFault}
 use Rattle.sock_io.specs.declared.link.OpenFault.TheVariants as open_
 use Rattle.sock_io.specs.Causes.{Rose}
+use Rattle.sock_io.specs.Link.{LinkerState}
 use Rattle.serve_port.specs.declared.service.ServeFault.{ServeFault}
 use Rattle.serve_port.specs.declared.service.ServeFault.TheVariants as fault_
-use Rattle.serve_port.specs.Serving.{LinkerState, ServedConnection, IsServed, AnswersBy, ServesAll}
+use Rattle.serve_port.specs.Serving.{ServedConnection, IsServed, AnswersBy, ServesConnections}
 use Rattle.serve_port.specs.Steps.{AcceptedBy, AcceptsRest, AcceptsBeside}
 
 module _ {G : Type 0} (served : G → Type 0) where
@@ -80,7 +81,7 @@ module _ {G : Type 0} (served : G → Type 0) (f : G → ServedConnection) (is :
 
   pub all_served : (count : ℕ) (old mid new : LinkerState) (kept turned : List G) (r : Result (Unit {0}) OpenFault) (result : Result ℕ ServeFault) → AcceptsRest served count old mid [] kept r → turned ≡ reverse kept
       → new ≡ record mid { done = mid.done ++ map (λ (s : ServedConnection). s.connection) (map f turned) }
-      → (AcceptedBy count (length (map f turned)) old.faults mid.faults r → AnswersBy count old.faults mid.faults (map f turned) result) → ServesAll count old new result
+      → (AcceptedBy count (length (map f turned)) old.faults mid.faults r → AnswersBy count old.faults mid.faults (map f turned) result) → ServesConnections count old new result
   all_served count old mid new kept turned r result a t n answers =
       let same : turned ≡ a.news = t ∙ in_order served count old mid kept r a in
       let long : length (map f turned) ≡ length a.news = length-map turned f ∙ ap length same in
@@ -97,7 +98,7 @@ module _ {G : Type 0} (served : G → Type 0) (f : G → ServedConnection) (is :
       }
 
 -- none was accepted
-pub none_served : (count : ℕ) (s : LinkerState) → ServesAll count s s (Err fault_.NoMemory)
+pub none_served : (count : ℕ) (s : LinkerState) → ServesConnections count s s (Err fault_.NoMemory)
 none_served count s = record {
   served = [];
   few = omega arith;

@@ -2,12 +2,10 @@
 use Rattle.std.specs.Prelude.{ℕ, ◌≡◌, ◌+◌, ◌<◌, ◌≤◌, ◌++◌, Bool, true, false, List, length, map, sum, All, IfSome, Result, Ok, Err}
 use Rattle.std.specs.List.{list_all, list_any}
 use Rattle.brpc_model.specs.Causes.{reading_limit}
-use Rattle.brpc_model.specs.Link.{LinkEnd}
 use Rattle.brpc_model.specs.Reply.{reply_frames, replies}
 use Rattle.rpc_server.specs.Feeding.{has_fault}
 use Rattle.sock_io.specs.Causes.{Rose}
-use Rattle.sock_io.specs.declared.link.LinkSpec.{LinkSpec}
-use Rattle.sock_io.specs.Link.{ConnectionEnd}
+use Rattle.sock_io.specs.Link.{ConnectionEnd, LinkerState}
 use Rattle.serve_port.specs.declared.service.Service.{Service}
 use Rattle.serve_port.specs.declared.service.ServiceEnd.{ServiceEnd}
 use Rattle.serve_port.specs.declared.service.ServiceEnd.TheVariants as end_
@@ -97,17 +95,8 @@ AnswersBy count before now served (Err fault_.ConnectionFailed) = (any_failing s
 AnswersBy count before now served (Err fault_.FaultyFrame) = (any_failing served ≡ false) × (any_faulty served ≡ true) × (now ≡ before)
 AnswersBy count before now served (Err fault_.NoMemory) = (any_failing served ≡ false) × (any_faulty served ≡ false) × (now ≡ before)
 
--- what is told of a linker
-pub record LinkerState : Type 0 where
-  pub asked : List LinkSpec
-  pub accepted : ℕ
-  pub back : List LinkEnd
-  pub done : List ConnectionEnd
-  pub faults : ℕ
-  pub always_ready : Bool
-
 -- Of so many connections these were accepted, in this order; each was served, and all were given back, in the same order. Of the links nothing changed.
-pub record ServesAll (count : ℕ) (old new : LinkerState) (result : Result ℕ ServeFault) : Type 0 where
+pub record ServesConnections (count : ℕ) (old new : LinkerState) (result : Result ℕ ServeFault) : Type 0 where
   pub served : List ServedConnection
   pub few : length served ≤ count
   pub each : All IsServed served

@@ -1,19 +1,19 @@
 -- The steps of a service: bytes that are put whole, and a piece that is answered.
 use Rattle.std.specs.Prelude.{ℕ, ◌≡◌, ◌+◌, ◌≤◌, Bool, true, false, List, [], ◌∷◌, ◌++◌, length, reverse, All, IfSome, Result, Ok, Err, OnOk, OnErr}
 use Rattle.std.specs.Io.KnownBytes.{append_known}
-use Rattle.brpc_model.specs.Reply.{reply_frames, replies}
+use Rattle.brpc_model.specs.Reply.{replies}
 use Rattle.rpc_server.specs.Held.{Held}
-use Rattle.rpc_server.specs.Feeding.{has_fault, Replied}
 use Rattle.sock_io.specs.declared.link.OpenFault.{OpenFault}
 use Rattle.sock_io.specs.declared.link.OpenFault.TheVariants as open_
 use Rattle.sock_io.specs.declared.stream.Failed.{Failed}
 use Rattle.sock_io.specs.Causes.{Rose}
-use Rattle.sock_io.specs.Link.{OutState, InState, connection_of}
+use Rattle.sock_io.specs.Link.{OutState, InState, LinkerState, connection_of}
+use Rattle.loop_link.specs.Serving.{Goes}
 use Rattle.serve_port.specs.declared.service.ServiceEnd.{ServiceEnd}
 use Rattle.serve_port.specs.declared.service.ServiceEnd.TheVariants as end_
 use Rattle.serve_port.specs.declared.connection.Connection.{Connection}
 use Rattle.serve_port.specs.declared.tally.Tally.{Tally}
-use Rattle.serve_port.specs.Serving.{ServedConnection, LinkerState, Serves, any_failing, any_faulty, all_whole, frames_of}
+use Rattle.serve_port.specs.Serving.{ServedConnection, Serves, any_failing, any_faulty, all_whole, frames_of}
 
 -- ## Putting
 
@@ -29,21 +29,10 @@ pub record Puts (old new : OutState) (bytes : List ℕ) (result : Result (Unit {
 
 -- ## A piece
 
--- a connection that was fed these bytes: the replies that it made, and those to what it is fed then; and whether there is a fault
-pub record Follows (fed : List ℕ) (c : Held) : Type 0 where
-  pub made : c.made ≡ length (reply_frames fed)
-  pub goes_on : (more : List ℕ) → reply_frames (fed ++ more) ≡ reply_frames fed ++ reply_frames (c.bytes ++ more)
-  pub faults : (more : List ℕ) → has_fault (fed ++ more) ≡ has_fault (c.bytes ++ more)
-
--- a piece was fed, and met a frame fault where that says so
-pub record Fed (c : Held) (piece : List ℕ) (c' : Held) (before now : List ℕ) (faulty : Bool) : Type 0 where
-  pub replied : Replied c piece c' before now
-  pub fault : faulty ≡ has_fault (c.bytes ++ piece)
-
 -- why the service goes on or ends behind a piece
 abbrev pub GoesOn : OutState → Held → List ℕ → Result (Unit {0}) ServiceEnd → OutState → Held → (left : List ℕ) → Type 0
-GoesOn out c piece (Ok _) out' c' left = Fed c piece c' [] (replies (c.bytes ++ piece)) false × (left ≡ []) × (out'.faults ≡ out.faults)
-GoesOn out c piece (Err end_.AtFault) out' c' left = Fed c piece c' [] (replies (c.bytes ++ piece)) true × (left ≡ []) × (out'.faults ≡ out.faults)
+GoesOn out c piece (Ok _) out' c' left = Goes c piece c' [] (replies (c.bytes ++ piece)) false × (left ≡ []) × (out'.faults ≡ out.faults)
+GoesOn out c piece (Err end_.AtFault) out' c' left = Goes c piece c' [] (replies (c.bytes ++ piece)) true × (left ≡ []) × (out'.faults ≡ out.faults)
 GoesOn out c piece (Err end_.PutFailed) out' c' left = Rose out.faults out'.faults
 GoesOn out c piece (Err end_.NoMemory) out' c' left = out'.faults ≡ out.faults
 GoesOn out c piece (Err other) out' c' left = ⊥

@@ -1,30 +1,15 @@
 // A piece that came is answered.
-ghost use Rattle.std.specs.Prelude.{◌≡◌, false, IfOk};
-ghost use Rattle.serve_port.specs.Steps.{AnswersPiece, Fed};
+ghost use Rattle.std.specs.Prelude.{◌≡◌, false};
+ghost use Rattle.serve_port.specs.Steps.{AnswersPiece};
 
 use crate::putting::put_all;
 use crate::service::ServiceEnd;
 use io_buf::{BlockPool, IoBuf};
-use rpc_server::{Conn, ConnFault};
-use sock_io::{NoMemory, Out};
+use loop_link::feeds;
+use rpc_server::Conn;
+use sock_io::Out;
 use std::alloc::Global;
 use std::sync::Wait;
-
-/// Feeds the server, and answers whether it met a frame fault.
-fn feed(
-    conn: &mut Conn,
-    pool: &mut BlockPool,
-    piece: &[u8],
-    replies: &mut IoBuf,
-) -> Result<bool, NoMemory>
-    ensures { IfOk result (λ faulty. Fed conn.old piece.now conn.new replies.old.items replies.new.items faulty) }
-{
-    match conn.feed(pool, piece, replies) {
-        Ok(()) => Ok(false),
-        Err(ConnFault::Frame(_)) => Ok(true),
-        Err(ConnFault::NoMemory) => Err(NoMemory),
-    }
-}
 
 /// Feeds the server what came, and puts the replies to the frames that became whole.
 pub fn answer<R: Wait, O: Out>(
@@ -39,7 +24,7 @@ pub fn answer<R: Wait, O: Out>(
     ensures { AnswersPiece (O.state out.old) conn.old piece.now result (O.state out.new) conn.new }
 {
     let mut replies = IoBuf::new(alloc);
-    let Ok(faulty) = feed(conn, pool, piece, &mut replies) else {
+    let Ok(faulty) = feeds(conn, pool, piece, &mut replies) else {
         return Err(ServiceEnd::NoMemory);
     };
     if put_all(rt, pool, replies, out).is_err() {

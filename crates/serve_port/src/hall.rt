@@ -1,8 +1,7 @@
 // Where connections are accepted, and kept once they were served.
 ghost use Rattle.std.specs.Prelude.{◌≡◌, ◌+◌, ◌<◌, ◌++◌, ◌∷◌, [], length, IfOk, OnErr, IsErrOf, vec_capacity};
 ghost use Rattle.sock_io.specs.Causes.{Rose};
-ghost use Rattle.sock_io.specs.Link.{IsUnused};
-ghost use Rattle.serve_port.specs.Serving.{LinkerState};
+ghost use Rattle.sock_io.specs.Link.{IsUnused, LinkerState};
 
 use crate::connection::Connection;
 use crate::guest::Guest;
@@ -11,7 +10,7 @@ use sock_io::{Linker, OpenFault};
 /// Where guests come in, and stay once they were served.
 pub trait Door {
     ghost use Rattle.std.specs.Prelude.{ℕ, List};
-    ghost use Rattle.serve_port.specs.Serving.{LinkerState};
+    ghost use Rattle.sock_io.specs.Link.{LinkerState};
 
     type G: Guest + Send;
 

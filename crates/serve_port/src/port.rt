@@ -1,6 +1,6 @@
 // A port at which connections are served.
 ghost use Rattle.std.specs.Prelude.{◌≡◌, ◌+◌, ◌≤◌, ◌++◌, length, map};
-ghost use Rattle.serve_port.specs.Serving.{ServesAll};
+ghost use Rattle.serve_port.specs.Serving.{ServesConnections};
 ghost use Rattle.serve_port.specs.Steps.{IsTally, as_served};
 
 use crate::accepting::serve_rest;
@@ -45,7 +45,7 @@ pub fn serve_all<R: Threads + Wait + Sync, L: Linker>(
 ) -> Result<u64, ServeFault>
     requires few { L.accepted links.old + count ≤ 256 }
     requires done { length (L.done links.old) ≤ L.accepted links.old }
-    ensures { ServesAll count
+    ensures { ServesConnections count
         (record { asked = L.asked links.old; accepted = L.accepted links.old; back = L.back links.old; done = L.done links.old; faults = L.faults links.old; always_ready = L.always_ready links.old })
         (record { asked = L.asked links.new; accepted = L.accepted links.new; back = L.back links.new; done = L.done links.new; faults = L.faults links.new; always_ready = L.always_ready links.new })
         result }

@@ -1,22 +1,20 @@
 -- Where the reader of a link comes to rest its reading is over: a take found its end, or what it gave ends the reading.
-use Rattle.std.proofs.Common.{◌≡◌, ℕ, ◌+◌, ◌%◌, ◌≤◌, ◌==◌, ◌&&◌, ◌||◌, ◌⊎◌, inl, inr, nat_lt, ltb-false, Bool, true, false, cond, List, [], ◌∷◌, ◌++◌, length, length-append, append-nil, refl, sym, ap, ◌∙◌, subst, arith}
+use Rattle.std.proofs.Common.{◌≡◌, ℕ, ◌+◌, ◌≤◌, ◌&&◌, ◌||◌, ◌⊎◌, inl, inr, nat_lt, ltb-false, Bool, true, false, cond, List, [], ◌∷◌, ◌++◌, length, length-append, append-nil, refl, sym, ap, ◌∙◌, subst, arith}
 use Rattle.std.proofs.lemmas.Bool.{true≢false}
-use Rattle.std.specs.Prelude.{Some, None}
-use Rattle.sock_words.specs.Words.{socket_id_version, socket_id_slot, vref_version}
 use Rattle.send_causes.specs.Below.sock_steps.proofs.Quiet.{either_way}
-use Rattle.corr_core.specs.Word.{parts, code_of}
 use Rattle.brpc_model.specs.Frame.{Frame}
 use Rattle.brpc_model.specs.Stream as streams
-use Rattle.seat_programs.specs.Asides.{Step, Found, TakeBytes, Taking, Bytes, Nothing, NoMore, AtEnd, Closed, Broken, id_slot}
-use Rattle.seat_programs.specs.Heads.{Head, Exit, Retry, Reading, Posts, Unlocks, Decides, Locks, Joins, Opens, Reads, Discards, HasEnded, Ended}
-use Rattle.seat_programs.specs.Programs.{Program, Do, Say, Sent, Rest, Write, Aside, Round, Keep, Retries, release, address, set_failed}
-use Rattle.seat_programs.specs.Posts.{ends_call}
-use Rattle.seat_programs.specs.Readers.{LIMIT, last_of, ended_by, read_on, took, discarded, opens_round, post_each, thrown_away, read}
+use Rattle.seat_programs.specs.Asides.{Step, Found, TakeBytes, Taking, Bytes, Nothing, NoMore, AtEnd, Closed, Broken}
+use Rattle.seat_programs.specs.Heads.{Head, Exit, Retry, Reading, Posts, Unlocks, Decides, Locks, Joins, Opens, Reads, Discards, Ended}
+use Rattle.seat_programs.specs.Programs.{Program, Do, Say, Sent, Rest, Write, Aside, Round, Keep, Retries}
+use Rattle.seat_programs.specs.Readers.{LIMIT, last_of, ended_by, read_on, took, discarded, thrown_away, read}
 use Rattle.seat_programs.specs.Rounds.{round}
 use Rattle.seat_programs.specs.Cores.{resolved, next_step}
 use Rattle.sock_runs.specs.Sound.{first_step}
 use Rattle.send_causes.specs.Below.run_theorems.specs.Heard.{bytes_found}
-use Rattle.send_causes.proofs.ReaderParts.{is_of_id, is_loop, ReadsOn, PostsOn, release_on, unlocks_on, end_id_on, unlocked_on, locks_on, joins_on, responses_on, posts_on, post_each_on}
+use Rattle.sock_runs.proofs.Through.{PassesPlain, is_plain_aside, by_errors, locked, through_set_failed}
+use Rattle.sock_runs.proofs.ThroughLoops.{through_errors, through_locks, through_joins, through_answer, through_responses, through_opens}
+use Rattle.sock_runs.proofs.ThroughCalls.{through_post_each, through_read_end}
 use Rattle.brpc_model.specs.Causes.{HasFault}
 use Rattle.send_causes.specs.Below.call_causes.proofs.Streams.{faults_more, faults_follow, tied_more}
 
@@ -67,29 +65,15 @@ module _ (k : ℕ) where
     abbrev C : Program → Type 0
     C = Goes g last
 
-    asides : (step : Step) (next : Found step → Program) → is_of_id step ≡ true → ((found : Found step) → C (next found)) → C (Aside step next)
+    asides : (step : Step) (next : Found step → Program) → is_plain_aside step ≡ true → ((found : Found step) → C (next found)) → C (Aside step next)
     asides (TakeBytes l room) next is x = absurd (true≢false (sym is))
     asides step next is x = x
 
-    rounds : (head : Head) (next : Exit head → Program) → is_loop head ≡ true → ((exit : Exit head) → C (next exit)) → C (Round head next)
-    rounds (Reads r) next is x = absurd (true≢false (sym is))
-    rounds (Discards l total) next is x = absurd (true≢false (sym is))
-    rounds head next is x = x
-
-    go_on : ReadsOn (Goes g last)
-    go_on = record { frees = λ call next is x. x; say = λ o outcome next x. x; aside = asides; round = rounds; keep = λ r next x. x }
-
-    go_posts : PostsOn (Goes g last)
-    go_posts = record { load = λ o next x. x; post = λ i from e next x. x; round = λ id e w next x. x }
-
-    go_opens : (o : ℕ) (next : ℕ → Program) → ((x : ℕ) → C (next x)) → C (opens_round o next)
-    go_opens o next after = (λ word. either_way (word == 0) _ _ C (after) (after word))
-
-    go_address : (id : ℕ) (held : Program) (gone : ℕ → Program) → C held → ((found : ℕ) → C (gone found)) → C (address id held gone)
-    go_address id held gone goes after = λ found. either_way (vref_version found == socket_id_version id) held (release (socket_id_slot id) (λ _. gone found)) C goes (release_on go_on (socket_id_slot id) (λ _. gone found) (λ _. after found))
-
-    go_set_failed : (id code : ℕ) (next : ℕ → Program) → ((found : ℕ) → C (next found)) → C (set_failed id code next)
-    go_set_failed id code next after = λ found. either_way (vref_version found % 2 == 0) _ _ C (λ _ _. after found) (after found)
+    go_plain : PassesPlain C
+    go_plain = record {
+      words = record { step = λ call next is x. x; say = λ o outcome next x. x };
+      errors = record { say = λ o outcome next x. x; aside = asides; round = by_errors C (λ id e w next r. r) (λ i w advance next r. r) (λ id asked w e next r. r); again = λ id w next kept is x exit. subst C (sym (is exit)) (x exit) };
+    }
 
     thrown_goes : (how : Ended) → EndsSo g last how → C (thrown_away how)
     thrown_goes how e = by how.fault refl
@@ -98,17 +82,10 @@ module _ (k : ℕ) where
         by true is = either_way (nat_lt how.reading.total LIMIT) (Round (Discards how.reading.link how.reading.total) (λ _. Rest)) Rest C (let f = e.2 is in (e.1, f.1, f.0, λ n g' last' f. inr (inl f))) e.0
         by false is = e.0
 
-    abbrev last_posts : List ℕ → Ended → Program
-    last_posts calls how = post_each calls how.reading.link how.code how.reading.kept (thrown_away how)
-
     -- the end of a reading
     pub read_goes : (calls : List ℕ) (how : Ended) → EndsSo g last how → C (read calls how)
-    read_goes calls how e = either_way how.closed (last_posts calls how) (address how.reading.id (set_failed how.reading.id how.code (λ _. release (socket_id_slot how.reading.id) (λ _. (last_posts calls how)))) (λ _. (last_posts calls how))) C lasts
-        (go_address how.reading.id (set_failed how.reading.id how.code (λ _. release (socket_id_slot how.reading.id) (λ _. (last_posts calls how)))) (λ _. (last_posts calls how))
-        (go_set_failed how.reading.id how.code (λ _. release (socket_id_slot how.reading.id) (λ _. (last_posts calls how))) (λ _. release_on go_on (socket_id_slot how.reading.id) (λ _. (last_posts calls how)) (λ _. lasts))) (λ _. lasts))
-      where
-        lasts : C (last_posts calls how)
-        lasts = subst (λ l. C (post_each calls l how.code how.reading.kept (thrown_away how))) (sym e.1) (post_each_on go_on go_posts calls k how.code how.reading.kept (thrown_away how) (thrown_goes how e))
+    read_goes calls how e = through_read_end C go_plain.words calls how (through_set_failed C go_plain.words (λ call next is x. x) how.code)
+        (through_post_each C go_plain.errors calls how.reading.link how.code how.reading.kept (thrown_away how) (thrown_goes how e))
 
   -- ## Reading
 
@@ -152,7 +129,7 @@ module _ (k : ℕ) where
     found_last closed t is = ends (ended_by 1014 closed false r) (g ++ bytes_found t) (last || is_last t) (inl (ap (λ b. last || b) is ∙ or_true last), at.link, λ e. absurd (true≢false (sym e)))
 
     go_took : (t : Taking) → Goes (g ++ bytes_found t) (last || is_last t) (took r next t)
-    go_took (Bytes bytes) = responses_on (go_on (g ++ bytes) (last || false)) r.ids (streams.stream (r.rest ++ bytes)).frames r.kept (λ kept. read_on (with_more bytes kept) (r.rest ++ bytes) (streams.stream (r.rest ++ bytes)).ending next)
+    go_took (Bytes bytes) = through_responses (Goes (g ++ bytes) (last || false)) (λ i v next' x. x) (through_answer (Goes (g ++ bytes) (last || false)) (locked (go_plain (g ++ bytes) (last || false)).errors)) r.ids (streams.stream (r.rest ++ bytes)).frames r.kept (λ kept. read_on (with_more bytes kept) (r.rest ++ bytes) (streams.stream (r.rest ++ bytes)).ending next)
         (λ kept. go_read_on (last || false) none_yet kept bytes (streams.stream (r.rest ++ bytes)).ending refl)
     go_took Nothing = (none_yet, same_reading, ends)
     go_took NoMore = found_last false NoMore refl
@@ -168,15 +145,12 @@ module _ (k : ℕ) where
 
   -- one round of a loop
   go_round : (g : List ℕ) (last : Bool) (head : Head) (next : Exit head → Program) → Goes g last (Round head next) → Goes g last (round head next)
-  go_round g last (Posts i e w) next x = posts_on (go_on g last) (go_posts g last) i e w next x
-  go_round g last (Unlocks i w advance) next x = unlocks_on (go_on g last) i w advance next x
-  go_round g last (Decides i asked w e) next x = either_way (ends_call (parts w) e) _ _ (Goes g last)
-      (end_id_on (go_on g last) (id_slot i) (next (HasEnded asked.operation (code_of e))) (x (HasEnded asked.operation (code_of e))))
-      (λ _ exit. unlocked_on (go_on g last) (record { id = i; attempt = (parts w).attempt + 1 }) next x exit)
-  go_round g last (Locks i sought None) next x = locks_on (go_on g last) i sought None next x
-  go_round g last (Locks i sought (Some w)) next x = locks_on (go_on g last) i sought (Some w) next x
-  go_round g last (Joins i) next x = joins_on (go_on g last) i next x
-  go_round g last (Opens o) next x = go_opens g last o next x
+  go_round g last (Posts i e w) next x = through_errors (Goes g last) (go_plain g last).errors (Posts i e w) next refl x
+  go_round g last (Unlocks i w advance) next x = through_errors (Goes g last) (go_plain g last).errors (Unlocks i w advance) next refl x
+  go_round g last (Decides i asked w e) next x = through_errors (Goes g last) (go_plain g last).errors (Decides i asked w e) next refl x
+  go_round g last (Locks i sought w) next x = through_locks (Goes g last) (locked (go_plain g last).errors) (λ i sought w next y. y) i sought w next x
+  go_round g last (Joins i) next x = through_joins (Goes g last) (locked (go_plain g last).errors) (λ i next y. y) i next x
+  go_round g last (Opens o) next x = through_opens (Goes g last) (record { load = λ o next y. y; wait = λ o next y. y }) o next x
   go_round g last (Reads r) next x = let at = x.1 in (at.link, x.0, λ t. go_took g last x.0 r next at x.2 t)
   go_round g last (Discards l total) next x = (x.0, x.1, λ t. go_discarded g last x.1 l total next x.0 x.2 x.3 t)
 

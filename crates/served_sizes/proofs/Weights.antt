@@ -8,8 +8,8 @@ use Rattle.brpc_model.specs.Items.{Item, attempts_of}
 use Rattle.brpc_model.specs.Operations.{Operation, operations_from}
 use Rattle.brpc_model.specs.Order.{EachBefore}
 use Rattle.seat_programs.specs.ToldCalls.{Accepted, label, bytes_of}
-use Rattle.report_fits.proofs.LabelCounts.{Differ}
-use Rattle.report_fits.proofs.Lists.{Has, has_first, has_later, some_is, all_at}
+use Rattle.report_fits.proofs.LabelCounts.{at_number, own_number, later_number, number_there, Differ}
+use Rattle.report_fits.proofs.Lists.{Has, has_first, has_later, all_at}
 use Rattle.report_fits.proofs.Numbering.{behind_item}
 use Rattle.served_sizes.specs.Bodies.{carried, all_carried}
 
@@ -64,25 +64,15 @@ messages_few w n (x ∷ xs) apart h =
 
 -- ## The weights of a script's attempts
 
--- so much for each attempt of an operation, each of which has eight labels
+-- so much for each attempt of an operation
+abbrev weighs : Operation → ℕ → ℕ
+weighs op n = cond (nat_lt n (attempts_of op.item)) (240 + carried op.item) 0
+
 abbrev pub weight_of : List Operation → ℕ → ℕ
-weight_of [] j = 0
-weight_of (op ∷ ops) j = cond (nat_lt j 8) (cond (nat_lt j (attempts_of op.item)) (240 + carried op.item) 0) (weight_of ops (j - 8))
+weight_of = at_number weighs 0
 
 pub weight_at : (ops : List Operation) (o n : ℕ) (q : Operation) → slice_get ops o ≡ Some q → n < attempts_of q.item → n < 8 → weight_of ops (8 * o + n) ≡ 240 + carried q.item
-weight_at [] o n q e h low = absurd (cc)
-weight_at (op ∷ ops) zero n q e h low =
-    let place : 8 * 0 + n ≡ n = omega arith in
-    let small : nat_lt n 8 ≡ true = grind (arith, nat_tests) in
-    let here : n < attempts_of op.item = omega (arith, h, ap (λ (x : Operation). attempts_of x.item) (some_is op q e)) in
-    let on : nat_lt n (attempts_of op.item) ≡ true = grind (arith, nat_tests) in
-    ap (weight_of (op ∷ ops)) place ∙ (ap {B = ℕ} (λ b. cond b (cond (nat_lt n (attempts_of op.item)) (240 + carried op.item) 0) (weight_of ops (n - 8))) small
-    ∙ (ap {B = ℕ} (λ b. cond b (240 + carried op.item) 0) on ∙ ap (λ (x : Operation). 240 + carried x.item) (some_is op q e)))
-weight_at (op ∷ ops) (suc o) n q e h low =
-    let j = 8 * suc o + n in
-    let large : nat_lt j 8 ≡ false = grind (arith, nat_tests) in
-    let less : j - 8 ≡ 8 * o + n = omega arith in
-    ap {B = ℕ} (λ b. cond b (cond (nat_lt j (attempts_of op.item)) (240 + carried op.item) 0) (weight_of ops (j - 8))) large ∙ (ap (weight_of ops) less ∙ weight_at ops o n q e h low)
+weight_at ops o n q e h low = let on : nat_lt n (attempts_of q.item) ≡ true = grind (arith, nat_tests) in number_there weighs 0 ops o n q e low ∙ ap {B = ℕ} (λ b. cond b (240 + carried q.item) 0) on
 
 -- ## Their sum
 
@@ -139,18 +129,11 @@ all_weights (op ∷ ops) small = sums (below (weight_of (op ∷ ops)) (8 * suc (
     (attempts_of op.item) (carried op.item) (attempts_in ops) (carried_by ops)
     (let e : 8 * suc (length ops) ≡ 8 + 8 * length ops = omega arith in ap (below (weight_of (op ∷ ops))) e ∙ below_split (weight_of (op ∷ ops)) 8 (8 * length ops)) own later (times_few (attempts_of op.item) (carried op.item) small.0) (all_weights ops small.1)
   where
-    own_at : (j : ℕ) → j < 8 → weight_of (op ∷ ops) j ≡ cond (nat_lt j (attempts_of op.item)) (240 + carried op.item) 0
-    own_at j low = let on : nat_lt j 8 ≡ true = grind (arith, nat_tests) in ap {B = ℕ} (λ b. cond b (cond (nat_lt j (attempts_of op.item)) (240 + carried op.item) 0) (weight_of ops (j - 8))) on
-
     own : below (weight_of (op ∷ ops)) 8 ≡ times (attempts_of op.item) (240 + carried op.item)
-    own = below_same (weight_of (op ∷ ops)) (λ j. cond (nat_lt j (attempts_of op.item)) (240 + carried op.item) 0) 8 own_at ∙ first_of (attempts_of op.item) (240 + carried op.item) 8 (let few = small.0 in omega (arith, few))
-
-    later_at : (j : ℕ) → j < 8 * length ops → weight_of (op ∷ ops) (8 + j) ≡ weight_of ops j
-    later_at j low = let off : nat_lt (8 + j) 8 ≡ false = grind (arith, nat_tests) in let less : (8 + j) - 8 ≡ j = omega arith in
-        ap {B = ℕ} (λ b. cond b (cond (nat_lt (8 + j) (attempts_of op.item)) (240 + carried op.item) 0) (weight_of ops ((8 + j) - 8))) off ∙ ap (weight_of ops) less
+    own = below_same (weight_of (op ∷ ops)) (weighs op) 8 (own_number weighs 0 op ops) ∙ first_of (attempts_of op.item) (240 + carried op.item) 8 (let few = small.0 in omega (arith, few))
 
     later : below (λ j. weight_of (op ∷ ops) (8 + j)) (8 * length ops) ≡ below (weight_of ops) (8 * length ops)
-    later = below_same (λ j. weight_of (op ∷ ops) (8 + j)) (weight_of ops) (8 * length ops) later_at
+    later = below_same (λ j. weight_of (op ∷ ops) (8 + j)) (weight_of ops) (8 * length ops) (λ j low. later_number weighs 0 op ops j)
 
     sums : (all own later rest t a c m n : ℕ) → all ≡ own + later → own ≡ t → later ≡ rest → t ≤ 240 * a + 7 * c → rest ≤ 240 * m + 7 * n → all ≤ 240 * (a + m) + 7 * (c + n)
     sums all own later rest t a c m n p q r s u = omega (arith, p, q, r, s, u)

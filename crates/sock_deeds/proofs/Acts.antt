@@ -15,7 +15,7 @@ use Rattle.sock_words.specs.declared.place_word.PlaceWord.{PlaceWord}
 use Rattle.sock_words.specs.declared.vref.Vref.{Vref}
 use Rattle.sock_words.specs.Words.{socket_id_version}
 use Rattle.sock_model.specs.declared.marks.Mark.{Mark}
-use Rattle.sock_model.specs.declared.marks.Mark.TheVariants.{Failer}
+use Rattle.sock_model.specs.declared.marks.Mark.TheVariants.{Failer, Hold}
 use Rattle.sock_model.specs.declared.marks.SlotMark.{SlotMark}
 use Rattle.sock_model.specs.declared.view.StoredWord.{StoredWord}
 use Rattle.sock_model.specs.declared.chain.Heading.{Heading}
@@ -281,11 +281,11 @@ module _ {O : Type 0} {g : Ghosts O} {state : O → OutState} {p : Plan} {client
   pub marks_from : (f : Mark → ℕ) (z : IsOfLife f) (i : ℕ) → 0 < marks_of f i All
       → ((a : Act) × (marks_of f i (before a) < marks_of f i (after a))) ⊎ (((r : Read) × (marks_of f i r.d.before.view < marks_of f i r.d.after.view)) ⊎ ((l : Late) × SetNow g state p f i l.d.before.view))
   marks_from f z i some_ = dite (dec_lt 0 (marks_of f i Joined))
-      (λ lt. inl (joined_from f (λ h. z.hold h) i lt))
+      (λ lt. inl (joined_from f (λ h. z (Hold h) refl) i lt))
       (λ none_. dite (dec_lt 0 (total (λ (y : Seated g state p). marks_of f i (final_of y)) ReadSeats))
-      (λ lt. inr (inl (read_from f (λ h. z.hold h) i lt)))
+      (λ lt. inr (inl (read_from f (λ h. z (Hold h) refl) i lt)))
       (λ neither. (
-      let two = total_some (gain f i) run.ending.deeds (omega (arith, some_, none_, neither, all_marks f (λ h. z.hold h) i)) in
+      let two = total_some (gain f i) run.ending.deeds (omega (arith, some_, none_, neither, all_marks f (λ h. z (Hold h) refl) i)) in
       let d = two.1 in
       let more_ = two.3 in
       inr (inr (record { k = two.0; d = d; is = two.2 }, id_source g state p f z d.did d.before d.after d.done i (run.ending.by_ids two.0 d two.2) (omega (arith, more_)))))))

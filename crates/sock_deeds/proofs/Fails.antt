@@ -32,12 +32,12 @@ use Rattle.rpc_client.specs.sock_table.specs.declared.refs.SockRef.{SockRef}
 use Rattle.rpc_client.specs.declared.reaching.Reached.TheVariants as reached
 use Rattle.rpc_client.specs.Failing.{TriedTo}
 use Rattle.rpc_client.specs.Reaching.{ReachedBy}
-use Rattle.sock_deeds.specs.Deeds.{Did, fails, DoneBy, Deed, own_number}
+use Rattle.sock_deeds.specs.Deeds.{Did, fails, DoneBy, Deed, own_number, name_in}
 use Rattle.sock_deeds.specs.Runs.{IsFor, DeedRun}
 use Rattle.sock_deeds.proofs.Acts.{Act, All, before, after, did_of, done_of, has_marks, once_added, same_deed}
 use Rattle.sock_deeds.proofs.Growing.{HasFound, grew_then, added_grew, back_grew, reached_grew}
 use Rattle.sock_deeds.proofs.Lives.{MadeHere, maker, act_born, found_made, made_inside, lives}
-use Rattle.sock_deeds.proofs.Tasks.{name_in, is_for, asks_of, same_task, one_outcome, act_name, one_place}
+use Rattle.sock_deeds.proofs.Tasks.{is_for, asks_of, same_task, one_outcome, act_name, one_place}
 
 -- ## What was found under a name
 

@@ -1,5 +1,6 @@
 -- Lives and the deeds that made them.
 use Rattle.std.proofs.Common.{◌≡◌, ℕ, ◌+◌, ◌<◌, List, Option, refl, sym, ap, ◌∙◌, subst, arith}
+use Rattle.std.proofs.lemmas.Bool.{true≢false}
 use Rattle.std.proofs.lemmas.Option.{same_Some}
 use Rattle.atomic_table.specs.Table.{Me}
 use Rattle.sock_io.specs.declared.link.Out.{Ghosts}
@@ -12,6 +13,7 @@ use Rattle.sock_words.specs.declared.socket_id.SocketId.{SocketId}
 use Rattle.sock_words.specs.declared.vref.Vref.{Vref}
 use Rattle.sock_words.specs.Words.{socket_id_version, socket_id_slot}
 use Rattle.sock_model.specs.declared.marks.Mark.{Mark}
+use Rattle.sock_model.specs.declared.marks.Mark.TheVariants.{Born, Linked, Failer}
 use Rattle.sock_model.specs.declared.view.View.{View}
 use Rattle.sock_model.specs.Layout.{name_index, open_index}
 use Rattle.sock_model.specs.SlotRows.{marks_of}
@@ -34,13 +36,16 @@ use Rattle.sock_deeds.proofs.Tasks.{Does, is_for, one_outcome, task_does}
 -- ## Weights
 
 pub born_life : (h : ℕ) → IsOfLife (is_born h)
-born_life h = record { known = λ k. refl; saw = λ w. refl; hold = λ k. refl; met = λ a b. refl; told = λ a b. refl; fault = λ k. refl; stored = λ a b. refl; tried = refl; freer = λ k. refl; recycling = λ w. refl }
+born_life h (Born k) e = absurd (true≢false e)
+born_life h _ e = refl
 
 pub linked_life : (h k : ℕ) → IsOfLife (is_linked h k)
-linked_life h k = record { known = λ k. refl; saw = λ w. refl; hold = λ k. refl; met = λ a b. refl; told = λ a b. refl; fault = λ k. refl; stored = λ a b. refl; tried = refl; freer = λ k. refl; recycling = λ w. refl }
+linked_life h k (Linked a b) e = absurd (true≢false e)
+linked_life h k _ e = refl
 
 pub failer_life : (h : ℕ) → IsOfLife (is_failer h)
-failer_life h = record { known = λ k. refl; saw = λ w. refl; hold = λ k. refl; met = λ a b. refl; told = λ a b. refl; fault = λ k. refl; stored = λ a b. refl; tried = refl; freer = λ k. refl; recycling = λ w. refl }
+failer_life h (Failer k) e = absurd (true≢false e)
+failer_life h _ e = refl
 
 -- ## An `open` that made a socket
 

@@ -18,7 +18,7 @@ use Rattle.seat_programs.specs.declared.task.Op.TheVariants as ops
 use Rattle.seat_programs.specs.declared.task.Task.{Task}
 use Rattle.rpc_client.specs.sock_rule.specs.Rows.{NOTHING}
 use Rattle.rpc_client.specs.sock_table.specs.declared.finding.Noted.TheVariants as noted
-use Rattle.sock_deeds.specs.Deeds.{Did, looks, DoneBy}
+use Rattle.sock_deeds.specs.Deeds.{Did, looks, DoneBy, name_in}
 use Rattle.sock_deeds.specs.Runs.{IsFor, did_in, ReaderSeat, DeedRun}
 use Rattle.sock_deeds.proofs.Acts.{Read, All, did_of, done_of, read_found, puts_from}
 use Rattle.sock_deeds.proofs.Growing.{HasFound}
@@ -26,7 +26,7 @@ use Rattle.sock_deeds.proofs.Lives.{MadeHere, made_of}
 use Rattle.sock_deeds.proofs.Places.{map_back}
 use Rattle.sock_deeds.proofs.Readers.{dids_of}
 use Rattle.sock_deeds.proofs.Stores.{done_notes}
-use Rattle.sock_deeds.proofs.Tasks.{name_in, act_name, fits, is_for, same_task}
+use Rattle.sock_deeds.proofs.Tasks.{act_name, fits, is_for, same_task}
 
 one_link : (n m k l : ℕ) → ops.Open n k ≡ ops.Open m l → k ≡ l
 one_link n m k l e = cc

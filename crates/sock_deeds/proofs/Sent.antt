@@ -25,6 +25,7 @@ use Rattle.seat_programs.specs.declared.task.Task.{Task}
 use Rattle.seat_programs.specs.Told.{Made}
 use Rattle.seat_programs.specs.ToldCalls.{Accepted, Fixed, IsSent as IsSentBy, OfSend}
 use Rattle.report_fits.proofs.Lists.{all_from}
+use Rattle.sock_deeds.specs.Deeds.{name_in}
 use Rattle.sock_deeds.specs.Left.{accepted_of}
 use Rattle.sock_deeds.specs.Told.{IsAttempt}
 use Rattle.sock_deeds.specs.Runs.{IsOperation, IsMessage, of_send, of_call, DeedRun}
@@ -34,7 +35,7 @@ use Rattle.sock_deeds.proofs.Fails.{here_found, life_is}
 use Rattle.sock_deeds.proofs.Growing.{grew_then, wrote_grew, returned_grew, over_grew}
 use Rattle.sock_deeds.proofs.Lives.{MadeHere, linked_made, found_made}
 use Rattle.sock_deeds.proofs.Orders.{orders, entry_on}
-use Rattle.sock_deeds.proofs.Tasks.{name_in, act_name}
+use Rattle.sock_deeds.proofs.Tasks.{act_name}
 
 module _ {O : Type 0} {g : Ghosts O} {state : O → OutState} {p : Plan} {clients : List (List Task)} {outcomes : List (Option Outcome)} {places : List PlaceWord} {vrefs : List Vref} {outs : List O} (run : DeedRun g state p clients outcomes places vrefs outs) where
   -- the link on which a message was accepted is that of a life of its name

@@ -48,18 +48,16 @@ use Rattle.sock_deeds.specs.Deeds.{Hand, SentOver, MessageBy, Did, opens, sends,
 use Rattle.sock_deeds.specs.Broken.{noted_links, faults_by}
 use Rattle.sock_deeds.proofs.Growing.{Grew, returned_grew}
 
--- a weight of the marks of a life's birth and of its failing alone
-pub record IsOfLife (f : Mark → ℕ) : Type 0 where
-  pub known : (h : ℕ) → f (Known h) ≡ 0
-  pub saw : (w : ℕ) → f (Saw w) ≡ 0
-  pub hold : (h : ℕ) → f (Hold h) ≡ 0
-  pub met : (h k : ℕ) → f (Met h k) ≡ 0
-  pub told : (h c : ℕ) → f (Told h c) ≡ 0
-  pub fault : (k : ℕ) → f (fault_mark k) ≡ 0
-  pub stored : (h c : ℕ) → f (Stored h c) ≡ 0
-  pub tried : f Tried ≡ 0
-  pub freer : (h : ℕ) → f (Freer h) ≡ 0
-  pub recycling : (w : ℕ) → f (Recycling w) ≡ 0
+-- a life's birth, its link and its failing
+abbrev pub of_life : Mark → Bool
+of_life (Born h) = true
+of_life (Linked h k) = true
+of_life (Failer h) = true
+of_life other = false
+
+-- a weight of these marks alone
+abbrev pub IsOfLife : (Mark → ℕ) → Type 0
+IsOfLife f = (m : Mark) → of_life m ≡ false → f m ≡ 0
 
 abbrev pub Same : (Mark → ℕ) → View → View → Type 0
 Same f v w = (i : ℕ) → marks_of f i w ≡ marks_of f i v
@@ -97,17 +95,17 @@ module _ (f : Mark → ℕ) (z : IsOfLife f) where
     where
       by_case : (b : Bool) → total f (cond b [] (Recycling x ∷ [])) ≡ 0
       by_case true = refl
-      by_case false = let e = z.recycling x in omega arith
+      by_case false = let e = z (Recycling x) refl in omega arith
 
   ended_none : (ended : Bool) (w : ℕ) (notes : List Mark) → EndedBy ended w notes → total f notes ≡ 0
   ended_none false w notes e = ap (total f) e
-  ended_none true w notes e = ap (total f) e.1 ∙ (let a = z.freer (Rattle.std.proofs.Common.◌-◌ w 1) in let b = z.met (Rattle.std.proofs.Common.◌-◌ (w + 1) 2) e.0 in let c = retired_none (w + 1) in omega arith)
+  ended_none true w notes e = ap (total f) e.1 ∙ (let a = z (Freer (Rattle.std.proofs.Common.◌-◌ w 1)) refl in let b = z (Met (Rattle.std.proofs.Common.◌-◌ (w + 1) 2) e.0) refl in let c = retired_none (w + 1) in omega arith)
 
   pub found_same : (x id : ℕ) (v w : View) → FindsId x id v w → Same f v w
-  found_same x id v w d i = ap (marks_of f i) d.view ∙ one_mark f i (socket_id_slot id) (Known (socket_id_version id)) v.marks (z.known (socket_id_version id))
+  found_same x id v w d i = ap (marks_of f i) d.view ∙ one_mark f i (socket_id_slot id) (Known (socket_id_version id)) v.marks (z (Known (socket_id_version id)) refl)
 
   pub back_same : (i h : ℕ) (v w : View) (ended : Bool) → GaveBack i v w (Hold h) ended → Same f v w
-  back_same i h v w ended g = became_same f i v w g.notes (Hold h ∷ []) (ended_none ended g.version g.notes g.by) (let e = z.hold h in omega arith) g.became
+  back_same i h v w ended g = became_same f i v w g.notes (Hold h ∷ []) (ended_none ended g.version g.notes g.by) (let e = z (Hold h) refl in omega arith) g.became
 
   pub returned_same : (id : ℕ) (v w : View) → Returned id v w → Same f v w
   returned_same id v w r = back_same (socket_id_slot id) (socket_id_version id) v w r.ended r.back
@@ -115,22 +113,22 @@ module _ (f : Mark → ℕ) (z : IsOfLife f) where
   pub reached_same : (p : Plan) (n : ℕ) (r : Reached) (v w : View) → ReachedBy p n r v w → Same f v w
   reached_same p n reached.Unopened v w r = same_as f v w r.0
   reached_same p n (reached.Gone found) v w r = same_then f v r.1 w (found_same (name_index p n) r.0.0 v r.1 r.2.1)
-      (became_same f (socket_id_slot r.0.0) r.1 w _ [] (let e = ended_none r.3.ended r.3.version r.3.notes r.3.by in let a = z.saw (vref_version found.0) in omega arith) refl r.3.became)
+      (became_same f (socket_id_slot r.0.0) r.1 w _ [] (let e = ended_none r.3.ended r.3.version r.3.notes r.3.by in let a = z (Saw (vref_version found.0)) refl in omega arith) refl r.3.became)
   reached_same p n (reached.Here sock) v w r = same_then f v r.0 w (found_same (name_index p n) sock.id.0 v r.0 r.1.1)
-      (became_same f (socket_id_slot sock.id.0) r.0 w _ [] (let a = z.saw (socket_id_version sock.id.0) in let b = z.hold (socket_id_version sock.id.0) in omega arith) refl r.2)
+      (became_same f (socket_id_slot sock.id.0) r.0 w _ [] (let a = z (Saw (socket_id_version sock.id.0)) refl in let b = z (Hold (socket_id_version sock.id.0)) refl in omega arith) refl r.2)
 
   -- ## What is noted while a link is written
 
   finding_none : (h : ℕ) (m : Mark) → IsFinding h m → f m ≡ 0
-  finding_none h _ (saw w) = z.saw w
-  finding_none h _ (met k) = z.met h k
-  finding_none h _ (told c) = z.told h c
-  finding_none h _ (faulted k) = z.fault k
+  finding_none h _ (saw w) = z (Saw w) refl
+  finding_none h _ (met k) = z (Met h k) refl
+  finding_none h _ (told c) = z (Told h c) refl
+  finding_none h _ (faulted k) = z (fault_mark k) refl
 
   noted_none : {O : Type 0} {state : O → OutState} {L : ℕ → Type 0} (h : ℕ) (ms : List Mark) → f (Failer h) ≡ 0 → Noted state L h ms → total f ms ≡ 0
   noted_none h _ e nothing = refl
   noted_none h _ e (finding m ms a b) = omega (arith, finding_none h m a, noted_none h ms e b)
-  noted_none h _ e (failing k ms a b c) = omega (arith, e, z.fault k, z.saw (h + 1), z.stored h EFAILEDSOCKET, z.told h EFAILEDSOCKET, noted_none h ms e c)
+  noted_none h _ e (failing k ms a b c) = omega (arith, e, z (fault_mark k) refl, z (Saw (h + 1)) refl, z (Stored h EFAILEDSOCKET) refl, z (Told h EFAILEDSOCKET) refl, noted_none h ms e c)
 
   noted_by : {O : Type 0} {state : O → OutState} {L : ℕ → Type 0} (h : ℕ) (ms : List Mark) (noted : Noted state L h ms) → 0 < total f ms → (k : ℕ) × L k × (j : ℕ) × (get_elem? (noted_links h ms noted) j ≡ some k)
   noted_by h _ nothing less = absurd (omega arith)
@@ -156,14 +154,14 @@ module _ (f : Mark → ℕ) (z : IsOfLife f) where
         record { slot = b.0; weighs = weighs; link = n.0; link_met = n.1; place = n.2; listed = n.3 }
 
     refused_same : (sock : SockRef) (msg : Letter) (r : Refused) (v w : View) → RefusedBy p sock msg r v w → Same f v w
-    refused_same sock msg (refused.Failed s m found) v w b = became_same f (socket_id_slot sock.id.0) v w _ [] (let a = z.saw (vref_version found.0) in omega arith) refl b.3
-    refused_same sock msg (refused.Full s m) v w b = λ i. became_same f (socket_id_slot sock.id.0) v (record v { marks = w.marks }) _ [] (let a = z.saw (socket_id_version sock.id.0) in omega arith) refl b.7 i
+    refused_same sock msg (refused.Failed s m found) v w b = became_same f (socket_id_slot sock.id.0) v w _ [] (let a = z (Saw (vref_version found.0)) refl in omega arith) refl b.3
+    refused_same sock msg (refused.Full s m) v w b = λ i. became_same f (socket_id_slot sock.id.0) v (record v { marks = w.marks }) _ [] (let a = z (Saw (socket_id_version sock.id.0)) refl in omega arith) refl b.7 i
 
     came_same : (sock : SockRef) (msg : Letter) (r : Refused) (v w : View) → CameBack p sock msg r v w → Same f v w
     came_same sock msg r v w c = same_then f v c.refused_at w (refused_same sock msg r v c.refused_at c.refused_by) (returned_same sock.id.0 c.refused_at w c.returned)
 
     asked_same : (id : ℕ) (v w : View) → (w ≡ v) ⊎ ((k : ℕ) × LinkOf p k id v w) → Same f v w
-    asked_same id v w a = elim a [ inl same ↦ same_as f v w same | inr l ↦ became_same f (socket_id_slot id) v w _ [] (let y = z.met (socket_id_version id) l.0 in omega arith) refl l.1.became ]
+    asked_same id v w a = elim a [ inl same ↦ same_as f v w same | inr l ↦ became_same f (socket_id_slot id) v w _ [] (let y = z (Met (socket_id_version id) l.0) refl in omega arith) refl l.1.became ]
 
     over_same : (n : ℕ) (msg : Letter) (by : Option Outcome) (v w : View) (s : SentOver state p n msg by v w) → Same f v s.addressed
     over_same n msg by v w s = same_then f v s.has s.addressed (reached_same p n (reached.Here s.sock) v s.has s.reached_it) (asked_same s.sock.id.0 s.has s.addressed s.link_asked)
@@ -180,7 +178,7 @@ module _ (f : Mark → ℕ) (z : IsOfLife f) where
     pub sent_source : (n : ℕ) (msg : Letter) (v w : View) (s : SentOver state p n msg None v w) (i : ℕ) → marks_of f i v < marks_of f i w → WroteFail state p s.sock.id.0 i s.delivered.taken s.delivered.through.wrote s.delivered.through.by
     sent_source n msg v w s i less =
         let a = over_same n msg None v w s i in
-        let b = became_same f (socket_id_slot s.sock.id.0) s.addressed (record s.addressed { marks = s.delivered.taken.marks }) _ [] (let x = z.saw (socket_id_version s.sock.id.0) in let y = z.met (socket_id_version s.sock.id.0) s.delivered.accepted.entry.link in omega arith) refl s.delivered.accepted.marks i in
+        let b = became_same f (socket_id_slot s.sock.id.0) s.addressed (record s.addressed { marks = s.delivered.taken.marks }) _ [] (let x = z (Saw (socket_id_version s.sock.id.0)) refl in let y = z (Met (socket_id_version s.sock.id.0) s.delivered.accepted.entry.link) refl in omega arith) refl s.delivered.accepted.marks i in
         let c = returned_same s.sock.id.0 s.delivered.through.wrote w s.delivered.through.returned i in
         wrote_same s.sock.id.0 s.delivered.taken s.delivered.through.wrote s.delivered.through.by i (omega arith)
 
@@ -193,15 +191,15 @@ module _ (f : Mark → ℕ) (z : IsOfLife f) where
   notes_same v w s i = ap (λ l. total f (about i l)) s.marks
 
   tried_same : (n : ℕ) (v w : View) → TriedSlots n v w → Same f v w
-  tried_same n v w t j = dite (dec_lt j n) (λ lt. let e = t.each j lt f in let y = z.tried in omega arith) (λ ge. ap (total f) (t.elsewhere j (omega arith)))
+  tried_same n v w t j = dite (dec_lt j n) (λ lt. let e = t.each j lt f in let y = z Tried refl in omega arith) (λ ge. ap (total f) (t.elsewhere j (omega arith)))
 
   none_same : {S : Type 0} (p : Plan) (operation : ℕ) (m n : Me S View) → GotNone p operation m n → Same f m.0 n.0
   none_same {S} p operation m n b = same_then f m.0 b.finished.0 n.0 (notes_same m.0 b.finished.0 b.same) (put_same (open_index p operation) _ b.finished n b.noted)
 
   created_at : (id k : ℕ) (v w : View) → Created id k v w → (i : ℕ) → marks_of f i v < marks_of f i w → (socket_id_slot id ≡ i) × (0 < f (Linked (socket_id_version id) k) + f (Born (socket_id_version id)))
   created_at id k v w c i less = dite (ℕ_discrete i (socket_id_slot id))
-      (λ same. (sym same, subst (λ j. marks_of f j v < marks_of f j w → 0 < f (Linked (socket_id_version id) k) + f (Born (socket_id_version id))) (sym same) (λ l. (let e = c.here f in let y = z.known (socket_id_version id) in omega arith)) less))
-      (λ ne. absurd (dite (dec_lt i (socket_id_slot id)) (λ lt. let e = c.tried i lt f in let y = z.tried in omega arith) (λ ge. let e = ap (total f) (c.elsewhere i (omega arith)) in omega arith)))
+      (λ same. (sym same, subst (λ j. marks_of f j v < marks_of f j w → 0 < f (Linked (socket_id_version id) k) + f (Born (socket_id_version id))) (sym same) (λ l. (let e = c.here f in let y = z (Known (socket_id_version id)) refl in omega arith)) less))
+      (λ ne. absurd (dite (dec_lt i (socket_id_slot id)) (λ lt. let e = c.tried i lt f in let y = z Tried refl in omega arith) (λ ge. let e = ap (total f) (c.elsewhere i (omega arith)) in omega arith)))
 
   pub opened_source : {S : Type 0} (p : Plan) (name operation link : ℕ) (by : Outcome) (m n : Me S View) → OpenedBy p name operation link by m n → (i : ℕ) → marks_of f i m.0 < marks_of f i n.0
       → (version : ℕ) × (by ≡ outcome.Opened i version link) × (0 < f (Linked version link) + f (Born version))
@@ -237,7 +235,7 @@ module _ (f : Mark → ℕ) (z : IsOfLife f) where
 
   set_failed : (id code i : ℕ) (v w : View) → Rattle.rpc_client.specs.sock_table.specs.Answers.FailedBy id code v w → marks_of f i v < marks_of f i w → (socket_id_slot id ≡ i) × (0 < f (Failer (socket_id_version id)))
   set_failed id code i v w b less = let s = became_slot f (socket_id_slot id) v w _ [] refl b i less in
-      let h = socket_id_version id in let y = z.saw (h + 1) in let x = z.stored h code in let t = z.told h code in let more = s.1 in (s.0, omega arith)
+      let h = socket_id_version id in let y = z (Saw (h + 1)) refl in let x = z (Stored h code) refl in let t = z (Told h code) refl in let more = s.1 in (s.0, omega arith)
 
   failed_at : (p : Plan) (n code : ℕ) (v w : View) (t : TriedTo p n code outcome.Failed v w) (i : ℕ) → marks_of f i v < marks_of f i w → FailsLife p n code outcome.Failed i v w
   failed_at p n code v w t i less =
@@ -248,7 +246,7 @@ module _ (f : Mark → ℕ) (z : IsOfLife f) where
 
   found_failed : (p : Plan) (n code : ℕ) (found : Rattle.sock_words.specs.declared.vref.Vref.Vref) (v w : View) → TriedTo p n code (outcome.Already found) v w → Same f v w
   found_failed p n code found v w t = same_then f v t.has w (reached_same p n (reached.Here t.sock) v t.has t.reached_it)
-      (same_then f t.has t.set w (became_same f (socket_id_slot t.sock.id.0) t.has t.set _ [] (let a = z.saw (vref_version found.0) in omega arith) refl t.set_by.1)
+      (same_then f t.has t.set w (became_same f (socket_id_slot t.sock.id.0) t.has t.set _ [] (let a = z (Saw (vref_version found.0)) refl in omega arith) refl t.set_by.1)
       (back_same (socket_id_slot t.sock.id.0) (socket_id_version t.sock.id.0) t.set w t.ended t.back))
 
   pub failed_source : (p : Plan) (n code : ℕ) (by : Outcome) (v w : View) → FailedBy p n code by v w → (i : ℕ) → marks_of f i v < marks_of f i w → FailsLife p n code by i v w
@@ -266,10 +264,10 @@ module _ (f : Mark → ℕ) (z : IsOfLife f) where
   looked_same p number (noteds.Id id) v w b = found_same (open_index p number) id.0 v w b.1
 
   gone_same : (id found : ℕ) (v w : View) → GoneFrom id found v w → Same f v w
-  gone_same id found v w b = became_same f (socket_id_slot id) v w _ [] (let e = ended_none b.ended b.version b.notes b.by in let a = z.saw (vref_version found) in omega arith) refl b.became
+  gone_same id found v w b = became_same f (socket_id_slot id) v w _ [] (let e = ended_none b.ended b.version b.notes b.by in let a = z (Saw (vref_version found)) refl in omega arith) refl b.became
 
   taken_same : (id : ℕ) (v w : View) → HeldOne id v w → Same f v w
-  taken_same id v w b = became_same f (socket_id_slot id) v w _ [] (let a = z.saw (socket_id_version id) in let h = z.hold (socket_id_version id) in omega arith) refl b
+  taken_same id v w b = became_same f (socket_id_slot id) v w _ [] (let a = z (Saw (socket_id_version id)) refl in let h = z (Hold (socket_id_version id)) refl in omega arith) refl b
 
   -- ## Any deed
 
@@ -283,7 +281,7 @@ module _ (f : Mark → ℕ) (z : IsOfLife f) where
 
     set_source : (id code : ℕ) (by : Outcome) (s t : Hand) (b : DoneBy g state p (sets id code by) s t) (i : ℕ) → marks_of f i s.view < marks_of f i t.view → Source i (sets id code by) s t b
     set_source id code outcome.Failed s t b i less = let w = set_failed id code i s.view t.view b.0 less in by_set id code refl w.0 w.1
-    set_source id code (outcome.Already found) s t b i less = absurd (not_more f s.view t.view (became_same f (socket_id_slot id) s.view t.view _ [] (let a = z.saw (vref_version found.0) in omega arith) refl b.0.1) i less)
+    set_source id code (outcome.Already found) s t b i less = absurd (not_more f s.view t.view (became_same f (socket_id_slot id) s.view t.view _ [] (let a = z (Saw (vref_version found.0)) refl in omega arith) refl b.0.1) i less)
     set_source id code _ s t b i less = elim b.0 [ ]
 
     sent_deed : (name number attempt : ℕ) (msg : Letter) (by : Option Outcome) (s t : Hand) (b : DoneBy g state p (sends name number attempt msg by) s t) (i : ℕ) → marks_of f i s.view < marks_of f i t.view → Source i (sends name number attempt msg by) s t b

@@ -1,5 +1,5 @@
 -- The tasks of a run, and the deeds that are done for them.
-use Rattle.std.proofs.Common.{◌≡◌, ℕ, zero, suc, ◌<◌, inl, inr, List, [], ◌∷◌, slice_get, Option, Some, None, refl, sym, ap, ◌∙◌, subst, arith}
+use Rattle.std.proofs.Common.{◌≡◌, ℕ, zero, suc, ◌<◌, inl, inr, List, [], ◌∷◌, slice_get, Option, Some, refl, sym, ap, ◌∙◌, subst, arith}
 use Rattle.std.proofs.lemmas.Option.{none-some, same_Some}
 use mathlib.Core.Logic.{dite}
 use native.Mathlib.Decide.{ℕ_discrete, dec_lt}
@@ -23,7 +23,7 @@ use Rattle.outcome_causes.specs.Causes.{Asks}
 use Rattle.outcome_causes.proofs.Members.{all_in}
 use Rattle.outcome_causes.proofs.Tasks.{one_task, fits_of}
 use Rattle.report_fits.proofs.Lists.{has_from}
-use Rattle.sock_deeds.specs.Deeds.{Did, opens, sends, holds, drops, fails, looks, own_number, Deed}
+use Rattle.sock_deeds.specs.Deeds.{Did, opens, sends, holds, drops, fails, own_number, Deed, name_in}
 use Rattle.sock_deeds.specs.Runs.{IsOperation, IsMessage, of_send, of_call, IsFor, Seated, DeedRun}
 use Rattle.sock_deeds.proofs.Acts.{Act, did_of, same_seat, same_deed}
 use Rattle.sock_deeds.proofs.Numbered.{IsOnSockets, each_done, deeds_rise}
@@ -63,15 +63,6 @@ module _ (clients : List (List Task)) (outcomes : List (Option Outcome)) where
   does c (drops name n by) number e is = subst (λ x. DoesFor c x (drops name n by)) (same_Some n number e) (ops.Drop name, is.0, (by, refl, is.1))
   does c (fails name n code by) number e is = subst (λ x. DoesFor c x (fails name n code by)) (same_Some n number e) (ops.Fail name code, is.0, (by, refl, is.1))
   does c _ number e is = absurd (none-some number e)
-
--- the name under which a deed looks for a socket, or opens one
-abbrev pub name_in : Did → Option ℕ
-name_in (opens name number link by) = Some name
-name_in (sends name number attempt msg by) = Some name
-name_in (holds name number by) = Some name
-name_in (drops name number by) = Some name
-name_in (fails name number code by) = Some name
-name_in other = None
 
 module _ {O : Type 0} {g : Ghosts O} {state : O → OutState} {p : Plan} {clients : List (List Task)} {outcomes : List (Option Outcome)} {places : List PlaceWord} {vrefs : List Vref} {outs : List O} (run : DeedRun g state p clients outcomes places vrefs outs) where
   pub asks_of : (c : ℕ) (t : Task) → IsTask clients outcomes c t → Asks clients c t

@@ -1,5 +1,5 @@
 -- What a seat does at the table of sockets, one deed after the other: whoever sits there, and whatever he does besides.
-use Rattle.std.specs.Prelude.{◌≡◌, ◌⊎◌, ℕ, zero, ◌<◌, true, List, [], ◌∷◌, Option, Some, None}
+use Rattle.std.specs.Prelude.{◌≡◌, ◌⊎◌, ℕ, suc, ◌<◌, true, List, [], ◌∷◌, Option, Some, None}
 use Rattle.sock_io.specs.declared.link.Out.{Ghosts}
 use Rattle.sock_io.specs.Link.{OutState}
 use Rattle.sock_words.specs.declared.plain.Plan.{Plan}
@@ -91,14 +91,22 @@ pub data Did : Type 0 where
   sets : (id code : ℕ) (by : Outcome) → Did
   returns : (id : ℕ) → Did
 
+-- the name under which it looks for a socket, or opens one, and the number of the operation
+abbrev pub under : Did → Option (ℕ × ℕ)
+under (opens name number link by) = Some (name, number)
+under (sends name number attempt msg by) = Some (name, number)
+under (holds name number by) = Some (name, number)
+under (drops name number by) = Some (name, number)
+under (fails name number code by) = Some (name, number)
+under other = None
+
+abbrev pub name_in : Did → Option ℕ
+name_in d = elim (under d) as (λ o. Option ℕ) [ None ↦ None | Some x ↦ Some x.0 ]
+
 -- the number of the operation for which it is done; a retry is done for whoever began the call
 abbrev pub own_number : Did → Option ℕ
-own_number (opens name number link by) = Some number
-own_number (sends name number zero msg by) = Some number
-own_number (holds name number by) = Some number
-own_number (drops name number by) = Some number
-own_number (fails name number code by) = Some number
-own_number _ = None
+own_number (sends name number (suc k) msg by) = None
+own_number d = elim (under d) as (λ o. Option ℕ) [ None ↦ None | Some x ↦ Some x.1 ]
 
 -- an `open`, whatever the homes are that the seat has in hand
 abbrev pub OpenedOn : {O : Type 0} → Ghosts O → Plan → ℕ → ℕ → ℕ → Outcome → View → View → Type 0

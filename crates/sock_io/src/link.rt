@@ -5,7 +5,7 @@ ghost use Rattle.sock_io.specs.Causes.{OpenCause};
 ghost use Rattle.sock_io.specs.Link.{OutState, InState, PutStep, ReadyStep, FinishStep, TakeStep, SettleStep, IsSettled, IsNewOffer, IsFresh, IsUnused, ConnectionEnd, LinkerState, MayOpen, end_of, connection_of};
 ghost use Rattle.sock_io.specs.Meeting.{AreEnds, IsAskedPeer, MeetOut, MeetStep};
 ghost use Rattle.sock_io.specs.Peer.{PeerState, ServeStep, IsNewPeer};
-ghost use Rattle.sock_io.specs.Told.{SaysAsBefore};
+ghost use Rattle.sock_io.specs.Told.{KeepsOthers, SaysAsBefore};
 
 use crate::stream::NoMemory;
 use std::sync::Wait;
@@ -229,10 +229,7 @@ pub trait Linker: LinkerTold {
         ensures always_ready { IfOk result (λ ends. Self.always_ready self.old ≡ true → spec.now.mode ≡ Mode.Loop → (Self.O.state ends.out).always_ready ≡ true) }
         ensures asked { IfOk result (λ _. Self.asked self.new ≡ Self.asked self.old ++ spec.now ∷ []) }
         ensures refused { OnErr result (Self.asked self.new ≡ Self.asked self.old) }
-        ensures accepted { Self.accepted self.new ≡ Self.accepted self.old }
-        ensures back { Self.back self.new ≡ Self.back self.old }
-        ensures done { Self.done self.new ≡ Self.done self.old }
-        ensures stays_prompt { Self.always_ready self.new ≡ Self.always_ready self.old }
+        ensures others { KeepsOthers Self.accepted Self.back Self.done Self.always_ready self.old self.new }
         ensures cause { OpenCause (Self.faults self.old) (Self.faults self.new) result };
 
     /// Has a link's other end in memory answer what the link took since the last call, and close its half once the
@@ -263,10 +260,7 @@ pub trait Linker: LinkerTold {
         ensures fresh { IfOk result (λ halves. IsUnused (Self.O.state halves.0) (Self.I.state halves.1)) }
         ensures accepted { IfOk result (λ _. Self.accepted self.new ≡ Self.accepted self.old + 1) }
         ensures refused { OnErr result (Self.accepted self.new ≡ Self.accepted self.old) }
-        ensures asked { Self.asked self.new ≡ Self.asked self.old }
-        ensures back { Self.back self.new ≡ Self.back self.old }
-        ensures done { Self.done self.new ≡ Self.done self.old }
-        ensures stays_prompt { Self.always_ready self.new ≡ Self.always_ready self.old }
+        ensures others { KeepsOthers Self.asked Self.back Self.done Self.always_ready self.old self.new }
         ensures cause { OpenCause (Self.faults self.old) (Self.faults self.new) result };
 
     /// Takes a connection back.

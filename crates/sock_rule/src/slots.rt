@@ -107,11 +107,8 @@ impl<O: Out> RuleTable<O> {
     {
         let index = 6 * at as usize + 1;
         let old = from.word();
-        let next = old + 4_294_967_296;
-        let found = self
-            .table
-            .shared
-            .compare_exchange::<Recycle>(seat, index, old, next);
+        let shared = &self.table.shared;
+        let found = shared.compare_exchange::<Recycle>(seat, index, old, old + 4_294_967_296);
         ref_core::recycle(found, from)
     }
 

@@ -59,7 +59,7 @@ fails_ended o w some_ socket next word is = let id : ℕ = word - 1 in let held 
 pub fails_ending : (o w : ℕ) → 0 < w → w ≢ NO_SOCKET → (os : List ℕ) (n : ℕ) → get_elem? os n ≡ some o → Fails o w (ending_of os)
 fails_ending o w some_ socket [] n at = absurd (some-ne-none o (sym at))
 fails_ending o w some_ socket (m ∷ os) zero at = λ word is. fails_ended o w some_ socket (ending_of os) word (is (some-injective m o at))
-fails_ending o w some_ socket (m ∷ os) (suc n) at = through_end (Fails o w) (fails_passes o w).sends.plain (through_any_failed (Fails o w) (fails_passes o w) 1014) (fails_opens o w) m (ending_of os) (fails_ending o w some_ socket os n at)
+fails_ending o w some_ socket (m ∷ os) (suc n) at = through_end (Fails o w) (fails_passes o w).sends.plain.words (through_any_failed (Fails o w) (fails_passes o w) 1014) (fails_opens o w) m (ending_of os) (fails_ending o w some_ socket os n at)
 
 -- a step of such a program: it finds that the life has gone on, or sets its slot's version odd, or leaves it to what follows
 pub what_fails : (p : Plan) (ws : List ℕ) (o w : ℕ) (call : Call) (next : ℕ → Program) → get_or ws (open_index p o) 0 ≡ w → Fails o w (Do call next)
@@ -70,4 +70,4 @@ what_fails p ws o w (SetOdd i) next word f = ⊎_elim (λ e. inr (inl (ap SetOdd
 what_fails p ws o w call next word f = inr (inr (f (found_at ws (word_of p call))))
 
 pub records_ending : (os : List ℕ) → Records nothing (ending_of os)
-records_ending os = through_ending (Records nothing) (records_passes nothing).sends.plain (through_any_failed (Records nothing) (records_passes nothing) 1014) (records_opens nothing) tt os
+records_ending os = through_ending (Records nothing) (records_passes nothing).sends.plain.words (through_any_failed (Records nothing) (records_passes nothing) 1014) (records_opens nothing) tt os

@@ -67,7 +67,7 @@ row_same p (StoreOpen n w) found hand v other_ = record { plan = refl; found = r
 row_same p (FinishLink k) found hand v other_ = record { plan = refl; found = refl; lists = refl }
 row_same p (PutLink k) found hand v other_ = record { plan = refl; found = refl; lists = refl }
 row_same p (SwapHead i own) found hand v other_ = absurd (true≢false other_)
-row_same p call found hand v other_ = let same = sending_same p v found hand call refl in record { plan = same.plan; found = same.found; lists = own_lists p v found hand call refl other_ }
+row_same p call found hand v other_ = let same = sending_same p v found hand call refl in record { plan = ap (λ (w : View). w.plan) same; found = ap (λ (w : View). w.found) same; lists = own_lists p v found hand call refl other_ }
 
 -- ## A tick
 

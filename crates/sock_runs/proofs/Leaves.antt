@@ -1,5 +1,5 @@
 -- What the steps of whoever sends or writes leave as it is: all that a view has beside the chains, but for notes.
-use Rattle.std.proofs.Common.{◌≡◌, ℕ, ◌+◌, ◌%◌, ◌==◌, Bool, true, false, nat_lt, List, [], ◌∷◌, refl, sym, take, ◌++◌}
+use Rattle.std.proofs.Common.{◌≡◌, ℕ, ◌+◌, ◌%◌, ◌==◌, Bool, true, false, cond, nat_lt, List, [], ◌∷◌, refl, sym, ap, ◌∙◌, take, ◌++◌}
 use Rattle.std.proofs.lemmas.Bool.{true≢false}
 use Rattle.sock_words.specs.Words.{socket_id_version, socket_id_slot, vref_version}
 use Rattle.sock_words.specs.declared.plain.Plan.{Plan}
@@ -101,64 +101,36 @@ module _ (p : Plan) (v : View) (found : ℕ) (hand : Hand) (Q : List SlotMark �
   sending_marks (DropPlace l k n) is = right_way P v.rights (λ r. dropped_next v r r.stage) v same (λ r. drops_way P v same (λ c. same) (λ r. same) (λ k. same) r r.stage)
   sending_marks _ is = absurd (true≢false (sym is))
 
--- all of a view that isn't on the chains, and no mark
-pub record SameSeat (v w : View) : Type 0 where
-  pub plan : w.plan ≡ v.plan
-  pub passes : w.passes ≡ v.passes
-  pub spare : w.spare ≡ v.spare
-  pub stores : w.stores ≡ v.stores
-  pub hands : w.hands ≡ v.hands
-  pub found : w.found ≡ v.found
-
--- such steps leave it
-module _ (p : Plan) (v : View) (found : ℕ) (hand : Hand) where
-  abbrev Same : View → Type 0
-  Same w = SameSeat v w
-
-  pub sending_same : (call : Call) → is_sending call ≡ true → SameSeat v (row p call found hand v)
-  sending_same (LookWord id) is = right_way Same v.rights (looked_clean (socket_id_slot id) found v) (looked (socket_id_slot id) found v) (record { plan = refl; passes = refl; spare = refl; stores = refl; hands = refl; found = refl })
-      (λ r. either_way (vref_version found % 2 == 0) (with_right (looked (socket_id_slot id) found v) (record r { clean = true })) (looked (socket_id_slot id) found v) Same (record { plan = refl; passes = refl; spare = refl; stores = refl; hands = refl; found = refl }) (record { plan = refl; passes = refl; spare = refl; stores = refl; hands = refl; found = refl }))
-  sending_same (FindLink i h) is = record { plan = refl; passes = refl; spare = refl; stores = refl; hands = refl; found = refl }
-  sending_same (LoadCode i h) is = either_way (found == 0) v (told_code i h found v) Same (record { plan = refl; passes = refl; spare = refl; stores = refl; hands = refl; found = refl }) (record { plan = refl; passes = refl; spare = refl; stores = refl; hands = refl; found = refl })
-  sending_same (ClaimRequest id q) is = let i : ℕ = socket_id_slot id in let h : ℕ = socket_id_version id in
-      either_way (found % 2 == 0) (with_claim (met_link i h hand.link v) (new_claim hand.link q found)) v Same (record { plan = refl; passes = refl; spare = refl; stores = refl; hands = refl; found = refl }) (record { plan = refl; passes = refl; spare = refl; stores = refl; hands = refl; found = refl })
-  sending_same (PutMessage q heading bytes) is = claim_way Same v.claims (λ c. with_claim v (filled_claim c heading bytes)) v (record { plan = refl; passes = refl; spare = refl; stores = refl; hands = refl; found = refl }) (λ c. (record { plan = refl; passes = refl; spare = refl; stores = refl; hands = refl; found = refl }))
-  sending_same (Unconnect q) is = claim_way Same v.claims (λ c. with_claim v (ready_claim c)) v (record { plan = refl; passes = refl; spare = refl; stores = refl; hands = refl; found = refl }) (λ c. (record { plan = refl; passes = refl; spare = refl; stores = refl; hands = refl; found = refl }))
-  sending_same (SwapHead i own) is = claim_way Same v.claims (exchanged found hand v) v (record { plan = refl; passes = refl; spare = refl; stores = refl; hands = refl; found = refl }) (exchanges_way Same v (record { plan = refl; passes = refl; spare = refl; stores = refl; hands = refl; found = refl }) (λ c n. (record { plan = refl; passes = refl; spare = refl; stores = refl; hands = refl; found = refl })) (λ c n sent m. (record { plan = refl; passes = refl; spare = refl; stores = refl; hands = refl; found = refl })) found hand)
-  sending_same (Connect q before) is = record { plan = refl; passes = refl; spare = refl; stores = refl; hands = refl; found = refl }
-  sending_same (EmptyHead i last) is = right_way Same v.rights (emptied last found v) v (record { plan = refl; passes = refl; spare = refl; stores = refl; hands = refl; found = refl }) (emptied_way Same v (record { plan = refl; passes = refl; spare = refl; stores = refl; hands = refl; found = refl }) (λ c. (record { plan = refl; passes = refl; spare = refl; stores = refl; hands = refl; found = refl })) (λ r. (record { plan = refl; passes = refl; spare = refl; stores = refl; hands = refl; found = refl })) (λ k. (record { plan = refl; passes = refl; spare = refl; stores = refl; hands = refl; found = refl })) last found)
-  sending_same (ReadNext q) is = right_way Same v.rights (λ r. read_next found v r r.stage) v (record { plan = refl; passes = refl; spare = refl; stores = refl; hands = refl; found = refl }) (λ r. reads_way Same v (record { plan = refl; passes = refl; spare = refl; stores = refl; hands = refl; found = refl }) (λ c. (record { plan = refl; passes = refl; spare = refl; stores = refl; hands = refl; found = refl })) (λ r. (record { plan = refl; passes = refl; spare = refl; stores = refl; hands = refl; found = refl })) (λ k. (record { plan = refl; passes = refl; spare = refl; stores = refl; hands = refl; found = refl })) found r r.stage)
-  sending_same (ReverseNext q value) is = right_way Same v.rights (λ r. turned_next v r r.stage) v (record { plan = refl; passes = refl; spare = refl; stores = refl; hands = refl; found = refl }) (λ r. turns_way Same v (record { plan = refl; passes = refl; spare = refl; stores = refl; hands = refl; found = refl }) (λ c. (record { plan = refl; passes = refl; spare = refl; stores = refl; hands = refl; found = refl })) (λ r. (record { plan = refl; passes = refl; spare = refl; stores = refl; hands = refl; found = refl })) (λ k. (record { plan = refl; passes = refl; spare = refl; stores = refl; hands = refl; found = refl })) r r.stage)
-  sending_same (FreeRequest q g) is = right_way Same v.rights (freed_next v) v (record { plan = refl; passes = refl; spare = refl; stores = refl; hands = refl; found = refl }) (λ r. (record { plan = refl; passes = refl; spare = refl; stores = refl; hands = refl; found = refl }))
-  sending_same (StorePlace l k n) is = right_way Same v.rights (λ r. placed_next v r r.stage) v (record { plan = refl; passes = refl; spare = refl; stores = refl; hands = refl; found = refl }) (λ r. places_way Same v (record { plan = refl; passes = refl; spare = refl; stores = refl; hands = refl; found = refl }) (λ c. (record { plan = refl; passes = refl; spare = refl; stores = refl; hands = refl; found = refl })) (λ r. (record { plan = refl; passes = refl; spare = refl; stores = refl; hands = refl; found = refl })) (λ k. (record { plan = refl; passes = refl; spare = refl; stores = refl; hands = refl; found = refl })) r r.stage)
-  sending_same (DropPlace l k n) is = right_way Same v.rights (λ r. dropped_next v r r.stage) v (record { plan = refl; passes = refl; spare = refl; stores = refl; hands = refl; found = refl }) (λ r. drops_way Same v (record { plan = refl; passes = refl; spare = refl; stores = refl; hands = refl; found = refl }) (λ c. (record { plan = refl; passes = refl; spare = refl; stores = refl; hands = refl; found = refl })) (λ r. (record { plan = refl; passes = refl; spare = refl; stores = refl; hands = refl; found = refl })) (λ k. (record { plan = refl; passes = refl; spare = refl; stores = refl; hands = refl; found = refl })) r r.stage)
-  sending_same _ is = absurd (true≢false (sym is))
-
 -- whether it is the exchange of a head
 abbrev pub is_exchange : Call → Bool
 is_exchange (SwapHead i own) = true
 is_exchange other = false
 
--- all but the exchange leave the lists of accepted messages
-module _ (p : Plan) (v : View) (found : ℕ) (hand : Hand) where
-  abbrev SameLists : View → Type 0
-  SameLists w = w.lists ≡ v.lists
+-- all of a view but its marks and what is on the chains is as it was, and so are the lists of accepted messages where no head was exchanged
+abbrev pub SameSeat : Call → View → View → Type 0
+SameSeat call v w = let u : View = record v { marks = w.marks; claims = w.claims; loose = w.loose; rights = w.rights; drops = w.drops; lists = cond (is_exchange call) w.lists v.lists } in w ≡ u
 
+-- such steps leave it
+module _ (p : Plan) (v : View) (found : ℕ) (hand : Hand) where
+  pub sending_same : (call : Call) → is_sending call ≡ true → SameSeat call v (row p call found hand v)
+  sending_same (LookWord id) is = right_way (SameSeat (LookWord id) v) v.rights (looked_clean (socket_id_slot id) found v) (looked (socket_id_slot id) found v) refl
+      (λ r. either_way (vref_version found % 2 == 0) (with_right (looked (socket_id_slot id) found v) (record r { clean = true })) (looked (socket_id_slot id) found v) (SameSeat (LookWord id) v) refl refl)
+  sending_same (FindLink i h) is = refl
+  sending_same (LoadCode i h) is = either_way (found == 0) v (told_code i h found v) (SameSeat (LoadCode i h) v) refl refl
+  sending_same (ClaimRequest id q) is = let i : ℕ = socket_id_slot id in let h : ℕ = socket_id_version id in
+      either_way (found % 2 == 0) (with_claim (met_link i h hand.link v) (new_claim hand.link q found)) v (SameSeat (ClaimRequest id q) v) refl refl
+  sending_same (PutMessage q heading bytes) is = claim_way (SameSeat (PutMessage q heading bytes) v) v.claims (λ c. with_claim v (filled_claim c heading bytes)) v refl (λ c. refl)
+  sending_same (Unconnect q) is = claim_way (SameSeat (Unconnect q) v) v.claims (λ c. with_claim v (ready_claim c)) v refl (λ c. refl)
+  sending_same (SwapHead i own) is = claim_way (SameSeat (SwapHead i own) v) v.claims (exchanged found hand v) v refl (exchanges_way (SameSeat (SwapHead i own) v) v refl (λ c n. refl) (λ c n sent m. refl) found hand)
+  sending_same (Connect q before) is = refl
+  sending_same (EmptyHead i last) is = right_way (SameSeat (EmptyHead i last) v) v.rights (emptied last found v) v refl (emptied_way (SameSeat (EmptyHead i last) v) v refl (λ c. refl) (λ r. refl) (λ k. refl) last found)
+  sending_same (ReadNext q) is = right_way (SameSeat (ReadNext q) v) v.rights (λ r. read_next found v r r.stage) v refl (λ r. reads_way (SameSeat (ReadNext q) v) v refl (λ c. refl) (λ r. refl) (λ k. refl) found r r.stage)
+  sending_same (ReverseNext q value) is = right_way (SameSeat (ReverseNext q value) v) v.rights (λ r. turned_next v r r.stage) v refl (λ r. turns_way (SameSeat (ReverseNext q value) v) v refl (λ c. refl) (λ r. refl) (λ k. refl) r r.stage)
+  sending_same (FreeRequest q g) is = right_way (SameSeat (FreeRequest q g) v) v.rights (freed_next v) v refl (λ r. refl)
+  sending_same (StorePlace l k n) is = right_way (SameSeat (StorePlace l k n) v) v.rights (λ r. placed_next v r r.stage) v refl (λ r. places_way (SameSeat (StorePlace l k n) v) v refl (λ c. refl) (λ r. refl) (λ k. refl) r r.stage)
+  sending_same (DropPlace l k n) is = right_way (SameSeat (DropPlace l k n) v) v.rights (λ r. dropped_next v r r.stage) v refl (λ r. drops_way (SameSeat (DropPlace l k n) v) v refl (λ c. refl) (λ r. refl) (λ k. refl) r r.stage)
+  sending_same _ is = absurd (true≢false (sym is))
+
+  -- all but the exchange leave the lists of accepted messages
   pub own_lists : (call : Call) → is_sending call ≡ true → is_exchange call ≡ false → (row p call found hand v).lists ≡ v.lists
-  own_lists (LookWord id) is other_ = right_way SameLists v.rights (looked_clean (socket_id_slot id) found v) (looked (socket_id_slot id) found v) refl
-      (λ r. either_way (vref_version found % 2 == 0) (with_right (looked (socket_id_slot id) found v) (record r { clean = true })) (looked (socket_id_slot id) found v) SameLists refl refl)
-  own_lists (FindLink i h) is other_ = refl
-  own_lists (LoadCode i h) is other_ = either_way (found == 0) v (told_code i h found v) SameLists refl refl
-  own_lists (ClaimRequest id q) is other_ = let i : ℕ = socket_id_slot id in let h : ℕ = socket_id_version id in
-      either_way (found % 2 == 0) (with_claim (met_link i h hand.link v) (new_claim hand.link q found)) v SameLists refl refl
-  own_lists (PutMessage q heading bytes) is other_ = claim_way SameLists v.claims (λ c. with_claim v (filled_claim c heading bytes)) v refl (λ c. refl)
-  own_lists (Unconnect q) is other_ = claim_way SameLists v.claims (λ c. with_claim v (ready_claim c)) v refl (λ c. refl)
-  own_lists (Connect q before) is other_ = refl
-  own_lists (EmptyHead i last) is other_ = right_way SameLists v.rights (emptied last found v) v refl (emptied_way SameLists v refl (λ c. refl) (λ r. refl) (λ k. refl) last found)
-  own_lists (ReadNext q) is other_ = right_way SameLists v.rights (λ r. read_next found v r r.stage) v refl (λ r. reads_way SameLists v refl (λ c. refl) (λ r. refl) (λ k. refl) found r r.stage)
-  own_lists (ReverseNext q value) is other_ = right_way SameLists v.rights (λ r. turned_next v r r.stage) v refl (λ r. turns_way SameLists v refl (λ c. refl) (λ r. refl) (λ k. refl) r r.stage)
-  own_lists (FreeRequest q g) is other_ = right_way SameLists v.rights (freed_next v) v refl (λ r. refl)
-  own_lists (StorePlace l k n) is other_ = right_way SameLists v.rights (λ r. placed_next v r r.stage) v refl (λ r. places_way SameLists v refl (λ c. refl) (λ r. refl) (λ k. refl) r r.stage)
-  own_lists (DropPlace l k n) is other_ = right_way SameLists v.rights (λ r. dropped_next v r r.stage) v refl (λ r. drops_way SameLists v refl (λ c. refl) (λ r. refl) (λ k. refl) r r.stage)
-  own_lists (SwapHead i own) is other_ = absurd (true≢false other_)
-  own_lists _ is other_ = absurd (true≢false (sym is))
+  own_lists call is other_ = ap (λ (w : View). w.lists) (sending_same call is) ∙ ap (λ b. cond b (row p call found hand v).lists v.lists) other_

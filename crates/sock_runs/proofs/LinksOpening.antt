@@ -47,7 +47,7 @@ module _ (own : ℕ → ℕ → Type 0) where
       (λ _ _ _ word. ((o, mine, refl), λ _ _. after)) (gives_open more (i + 1) o name k next mine after)
 
   pub gives_client : (sizes : Sizes) (ts : List Task) (held : List HeldLife) → AllByRecursion (λ (t : Task). OwnsLink t.number t.op) ts → G (client_from sizes held ts)
-  gives_client sizes [] held mine = through_back G (gives_passes own).sends.plain tt held
+  gives_client sizes [] held mine = through_back G (gives_passes own).sends.plain.words tt held
   gives_client sizes (t ∷ ts) held mine = let after : (h : List HeldLife) → G (client_from sizes h ts) = λ h. gives_client sizes ts h mine.1 in
       through_any G (gives_passes own) sizes held t.number (λ h. client_from sizes h ts) t.op after
       (λ name k e. gives_open sizes.slots 0 t.number name k (client_from sizes held ts) (subst (OwnsLink t.number) e mine.0) (after held))

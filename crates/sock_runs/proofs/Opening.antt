@@ -85,7 +85,7 @@ later n R less (t ∷ ts) all o there = or_cases (is_opening t.op && (t.number =
 
 pub records_client : (sizes : Sizes) (ts : List Task) (held : List HeldLife) (left : ℕ → Bool) → ((o : ℕ) → opens_in ts o ≡ true → left o ≡ true)
     → EachBefore (λ (a b : Task). (a.number < b.number) × HaveOwnLinks a.op b.op) ts → Records left (client_from sizes held ts)
-records_client sizes [] held left mine order = through_back (Records left) (records_passes left).sends.plain tt held
+records_client sizes [] held left mine order = through_back (Records left) (records_passes left).sends.plain.words tt held
 records_client sizes (t ∷ ts) held left mine order = records_operation left sizes held t.number (λ h. client_from sizes h ts) t.op
     (λ opening. mine t.number (or_first (is_opening t.op && (t.number == t.number)) (opens_in ts t.number) (both_true (is_opening t.op) (t.number == t.number) opening (eq-eqb t.number t.number refl))))
     (λ opening h. records_client sizes ts h (but t.number left) (λ o there. both_true (left o) (not (o == t.number)) (mine o (or_second (is_opening t.op && (t.number == o)) (opens_in ts o) there))

@@ -1,5 +1,6 @@
 -- What stands aside of the sockets passes: whatever its steps find that is as the rule of the ids says, the view allows what follows.
-use Rattle.std.proofs.Common.{◌≡◌, ◌≢◌, ℕ, zero, suc, ◌+◌, ◌-◌, ◌*◌, ◌/◌, ◌%◌, ◌<◌, ◌≤◌, ◌==◌, ◌&&◌, ◌||◌, not, Bool, true, false, List, [], ◌∷◌, ◌++◌, length, refl, sym, ◌∙◌, subst, arith, cond, eqb, eqb-true, eq-eqb, nat_lt, Some, None}
+use Rattle.std.proofs.Common.{◌≡◌, ◌≢◌, ℕ, zero, suc, ◌+◌, ◌-◌, ◌<◌, ◌≤◌, ◌==◌, ◌&&◌, ◌||◌, not, Bool, true, false, List, [], ◌∷◌, ◌++◌, length, refl, sym, subst, arith, cond, eqb, eqb-true, eq-eqb, nat_lt, Some, None}
+use Rattle.std.proofs.lemmas.Bool.{not-false, eqb-false, and_parts, or_parts}
 use Rattle.sock_words.specs.declared.plain.Plan.{Plan}
 use Rattle.sock_model.specs.declared.chain.Heading.{Heading}
 use Rattle.sock_model.specs.declared.view.View.{View}
@@ -61,31 +62,12 @@ pub way : (p : Plan) (v : View) (b : Bool) (x y : Program) → (b ≡ true → G
 way p v true x y f g = f refl
 way p v false x y f g = g refl
 
-pub and_right : (a b : Bool) → (a && b) ≡ true → b ≡ true
-and_right true b e = e
-and_right false b e = cc
-
-pub and_left : (a b : Bool) → (a && b) ≡ true → a ≡ true
-and_left true b e = refl
-and_left false b e = e
-
-or_right : (a b : Bool) → (a || b) ≡ false → b ≡ false
-or_right true b e = cc
-or_right false b e = e
-
 not_zero : (n : ℕ) → not (eqb n 0) ≡ true → 0 < n
 not_zero zero e = let z : false ≡ true = e in cc
 not_zero (suc n) e = omega arith
 
-not_true : (b : Bool) → not b ≡ false → b ≡ true
-not_true true e = refl
-not_true false e = cc
-
 first_taken : (first : ℕ) (w : Parts) → is_first first w ≡ true → 0 < w.state
-first_taken first w e = not_zero w.state (and_right (eqb w.first first) (not (eqb w.state 0)) e)
-
-not_equal : (a b : ℕ) → eqb a b ≡ false → a ≢ b
-not_equal a b e same = let z : true ≡ false = sym (eq-eqb a b same) ∙ e in cc
+first_taken first w e = not_zero w.state (and_parts (eqb w.first first) (not (eqb w.state 0)) e).1
 
 -- ## Loops
 
@@ -100,7 +82,7 @@ module _ (p : Plan) (v : View) where
       way p v (not (is_first (id_first id) (parts found))) (k WasGone) one (λ _. goes WasGone tt)
       (λ here. way p v (is_stale e (parts found)) (k WasStale) two (λ _. goes WasStale tt)
       (λ _. way p v (is_full (parts found)) (k (WasCrowded (code_of (parts found).oldest) (code_of (parts found).second))) (Round (Posts id e found) k) (λ _. goes (WasCrowded (code_of (parts found).oldest) (code_of (parts found).second)) tt)
-      (λ _. ((f (first_taken (id_first id) (parts found) (not_true (is_first (id_first id) (parts found)) here)), tt), goes))))
+      (λ _. ((f (first_taken (id_first id) (parts found) (not-false (is_first (id_first id) (parts found)) here)), tt), goes))))
 
   end_goes : (i : ℕ) (next : Program) → GoesOn p v next → GoesOn p v (end_id i next)
   end_goes i next goes = λ found _. way p v (Rattle.std.proofs.Common.leb ((parts found).first + (parts found).range) Rattle.seat_programs.specs.corr_core.specs.Law.LAST) (Aside (FreeId i) (λ _. next)) next (λ _. λ _ _. goes) (λ _. goes)
@@ -175,7 +157,7 @@ module _ (p : Plan) (v : View) where
 
   opens_goes : v.loose ≡ [] → (o word : ℕ) (k : ℕ → Program) → o < p.operations → ((w : ℕ) → w ≢ 0 → FindsId p w → GoesOn p (found_id w v) (k w)) → FindsId p word → (b : Bool) → eqb word 0 ≡ b → GoesOn p (found_id word v) (cond b (Round (Opens o) k) (k word))
   opens_goes loose o word k inside goes f true e = subst (λ w. GoesOn p (found_id w v) (Round (Opens o) k)) (sym (eqb-true word 0 e)) ((inside, loose), goes)
-  opens_goes loose o word k inside goes f false e = goes word (not_equal word 0 e) f
+  opens_goes loose o word k inside goes f false e = goes word (eqb-false word 0 e) f
 
   -- one round of each loop
   pub goes_round : (head : Head) (k : Exit head → Program) → GoesOn p v (Round head k) → GoesOn p v (round head k)
@@ -194,7 +176,7 @@ module _ (p : Plan) (v : View) where
       way p v (ends_call (parts word) e) (end_id (id_slot id) (k (HasEnded asked.operation (code_of e))))
       (Aside (Rattle.seat_programs.specs.Asides.PutCall (id_slot id) asked) (λ _. Round (Unlocks (id_slot id) word true) (unlocked (record { id = id; attempt = (parts word).attempt + 1 }) k)))
       (λ _. end_goes (id_slot id) (k (HasEnded asked.operation (code_of e))) (g.1 (HasEnded asked.operation (code_of e)) tt))
-      (λ no. λ _ _. let left = not_equal ((parts word).attempt + 2) (parts word).range (or_right (is_final (code_of e)) ((parts word).attempt + 2 == (parts word).range) (or_right (Rattle.seat_programs.specs.corr_core.specs.Word.attempt_of e == 7) (is_final (code_of e) || ((parts word).attempt + 2 == (parts word).range)) no)) in
+      (λ no. λ _ _. let left = eqb-false ((parts word).attempt + 2) (parts word).range (or_parts (is_final (code_of e)) ((parts word).attempt + 2 == (parts word).range) (or_parts (Rattle.seat_programs.specs.corr_core.specs.Word.attempt_of e == 7) (is_final (code_of e) || ((parts word).attempt + 2 == (parts word).range)) no).1).1 in
       (((let f = g.0.0.1 in omega arith), tt), unlocked_goes (record { id = id; attempt = (parts word).attempt + 1 }) k (let f = g.0.0.1 in omega arith) (λ exit. g.1 exit tt)))
   goes_round (Locks i sought None) k g = λ found fits. locking_goes g.0.1 i sought found k fits g.1
   goes_round (Locks i sought (Some from)) k g = λ found fits.

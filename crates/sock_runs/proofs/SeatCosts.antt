@@ -1,5 +1,6 @@
 -- The number of a seat that goes on: with the retries that wait at it, and with what it paid for a word that it expects.
 use Rattle.std.proofs.Common.{◌≡◌, ℕ, zero, suc, ◌+◌, ◌-◌, ◌*◌, ◌≤◌, Bool, true, false, ◌&&◌, List, [], ◌∷◌, ◌++◌, length, length-append, set, refl, sym, ap, ◌∙◌, subst, arith, cond, eqb, eq-eqb, eqb-true, Some, None}
+use Rattle.std.proofs.lemmas.Bool.{and_parts}
 use Rattle.std.specs.Prelude.{slice_index, slice_index_or}
 use Rattle.std.specs.Prelude as std
 use Rattle.sock_words.specs.declared.plain.Plan.{Plan}
@@ -14,7 +15,6 @@ use Rattle.sock_runs.specs.GoesOn.{GoesOn}
 use Rattle.sock_runs.specs.Lasts.{LastsFor, STALE, attempt_cost, expects, arriving, stale_cost, fresh, fresh_at}
 use Rattle.sock_runs.proofs.IdCosts.{lasts_more}
 use Rattle.sock_runs.proofs.AttemptCosts.{retry_lasts}
-use Rattle.sock_runs.proofs.Passes.{and_left, and_right}
 
 -- ## Words that are expected
 
@@ -37,7 +37,7 @@ one_paid words y x there = by_same ((eqb x.0 y.0) && (eqb x.1 y.1)) refl (eqb (s
     by_same false other true is = omega arith
     by_same false other false is = omega arith
     by_same true same true is = omega arith
-    by_same true same false is = let a = eqb-true x.0 y.0 (and_left (eqb x.0 y.0) (eqb x.1 y.1) same) in let b = eqb-true x.1 y.1 (and_right (eqb x.0 y.0) (eqb x.1 y.1) same) in
+    by_same true same false is = let a = eqb-true x.0 y.0 (and_parts (eqb x.0 y.0) (eqb x.1 y.1) same).0 in let b = eqb-true x.1 y.1 (and_parts (eqb x.0 y.0) (eqb x.1 y.1) same).1 in
         let here : slice_index words (id_index x.0) ≡ x.1 = ap (λ n. slice_index words (id_index n)) a ∙ (there ∙ sym b) in
         let never : true ≡ false = sym (eq-eqb (slice_index words (id_index x.0)) x.1 here) ∙ is in cc
 

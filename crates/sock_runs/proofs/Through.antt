@@ -1,5 +1,5 @@
 -- What holds behind a part of a program and is kept by each of its steps holds before it.
-use Rattle.std.proofs.Common.{◌≡◌, ℕ, ◌+◌, ◌-◌, ◌%◌, ◌==◌, ◌&&◌, nat_le, Bool, true, false, cond, List, refl, sym, subst}
+use Rattle.std.proofs.Common.{◌≡◌, ℕ, ◌+◌, ◌-◌, ◌%◌, ◌==◌, ◌&&◌, ◌||◌, not, nat_le, Bool, true, false, cond, List, refl, sym, subst}
 use Rattle.std.proofs.lemmas.Bool.{true≢false}
 use Rattle.std.proofs.Math.Path.{fun_ext}
 use Rattle.std.specs.Prelude.{Option}
@@ -13,10 +13,11 @@ use Rattle.seat_programs.specs.sock_io.specs.declared.link.Ready.{Ready}
 use Rattle.sock_model.specs.declared.chain.Heading.{Heading}
 use Rattle.sock_steps.proofs.Quiet.{either_way}
 use Rattle.seat_programs.specs.corr_core.specs.Word.{parts}
+use Rattle.seat_programs.specs.sock_message.specs.Asked.{Asked}
 use Rattle.seat_programs.specs.Calls.{Call, CreateLife, StoreOpen, AddRef, SubRef, SetOdd, Recycle, FreeSlot, LoadLink, StoreCode, LoadName, LoadOpen, TakeLink, FinishLink, PutLink, LookWord, ClaimRequest, PutMessage, SwapHead, EmptyHead}
 use Rattle.seat_programs.specs.Writings.{Writing}
-use Rattle.seat_programs.specs.Asides.{Step, Found, StoreAt, TakeBytes, Taking, id_slot}
-use Rattle.seat_programs.specs.Heads.{Head, Exit, Retry, Sought, Reading, Ended, Posts, Unlocks, Decides, Locks, Joins, Opens, Reads, Discards, Unlocking, Locking}
+use Rattle.seat_programs.specs.Asides.{Step, Found, PutCall, StoreAt, LoadIdWord, LockId, UnlockId, EndId, FreeId, TakeCall, TakeBytes, Taking, id_slot}
+use Rattle.seat_programs.specs.Heads.{Head, Exit, Retry, Sought, Reading, Ended, Posts, Unlocks, Decides, Locks, Joins, Opens, Reads, Discards, Posting, Unlocking, Deciding, Locking}
 use Rattle.seat_programs.specs.Programs.{Program, Do, Say, Sent, TakeMessage, TakeHome, PutHome, PutBytes, AskReady, Write, Aside, Round, Keep, Retries, LAST_VERSION, recycle, release, address, reach, set_failed, fail, fail_outcome, hold, drop_held}
 use Rattle.seat_programs.specs.Readers.{ended_by}
 use Rattle.seat_programs.specs.Cores.{next_step}
@@ -27,20 +28,6 @@ use Rattle.sock_runs.proofs.AtCalls.{AtCalls, asks_calls, every_exit}
 use Rattle.sock_runs.proofs.Records.{stores, loads, awaits, RecordsAt, Records}
 
 -- ## Kinds of steps
-
--- a step of which no property along steps asks anything
-abbrev pub is_plain : Call → Bool
-is_plain (CreateLife i k) = false
-is_plain (StoreOpen o w) = false
-is_plain (LoadOpen o) = false
-is_plain (SetOdd i) = false
-is_plain (StoreCode i h c) = false
-is_plain (LookWord id) = false
-is_plain (ClaimRequest id q) = false
-is_plain (PutMessage q heading bytes) = false
-is_plain (SwapHead i own) = false
-is_plain (EmptyHead i last) = false
-is_plain other = true
 
 -- a step by which a life is set failed, one by which one is made, and one that a message makes
 abbrev pub sets_failed : Call → Bool
@@ -61,10 +48,37 @@ is_of_message (SwapHead i own) = true
 is_of_message (EmptyHead i last) = true
 is_of_message other = false
 
+-- a step of which no property along steps asks anything
+abbrev pub is_plain : Call → Bool
+is_plain (LoadOpen o) = false
+is_plain call = not (sets_failed call || makes_life call || is_of_message call)
+
+-- of these, one by which a reference is given back, or a slot is freed
+abbrev pub is_freeing : Call → Bool
+is_freeing (SubRef i) = true
+is_freeing (Recycle i from) = true
+is_freeing (LoadLink i v) = true
+is_freeing (TakeLink k) = true
+is_freeing (FinishLink k) = true
+is_freeing (PutLink k) = true
+is_freeing (FreeSlot i) = true
+is_freeing other = false
+
 abbrev pub is_plain_aside : Step → Bool
 is_plain_aside (StoreAt o w) = false
 is_plain_aside (TakeBytes k room) = false
 is_plain_aside other = true
+
+-- of these, one on the word of an id, or on its call, that posts nothing
+abbrev pub is_of_id : Step → Bool
+is_of_id (LoadIdWord i) = true
+is_of_id (LockId i from) = true
+is_of_id (UnlockId i from advance) = true
+is_of_id (EndId i) = true
+is_of_id (FreeId i) = true
+is_of_id (PutCall i asked) = true
+is_of_id (TakeCall i) = true
+is_of_id other = false
 
 -- a loop about an error: it is posted, decided on, or the lock that it got is given back
 abbrev pub is_of_errors : Head → Bool
@@ -73,19 +87,40 @@ is_of_errors (Unlocks i w advance) = true
 is_of_errors (Decides id asked w e) = true
 is_of_errors other = false
 
+-- of these, one that posts nothing
+abbrev pub is_of_lock : Head → Bool
+is_of_lock (Posts id e w) = false
+is_of_lock head = is_of_errors head
+
 -- ## What a property along steps asks
 
 -- each of these steps keeps it
 abbrev pub PassesSteps : (Call → Bool) → (Program → Type 0) → Type 0
 PassesSteps these G = (call : Call) (next : ℕ → Program) → these call ≡ true → ((found : ℕ) → G (next found)) → G (Do call next)
 
--- what every property asks: plain steps keep it, and so do what is said, the loops about errors, and the retry that is kept behind an exchange that advanced an attempt
-pub record PassesPlain (G : Program → Type 0) : Type 0 where
+-- what is asked beside the steps on words: these steps aside keep it, and so do what is said, these loops, and the retry that is kept behind an exchange that advanced an attempt
+pub record PassesBeside (these : Step → Bool) (loops : Head → Bool) (G : Program → Type 0) : Type 0 where
+  pub say : (o : ℕ) (outcome : Outcome) (next : Program) → G next → G (Say o outcome next)
+  pub aside : (step : Step) (next : Found step → Program) → these step ≡ true → ((found : Found step) → G (next found)) → G (Aside step next)
+  pub round : (head : Head) (next : Exit head → Program) → loops head ≡ true → ((exit : Exit head) → G (next exit)) → G (Round head next)
+  pub again : (id w : ℕ) (next kept : Unlocking → Program) → ((exit : Unlocking) → kept exit ≡ Keep (record { id = id; attempt = (parts w).attempt + 1 }) (next exit)) → ((exit : Unlocking) → G (next exit)) → G (Round (Unlocks (id_slot id) w true) kept)
+
+-- about errors, and where none is posted
+abbrev pub PassesErrors : (Program → Type 0) → Type 0
+PassesErrors = PassesBeside is_plain_aside is_of_errors
+
+abbrev pub PassesLocked : (Program → Type 0) → Type 0
+PassesLocked = PassesBeside is_of_id is_of_lock
+
+-- of plain steps on words, and of what is said
+pub record PassesWords (G : Program → Type 0) : Type 0 where
   pub step : PassesSteps is_plain G
   pub say : (o : ℕ) (outcome : Outcome) (next : Program) → G next → G (Say o outcome next)
-  pub aside : (step : Step) (next : Found step → Program) → is_plain_aside step ≡ true → ((found : Found step) → G (next found)) → G (Aside step next)
-  pub round : (head : Head) (next : Exit head → Program) → is_of_errors head ≡ true → ((exit : Exit head) → G (next exit)) → G (Round head next)
-  pub again : (id w : ℕ) (next kept : Unlocking → Program) → ((exit : Unlocking) → kept exit ≡ Keep (record { id = id; attempt = (parts w).attempt + 1 }) (next exit)) → ((exit : Unlocking) → G (next exit)) → G (Round (Unlocks (id_slot id) w true) kept)
+
+-- what every property asks
+pub record PassesPlain (G : Program → Type 0) : Type 0 where
+  pub words : PassesWords G
+  pub errors : PassesErrors G
 
 -- lives are set failed with this code
 abbrev pub PassesFails : (Program → Type 0) → ℕ → Type 0
@@ -161,15 +196,56 @@ pub record Follows (G : Program → Type 0) : Type 0 where
   pub keep : (r : Retry) (next : Program) → G (Keep r next) → G next
   pub retries : (requests : ℕ) (after : Program) → G (Retries requests after) → G after
 
-module _ (G : Program → Type 0) (g : PassesPlain G) where
-  pub through_recycle : (i from : ℕ) (next : Bool → Program) → ((b : Bool) → G (next b)) → G (recycle i from next)
-  through_recycle i from next after = g.step (Recycle i from) _ refl (λ found. either_way (found == from) _ _ G
-      (g.step (LoadLink i (vref_version from + 1)) _ refl (λ k. g.step (TakeLink k) _ refl (λ _. g.step (FinishLink k) _ refl (λ _. g.step (PutLink k) _ refl (λ _.
-      either_way (nat_le (vref_version from + 1) LAST_VERSION) _ _ G (g.step (FreeSlot i) _ refl (λ _. after true)) (after true))))))
+-- a loop about an error is one of three
+pub by_errors : (G : Program → Type 0) → ((id e w : ℕ) (next : Posting → Program) → ((exit : Posting) → G (next exit)) → G (Round (Posts id e w) next))
+    → ((i w : ℕ) (advance : Bool) (next : Unlocking → Program) → ((exit : Unlocking) → G (next exit)) → G (Round (Unlocks i w advance) next))
+    → ((id : ℕ) (asked : Asked) (w e : ℕ) (next : Deciding → Program) → ((exit : Deciding) → G (next exit)) → G (Round (Decides id asked w e) next))
+    → (head : Head) (next : Exit head → Program) → is_of_errors head ≡ true → ((exit : Exit head) → G (next exit)) → G (Round head next)
+by_errors G posts unlocks decides (Posts id e w) next is r = posts id e w next r
+by_errors G posts unlocks decides (Unlocks i w advance) next is r = unlocks i w advance next r
+by_errors G posts unlocks decides (Decides id asked w e) next is r = decides id asked w e next r
+by_errors G posts unlocks decides _ next is r = absurd (true≢false (sym is))
+
+-- where errors are posted or not
+pub locked : {G : Program → Type 0} → PassesErrors G → PassesLocked G
+locked g = record { say = g.say; aside = λ step next is r. g.aside step next (plain step is) r; round = λ head next is r. g.round head next (of_errors head is) r; again = g.again }
+  where
+    plain : (step : Step) → is_of_id step ≡ true → is_plain_aside step ≡ true
+    plain (StoreAt o w) is = is
+    plain (TakeBytes k room) is = is
+    plain _ is = refl
+
+    of_errors : (head : Head) → is_of_lock head ≡ true → is_of_errors head ≡ true
+    of_errors (Posts id e w) is = refl
+    of_errors _ is = is
+
+-- where steps that give back a reference keep it
+module _ (G : Program → Type 0) (frees : PassesSteps is_freeing G) where
+  given_recycle : (i from : ℕ) (next : Bool → Program) → ((b : Bool) → G (next b)) → G (recycle i from next)
+  given_recycle i from next after = frees (Recycle i from) _ refl (λ found. either_way (found == from) _ _ G
+      (frees (LoadLink i (vref_version from + 1)) _ refl (λ k. frees (TakeLink k) _ refl (λ _. frees (FinishLink k) _ refl (λ _. frees (PutLink k) _ refl (λ _.
+      either_way (nat_le (vref_version from + 1) LAST_VERSION) _ _ G (frees (FreeSlot i) _ refl (λ _. after true)) (after true))))))
       (after false))
 
+  pub given_release : (i : ℕ) (next : Bool → Program) → ((b : Bool) → G (next b)) → G (release i next)
+  given_release i next after = frees (SubRef i) _ refl (λ found. either_way ((vref_version found % 2 == 1) && (vref_nref found == 1)) _ _ G (given_recycle i (found - 1) next after) (after false))
+
+module _ (G : Program → Type 0) (g : PassesWords G) where
+  frees : PassesSteps is_freeing G
+  frees call next is r = g.step call next (plain call is) r
+    where
+      plain : (call : Call) → is_freeing call ≡ true → is_plain call ≡ true
+      plain (SubRef i) is = refl
+      plain (Recycle i from) is = refl
+      plain (LoadLink i v) is = refl
+      plain (TakeLink k) is = refl
+      plain (FinishLink k) is = refl
+      plain (PutLink k) is = refl
+      plain (FreeSlot i) is = refl
+      plain _ is = absurd (true≢false (sym is))
+
   pub through_release : (i : ℕ) (next : Bool → Program) → ((b : Bool) → G (next b)) → G (release i next)
-  through_release i next after = g.step (SubRef i) _ refl (λ found. either_way ((vref_version found % 2 == 1) && (vref_nref found == 1)) _ _ G (through_recycle i (found - 1) next after) (after false))
+  through_release = given_release G frees
 
   pub through_address : (id : ℕ) (held : Program) (gone : ℕ → Program) → G held → ((found : ℕ) → G (gone found)) → G (address id held gone)
   through_address id held gone h after = g.step (AddRef id) _ refl (λ found. either_way (vref_version found == socket_id_version id) _ _ G h (through_release (socket_id_slot id) (λ _. gone found) (λ _. after found)))
@@ -226,7 +302,7 @@ reads_any G plain looped take = record {
 
 -- where nothing is asked of what sets a life failed
 pub through_any_failed : (G : Program → Type 0) (g : Passes G) (code : ℕ) → PassesFails G code
-through_any_failed G g code = through_set_failed G g.sends.plain g.failing code
+through_any_failed G g code = through_set_failed G g.sends.plain.words g.failing code
 
 -- ## Properties along steps
 
@@ -240,11 +316,13 @@ module _ {S : Type 0} (asks : Asks S) (s : S) where
       → ((head : Head) (next : Exit head → Program) → is_of_errors head ≡ true → ((exit : Exit head) → B (next exit)) → B (Round head next))
       → ((id w : ℕ) (next : Unlocking → Program) → ((exit : Unlocking) → B (next exit)) → asks.loop s (Unlocks (id_slot id) w true) (λ t exit. AtSteps asks t (Keep (record { id = id; attempt = (parts w).attempt + 1 }) (next exit)))) → PassesPlain B
   at_steps_plain step said aside round again = record {
-    step = step;
-    say = λ o outcome next r. said (λ t. AtSteps asks t next) r;
-    aside = aside;
-    round = round;
-    again = λ id w next kept is r. subst (λ (k : Unlocking → Program). B (Round (Unlocks (id_slot id) w true) k)) (fun_ext (λ exit. sym (is exit))) (again id w next r);
+    words = record { step = step; say = λ o outcome next r. said (λ t. AtSteps asks t next) r };
+    errors = record {
+      say = λ o outcome next r. said (λ t. AtSteps asks t next) r;
+      aside = aside;
+      round = round;
+      again = λ id w next kept is r. subst (λ (k : Unlocking → Program). B (Round (Unlocks (id_slot id) w true) k)) (fun_ext (λ exit. sym (is exit))) (again id w next r);
+    };
   }
 
   -- where t is known behind a writing
@@ -318,7 +396,7 @@ module _ {S : Type 0} (rest : Type 0) (calls : S → Call → (ℕ → Program) 
       bare = at_steps_plain asked s (λ call next is r. let n = three_none call is in plain call next n.0 n.1 n.2 r) (λ behind r. r) (λ step next is r. r) of_errors (λ id w next r. looped (Unlocks (id_slot id) w true) refl (λ exit. Keep (record { id = id; attempt = (parts w).attempt + 1 }) (next exit)) r)
 
       fails : (code : ℕ) → PassesFails A code
-      fails = through_set_failed A bare failing
+      fails = through_set_failed A bare.words failing
 
   pub at_calls_follow : ((head : Head) (next : Exit head → Program) → A (Round head next) → (exit : Exit head) → A (next exit)) → Follows A
   at_calls_follow left = record { said = λ o outcome next r. r; sent = λ o next r. r; message = λ q next r. r; home = λ k next r. r; puts_home = λ k n after r. r; put = λ k asked bytes next r. r; ask = λ k next r. r; write = λ w after r. r; aside = λ step next r. r; round = left; keep = λ r next x. x; retries = λ requests after r. r }

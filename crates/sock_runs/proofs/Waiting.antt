@@ -1,6 +1,6 @@
 -- A tick of a seat that waits changes nothing; and where all links are prompt and each seat is at rest or waits, none waits.
 use Rattle.std.proofs.Common.{◌≡◌, ◌≢◌, ℕ, zero, suc, ◌-◌, ◌<◌, ◌≤◌, ◌⊎◌, Bool, true, false, not, ◌&&◌, List, [], ◌∷◌, length, set, refl, sym, ap, ap₂, ◌∙◌, subst, inl, inr, ⊎_elim, arith, cond, eqb, eqb-true}
-use Rattle.std.proofs.lemmas.Bool.{true≢false}
+use Rattle.std.proofs.lemmas.Bool.{true≢false, and_parts}
 use Rattle.std.specs.Prelude.{slice_index}
 use Rattle.std.specs.List.{filter}
 use mathlib.Core.Option.{Option, some, none}
@@ -27,7 +27,6 @@ use Rattle.sock_steps.specs.chain_steps.proofs.Frames.{in_size}
 use Rattle.sock_steps.specs.chain_steps.proofs.Heads.{held_of, slot_is}
 use Rattle.sock_steps.proofs.Maps.{gather_nil}
 use Rattle.sock_steps.proofs.RightSteps.{right_in, right_alone}
-use Rattle.seat_programs.specs.Writings.{Writing}
 use Rattle.seat_programs.specs.Writings as heads
 use Rattle.std.specs.Prelude as std
 use Rattle.seat_programs.specs.corr_core.specs.Word.{parts}
@@ -46,7 +45,6 @@ use Rattle.seat_programs.specs.Runs.{IsAtRest}
 use Rattle.sock_runs.specs.GoesOn.{GoesOn}
 use Rattle.sock_runs.specs.Sound.{Sound, IsAhead, is_begun}
 use Rattle.sock_runs.proofs.Allowed.{view_there}
-use Rattle.sock_runs.proofs.Passes.{and_left, and_right}
 use Rattle.sock_runs.proofs.Along.{seat_rests, place_inside}
 
 -- ## Its tick changes nothing
@@ -74,8 +72,8 @@ module _ (p : Plan) (i : ℕ) (seat : SeatState) (c : Core) where
   -- an id that is sought is locked
   locking_stays : (j : ℕ) (sought : Sought) (found : ℕ) (k : Locking → Program) → (is_sought sought (parts found) && not (eqb (parts found).state 1)) ≡ true → locking j sought found k ≡ Round (Locks j sought std.None) k
   locking_stays j sought found k is = let two : Bool → Program = λ b. cond b (Round (Locks j sought (std.Some found)) k) (Round (Locks j sought std.None) k) in
-      ap (λ (b : Bool). cond (not b) (k (NotThere found)) (two (eqb (parts found).state 1))) (and_left (is_sought sought (parts found)) (not (eqb (parts found).state 1)) is)
-      ∙ by_state (eqb (parts found).state 1) (and_right (is_sought sought (parts found)) (not (eqb (parts found).state 1)) is)
+      ap (λ (b : Bool). cond (not b) (k (NotThere found)) (two (eqb (parts found).state 1))) (and_parts (is_sought sought (parts found)) (not (eqb (parts found).state 1)) is).0
+      ∙ by_state (eqb (parts found).state 1) (and_parts (is_sought sought (parts found)) (not (eqb (parts found).state 1)) is).1
     where
       by_state : (b : Bool) → not b ≡ true → cond b (Round (Locks j sought (std.Some found)) k) (Round (Locks j sought std.None) k) ≡ Round (Locks j sought std.None) k
       by_state true is = absurd (true≢false (sym is))

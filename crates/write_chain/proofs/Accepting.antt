@@ -65,9 +65,33 @@ module _ (p : Plan) (v a b : View) (id slot h k at own : ℕ) (c : Claim) (headi
       (subst (λ (y : ℕ). Became slot v (record v { marks = w.marks }) (Met y k ∷ []) []) h_is
       (becomes slot (ap (λ l. record v { marks = l }) (same ∙ ap (λ (x : View). x.marks) b_is)) (adds_mark slot (Met h k) v)))
 
+  -- what stays as it was once the message is an entry of the own list, behind that which was found
+  abbrev was_accepted : (found : ℕ) (x : View) (left : List Loose) (owned : List Right) → x ≡ record (met_link slot h k v) { claims = []; loose = left; rights = owned; lists = more v.lists (entry_of c₂ found) } → x.marks ≡ b.marks → x.loose ≡ [] → Accepted [] p id heading bytes v x
+  was_accepted found x left owned all same none_ = record {
+    entry = entry_of c₂ found;
+    heading_is = refl;
+    bytes_is = refl;
+    lists = ap (λ (y : View). y.lists) all;
+    marks = marks_b x same;
+    inside = link;
+    claims = ap (λ (y : View). y.claims) all;
+    loose = none_;
+    hands = ap (λ (y : View). y.hands) all;
+    share = ap (λ (y : View). y.share) all;
+    passes = ap (λ (y : View). y.passes) all;
+    seen = λ n h. (h.0, ap (λ (y : View). get_elem? y.found h.0) all ∙ h.1);
+    finds = ap (λ (y : View). y.finds) all;
+    histories = ap (λ (y : View). y.histories) all;
+    drops = ap (λ (y : View). y.drops) all;
+    stores = ap (λ (y : View). y.stores) all;
+  }
+
   -- a busy head: the next word of the entry is connected then
   module _ (found : ℕ) (w x : View) (swapped : w ≡ queued b (ready_claim (filled_for c k heading bytes)) found) (connected : x ≡ without_loose w at) where
-    all : x ≡ without_loose (queued (with_claim (met_link slot h k v) (ready_claim (filled_for c k heading bytes))) (ready_claim (filled_for c k heading bytes)) found) at
+    abbrev behind : View
+    behind = without_loose (queued (with_claim (met_link slot h k v) c₂) c₂ found) at
+
+    all : x ≡ behind
     all = connected ∙ ap (λ (y : View). without_loose y at) (swapped ∙ ap (λ (y : View). queued y (ready_claim (filled_for c k heading bytes)) found) b_is)
 
     pub loose_there : get_elem? w.loose 0 ≡ some record { request = c.request; before = found }
@@ -75,52 +99,22 @@ module _ (p : Plan) (v a b : View) (id slot h k at own : ℕ) (c : Claim) (headi
 
     pub was_queued : Accepted [] p id heading bytes v x × (x.rights ≡ [])
     was_queued = (
-      record {
-        entry = entry_of (ready_claim (filled_for c k heading bytes)) found;
-        heading_is = refl;
-        bytes_is = refl;
-        lists = ap (λ (y : View). y.lists) all;
-        marks = marks_b x (ap (λ (y : View). y.marks) connected ∙ ap (λ (y : View). y.marks) swapped);
-        inside = link;
-        claims = ap (λ (y : View). y.claims) all;
-        loose = ap (λ (y : View). y.loose) all ∙ (ap (λ (l : List Loose). filter (λ (z : Loose). not (eqb z.request at)) (record { request = c.request; before = found } ∷ l)) loose ∙ ap (λ t. cond (not t) (record { request = c.request; before = found } ∷ []) []) (eq-eqb c.request at request));
-        hands = ap (λ (y : View). y.hands) all;
-        share = ap (λ (y : View). y.share) all;
-        passes = ap (λ (y : View). y.passes) all;
-        seen = λ n h. (h.0, ap (λ (y : View). get_elem? y.found h.0) all ∙ h.1);
-        finds = ap (λ (y : View). y.finds) all;
-        histories = ap (λ (y : View). y.histories) all;
-        drops = ap (λ (y : View). y.drops) all;
-        stores = ap (λ (y : View). y.stores) all;
-      },
+      was_accepted found x behind.loose behind.rights all (ap (λ (y : View). y.marks) connected ∙ ap (λ (y : View). y.marks) swapped)
+          (ap (λ (y : View). y.loose) all ∙ (ap (λ (l : List Loose). filter (λ (z : Loose). not (eqb z.request at)) (record { request = c.request; before = found } ∷ l)) loose ∙ ap (λ t. cond (not t) (record { request = c.request; before = found } ∷ []) []) (eq-eqb c.request at request))),
       ap (λ (y : View). y.rights) all ∙ rights,
     )
 
   -- an idle head: the seat has the right to write
   module _ (found places : ℕ) (sent : List ℕ) (w : View) (swapped : w ≡ righted b (ready_claim (filled_for c k heading bytes)) found sent places) where
-    all_r : w ≡ righted (with_claim (met_link slot h k v) (ready_claim (filled_for c k heading bytes))) (ready_claim (filled_for c k heading bytes)) found sent places
+    abbrev behind_r : View
+    behind_r = righted (with_claim (met_link slot h k v) c₂) c₂ found sent places
+
+    all_r : w ≡ behind_r
     all_r = swapped ∙ ap (λ (y : View). righted y (ready_claim (filled_for c k heading bytes)) found sent places) b_is
 
     pub was_first : (a : Accepted [] p id heading bytes v w) × (x : Right) × (w.rights ≡ x ∷ []) × IsFirst x a.entry.link own
     was_first = (
-      record {
-        entry = entry_of (ready_claim (filled_for c k heading bytes)) (found - IDLE);
-        heading_is = refl;
-        bytes_is = refl;
-        lists = ap (λ (y : View). y.lists) all_r;
-        marks = marks_b w (ap (λ (y : View). y.marks) swapped);
-        inside = link;
-        claims = ap (λ (y : View). y.claims) all_r;
-        loose = ap (λ (y : View). y.loose) all_r ∙ loose;
-        hands = ap (λ (y : View). y.hands) all_r;
-        share = ap (λ (y : View). y.share) all_r;
-        passes = ap (λ (y : View). y.passes) all_r;
-        seen = λ n h. (h.0, ap (λ (y : View). get_elem? y.found h.0) all_r ∙ h.1);
-        finds = ap (λ (y : View). y.finds) all_r;
-        histories = ap (λ (y : View). y.histories) all_r;
-        drops = ap (λ (y : View). y.drops) all_r;
-        stores = ap (λ (y : View). y.stores) all_r;
-      },
+      was_accepted (found - IDLE) w behind_r.loose behind_r.rights all_r (ap (λ (y : View). y.marks) swapped) (ap (λ (y : View). y.loose) all_r ∙ loose),
       new_right (ready_claim (filled_for c k heading bytes)) found sent places,
       ap (λ (y : View). y.rights) all_r ∙ ap (λ (l : List Right). new_right (ready_claim (filled_for c k heading bytes)) found sent places ∷ l) rights,
       record { link_is = refl; last_is = ticket_is; stage = ap Rattle.sock_model.specs.declared.chain.Stage.TheVariants.Writes ticket_is; clean = refl; link_home = refl; idle = refl },

@@ -91,54 +91,19 @@ took_all : (sent begun bytes left took : List ℕ) → took ≡ sent ++ begun �
 took_all sent begun bytes left took t b none_ = t ∙ ap (λ l. sent ++ l) (sym (b ∙ (ap (λ l. begun ++ l) none_ ∙ append-nil begun)))
 
 module _ {O : Type 0} {g : Ghosts O} {p : Plan} {ways : List (List ℕ)} {id last : ℕ} where
-  -- what is in hand stays where notes come
-  pub part_noted : {L : ℕ → Type 0} (hand : InHand O g) (m n : Me (SockHome O g) View) (notes : List Mark) → Noted g.state L (socket_id_version id) notes → Became (socket_id_slot id) m.0 n.0 notes [] → n.1 ≡ m.1 → (0 < faults_of hand.link n.0 → 0 < (g.state hand.home.out).faults) → HasPart p ways id last hand m → HasPart p ways id last hand n
-  part_noted hand m n notes noted b slots faults h = (
-    record {
-      right_is = h.0.right_is;
-      writer = writer_noted h.0.writer notes noted b;
-      has = h.0.has;
-      stage_is = h.0.stage_is;
-      ticket = h.0.ticket;
-      taken = h.0.taken;
-      place_is = h.0.place_is;
-      attempt_is = h.0.attempt_is;
-      owner_is = h.0.owner_is;
-      place_in = h.0.place_in;
-      begun = h.0.begun;
-      bytes_are = h.0.bytes_are;
-      took = h.0.took;
-      noted = faults;
-      few = h.0.few;
-      slots = slots ∙ h.0.slots;
-    },
-    h.1,
-  )
+  -- the right's sign that a look found the life live is this one now, and the rest of what is in hand stays
+  abbrev stays_in_hand : (hand : InHand O g) (m n : Me (SockHome O g) View) (h : HasInHand p ways id last hand m) (clean : Bool) → IsWriter p id last hand.link (record h.right_is { clean = clean }) n.0 → (0 < faults_of hand.link n.0 → 0 < (g.state hand.home.out).faults) → n.1 ≡ m.1 → HasInHand p ways id last hand n
+  stays_in_hand hand m n h clean writer faults slots = record { right_is = record h.right_is { clean = clean }; writer = writer; has = record { away = h.has.away; link_in = h.has.link_in; places_are = h.has.places_are; own = h.has.own; way = h.has.way; unfinished = h.has.unfinished }; stage_is = h.stage_is; ticket = h.ticket; taken = h.taken; place_is = h.place_is; attempt_is = h.attempt_is; owner_is = h.owner_is; place_in = h.place_in; begun = h.begun; bytes_are = h.bytes_are; took = h.took; noted = faults; few = h.few; slots = slots ∙ h.slots }
 
-  -- the look found the life live
+  -- where notes come
+  pub part_noted : {L : ℕ → Type 0} (hand : InHand O g) (m n : Me (SockHome O g) View) (notes : List Mark) → Noted g.state L (socket_id_version id) notes → Became (socket_id_slot id) m.0 n.0 notes [] → n.1 ≡ m.1 → (0 < faults_of hand.link n.0 → 0 < (g.state hand.home.out).faults) → HasPart p ways id last hand m → HasPart p ways id last hand n
+  part_noted hand m n notes noted b slots faults h = (stays_in_hand hand m n h.0 h.0.right_is.clean (writer_noted h.0.writer notes noted b) faults slots, h.1)
+
+  -- where the look found the life live
   pub part_clean : {L : ℕ → Type 0} (hand : InHand O g) (m n : Me (SockHome O g) View) (v : View) (notes : List Mark) → Noted g.state L (socket_id_version id) notes → Became (socket_id_slot id) m.0 v notes [] → (0 < faults_of hand.link v → 0 < (g.state hand.home.out).faults) → (h : HasPart p ways id last hand m)
       → n ≡ (with_right v (record h.0.right_is { clean = true }), m.1) → IsClean p ways id last hand n
-  part_clean hand m n v notes noted b faults h e = let w = writer_noted h.0.writer notes noted b in (
-    record {
-      right_is = record h.0.right_is { clean = true };
-      writer = writer_on w last (record h.0.right_is { clean = true }) refl w.last_is w.last_ticket (ap (λ (q : Me (SockHome O g) View). q.0) e);
-      has = record { away = h.0.has.away; link_in = h.0.has.link_in; places_are = h.0.has.places_are; own = h.0.has.own; way = h.0.has.way; unfinished = h.0.has.unfinished };
-      stage_is = h.0.stage_is;
-      ticket = h.0.ticket;
-      taken = h.0.taken;
-      place_is = h.0.place_is;
-      attempt_is = h.0.attempt_is;
-      owner_is = h.0.owner_is;
-      place_in = h.0.place_in;
-      begun = h.0.begun;
-      bytes_are = h.0.bytes_are;
-      took = h.0.took;
-      noted = λ t. faults (subst (λ (y : View). 0 < faults_of hand.link y) (ap (λ (q : Me (SockHome O g) View). q.0) e) t);
-      few = h.0.few;
-      slots = ap (λ (q : Me (SockHome O g) View). q.1) e ∙ h.0.slots;
-    },
-    refl,
-  )
+  part_clean hand m n v notes noted b faults h e = let w = writer_noted h.0.writer notes noted b in let view : n.0 ≡ with_right v (record h.0.right_is { clean = true }) = ap (λ (q : Me (SockHome O g) View). q.0) e in
+      (stays_in_hand hand m n h.0 true (writer_on w last (record h.0.right_is { clean = true }) refl w.last_is w.last_ticket view) (λ t. faults (subst (λ (y : View). 0 < faults_of hand.link y) view t)) (ap (λ (q : Me (SockHome O g) View). q.1) e), refl)
 
   -- a put was made, or the link was asked
   went_on : (old new : InHand O g) (taken : List ℕ) (m : Me (SockHome O g) View) → WentOn old new taken → (h : HasInHand p ways id last old m) → (h' : HasInHand p ways id last new m) × (h'.right_is ≡ h.right_is) × (h'.begun ≡ h.begun ++ taken)

@@ -1,6 +1,8 @@
 -- What keeping on writing comes to.
 use Rattle.std.specs.Prelude.{◌≡◌, ◌≢◌, ℕ, ◌<◌, ◌≤◌, ◌==◌, cond, List}
+use Rattle.atomic_table.specs.Seated.{TableId}
 use Rattle.atomic_table.specs.Table.{Me}
+use Rattle.atomic_table.specs.declared.shared.Seat.{Seat}
 use Rattle.sock_io.specs.declared.link.Out.{Ghosts}
 use Rattle.sock_words.specs.declared.plain.Plan.{Plan}
 use Rattle.sock_words.specs.Codes.{EFAILEDSOCKET}
@@ -8,8 +10,10 @@ use Rattle.sock_words.specs.Words.{socket_id_version, socket_id_slot}
 use Rattle.sock_model.specs.declared.view.View.{View}
 use Rattle.sock_model.specs.Weights.{is_told}
 use Rattle.sock_model.specs.SlotRows.{marks_of}
+use Rattle.sock_rule.specs.Seated.{IsSeat}
 use Rattle.sock_rule.specs.declared.homes.SockHome.{SockHome}
 use Rattle.sock_table.specs.declared.refs.SockRef.{SockRef}
+use Rattle.write_chain.specs.declared.right.WriteRight.{WriteRight}
 use Rattle.write_chain.specs.declared.keep.Went.{Went}
 use Rattle.write_chain.specs.declared.keep.Went.TheVariants as went
 use Rattle.write_chain.specs.declared.keep.Kept.{Kept}
@@ -29,6 +33,12 @@ abbrev pub WentBy : {O : Type 0} {g : Ghosts O} → Plan → List (List ℕ) →
 WentBy p ways sock (went.Done s) v m = (s ≡ sock) × GaveUp p sock.id.0 m
 WentBy p ways sock (went.Dropped r msg code) v m = (r.sock ≡ sock) × MayGoOn p ways r m × FoundDead sock.id.0 m.0 × IsCode code sock.id.0 v m.0
 WentBy p ways sock (went.Further r) v m = (r.sock ≡ sock) × MayGoOn p ways r m
+
+-- between two rounds the seat may go on by this right to write the socket
+pub record StillWrites {O : Type 0} {g : Ghosts O} (z : TableId) (p : Plan) (ways : List (List ℕ)) (sock : SockRef) (right : WriteRight O g) (s : Seat (SockHome O g) View) : Type 0 where
+  pub seat : IsSeat z p s
+  pub same : right.sock ≡ sock
+  pub may : MayGoOn p ways right s.me
 
 -- the message was dropped
 abbrev pub IsDropped : {O : Type 0} {g : Ghosts O} → Went O g → Type 0

@@ -8,10 +8,10 @@ use Rattle.brpc_eng.proofs.Replays.{drawn_command, load_command, frames_command,
 use Rattle.brpc_eng.proofs.engine.answer.Goals as goal
 
 pub returns-in-None-clause-answers : goal.returns-in-None-clause-answers
-returns-in-None-clause-answers g c = answer.NoCommand refl (sym c.in-None.ensures) refl (c.requires.asked, c.requires.back) c.write_answer.ensures
+returns-in-None-clause-answers g c = answer.NoCommand refl (sym c.in-None.ensures) refl c.requires.unused.0 c.write_answer.ensures
 
 pub returns-in-Gen-clause-answers : goal.returns-in-Gen-clause-answers
-returns-in-Gen-clause-answers g c = drawn_command _ _ _ _ _ c.in-Some.command c.in-Gen.draw c.in-Some.ensures c.in-Gen.is refl (c.requires.asked, c.requires.back) c.print_generated.ensures
+returns-in-Gen-clause-answers g c = drawn_command _ _ _ _ _ c.in-Some.command c.in-Gen.draw c.in-Some.ensures c.in-Gen.is refl c.requires.unused.0 c.print_generated.ensures
 
 pub returns-in-Load-clause-answers : goal.returns-in-Load-clause-answers
 returns-in-Load-clause-answers g c = load_command _ _ _ _ _ c.in-Some.command c.in-Load.draw c.in-Some.ensures c.in-Load.is refl c.load.ensures.loaded
@@ -20,7 +20,7 @@ pub returns-in-Load-clause-counts : goal.returns-in-Load-clause-counts
 returns-in-Load-clause-counts g c = record { source_still = λ other. refl; linker_still = c.load.ensures.linker }
 
 pub returns-in-Frames-clause-answers : goal.returns-in-Frames-clause-answers
-returns-in-Frames-clause-answers g c = frames_command _ _ _ _ _ c.in-Some.command c.in-Some.ensures c.in-Frames.is (c.requires.asked, c.requires.back) c.frames.ensures.printed
+returns-in-Frames-clause-answers g c = frames_command _ _ _ _ _ c.in-Some.command c.in-Some.ensures c.in-Frames.is c.requires.unused.0 c.frames.ensures.printed
 
 pub returns-in-Frames-clause-counts : goal.returns-in-Frames-clause-counts
 returns-in-Frames-clause-counts g c = record { source_still = c.frames.ensures.source; linker_still = λ other. refl }

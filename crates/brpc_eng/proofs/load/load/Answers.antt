@@ -10,7 +10,7 @@ use Rattle.brpc_eng.proofs.load.load.Goals as goal
 
 pub returns-in_default-clause-loaded : goal.returns-in_default-clause-loaded
 returns-in_default-clause-loaded g c = record {
-  opened = opened_none mode.Loop _ _ 7 c.requires.asked c.requires.back (λ written. ⊎_elim (λ e. absurd (omega (arith, e))) (λ e. absurd (omega (arith, e))) written);
+  opened = opened_none mode.Loop _ _ 7 c.requires.unopened.0 c.requires.unopened.1 (λ written. ⊎_elim (λ e. absurd (omega (arith, e))) (λ e. absurd (omega (arith, e))) written);
   ran = LoadRanOut refl (refl, refl);
 }
 

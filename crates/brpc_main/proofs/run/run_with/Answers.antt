@@ -1,6 +1,8 @@
-use Rattle.std.proofs.Common.{inl, inr, ⊎_elim, refl, ◌∙◌}
+use Rattle.std.proofs.Common.{inl, ap, ◌∙◌, map, drop, string_bytes}
 use Rattle.brpc_main.proofs.Answered.{answered}
 use Rattle.brpc_main.proofs.run.run_with.Goals as goal
 
-pub returns-clause-answers : goal.returns-clause-answers
-returns-clause-answers g c = ⊎_elim (λ a. inl (answered _ _ _ _ _ _ _ refl c.from.ensures a)) (λ r. inr (c.from.ensures ∙ r.0, r.1, r.2, r.3)) c.answer-status.ensures
+pub returns-in-Ok-clause-answers : goal.returns-in-Ok-clause-answers
+returns-in-Ok-clause-answers g c =
+    let words = ap (λ x. map string_bytes x) c.behind_first.ensures ∙ ap (λ x. map string_bytes (drop 1 x)) (c.deref.ensures.value ∙ c.in-Ok.ensures) in
+    inl (answered _ _ _ _ _ _ _ words c.ended.ensures.code c.brpc-status.ensures.answers)

@@ -7,21 +7,16 @@ use Rattle.call_attempts.specs.Retrying.{stray, unopened, to_socket}
 use Rattle.call_attempts.proofs.Leaving.{found_keeps, keeps_leaves, own_after, own_keeps, none_keeps, rested_still, rested_found, rested_then}
 use Rattle.call_attempts.proofs.retrying.go_to.Goals as goal
 
-pub attempt_one-requires-clause-may : goal.attempt_one-requires-clause-may
-attempt_one-requires-clause-may g c = let z = c.args.tables.now.socks.rule.table.shared.table_id in let p = c.args.tables.now.socks.rule.plan in
-    may_still z p c.args.seat.now c.find.new.seat c.requires.may (rest_same z p c.args.seat.now c.find.new.seat c.requires.may.idle c.find.ensures.seat c.find.ensures.slots (c.find.ensures.between c.requires.may.idle.between) c.find.ensures.same).idle (found_keeps p c.args.name c.find.result c.args.seat.now.me.0 c.find.new.seat.me.0 c.find.ensures.found).refs
-
-pub attempt_one-requires-clause-known : goal.attempt_one-requires-clause-known
-attempt_one-requires-clause-known g c = c.in-Some.ensures.found.0
-
-pub attempt_one-requires-clause-room : goal.attempt_one-requires-clause-room
-attempt_one-requires-clause-room g c = room_still c.args.seat.now.me.0 c.find.new.seat.me.0 (found_keeps c.args.tables.now.socks.rule.plan c.args.name c.find.result c.args.seat.now.me.0 c.find.new.seat.me.0 c.find.ensures.found).lists c.requires.room
-
-pub attempt_one-requires-clause-label : goal.attempt_one-requires-clause-label
-attempt_one-requires-clause-label g c = omega (arith, c.requires.place, c.args.msg.numbered, (c.is_stray.ensures.at_home c.if-is_stray.false).1)
-
-pub attempt_one-requires-clause-operation : goal.attempt_one-requires-clause-operation
-attempt_one-requires-clause-operation g c = (c.is_stray.ensures.at_home c.if-is_stray.false).2
+pub attempt_one-requires : goal.attempt_one-requires
+attempt_one-requires g c = let z = c.args.tables.now.socks.rule.table.shared.table_id in let p = c.args.tables.now.socks.rule.plan in let e = c.find.ensures in let k = found_keeps p c.args.name c.find.result c.args.seat.now.me.0 c.find.new.seat.me.0 e.found in let has = c.is_stray.ensures.at_home c.if-is_stray.false in record {
+  may = may_still z p c.args.seat.now c.find.new.seat c.requires.may (rest_same z p c.args.seat.now c.find.new.seat c.requires.may.idle e.seat e.slots (e.between c.requires.may.idle.between) e.same).idle k.refs;
+  known = c.in-Some.ensures.found.0;
+  room = room_still c.args.seat.now.me.0 c.find.new.seat.me.0 k.lists c.requires.room;
+  ids = c.requires.ids;
+  operation = has.2;
+  id = c.requires.id;
+  label = omega (arith, c.requires.place, c.args.msg.numbered, has.1);
+}
 
 pub find-requires-clause-name : goal.find-requires-clause-name
 find-requires-clause-name g c = (c.is_stray.ensures.at_home c.if-is_stray.false).0

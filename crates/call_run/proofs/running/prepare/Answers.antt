@@ -10,8 +10,10 @@ returns g c = let n = length-map c.args.clients.items (λ v. v.items) in let m =
   rooms = c.in_ok-rooms.ensures.rooms;
   tasks = c.in_ok-rooms.ensures.tasks;
   workers = (c.in_ok-workers.ensures.items, c.in_ok-workers.ensures.len, c.in_ok-workers.ensures.exact ∙ omega arith);
-  openings_are = c.in_ok-openings.ensures;
-  names = (c.in_ok-names.ensures.items, c.in_ok-names.ensures.len, c.in_ok-names.ensures.exact ∙ omega arith);
-  left = subst (λ (x : ℕ). IsRoomFor x c.in_ok-left.left) (omega arith) l;
-  last = (c.in_ok-last.ensures.items, c.in_ok-last.ensures.len, c.in_ok-last.ensures.exact);
+  kit = record {
+    openings_are = c.in_ok-openings.ensures;
+    names = (c.in_ok-names.ensures.items, c.in_ok-names.ensures.len, c.in_ok-names.ensures.exact ∙ omega arith);
+    left = subst (λ (x : ℕ). IsRoomFor x c.in_ok-left.left) (omega arith) l;
+    last = (c.in_ok-last.ensures.items, c.in_ok-last.ensures.len, c.in_ok-last.ensures.exact);
+  };
 }

@@ -14,7 +14,7 @@ work-requires-after_bounds g c κs within = let p = c.args.tables.now.socks.rule
 
 pub run_workers-requires : goal.run_workers-requires
 run_workers-requires g c = let z = c.args.tables.now.socks.rule.table.shared.table_id in let p = c.args.tables.now.socks.rule.plan in let y = c.args.tables.now.ids.table.shared.table_id in let q = c.args.tables.now.ids.plan in let setup = c.args.crew.main.tasks.items in let names = c.as_slice-3.result.now in let r = c.requires.crew in
-    let fit = fit_names p q c.as_slice.result.now c.as_slice-2.result.now setup names (opens_of setup) (c.as_slice-3.ensures.value ∙ c.opened_names.ensures) (c.as_slice-2.ensures.value ∙ r.openings_are) r.may.setup_may.may in (
+    let fit = fit_names p q c.as_slice.result.now c.as_slice-2.result.now setup names (opens_of setup) (c.as_slice-3.ensures.value ∙ c.opened_names.ensures) (c.as_slice-2.ensures.value ∙ r.kit.openings_are) r.may.setup_may.may in (
       c.type_bounds.send-O,
       (
         c.type_bounds.send-G,
@@ -29,7 +29,7 @@ pub end_sockets-seats-requires-clause-seats : goal.end_sockets-seats-requires-cl
 end_sockets-seats-requires-clause-seats g c = let z = c.args.tables.now.socks.rule.table.shared.table_id in let p = c.args.tables.now.socks.rule.plan in let y = c.args.tables.now.ids.table.shared.table_id in let q = c.args.tables.now.ids.plan in let names = c.as_slice-3.result.now in let was = c.args.crew.workers.items in let m = c.work.new.self in let ys = c.run_workers.new.workers in
     let len = c.run_workers.ensures.length ∙ ap length c.as_mut_slice.ensures.value in
     let left = all_left g.O.Out.state z p y q c.args.crew m names ys c.hand_in.new.left c.hand_in_all.new.left c.requires.crew c.work.ensures
-    (c.as_slice-3.ensures.value ∙ (c.opened_names.ensures ∙ (λ i. opened_names (c.as_slice.ensures.value i) ((c.as_slice-2.ensures.value ∙ c.requires.crew.openings_are) i))))
+    (c.as_slice-3.ensures.value ∙ (c.opened_names.ensures ∙ (λ i. opened_names (c.as_slice.ensures.value i) ((c.as_slice-2.ensures.value ∙ c.requires.crew.kit.openings_are) i))))
     len
     (subst (λ l. (i : ℕ) (d : Worker g.row.O.Denot g.O.Out) → i < length l → HasWorked g.O.Out.state z p y q names (get_or l i d) (get_or ys i d)) c.as_mut_slice.ensures.value c.run_workers.ensures.each)
     _ c.hand_in.ensures c.hand_in_all.ensures
@@ -39,7 +39,7 @@ pub returns : goal.returns
 returns g c = let z = c.args.tables.now.socks.rule.table.shared.table_id in let p = c.args.tables.now.socks.rule.plan in let y = c.args.tables.now.ids.table.shared.table_id in let q = c.args.tables.now.ids.plan in let names = c.as_slice-3.result.now in let was = c.args.crew.workers.items in let m = c.work.new.self in let ys = c.run_workers.new.workers in
     let len = c.run_workers.ensures.length ∙ ap length c.as_mut_slice.ensures.value in
     crew_ran g.O.Out.state z p y q c.args.crew m names ys c.hand_in.new.left c.hand_in_all.new.left c.requires.crew c.work.ensures
-    (c.as_slice-3.ensures.value ∙ (c.opened_names.ensures ∙ (λ i. opened_names (c.as_slice.ensures.value i) ((c.as_slice-2.ensures.value ∙ c.requires.crew.openings_are) i))))
+    (c.as_slice-3.ensures.value ∙ (c.opened_names.ensures ∙ (λ i. opened_names (c.as_slice.ensures.value i) ((c.as_slice-2.ensures.value ∙ c.requires.crew.kit.openings_are) i))))
     len
     (subst (λ l. (i : ℕ) (d : Worker g.row.O.Denot g.O.Out) → i < length l → HasWorked g.O.Out.state z p y q names (get_or l i d) (get_or ys i d)) c.as_mut_slice.ensures.value c.run_workers.ensures.each)
     _ c.hand_in.ensures c.hand_in_all.ensures

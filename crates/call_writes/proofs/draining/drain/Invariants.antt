@@ -1,6 +1,4 @@
-use Rattle.std.proofs.Common.{◌≡◌}
-use Rattle.sock_rule.specs.Seated.{IsSeat}
-use Rattle.write_chain.specs.Writing.{MayGoOn}
+use Rattle.write_chain.specs.Keeping.{StillWrites}
 use Rattle.call_errors.specs.Books.{stand_of, KeepsSeat}
 use Rattle.call_writes.specs.Draining.{DroppedAll}
 use Rattle.call_writes.proofs.draining.drain.Given as goal
@@ -9,9 +7,7 @@ abbrev pub invariant-drops : goal.invariant-drops
 invariant-drops g l = record {
   can_go : (goal.iterator-drops g).can_next l.iterator';
   is_finite : (goal.iterator-drops g).is_finite l.iterator';
-  seat : IsSeat l.table.rule.table.shared.table_id l.table.rule.plan l.seat;
-  same : l.right.sock ≡ l.fn.right.sock;
-  may : MayGoOn l.table.rule.plan l.table.rule.ways.list l.right l.seat.me;
+  still : StillWrites l.table.rule.table.shared.table_id l.table.rule.plan l.table.rule.ways.list l.fn.right.sock l.right l.seat;
   keeps : KeepsSeat l.ids.table.shared.table_id l.fn.calls l.calls;
   dropped : DroppedAll g.O.Out.state l.table.rule.plan l.ids.plan.slots l.fn.right.sock.id.0 l.fn.seat.me.0 (stand_of l.fn.calls) l.seat.me.0 (stand_of l.calls);
 }

@@ -21,8 +21,8 @@ loop-line-preserved g c =
       count = grind (arith, common_steps);
       back = step.back ∙ i.back;
       always_ready = step.always_ready ∙ i.always_ready;
-      later = omega arith;
-      kept = grind (arith, common_steps);
+      later = omega (arith, step.cause.later, i.later);
+      kept = step.cause.kept (λ e. absurd (cc)) ∙ i.kept;
     }
 
 pub returns-clause-asked : goal.returns-clause-asked

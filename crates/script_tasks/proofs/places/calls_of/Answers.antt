@@ -1,12 +1,9 @@
-use Rattle.std.proofs.Common.{arith, map, ap, ◌++◌, ◌∙◌}
-use Rattle.brpc_model.specs.Items.{is_call}
+use Rattle.std.proofs.Common.{◌≡◌, map, ◌∙◌}
+use Rattle.std.proofs.lemmas.Result.{IfOk-weaker}
+use Rattle.seat_programs.specs.Tasks.{calls}
 use Rattle.script_items.specs.Meaning.{item}
-use Rattle.script_tasks.specs.Along.{numbers_along}
-use Rattle.script_tasks.proofs.Alongs.{calls_are, left_is}
+use Rattle.script_tasks.proofs.Alongs.{calls_are}
 use Rattle.script_tasks.proofs.places.calls_of.Goals as goal
 
-pub loop-line-init : goal.loop-line-init
-loop-line-init c = let script = map item c.args.lines.now in record {
-  room = omega (arith, left_is 0 1 script, c.requires.operations);
-  calls = ap (λ os. os ++ numbers_along is_call 0 script) c.new-calls.ensures.items ∙ calls_are script;
-}
+pub returns : goal.returns
+returns c = IfOk-weaker c.numbers_of.result _ (λ numbers. numbers.items ≡ calls (map item c.args.lines.now)) (λ numbers e. e ∙ calls_are (map item c.args.lines.now)) c.numbers_of.ensures

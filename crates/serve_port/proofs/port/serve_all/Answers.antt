@@ -1,5 +1,6 @@
 use Rattle.std.proofs.Common.{◌≡◌, sym, subst, rules}
-use Rattle.serve_port.specs.Serving.{LinkerState, ServesAll}
+use Rattle.sock_io.specs.Link.{LinkerState}
+use Rattle.serve_port.specs.Serving.{ServesConnections}
 use Rattle.serve_port.specs.Steps.{HasServed, as_served}
 use Rattle.serve_port.proofs.Guests.{none_served, from_none, all_served}
 use Rattle.serve_port.proofs.port.serve_all.Goals as goal
@@ -40,7 +41,7 @@ returns g c =
       faults = g.L.LinkerTold.faults c.links-1.given.0;
       always_ready = g.L.LinkerTold.always_ready c.links-1.given.0;
     } in
-    let turned : ServesAll c.from-count.result old new c.answer.result = subst (λ l. ServesAll c.from-count.result old (record {
+    let turned : ServesConnections c.from-count.result old new c.answer.result = subst (λ l. ServesConnections c.from-count.result old (record {
       asked = g.L.LinkerTold.asked l;
       accepted = g.L.LinkerTold.accepted l;
       back = g.L.LinkerTold.back l;
@@ -48,4 +49,4 @@ returns g c =
       faults = g.L.LinkerTold.faults l;
       always_ready = g.L.LinkerTold.always_ready l;
     }) c.answer.result) (sym links) all in
-    subst (λ n. ServesAll n old new c.answer.result) c.from-count.ensures turned
+    subst (λ n. ServesConnections n old new c.answer.result) c.from-count.ensures turned

@@ -24,7 +24,7 @@ returns-clause-ok c =
     (take c.given_len-count.result c.deref-2.result.now)
     c.args.inn.now
     c.give.new.self
-    c.end_where.new.self
+    c.end_where.new.inn
     c.end-end.result
     c.replies-given.result
     c.replies-made.result

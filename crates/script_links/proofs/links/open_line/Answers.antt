@@ -1,9 +1,14 @@
-use Rattle.std.proofs.Common.{◌<◌, ℕ, ap, sym, subst, ◌∙◌, rules}
+use Rattle.std.proofs.Common.{◌≡◌, ◌<◌, ℕ, true, ap, sym, subst, ◌∙◌, rules}
+use Rattle.std.proofs.lemmas.Bool.{ltb-true}
+use Rattle.brpc_model.specs.Items.{is_open}
+use Rattle.script_items.specs.Meaning.{item}
+use Rattle.script_items.specs.declared.line.Line.{Line}
 use Rattle.sock_io.specs.declared.link.LinkSpec.{LinkSpec}
+use Rattle.script_links.specs.Given.{has_piece}
 use Rattle.script_links.proofs.Numbering.{untouched, opened_more, all_with}
 use Rattle.script_links.proofs.Offers.{asked_with}
 use Rattle.script_links.proofs.Opening.{opened_with}
-use Rattle.script_links.proofs.links.open_one.Goals as goal
+use Rattle.script_links.proofs.links.open_line.Goals as goal
 
 pub returns-clause-fresh : goal.returns-clause-fresh
 returns-clause-fresh g c old = opened_more _ _ _ c.in_ok-opened.opened old (search rules) (untouched _ _ _ _ c.in_ok-opened.ensures.fresh c.requires.opened)
@@ -15,7 +20,10 @@ pub returns-clause-prompt_each : goal.returns-clause-prompt_each
 returns-clause-prompt_each g c always_ready loop old = all_with _ _ _ c.in_ok-opened.opened old (search rules) (c.in_ok-opened.ensures.always_ready always_ready (ap (λ (s : LinkSpec). s.mode) c.spec_of.ensures ∙ loop))
 
 pub open-requires : goal.open-requires
-open-requires g c = (subst (λ (s : LinkSpec). 0 < s.piece) (sym c.spec_of.ensures) c.requires.piece, subst (λ (n : ℕ). n < 256) (sym c.requires.opened) c.requires.few)
+open-requires g c =
+    let piece = subst (λ (l : Line). has_piece (item l) ≡ true) c.in-Open.is c.requires.piece in
+    let opens = ap (λ (l : Line). is_open (item l)) c.in-Open.is in
+    (subst (λ (s : LinkSpec). 0 < s.piece) (sym c.spec_of.ensures) (ltb-true 0 c.in-Open.open.shape.piece piece), subst (λ (n : ℕ). n < 256) (sym c.requires.opened) (search rules))
 
 pub returns-clause-unclosed : goal.returns-clause-unclosed
 returns-clause-unclosed g c old = all_with _ _ _ c.in_ok-opened.opened old (search rules) c.in_ok-opened.ensures.fresh.closing

@@ -1,13 +1,13 @@
-//! The texts of rows, which stand between quotes on one line.
+//! The text of a row of a file that a program answers, where it stands for more than one line.
+#![tactic(auto)]
+
 use std::alloc::{AllocError, Global};
 
-/// The text, in which `|` stands for the end of a line, and `*N TEXT*` for N times TEXT.
-pub fn expanded(alloc: Global, quoted: &str) -> Result<String, AllocError> {
-    let opened = quoted.strip_prefix("\"").unwrap_or(quoted);
-    let inner = opened.strip_suffix("\"").unwrap_or(opened);
+/// The text, in which `|` stands for the end of a line and `^` for a return before it, and `*N TEXT*` for N times TEXT.
+pub fn expanded(alloc: Global, row: &str) -> Result<String, AllocError> {
     let mut text = String::new(alloc);
     let mut is_many = false;
-    for piece in inner.split("*") {
+    for piece in row.split('*') {
         if is_many {
             push_many(&mut text, piece)?;
         } else {
@@ -30,9 +30,17 @@ fn push_many(text: &mut String, piece: &str) -> Result<(), AllocError> {
 
 fn push_lines(text: &mut String, part: &str) -> Result<(), AllocError> {
     for letter in part.chars() {
-        text.push(if letter == '|' { '\n' } else { letter })?;
+        text.push(letter_for(letter))?;
     }
     Ok(())
+}
+
+fn letter_for(letter: char) -> char {
+    match letter {
+        '|' => '\n',
+        '^' => '\r',
+        _ => letter,
+    }
 }
 
 /// The number of these digits, 0 for others.

@@ -1,13 +1,14 @@
-ghost use Rattle.std.specs.Prelude.{◌≡◌, Ok, IfSome, option_map};
-ghost use Rattle.rpc_meta.specs.brpc_model.specs.Meta.{read_meta};
-ghost use Rattle.rpc_meta.specs.Answer.{request_from, response_from};
+ghost use Rattle.std.specs.Prelude.{◌≡◌, ℕ, IfSome, option_map};
+ghost use Rattle.pb_wire.specs.brpc_model.specs.Meta.{int32, read_meta};
+ghost use Rattle.rpc_meta.specs.Answer.{answer_as, request_from, response_from};
 ghost use Rattle.rpc_meta.specs.Meaning.{meaning, request_of, response_of};
 ghost use Rattle.rpc_meta.specs.Parts.{names_of, outcome_of};
-ghost use Rattle.prpc_frame.specs.View.{viewed, request_viewed, response_viewed};
+ghost use Rattle.rpc_meta.specs.View.{viewed, request_viewed, response_viewed};
 
-use rpc_meta::{
-    RequestMeta, RequestParts, ResponseMeta, ResponseParts, RpcMeta, gather_parts, low_signed,
-};
+use crate::fault::MetaFault;
+use crate::gather::gather_parts;
+use crate::meta::{RequestMeta, ResponseMeta, RpcMeta};
+use crate::parts::{RequestParts, ResponseParts};
 
 /// A meta, with its names and its text where they lie.
 #[derive(Clone, Copy)]
@@ -58,6 +59,30 @@ impl MetaView<'_> {
             attachment_size: meta.attachment_size,
         }
     }
+
+    /// Reads the meta that these bytes are.
+    ///
+    /// The last occurrence of a number or of bytes counts, occurrences of a request are merged and so are those
+    /// of a response, and a known field of another wire type is skipped like an unknown one. Faults come in the
+    /// order of [`MetaFault`]: first the whole wire form, messages inside it where they stand.
+    #[inline(always)]
+    pub fn read(bytes: &[u8]) -> Result<MetaView<'_>, MetaFault>
+        ensures { IfSome (answer_as viewed result) (λ read. read ≡ read_meta bytes.now) }
+    {
+        let parts = gather_parts(bytes)?;
+        if parts.request.is_none() && parts.response.is_none() {
+            return Err(MetaFault::Neither);
+        }
+        let request = view_request(parts.request)?;
+        let response = view_response(parts.response);
+        Ok(MetaView {
+            request,
+            response,
+            compress_type: low_signed(parts.compress_type),
+            correlation_id: parts.correlation_id,
+            attachment_size: low_signed(parts.attachment_size),
+        })
+    }
 }
 
 // The request of a meta.
@@ -83,39 +108,21 @@ fn response_in(response: &Option<ResponseMeta>) -> Option<ResponseView<'_>>
     })
 }
 
-/// The meta that these bytes are, where they are one.
+// A request must have its service, and then its method.
 #[inline(always)]
-pub fn view_meta(bytes: &[u8]) -> Option<MetaView<'_>>
-    ensures { IfSome result (λ meta. read_meta bytes.now ≡ Ok (viewed meta)) }
-{
-    let Ok(parts) = gather_parts(bytes) else {
-        return None;
-    };
-    if parts.request.is_none() && parts.response.is_none() {
-        return None;
-    }
-    let request = view_request(parts.request)?;
-    let response = view_response(parts.response);
-    Some(MetaView {
-        request,
-        response,
-        compress_type: low_signed(parts.compress_type),
-        correlation_id: parts.correlation_id,
-        attachment_size: low_signed(parts.attachment_size),
-    })
-}
-
-// A request with its service and its method, where it has both, or none.
-#[inline(always)]
-fn view_request(parts: Option<RequestParts<'_>>) -> Option<Option<RequestView<'_>>>
-    ensures { IfSome result (λ request. Ok (option_map request_viewed request) ≡ request_from (option_map names_of parts.entry)) }
+fn view_request(parts: Option<RequestParts<'_>>) -> Result<Option<RequestView<'_>>, MetaFault>
+    ensures { IfSome (answer_as (option_map request_viewed) result) (λ request. request ≡ request_from (option_map names_of parts.entry)) }
 {
     let Some(parts) = parts else {
-        return Some(None);
+        return Ok(None);
     };
-    let service = parts.service?;
-    let method = parts.method?;
-    Some(Some(RequestView {
+    let Some(service) = parts.service else {
+        return Err(MetaFault::NoService);
+    };
+    let Some(method) = parts.method else {
+        return Err(MetaFault::NoMethod);
+    };
+    Ok(Some(RequestView {
         service,
         method,
         log_id: parts.log_id,
@@ -132,4 +139,12 @@ fn view_response(parts: Option<ResponseParts<'_>>) -> Option<ResponseView<'_>>
         code: low_signed(parts.code),
         text: parts.text,
     })
+}
+
+// An int32: the low 32 bits of its varint, signed.
+#[inline(always)]
+fn low_signed(number: u64) -> i32
+    ensures { result ≡ int32 number }
+{
+    ((number % 0x1_0000_0000) as u32).cast_signed()
 }

@@ -1,10 +1,10 @@
 -- What a meta says whose names and text are seen where they lie.
 use Rattle.std.specs.Prelude.{option_map}
-use Rattle.rpc_meta.specs.brpc_model.specs.Meta as meta
+use Rattle.pb_wire.specs.brpc_model.specs.Meta as meta
 use Rattle.rpc_meta.specs.Meaning.{made_meta}
-use Rattle.prpc_frame.specs.declared.view.MetaView.{MetaView}
-use Rattle.prpc_frame.specs.declared.view.RequestView.{RequestView}
-use Rattle.prpc_frame.specs.declared.view.ResponseView.{ResponseView}
+use Rattle.rpc_meta.specs.declared.view.MetaView.{MetaView}
+use Rattle.rpc_meta.specs.declared.view.RequestView.{RequestView}
+use Rattle.rpc_meta.specs.declared.view.ResponseView.{ResponseView}
 
 -- a request
 abbrev pub request_viewed : RequestView → meta.RequestMeta

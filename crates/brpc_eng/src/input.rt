@@ -1,0 +1,58 @@
+ghost use Rattle.std.specs.Prelude.{◌≡◌, ◌≢◌, true, IfErr, IfOk, IsErrOf, OnOk};
+ghost use Rattle.std.specs.List.{list_all};
+ghost use Rattle.sock_io.specs.Causes.{Rose};
+ghost use Rattle.script_links.specs.Given.{has_piece};
+ghost use Rattle.script_threads.specs.Served.{IsShort};
+ghost use Rattle.brpc_eng.specs.Input.{CameAs, FaultTold};
+ghost use Rattle.brpc_eng.specs.Status.{number_of};
+ghost use Rattle.brpc_eng.specs.Answers.{sink_over};
+
+use crate::replay::write_fault;
+use crate::status::Status;
+use crate::streams::{InputFault, read_all};
+use script_items::Script;
+use script_lang::{ScriptError, read_script};
+use sock_io::{Sink, Source};
+use std::alloc::Global;
+
+/// Why there is no script to run.
+#[derive(Clone, Copy)]
+pub enum NoScript {
+    /// The input wasn't read whole.
+    Unread(InputFault),
+    /// It is faulty there.
+    Faulty { line: u32, kind: u8 },
+}
+
+/// Reads the input as a script, and keeps nothing of its text.
+pub fn read_input<S: Source>(alloc: Global, source: &mut S) -> Result<Script, NoScript>
+    ensures came { CameAs (S.left source.old) (S.left source.new) result }
+    ensures short { IfOk result (λ script. IsShort script) }
+    ensures pieces { IfOk result (λ script. list_all has_piece script ≡ true) }
+    ensures failed { IsErrOf result (NoScript.Unread InputFault.Failed) → Rose (S.faults source.old) (S.faults source.new) }
+    ensures kept { OnOk result (S.faults source.new ≡ S.faults source.old) }
+    ensures unfailed { IfErr result (λ fault. fault ≢ NoScript.Unread InputFault.Failed → S.faults source.new ≡ S.faults source.old) }
+{
+    let bytes = match read_all(alloc, source) {
+        Ok(bytes) => bytes,
+        Err(fault) => return Err(NoScript::Unread(fault)),
+    };
+    match read_script(alloc, &bytes) {
+        Ok(script) => Ok(script),
+        Err(ScriptError::Fault { line, kind }) => Err(NoScript::Faulty { line, kind }),
+        Err(ScriptError::NoMemory) => Err(NoScript::Unread(InputFault::NoMemory)),
+    }
+}
+
+/// Writes where a script is faulty, and nothing where the input wasn't read whole.
+pub fn tell_fault<K: Sink>(alloc: Global, fault: NoScript, out: &mut K) -> Status
+    ensures told { FaultTold fault (sink_over K.contents K.faults out.old out.new) (number_of result) }
+    ensures unfailed { number_of result ≢ 4 → fault ≢ NoScript.Unread InputFault.Failed }
+{
+    match fault {
+        NoScript::Unread(InputFault::Failed) => Status::SourceFailed,
+        NoScript::Unread(InputFault::TooLong) => Status::TooLong,
+        NoScript::Unread(InputFault::NoMemory) => Status::NoMemory,
+        NoScript::Faulty { line, kind } => write_fault(alloc, line, kind, out),
+    }
+}
