@@ -1,6 +1,6 @@
 -- A tick keeps what is said of the posts of a reader.
 use Rattle.std.proofs.Common.{◌≡◌, ◌≢◌, ℕ, ◌+◌, ◌==◌, eq-eqb, Bool, true, false, cond, List, [], ◌∷◌, ◌++◌, map, filter, set, append-nil, inl, inr, ⊎_elim, refl, sym, ap, ◌∙◌, subst}
-use Rattle.std.specs.Prelude.{slice_index, None}
+use Rattle.std.specs.Prelude.{slice_index}
 use mathlib.Core.Logic.{dite}
 use mathlib.Core.Option.{Option, none, some}
 use native.Mathlib.Decide.{ℕ_discrete}
@@ -11,16 +11,12 @@ use Rattle.sock_model.specs.Reads.{message, link_home}
 use Rattle.sock_model.specs.Messages.{Letter}
 use Rattle.sock_io.specs.declared.link.Put.{Put}
 use Rattle.sock_io.specs.declared.link.Ready.{Ready}
-use Rattle.sock_steps.proofs.Quiet.{either_way}
 use Rattle.corr_core.specs.Word.{parts}
 use Rattle.id_rule.specs.Lawful.{at_index}
 use Rattle.id_runs.specs.Goes as goes
 use Rattle.seat_programs.specs.Asides.{Step, Found, LoadAt, PostId, TakeBytes, Taking, call_id}
 use Rattle.seat_programs.specs.Beside.{at_last, taking_in, found_in}
-use Rattle.seat_programs.specs.Heads.{Decides, Locks}
-use Rattle.seat_programs.specs.Posts.{ends_call}
-use Rattle.seat_programs.specs.Writings.{Empties}
-use Rattle.seat_programs.specs.Programs.{Program, Do, TakeMessage, TakeHome, PutHome, PutBytes, AskReady, Write, Aside, Round, Say, Sent, Rest, Keep}
+use Rattle.seat_programs.specs.Programs.{Program, Do, TakeMessage, TakeHome, PutHome, PutBytes, AskReady, Aside, Round, Say, Sent, Rest, Keep}
 use Rattle.seat_programs.specs.Cores.{Core, SeatState, word_of, found_at, waiting_at}
 use Rattle.seat_programs.specs.Ticks.{Answer, OfPut, OfReady, OfTake, Moment, taken, with_message, with_link, with_put, with_ready, with_found, step_with, tick_with, ticked}
 use Rattle.sock_runs.specs.Sound.{first_step}
@@ -28,21 +24,10 @@ use Rattle.outcome_causes.specs.Stories.{In}
 use Rattle.call_causes.specs.owed_calls.proofs.OwingRuns.{same_first}
 use Rattle.run_theorems.specs.Heard.{as_taken, taken_link}
 use Rattle.call_causes.specs.Posts.{Post, posts_by, posted_with, posted_at}
+use Rattle.call_causes.proofs.HandledTicks.{take_of, taken_first}
 use Rattle.send_causes.specs.EndedCalls.{Load, loaded_with, loaded_at}
 use Rattle.send_causes.proofs.EndedReads.{Tells, MayPost, tell_first, tell_next}
 use Rattle.send_causes.proofs.Readings.{ticks_first, found_by}
-
--- the link of which a step takes bytes, if it takes some
-abbrev pub takes_by : Program → List ℕ
-takes_by (Aside (TakeBytes k room) next) = k ∷ []
-takes_by other = []
-
-pub takes_first : (program : Program) → taken_link program ≡ takes_by (first_step program)
-takes_first (Round (Decides id asked w e) next) = either_way (ends_call (parts w) e) _ _ (λ x. [] ≡ takes_by x) refl refl
-takes_first (Round (Locks i sought None) next) = refl
-takes_first (Write (Empties h) after) = refl
-takes_first (Aside (TakeBytes k room) next) = refl
-takes_first _ = refl
 
 -- a tick leaves the other seats as they are
 module _ (p : Plan) (c : Core) (m : Moment) (j : ℕ) (far : j ≢ m.seat) where
@@ -120,7 +105,7 @@ module _ (p : Plan) (n : ℕ) (At : ℕ → ℕ → Type 0) where
           same : loaded_at c m ≡ (record { seat = m.seat; operation = o; word = slice_index c.calls.words (at_index c.calls.plan o) }) ∷ []
           same = ap (λ x. elim x as (λ o. List Load) [ none ↦ [] | some seat ↦ loaded_with m.seat c.calls (taken m.answer) (first_step seat.program) ]) at ∙ ap (loaded_with m.seat c.calls (taken m.answer)) is
 
-      own_step : (x : Program) → first_step seat.program ≡ x → Tells n At h x → HasTold (h ++ map (at_last c.calls.ending) (as_taken (map (λ (j : ℕ). m.answer) (filter (λ j. j == n) (takes_by x))))) (step_with p m.seat seat c m.answer x)
+      own_step : (x : Program) → first_step seat.program ≡ x → Tells n At h x → HasTold (h ++ map (at_last c.calls.ending) (as_taken (map (λ (j : ℕ). m.answer) (filter (λ j. j == n) (take_of x))))) (step_with p m.seat seat c m.answer x)
       own_step (Aside (TakeBytes l room) next) is x = subst (λ b. HasTold (h ++ map (at_last c.calls.ending) (as_taken (map (λ (j : ℕ). m.answer) (cond b (l ∷ []) [])))) (step_with p m.seat seat c m.answer (Aside (TakeBytes l room) next))) (sym (eq-eqb l n x.0))
           (takes l room next x.1 m.answer)
       own_step (Aside (LoadAt o) next) is x = still (step_with p m.seat seat c m.answer (Aside (LoadAt o) next)) (λ s at_s. set_own h _ (tell_next n At h _ (next (slice_index c.calls.words (at_index c.calls.plan o))) (x (slice_index c.calls.words (at_index c.calls.plan o)) (loaded o next is))) s at_s)
@@ -136,7 +121,7 @@ module _ (p : Plan) (n : ℕ) (At : ℕ → ℕ → Type 0) where
 
       own_tick : HasTold (h ++ map (at_last c.calls.ending) (as_taken (map (λ (j : ℕ). m.answer) (filter (λ j. j == n) (taken_link seat.program))))) (tick_with p m.seat seat c m.answer seat.program)
       own_tick = subst (λ d. HasTold (h ++ map (at_last c.calls.ending) (as_taken (map (λ (j : ℕ). m.answer) (filter (λ j. j == n) (taken_link seat.program))))) d) (sym (ticks_first p m.seat seat c m.answer seat.program))
-          (subst (λ l. HasTold (h ++ map (at_last c.calls.ending) (as_taken (map (λ (j : ℕ). m.answer) (filter (λ j. j == n) l)))) (step_with p m.seat seat c m.answer (first_step seat.program))) (sym (takes_first seat.program))
+          (subst (λ l. HasTold (h ++ map (at_last c.calls.ending) (as_taken (map (λ (j : ℕ). m.answer) (filter (λ j. j == n) l)))) (step_with p m.seat seat c m.answer (first_step seat.program))) (sym (taken_first seat.program))
           (own_step (first_step seat.program) refl (tell_first n At h seat.program (before seat (sym (ap (get_elem? c.seats) own) ∙ at)))))
 
     -- any tick, where no other seat takes bytes of the link

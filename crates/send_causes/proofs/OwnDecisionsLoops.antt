@@ -109,18 +109,11 @@ decides_goes : (s : Stand) (id : ℕ) (asked : Asked) (w e : ℕ) (k : Deciding 
 decides_goes s id asked w e k first goes = way s (ends_call (parts w) e) (end_id (id_slot id) (k (HasEnded asked.operation (code_of e))))
     (Aside (PutCall (id_slot id) asked) (λ _. Round (Unlocks (id_slot id) w true) (unlocked (record { id = id; attempt = (parts w).attempt + 1 }) k)))
     (λ _. end_goes s (id_slot id) (k (HasEnded asked.operation (code_of e))) (goes (HasEnded asked.operation (code_of e))))
-    (λ _. (
-      tt,
-      λ _ _. (
-        Calm,
-        inr (inl refl),
-        (
-          tt,
-          λ exit l. unlocked_goes (record { id = id; attempt = (parts w).attempt + 1 }) k goes exit l.0 (λ x y is. (let n = next_is (parts w).first exit l.1 x y is in (n.0 ∙ first, n.1))) (Trying (call_id (id_slot id) (parts w).first) ((parts w).attempt + 1))
-              (ap (λ x. Trying x ((parts w).attempt + 1)) (ap (call_id (id_slot id)) first ∙ id_back id)),
-        ),
-      ),
-    ))
+    (λ _. (tt, λ _ _. calms s (Round (Unlocks (id_slot id) w true) (unlocked (record { id = id; attempt = (parts w).attempt + 1 }) k)) (tt, tries)))
+  where
+    tries : (exit : Unlocking) → LeavesStand (Unlocks (id_slot id) w true) exit → Aims (Trying (call_id (id_slot id) (parts w).first) ((parts w).attempt + 1)) (unlocked (record { id = id; attempt = (parts w).attempt + 1 }) k exit)
+    tries exit l = unlocked_goes (record { id = id; attempt = (parts w).attempt + 1 }) k goes exit l.0 (λ x y is. (let n = next_is (parts w).first exit l.1 x y is in (n.0 ∙ first, n.1))) (Trying (call_id (id_slot id) (parts w).first) ((parts w).attempt + 1))
+        (ap (λ x. Trying x ((parts w).attempt + 1)) (ap (call_id (id_slot id)) first ∙ id_back id))
 
 pub decided_goes : (id : ℕ) (next : Program) → Aims Calm next → (exit : Deciding) → Aims Calm (decided id next exit)
 decided_goes id next goes (HasEnded o c) = goes

@@ -22,7 +22,7 @@ use Rattle.send_causes.specs.Below.run_theorems.specs.Heard.{taken_link, bytes_f
 use Rattle.send_causes.specs.Below.call_causes.specs.Lists.{given}
 use Rattle.send_causes.proofs.Readings.{IsTake, ticks_first}
 use Rattle.served_runs.proofs.Readings.{Goes, is_last, goes_first, goes_next, begins_reading}
-use Rattle.send_causes.proofs.EndedTicks.{takes_by, takes_first}
+use Rattle.send_causes.specs.Below.call_causes.proofs.HandledTicks.{take_of, taken_first}
 
 -- ## What is taken
 
@@ -68,11 +68,11 @@ module _ (p : Plan) (k : ℕ) (c : Core) (m : Moment) where
     other_link l far (Bytes bytes) = get_or-set_other c.calls.gave l k (get_or c.calls.gave l [] ++ bytes) [] (λ e. far (sym e))
     other_link l far _ = refl
 
-    aside_gave : (step : Step) (next : Found step → Program) → NoneOf k (takes_by (Aside step next)) → given (step_with p m.seat seat c m.answer (Aside step next)) k ≡ given c k
+    aside_gave : (step : Step) (next : Found step → Program) → NoneOf k (take_of (Aside step next)) → given (step_with p m.seat seat c m.answer (Aside step next)) k ≡ given c k
     aside_gave (TakeBytes l room) next none_ = found_gave (TakeBytes l room) (found_in (TakeBytes l room) c.calls (taken m.answer)) next (other_link l (apart k l none_))
     aside_gave other next none_ = found_gave other (found_in other c.calls (taken m.answer)) next (λ found. refl)
 
-    step_gave : (x : Program) → NoneOf k (takes_by x) → given (step_with p m.seat seat c m.answer x) k ≡ given c k
+    step_gave : (x : Program) → NoneOf k (take_of x) → given (step_with p m.seat seat c m.answer x) k ≡ given c k
     step_gave (Aside step next) none_ = aside_gave step next none_
     step_gave (TakeMessage q next) none_ = letter_gave q (message (λ home. home) c.homes q) (λ letter. next letter.0 letter.1)
     step_gave (TakeHome l next) none_ = link_gave l (link_home (λ home. home) p c.homes l) next
@@ -86,7 +86,7 @@ module _ (p : Plan) (k : ℕ) (c : Core) (m : Moment) where
     where
       by_seat : (o : Option SeatState) → get_elem? c.seats m.seat ≡ o → given (ticked p c m) k ≡ given c k
       by_seat none e = ap (λ (o : Option SeatState). given (elim o as (λ o. Core) [ none ↦ c | some seat ↦ tick_with p m.seat seat c m.answer seat.program ]) k) e
-      by_seat (some seat) e = ap (λ d. given d k) (tick_is seat e) ∙ step_gave seat (first_step seat.program) (ap (filter (λ j. j == k)) (sym (takes_first seat.program)) ∙ others seat e)
+      by_seat (some seat) e = ap (λ d. given d k) (tick_is seat e) ∙ step_gave seat (first_step seat.program) (ap (filter (λ j. j == k)) (sym (taken_first seat.program)) ∙ others seat e)
 
   -- ## Where some are taken
 
@@ -157,7 +157,7 @@ module _ (p : Plan) (calls : List ℕ) (k o : ℕ) where
     beside step next x (some found) = λ s at_s. set_own g last _ (inr (inr (goes_next k g last _ (next found) (x found)))) s at_s
 
     -- where it takes no bytes
-    own_step : (x : Program) → takes_by x ≡ [] → Goes k g last x → HasReader g last (Word c) (step_with p m.seat seat c m.answer x)
+    own_step : (x : Program) → take_of x ≡ [] → Goes k g last x → HasReader g last (Word c) (step_with p m.seat seat c m.answer x)
     own_step (Aside (TakeBytes l room) next) none_ x = absurd (let z : l ∷ [] ≡ [] = none_ in cc)
     own_step (Aside step next) none_ x = beside step next x (found_in step c.calls (taken m.answer))
     own_step (Do call next) none_ x = λ s at_s. set_own g last _ (inr (inr (goes_next k g last (waiting_at c.calls.waiting m.seat) (next (found_at c.words (word_of p call))) (x (found_at c.words (word_of p call)))))) s at_s
@@ -180,7 +180,7 @@ module _ (p : Plan) (calls : List ℕ) (k o : ℕ) where
     by_stand : Stands g last (Word c) seat.program → taken_link seat.program ≡ [] → HasReader g last (Word c) (step_with p m.seat seat c m.answer (first_step seat.program))
     by_stand (inl x) none_ = subst (λ y. HasReader g last (Word c) (step_with p m.seat seat c m.answer (first_step y))) (sym x.0) (loads_own x.1 x.2)
     by_stand (inr (inl x)) none_ = subst (λ y. HasReader g last (Word c) (step_with p m.seat seat c m.answer (first_step y))) (sym x.0) before
-    by_stand (inr (inr x)) none_ = own_step (first_step seat.program) (sym (takes_first seat.program) ∙ none_) (goes_first k g last seat.program x)
+    by_stand (inr (inr x)) none_ = own_step (first_step seat.program) (sym (taken_first seat.program) ∙ none_) (goes_first k g last seat.program x)
 
     stands : Stands g last (Word c) seat.program
     stands = before seat (sym (ap (get_elem? c.seats) own) ∙ at)
