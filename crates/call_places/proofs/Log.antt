@@ -1,5 +1,5 @@
 -- Where over all seats' own lists no two messages have one place index, no two in the log have.
-use Rattle.std.proofs.Common.{◌≡◌, ◌≢◌, ℕ, suc, ◌<◌, ◌≤◌, List, [], ◌∷◌, length, refl, sym, ap, ◌∙◌, subst, arith}
+use Rattle.std.proofs.Common.{◌≡◌, ◌≢◌, ℕ, ◌<◌, ◌≤◌, List, refl, sym, ap, ◌∙◌, subst, arith}
 use mathlib.Core.Logic.{dite}
 use mathlib.Core.Option.{some, some-injective}
 use native.Mathlib.Decide.{ℕ_discrete, dec_lt}
@@ -10,9 +10,9 @@ use Rattle.sock_model.specs.Authors.{pick}
 use Rattle.chain_steps.proofs.Lists.{at_some, at_length}
 use Rattle.call_run.specs.sock_rule.specs.Closing.{Ordered, PlacesDiffer}
 use Rattle.corr_core.specs.Law.{total, only}
-use Rattle.corr_core.proofs.Notes.{only-at, only-else, only_le}
+use Rattle.corr_core.proofs.Notes.{only-at}
 use Rattle.sock_deeds.proofs.Entries.{before, pick_at, before_rises}
-use Rattle.call_places.proofs.Weights.{term, two_terms, all_zero, few_places}
+use Rattle.call_places.proofs.Weights.{term, two_terms}
 use Rattle.call_places.proofs.Labels.{at_place}
 use Rattle.sock_deeds.proofs.Places.{map_there}
 
@@ -66,17 +66,3 @@ module _ (p : Plan) (found : List ℕ) (lists : List (List Entry)) (o : Ordered 
 
     pub places_differ : PlacesDiffer o.log
     places_differ i j a b at bt same = dite (ℕ_discrete i j) (λ e. e) (λ ne. absurd (dite (dec_lt i j) (λ lt. apart i j a b lt at bt same) (λ ge. apart j i b a (omega arith) bt at (sym same))))
-
--- ## How many there are
-
-once_by : (l : ℕ) (es : List Entry) → ((i j : ℕ) (a b : Entry) → get_elem? es i ≡ some a → get_elem? es j ≡ some b → a.heading.place ≡ b.heading.place → i ≡ j) → total (λ (e : Entry). only l e.heading.place) es ≤ 1
-once_by l [] differ = omega arith
-once_by l (e ∷ es) differ = dite (ℕ_discrete e.heading.place l)
-    (λ is.
-    let z = all_zero (λ (x : Entry). only l x.heading.place) es (λ i x at. only-else l x.heading.place (λ same. absurd (let q = differ 0 (suc i) e x refl at (is ∙ sym same) in omega arith))) in
-    let a = only_le l e.heading.place in omega arith)
-    (λ n. let a = only-else l e.heading.place n in let b = once_by l es (λ i j x y at bt same. (let q = differ (suc i) (suc j) x y at bt same in omega (arith, q))) in omega arith)
-
--- no more than place indices
-pub few_entries : (n : ℕ) (es : List Entry) → PlacesDiffer es → ((i : ℕ) (e : Entry) → get_elem? es i ≡ some e → e.heading.place < n) → length es ≤ n
-few_entries n es differ low = few_places (λ (e : Entry). e.heading.place) n es (λ l. once_by l es differ) low

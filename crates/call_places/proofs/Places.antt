@@ -50,6 +50,7 @@ use Rattle.call_run.specs.Threads.{Thread, AreThreads, RanWith, AllMayRun, MayRu
 use Rattle.sock_deeds.proofs.Entries.{before, from_pick, from_on, on_there}
 use Rattle.sock_deeds.proofs.Flats.{flat_there}
 use Rattle.sock_deeds.proofs.Places.{map_back, place_low, place_there, map_there, to_slice}
+use Rattle.sock_deeds.proofs.Few.{few_entries}
 use Rattle.call_places.specs.Counted.{HaveNotesOf, makes}
 use Rattle.call_places.specs.Deeds.{acted_entries, entries_of, own_entries}
 use Rattle.call_places.proofs.Weights.{term}
@@ -204,7 +205,7 @@ module _ {O : Type 0} {g : Ghosts O} {state : O → OutState} {readers : List (L
     low_on k i e at = let w = from_on k accepted i e at in low_place w.0 e w.1
 
     few_on : (k : ℕ) → length (on k accepted) ≤ 8 * p.operations
-    few_on k = log.few_entries (8 * p.operations) (on k accepted) (λ i j a b at bt same. distinct_filter (λ (x : Entry). x.heading.place) (λ (x : Entry). eqb x.link k) accepted log_differs i j a b at bt same) (low_on k)
+    few_on k = few_entries (8 * p.operations) (on k accepted) (λ i j a b at bt same. distinct_filter (λ (x : Entry). x.heading.place) (λ (x : Entry). eqb x.link k) accepted log_differs i j a b at bt same) (low_on k)
 
     -- ## The words
 

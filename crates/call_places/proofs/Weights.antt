@@ -1,5 +1,5 @@
 -- Sums over all notes of a seat, whatever their slot; and sums over parts of lists.
-use Rattle.std.proofs.Common.{◌≡◌, ◌≢◌, ℕ, zero, suc, ◌+◌, ◌<◌, ◌≤◌, Bool, true, false, cond, eqb, ne_eqb, List, [], ◌∷◌, length, refl, sym, ap, ◌∙◌, arith}
+use Rattle.std.proofs.Common.{◌≡◌, ◌≢◌, ℕ, zero, suc, ◌+◌, ◌≤◌, Bool, true, false, cond, eqb, ne_eqb, List, [], ◌∷◌, refl, sym, ap, ◌∙◌, arith}
 use Rattle.std.specs.List.{flat_map}
 use mathlib.Core.Logic.{dite}
 use mathlib.Core.Option.{some, some-injective, some-ne-none}
@@ -12,7 +12,6 @@ use Rattle.corr_core.specs.declared.marks.Token.{Token}
 use Rattle.corr_core.specs.declared.marks.View.{View}
 use Rattle.id_rule.specs.Lawful.{notes_of}
 use Rattle.corr_id.specs.Calls.{Became, Did, Quiet, is_event, events}
-use Rattle.corr_core.proofs.Notes.{only-at}
 use Rattle.corr_id.proofs.Seats.{total_append}
 
 -- ## All notes
@@ -84,31 +83,3 @@ module _ {A : Type 0} where
   pub total_sum : (f g : A → ℕ) (xs : List A) → total (λ x. f x + g x) xs ≡ total f xs + total g xs
   total_sum f g [] = refl
   total_sum f g (x ∷ xs) = let a = total_sum f g xs in omega arith
-
--- ## As many as there are places
-
-module _ {A : Type 0} (place : A → ℕ) where
-  -- 1 where the place is one of the first n
-  up_to : ℕ → A → ℕ
-  up_to zero x = 0
-  up_to (suc n) x = up_to n x + only n (place x)
-
-  is_up_to : (n : ℕ) (x : A) → place x < n → 1 ≤ up_to n x
-  unfolding up_to
-  is_up_to zero x low = absurd (omega arith)
-  is_up_to (suc n) x low = dite (ℕ_discrete (place x) n)
-      (λ e. let a = only-at n (place x) e in omega arith)
-      (λ ne. let a = is_up_to n x (omega arith) in omega arith)
-
-  few_up_to : (n : ℕ) (xs : List A) → ((l : ℕ) → total (λ x. only l (place x)) xs ≤ 1) → total (up_to n) xs ≤ n
-  unfolding up_to
-  few_up_to zero xs once = let a = all_zero (up_to zero) xs (λ i x e. refl) in omega arith
-  few_up_to (suc n) xs once = let a = few_up_to n xs once in let b = once n in let c = total_sum (up_to n) (λ x. only n (place x)) xs in omega arith
-
-  each_one : (xs : List A) → total (λ (x : A). 1) xs ≡ length xs
-  each_one [] = refl
-  each_one (x ∷ xs) = let a = each_one xs in omega arith
-
-  -- a list whose members have places below n, no two the same one
-  pub few_places : (n : ℕ) (xs : List A) → ((l : ℕ) → total (λ x. only l (place x)) xs ≤ 1) → ((i : ℕ) (x : A) → get_elem? xs i ≡ some x → place x < n) → length xs ≤ n
-  few_places n xs once low = let a = few_up_to n xs once in let b = each_less (λ (x : A). 1) (up_to n) xs (λ i x e. is_up_to n x (low i x e)) in let c = each_one xs in omega arith

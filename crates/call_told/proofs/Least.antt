@@ -24,6 +24,7 @@ use Rattle.corr_id.proofs.Seats.{notes_append, total_append}
 use Rattle.call_deeds.specs.Below.rpc_client.specs.declared.acting.Told.{Told}
 use Rattle.call_deeds.specs.Below.rpc_reader.specs.Books.{Books}
 use Rattle.call_deeds.specs.Below.rpc_reader.specs.Resting.{RestEnded}
+use Rattle.call_deeds.specs.call_places.proofs.Weights.{term}
 use Rattle.call_told.specs.Once.{ends_of, told_ends}
 use Rattle.call_told.specs.Least.{is_made_for, is_locked_for, HasBegun, IsEndTold, ToldLeast}
 use Rattle.call_told.proofs.Balance.{noted_ends, AreBalanced}
@@ -35,12 +36,6 @@ use Rattle.call_told.proofs.Resting.{is_word, IsSeen, rest_seen, seen_ended}
 use Rattle.call_told.proofs.Tallies.{Tally, rest_accounts, version_low}
 
 -- ## One of a list
-
--- the sum over the elements of a list is no less than what one of them has
-pub term : {A : Type 0} (g : A → ℕ) (xs : List A) (i : ℕ) (x : A) → get_elem? xs i ≡ some x → g x ≤ total g xs
-term g [] i x e = absurd (some-ne-none x (sym e))
-term g (y ∷ xs) zero x e = let a = ap g (some-injective y x e) in omega arith
-term g (y ∷ xs) (suc i) x e = let a : g x ≤ total g xs = term g xs i x e in omega arith
 
 -- what one seat counts is no more than what all count together
 pub all_notes : (slot : ℕ) (g : Note Asked → ℕ) (vs : List (View Asked)) (k : ℕ) (v : View Asked) → get_elem? vs k ≡ some v → total g (notes_of slot v.notes) ≤ total g (notes_of slot (flat_map (λ (w : View Asked). w.notes) vs))
@@ -58,7 +53,7 @@ all_kept g (w ∷ vs) = let a = all_kept g vs in omega (arith, total_append g w.
 
 -- ## Two that exclude each other
 
-apart_sum : {A : Type 0} (f g h : A → ℕ) → ((x : A) → f x + g x ≤ h x) → (xs : List A) → total f xs + total g xs ≤ total h xs
+pub apart_sum : {A : Type 0} (f g h : A → ℕ) → ((x : A) → f x + g x ≤ h x) → (xs : List A) → total f xs + total g xs ≤ total h xs
 apart_sum f g h less [] = omega arith
 apart_sum f g h less (x ∷ xs) = let a = less x in let b = apart_sum f g h less xs in omega arith
 
@@ -81,11 +76,11 @@ owned_apart : (x a b : ℕ) → a ≢ b → (own : Bool) (place word : ℕ) → 
 owned_apart x a b n true place word = pair_apart x a b n place word
 owned_apart x a b n false place word = omega arith
 
-stored_apart : (x a b : ℕ) → a ≢ b → (k : Kept) → is_stored x a k + is_stored x b k ≤ own_at x k
+pub stored_apart : (x a b : ℕ) → a ≢ b → (k : Kept) → is_stored x a k + is_stored x b k ≤ own_at x k
 stored_apart x a b n k = owned_apart x a b n k.own k.place k.word
 
 -- a word that is this one at this place
-word_is : (x word : ℕ) (k : Kept) → 0 < is_word x word k → (k.place ≡ x) × (k.word ≡ word)
+pub word_is : (x word : ℕ) (k : Kept) → 0 < is_word x word k → (k.place ≡ x) × (k.word ≡ word)
 word_is x word k h = dite (ℕ_discrete k.place x)
     (λ e. dite (ℕ_discrete k.word word) (λ f. (e, f)) (λ n. absurd (let a = pair-else x word k.place k.word n in omega arith)))
     (λ n. absurd (let a = pair-else_first x word k.place k.word n in omega arith))

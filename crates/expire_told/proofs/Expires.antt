@@ -54,7 +54,7 @@ use Rattle.call_told.specs.call_places.proofs.Places.{all_are, views_are, tasks_
 use Rattle.call_told.specs.Least.{is_made_for, HasBegun}
 use Rattle.call_told.proofs.Balance.{noted_ends}
 use Rattle.call_told.proofs.Growing.{own_at}
-use Rattle.call_told.proofs.Least.{end_number}
+use Rattle.call_told.proofs.Least.{word_is, end_number}
 use Rattle.call_told.proofs.Lists.{all_at}
 use Rattle.call_told.proofs.Moves.{Fits, is_task, expired_by, retried_here, made_moves, end_moves, run_moves}
 use Rattle.call_told.proofs.Resting.{is_word}
@@ -62,7 +62,7 @@ use Rattle.call_told.proofs.Coming.{begun_later, made_begun}
 use Rattle.expire_told.specs.Said.{AreSaid, AreOfCalls, HaveKeptOf}
 use Rattle.expire_told.proofs.Doing.{GoesOn, on_then, Split, ran_split, Done, done_of, run_fed}
 use Rattle.expire_told.proofs.Begun.{BegunIn, ran_stored}
-use Rattle.expire_told.proofs.Making.{before_in, word_is, owned, placed, same_stored}
+use Rattle.expire_told.proofs.Making.{before_in, owned, placed, same_stored}
 use Rattle.expire_told.proofs.Expiring.{EndsAs, timed_out_word, timed_out_ends}
 use Rattle.call_told.specs.Below.sock_deeds.proofs.Places.{map_back, to_elem, map_there}
 

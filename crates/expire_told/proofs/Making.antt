@@ -1,5 +1,5 @@
 -- Words of operations that seats keep in mind: one seat at most stored one, and whatever was found was stored.
-use Rattle.std.proofs.Common.{◌≡◌, ◌≢◌, ℕ, zero, suc, ◌+◌, ◌-◌, ◌≤◌, ◌<◌, Bool, true, false, cond, List, [], ◌∷◌, ◌++◌, flat_map, refl, sym, ap, ◌∙◌, subst, arith}
+use Rattle.std.proofs.Common.{◌≡◌, ℕ, zero, suc, ◌+◌, ◌-◌, ◌≤◌, ◌<◌, Bool, true, false, cond, List, [], ◌∷◌, ◌++◌, flat_map, refl, sym, ap, subst, arith}
 use mathlib.Core.Logic.{dite}
 use mathlib.Core.Option.{some, some-injective, some-ne-none}
 use native.Mathlib.Decide.{ℕ_discrete}
@@ -8,14 +8,14 @@ use Rattle.brpc_model.specs.Order.{EachBefore}
 use Rattle.corr_core.specs.Law.{total, only, pair}
 use Rattle.corr_core.specs.declared.marks.Kept.{Kept}
 use Rattle.corr_core.specs.declared.marks.View.{View}
-use Rattle.corr_core.proofs.Notes.{pair_le, pair-else, pair-else_first, total_mono}
+use Rattle.corr_core.proofs.Notes.{pair_le, total_mono}
 use Rattle.corr_id.proofs.Seats.{total_append}
 use Rattle.id_rule.specs.Lawful.{is_stored}
 use Rattle.corr_id.specs.Ruled.{is_place}
 use Rattle.sock_message.specs.Asked.{Asked}
 use Rattle.call_told.proofs.Growing.{Grows, own_at}
+use Rattle.call_told.proofs.Least.{all_kept, apart_sum, stored_apart}
 use Rattle.call_told.proofs.Lists.{all_at}
-use Rattle.call_told.proofs.Resting.{is_word}
 use Rattle.expire_told.specs.Said.{HaveKeptOf}
 
 -- ## Lists by places
@@ -29,12 +29,6 @@ before_in P (x ∷ xs) h (suc i) zero a b less e f = absurd (omega arith)
 before_in P (x ∷ xs) h (suc i) (suc j) a b less e f = before_in P xs h.1 i j a b (omega arith) e f
 
 -- ## Words that are kept
-
--- what is kept at this place with this word
-pub word_is : (x word : ℕ) (k : Kept) → 0 < is_word x word k → (k.place ≡ x) × (k.word ≡ word)
-word_is x word k h = dite (ℕ_discrete k.place x)
-    (λ e. dite (ℕ_discrete k.word word) (λ f. (e, f)) (λ n. absurd (let a = pair-else x word k.place k.word n in omega arith)))
-    (λ n. absurd (let a = pair-else_first x word k.place k.word n in omega arith))
 
 stored_own : (x w : ℕ) (own : Bool) (place word : ℕ) → cond own (pair x w place word) 0 ≤ cond own (only x place) 0
 stored_own x w true place word = pair_le x w place word
@@ -51,21 +45,8 @@ pub placed : (x w : ℕ) (ks : List Kept) → total (is_stored x w) ks ≤ total
 placed x w ks = total_mono (is_stored x w) (is_place x) (λ k. stored_there x w k.own k.place k.word) ks
 
 -- two words that a seat stored where it stored one
-pair_apart : (x a b : ℕ) → a ≢ b → (place word : ℕ) → pair x a place word + pair x b place word ≤ only x place
-pair_apart x a b n place word = dite (ℕ_discrete word a)
-    (λ e. let c = pair_le x a place word in let d = pair-else x b place word (λ (k : word ≡ b). n (sym e ∙ k)) in omega arith)
-    (λ d. let c = pair-else x a place word d in let e = pair_le x b place word in omega arith)
-
-one_apart : (x a b : ℕ) → a ≢ b → (own : Bool) (place word : ℕ) → cond own (pair x a place word) 0 + cond own (pair x b place word) 0 ≤ cond own (only x place) 0
-one_apart x a b n true place word = pair_apart x a b n place word
-one_apart x a b n false place word = omega arith
-
-both_apart : (x a b : ℕ) → a ≢ b → (ks : List Kept) → total (is_stored x a) ks + total (is_stored x b) ks ≤ total (own_at x) ks
-both_apart x a b n [] = omega arith
-both_apart x a b n (k ∷ ks) = let c = one_apart x a b n k.own k.place k.word in let d = both_apart x a b n ks in omega arith
-
 pub same_stored : (x a b : ℕ) (ks : List Kept) → total (own_at x) ks ≤ 1 → 0 < total (is_stored x a) ks → 0 < total (is_stored x b) ks → a ≡ b
-same_stored x a b ks few h k = dite (ℕ_discrete a b) (λ e. e) (λ n. absurd (let c = both_apart x a b n ks in omega (arith, few, h, k, c)))
+same_stored x a b ks few h k = dite (ℕ_discrete a b) (λ e. e) (λ n. absurd (let c = apart_sum (is_stored x a) (is_stored x b) (own_at x) (stored_apart x a b n) ks in omega (arith, few, h, k, c)))
 
 -- ## Over the seats that were taken in
 
@@ -77,18 +58,14 @@ parted : (x w : ℕ) (ks : List Kept) → total (is_stored x w) ks + total (λ (
 parted x w [] = refl
 parted x w (k ∷ ks) = let a = both_parts x w k.own k.place k.word in let b = parted x w ks in omega (arith, a, b)
 
-kept_flat : (f : Kept → ℕ) (views : List (View Asked)) → total f (flat_map (λ (v : View Asked). v.kept) views) ≡ total (λ (v : View Asked). total f v.kept) views
-kept_flat f [] = refl
-kept_flat f (v ∷ vs) = let a = kept_flat f vs in let b = total_append f v.kept (flat_map (λ (w : View Asked). w.kept) vs) in omega (arith, a, b)
-
 -- a seat that took in these and stored nothing more keeps in mind what they do
 pub have_kept : (views : List (View Asked)) (v w : View Asked) → v.kept ≡ flat_map (λ (u : View Asked). u.kept) views → ((x : ℕ) → Grows x 0 v w) → HaveKeptOf views w.kept
 have_kept views v w took grows = record {
-  all = λ f. (let a = (grows 0).kept f in let b = ap (total f) took in let c = kept_flat f views in omega (arith, a, b, c));
+  all = λ f. (let a = (grows 0).kept f in let b = ap (total f) took in let c = all_kept f views in omega (arith, a, b, c));
   stored = λ x word. (
       let others : Kept → ℕ = λ k. own_at x k - is_stored x word k in
       let a = (grows x).own in let b = (grows x).kept others in let c = parted x word v.kept in let d = parted x word w.kept in
-      let e = ap (total (is_stored x word)) took in let f = kept_flat (is_stored x word) views in omega (arith, a, b, c, d, e, f)
+      let e = ap (total (is_stored x word)) took in let f = all_kept (is_stored x word) views in omega (arith, a, b, c, d, e, f)
       );
 }
 

@@ -51,7 +51,7 @@ use Rattle.attempts_told.specs.call_whys.specs.expire_told.specs.call_places.pro
 use Rattle.attempts_told.specs.call_whys.specs.expire_told.specs.Below.call_client.proofs.Telling.{did_total}
 use Rattle.attempts_told.specs.call_whys.specs.expire_told.specs.call_told.specs.Least.{is_made_for}
 use Rattle.attempts_told.specs.call_whys.specs.expire_told.specs.call_told.proofs.Ends.{made_silent, counted_here}
-use Rattle.attempts_told.specs.call_whys.specs.expire_told.proofs.Making.{word_is as kept_word}
+use Rattle.attempts_told.specs.call_whys.specs.expire_told.specs.call_told.proofs.Least.{word_is as kept_word}
 use Rattle.attempts_told.specs.call_whys.specs.expire_told.specs.Below.sock_deeds.proofs.Flats.{append_first, append_later}
 use Rattle.failed_told.specs.Missed.{acted_id, id_of, attempt_of}
 use Rattle.failed_told.proofs.Losses.{IsAskedIn}

@@ -42,7 +42,7 @@ use Rattle.attempts_told.specs.call_whys.specs.expire_told.specs.call_places.pro
 use Rattle.attempts_told.specs.call_whys.specs.expire_told.specs.call_told.specs.Least.{is_made_for}
 use Rattle.attempts_told.specs.call_whys.specs.expire_told.specs.call_told.proofs.Resting.{is_word}
 use Rattle.attempts_told.specs.call_whys.specs.expire_told.specs.Said.{HaveKeptOf}
-use Rattle.attempts_told.specs.call_whys.specs.expire_told.proofs.Making.{word_is as kept_word}
+use Rattle.attempts_told.specs.call_whys.specs.expire_told.specs.call_told.proofs.Least.{word_is as kept_word}
 use Rattle.attempts_told.specs.call_whys.specs.expire_told.specs.Below.sock_deeds.specs.Runs.{IsOperation, seat_of, DeedRun}
 use Rattle.attempts_told.specs.call_whys.specs.expire_told.specs.Below.sock_deeds.proofs.Accepting.{log}
 use Rattle.attempts_told.specs.call_whys.specs.expire_told.specs.Below.sock_deeds.proofs.Orders.{orders}

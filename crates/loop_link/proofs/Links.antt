@@ -58,7 +58,7 @@ taken_front given got waiting given' waiting' more same = let e : given' ≡ giv
     append_cancel_left given (got ++ waiting') waiting (sym (append_assoc given got waiting') ∙ ap (λ l. l ++ waiting') (sym e) ∙ same)
 
 -- what stands behind the bytes, as a take that gave none tells it
-behind : Take → Ending
+abbrev behind : Take → Ending
 behind take_.End = ending.Ended
 behind take_.Closed = ending.Closed
 behind other = ending.Open

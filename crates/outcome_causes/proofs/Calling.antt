@@ -10,7 +10,7 @@ use Rattle.sock_model.specs.Entries.{ticket_of}
 use Rattle.sock_model.specs.Memory.{IDLE}
 use Rattle.seat_programs.specs.sock_message.specs.Asked.{Asked, name_of, frame_of}
 use Rattle.seat_programs.specs.declared.task.Task.{Task}
-use Rattle.seat_programs.specs.Calls.{Call, LoadName, AddRef, SubRef, SetOdd, LookWord, FindLink, LoadLink, TakeLink, FinishLink, PutLink, FreeSlot, ClaimRequest, PutMessage, Unconnect, SwapHead, Connect}
+use Rattle.seat_programs.specs.Calls.{Call, LoadName, AddRef, SubRef, SetOdd, LookWord, FindLink, LoadLink, TakeLink, FinishLink, PutLink, FreeSlot, ClaimRequest, PutMessage, Unconnect, SwapHead, Connect, ClaimSlot, CreateLife, StoreName}
 use Rattle.seat_programs.specs.Asides.{StoreAt, id_slot, id_first, call_id}
 use Rattle.seat_programs.specs.Heads.{Joins, Posting, Unlocking, IsOpen, HasNext, Locking, NotThere}
 use Rattle.seat_programs.specs.Heads.{Has as HasLock}
@@ -20,10 +20,11 @@ use Rattle.seat_programs.specs.Posts.{WHOLE, post, post_with, posted, decided}
 use Rattle.seat_programs.specs.Sends.{block, write_link, accept}
 use Rattle.seat_programs.specs.Attempts.{claims_from, heading_for, attempt, begin_call, claim_id, call, tried_again, retry_locked, retry, expire_outcome, expire, join}
 use Rattle.outcome_causes.specs.Stories.{Entry}
-use Rattle.outcome_causes.specs.Explains.{Beside, Done, ExplainsBy, IsAttemptOn, holds, step}
+use Rattle.outcome_causes.specs.Explains.{Beside, Done, ExplainsBy, IsAttemptOn, holds, step, FitsBeside}
 use Rattle.outcome_causes.proofs.Tests.{split, split_eq}
-use Rattle.outcome_causes.proofs.Sending.{Within, add_holds}
+use Rattle.outcome_causes.proofs.Sending.{Within}
 use Rattle.outcome_causes.proofs.Errors.{post_goes, post_with_goes, posted_goes, decide_goes, decided_goes}
+use Rattle.outcome_causes.proofs.Writers.{IsStep, Writes, block_goes, first_goes, add_holds}
 
 module _ (slots requests : ℕ) (calls : ℕ → Type 0) (done : List Done) (todo : List Task) where
   abbrev pub Goes : List ℕ → List Entry → Program → Type 0

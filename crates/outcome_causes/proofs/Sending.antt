@@ -12,15 +12,16 @@ use Rattle.sock_model.specs.Entries.{ticket_of}
 use Rattle.sock_model.specs.Memory.{IDLE}
 use Rattle.seat_programs.specs.declared.task.Op.TheVariants as ops
 use Rattle.seat_programs.specs.declared.task.Task.{Task}
-use Rattle.seat_programs.specs.Calls.{Call, AddRef, SetOdd, LoadName, LookWord, FindLink, ClaimRequest, PutMessage, Unconnect, SwapHead, Connect}
+use Rattle.seat_programs.specs.Calls.{Call, AddRef, SetOdd, LoadName, LookWord, FindLink, ClaimRequest, PutMessage, Unconnect, SwapHead, Connect, CreateLife, StoreName}
 use Rattle.seat_programs.specs.Writings.{Holder, Writing, Puts}
 use Rattle.seat_programs.specs.Programs.{Program, Do, Say, Sent, Write, release}
 use Rattle.seat_programs.specs.Sends.{block, first_put, write_link, heading_of, accept, claim_from, start, send}
 use Rattle.sock_runs.specs.Writes.{holder_of}
 use Rattle.outcome_causes.specs.Stories.{Entry, In}
-use Rattle.outcome_causes.specs.Explains.{Own, Done, Explains, Explained, Tells, TellsFail, Grew, IsWriterOf, holds, swapped, step}
+use Rattle.outcome_causes.specs.Explains.{Own, Done, Explains, Explained, Fits, Tells, TellsFail, Grew, IsWriterOf, holds, swapped, step}
 use Rattle.outcome_causes.proofs.Tests.{split, split_eq}
 use Rattle.outcome_causes.proofs.Pieces.{IsMute, grew_same, grew_on, mute_grew, release_goes, reach_goes}
+use Rattle.outcome_causes.proofs.Writers.{IsStep, Writes, block_goes, first_goes, add_holds}
 
 abbrev pub Within : List ℕ → List ℕ → Type 0
 Within xs ys = (k : ℕ) → In k xs → In k ys

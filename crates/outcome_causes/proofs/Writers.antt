@@ -14,6 +14,7 @@ use Rattle.sock_model.specs.Memory.{UNCONNECTED}
 use Rattle.sock_runs.specs.slot_steps.proofs.Numbers.{only-at}
 use Rattle.seat_programs.specs.declared.task.Task.{Task}
 use Rattle.seat_programs.specs.Calls.{Call, AddRef, SubRef, SetOdd, StoreCode, LookWord, LoadCode, EmptyHead, ReadNext, ReverseNext, FreeRequest, StorePlace, DropPlace}
+use Rattle.seat_programs.specs.Parts.{part}
 use Rattle.seat_programs.specs.Writings.{Holder, Writing, Puts, Waits, Empties, Walks}
 use Rattle.seat_programs.specs.Programs.{Program, Do, TakeMessage, TakeHome, PutBytes, Write, LAST_GENERATION}
 use Rattle.seat_programs.specs.Sends.{freed, one_more, passed_telling, tell_drop, placed, dropped, link_failed, put_answered, ready_answered, block, first_put}
@@ -154,8 +155,8 @@ module _ (slots requests : ℕ) (calls : ℕ → Type 0) (way : Way) (done : Lis
         (λ found tr a. split (eqb (vref_version found % 2) 0) puts_on lost (Goes bs tr) (λ answer. put_goes h now heading left taken bs tr a answer) (k tr a))
 
     pub block_goes : (w : Writing) (bs : List ℕ) → Once (holder_of w) bs (block w after)
-    block_goes (Puts h now heading left taken asked) bs = look_goes h now heading left taken asked _ (dropped h now heading after) bs (dropped_goes h bs now heading)
-    block_goes (Waits h now heading left taken) bs tr a = λ answer. ready_goes h now heading left taken bs tr a answer
+    block_goes (Puts h now heading left taken asked) bs = look_goes h now heading left taken asked (part heading.parts left taken) (dropped h now heading after) bs (dropped_goes h bs now heading)
+    block_goes (Waits h now heading left taken) bs = λ tr a answer. ready_goes h now heading left taken bs tr a answer
     block_goes (Empties h) bs = let walk : ℕ → Program = λ found. TakeHome h.link (λ places. Write (Walks (record h { places = places }) found found 0) after) in
         quiet h bs (EmptyHead (socket_id_slot h.id) h.last) (λ found. if eqb found h.last then after else walk found) tt (λ found n. refl)
         (λ found tr a. split (eqb found h.last) after (walk found) (Goes bs tr) (its.ends h.id h.link bs tr a) (λ places. its.again (Walks (record h { places = places }) found found 0) bs tr a))
@@ -169,4 +170,4 @@ module _ (slots requests : ℕ) (calls : ℕ → Type 0) (way : Way) (done : Lis
         (λ heading bytes. its.again (Puts (record h { last = top }) at heading bytes 0 false) bs tr a) (its.again (Walks h top found at) bs tr a)) tr a))
 
     pub first_goes : (h : Holder) (now : ℕ) (heading : Heading) (bytes : List ℕ) (bs : List ℕ) → Once h bs (first_put h now heading bytes after)
-    first_goes h now heading bytes bs = look_goes h now heading bytes 0 false _ (Write (Puts h now heading bytes 0 false) after) bs (its.again (Puts h now heading bytes 0 false) bs)
+    first_goes h now heading bytes bs = look_goes h now heading bytes 0 false (part heading.parts bytes 0) (Write (Puts h now heading bytes 0 false) after) bs (its.again (Puts h now heading bytes 0 false) bs)

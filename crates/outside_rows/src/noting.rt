@@ -1,7 +1,7 @@
 ghost use Rattle.std.specs.Prelude.{◌≡◌, ◌≢◌, ◌+◌, ◌<◌, ◌++◌, ◌∷◌, [], length};
 ghost use Rattle.std.specs.List.{AllByRecursion};
 ghost use Rattle.brpc_model.specs.Link.{LinkEnd};
-ghost use Rattle.sock_io.specs.Link.{connection_of, end_of};
+ghost use Rattle.sock_io.specs.Link.{end_of};
 
 use sock_io::{Ends, LinkSpec, Linker, LinkerTells, NoMemory, OpenFault, Out};
 use std::alloc::Global;
@@ -82,16 +82,7 @@ impl<L: Linker + Drop> Linker for Noting<L> {
         self.inner.accept(port)
     }
 
-    fn done(&mut self, out: L::O, inn: L::I)
-        requires { length (L.done self.old.inner) < L.accepted self.old.inner }
-        ensures done { L.done self.new.inner ≡ L.done self.old.inner ++ connection_of (L.O.state out) (L.I.state inn) ∷ [] }
-        ensures asked { L.asked self.new.inner ≡ L.asked self.old.inner }
-        ensures accepted { L.accepted self.new.inner ≡ L.accepted self.old.inner }
-        ensures back { L.back self.new.inner ≡ L.back self.old.inner }
-        ensures stays_prompt { L.always_ready self.new.inner ≡ L.always_ready self.old.inner }
-        ensures faults { L.faults self.new.inner ≡ L.faults self.old.inner }
-        ensures failed { self.new.failed ≡ self.old.failed }
-    {
+    fn done(&mut self, out: L::O, inn: L::I) {
         let _ = self.taken.extend_from_slice(out.taken());
         self.inner.done(out, inn);
     }

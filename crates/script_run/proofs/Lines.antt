@@ -84,12 +84,12 @@ module _ (old new : MachineState) (i n : ℕ) (playable : IsPlayable old) (h : H
         h.1,
         λ took gave agrees agrees_gave. let t = h.2 took gave agrees agrees_gave in record {
           moments = [];
-          are_of = refl;
-          follows = none_follows old new took gave 65535 n t.moments (playable.far 65535 (omega arith) took gave) (t.are ∙ ap (λ j. replicate n j) same) t.follows;
+          is = refl;
+          follows = none_follows old new took gave 65535 n t.moments (playable.far 65535 (omega arith) took gave) (t.is ∙ ap (λ j. replicate n j) same) t.follows;
         },
       ) in
       let r = ran_join old old new (replicate n i) [] (ran_rest old i (playable.far i (omega (arith, high))) n) none_ in
-      (r.0, r.1, λ took gave agrees agrees_gave. let t = r.2 took gave agrees agrees_gave in record { moments = t.moments; are = t.are_of ∙ append-nil (replicate n i); follows = t.follows })
+      (r.0, r.1, λ took gave agrees agrees_gave. let t = r.2 took gave agrees agrees_gave in record { moments = t.moments; is = t.is ∙ append-nil (replicate n i); follows = t.follows })
 
   ticks_of : HasPlayed (λ d moments. seats_of moments ≡ replicate n i) old new
   ticks_of = elim (leb i 65535) as (λ b. (leb i 65535 ≡ b → HasPlayed (λ d moments. seats_of moments ≡ replicate n i) old new)) [

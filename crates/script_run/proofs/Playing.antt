@@ -30,28 +30,28 @@ playable_by m first sizes = record { first = first; far = far_seats m sizes }
 
 -- none were made
 pub none_played : (Ticks : Core → List Moment → Type 0) (m : MachineState) → ((c : Core) → Ticks c []) → HasPlayed Ticks m m
-none_played Ticks m h = (same_table_none m, same_links_none m, λ took gave agrees agrees_gave. record { moments = []; are = h (core_with m took gave); follows = follows_none m took gave agrees agrees_gave })
+none_played Ticks m h = (same_table_none m, same_links_none m, λ took gave agrees agrees_gave. record { moments = []; is = h (core_with m took gave); follows = follows_none m took gave agrees agrees_gave })
 
 pub tick_played : (old new : MachineState) (seat : ℕ) (tick : Tick) → Ticked old new seat tick → HasPlayed (λ c moments. seats_of moments ≡ seat ∷ []) old new
-tick_played old new seat tick h = (h.0, h.1, λ took gave agrees agrees_gave. let t = h.2 took gave agrees agrees_gave in record { moments = t.moment ∷ []; are = ap (λ i. i ∷ []) t.is_of; follows = t.follows })
+tick_played old new seat tick h = (h.0, h.1, λ took gave agrees agrees_gave. let t = h.2 took gave agrees agrees_gave in record { moments = t.moment ∷ []; is = ap (λ i. i ∷ []) t.is_of; follows = t.follows })
 
 -- the seat had no step left: any number of its ticks would do the same
 pub idle_ticks : (old new : MachineState) (seat n : ℕ) → Ticked old new seat Idle → HasPlayed (λ c moments. seats_of moments ≡ replicate n seat) old new
-idle_ticks old new seat n h = let r = idle_ran old new seat h n in (r.0, r.1, λ took gave agrees agrees_gave. let t = r.2 took gave agrees agrees_gave in record { moments = t.moments; are = t.are_of; follows = t.follows })
+idle_ticks old new seat n h = idle_ran old new seat h n
 
 pub led_played : (old new : MachineState) (seat : ℕ) (kind : Kind) → Led old new seat kind → HasPlayed (LeadsUpTo old.plan seat (kind_text kind)) old new
-led_played old new seat kind h = (h.0, h.1, λ took gave agrees agrees_gave. let t = h.2 took gave agrees agrees_gave in record { moments = t.moments; are = t.leads; follows = t.follows })
+led_played old new seat kind h = (h.0, h.1, λ took gave agrees agrees_gave. let t = h.2 took gave agrees agrees_gave in record { moments = t.moments; is = t.is; follows = t.follows })
 
 -- the same ticks, said otherwise
 pub as_played : (S T : Core → List Moment → Type 0) (old new : MachineState) → ((took : Taken) (gave : Given) (moments : List Moment) → S (core_with old took gave) moments → T (core_with old took gave) moments) → HasPlayed S old new → HasPlayed T old new
-as_played S T old new change h = (h.0, h.1, λ took gave agrees agrees_gave. let t = h.2 took gave agrees agrees_gave in record { moments = t.moments; are = change took gave t.moments t.are; follows = t.follows })
+as_played S T old new change h = (h.0, h.1, λ took gave agrees agrees_gave. let t = h.2 took gave agrees agrees_gave in record { moments = t.moments; is = change took gave t.moments t.is; follows = t.follows })
 
 -- ticks, and then others
 pub then_played : (S T U : Core → List Moment → Type 0) (a b c : MachineState) → HasPlayed S a b → HasPlayed T b c → ((d : Core) (xs ys : List Moment) → S d xs → T (run a.plan d xs) ys → U d (xs ++ ys)) → HasPlayed U a c
 then_played S T U a b c h k join = made_join a b c (PlayedWith S a b) (PlayedWith T b c) (PlayedWith U a c) h k (λ took gave agrees agrees_gave table links after x later. let f = x.follows in
     let y = later f.later f.later_gave f.agrees f.agrees_gave in record {
       moments = x.moments ++ y.moments;
-      are = join (core_with a took gave) x.moments y.moments x.are (subst (λ d. T d y.moments) f.core y.are);
+      is = join (core_with a took gave) x.moments y.moments x.is (subst (λ d. T d y.moments) f.core y.is);
       follows = follows_join a b c took gave x.moments y.moments table links after f y.follows;
     })
 

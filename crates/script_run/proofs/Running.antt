@@ -143,7 +143,7 @@ module _ (script : List Item) (turns : List Turn) (start mid end_ : MachineState
     setup = n;
     is_set_up = subst (λ (c : Core). IsAtRest c 0) made.setup.1 (made.first.0 none_ none_);
     scheduled = now;
-    by_schedule = set (λ q c. Scheduled q c turns now) first.are;
+    by_schedule = set (λ q c. Scheduled q c turns now) first.is;
     later = later;
     settles = settles_from script settles.rounds (run p (set_up script n) now) later settles.after;
     answered = answered_append p (set_up script n) now later (set (λ q c. AreAnswered q c now) first.follows.answered) (moved (λ q c. AreAnswered q c later) rest.answered);

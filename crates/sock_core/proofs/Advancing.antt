@@ -32,7 +32,7 @@ use Rattle.reader_seats.specs.Readers.{reader_program}
 use Rattle.sock_core.specs.declared.machine.Tick.{Tick}
 use Rattle.sock_core.specs.declared.machine.Tick.TheVariants.{Moved, Waits, Idle}
 use Rattle.sock_core.specs.Links.{LinksData, Taken, Given, Agrees, AgreesGave}
-use Rattle.sock_core.specs.Machines.{MachineState, READERS, IsMachine, IsSoundMachine, HasSizes, AreCalled, ArePaced, table_of, machine_sizes, state_of, core_with, IsSized}
+use Rattle.sock_core.specs.Machines.{MachineState, READERS, IsMachine, IsSoundMachine, HasSizes, KeepsClosed, AreCalled, ArePaced, table_of, machine_sizes, state_of, core_with, IsSized}
 use Rattle.sock_core.specs.Steps.{AsMany, NextIs, FitsSlots, SameBase, MadeFirst}
 use Rattle.sock_core.specs.Reading.{SameTables, NextReadIs, MadeRead, TickRead}
 use Rattle.sock_core.specs.Telling.{TickTold, Tells, is_waiting}
@@ -115,16 +115,45 @@ module _ (m : MachineState) (took : Taken) (gave : Given) where
     pub rests_not : (ahead : IsAhead (core_with m took gave)) (first : First) → first_in program ≡ Some first → IsAtRest (core_with m took gave) i → ⊥
     rests_not ahead first next rest = none-some first (ap first_in (sym (seat_rests (core_with m took gave) ahead i rest (state_of m.plan m.links took program i) own_at)) ∙ next)
 
--- what such ticks leave
-module _ (m fresh : MachineState) (same : fresh.short ≡ m.short) where
-  leaves_by : (program : Program) (answer : Answer) (i : ℕ) → ((s : IsSoundMachine m) → Keeps m fresh s (record { seat = i; answer = answer })) → ((s : IsSoundMachine m) → waits m.plan (core_with m s.took s.gave) (record { seat = i; answer = answer }) ≡ is_waiting (table_of m) answer program) →
-      (t : Tick) → Tells (table_of m) program answer t → Leaves t m fresh
-  leaves_by program answer i keeps alike (Moved kind) tells = λ k lasts. (
-    ∥∥₁_elim lasts.1 (hlevel props) (λ s. let a = (keeps s.0).fewer (alike s.0 ∙ tells.1) in let b = s.1 in omega (arith, a, b)),
-    (same ∙ lasts.0, ∥∥₁_elim lasts.1 (hlevel props) (λ s. let kept = keeps s.0 in let a = kept.fewer (alike s.0 ∙ tells.1) in let b = s.1 in ∣ (kept.sound, omega (arith, a, b)) ∣₁)),
+-- ## A step of a seat, whoever has it
+
+module _ (m fresh : MachineState) (room i : ℕ) (program : Program) (answer : Answer) (is : IsMachine m room) (enough : m.short ≡ false) (own_at : (took : Taken) (gave : Given) → get_elem? (core_with m took gave).seats i ≡ core.some (state_of m.plan m.links took program i)) where
+  -- it is a tick
+  ticks_by : SameTable m fresh → SameLinks m fresh → ((took : Taken) (gave : Given) → Agrees m.links took → AgreesGave m.links gave → Follows m fresh took gave (record { seat = i; answer = answer } ∷ [])) → (tick : Tick) → Tells (table_of m) program answer tick → Ticked m fresh i tick
+  ticks_by table links follows tick tells = (
+    table,
+    links,
+    λ took gave agrees agrees_gave. record {
+      moment = record { seat = i; answer = answer };
+      is_of = refl;
+      is = tick_is m took gave i program (own_at took gave) answer tick tells;
+      follows = follows took gave agrees agrees_gave;
+    },
   )
-  leaves_by program answer i keeps alike (Waits what) tells = λ k lasts. (same ∙ lasts.0, ∥∥₁_elim lasts.1 (hlevel props) (λ s. let kept = keeps s.0 in let a = kept.no_more in let b = s.1 in ∣ (kept.sound, omega (arith, a, b)) ∣₁))
-  leaves_by program answer i keeps alike Idle tells = absurd tells
+
+  module _ (keeps : (s : IsSoundMachine m) → Keeps m fresh s (record { seat = i; answer = answer })) where
+    -- the machine stays one
+    keeps_by : ∥ HasSizes fresh ∥₁ → AsMany (table_of m) (table_of fresh) → ArePaced (machine_sizes fresh) fresh.links fresh.seats → KeepsClosed fresh → AreCalled fresh.ids → IsMachine fresh room
+    keeps_by sizes many paced closed called = record {
+      sizes = sizes;
+      has_room = let e = many.outcomes in let h = is.has_room in omega (arith, e, h);
+      sound = λ _. ∥∥₁_elim (is.sound enough) (hlevel props) (λ s. ∣ (keeps s).sound ∣₁);
+      paced = λ _. ∣ paced ∣₁;
+      closed = λ _. closed;
+      called = λ _. called;
+    }
+
+    -- what such a tick leaves
+    fewer_by : (s : IsSoundMachine m) → is_waiting (table_of m) answer program ≡ false → (keeps s).sound.left < s.left
+    fewer_by s moves = (keeps s).fewer (waits_as m s.took s.gave i program (own_at s.took s.gave) answer ∙ moves)
+
+    leaves_by : fresh.short ≡ m.short → (t : Tick) → Tells (table_of m) program answer t → Leaves t m fresh
+    leaves_by same (Moved kind) tells = λ k lasts. (
+      ∥∥₁_elim lasts.1 (hlevel props) (λ s. let a = fewer_by s.0 tells.1 in let b = s.1 in omega (arith, a, b)),
+      (same ∙ lasts.0, ∥∥₁_elim lasts.1 (hlevel props) (λ s. let a = fewer_by s.0 tells.1 in let b = s.1 in ∣ ((keeps s.0).sound, omega (arith, a, b)) ∣₁)),
+    )
+    leaves_by same (Waits what) tells = λ k lasts. (same ∙ lasts.0, ∥∥₁_elim lasts.1 (hlevel props) (λ s. let kept = keeps s.0 in let a = kept.no_more in let b = s.1 in ∣ (kept.sound, omega (arith, a, b)) ∣₁))
+    leaves_by same Idle tells = absurd tells
 
 -- ## A step of a client
 
@@ -206,16 +235,7 @@ module _ (m fresh : MachineState) (room i : ℕ) (step : Step) (tick : Tick) (is
 
   -- it is a tick
   pub told_ticks : Ticked m fresh i tick
-  told_ticks = (
-    told_table,
-    told_links,
-    λ took gave agrees agrees_gave. record {
-      moment = moment;
-      is_of = refl;
-      is = tick_is m took gave i program (own_at took gave) answer tick w.told.tells;
-      follows = follows took gave agrees agrees_gave;
-    },
-  )
+  told_ticks = ticks_by m fresh room i program answer is enough own_at told_table told_links follows tick w.told.tells
 
   yet_by : (f : First) → first_in program ≡ Some f → MadeFirst (table_of m) (table_of fresh) i w.seat w.seat' step f answer → answer ≡ OfReady asks.NotYet → (c : Core) → waits_at m.plan c answer program ≡ true
   yet_by (kinds.OfPut k asked bytes) at x e c = absurd (let f = x.1 in cc)
@@ -241,17 +261,12 @@ module _ (m fresh : MachineState) (room i : ℕ) (step : Step) (tick : Tick) (is
 
   -- the machine stays one
   pub told_keeps : IsMachine fresh room
-  told_keeps = record {
-    sizes = told_sizes;
-    has_room = let e = many.outcomes in let h = is.has_room in omega (arith, e, h);
-    sound = λ _. ∥∥₁_elim (is.sound enough) (hlevel props) (λ s. ∣ (keeps s).sound ∣₁);
-    paced = λ _. ∣ made_paced m sized paced (is.sound enough) fresh i w.seat w.seat' w.at w.seats step first answer next may made ∣₁;
-    closed = λ _. made_closed m fresh i w.seat w.seat' step (is.closed enough) (place_inside m.seats i w.seat w.at) w.seats w.readers first answer made;
-    called = λ _. called_by step next made;
-  }
+  told_keeps = keeps_by m fresh room i program answer is enough own_at keeps told_sizes many
+      (made_paced m sized paced (is.sound enough) fresh i w.seat w.seat' w.at w.seats step first answer next may made)
+      (made_closed m fresh i w.seat w.seat' step (is.closed enough) (place_inside m.seats i w.seat w.at) w.seats w.readers first answer made) (called_by step next made)
 
   pub told_leaves : Leaves tick m fresh
-  told_leaves = leaves_by m fresh w.short program answer i keeps (λ s. waits_as m s.took s.gave i program (own_at s.took s.gave) answer) tick w.told.tells
+  told_leaves = leaves_by m fresh room i program answer is enough own_at keeps w.short tick w.told.tells
 
   pub told_enough : fresh.short ≡ false
   told_enough = w.short ∙ enough
@@ -336,16 +351,7 @@ module _ (m fresh : MachineState) (room k : ℕ) (step : ReadStep) (tick : Tick)
 
   -- it is a tick
   pub read_ticks : Ticked m fresh i tick
-  read_ticks = (
-    read_table,
-    read_links_stay,
-    λ took gave agrees agrees_gave. record {
-      moment = read_moment;
-      is_of = refl;
-      is = tick_is m took gave i reading (read_own took gave) given_answer tick w.told.tells;
-      follows = read_follows took gave agrees agrees_gave;
-    },
-  )
+  read_ticks = ticks_by m fresh room i reading given_answer is enough read_own read_table read_links_stay read_follows tick w.told.tells
 
   read_kept : (s : IsSoundMachine m) → Keeps m fresh s read_moment
   read_kept s = step_keeps m fresh i given_answer same.plan same.id_plan w.opens read_slots (operations_are m is.sizes) s (read_stepped s.took s.gave s.agrees s.agrees_gave)
@@ -383,17 +389,12 @@ module _ (m fresh : MachineState) (room k : ℕ) (step : ReadStep) (tick : Tick)
 
   -- the machine stays one
   pub read_keeps : IsMachine fresh room
-  read_keeps = record {
-    sizes = read_has_sizes;
-    has_room = let e = read_as_many.outcomes in let h = is.has_room in omega (arith, e, h);
-    sound = λ _. ∥∥₁_elim (is.sound enough) (hlevel props) (λ s. ∣ (read_kept s).sound ∣₁);
-    paced = λ _. ∣ readers_paced m read_sized read_paced (is.sound enough) fresh i (let f = read_few in omega (arith, f)) same_sizes w.seats (outs_by begins read_next read_made) ∣₁;
-    closed = λ _. read_closed m fresh k w.reader w.reader' (is.closed enough) w.at w.seats w.readers begins given_answer read_made;
-    called = λ _. read_called step read_next read_made;
-  }
+  read_keeps = keeps_by m fresh room i reading given_answer is enough read_own read_kept read_has_sizes read_as_many
+      (readers_paced m read_sized read_paced (is.sound enough) fresh i (let f = read_few in omega (arith, f)) same_sizes w.seats (outs_by begins read_next read_made))
+      (read_closed m fresh k w.reader w.reader' (is.closed enough) w.at w.seats w.readers begins given_answer read_made) (read_called step read_next read_made)
 
   pub read_leaves : Leaves tick m fresh
-  read_leaves = leaves_by m fresh w.short reading given_answer i read_kept (λ s. waits_as m s.took s.gave i reading (read_own s.took s.gave) given_answer) tick w.told.tells
+  read_leaves = leaves_by m fresh room i reading given_answer is enough read_own read_kept w.short tick w.told.tells
 
   pub read_enough : fresh.short ≡ false
   read_enough = w.short ∙ enough

@@ -313,13 +313,13 @@ module _ (a b c : MachineState) (took : Taken) (gave : Given) (xs ys : List Mome
 -- ## Runs, one behind another
 
 pub ran_none : (m : MachineState) → Ran m m []
-ran_none m = (same_table_none m, same_links_none m, λ took gave agrees agrees_gave. record { moments = []; are_of = refl; follows = follows_none m took gave agrees agrees_gave })
+ran_none m = (same_table_none m, same_links_none m, λ took gave agrees agrees_gave. record { moments = []; is = refl; follows = follows_none m took gave agrees agrees_gave })
 
 pub ran_one : (a b : MachineState) (i : ℕ) (tick : Tick) → Ticked a b i tick → Ran a b (i ∷ [])
 ran_one a b i tick t = (
   t.0,
   t.1,
-  λ took gave agrees agrees_gave. let w = t.2 took gave agrees agrees_gave in record { moments = w.moment ∷ []; are_of = ap (λ (j : ℕ). j ∷ []) w.is_of; follows = w.follows },
+  λ took gave agrees agrees_gave. let w = t.2 took gave agrees agrees_gave in record { moments = w.moment ∷ []; is = ap (λ (j : ℕ). j ∷ []) w.is_of; follows = w.follows },
 )
 
 -- what is said of ticks from a machine on, and of those behind them
@@ -334,7 +334,7 @@ made_join a b c P Q R r s join = (
 pub ran_join : (a b c : MachineState) (xs ys : List ℕ) → Ran a b xs → Ran b c ys → Ran a c (xs ++ ys)
 ran_join a b c xs ys r s = made_join a b c (RanWith a b xs) (RanWith b c ys) (RanWith a c (xs ++ ys)) r s (λ took gave agrees agrees_gave table links after x later. let f = x.follows in let y = later f.later f.later_gave f.agrees f.agrees_gave in record {
   moments = x.moments ++ y.moments;
-  are_of = seats_append x.moments y.moments ∙ ap₂ (λ (is js : List ℕ). is ++ js) x.are_of y.are_of;
+  is = seats_append x.moments y.moments ∙ ap₂ (λ (is js : List ℕ). is ++ js) x.is y.is;
   follows = follows_join a b c took gave x.moments y.moments table links after f y.follows;
 })
 
@@ -381,28 +381,20 @@ asks_no_half asks none_ c m rest = by (get_elem? c.seats m.seat) rest
     by none rest = refl
     by (some seat) rest = ap (map (λ (j : ℕ). m.answer)) (none_ seat.program rest)
 
-rest_writes : (k : ℕ) (program : Program) → kind_in program ≡ None → filter (λ (j : ℕ). j == k) (asked_link program) ≡ []
-rest_writes k Rest rest = refl
-rest_writes k (Say o outcome next) rest = refl
-rest_writes k (Sent o next) rest = refl
-rest_writes k (Keep r next) rest = refl
-rest_writes k (Retries requests after) rest = refl
-rest_writes k _ rest = absurd (none-some _ (sym rest))
-
-rest_reads : (k : ℕ) (program : Program) → kind_in program ≡ None → filter (λ (j : ℕ). j == k) (taken_link program) ≡ []
-rest_reads k Rest rest = refl
-rest_reads k (Say o outcome next) rest = refl
-rest_reads k (Sent o next) rest = refl
-rest_reads k (Keep r next) rest = refl
-rest_reads k (Retries requests after) rest = refl
-rest_reads k _ rest = absurd (none-some _ (sym rest))
+rest_asks : (k : ℕ) (program : Program) → kind_in program ≡ None → (filter (λ (j : ℕ). j == k) (asked_link program) ≡ []) × (filter (λ (j : ℕ). j == k) (taken_link program) ≡ [])
+rest_asks k Rest rest = (refl, refl)
+rest_asks k (Say o outcome next) rest = (refl, refl)
+rest_asks k (Sent o next) rest = (refl, refl)
+rest_asks k (Keep r next) rest = (refl, refl)
+rest_asks k (Retries requests after) rest = (refl, refl)
+rest_asks k _ rest = absurd (none-some _ (sym rest))
 
 -- so nothing is heard of a link
 pub rest_heard : (c : Core) (m : Moment) → IsAtRest c m.seat → (k : ℕ) → heard_at c m k ≡ []
-rest_heard c m rest k = asks_no_half (λ program. filter (λ (j : ℕ). j == k) (asked_link program)) (rest_writes k) c m rest
+rest_heard c m rest k = asks_no_half (λ program. filter (λ (j : ℕ). j == k) (asked_link program)) (λ program none_. (rest_asks k program none_).0) c m rest
 
 pub rest_taken : (c : Core) (m : Moment) → IsAtRest c m.seat → (k : ℕ) → taken_at c m k ≡ []
-rest_taken c m rest k = asks_no_half (λ program. filter (λ (j : ℕ). j == k) (taken_link program)) (rest_reads k) c m rest
+rest_taken c m rest k = asks_no_half (λ program. filter (λ (j : ℕ). j == k) (taken_link program)) (λ program none_. (rest_asks k program none_).1) c m rest
 
 -- nor do so many of them
 module _ (p : Plan) (c : Core) (i : ℕ) (rest : IsAtRest c i) where
@@ -452,7 +444,7 @@ pub ran_rest : (m : MachineState) (i : ℕ) → ((took : Taken) (gave : Given) �
 ran_rest m i rest n = (
   same_table_none m,
   same_links_none m,
-  λ took gave agrees agrees_gave. record { moments = replicate n (quiet i); are_of = seats_quiet n i; follows = follows_rest m took gave i n agrees agrees_gave (rest took gave) },
+  λ took gave agrees agrees_gave. record { moments = replicate n (quiet i); is = seats_quiet n i; follows = follows_rest m took gave i n agrees agrees_gave (rest took gave) },
 )
 
 pub ran_idle : (a b : MachineState) (seats : List ℕ) (i : ℕ) → Ran a b seats → ((took : Taken) (gave : Given) → IsAtRest (core_with b took gave) i) → (n : ℕ) → Ran a b (seats ++ replicate n i)

@@ -19,7 +19,7 @@ use Rattle.sock_core.specs.declared.machine.On.{On}
 use Rattle.sock_core.specs.declared.machine.Tick.TheVariants as ticks
 use Rattle.sock_core.specs.Links.{Taken, Given}
 use Rattle.sock_core.specs.Machines.{MachineState, core_with}
-use Rattle.sock_core.specs.Runs.{SameTable, SameLinks, Follows, Made, Ticked, TickedWith, LedWith, Led}
+use Rattle.sock_core.specs.Runs.{SameTable, SameLinks, Follows, Made, Ticked, TickedWith, RunWith, LedWith, Led}
 use Rattle.sock_core.proofs.Joining.{same_table_none, same_table_join, same_links_none, same_links_join, follows_none, follows_join}
 use Rattle.sock_core.proofs.Resting.{follows_idle}
 
@@ -62,16 +62,14 @@ has_step p c m is = waits_by p c m.answer (get_elem? c.seats m.seat) is
 -- ## Of a machine
 
 -- ticks of the seat so far, none of which was a step of this kind
-pub record PassedWith (old new : MachineState) (seat : ℕ) (kind : Kind) (took : Taken) (gave : Given) : Type 0 where
-  pub moments : List Moment
-  pub others : AreOthers old.plan seat (kind_text kind) (core_with old took gave) moments
-  pub follows : Follows old new took gave moments
+abbrev pub PassedWith : MachineState → MachineState → ℕ → Kind → Taken → Given → Type 0
+PassedWith old new seat kind = RunWith (λ p. AreOthers p seat (kind_text kind)) old new
 
 abbrev pub Passed : MachineState → MachineState → ℕ → Kind → Type 0
 Passed old new seat kind = Made old new (PassedWith old new seat kind)
 
 pub led_none : (m : MachineState) (i : ℕ) (kind : Kind) → Passed m m i kind
-led_none m i kind = (same_table_none m, same_links_none m, λ took gave agrees agrees_gave. record { moments = []; others = tt; follows = follows_none m took gave agrees agrees_gave })
+led_none m i kind = (same_table_none m, same_links_none m, λ took gave agrees agrees_gave. record { moments = []; is = tt; follows = follows_none m took gave agrees agrees_gave })
 
 module _ (a b c : MachineState) (i : ℕ) (kind : Kind) where
   module _ (took : Taken) (gave : Given) (table : SameTable a b) (links : SameLinks a b) (after : SameLinks b c) (r : PassedWith a b i kind took gave) where
@@ -88,14 +86,14 @@ module _ (a b c : MachineState) (i : ℕ) (kind : Kind) where
     led_with : (ms : List Moment) → LeadsUpTo a.plan i (kind_text kind) passed_core ms → Follows b c r.follows.later r.follows.later_gave ms → LedWith a c i kind took gave
     led_with ms leads g = record {
       moments = r.moments ++ ms;
-      leads = leads_on a.plan i (kind_text kind) (core_with a took gave) r.moments ms r.others leads;
+      is = leads_on a.plan i (kind_text kind) (core_with a took gave) r.moments ms r.is leads;
       follows = follows_join a b c took gave r.moments ms table links after r.follows g;
     }
 
     passed_with : (k : Kind) → k ≢ kind → TickedWith b c i (ticks.Moved k) r.follows.later r.follows.later_gave → PassedWith a c i kind took gave
     passed_with k other t = record {
       moments = r.moments ++ t.moment ∷ [];
-      others = others_more a.plan i (kind_text kind) (core_with a took gave) r.moments t.moment k r.others t.is_of
+      is = others_more a.plan i (kind_text kind) (core_with a took gave) r.moments t.moment k r.is t.is_of
           (behind (λ p d. next_kind d i ≡ Some k) (subst (λ (j : ℕ). next_kind here j ≡ Some k) t.is_of t.is.0))
           (behind (λ p d. waits p d t.moment ≡ false) t.is.1) (λ same. other (one_kind k kind same));
       follows = follows_join a b c took gave r.moments (t.moment ∷ []) table links after r.follows t.follows;

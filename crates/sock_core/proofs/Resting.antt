@@ -80,7 +80,7 @@ follows_idle a b i took gave t = record {
 
 -- it is none at all
 pub ran_through : (a b : MachineState) (i : ℕ) → Ticked a b i ticks.Idle → Ran a b []
-ran_through a b i t = (t.0, t.1, λ took gave agrees agrees_gave. record { moments = []; are_of = refl; follows = follows_idle a b i took gave (t.2 took gave agrees agrees_gave) })
+ran_through a b i t = (t.0, t.1, λ took gave agrees agrees_gave. record { moments = []; is = refl; follows = follows_idle a b i took gave (t.2 took gave agrees agrees_gave) })
 
 -- a tick of a seat that has no step left, which changes nothing
 pub rest_ticks : (m : MachineState) (i : ℕ) → Rests m i → Ticked m m i ticks.Idle
@@ -137,7 +137,7 @@ idle_ran a b i t n = (
   t.1,
   λ took gave agrees agrees_gave. let w = t.2 took gave agrees agrees_gave in let c = core_with a took gave in let rest : IsAtRest c i = subst (IsAtRest c) w.is_of w.is in record {
     moments = replicate n (quiet i);
-    are_of = seats_quiet n i;
+    is = seats_quiet n i;
     follows = record {
       answered = rests_answered a.plan c i rest n;
       always_ready = λ h. quiet_prompt n i;

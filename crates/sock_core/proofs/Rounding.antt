@@ -14,7 +14,7 @@ use Rattle.sock_core.specs.declared.machine.Tick.{Tick}
 use Rattle.sock_core.specs.declared.machine.Tick.TheVariants.{Moved, Waits, Idle}
 use Rattle.sock_core.specs.Links.{Taken, Given, Agrees, AgreesGave, StayOffered}
 use Rattle.sock_core.specs.Machines.{MachineState, HasSizes, MOST_LEFT, READERS, core_with}
-use Rattle.sock_core.specs.Runs.{SameTable, SameLinks, Follows, Made, TickIs, TickedWith, Ticked, round_by, RoundWith, Still, HasMoved, SettlesAfter, PlayedWith, PlayedOn, RanFirst}
+use Rattle.sock_core.specs.Runs.{SameTable, SameLinks, Follows, Made, TickIs, TickedWith, Ticked, round_by, RunWith, RoundWith, Still, HasMoved, SettlesAfter, PlayedWith, PlayedOn, RanFirst}
 use Rattle.sock_core.specs.Driving.{LastsAtMost, LeavesFewer, LeavesAsMany, Leaves, IsPlain, FirstRests, TickedFirst}
 use Rattle.sock_core.proofs.Joining.{same_table_none, same_table_join, same_links_none, same_links_join, seats_append, run_append, follows_none, follows_join, made_join}
 use Rattle.sock_core.proofs.Resting.{Rests}
@@ -190,10 +190,8 @@ module _ (p : Plan) where
   settles_after : (n : ℕ) (c : Core) (xs ys : List Moment) → MovedRounds p n c xs → seats_of ys ≡ round_by p → AreStill p (run p c xs) ys → SettlesAfter p n c (xs ++ ys)
   settles_after n c xs ys rounds are still = behind_rounds (SettlesAfter p) (λ k d now later of_it went rest. (now, later, refl, of_it, went, rest)) n c xs ys rounds (are, still)
 
-pub record MovedWith (count : ℕ) (old new : MachineState) (took : Taken) (gave : Given) : Type 0 where
-  pub moments : List Moment
-  pub rounds : MovedRounds old.plan count (core_with old took gave) moments
-  pub follows : Follows old new took gave moments
+abbrev pub MovedWith : ℕ → MachineState → MachineState → Taken → Given → Type 0
+MovedWith count = RunWith (λ p. MovedRounds p count)
 
 pub record PlayedSoFar (m fresh : MachineState) (count : ℕ) : Type 0 where
   pub ran : Made m fresh (MovedWith count m fresh)
@@ -203,7 +201,7 @@ pub record PlayedSoFar (m fresh : MachineState) (count : ℕ) : Type 0 where
 
 pub played_none : (m : MachineState) → FirstRests m → LastsAtMost m (MOST_LEFT - 1) → PlayedSoFar m m 0
 played_none m rest left = record {
-  ran = (same_table_none m, same_links_none m, λ took gave agrees agrees_gave. record { moments = []; rounds = refl; follows = follows_none m took gave agrees agrees_gave });
+  ran = (same_table_none m, same_links_none m, λ took gave agrees agrees_gave. record { moments = []; is = refl; follows = follows_none m took gave agrees agrees_gave });
   rest = rest;
   below = omega arith;
   left = left;
@@ -228,7 +226,7 @@ module _ (m fresh next : MachineState) (count : ℕ) (so_far : PlayedSoFar m fre
         (made_join m fresh next (MovedWith count m fresh) (RoundWith (λ p c ms. AreStill p c ms → ⊥) fresh next) (MovedWith (suc count) m next) so_far.ran moved (λ took gave agrees agrees_gave table links after x later. let g = x.follows in
         let y = later g.later g.later_gave g.agrees g.agrees_gave in record {
           moments = x.moments ++ y.moments;
-          rounds = moved_more m.plan count (core_with m took gave) x.moments y.moments x.rounds (round_of_it took gave (λ p c ms. AreStill p c ms → ⊥) x y) (round_at took gave (λ p c ms. AreStill p c ms → ⊥) x y);
+          is = moved_more m.plan count (core_with m took gave) x.moments y.moments x.is (round_of_it took gave (λ p c ms. AreStill p c ms → ⊥) x y) (round_at took gave (λ p c ms. AreStill p c ms → ⊥) x y);
           follows = follows_join m fresh next took gave x.moments y.moments table links after g y.follows;
         }));
     rest = rest;
@@ -241,7 +239,7 @@ module _ (m fresh next : MachineState) (count : ℕ) (so_far : PlayedSoFar m fre
   played_last still = made_join m fresh next (MovedWith count m fresh) (RoundWith AreStill fresh next) (PlayedWith m next) so_far.ran still (λ took gave agrees agrees_gave table links after x later. let g = x.follows in
       let y = later g.later g.later_gave g.agrees g.agrees_gave in record {
         moments = x.moments ++ y.moments;
-        settles = record { rounds = count; after = settles_after m.plan count (core_with m took gave) x.moments y.moments x.rounds (round_of_it took gave AreStill x y) (round_at took gave AreStill x y) };
+        is = record { rounds = count; after = settles_after m.plan count (core_with m took gave) x.moments y.moments x.is (round_of_it took gave AreStill x y) (round_at took gave AreStill x y) };
         follows = follows_join m fresh next took gave x.moments y.moments table links after g y.follows;
       })
 

@@ -61,14 +61,14 @@ module _ (a b c d f : MachineState) (played : PlayedOn a b) (plan : c.plan ≡ b
     settled_with : PlayedWith told f t g → SettledWith a f took gave
     settled_with y = record {
       moments = x.moments;
-      settles = x.settles;
+      settles = x.is;
       answered = x.follows.answered;
       last = first.steps;
       ended = ended;
       is_ended = ap is_ending ended_is;
       is_over = first.still t g;
       final = y.moments;
-      settles_again = subst (λ (p : Plan). SettlesBy p ended y.moments) plans y.settles;
+      settles_again = subst (λ (p : Plan). SettlesBy p ended y.moments) plans y.is;
       answered_again = subst (λ (p : Plan). AreAnswered p ended y.moments) plans y.follows.answered;
       always_ready = λ always_ready. prompt_append x.moments y.moments (x.follows.always_ready always_ready) (y.follows.always_ready (ran_same.always_ready (played.1.always_ready always_ready)));
       closes = x.follows.closes;

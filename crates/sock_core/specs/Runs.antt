@@ -144,20 +144,22 @@ Ticked old new seat tick = Made old new (TickedWith old new seat tick)
 
 -- ## Runs
 
--- ticks of these seats, one after another
-pub record RanWith (old new : MachineState) (seats : List ℕ) (took : Taken) (gave : Given) : Type 0 where
+-- ticks of which this holds make the one machine of the other
+pub record RunWith (Is : Plan → Core → List Moment → Type 0) (old new : MachineState) (took : Taken) (gave : Given) : Type 0 where
   pub moments : List Moment
-  pub are_of : seats_of moments ≡ seats
+  pub is : Is old.plan (core_with old took gave) moments
   pub follows : Follows old new took gave moments
+
+-- ticks of these seats, one after another
+abbrev pub RanWith : MachineState → MachineState → List ℕ → Taken → Given → Type 0
+RanWith old new seats = RunWith (λ p c ms. seats_of ms ≡ seats) old new
 
 abbrev pub Ran : MachineState → MachineState → List ℕ → Type 0
 Ran old new seats = Made old new (RanWith old new seats)
 
 -- ticks of a seat that lead up to a step of this kind
-pub record LedWith (old new : MachineState) (seat : ℕ) (kind : Kind) (took : Taken) (gave : Given) : Type 0 where
-  pub moments : List Moment
-  pub leads : LeadsUpTo old.plan seat (kind_text kind) (core_with old took gave) moments
-  pub follows : Follows old new took gave moments
+abbrev pub LedWith : MachineState → MachineState → ℕ → Kind → Taken → Given → Type 0
+LedWith old new seat kind = RunWith (λ p. LeadsUpTo p seat (kind_text kind)) old new
 
 abbrev pub Led : MachineState → MachineState → ℕ → Kind → Type 0
 Led old new seat kind = Made old new (LedWith old new seat kind)
@@ -191,10 +193,8 @@ pub record SettlesBy (p : Plan) (c : Core) (moments : List Moment) : Type 0 wher
   pub rounds : ℕ
   pub after : SettlesAfter p rounds c moments
 
-pub record PlayedWith (old new : MachineState) (took : Taken) (gave : Given) : Type 0 where
-  pub moments : List Moment
-  pub settles : SettlesBy old.plan (core_with old took gave) moments
-  pub follows : Follows old new took gave moments
+abbrev pub PlayedWith : MachineState → MachineState → Taken → Given → Type 0
+PlayedWith old new = RunWith SettlesBy old new
 
 abbrev pub PlayedOn : MachineState → MachineState → Type 0
 PlayedOn old new = Made old new (PlayedWith old new)
