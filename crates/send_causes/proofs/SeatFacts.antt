@@ -57,12 +57,13 @@ module _ {T : Type 0} (L : T → Program → Type 0) (first : (t : T) (x : Progr
   }
 
 -- Behind a move of a message or a link, or a question to a link, a seat stands at rest.
-pub record ComesToRest {T : Type 0} (L : T → Program → Type 0) (rest : T) : Type 0 where
-  pub message : (t : T) (q : ℕ) (next : Heading → List ℕ → Program) → L t (TakeMessage q next) → (heading : Heading) (bytes : List ℕ) → L rest (next heading bytes)
-  pub home : (t : T) (k : ℕ) (next : ℕ → Program) → L t (TakeHome k next) → (places : ℕ) → L rest (next places)
-  pub puts_home : (t : T) (k n : ℕ) (after : Program) → L t (PutHome k n after) → L rest after
-  pub put : (t : T) (k : ℕ) (asked : Bool) (bytes : List ℕ) (next : Put → Program) → L t (PutBytes k asked bytes next) → (answer : Put) → L rest (next answer)
-  pub ask : (t : T) (k : ℕ) (next : Ready → Program) → L t (AskReady k next) → (answer : Ready) → L rest (next answer)
+module _ {T : Type 0} (L : T → Program → Type 0) (rest : T) where
+  pub record ComesToRest : Type 0 where
+    pub message : (t : T) (q : ℕ) (next : Heading → List ℕ → Program) → L t (TakeMessage q next) → (heading : Heading) (bytes : List ℕ) → L rest (next heading bytes)
+    pub home : (t : T) (k : ℕ) (next : ℕ → Program) → L t (TakeHome k next) → (places : ℕ) → L rest (next places)
+    pub puts_home : (t : T) (k n : ℕ) (after : Program) → L t (PutHome k n after) → L rest after
+    pub put : (t : T) (k : ℕ) (asked : Bool) (bytes : List ℕ) (next : Put → Program) → L t (PutBytes k asked bytes next) → (answer : Put) → L rest (next answer)
+    pub ask : (t : T) (k : ℕ) (next : Ready → Program) → L t (AskReady k next) → (answer : Ready) → L rest (next answer)
 
 -- a tick, where these are taken as one
 module _ {T : Type 0} (L : T → Program → Type 0) (rest : T) (rests : ComesToRest L rest) (p : Plan) (c : Core) (vs : List View) (m : Moment) (sound : Sound p c vs) (answered : IsAnswered c m) (P : Core → List View → Type 0) (before : P c vs)
