@@ -160,7 +160,7 @@ module _ (p : Plan) (q : IdPlan) (narrow : q.slots ≤ 65536) (is_call : Asked �
         trials = set ts i r.trial;
         behind = record {
           once = λ id n. once_more _ (g.new id n) _ (bound id n) (law.once id n) (λ more. let f = g.fresh id n more in (f.0, f.1));
-          made = λ id n. old_or_new _ (g.new id n) _ (bound id n) (λ some_. g.words id n (law.made id n some_)) (λ more. let f = g.fresh id n more in (f.2.0, inr f.2.1));
+          made = λ id n some_. old_or_new _ (g.new id n) _ (bound id n) (λ there. g.words id n (law.made id n there)) (λ more. let f = g.fresh id n more in (f.2.0, inr f.2.1)) some_;
           calls = g.calls;
           each = length-set ts i r.trial ∙ (law.each ∙ sym (length-set c.seats i next_seat));
           programs = pairs_set (λ (y : Trial) (z : SeatState). Labels is_call y z.program) c.seats ts i next_seat r.trial law.programs r.stows;

@@ -279,7 +279,7 @@ module _ (p : Plan) (q : IdPlan) (narrow : q.slots ≤ 65536) (Taken : Post → 
         set ss i r.stand,
         record {
           once = λ id n. once_more _ (g.new id n) _ (bound id n) (law.once id n) (λ more. let f = g.fresh id n more in (f.0, f.1));
-          made = λ id n. old_or_new _ (g.new id n) _ (bound id n) (λ some_. g.words id n (law.made id n some_)) (λ more. let f = g.fresh id n more in (f.2.0, inr f.2.1));
+          made = λ id n some_. old_or_new _ (g.new id n) _ (bound id n) (λ there. g.words id n (law.made id n there)) (λ more. let f = g.fresh id n more in (f.2.0, inr f.2.1)) some_;
           each = length-set ss i r.stand ∙ (law.each ∙ sym (length-set c.seats i next_seat));
           programs = pairs_set (λ (y : Stand) (z : SeatState). Aims y z.program) c.seats ss i next_seat r.stand law.programs r.aims;
           stands = λ j y at. ⊎_elim

@@ -217,14 +217,14 @@ module _ (p : Plan) (q : IdPlan) (narrow : q.slots ≤ 65536) (is_call : Asked �
         set ts i r.trial,
         record {
           once = λ id n. once_more _ (g.new id n) _ (bound id n) (law.once id n) (λ more. let f = g.fresh id n more in (f.0, f.1));
-          made = λ id n. old_or_new _ (g.new id n) _ (bound id n) (λ some_. g.words id n (law.made id n some_)) (λ more. let f = g.fresh id n more in (f.2.0, inr f.2.1));
+          made = λ id n some_. old_or_new _ (g.new id n) _ (bound id n) (λ there. g.words id n (law.made id n there)) (λ more. let f = g.fresh id n more in (f.2.0, inr f.2.1)) some_;
           views = λ j y e. ⊎_elim (λ b. subst (ViewFits is_call ids p) b.1 g.view) (λ b. law.views j y b.1) (at_set vs i j w y e);
           trials = λ j y e. ⊎_elim (λ b. subst (TrialFits ids) b.1 (r.fits g.fits)) (λ b. law.trials j y b.1) (at_set ts i j r.trial y e);
           calls = g.calls;
           each = length-set ts i r.trial ∙ (law.each ∙ sym (length-set c.seats i next_seat));
           programs = pairs_set (λ (y : Trial) (z : SeatState). Labels is_call y z.program) c.seats ts i next_seat r.trial law.programs r.labels;
         },
-        λ id n. old_or_new _ (g.new id n) _ (bound id n) (λ some_. inl some_) (λ more. inr (g.fresh id n more).2),
+        λ id n some_. old_or_new _ (g.new id n) _ (bound id n) (λ there. inl there) (λ more. inr (g.fresh id n more).2) some_,
       )
 
     fits_view : ViewFits is_call ids p v
