@@ -40,7 +40,7 @@ use Rattle.label_runs.specs.Labels.{FindsLabel}
 use Rattle.send_causes.specs.Counts.{word_of_id}
 use Rattle.send_causes.proofs.Words.{finds_label}
 use Rattle.outcome_causes.proofs.HomeCalls.{AreCalls, PutsAsked, calls_behind}
-use Rattle.send_causes.proofs.Ticks.{calls_waiting, few_of, fits_as}
+use Rattle.send_causes.proofs.Ticks.{calls_waiting, few_of, fits_as, pairs_set}
 use Rattle.send_causes.proofs.AttemptedWords.{Rise, is_new, is_same, is_more, IsMakeAt, risen, Advances}
 use Rattle.send_causes.proofs.EndedTrails.{StoresNext, Of, NoCall, Makes, Knows, Trail, lost, Stays, GoesDo, GoesAside, Follows}
 use Rattle.send_causes.proofs.EndedNames.{follows_first, resolves}

@@ -4,7 +4,6 @@ use Rattle.std.specs.List.{AllByRecursion}
 use Rattle.std.proofs.lemmas.List.{get_or_past}
 use mathlib.Core.Logic.{dite}
 use native.Mathlib.Decide.{dec_le}
-use mathlib.Core.Option.{some}
 use Rattle.sock_words.specs.declared.plain.Plan.{Plan}
 use Rattle.sock_words.specs.Words.{at_word, at_word_first, at_word_slot}
 use Rattle.sock_model.specs.declared.view.View.{View}
@@ -103,7 +102,7 @@ would_of is_call t (Do call next) o id n f (found, fits, would) = let g = f.1 fo
     ⊎_elim (λ same. record { own = r.own; attempt = r.attempt; link = r.link; other = r.other; word = r.word; knows = sym same ∙ r.knows; mine = r.mine; low = r.low; few = r.few; theirs = r.theirs; low_too = r.low_too })
     (λ none_. absurd (let z : NoCall ≡ Knows o r.own = sym none_ ∙ r.knows in cc)) (goes_of t g.0 call found g.1)
 would_of is_call t (Aside (StoreAt x w) next) o id n f (k, same, is, low) = let own = (f 0 tt).1.1 in
-    record { own = own.id; attempt = own.attempt; link = own.link; other = k; word = w; knows = own.knows ∙ ap (λ z. Knows z own.id) same; mine = own.word; low = own.small; few = own.few; theirs = is; low_too = low }
+    record { own = own.of.id; attempt = own.of.attempt; link = own.of.link; other = k; word = w; knows = own.knows ∙ ap (λ z. Knows z own.of.id) same; mine = own.of.word; low = own.of.small; few = own.of.few; theirs = is; low_too = low }
 would_of is_call t other o id n f would = absurd would
 
 -- behind seat 0, once it has nothing left to do
@@ -143,9 +142,9 @@ module _ (p : Plan) (q : IdPlan) (clients : List (List Task)) (gives : ℕ → L
     stores_own : (m : Moment) → StoresOwn ids c m
     stores_own m seat o w next at is id n l same low few slot = let t = elem_there c.seats k.trails m.seat seat k.law.each at in
         let f = subst (Follows is_call t.0) is (follows_first is_call t.0 seat.program (k.law.programs m.seat seat t.0 at t.1)) in let own = (f 0 tt).1.1 in
-        let knows : IsOwn q c o own.id = subst (IsTrueOf q c) own.knows (k.law.knows m.seat t.0 t.1) in
-        let mine = named_id own.id own.link own.attempt w own.word own.small own.few (let z = knows.low in omega (arith, z, small)) in let theirs = named_id id l n w same low few slot in
-        let one : own.id ≡ id = sym mine ∙ theirs in (are o own.id knows ∙ one, (λ z. knows.some_ (one ∙ z)))
+        let knows : IsOwn q c o own.of.id = subst (IsTrueOf q c) own.knows (k.law.knows m.seat t.0 t.1) in
+        let mine = named_id own.of.id own.of.link own.of.attempt w own.of.word own.of.small own.of.few (let z = knows.low in omega (arith, z, small)) in let theirs = named_id id l n w same low few slot in
+        let one : own.of.id ≡ id = sym mine ∙ theirs in (are o own.of.id knows ∙ one, (λ z. knows.some_ (one ∙ z)))
 
     would_own : (m : Moment) → WouldOwn ids c m
     would_own m seat at o id n few slot would = let t = elem_there c.seats k.trails m.seat seat k.law.each at in

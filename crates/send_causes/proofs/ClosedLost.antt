@@ -36,7 +36,6 @@ use Rattle.outcome_causes.proofs.Final.{at_there}
 use Rattle.outcome_causes.proofs.Members.{in_contains, contains_in}
 use Rattle.outcome_causes.proofs.Messages.{each_made}
 use Rattle.outcome_causes.proofs.Plain.{in_both, in_left, in_right}
-use Rattle.outcome_causes.proofs.Scripts.{seats}
 use Rattle.outcome_causes.proofs.Senders.{sent_stands}
 use Rattle.outcome_causes.proofs.Ticks.{elem_there}
 use Rattle.call_causes.specs.joint_runs.proofs.Runs.{AreMade, first_views}

@@ -1,5 +1,5 @@
 -- Over the ticks of a run: what became of attempts whose at words were stored; and how each program begins.
-use Rattle.std.proofs.Common.{◌≡◌, ℕ, zero, suc, ◌-◌, ◌<◌, ⊎_elim, true, List, [], ◌∷◌, replicate, refl, subst}
+use Rattle.std.proofs.Common.{◌≡◌, ℕ, zero, suc, ◌<◌, ⊎_elim, true, List, [], ◌∷◌, replicate, refl, subst}
 use Rattle.std.specs.Prelude as std
 use mathlib.Core.Option.{none, some}
 use lib.ListN.{get_elem?}

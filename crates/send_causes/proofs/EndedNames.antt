@@ -48,7 +48,7 @@ use Rattle.label_runs.specs.Labels.{FindsLabel}
 use Rattle.send_causes.specs.EndedCalls.{Load, loads_by, loaded_with, loaded_at, Store, stores_by, stored_at}
 use Rattle.send_causes.proofs.Words.{finds_label, makes_new}
 use Rattle.outcome_causes.proofs.HomeCalls.{AreCalls, PutsAsked, calls_behind}
-use Rattle.send_causes.proofs.Ticks.{few_more, few_of, calls_waiting, fits_as}
+use Rattle.send_causes.proofs.Ticks.{few_more, few_of, calls_waiting, fits_as, pairs_set}
 use Rattle.call_causes.proofs.Chains.{AreFewTries as AreTries}
 use Rattle.send_causes.proofs.Views.{row_same}
 use Rattle.send_causes.proofs.EndedTrails.{Of, NoCall, Makes, Knows, Trail, lost, Stays, IsAtOf, IsOwnStore, MayAttempt, GoesDo, GoesAside, Follows}
@@ -415,7 +415,7 @@ module _ (p : Plan) (q : IdPlan) (narrow : q.slots ≤ 65536) (is_call : Asked �
 
     pub name_ticks : After (ticked p c m) (views_after p c vs m)
     name_ticks = tick_moves (Follows is_call) lost (record { message = λ t q next g. g; home = λ t k next g. g; puts_home = λ t k n after g. g; put = λ t k asked bytes next g. g; ask = λ t k next g. g }) p c vs m sound answered After unchanged
-        (λ seat v at here. (trail_of seat at).0)
+        (λ seat v at here x is. (trail_of seat at).0)
         (λ seat v at here x is. first_as seat at x is)
         (λ seat v at here. let t = trail_of seat at in moves m.seat seat v t.0 at here t.1)
         (λ seat v call next at here is goes. let t = trail_of seat at in steps m.seat seat v t.0 at here t.1 call next goes.0 (first_as seat at (Do call next) is) (fits_as p c seat.program call next is (fitting seat at)))

@@ -12,7 +12,7 @@ use Rattle.seat_programs.specs.Asides.{Step, Found, PutCall, MakeId, StoreCall, 
 use Rattle.seat_programs.specs.Attempts.{claims_from, heading_for, attempt, begin_call, claim_id, call, tried_again, retry_locked, retry}
 use Rattle.seat_programs.specs.Calls.{Call, PutMessage, ClaimRequest, LoadName, FindLink, LookWord}
 use Rattle.seat_programs.specs.Clients.{HeldLife, client_from, ending_of}
-use Rattle.seat_programs.specs.Heads.{Head, Exit, Posts, Decides, Opens, First, Unlocks, Locks, Joins, Reads, Discards, Unlocking, IsOpen, HasNext, Locking, NotThere, Has}
+use Rattle.seat_programs.specs.Heads.{Head, Exit, Posts, First, Unlocking, IsOpen, HasNext, Locking, NotThere, Has}
 use Rattle.seat_programs.specs.Posts.{post, decided}
 use Rattle.seat_programs.specs.Programs.{Program, Do, Say, Write, Aside, Round, release}
 use Rattle.seat_programs.specs.Readers.{reader}

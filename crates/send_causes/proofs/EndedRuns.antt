@@ -1,17 +1,14 @@
 -- In a whole run each post by a reader is behind the end of its reading, and for an at word that it loaded which names its link.
-use Rattle.std.proofs.Common.{◌≡◌, ◌≢◌, ℕ, zero, suc, ◌+◌, ◌-◌, ◌<◌, ◌≤◌, ◌==◌, eqb-true, ne_eqb, Bool, true, false, cond, nat_le, leb-true, List, [], ◌∷◌, ◌++◌, length, map, filter, replicate, append-nil, append_assoc, inl, inr, ⊎_elim, ◌⊎◌, refl, sym, ap, ◌∙◌, subst, arith}
+use Rattle.std.proofs.Common.{◌≡◌, ℕ, ◌+◌, ◌<◌, ◌≤◌, ◌==◌, eqb-true, Bool, true, false, cond, nat_le, leb-true, List, [], ◌∷◌, ◌++◌, length, map, filter, append-nil, append_assoc, inl, inr, ⊎_elim, ◌⊎◌, refl, sym, ap, ◌∙◌, subst}
 use Rattle.std.proofs.lemmas.List.Concat.{flat_map-append}
-use mathlib.Core.Logic.{dite}
 use mathlib.Core.Option.{Option, none, some}
-use native.Mathlib.Decide.{dec_le}
 use lib.ListN.{get_elem?}
-use Rattle.chain_steps.proofs.Lists.{at_some}
 use Rattle.sock_words.specs.declared.plain.Plan.{Plan}
 use Rattle.sock_model.specs.declared.view.View.{View}
 use Rattle.seat_programs.specs.Asides.{Taking, Bytes}
 use Rattle.seat_programs.specs.Beside.{at_last, taking_in}
 use Rattle.seat_programs.specs.Cores.{Core, SeatState}
-use Rattle.seat_programs.specs.Ticks.{Answer, Unasked, OfPut, OfReady, OfTake, Moment, AreAnswered, quiet, taken, ticked, run}
+use Rattle.seat_programs.specs.Ticks.{Answer, Unasked, OfPut, OfReady, OfTake, Moment, AreAnswered, taken, ticked, run}
 use Rattle.sock_runs.specs.Sound.{Sound, AreFitting, views_after}
 use Rattle.sock_runs.proofs.Along.{place_inside}
 use Rattle.sock_runs.proofs.LinkTicks.{RetriesGo}
@@ -27,8 +24,8 @@ use Rattle.send_causes.specs.EndedCalls.{Load, loaded_at, reader_posts_at}
 use Rattle.send_causes.proofs.Early.{Any, ends_anyhow}
 use Rattle.send_causes.proofs.EndedReads.{MayPost, post_more}
 use Rattle.send_causes.proofs.EndedTicks.{HasTold, LoadsSo, told_ticks, told_posts}
-use Rattle.send_causes.proofs.ReaderRuns.{Keeps, founds, keeps_same, keeps_ticks, keeps_along, reader_of, others_none}
-use Rattle.send_causes.proofs.Readings.{found_by, takes_own, takes_or_not}
+use Rattle.send_causes.proofs.ReaderRuns.{Keeps, founds, keeps_ticks, reader_of, others_none}
+use Rattle.send_causes.proofs.Readings.{found_by, takes_or_not}
 
 module _ (p : Plan) (calls os : List ℕ) (in_os : (k o : ℕ) → get_elem? os k ≡ some o → o < p.operations) where
   abbrev pub Keeping : Core → List View → (ℕ → List Taking) → Type 0

@@ -1,5 +1,5 @@
 -- Each post by a reader in a whole run: the reading of its link ended, and it loaded an at word that names its link.
-use Rattle.std.proofs.Common.{◌≡◌, ℕ, ◌+◌, ◌-◌, ◌<◌, ◌==◌, ◌&&◌, ◌||◌, eq-eqb, Bool, true, false, cond, nat_le, le-leb, List, [], ◌∷◌, ◌++◌, length, length-set, append-nil, inl, inr, ⊎_elim, ◌⊎◌, Ok, refl, sym, ap, ◌∙◌, subst, arith}
+use Rattle.std.proofs.Common.{◌≡◌, ℕ, ◌+◌, ◌<◌, ◌==◌, ◌&&◌, ◌||◌, eq-eqb, Bool, true, false, cond, nat_le, le-leb, List, [], ◌∷◌, ◌++◌, length, length-set, append-nil, inl, inr, ⊎_elim, ◌⊎◌, Ok, refl, sym, ap, ◌∙◌, subst, arith}
 use Rattle.std.proofs.lemmas.List.Concat.{flat_map-append}
 use Rattle.std.specs.Prelude.{Contains}
 use Rattle.std.specs.List.{filter}

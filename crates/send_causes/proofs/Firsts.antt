@@ -1,5 +1,5 @@
 -- Each client has its sends and first attempts accepted in the order of its operations.
-use Rattle.std.proofs.Common.{◌≡◌, ℕ, zero, suc, ◌+◌, ◌/◌, ◌%◌, ◌==◌, nat_lt, eqb, ne_eqb, ◌≢◌, ◌≤◌, arith, true, false, cond, List, [], ◌∷◌, ◌++◌, refl, sym, subst}
+use Rattle.std.proofs.Common.{◌≡◌, ℕ, zero, suc, ◌+◌, ◌/◌, ◌%◌, ◌==◌, nat_lt, eqb, ne_eqb, ◌≢◌, ◌≤◌, arith, false, cond, List, [], ◌∷◌, ◌++◌, refl, sym, subst}
 use Rattle.std.proofs.lemmas.Bool.{true≢false}
 use Rattle.std.specs.List.{AllByRecursion}
 use Rattle.sock_words.specs.Words.{socket_id_slot, vref_version}

@@ -19,7 +19,7 @@ use Rattle.seat_programs.specs.declared.task.Sizes.{Sizes}
 use Rattle.seat_programs.specs.declared.task.Task.{Task}
 use Rattle.seat_programs.specs.Asides.{StoreAt, call_id, id_slot, id_first}
 use Rattle.seat_programs.specs.Attempts.{claims_from, heading_for, attempt, begin_call, claim_id, call, tried_again, retry_locked, retry, expire_outcome, expire, join}
-use Rattle.seat_programs.specs.Calls.{Call, PutMessage, Unconnect, FreeRequest, ReadNext, FindLink, LookWord, ReverseNext, Connect}
+use Rattle.seat_programs.specs.Calls.{Call, PutMessage, FreeRequest, ReadNext, FindLink, LookWord, ReverseNext, Connect}
 use Rattle.seat_programs.specs.Clients.{HeldLife, held_under, without_name, operation, client_from, ending_of}
 use Rattle.seat_programs.specs.Heads.{First, Posts, Joins, Reads, Discards, Posting, HasLocked, Unlocking, IsOpen, HasNext, Locking, NotThere, Has, Ended}
 use Rattle.seat_programs.specs.Parts.{part}
@@ -125,7 +125,7 @@ write_goes id q own after g = (tt, λ k _. (Calm, inl refl, λ places. λ headin
 accept_goes : (s : Stand) (id q g : ℕ) (heading : Heading) (bytes : List ℕ) (after : Program) → MayPut s (PutMessage q heading bytes) → Aims Calm after → Aims s (accept id q g heading bytes after)
 accept_goes s id q g heading bytes after may goes = (
   may,
-  λ _ _. (Calm, inr (inl refl), (words Calm).step (Unconnect q) _ refl (λ _. (tt, λ found _. (Calm, inl refl, swapped found)))),
+  λ _ _. (Calm, inr (inl refl), (tt, λ _ _. (Calm, inl refl, (tt, λ found _. (Calm, inl refl, swapped found))))),
 )
   where
     swapped : (found : ℕ) → Aims Calm (cond (nat_lt found IDLE) (Do (Connect q found) (λ _. after)) (write_link id q (ticket_of q g) after))

@@ -8,7 +8,7 @@ use Rattle.corr_core.specs.Word.{parts, error_of, attempt_of, unlocked_word}
 use Rattle.id_runs.specs.Goes.{FitsSock}
 use Rattle.seat_programs.specs.Asides.{Step, Found, MakeId, StoreAt, LoadAt, PostId, UnlockId, call_id, id_slot, id_first}
 use Rattle.seat_programs.specs.Calls.{Call, PutMessage}
-use Rattle.seat_programs.specs.Heads.{Head, Exit, Posts, Unlocks, Decides, Locks, Posting, HasLocked, Unlocking, HasNext, Locking, NotThere, Has}
+use Rattle.seat_programs.specs.Heads.{Head, Exit, Posts, Unlocks, Decides, Locks, Posting, HasLocked, Unlocking, Locking, NotThere, Has}
 use Rattle.seat_programs.specs.Posts.{WHOLE, advance_of, is_stale}
 use Rattle.seat_programs.specs.Writings.{Writing, Puts, Waits}
 use Rattle.seat_programs.specs.Programs.{Program, Do, Say, Sent, Rest, TakeMessage, TakeHome, PutHome, PutBytes, AskReady, Write, Aside, Round, Keep, Retries}

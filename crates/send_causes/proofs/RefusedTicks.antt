@@ -561,8 +561,8 @@ module _ (p : Plan) (q : IdPlan) (narrow : q.slots ≤ 65536) (is_call : Asked �
     would_as seat v s at here doing x is = subst (WouldOwnBy seat v s at here doing) is (would seat at)
 
     pub charge_ticks : After (ticked p c m) (views_after p c vs m)
-    charge_ticks = tick_moves (Charges p.requests is_call reads) idle (record { message = λ t q next g. g; home = λ t k next g. g; puts_home = λ t k n after g. g; put = λ t k asked bytes next g. g; ask = λ t k next g. g }) p c vs m sound answered After nothing
-        (λ seat v at here. (doing_of seat at).0)
+    charge_ticks = tick_moves (Charges p.requests is_call (nat_le 32 m.seat)) idle (record { message = λ t q next g. g; home = λ t k next g. g; puts_home = λ t k n after g. g; put = λ t k asked bytes next g. g; ask = λ t k next g. g }) p c vs m sound answered After nothing
+        (λ seat v at here x is. let d = doing_of seat at in (first_as seat v d.0 at here d.1 x is).doing)
         (λ seat v at here x is. let d = doing_of seat at in (first_as seat v d.0 at here d.1 x is).goes)
         (λ seat v at here. let d = doing_of seat at in moves seat v d.0 at here d.1)
         (λ seat v call next at here is goes. let d = doing_of seat at in steps seat v d.0 at here d.1 call next is (first_as seat v d.0 at here d.1 (Do call next) is) (would_as seat v d.0 at here d.1 (Do call next) is) (fits_as p c seat.program call next is (fitting seat at)))

@@ -67,8 +67,8 @@ module _ {T : Type 0} (L : T → Program → Type 0) (rest : T) where
 
 -- a tick, where these are taken as one
 module _ {T : Type 0} (L : T → Program → Type 0) (rest : T) (rests : ComesToRest L rest) (p : Plan) (c : Core) (vs : List View) (m : Moment) (sound : Sound p c vs) (answered : IsAnswered c m) (P : Core → List View → Type 0) (before : P c vs)
-    (state : (seat : SeatState) (v : View) → get_elem? c.seats m.seat ≡ some seat → get_elem? vs m.seat ≡ some v → T)
-    (first : (seat : SeatState) (v : View) (at : get_elem? c.seats m.seat ≡ some seat) (here : get_elem? vs m.seat ≡ some v) (x : Program) → first_step seat.program ≡ x → L (state seat v at here) x)
+    (state : (seat : SeatState) (v : View) → get_elem? c.seats m.seat ≡ some seat → get_elem? vs m.seat ≡ some v → (x : Program) → first_step seat.program ≡ x → T)
+    (first : (seat : SeatState) (v : View) (at : get_elem? c.seats m.seat ≡ some seat) (here : get_elem? vs m.seat ≡ some v) (x : Program) (is : first_step seat.program ≡ x) → L (state seat v at here x is) x)
     (moves : (seat : SeatState) (v : View) → get_elem? c.seats m.seat ≡ some seat → get_elem? vs m.seat ≡ some v → (x : Program) (hand : List Home) (hs : List (Option Home)) (w : View) (rights : List Right) → w ≡ with_rights v rights → L rest x
     → P (with_seat m.seat x hand c.words hs c) (set vs m.seat w))
     (step : (seat : SeatState) (v : View) (call : Call) (next : ℕ → Program) → get_elem? c.seats m.seat ≡ some seat → get_elem? vs m.seat ≡ some v → first_step seat.program ≡ Do call next → GoesOn p v (Do call next)
@@ -78,13 +78,13 @@ module _ {T : Type 0} (L : T → Program → Type 0) (rest : T) (rests : ComesTo
   pub tick_moves : P (ticked p c m) (views_after p c vs m)
   tick_moves = tick_cases p c vs m sound answered P before step
       (λ seat v q next heading bytes at here is goes. let w = right_rights v v.rights (λ x. taken_right x heading bytes) in
-      moves seat v at here (next heading bytes) seat.hand (set c.homes q none) (took_message heading bytes v) w.0 w.1 (rests.message (state seat v at here) q next (first seat v at here (TakeMessage q next) is) heading bytes))
+      moves seat v at here (next heading bytes) seat.hand (set c.homes q none) (took_message heading bytes v) w.0 w.1 (rests.message (state seat v at here (TakeMessage q next) is) q next (first seat v at here (TakeMessage q next) is) heading bytes))
       (λ seat v k next n at here is goes. let w = right_rights v v.rights (λ x. record x { at_home = false }) in
-      moves seat v at here (next n) (lies_at c.homes (link_place p k) ++ seat.hand) (set c.homes (link_place p k) none) (link_away v) w.0 w.1 (rests.home (state seat v at here) k next (first seat v at here (TakeHome k next) is) n))
+      moves seat v at here (next n) (lies_at c.homes (link_place p k) ++ seat.hand) (set c.homes (link_place p k) none) (link_away v) w.0 w.1 (rests.home (state seat v at here (TakeHome k next) is) k next (first seat v at here (TakeHome k next) is) n))
       (λ seat v k n after at here is goes. let w = right_rights v v.rights (λ x. record x { at_home = true }) in
-      moves seat v at here after (others_of seat.hand) (set c.homes (link_place p k) (first_of (onto_first (with_places n) seat.hand))) (link_home_again v) w.0 w.1 (rests.puts_home (state seat v at here) k n after (first seat v at here (PutHome k n after) is)))
+      moves seat v at here after (others_of seat.hand) (set c.homes (link_place p k) (first_of (onto_first (with_places n) seat.hand))) (link_home_again v) w.0 w.1 (rests.puts_home (state seat v at here (PutHome k n after) is) k n after (first seat v at here (PutHome k n after) is)))
       (λ seat v k asked bytes next answer at here is goes answer_is fits. let w = put_rights v answer in
-      moves seat v at here (next answer) (onto_first (fed bytes answer) seat.hand) c.homes (took_bytes answer v) w.0 w.1 (rests.put (state seat v at here) k asked bytes next (first seat v at here (PutBytes k asked bytes next) is) answer))
+      moves seat v at here (next answer) (onto_first (fed bytes answer) seat.hand) c.homes (took_bytes answer v) w.0 w.1 (rests.put (state seat v at here (PutBytes k asked bytes next) is) k asked bytes next (first seat v at here (PutBytes k asked bytes next) is) answer))
       (λ seat v k next answer at here is goes answer_is. subst (λ xs. P (with_seat m.seat (next answer) seat.hand c.words c.homes c) xs) (set_again vs m.seat v here)
-      (moves seat v at here (next answer) seat.hand c.homes v v.rights refl (rests.ask (state seat v at here) k next (first seat v at here (AskReady k next) is) answer)))
+      (moves seat v at here (next answer) seat.hand c.homes v v.rights refl (rests.ask (state seat v at here (AskReady k next) is) k next (first seat v at here (AskReady k next) is) answer)))
       aside

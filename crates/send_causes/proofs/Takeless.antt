@@ -1,5 +1,5 @@
 -- Clients and the ending take no bytes of any link, and wait for the word of no `open`; and where it is said, for the end of no range.
-use Rattle.std.proofs.Common.{◌≡◌, ℕ, ◌++◌, true, false, List, [], ◌∷◌, ⊎_elim, refl, sym, ap, ◌∙◌, subst}
+use Rattle.std.proofs.Common.{◌≡◌, ℕ, ◌++◌, true, List, [], ◌∷◌, ⊎_elim, refl, sym, ap, ◌∙◌, subst}
 use Rattle.std.proofs.lemmas.Bool.{true≢false}
 use mathlib.Core.Option.{some}
 use lib.ListN.{get_elem?}
