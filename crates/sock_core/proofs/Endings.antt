@@ -1,5 +1,5 @@
 -- Programs that ask no link; the machine of which the ending begins; and what a tick's answer says.
-use Rattle.std.proofs.Common.{◌≡◌, refl, ℕ, ◌+◌, ◌-◌, ◌*◌, ◌%◌, ◌==◌, ◌&&◌, ◌<◌, ◌≤◌, nat_le, ⊎_elim, Bool, true, false, cond, List, [], ◌∷◌, length, Option, Result, Ok, Err, OnOk, ap, sym, ◌∙◌, arith, subst}
+use Rattle.std.proofs.Common.{◌≡◌, refl, ℕ, ◌+◌, ◌-◌, ◌*◌, ◌%◌, ◌==◌, ◌&&◌, ◌<◌, ◌≤◌, nat_le, ⊎_elim, Bool, true, false, cond, List, [], ◌∷◌, length, slice_set, Option, Result, Ok, Err, OnOk, ap, sym, ◌∙◌, arith, subst}
 use Rattle.std.proofs.Props.{props}
 use Rattle.std.proofs.Math.Logic.{∥∥₁_elim}
 use Rattle.std.proofs.Math.ListN.{length-set}

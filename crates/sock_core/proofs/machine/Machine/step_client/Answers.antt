@@ -6,7 +6,7 @@ use Rattle.sock_core.specs.declared.machine.Tick.TheVariants.{Idle}
 use Rattle.sock_core.specs.Machines.{MachineState}
 use Rattle.sock_core.specs.Runs.{SameTable, SameLinks, Ticked}
 use Rattle.sock_core.specs.Driving.{Leaves, FirstRests}
-use Rattle.sock_core.proofs.Preparing.{prepared_keeps, prepared_idle, prepared_ready, prepared_stands, cut_keeps, cut_sizes}
+use Rattle.sock_core.proofs.Preparing.{prepared_keeps, prepared_idle, prepared_ready, prepared_stands, cut_keeps, cut_sizes, cut_same}
 use Rattle.sock_core.proofs.ClientTicks.{client_sized, client_fits, client_idle, idle_rests, went_keeps, went_same, went_ticks, went_leaves, went_rests}
 use Rattle.sock_core.proofs.machine.Machine.step_client.Goals as goal
 
@@ -17,6 +17,9 @@ invariant_of-self g c = (
   c.self.invariant.2,
   subst (λ (p : Plan). 8 * p.operations ≤ vec_capacity c.self.inside.places) (sym (c.in_err-prepare.ensures.err.plan)) c.self.invariant.3,
 )
+
+pub returns-in_err-prepare-clause-same : goal.returns-in_err-prepare-clause-same
+returns-in_err-prepare-clause-same g c = subst (λ (m : MachineState). SameTable m c.prepare.new.self × SameLinks m c.prepare.new.self) c.self.view_is (cut_same c.self.inside.tables c.prepare.new.self c.in_err-prepare.ensures.err)
 
 pub returns-in_err-prepare-clause-sizes : goal.returns-in_err-prepare-clause-sizes
 returns-in_err-prepare-clause-sizes g c = cut_sizes c.self.inside.tables c.prepare.new.self c.in_err-prepare.ensures.err c.self.invariant.0.sizes
