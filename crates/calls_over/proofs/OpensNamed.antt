@@ -111,4 +111,4 @@ module _ (script : List Item) (made : AreMade script) (turns : List Turn) (core 
   -- an at word that stands there
   pub stored_early : (o : ℕ) → o < (id_plan_of script).operations → at_of (id_plan_of script) (played script is.setup (is.scheduled ++ is.later)) o ≢ 0 → IsEarly script turns core is o (at_of (id_plan_of script) (played script is.setup (is.scheduled ++ is.later)) o)
   stored_early o low some_ = let b = both script made turns core is in let ids = b.ids in let c = played script is.setup in_clients in let n = clients_part.named in
-      let x = subst (λ (plan : IdPlan). o < plan.operations → get_or c.calls.words (at_index plan o) 0 ≢ 0 → StoredFor (IsCallOf script) (s₁ ++ s₂) n.events o (get_or c.calls.words (at_index plan o) 0)) ids.plan (n.law.ats o) low some_ in record { asked = x.asked; called = x.called; operation = x.operation; id = x.id; attempt = x.attempt; link = x.link; word = x.word; slot = x.slot; small = x.small; few = x.few; stored = x.stored }
+      let x = subst (λ (plan : IdPlan). o < plan.operations → get_or c.calls.words (at_index plan o) 0 ≢ 0 → StoredFor (IsCallOf script) (s₁ ++ s₂) n.events o (get_or c.calls.words (at_index plan o) 0)) ids.plan (n.law.ats o) low some_ in record { asked = x.of.asked; called = x.of.called; operation = x.of.operation; id = x.of.id; attempt = x.of.attempt; link = x.of.link; word = x.of.word; slot = x.slot; small = x.of.small; few = x.of.few; stored = x.stored }
