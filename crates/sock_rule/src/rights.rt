@@ -97,8 +97,7 @@ impl<O: Out> RuleTable<O> {
         ensures view { (r : Right) (now : ℕ) → Rights r seat.old.me.0 → r.stage ≡ Writes now → seat.new.me ≡ (with_right seat.old.me.0 (placed_right r now), seat.old.me.1) }
     {
         let index = self.place_index(at as usize);
-        let place = value.word();
-        self.table.shared.store::<StorePlace>(seat, index, place);
+        self.table.shared.store::<StorePlace>(seat, index, value.0);
     }
 
     /// P1 with the dropped bit, of a message in hand: its link lies in the home of the request meanwhile.
@@ -121,8 +120,7 @@ impl<O: Out> RuleTable<O> {
         let slot = now.request() as usize;
         self.lay_home(seat, slot, home);
         let index = self.place_index(at as usize);
-        let place = value.word();
-        self.table.shared.store::<DropPlace>(seat, index, place);
+        self.table.shared.store::<DropPlace>(seat, index, value.0);
         self.take_home(seat, slot)
     }
 
@@ -181,7 +179,7 @@ impl<O: Out> RuleTable<O> {
         ensures view { (r : Right) → Rights r seat.old.me.0 → Emptied r last.0 result.found seat.old.me seat.new.me }
     {
         let index = 6 * at as usize + 3;
-        let old = last.word();
+        let old = last.0;
         let new = old + 9_223_372_036_854_775_808;
         let found = self
             .table

@@ -53,7 +53,7 @@ impl<O: Out> SockTable<O> {
         self.rule.reset_head(seat, at);
         self.rule.wipe_code(seat, at);
         let step = self.rule.birth(seat, at);
-        let version = Vref::from_word(step.found).version();
+        let version = Vref(step.found).version();
         SocketId::pack(version, u32::from(at))
     }
 

@@ -75,7 +75,7 @@ impl<O: Out> SockTable<O> {
         ensures slots { seat.new.me.1 ≡ seat.old.me.1 }
     {
         let step = self.rule.recycle(seat, at, from);
-        if step.found != from.word() {
+        if step.found != from.0 {
             return false;
         }
         let links = self.rule.plan.links;
@@ -107,7 +107,7 @@ impl<O: Out> SockTable<O> {
         ensures slots { seat.new.me.1 ≡ seat.old.me.1 }
     {
         let step = self.rule.sub_ref(seat, at);
-        let left = Vref::from_word(step.next);
+        let left = Vref(step.next);
         if left.nref() != 0 {
             return false;
         }
@@ -135,7 +135,7 @@ impl<O: Out> SockTable<O> {
         prove!(slot < slots as u32);
         let at = slot as u16;
         let step = self.rule.add_ref(seat, at);
-        let found = Vref::from_word(step.found);
+        let found = Vref(step.found);
         if found.version() == id.version() {
             return Ok(SockRef { id });
         }
@@ -179,7 +179,7 @@ impl<O: Out> SockTable<O> {
         let slot = sock.id.slot();
         prove!(slot < slots as u32);
         let step = self.rule.look_word(seat, slot as u16);
-        let found = Vref::from_word(step.found);
+        let found = Vref(step.found);
         if found.version() == sock.id.version() {
             Look::Live
         } else {
@@ -268,7 +268,7 @@ impl<O: Out> SockTable<O> {
         prove!(slot < slots as u32);
         let at = slot as u16;
         let step = self.rule.set_odd(seat, at);
-        let found = Vref::from_word(step.found);
+        let found = Vref(step.found);
         if found.version() != sock.id.version() {
             return Err(Already { found });
         }
