@@ -10,7 +10,7 @@ ghost use Rattle.sock_model.specs.Layout.{place_index};
 ghost use Rattle.sock_model.specs.Entries.{slot_of, generation_of};
 ghost use Rattle.sock_rule.specs.declared.homes.SockHome.TheVariants.{Empty};
 ghost use Rattle.sock_rule.specs.Seated.{IsSeat};
-ghost use Rattle.sock_rule.specs.Faults.{faults_of, fault_found, noting_fault};
+ghost use Rattle.sock_rule.specs.Faults.{faults_of, fault_found, noting_fault, CameOut};
 ghost use Rattle.sock_rule.specs.Shows.{heading_of, way_at};
 ghost use Rattle.sock_rule.specs.Holding.{Rights, LinkAtHome, MayTakeMsg, TookMsg, MayLookToWrite, LookedToWrite, MayStorePlace, MayDropPlace, MayFreeRequest, MayEmptyHead, Emptied, MayReadOn, ReadOn, MayReadBack, ReadBack, MayTurnNext};
 
@@ -32,18 +32,13 @@ impl<O: Out> RuleTable<O> {
         ensures seat { IsSeat self.now.table.shared.table_id self.now.plan seat.new }
         ensures view { (r : Right) → Rights r seat.old.me.0 → seat.new.me ≡ (fault_found (O.state result.out).faults at link (with_right seat.old.me.0 (record r { at_home = false })), (self.now.plan.requests + link, Empty) ∷ seat.old.me.1) }
         ensures took { (r : Right) → Rights r seat.old.me.0 → (result.took.list ≡ r.sent) × (result.next ≡ r.places) }
-        ensures link { ((O.state result.out).link ≡ link) × ((O.state result.out).finished ≡ false) × (link < self.now.plan.links) }
-        ensures way { (O.state result.out).way ≡ way_at self.now.ways.list link }
-        ensures known { 0 < faults_of link seat.old.me.0 → 0 < (O.state result.out).faults }
+        ensures came { CameOut self.now.plan self.now.ways.list link seat.old.me.0 (O.state result.out) }
+        ensures unfinished { (O.state result.out).finished ≡ false }
     {
-        let index = 6 * at as usize + 2;
         let said = self.said();
-        self.table
-            .shared
-            .compare_exchange_with::<TakeOwn>(seat, index, 0, 0, &said);
-        drop(said);
-        let slot = self.plan.requests as usize + link as usize;
-        self.take_home(seat, slot)
+        let shared = &self.table.shared;
+        shared.compare_exchange_with::<TakeOwn>(seat, 6 * at as usize + 2, 0, 0, &said);
+        self.take_link_home(seat, link, said)
     }
 
     /// The seat notes that a fault of the link in hand came.

@@ -30,11 +30,17 @@ put_link-requires-clause-hand g c = let e = ap (λ m. m.0) c.recycle-step.ensure
 
 pub put_link-requires-clause-noted : goal.put_link-requires-clause-noted
 put_link-requires-clause-noted g c = λ some_. let k : ℕ = c.load_last_link-found.result in let v = c.load_last_link-found.new.seat.me.0 in subst (λ (n : ℕ). 0 < n) (sym c.finish.ensures.faults)
-    (noted_taken (g.O.Out.state c.take_last_link-home.result.out).faults 0 c.load_last_link-found.result v (with_hand v (hand_of c.load_last_link-found.result c.take_last_link-home.result.took.list c.take_last_link-home.result.next)) refl c.take_last_link-home.ensures.known
+    (noted_taken (g.O.Out.state c.take_last_link-home.result.out).faults 0 c.load_last_link-found.result v (with_hand v (hand_of c.load_last_link-found.result c.take_last_link-home.result.took.list c.take_last_link-home.result.next)) refl c.take_last_link-home.ensures.came.known
     (subst (λ (n : ℕ). 0 < n) (ap (λ m. faults_of c.load_last_link-found.result m.0) c.take_last_link-home.ensures.view) some_))
 
+pub put_link-requires-clause-inside : goal.put_link-requires-clause-inside
+put_link-requires-clause-inside g c = c.take_last_link-home.ensures.came.link_in
+
+pub put_link-requires-clause-link : goal.put_link-requires-clause-link
+put_link-requires-clause-link g c = c.finish.ensures.link ∙ c.take_last_link-home.ensures.came.link_is
+
 pub put_link-requires-clause-way : goal.put_link-requires-clause-way
-put_link-requires-clause-way g c = c.finish.ensures.way ∙ c.take_last_link-home.ensures.way
+put_link-requires-clause-way g c = c.finish.ensures.way ∙ c.take_last_link-home.ensures.came.way_is
 
 pub free_slot-requires-clause-recycled : goal.free_slot-requires-clause-recycled
 free_slot-requires-clause-recycled g c = let e = ap (λ m. m.0) c.recycle-step.ensures.view in let hit = c.if-step-from.false in let r = recycled_in c.args.at c.args.from.0 c.recycle-step.result.found c.args.seat.now.me.0 c.recycle-step.new.seat.me.0 e c.requires.zero hit in
