@@ -242,7 +242,7 @@ pub fn fail_link<O: Out>(
 {
     let slot = slot_at(table, sock);
     table.rule.note_fault(seat, slot);
-    let failed = table.fail(seat, sock, EFAILEDSOCKET);
+    let failed = table.set_failed(seat, sock, EFAILEDSOCKET);
     drop(failed);
 }
 
