@@ -44,7 +44,7 @@ impl Locker {
         requires { IsOpen step }
         ensures { (k : Locking → Program) → lock_on self.slot (sought_as self.sought) k result ≡ after_word (lock_program self k step) found }
     {
-        let found = IdWord::from_word(found);
+        let found = IdWord(found);
         match step {
             LockStep::Read => lock_by(self.sought, found),
             LockStep::Exchange(from) => lock_behind(self.sought, from, found),

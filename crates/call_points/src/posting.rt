@@ -38,7 +38,7 @@ impl OnCall {
     pub fn post_next(self, step: PostStep, found: u64) -> PostTurn
         ensures { (k : Posting → Program) → post_on (id_of self.id) self.error.0 k result ≡ after_word (post_program self k step) found }
     {
-        let found = IdWord::from_word(found);
+        let found = IdWord(found);
         match step {
             PostStep::Load => judge(self.id, self.error, found),
             PostStep::Exchange(from) => post_behind(self.id, self.error, from, found),

@@ -54,7 +54,7 @@ impl<C> IdTable<C> {
         let slot = (id / 4_294_967_296) as u16;
         let first = (id % 4_294_967_296) as u32;
         let at = AtWord::pack(first, slot, link, attempt);
-        self.store_word(seat, word, at.word());
+        self.store_word(seat, word, at.0);
     }
 
     /// Where the last attempt of a call is, by its operation: `None` only where nothing was stored. Where this seat stored it, or
@@ -69,7 +69,7 @@ impl<C> IdTable<C> {
     {
         let word = 2 * self.plan.slots as usize + 2 * operation as usize + 1;
         match self.load_word(seat, word) {
-            Some(found) => Some(AtWord::from_word(found)),
+            Some(found) => Some(AtWord(found)),
             None => None,
         }
     }

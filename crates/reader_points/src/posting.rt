@@ -16,7 +16,7 @@ use sock_words::AtWord;
 fn link_of(word: AtWord) -> u16
     ensures { result ≡ at_word_link word.0 }
 {
-    ((word.word() / 64 % 65_536) as u16).saturating_sub(1)
+    ((word.0 / 64 % 65_536) as u16).saturating_sub(1)
 }
 
 impl Closing {
@@ -24,7 +24,7 @@ impl Closing {
     fn is_named(self, word: AtWord) -> bool
         ensures { result ≡ (not (word.0 == 0) && (at_word_link word.0 == self.reader.link)) }
     {
-        word.word() != 0 && link_of(word) == self.reader.link
+        word.0 != 0 && link_of(word) == self.reader.link
     }
 
     /// The call whose at word this is.
@@ -45,7 +45,7 @@ impl Closing {
         ensures program { (a : Context) (operation : ℕ) → next_program a result ≡ after_word (load_program a self operation) found }
         ensures hand { (a : Context) → HasNext a result }
     {
-        let word = AtWord::from_word(found);
+        let word = AtWord(found);
         if self.is_named(word) {
             let lost = self.lost_at(word);
             ReadNext::Point(ReadPoint::Post(lost, PostStep::Load))

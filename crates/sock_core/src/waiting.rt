@@ -30,12 +30,12 @@ pub fn awaited(point: &Point, found: u64) -> Option<On>
     ensures waits { (a : Context) → is_some result ≡ waits_by (point_program a point.now) found }
     ensures on { (a : Context) → IfSome result (IsWaitingFor (point_program a point.now)) }
 {
-    let word = IdWord::from_word(found);
+    let word = IdWord(found);
     match *point {
         Point::Write(_, step) => match step {
             WriteStep::Walk(_, at, _) => {
                 if found == UNCONNECTED {
-                    Some(On::Next(at.word()))
+                    Some(On::Next(at.0))
                 } else {
                     None
                 }
@@ -94,7 +94,7 @@ pub fn awaited_by_reader(point: ReadPoint, found: u64) -> Option<On>
     ensures waits { (a : reading.Context) → is_some result ≡ waits_by (reading.point_program a point) found }
     ensures on { (a : reading.Context) → IfSome result (IsWaitingFor (reading.point_program a point)) }
 {
-    let word = IdWord::from_word(found);
+    let word = IdWord(found);
     match point {
         ReadPoint::Open(_, operation) => {
             if found == 0 {

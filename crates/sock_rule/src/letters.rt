@@ -83,8 +83,7 @@ impl<O: Out> RuleTable<O> {
         ensures view { (c : Claim) → Claims c seat.old.me.0 → Swapped c result.found seat.old.me seat.new.me }
     {
         let index = 6 * at as usize + 3;
-        let new = own.word();
-        let found = self.table.shared.swap::<SwapHead>(seat, index, new);
+        let found = self.table.shared.swap::<SwapHead>(seat, index, own.0);
         chain_core::swap_head(found, own)
     }
 
@@ -97,7 +96,6 @@ impl<O: Out> RuleTable<O> {
         ensures view { seat.new.me ≡ (without_loose seat.old.me.0 at, seat.old.me.1) }
     {
         let index = self.next_index(at as usize);
-        let value = before.word();
-        self.table.shared.store::<Connect>(seat, index, value);
+        self.table.shared.store::<Connect>(seat, index, before.0);
     }
 }

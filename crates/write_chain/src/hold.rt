@@ -133,13 +133,13 @@ pub fn go_past<O: Out>(
     ensures last { now.0 ≡ last.0 → IsLast result }
     ensures others { seat.new.me.0 ≡ record seat.old.me.0 { rights = seat.new.me.0.rights } }
 {
-    if now.word() == last.word() {
+    if now.0 == last.0 {
         give_request_back(table, seat, now);
         return Doing::Last(link);
     }
     let found = table.rule.read_on(seat, now);
     give_request_back(table, seat, now);
-    Doing::Next(link, Ticket::from_word(found))
+    Doing::Next(link, Ticket(found))
 }
 
 /// The link took the whole message: it gets its place.
@@ -190,13 +190,13 @@ pub fn leave<O: Out>(
     let slot = slot_at(table, &sock);
     table.rule.put_own_link(seat, number, home);
     let step = table.rule.empty_head(seat, slot, last);
-    if step.found == last.word() {
+    if step.found == last.0 {
         return Once::Done(sock);
     }
     Once::Keep(WriteRight {
         sock,
         last,
-        doing: Doing::Walks(number, Ticket::from_word(step.found)),
+        doing: Doing::Walks(number, Ticket(step.found)),
     })
 }
 
@@ -218,7 +218,7 @@ pub fn look<O: Out>(
 {
     let slot = slot_at(table, sock);
     let step = table.rule.look_to_write(seat, slot);
-    let found = Vref::from_word(step.found);
+    let found = Vref(step.found);
     !found.is_failed()
 }
 
@@ -242,7 +242,7 @@ pub fn fail_link<O: Out>(
 {
     let slot = slot_at(table, sock);
     table.rule.note_fault(seat, slot);
-    let failed = table.fail(seat, sock, EFAILEDSOCKET);
+    let failed = table.set_failed(seat, sock, EFAILEDSOCKET);
     drop(failed);
 }
 

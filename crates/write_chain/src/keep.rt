@@ -146,7 +146,7 @@ pub fn walk_back<O: Out>(
         after,
     } = walk;
     table.rule.turn_next(seat, at, after);
-    let end = last.word();
+    let end = last.0;
     if found == end {
         return WriteRight {
             sock,
@@ -157,8 +157,8 @@ pub fn walk_back<O: Out>(
     let walk = Walk {
         link,
         top,
-        at: Ticket::from_word(found),
-        after: at.word(),
+        at: Ticket(found),
+        after: at.0,
     };
     WriteRight {
         sock,

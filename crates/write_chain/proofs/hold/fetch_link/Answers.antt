@@ -12,7 +12,7 @@ pub slot_at-slot-requires : goal.slot_at-slot-requires
 slot_at-slot-requires g c = record { inside = c.requires.may.2.writer.holds.inside }
 
 pub returns-clause-has : goal.returns-clause-has
-returns-clause-has g c = let e = c.take_link-home.ensures in λ last stage s. link_fetched c.args.link stage record { link = c.args.link; home = c.take_link-home.result } c.args.seat.now.me c.take_link-home.new.seat.me s refl e.link.2 (e.link.0, e.link.1) e.way (e.took s.right_is s.writer.one) c.slot_at-slot.result c.slot_at-slot.ensures.slot e.known (e.view s.right_is s.writer.one)
+returns-clause-has g c = let e = c.take_link-home.ensures in λ last stage s. link_fetched c.args.link stage record { link = c.args.link; home = c.take_link-home.result } c.args.seat.now.me c.take_link-home.new.seat.me s refl e.came.link_in (e.came.link_is, e.unfinished) e.came.way_is (e.took s.right_is s.writer.one) c.slot_at-slot.result c.slot_at-slot.ensures.slot e.came.known (e.view s.right_is s.writer.one)
 
 pub returns-clause-wrote : goal.returns-clause-wrote
 returns-clause-wrote g c = let s = c.requires.may.2 in let n = (g.O.Out.state c.take_link-home.result.out).faults in let v = c.args.seat.now.me.0 in

@@ -1,9 +1,8 @@
-use Rattle.std.proofs.Common.{ℕ, [], refl, sym, ap, ◌∙◌, subst}
+use Rattle.std.proofs.Common.{refl, sym, ap, subst}
 use Rattle.sock_words.specs.declared.plain.Plan.{Plan}
-use Rattle.sock_model.specs.declared.chain.Stage.TheVariants.{Walks}
 use Rattle.sock_rule.specs.ChainPlays.{IsTicket}
 use Rattle.write_chain.specs.declared.right.Doing.TheVariants.{Back}
-use Rattle.write_chain.specs.Writing.{HasLink, GoesBy}
+use Rattle.write_chain.specs.Writing.{GoesBy}
 use Rattle.write_chain.proofs.Noting.{rights_only, rights_then}
 use Rattle.write_chain.proofs.Stepping.{reads_at, turned_last, turned_on}
 use Rattle.write_chain.proofs.keep.walk_back.Goals as goal
@@ -32,7 +31,7 @@ turn_next-requires-clause-ticket g c = let t = c.requires.may.2 in (t.some_slot,
 pub returns-then-found-end-clause-goes : goal.returns-then-found-end-clause-goes
 returns-then-found-end-clause-goes g c = let h = c.requires.may.0 in let read = (c.read_back-found.ensures.view h.right_is c.args.walk.top.0 c.args.walk.after h.writer.one h.stage_is).1 c.if-found.false in
     let t = reads_at c.args.walk.top.0 c.args.walk.at.0 c.args.walk.after c.read_back-found.result c.args.walk.link c.args.seat.now.me c.read_back-found.new.seat.me h read.0 in
-    (refl, (turned_last c.args.walk.top.0 c.args.walk.at.0 c.args.walk.after c.read_back-found.result c.args.walk.link c.read_back-found.new.seat.me c.turn_next.new.seat.me t (c.turn_next.ensures.view t.right_is c.args.walk.top.0 c.args.walk.after c.read_back-found.result t.writer.one t.stage_is) (c.if-found-end.true ∙ c.word-end.ensures) c.requires.may.1, c.requires.may.2))
+    (refl, (turned_last c.args.walk.top.0 c.args.walk.at.0 c.args.walk.after c.read_back-found.result c.args.walk.link c.read_back-found.new.seat.me c.turn_next.new.seat.me t (c.turn_next.ensures.view t.right_is c.args.walk.top.0 c.args.walk.after c.read_back-found.result t.writer.one t.stage_is) c.if-found-end.true c.requires.may.1, c.requires.may.2))
 
 pub returns-then-found-end-clause-others : goal.returns-then-found-end-clause-others
 returns-then-found-end-clause-others g c = let h = c.requires.may.0 in let read = (c.read_back-found.ensures.view h.right_is c.args.walk.top.0 c.args.walk.after h.writer.one h.stage_is).1 c.if-found.false in
@@ -43,13 +42,12 @@ returns-then-found-end-clause-others g c = let h = c.requires.may.0 in let read 
 pub returns-clause-goes : goal.returns-clause-goes
 returns-clause-goes g c = let h = c.requires.may.0 in let read = (c.read_back-found.ensures.view h.right_is c.args.walk.top.0 c.args.walk.after h.writer.one h.stage_is).1 c.if-found.false in
     let t = reads_at c.args.walk.top.0 c.args.walk.at.0 c.args.walk.after c.read_back-found.result c.args.walk.link c.args.seat.now.me c.read_back-found.new.seat.me h read.0 in
-    let on = turned_on c.args.walk.top.0 c.args.walk.at.0 c.args.walk.after c.read_back-found.result c.args.walk.link c.read_back-found.new.seat.me c.turn_next.new.seat.me t (c.turn_next.ensures.view t.right_is c.args.walk.top.0 c.args.walk.after c.read_back-found.result t.writer.one t.stage_is) (λ e. c.if-found-end.false (e ∙ sym c.word-end.ensures)) in (
+    let on = turned_on c.args.walk.top.0 c.args.walk.at.0 c.args.walk.after c.read_back-found.result c.args.walk.link c.read_back-found.new.seat.me c.turn_next.new.seat.me t (c.turn_next.ensures.view t.right_is c.args.walk.top.0 c.args.walk.after c.read_back-found.result t.writer.one t.stage_is) c.if-found-end.false in (
       refl,
       (
-        subst (λ (b : ℕ). HasLink c.args.table.now.rule.plan c.args.table.now.rule.ways.list c.args.sock.id.0 c.args.last.0 (Walks c.args.walk.top.0 c.from_word.result.0 b) [] c.args.walk.link c.turn_next.new.seat.me) (sym c.word.ensures)
-            (subst (λ (a : ℕ). HasLink c.args.table.now.rule.plan c.args.table.now.rule.ways.list c.args.sock.id.0 c.args.last.0 (Walks c.args.walk.top.0 a c.args.walk.at.0) [] c.args.walk.link c.turn_next.new.seat.me) (sym c.from_word.ensures) on),
+        on,
         c.requires.may.1,
-        subst (IsTicket c.args.table.now.rule.plan) (sym c.from_word.ensures) (subst (λ (q : Plan). IsTicket q c.read_back-found.result) c.requires.seat.1 read.1),
+        subst (λ (q : Plan). IsTicket q c.read_back-found.result) c.requires.seat.1 read.1,
       ),
     )
 
