@@ -37,16 +37,6 @@ pub struct Caller<O: Out> {
     pub sent: u32,
 }
 
-/// What a client leaves: its seats, the outcomes of its operations in their order, but of the calls that have begun, and those of
-/// the calls that it ended, which may be other clients'.
-#[derive(Drop)]
-pub struct Spent<O: Out> {
-    pub seat: SockSeat<O>,
-    pub ids: IdSeat<Call>,
-    pub outcomes: Vec<Told>,
-    pub ended: Vec<Told>,
-}
-
 impl<O: Out> Caller<O> {
     /// A client with these seats. The passes are those of its `open`s, the next one last. It takes no memory.
     pub fn new(
@@ -99,33 +89,5 @@ impl<O: Out> Caller<O> {
         leave_all(self, tables, tasks);
         give_all(&tables.socks, &mut self.seat, &mut self.held);
         made
-    }
-
-    /// What it leaves.
-    pub fn spent(self) -> Spent<O>
-        ensures { (result.seat ≡ self.seat) × (result.ids ≡ self.calls.seat) × (result.outcomes ≡ self.outcomes) × (result.ended ≡ self.calls.told) }
-    {
-        let Caller {
-            seat,
-            passes: _,
-            held: _,
-            outcomes,
-            calls,
-            sent: _,
-        } = self;
-        let CallSeat {
-            seat: ids,
-            retries: _,
-            told,
-            starved: _,
-            pool: _,
-            alloc: _,
-        } = calls;
-        Spent {
-            seat,
-            ids,
-            outcomes,
-            ended: told,
-        }
     }
 }
