@@ -7,16 +7,16 @@ use Rattle.sock_table.specs.declared.refs.SockRef.{SockRef}
 use Rattle.call_errors.specs.rpc_client.specs.Sending.{sock_of}
 use Rattle.call_errors.specs.Books.{stand_of}
 use Rattle.call_writes.proofs.Drains.{drained_all}
-use Rattle.call_writes.proofs.sending.see_through_calling.Goals as goal
+use Rattle.call_writes.proofs.on.On.see_through.Goals as goal
 
 pub release-requires-clause-held : goal.release-requires-clause-held
-release-requires-clause-held g c = let gave = c.write_if-sock.ensures.gave in subst (λ (y : SockRef). Holds c.args.table.now.rule.plan c.write_if-sock.new.seat.me.0 y.id.0) (sym gave.0) gave.1.holds
+release-requires-clause-held g c = let gave = c.write_if-sock.ensures.gave in subst (λ (y : SockRef). Holds c.args.self.now.socks.now.rule.plan c.write_if-sock.new.seat.me.0 y.id.0) (sym gave.0) gave.1.holds
 
 pub release-requires-clause-between : goal.release-requires-clause-between
 release-requires-clause-between g c = c.write_if-sock.ensures.gave.1.between
 
 pub returns-clause-idle : goal.returns-clause-idle
-returns-clause-idle g c = let wrote = drained_all c.args.table.now.rule.plan c.args.ids.now.plan.slots (sock_of c.args.started).id.0 c.args.seat.now.me.0 c.write_if-sock.new.seat.me.0 (stand_of c.args.calls.now) (stand_of c.write_if-sock.new.calls) c.write_if-sock.ensures.drained in record {
+returns-clause-idle g c = let wrote = drained_all c.args.self.now.socks.now.rule.plan c.args.self.now.ids.now.plan.slots (sock_of c.args.started).id.0 c.args.seat.now.me.0 c.write_if-sock.new.seat.me.0 (stand_of c.args.calls.now) (stand_of c.write_if-sock.new.calls) c.write_if-sock.ensures.drained in record {
   seat = c.release.ensures.seat;
   slots = c.release.ensures.slots ∙ c.write_if-sock.ensures.gave.1.slots;
   between = c.release.ensures.between;
