@@ -12,7 +12,7 @@ ghost use Rattle.call_client.specs.Acting.{MayGo};
 ghost use Rattle.call_client.specs.Running.{MayMakeAll, RunBy};
 
 use crate::running::{leave_all, make_or_starve};
-use call_attempts::Tables;
+use call_attempts::{At, Tables};
 use call_errors::CallSeat;
 use corr_id::IdSeat;
 use rpc_client::{Held, Told, give_all};
@@ -85,7 +85,8 @@ impl<O: Out> Caller<O> {
         ensures fed { IfOk result (λ _. self.new.calls.starved ≡ false) }
         ensures ran { RunBy O.state tables.now.socks.rule.plan tables.now.ids.plan (is_err result) tasks.items self.old self.new }
     {
-        let made = make_or_starve(self, rt, tables, of, &mut tasks, gate);
+        let at = At { rt, tables };
+        let made = make_or_starve(self, &at, of, &mut tasks, gate);
         leave_all(self, tables, tasks);
         give_all(&tables.socks, &mut self.seat, &mut self.held);
         made
