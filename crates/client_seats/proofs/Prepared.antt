@@ -10,7 +10,7 @@ use Rattle.id_points.specs.declared.call_id.AttemptNumber.{AttemptNumber}
 use Rattle.id_points.specs.Ids.{id_of, number_of}
 use Rattle.call_points.specs.Steps.{after_call}
 use Rattle.call_points.specs.declared.deciding.DecideStep.TheVariants as decides
-use Rattle.call_points.specs.declared.locking.LockStep.TheVariants as locks
+use Rattle.call_points.specs.declared.word_step.WordStep.TheVariants as id_steps
 use Rattle.seat_states.specs.declared.point.AfterStep.{AfterStep}
 use Rattle.seat_states.specs.declared.point.AfterStep.TheVariants as afters
 use Rattle.seat_states.specs.declared.point.CallStep.TheVariants as begins
@@ -77,8 +77,8 @@ prepared_retry sizes old mid new r r' step at f ids numbers operation name is = 
     same : (s : RetryStep) → point_program (around sizes seat) (points.Retry r' s) ≡ point_program (around sizes old) (points.Retry r s)
     same (retries.PutCall w) = ap₂ (λ (i : CallId) (n : AttemptNumber). point_program (around sizes old) (points.Retry (record { attempt = record { operation = 0; id = i; number = n }; name = 0 }) (retries.PutCall w))) ids numbers
     same (retries.Unlock w advance) = ap₂ (λ (i : CallId) (n : AttemptNumber). point_program (around sizes old) (points.Retry (record { attempt = record { operation = 0; id = i; number = n }; name = 0 }) (retries.Unlock w advance))) ids numbers
-    same (retries.Lock locks.Read) = ap₂ (λ (i : CallId) (n : AttemptNumber). point_program (around sizes old) (points.Retry (record { attempt = record { operation = 0; id = i; number = n }; name = 0 }) (retries.Lock locks.Read))) ids numbers
-    same (retries.Lock (locks.Exchange from)) = ap₂ (λ (i : CallId) (n : AttemptNumber). point_program (around sizes old) (points.Retry (record { attempt = record { operation = 0; id = i; number = n }; name = 0 }) (retries.Lock (locks.Exchange from)))) ids numbers
+    same (retries.Lock id_steps.Read) = ap₂ (λ (i : CallId) (n : AttemptNumber). point_program (around sizes old) (points.Retry (record { attempt = record { operation = 0; id = i; number = n }; name = 0 }) (retries.Lock id_steps.Read))) ids numbers
+    same (retries.Lock (id_steps.Exchange from)) = ap₂ (λ (i : CallId) (n : AttemptNumber). point_program (around sizes old) (points.Retry (record { attempt = record { operation = 0; id = i; number = n }; name = 0 }) (retries.Lock (id_steps.Exchange from)))) ids numbers
     same (retries.TakeCall w) = ap₂ (λ (i : CallId) (n : AttemptNumber). point_program (around sizes old) (points.Retry (record { attempt = record { operation = 0; id = i; number = n }; name = 0 }) (retries.TakeCall w))) ids numbers
     same retries.LoadName = ap₂ (λ (i : CallId) (n : AttemptNumber). point_program (around sizes old) (points.Retry (record { attempt = record { operation = 0; id = i; number = n }; name = 0 }) retries.LoadName)) ids numbers
 

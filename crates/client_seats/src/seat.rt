@@ -13,7 +13,7 @@ ghost use Rattle.call_points.specs.Steps.{after_call};
 ghost use Rattle.client_seats.specs.Following.{IsFlat, FollowsOn, IsFramedAs, IsPrepared, HasTaken};
 
 use crate::hand::InHand;
-use call_points::{DecideStep, LockStep};
+use call_points::{DecideStep, WordStep};
 use id_points::{AttemptNumber, CallId};
 use message_parts::OutgoingParcel;
 use seat_programs::{Op, Sizes, Task};
@@ -53,7 +53,7 @@ impl Kept {
         };
         Point::Retry(
             Retrying { attempt, name: 0 },
-            RetryStep::Lock(LockStep::Read),
+            RetryStep::Lock(WordStep::Read),
         )
     }
 }

@@ -8,7 +8,7 @@ ghost use Rattle.id_points.specs.Turns.{post_on};
 ghost use Rattle.reader_points.specs.Points.{Context, next_program, load_program, posts_program, on_call, error_in, HasNext};
 
 use crate::point::{Closing, Lost, ReadNext, ReadPoint};
-use call_points::{OnCall, PostStep};
+use call_points::{OnCall, WordStep};
 use id_points::{AttemptNumber, CallId, IdError, PostTurn};
 use sock_words::AtWord;
 
@@ -48,7 +48,7 @@ impl Closing {
         let word = AtWord(found);
         if self.is_named(word) {
             let lost = self.lost_at(word);
-            ReadNext::Point(ReadPoint::Post(lost, PostStep::Load))
+            ReadNext::Point(ReadPoint::Post(lost, WordStep::Read))
         } else {
             ReadNext::Posts(self)
         }
@@ -77,7 +77,7 @@ impl Lost {
             }
             PostTurn::Locked(word) => ReadNext::Locked(self, word),
             PostTurn::Again(from) => {
-                ReadNext::Point(ReadPoint::Post(self, PostStep::Exchange(from)))
+                ReadNext::Point(ReadPoint::Post(self, WordStep::Exchange(from)))
             }
         }
     }

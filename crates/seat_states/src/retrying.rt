@@ -13,7 +13,7 @@ use crate::call::Call;
 use crate::point::{
     AfterStep, Attempt, AttemptStep, JoinStep, Next, Point, RetryStep, Retrying, Step,
 };
-use call_points::{Aside, DecideStep, LockStep, Locker, OnCall};
+use call_points::{Aside, DecideStep, Locker, OnCall, WordStep};
 use id_points::{CallId, IdError, LockTurn, Sought, UnlockTurn, is_awaited, unlock_behind};
 use sock_words::{EFAILEDSOCKET, ERPCTIMEDOUT, IdWord, Outcome, SocketId};
 
@@ -60,8 +60,8 @@ impl Retrying {
         match turn {
             LockTurn::NotThere(_) => Next::GaveBack,
             LockTurn::Has(word) => self.to(RetryStep::TakeCall(word)),
-            LockTurn::Again(None) => self.to(RetryStep::Lock(LockStep::Read)),
-            LockTurn::Again(Some(from)) => self.to(RetryStep::Lock(LockStep::Exchange(from))),
+            LockTurn::Again(None) => self.to(RetryStep::Lock(WordStep::Read)),
+            LockTurn::Again(Some(from)) => self.to(RetryStep::Lock(WordStep::Exchange(from))),
         }
     }
 

@@ -4,7 +4,6 @@ use Rattle.sock_io.specs.declared.link.Out.{Ghosts}
 use Rattle.sock_io.specs.Link.{OutState}
 use Rattle.sock_words.specs.declared.plain.Plan.{Plan}
 use Rattle.sock_words.specs.declared.outcome.Outcome.{Outcome}
-use Rattle.sock_words.specs.declared.outcome.Outcome.TheVariants as outcome
 use Rattle.sock_words.specs.declared.socket_id.SocketId.{SocketId}
 use Rattle.sock_model.specs.declared.view.View.{View}
 use Rattle.sock_model.specs.Deliveries.{place_value}
@@ -24,7 +23,7 @@ use Rattle.rpc_client.specs.Reaching.{ReachedBy}
 use Rattle.rpc_client.specs.Opening.{OpenedBy}
 use Rattle.rpc_client.specs.Holding.{HeldBy, DroppedBy}
 use Rattle.rpc_client.specs.Failing.{SetBy, FailedBy}
-use Rattle.rpc_client.specs.Sending.{Returned, DeliveredBy}
+use Rattle.rpc_client.specs.Sending.{Returned, DeliveredBy, ByName}
 
 -- what a seat has between two deeds: its view, and the references that it keeps by their names
 pub record Hand : Type 0 where
@@ -64,11 +63,7 @@ pub record SentOver {O : Type 0} (state : O → OutState) (p : Plan) (n : ℕ) (
 
 -- none of a message that was accepted
 abbrev pub MessageBy : {O : Type 0} → (O → OutState) → Plan → ℕ → Letter → Option Outcome → View → View → Type 0
-MessageBy state p n msg None v w = SentOver state p n msg None v w
-MessageBy state p n msg (Some outcome.Unopened) v w = ReachedBy p n reached.Unopened v w
-MessageBy state p n msg (Some (outcome.Gone found)) v w = ReachedBy p n (reached.Gone found) v w ⊎ SentOver state p n msg (Some (outcome.Gone found)) v w
-MessageBy state p n msg (Some outcome.Full) v w = SentOver state p n msg (Some outcome.Full) v w
-MessageBy state p n msg (Some _) v w = ⊥
+MessageBy state p n msg by v w = ByName (SentOver state p n msg) p n by v w
 
 -- ## Deeds
 
