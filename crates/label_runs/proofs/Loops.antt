@@ -1,5 +1,5 @@
 -- Programs and loops of seats where something is known of the seat that each step may give up: what the parts of a program keep, whatever it is.
-use Rattle.std.proofs.Common.{◌≡◌, ◌≢◌, ℕ, ◌+◌, ◌<◌, ◌≤◌, ◌⊎◌, inl, inr, ◌&&◌, not, Bool, true, false, cond, eqb, eqb-true, eq-eqb, leb, nat_lt, List, [], ◌∷◌, ◌++◌, Option, Some, None, length, refl, sym, ap, ◌∙◌, subst, ⊎_elim, arith}
+use Rattle.std.proofs.Common.{◌≡◌, ℕ, ◌+◌, ◌<◌, ◌≤◌, ◌⊎◌, inl, inr, ◌&&◌, not, Bool, true, false, cond, eqb, eqb-true, eq-eqb, leb, nat_lt, List, [], ◌∷◌, ◌++◌, Option, Some, None, length, refl, sym, ap, ◌∙◌, subst, ⊎_elim, arith}
 use Rattle.brpc_model.specs.Frame.{Frame}
 use Rattle.brpc_model.specs.Stream as streams
 use Rattle.sock_words.specs.declared.outcome.Outcome.{Outcome}
@@ -20,7 +20,7 @@ use Rattle.seat_programs.specs.Readers.{answer, answered, responses, read_on, to
 use Rattle.seat_programs.specs.Rounds.{round}
 use Rattle.seat_programs.specs.Sends.{heading_of}
 use Rattle.seat_programs.specs.Writings.{Writing}
-use Rattle.label_runs.specs.Labels.{FindsLabel, AtLabel, LeavesLabel, LeavesUnlock, IsSoughtWord}
+use Rattle.label_runs.specs.Labels.{FindsLabel, AtLabel, LeavesLabel, LeavesUnlock, LeavesLock, IsSoughtWord}
 pub use Rattle.id_runs.proofs.Loops.{not_true, not_equal, and_left}
 
 -- ## Numbers
@@ -88,6 +88,15 @@ module _ {K : Type 0} (lost : K) (unlocked_behind : ℕ → ℕ → Bool → K �
     pub again : (t : K) (i from found : ℕ) (b : Bool) → (parts found).first ≡ (parts from).first → (parts found).attempt ≡ (parts from).attempt → unlocked_behind i from b t ≡ unlocked_behind i found b t
     pub unmoved : (t : K) (i w : ℕ) → unlocked_behind i w false t ≡ t
     pub locking : (exit : Locking) (t : K) → Stays lost t (locked_behind exit t)
+
+-- how the seeking of a lock ends: there is none, or the word is got
+pub none_left : (sought : Sought) (found : ℕ) → LeavesLock sought (NotThere found)
+none_left (First f) found = tt
+none_left (Version v) found = tt
+
+pub word_got : (sought : Sought) (from : ℕ) → IsSoughtWord sought (Some from) → LeavesLock sought (Has (packed (posted_word (parts from) 0)))
+word_got (First f) from at = ap (λ (w : Parts). w.first) (locked_parts from 0 at.1) ∙ eqb-true (parts from).first f (and_left (eqb (parts from).first f) (not (eqb (parts from).state 0)) at.0)
+word_got (Version v) from at = tt
 
 pub first_as : (x y : ℕ) → x ≡ y → (exit : Unlocking) → LeavesUnlock x exit → LeavesUnlock y exit
 first_as x y e (HasNext w error) l = l ∙ e
@@ -196,23 +205,15 @@ module _ {K : Type 0} {lost : K} {unlocked_behind : ℕ → ℕ → Bool → K �
         inl refl,
         way t (eqb (parts found).state 1) (Round (Locks i sought (Some found)) k) (Round (Locks i sought None) k) (λ one. g.round t (Locks i sought (Some found)) k (here, eqb-true (parts found).state 1 one) goes) (λ _. g.round t (Locks i sought None) k tt goes),
       )
-      by false here = (locked_behind (NotThere found) t, g.locking (NotThere found) t, goes (NotThere found) (none_left sought))
-        where
-          none_left : (s : Sought) → LeavesLabel (Locks i s w) (NotThere found)
-          none_left (First f) = tt
-          none_left (Version v) = tt
+      by false here = (locked_behind (NotThere found) t, g.locking (NotThere found) t, goes (NotThere found) (none_left sought found))
 
   locks_goes : (t : K) (i : ℕ) (sought : Sought) (from : Option ℕ) (k : Locking → Program) → IsSoughtWord sought from
       → ((exit : Locking) → LeavesLabel (Locks i sought from) exit → G (locked_behind exit t) (k exit)) → G t (round (Locks i sought from) k)
   locks_goes t i sought None k at goes = g.aside t (LoadIdWord i) _ refl (λ found _. locking_goes t i sought found None k goes)
   locks_goes t i sought (Some from) k at goes = g.aside t (LockId i from) _ refl (λ found _. by found (eqb found from))
     where
-      got : (s : Sought) → is_sought s (parts from) ≡ true → LeavesLabel (Locks i s (Some from)) (Has (packed (posted_word (parts from) 0)))
-      got (First f) e = ap (λ (w : Parts). w.first) (locked_parts from 0 at.1) ∙ eqb-true (parts from).first f (and_left (eqb (parts from).first f) (not (eqb (parts from).state 0)) e)
-      got (Version v) e = tt
-
       by : (found : ℕ) (b : Bool) → (u : K) × Stays lost t u × G u (cond b (k (Has (packed (posted_word (parts from) 0)))) (locking i sought found k))
-      by found true = let w : Locking = Has (packed (posted_word (parts from) 0)) in (locked_behind w t, g.locking w t, goes w (got sought at.0))
+      by found true = let w : Locking = Has (packed (posted_word (parts from) 0)) in (locked_behind w t, g.locking w t, goes w (word_got sought from at))
       by found false = locking_goes t i sought found (Some from) k goes
 
   -- ## Reading

@@ -6,6 +6,7 @@ use mathlib.Core.Option as core
 use mathlib.Core.Option.{some}
 use lib.ListN.{get_elem?}
 use Rattle.atomic_table.proofs.Lists.{at_set}
+use Rattle.joint_runs.specs.sock_steps.proofs.Maps.{set_twice}
 use Rattle.sock_words.specs.declared.plain.Plan.{Plan}
 use Rattle.sock_words.specs.declared.outcome.Outcome.{Outcome}
 use Rattle.sock_model.specs.declared.home.Home.{Home}
@@ -18,7 +19,7 @@ use Rattle.owed_calls.specs.Owes.{OwesOn}
 use Rattle.owed_calls.specs.Sound.{OwingLaw, SoundOwing}
 use Rattle.owed_calls.proofs.Changes.{set_at}
 use Rattle.owed_calls.proofs.Quiet.{SockFits, call_moves}
-use Rattle.owed_calls.proofs.Resolves.{set_twice, rewaits}
+use Rattle.owed_calls.proofs.Resolves.{rewaits}
 use Rattle.owed_calls.proofs.Seats.{Few, resolves}
 
 module _ (q : IdPlan) (life : ℕ → Option ℕ) (calls : List ℕ) (c : Core) (us : List Owing) (sound : SoundOwing q life calls c us) (i : ℕ) (seat : SeatState) (u : Owing) (at_seat : get_elem? c.seats i ≡ some seat) (at : get_elem? us i ≡ some u) where
@@ -40,10 +41,7 @@ module _ (q : IdPlan) (life : ℕ → Option ℕ) (calls : List ℕ) (c : Core) 
         distinct = law.distinct i v at_v;
         duty = λ id n o. inl o;
         retry = λ id n x. inr x;
-        knows = refl;
-        link = refl;
-        left = refl;
-        dead = refl;
+        same = record { knows = refl; link = refl; left = refl; dead = refl };
         own = law.stored i v at_v;
         kept = λ k. law.kept i v at_v k;
       } in

@@ -29,7 +29,7 @@ use Rattle.sock_runs.specs.Sound.{Sound, first_step}
 use Rattle.outcome_causes.specs.Stories.{In}
 use Rattle.outcome_causes.proofs.Cases.{tick_cases}
 use Rattle.label_runs.specs.Labels.{Trial, Idle, Tries, put_behind, Kept, Storing, unlocked_trial, Labels}
-use Rattle.send_causes.specs.Counts.{pair_of, of_retry, WasMade, WasNow, StoresOwn}
+use Rattle.send_causes.specs.Counts.{pair_of, of_retry, with_waiting, WasMade, WasNow, StoresOwn}
 use Rattle.send_causes.specs.EndedCalls.{Store, stores_by, stored_at}
 use Rattle.send_causes.proofs.Words.{made_on, finds_label, words_forward, makes_new, advances_new}
 use Rattle.send_causes.proofs.Readings.{ticks_first}
@@ -47,9 +47,8 @@ abbrev pub of_try : ℕ → ℕ → Trial → ℕ
 of_try id n (Tries i m) = pair_of id n i m
 of_try id n other = 0
 
--- with the seats, and the retries that wait
 abbrev pub tries_of : ℕ → ℕ → Core → List Trial → ℕ
-tries_of id n c ts = total (of_try id n) ts + total (total (of_retry id n)) c.calls.waiting
+tries_of = with_waiting of_try
 
 module _ (is_call : Asked → Type 0) (ids : ℕ → ℕ) (q : IdPlan) where
   -- the at word was stored for an attempt that nobody tries any more

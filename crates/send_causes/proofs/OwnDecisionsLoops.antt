@@ -5,14 +5,14 @@ use Rattle.corr_core.specs.Word.{Parts, parts, posted_word, unlocked_word, code_
 use Rattle.corr_core.specs.Law.{LAST}
 use Rattle.sock_message.specs.Asked.{Asked}
 use Rattle.seat_programs.specs.Asides.{FreeId, UnlockId, Taking, PutCall, id_slot, id_first, call_id}
-use Rattle.seat_programs.specs.Heads.{Head, Exit, Sought, First, Version, Reading, Posts, Unlocks, Decides, Locks, Joins, Opens, Reads, Discards, Retry, Posting, WasGone, WasStale, WasCrowded, WasQueued, HasLocked, Unlocking, IsOpen, HasNext, Deciding, HasEnded, GoesOn, Locking, NotThere, Has, Ended}
+use Rattle.seat_programs.specs.Heads.{Head, Exit, Sought, Version, Reading, Posts, Unlocks, Decides, Locks, Joins, Opens, Reads, Discards, Retry, Posting, WasGone, WasStale, WasCrowded, WasQueued, HasLocked, Unlocking, IsOpen, HasNext, Deciding, HasEnded, GoesOn, Locking, NotThere, Has, Ended}
 use Rattle.seat_programs.specs.Posts.{WHOLE, packed, advance_of, is_first, is_sought, is_stale, is_full, judged, posted, post_with, post, popped, end_id, ends_call, decide, decided, unlocked, locking}
 use Rattle.seat_programs.specs.Programs.{Program, Say, Aside, Round}
 use Rattle.seat_programs.specs.Readers.{answer, took, discarded, slot_in, ending_of}
 use Rattle.seat_programs.specs.Rounds.{round}
 use Rattle.sock_runs.proofs.ThroughLoops.{through_took, through_discarded}
 use Rattle.label_runs.specs.Labels.{IsSoughtWord}
-use Rattle.label_runs.proofs.Loops.{id_back, not_true, not_equal, and_left, locked_parts}
+use Rattle.label_runs.proofs.Loops.{id_back, not_true, not_equal, and_left, locked_parts, none_left, word_got}
 use Rattle.send_causes.proofs.OwnDecisionsStands.{Stand, Calm, Trying, Past, Posted, Eases, MayPost, MayDecide, IsTryingAt, FindsAside, unlocked_stand, unlocks_stand, posted_stand, locked_stand, LeavesUnlock, LeavesStand, Aims}
 use Rattle.send_causes.proofs.Words.{unlocked_is}
 
@@ -187,22 +187,14 @@ locking_goes s i sought found w k goes = by (is_sought sought (parts found)) ref
   where
     by : (b : Bool) → is_sought sought (parts found) ≡ b → Eased s (cond (not b) (k (NotThere found)) (cond (eqb (parts found).state 1) (Round (Locks i sought (Some found)) k) (Round (Locks i sought None) k)))
     by true here = (s, inl refl, way s (eqb (parts found).state 1) (Round (Locks i sought (Some found)) k) (Round (Locks i sought None) k) (λ one. ((here, eqb-true (parts found).state 1 one), goes)) (λ _. (tt, goes)))
-    by false here = calms s (k (NotThere found)) (goes (NotThere found) (none_left sought))
-      where
-        none_left : (x : Sought) → LeavesStand (Locks i x w) (NotThere found)
-        none_left (First f) = tt
-        none_left (Version v) = tt
+    by false here = calms s (k (NotThere found)) (goes (NotThere found) (none_left sought found))
 
 locks_goes : (s : Stand) (i : ℕ) (sought : Sought) (from : Option ℕ) (k : Locking → Program) → IsSoughtWord sought from → ((exit : Locking) → LeavesStand (Locks i sought from) exit → Aims (locked_stand exit s) (k exit)) → Aims s (round (Locks i sought from) k)
 locks_goes s i sought None k at goes = (tt, λ found _. locking_goes s i sought found None k goes)
 locks_goes s i sought (Some from) k at goes = (tt, λ found _. by found (eqb found from))
   where
-    got : (x : Sought) → is_sought x (parts from) ≡ true → LeavesStand (Locks i x (Some from)) (Has (packed (posted_word (parts from) 0)))
-    got (First f) e = ap (λ (w : Parts). w.first) (locked_parts from 0 at.1) ∙ eqb-true (parts from).first f (and_left (eqb (parts from).first f) (not (eqb (parts from).state 0)) e)
-    got (Version v) e = tt
-
     by : (found : ℕ) (b : Bool) → Eased s (cond b (k (Has (packed (posted_word (parts from) 0)))) (locking i sought found k))
-    by found true = (s, inl refl, goes (Has (packed (posted_word (parts from) 0))) (got sought at.0))
+    by found true = (s, inl refl, goes (Has (packed (posted_word (parts from) 0))) (word_got sought from at))
     by found false = locking_goes s i sought found (Some from) k goes
 
 -- ## Reading

@@ -129,7 +129,7 @@ accept_goes s id q g heading bytes after may goes = (
 )
   where
     swapped : (found : ℕ) → Aims Calm (cond (nat_lt found IDLE) (Do (Connect q found) (λ _. after)) (write_link id q (ticket_of q g) after))
-    swapped found = way Calm (nat_lt found IDLE) _ _ (λ _. (words Calm).step (Connect q found) _ refl (λ _. goes)) (λ _. write_goes id q (ticket_of q g) after goes)
+    swapped found = way Calm (nat_lt found IDLE) (Do (Connect q found) (λ _. after)) (write_link id q (ticket_of q g) after) (λ _. (words Calm).step (Connect q found) (λ _. after) refl (λ _. goes)) (λ _. write_goes id q (ticket_of q g) after goes)
 
 claims_goes : (s : Stand) (more q id : ℕ) (heading : Heading) (bytes : List ℕ) (full accepted : Program) → (heading.owner ≡ 0) ⊎ (s ≡ Past heading.owner heading.attempt) → Aims s full → Aims Calm accepted → Aims s (claims_from more q id heading bytes full accepted)
 claims_goes s zero q id heading bytes full accepted may none_ goes = none_
@@ -295,7 +295,7 @@ operation_goes sizes held o next (ops.Send name bytes) goes = send_goes sizes.re
 operation_goes sizes held o next (ops.Call asked) goes = call_goes sizes.requests sizes.ids asked (next held) (goes held)
 operation_goes sizes held o next (ops.Expire t) goes = expire_goes o t (next held) (goes held)
 operation_goes sizes held o next (ops.Join t) goes = join_goes o t (next held) (goes held)
-operation_goes sizes held o next (ops.Hold name) goes = through_hold (Aims Calm) (words Calm) o name _ (next held) (λ id. goes (held ++ (record { name = name; id = id }) ∷ [])) (goes held)
+operation_goes sizes held o next (ops.Hold name) goes = through_hold (Aims Calm) (words Calm) o name (λ id. next (held ++ (record { name = name; id = id }) ∷ [])) (next held) (λ id. goes (held ++ (record { name = name; id = id }) ∷ [])) (goes held)
 operation_goes sizes held o next (ops.Drop name) goes = through_drop_of (Aims Calm) (words Calm) o (held_under name held) (next (without_name name held)) (goes (without_name name held))
 operation_goes sizes held o next (ops.Fail name code) goes = through_fail (Aims Calm) (words Calm) o name code (next held) (fails Calm code) (goes held)
 

@@ -40,7 +40,7 @@ use Rattle.call_causes.specs.Posts.{Post, posts_by, posted_with, posted_at}
 use Rattle.call_causes.specs.Scenes.{In}
 use Rattle.outcome_causes.proofs.Ticks.{elem_there}
 use Rattle.call_causes.specs.owed_calls.proofs.OwingTicks.{message_there}
-use Rattle.send_causes.specs.Counts.{pair_of, of_retry, word_of_id, WasMade, WasNow}
+use Rattle.send_causes.specs.Counts.{pair_of, of_retry, with_waiting, word_of_id, WasMade, WasNow}
 use Rattle.send_causes.proofs.Words.{made_on, finds_label, words_forward, makes_new, advances_new}
 use Rattle.send_causes.proofs.Readings.{ticks_first}
 use Rattle.send_causes.proofs.SeatFacts.{ids_first}
@@ -61,9 +61,8 @@ abbrev pub of_stand : ℕ → ℕ → Stand → ℕ
 of_stand id n (Trying i m) = pair_of id n i m
 of_stand id n other = 0
 
--- with the seats, and the retries that wait
 abbrev pub tries_of : ℕ → ℕ → Core → List Stand → ℕ
-tries_of id n c ss = total (of_stand id n) ss + total (total (of_retry id n)) c.calls.waiting
+tries_of = with_waiting of_stand
 
 -- the attempt was made, and nobody tries it any more
 abbrev pub IsPast : IdPlan → Core → List Stand → ℕ → ℕ → Type 0

@@ -6,7 +6,7 @@ use Rattle.corr_core.specs.Law.{LAST}
 use Rattle.sock_message.specs.Asked.{Asked}
 use Rattle.seat_programs.specs.Asides.{UnlockId, FreeId, Taking, PutCall, id_slot, id_first, call_id}
 use Rattle.seat_programs.specs.Calls.{Call}
-use Rattle.seat_programs.specs.Heads.{Head, Exit, Sought, First, Version, Reading, Posts, Unlocks, Decides, Locks, Joins, Opens, Reads, Discards, Retry, Posting, WasGone, WasStale, WasCrowded, WasQueued, HasLocked, Unlocking, IsOpen, HasNext, Deciding, HasEnded, GoesOn, Locking, NotThere, Has, Ended}
+use Rattle.seat_programs.specs.Heads.{Head, Exit, Sought, Version, Reading, Posts, Unlocks, Decides, Locks, Joins, Opens, Reads, Discards, Retry, Posting, WasGone, WasStale, WasCrowded, WasQueued, HasLocked, Unlocking, IsOpen, HasNext, Deciding, HasEnded, GoesOn, Locking, NotThere, Has, Ended}
 use Rattle.seat_programs.specs.Posts.{packed, advance_of, is_first, is_sought, is_stale, is_full, judged, posted, post_with, popped, end_id, ends_call, decide, decided, unlocked, locking}
 use Rattle.seat_programs.specs.Programs.{Program, Say, Aside, Round}
 use Rattle.seat_programs.specs.Readers.{answer, took, discarded, slot_in, ending_of}
@@ -14,7 +14,7 @@ use Rattle.seat_programs.specs.Rounds.{round}
 use Rattle.sock_runs.proofs.ThroughLoops.{through_took, through_discarded}
 use Rattle.label_runs.specs.Labels.{Trial, Idle, Tries, Kept, LeavesLabel, LeavesLock, LeavesUnlock, unlocks_trial, unlocked_trial, locked_trial, IsSoughtWord, FindsLabel}
 use Rattle.label_runs.proofs.Programs.{hit_is, miss_is, found_is}
-use Rattle.label_runs.proofs.Loops.{first_as, id_back, not_true, not_equal, and_left, locked_parts}
+use Rattle.label_runs.proofs.Loops.{first_as, id_back, not_true, not_equal, and_left, locked_parts, none_left, word_got}
 use Rattle.send_causes.specs.Refused.{Deed, NoCharge, Doing, idle, Moves, Remembers, IsPostOf, Charges, LeavesCode}
 use Rattle.send_causes.proofs.Words.{unlocked_is}
 
@@ -165,22 +165,14 @@ module _ (requests : ℕ) (is_call : Asked → Type 0) (reads : Bool) where
         where
           as_any : (exit : Locking) → LeavesLock sought exit → LeavesLock sought exit
           as_any exit l = l
-      by false here = let_go s.deeds s (k (NotThere found)) (goes (NotThere found) (none_left sought))
-        where
-          none_left : (s : Sought) → LeavesLabel (Locks i s w) (NotThere found)
-          none_left (First f) = tt
-          none_left (Version v) = tt
+      by false here = let_go s.deeds s (k (NotThere found)) (goes (NotThere found) (none_left sought found))
 
   locks_goes : (s : Doing) (i : ℕ) (sought : Sought) (from : Option ℕ) (k : Locking → Program) → IsSoughtWord sought from → ((exit : Locking) → LeavesLabel (Locks i sought from) exit → Goes (bare (locked_trial exit s.trial) []) (k exit)) → Goes s (round (Locks i sought from) k)
   locks_goes s i sought None k at goes = (tt, λ found _. locking_goes s i sought found None k goes)
   locks_goes s i sought (Some from) k at goes = (tt, λ found _. by found (eqb found from))
     where
-      got : (s : Sought) → is_sought s (parts from) ≡ true → LeavesLabel (Locks i s (Some from)) (Has (packed (posted_word (parts from) 0)))
-      got (First f) e = ap (λ (w : Parts). w.first) (locked_parts from 0 at.1) ∙ eqb-true (parts from).first f (and_left (eqb (parts from).first f) (not (eqb (parts from).state 0)) e)
-      got (Version v) e = tt
-
       by : (found : ℕ) (b : Bool) → Asides s.deeds s (cond b (k (Has (packed (posted_word (parts from) 0)))) (locking i sought found k))
-      by found true = (bare s.trial [], (inl refl, inr (refl, refl)), goes (Has (packed (posted_word (parts from) 0))) (got sought at.0))
+      by found true = (bare s.trial [], (inl refl, inr (refl, refl)), goes (Has (packed (posted_word (parts from) 0))) (word_got sought from at))
       by found false = locking_goes s i sought found (Some from) k goes
 
   -- ## Reading

@@ -526,7 +526,7 @@ module _ (requests : ℕ) (is_call : Asked → Type 0) (reads : Bool) where
   operation_goes mine sizes size held o next (ops.Call asked) called goes = subst (λ r. G idle (call r sizes.ids asked (next held))) (sym size) (call_goes mine sizes.ids asked called (next held) (goes held))
   operation_goes mine sizes size held o next (ops.Expire t) called goes = expire_goes mine o t (next held) (goes held)
   operation_goes mine sizes size held o next (ops.Join t) called goes = join_goes o t (next held) (goes held)
-  operation_goes mine sizes size held o next (ops.Hold name) called goes = through_hold (G idle) words o name _ (next held) (λ id. goes (held ++ (record { name = name; id = id }) ∷ [])) (goes held)
+  operation_goes mine sizes size held o next (ops.Hold name) called goes = through_hold (G idle) words o name (λ id. next (held ++ (record { name = name; id = id }) ∷ [])) (next held) (λ id. goes (held ++ (record { name = name; id = id }) ∷ [])) (goes held)
   operation_goes mine sizes size held o next (ops.Drop name) called goes = through_drop_of (G idle) words o (held_under name held) (next (without_name name held)) (goes (without_name name held))
   operation_goes mine sizes size held o next (ops.Fail name code) called goes = through_fail (G idle) words o name code (next held) (fails code) (goes held)
 

@@ -37,6 +37,10 @@ of_trial id n (Sends o i m) = pair_of id n i m
 abbrev pub of_retry : ℕ → ℕ → Retry → ℕ
 of_retry id n r = pair_of id n r.id r.attempt
 
+-- of an attempt, what is counted in such states of the seats, and in the retries that wait
+abbrev pub with_waiting : {A : Type 0} → (ℕ → ℕ → A → ℕ) → ℕ → ℕ → Core → List A → ℕ
+with_waiting of id n c xs = total (of id n) xs + total (total (of_retry id n)) c.calls.waiting
+
 -- a message of a call is that of an attempt
 abbrev pub of_heading : ℕ → ℕ → Heading → ℕ
 of_heading id n h = if h.owner == 0 then 0 else pair_of id n h.owner h.attempt

@@ -96,7 +96,7 @@ module _ {E : Type 0} (inn : E → InState) (es : List E) (l : LinksData) (inns 
 
 -- the machine that begins with these parts
 abbrev pub machine_of_parts : (p : Plan) (ws : List ℕ) (letters : List (Option Letter)) (l : LinksData) (ids : SlotState) (cs : List ℕ) (ss : List SeatData) (rs : List ReaderData) (os : List ℕ) (outcomes : List (Option Outcome)) (ends : List LinkEnd) → MachineState
-machine_of_parts p ws letters l ids cs ss rs os outcomes ends = record { plan = p; words = ws; letters = letters; links = l; ids = ids; calls = cs; ending = false; seats = ss; readers = rs; opens = os; outcomes = outcomes; ends = ends; short = false }
+machine_of_parts p ws letters l ids cs ss rs os outcomes ends = record { table = record { plan = p; words = ws; letters = letters; links = l; ids = ids; calls = cs; ending = false; outcomes = outcomes; ends = ends }; seats = ss; readers = rs; opens = os; short = false }
 
 pub parts_new : (p : Plan) (q : IdPlan) (clients : List (List Task)) (cs opens : List ℕ) (l : LinksData) (ws : List ℕ) (letters : List (Option Letter)) (ids : SlotState) (ss : List SeatData) (rs : List ReaderData) (os : List (Option Outcome)) →
     AreParts p q clients cs opens ws letters l.holders l.nexts ids ss rs os → ((k : ℕ) (out : OutState) → get_elem? l.outs k ≡ core.some out → out.finished ≡ false) → AreNew p l letters

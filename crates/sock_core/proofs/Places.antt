@@ -27,7 +27,7 @@ same_some e = cc
 
 -- the tables with these seats
 abbrev pub view_of : TableState → List Seat → List ReaderData → List ℕ → Bool → MachineState
-view_of t items readers opens short = record { plan = t.plan; words = t.words; letters = t.letters; links = t.links; ids = t.ids; calls = t.calls; ending = t.ending; seats = map seat_data items; readers = readers; opens = opens; outcomes = t.outcomes; ends = t.ends; short = short }
+view_of t items readers opens short = record { table = t; seats = map seat_data items; readers = readers; opens = opens; short = short }
 
 module _ (t : TableState) (items : List Seat) (readers : List ReaderData) (opens : List ℕ) (short : Bool) (i j : ℕ) (there : j ≡ i) where
   pub seat_there : (x : Seat) → j < length items → x ≡ slice_index_or items j x → get_elem? (map seat_data items) i ≡ core.some (seat_data x)

@@ -77,7 +77,7 @@ read_along {m} {n} {fresh} {i} {k} {step} {tick} e h = subst (λ (x : MachineSta
 
 -- the machine with these tables and seats
 abbrev pub machine_with : MachineState → TableState → List SeatData → MachineState
-machine_with m t seats = record { plan = t.plan; words = t.words; letters = t.letters; links = t.links; ids = t.ids; calls = t.calls; ending = t.ending; seats = seats; readers = m.readers; opens = m.opens; outcomes = t.outcomes; ends = t.ends; short = m.short }
+machine_with m t seats = record m { table = t; seats = seats }
 
 pub prepared_at : (m : MachineState) (t : TableState) (seats : List SeatData) (i : ℕ) (seat seat' : SeatData) → t ≡ table_of m → seats ≡ slice_set m.seats i seat' → get_elem? m.seats i ≡ core.some seat → IsPrepared (machine_sizes m) seat seat' → MayStand seat' → PreparedAt m (machine_with m t seats) i
 prepared_at m t seats i seat seat' tables written at prepared stand = record {

@@ -87,4 +87,4 @@ pub record BeganEnding (old new : MachineState) : Type 0 where
 
 -- behind it the run is ending, so that a reading ends where nothing more is there
 abbrev pub told_ending : MachineState → MachineState
-told_ending m = record m { ending = true }
+told_ending m = record m { table = record m.table { ending = true } }

@@ -26,25 +26,8 @@ use Rattle.sock_core.specs.declared.letter.Letter.{Letter}
 use Rattle.client_seats.specs.Seats.{SeatData, seat_program}
 use Rattle.sock_core.specs.Links.{LinksData, Taken, Given, Agrees, AgreesGave, IsPaced, ClosedAreDone, holder_of, homes_of, hand_of}
 
--- a machine: the sizes of its table, the words, the messages at the homes of requests, the links, the table of the ids, the operations that
--- are calls, whether the run is ending, the seats of the clients and those of the readers, the numbers of the `open`s that the ending goes
--- over, the outcomes, the links as they would be given back, and whether memory ran out in a step, behind which it is only taken apart
-pub record MachineState : Type 0 where
-  pub plan : Plan
-  pub words : List ℕ
-  pub letters : List (Option Letter)
-  pub links : LinksData
-  pub ids : SlotState
-  pub calls : List ℕ
-  pub ending : Bool
-  pub seats : List SeatData
-  pub readers : List ReaderData
-  pub opens : List ℕ
-  pub outcomes : List (Option Outcome)
-  pub ends : List LinkEnd
-  pub short : Bool
-
--- the tables on which the seats step
+-- the tables on which the seats step: their sizes, the words, the messages at the homes of requests, the links, the table of the ids, the
+-- operations that are calls, whether the run is ending, the outcomes, and the links as they would be given back
 pub record TableState : Type 0 where
   pub plan : Plan
   pub words : List ℕ
@@ -56,6 +39,16 @@ pub record TableState : Type 0 where
   pub outcomes : List (Option Outcome)
   pub ends : List LinkEnd
 
+-- a machine: its tables, the seats of the clients and those of the readers, the numbers of the `open`s that the ending goes over, and whether
+-- memory ran out in a step, behind which it is only taken apart
+pub record MachineState : Type 0 where
+  pub table : TableState
+  pub open table use *
+  pub seats : List SeatData
+  pub readers : List ReaderData
+  pub opens : List ℕ
+  pub short : Bool
+
 -- the plans, the calls and whether the run is ending
 pub record SamePlans (old fresh : TableState) : Type 0 where
   pub plan : fresh.plan ≡ old.plan
@@ -64,7 +57,7 @@ pub record SamePlans (old fresh : TableState) : Type 0 where
   pub ending : fresh.ending ≡ old.ending
 
 abbrev pub table_of : MachineState → TableState
-table_of m = record { plan = m.plan; words = m.words; letters = m.letters; links = m.links; ids = m.ids; calls = m.calls; ending = m.ending; outcomes = m.outcomes; ends = m.ends }
+table_of m = m.table
 
 -- how many slots, requests and id slots there are
 abbrev pub table_sizes : TableState → Sizes

@@ -48,18 +48,10 @@ impl<O: Out, I: In, P: Peer> Model for Tables<O, I, P> {
     ghost Value = { MachineState };
 
     ghost view = { λ m. record {
-      plan = m.table.plan;
-      words = m.table.words;
-      letters = m.table.letters;
-      links = m.table.links;
-      ids = m.table.ids;
-      calls = m.table.calls;
-      ending = m.table.ending;
+      table = m.table;
       seats = map seat_data m.seats.items;
       readers = m.readers.items;
       opens = m.opens.items;
-      outcomes = m.table.outcomes;
-      ends = m.table.ends;
       short = m.short;
     } };
 }
