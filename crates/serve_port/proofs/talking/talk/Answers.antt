@@ -1,8 +1,11 @@
 use Rattle.std.proofs.Common.{sym, subst, arith, length-take}
 use Rattle.serve_port.specs.Serving.{Serves}
 use Rattle.sock_io.specs.Link.{connection_of}
-use Rattle.serve_port.proofs.Answered.{at_limit, at_end, take_failed, goes_on, stops, in_front}
+use Rattle.serve_port.proofs.Answered.{begins_talking, at_limit, at_end, take_failed, goes_on, stops, in_front}
 use Rattle.serve_port.proofs.talking.talk.Goals as goal
+
+pub takes-init : goal.takes-init
+takes-init g c = record { can_go = tt; is_finite = tt; talks = begins_talking c.args.conn.now _ _ c.requires.both c.requires.anew }
 
 pub returns-then-left-eq0 : goal.returns-then-left-eq0
 returns-then-left-eq0 g c = subst (λ s. Serves s (connection_of (g.O.Out.state c.takes.out) (g.I.In.state c.takes.inn))) (sym c.service.ensures) (at_limit _ _ _ _ c.takes.invariant.talks c.if-left-eq0.true)
