@@ -23,11 +23,6 @@ pub record NotedLinksState : Type 0 where
   pub back : List LinkEnd
   pub done : List ConnectionEnd
 
--- a linker whose links give nothing: its links, and the put from which on they fail where it isn't asked for
-pub record SinkLinkerState : Type 0 where
-  pub links : MemLinksState
-  pub fail_put : ℕ
-
 -- a writing half in memory that was not used yet
 abbrev pub new_mem_out : ℕ → OutState
 new_mem_out link = record { link = link; took = None; put_bytes = None; way = []; faults = 0; finished = false; clear = true; always_ready = true; again = false; steady = true; whole = true; answers = None }
