@@ -59,9 +59,10 @@ impl<N: Net<Stream = TcpStream, Listener = TcpListener> + Drop> Model for ProgLi
 fn is_same_kind(one: Mode, other: Mode) -> bool
     ensures { result ≡ is_kind (kind_asked one) (kind_asked other) }
 {
-    match (one, other) {
-        (Mode::Loop, Mode::Loop) | (Mode::Ring, Mode::Ring) | (Mode::Tcp(_), Mode::Tcp(_)) => true,
-        _ => false,
+    match one {
+        Mode::Loop => matches!(other, Mode::Loop),
+        Mode::Ring => matches!(other, Mode::Ring),
+        Mode::Tcp(_) => matches!(other, Mode::Tcp(_)),
     }
 }
 
@@ -133,7 +134,7 @@ fn open_ends<N: Net<Stream = TcpStream, Listener = TcpListener> + Drop>(
 
 impl<N: Net<Stream = TcpStream, Listener = TcpListener> + Drop> ProgLinker<N> {
     /// A linker that opened and accepted nothing yet, over this network. It takes no memory.
-    #[tactic(auto, using(crate::proofs::Alike::{none_counted, none_other}))]
+    #[tactic(auto, using(crate::proofs::Alike::none_counted, crate::proofs::Alike::none_other))]
     pub fn new(net: N, alloc: Global) -> Self
         ensures { result ≡ record { asked = []; accepted = 0; back = []; done = []; faults = 0; always_ready = true } }
     {
@@ -149,6 +150,33 @@ impl<N: Net<Stream = TcpStream, Listener = TcpListener> + Drop> ProgLinker<N> {
         }
     }
 
+    /// Whether all links are of the kind of this mode.
+    fn is_alike(&self, mode: Mode) -> bool
+        ensures { result ≡ are_kind (kind_asked mode) self.now.asked }
+    {
+        if self.opened == 0 {
+            return true;
+        }
+        is_same_kind(self.mode, mode)
+    }
+
+    /// Opens a link of the kind of all others.
+    fn open_next(&mut self, spec: &LinkSpec) -> Result<Link, OpenFault>
+        requires asked { MayOpen self.old.asked spec.now }
+        requires alike { are_kind (kind_asked spec.now.mode) self.old.asked ≡ true }
+        ensures opened { IfOk result (λ ends. IsOpened (length self.old.asked) spec.now ends.out ends.peer ends.inn) }
+        ensures linker { IfOk result (λ _. self.new ≡ record self.old { asked = self.old.asked ++ spec.now ∷ [] }) }
+        ensures refused { OnErr result (self.new ≡ self.old) }
+        ensures failed { IsErrOf result OpenFault.Failed → kind_asked spec.now.mode ≡ OverTcp }
+    {
+        let number = self.opened;
+        let ends = open_ends(self.alloc, spec, number, &mut self.loops, &mut self.streams)?;
+        self.opened += 1;
+        self.mode = spec.mode;
+        self.notes.ask(spec);
+        Ok(ends)
+    }
+
     /// Opens a link, where all others are of its kind.
     fn open_alike(&mut self, spec: &LinkSpec) -> Result<Link, OpenFault>
         requires { MayOpen self.old.asked spec.now }
@@ -158,15 +186,10 @@ impl<N: Net<Stream = TcpStream, Listener = TcpListener> + Drop> ProgLinker<N> {
         ensures others { are_kind (kind_asked spec.now.mode) self.old.asked ≡ false → IsErrOf result OpenFault.Failed }
         ensures only_others { IsErrOf result OpenFault.Failed → kind_asked spec.now.mode ≢ OverTcp → are_kind (kind_asked spec.now.mode) self.old.asked ≡ false }
     {
-        if self.opened != 0 && !is_same_kind(self.mode, spec.mode) {
-            return Err(OpenFault::Failed);
+        if self.is_alike(spec.mode) {
+            return self.open_next(spec);
         }
-        let number = self.opened;
-        let ends = open_ends(self.alloc, spec, number, &mut self.loops, &mut self.streams)?;
-        self.opened += 1;
-        self.mode = spec.mode;
-        self.notes.ask(spec);
-        Ok(ends)
+        Err(OpenFault::Failed)
     }
 
     /// Raises the count where a call failed.
