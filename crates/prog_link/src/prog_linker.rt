@@ -1,6 +1,6 @@
 ghost use Rattle.std.specs.Prelude.{◌≡◌, ◌≢◌, ◌+◌, ◌≤◌, ◌<◌, ◌∷◌, ◌++◌, [], true, false, if◌then◌else◌, length, IfOk, IsErrOf, OnErr};
 ghost use Rattle.sock_io.specs.Causes.{OpenCause, Rose};
-ghost use Rattle.sock_io.specs.Link.{MayOpen, connection_of, end_of};
+ghost use Rattle.sock_io.specs.Link.{MayOpen, end_of};
 ghost use Rattle.prog_link.specs.Halves.{prog_in, prog_out};
 ghost use Rattle.prog_link.specs.Linker.{are_kind, is_kind, IsOpened, InMemory, OverRings, OverTcp, kind_asked, tells_in_mode};
 
@@ -267,7 +267,7 @@ impl<N: Net<Stream = TcpStream, Listener = TcpListener> + Drop> Linker for ProgL
     }
 
     fn done(&mut self, out: ProgOut, inn: ProgIn)
-        ensures { self.new ≡ record self.old { done = self.old.done ++ connection_of (prog_out out) (prog_in inn) ∷ [] } }
+        ensures { self.new ≡ record self.old { done = self.old.done ++ end_of (prog_out out) (prog_in inn) ∷ [] } }
     {
         self.notes.done(out, inn);
     }

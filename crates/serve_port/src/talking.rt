@@ -1,6 +1,6 @@
 // A connection is served to its end.
 ghost use Rattle.std.specs.Prelude.{◌≡◌, true, false};
-ghost use Rattle.sock_io.specs.Link.{IsUnused, connection_of};
+ghost use Rattle.sock_io.specs.Link.{IsUnused, end_of};
 ghost use Rattle.rpc_server.specs.Held.{unused};
 ghost use Rattle.serve_port.specs.Serving.{Serves};
 
@@ -30,7 +30,7 @@ fn talk<R: Wait, O: Out, I: In>(
 ) -> Service
     requires both { IsUnused (O.state out.old) (I.state inn.old) }
     requires anew { conn.old ≡ unused }
-    ensures { Serves result (connection_of (O.state out.new) (I.state inn.new)) }
+    ensures { Serves result (end_of (O.state out.new) (I.state inn.new)) }
 {
     let mut room = [0u8; ROOM_BYTES];
     let mut left = MOST_BYTES;
@@ -71,7 +71,7 @@ fn service(end: ServiceEnd, conn: &Conn) -> Service
 /// put fails, or memory runs out. Then it finishes the writing half.
 pub fn serve_one<R: Wait, O: Out, I: In>(rt: &R, alloc: Global, out: &mut O, inn: &mut I) -> Service
     requires { IsUnused (O.state out.old) (I.state inn.old) }
-    ensures served { Serves result (connection_of (O.state out.new) (I.state inn.new)) }
+    ensures served { Serves result (end_of (O.state out.new) (I.state inn.new)) }
     ensures finished { (O.state out.new).finished ≡ true }
 {
     let mut pool = BlockPool::new(alloc);

@@ -1,7 +1,7 @@
 ghost use Rattle.std.specs.Prelude.{◌≡◌, ◌↔◌, ◌+◌, ◌<◌, ◌∷◌, ◌++◌, [], length, Contains, IfOk, IsErrOf, OnErr, OnOk};
 ghost use Rattle.sock_io.specs.Causes.{OpenCause, next_number};
 ghost use Rattle.sock_io.specs.Giving.{before_bytes, bytes_and_end, give_in, settled_in};
-ghost use Rattle.sock_io.specs.Link.{MayOpen, SettleStep, connection_of, end_of};
+ghost use Rattle.sock_io.specs.Link.{MayOpen, SettleStep, end_of};
 ghost use Rattle.sock_io.specs.Linker.{new_half, plain_shape, shape_of};
 ghost use Rattle.sock_io.specs.Shape.{shaped_out};
 
@@ -142,7 +142,7 @@ impl Linker for GiveLinker {
 
     fn done(&mut self, out: Shaped<MemOut>, inn: GiveIn)
         requires { length self.old.links.done < self.old.links.accepted }
-        ensures { self.new ≡ record self.old { links = record self.old.links { done = self.old.links.done ++ connection_of (shaped_out out) (give_in inn) ∷ [] } } }
+        ensures { self.new ≡ record self.old { links = record self.old.links { done = self.old.links.done ++ end_of (shaped_out out) (give_in inn) ∷ [] } } }
     {
         self.links.done(out, inn);
     }
