@@ -7,7 +7,7 @@ use crate::held::{HeldGate, HeldLinker, is_done, new_flags};
 use crate::noting::Noting;
 use loop_link::LoopLinker;
 use ring_link::RingLinker;
-use sock_io::{GiveLinker, Linker, OpenGate, SinkLinker};
+use sock_io::{GiveLinker, Linker, OpenGate};
 use std::alloc::{AllocError, Global};
 use std::sync::{Arc, Wait};
 use std::thread::Threads;
@@ -18,7 +18,7 @@ pub fn over_sinks<R: Threads + Wait + Sync + Alloc<A = Global>>(
     asked: Asked,
 ) -> Result<String, AllocError> {
     let alloc = rt.alloc();
-    let mut links = SinkLinker::new(alloc, vec![in alloc; asked.open]?, asked.put);
+    let mut links = GiveLinker::failing(alloc, vec![in alloc; asked.open]?, asked.put);
     shown(alloc, &answered(rt, asked, &mut links, &OpenGate)?)
 }
 
@@ -110,7 +110,7 @@ pub fn back_of_sinks<R: Threads + Wait + Sync + Alloc<A = Global>>(
     asked: Asked,
 ) -> Result<String, AllocError> {
     let alloc = rt.alloc();
-    let inner = SinkLinker::new(alloc, Vec::new(alloc), 0);
+    let inner = GiveLinker::failing(alloc, Vec::new(alloc), 0);
     let links = Noting::failing(alloc, inner, asked.open);
     given_back(rt, asked, links)
 }
