@@ -13,12 +13,13 @@ use Rattle.corr_core.specs.declared.marks.Plan.{Plan as IdPlan}
 use Rattle.seat_programs.specs.Calls.{Call}
 use Rattle.seat_programs.specs.Programs.{Program, Do}
 use Rattle.seat_programs.specs.Cores.{Core, SeatState, Calls, waiting_at, resolved, next_step, said, with_seat, stepped, word_of, word_after, found_at, words_after, homes_after, hand_after}
+use Rattle.joint_runs.specs.sock_steps.proofs.Maps.{set_twice}
 use Rattle.owed_calls.specs.Owing.{Owing, FindsCall}
 use Rattle.owed_calls.specs.Owes.{OwesOn}
 use Rattle.owed_calls.specs.Sound.{OwingLaw, SoundOwing}
 use Rattle.owed_calls.proofs.Changes.{set_at}
 use Rattle.owed_calls.proofs.Quiet.{SockFits, call_moves}
-use Rattle.owed_calls.proofs.Resolves.{set_twice, rewaits}
+use Rattle.owed_calls.proofs.Resolves.{same_but, rewaits}
 use Rattle.owed_calls.proofs.Seats.{Few, resolves}
 
 module _ (q : IdPlan) (life : ℕ → Option ℕ) (calls : List ℕ) (c : Core) (us : List Owing) (sound : SoundOwing q life calls c us) (i : ℕ) (seat : SeatState) (u : Owing) (at_seat : get_elem? c.seats i ≡ some seat) (at : get_elem? us i ≡ some u) where
@@ -40,10 +41,7 @@ module _ (q : IdPlan) (life : ℕ → Option ℕ) (calls : List ℕ) (c : Core) 
         distinct = law.distinct i v at_v;
         duty = λ id n o. inl o;
         retry = λ id n x. inr x;
-        knows = refl;
-        link = refl;
-        left = refl;
-        dead = refl;
+        same = same_but v v.duty v.keeps;
         own = law.stored i v at_v;
         kept = λ k. law.kept i v at_v k;
       } in
