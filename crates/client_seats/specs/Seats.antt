@@ -1,6 +1,7 @@
 -- What a client's seat has still to do, and what it has in hand.
 use Rattle.std.specs.Prelude.{ℕ, Bool, if◌then◌else◌, List, [], map, Option, option_map, Some, None}
 use Rattle.sock_message.specs.Asked.{Asked}
+pub use Rattle.sock_message.specs.Asked.{nothing_asked, asked_of}
 use Rattle.message_parts.specs.Frames.{ParcelData, OutgoingData}
 use Rattle.message_parts.specs.Parcels.{outgoing_of}
 use Rattle.seat_programs.specs.declared.task.Task.{Task}
@@ -72,14 +73,6 @@ bytes_of (Some parcel) = parcel.bytes
 abbrev pub parts_of : Option ParcelData → List ℕ
 parts_of None = []
 parts_of (Some parcel) = parcel.parts
-
--- without a call in hand nothing is asked
-abbrev pub nothing_asked : Asked
-nothing_asked = record { operation = 0; names = []; service = []; method = []; payload = []; attachment = []; range = 0 }
-
-abbrev pub asked_of : Option Asked → Asked
-asked_of None = nothing_asked
-asked_of (Some asked) = asked
 
 abbrev pub left_of : Option OutgoingData → List ℕ
 left_of None = []
