@@ -98,6 +98,7 @@ linker_over ready_of tells offering tells_in asked_of back_of accepted_of done_o
 abbrev pub OpenedNothing : List LinkSpec → List LinkEnd → Type 0
 OpenedNothing asked ends = (asked ≡ []) × (ends ≡ [])
 
+-- the same of what is told of links
 abbrev pub OpenedNone : Links → Type 0
 OpenedNone links = OpenedNothing links.asked links.ends
 

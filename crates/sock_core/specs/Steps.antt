@@ -36,7 +36,7 @@ use Rattle.sock_core.specs.declared.letter.Letter.{Letter}
 use Rattle.client_seats.specs.Following.{IsWithFrame, IsPrepared}
 use Rattle.client_seats.specs.Seats.{SeatData, around, seat_program, bytes_of, parts_of, left_of, taken_of, left_parts_of, asked_of}
 use Rattle.sock_core.specs.Runs.{SameLink}
-use Rattle.sock_core.specs.Machines.{MachineState, TableState, SamePlans, machine_sizes, table_of, table_sizes}
+use Rattle.sock_core.specs.Machines.{MachineState, TableState, SameGivens, machine_sizes, table_of, table_sizes}
 
 -- ## Links as they are given back
 
@@ -202,7 +202,7 @@ OutsAfter other old fresh = fresh ≡ old
 
 -- what no step of a client changes
 pub record SameBase (old fresh : TableState) : Type 0 where
-  pub plans : SamePlans old fresh
+  pub plans : SameGivens old fresh
   pub open plans use *
   pub inns : fresh.links.inns ≡ old.links.inns
 
