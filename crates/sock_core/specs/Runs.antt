@@ -144,7 +144,7 @@ Ticked old new seat tick = Made old new (TickedWith old new seat tick)
 
 -- ## Runs
 
--- ticks of which this holds make the one machine of the other
+-- ticks, of which this holds, make the new machine of the old one
 pub record MadeByTicks (Is : Plan → Core → List Moment → Type 0) (old new : MachineState) (took : Taken) (gave : Given) : Type 0 where
   pub moments : List Moment
   pub is : Is old.plan (core_with old took gave) moments
