@@ -36,8 +36,8 @@ impl<O: Out> RuleTable<O> {
             .shared
             .compare_exchange_with::<TakeLast>(seat, index, 0, 0, &said);
         drop(said);
-        let slot = self.plan.requests as usize + link as usize;
-        self.take_home(seat, slot)
+        let home_index = self.plan.requests as usize + link as usize;
+        self.take_home(seat, home_index)
     }
 
     /// L1 of a link whose pass gets no socket: the pass is spent.
@@ -55,8 +55,8 @@ impl<O: Out> RuleTable<O> {
             .shared
             .compare_exchange_with::<SpendPass>(seat, 0, 0, 0, &said);
         drop(said);
-        let slot = self.plan.requests as usize + link as usize;
-        self.take_home(seat, slot)
+        let home_index = self.plan.requests as usize + link as usize;
+        self.take_home(seat, home_index)
     }
 
     /// L2: the link in hand goes home, with what it took.
@@ -71,8 +71,8 @@ impl<O: Out> RuleTable<O> {
         ensures seat { IsSeat self.now.table.shared.table_id self.now.plan seat.new }
         ensures view { seat.new.me ≡ (fault_left (O.state home.out).faults link (without_hand seat.old.me.0 link), rest seat.old.me.1) }
     {
-        let slot = self.plan.requests as usize + link as usize;
-        self.lay_home(seat, slot, home);
+        let home_index = self.plan.requests as usize + link as usize;
+        self.lay_home(seat, home_index, home);
         self.table.shared.load::<PutLink>(seat, 0);
     }
 
