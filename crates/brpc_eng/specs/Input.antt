@@ -17,7 +17,7 @@ IsRead left bytes (Err (Unread unread.Failed)) = length bytes ≤ script_limit
 IsRead left bytes (Err (Unread unread.TooLong)) = length bytes ≡ script_limit + 1
 IsRead left bytes (Err (Unread unread.NoMemory)) = length bytes ≤ script_limit + 1
 
--- these bytes came
+-- these bytes came, and this is what they are as a script
 pub record CameAs (given left : Option (List ℕ)) (read : Result (List Item) NoScript) : Type 0 where
   pub bytes : List ℕ
   pub came : Consumes given left bytes
