@@ -2,7 +2,7 @@
 use Rattle.std.specs.Prelude.{ℕ, Bool, List}
 use Rattle.brpc_model.specs.Frame.{Frame}
 use Rattle.sock_message.specs.Asked.{Asked}
-pub use Rattle.sock_message.specs.Asked.{nothing_asked, asked_of}
+pub use Rattle.sock_message.specs.Asked.{nothing_asked, asked_or_nothing}
 use Rattle.seat_programs.specs.Programs.{Program}
 use Rattle.reader_points.specs.declared.point.ReadPoint.{ReadPoint}
 use Rattle.reader_points.specs.Points.{Context, point_program}
