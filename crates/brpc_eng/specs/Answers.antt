@@ -97,12 +97,13 @@ linker_over ready_of tells offering tells_in asked_of back_of accepted_of done_o
 abbrev pub OpenedNothing : List LinkSpec → List LinkEnd → Type 0
 OpenedNothing asked ends = (asked ≡ []) × (ends ≡ [])
 
+-- the same of what is told of links
 abbrev pub OpenedNone : Links → Type 0
 OpenedNone links = OpenedNothing links.asked links.ends
 
 -- no link was opened, no connection accepted, and none given back
-abbrev pub DidNothing : List LinkSpec → List LinkEnd → ℕ → List LinkEnd → Type 0
-DidNothing asked ends accepted done = OpenedNothing asked ends × (accepted ≡ 0) × (done ≡ [])
+abbrev pub UnusedLinker : List LinkSpec → List LinkEnd → ℕ → List LinkEnd → Type 0
+UnusedLinker asked ends accepted done = OpenedNothing asked ends × (accepted ≡ 0) × (done ≡ [])
 
 -- the links that the lines of a script ask for were opened as they ask, in this mode, all of them where a report was written or begun, else the
 -- first of them; and each is given back, in order

@@ -1,7 +1,7 @@
 -- What a client's seat has still to do, and what it has in hand.
 use Rattle.std.specs.Prelude.{ℕ, Bool, if◌then◌else◌, List, [], map, Option, option_map, Some, None}
 use Rattle.sock_message.specs.Asked.{Asked}
-pub use Rattle.sock_message.specs.Asked.{nothing_asked, asked_of}
+pub use Rattle.sock_message.specs.Asked.{nothing_asked, asked_or_nothing}
 use Rattle.message_parts.specs.Frames.{ParcelData, OutgoingData}
 use Rattle.message_parts.specs.Parcels.{outgoing_of}
 use Rattle.seat_programs.specs.declared.task.Task.{Task}
@@ -100,7 +100,7 @@ module _ (sizes : Sizes) (seat : SeatData) where
     held = seat.held;
     message = bytes_of seat.message;
     parts = parts_of seat.message;
-    asked = asked_of seat.call;
+    asked = asked_or_nothing seat.call;
     left = left_of seat.out;
     taken = taken_of seat.out;
     left_parts = left_parts_of seat.out;

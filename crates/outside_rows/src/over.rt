@@ -1,5 +1,5 @@
 //! The top call over each kind of links.
-ghost use Rattle.brpc_eng.specs.Answers.{DidNothing};
+ghost use Rattle.brpc_eng.specs.Answers.{UnusedLinker};
 
 use crate::answer::{Answer, Asked, answered, shown};
 use crate::crowd::is_of_crowd;
@@ -96,7 +96,7 @@ fn given_back<R: Threads + Wait + Sync + Alloc<A = Global>, L: Linker + Drop>(
     asked: Asked,
     links: Noting<L>,
 ) -> Result<String, AllocError>
-    requires unused { DidNothing (L.asked links.inner) (L.back links.inner) (L.accepted links.inner) (L.done links.inner) }
+    requires unused { UnusedLinker (L.asked links.inner) (L.back links.inner) (L.accepted links.inner) (L.done links.inner) }
 {
     let alloc = rt.alloc();
     let mut links = links;

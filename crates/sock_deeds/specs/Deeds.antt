@@ -87,21 +87,21 @@ pub data Did : Type 0 where
   returns : (id : ℕ) → Did
 
 -- the name under which it looks for a socket, or opens one, and the number of the operation
-abbrev pub under : Did → Option (ℕ × ℕ)
-under (opens name number link by) = Some (name, number)
-under (sends name number attempt msg by) = Some (name, number)
-under (holds name number by) = Some (name, number)
-under (drops name number by) = Some (name, number)
-under (fails name number code by) = Some (name, number)
-under other = None
+abbrev pub name_and_number : Did → Option (ℕ × ℕ)
+name_and_number (opens name number link by) = Some (name, number)
+name_and_number (sends name number attempt msg by) = Some (name, number)
+name_and_number (holds name number by) = Some (name, number)
+name_and_number (drops name number by) = Some (name, number)
+name_and_number (fails name number code by) = Some (name, number)
+name_and_number other = None
 
-abbrev pub name_in : Did → Option ℕ
-name_in d = elim (under d) as (λ o. Option ℕ) [ None ↦ None | Some x ↦ Some x.0 ]
+abbrev pub own_name : Did → Option ℕ
+own_name d = elim (name_and_number d) as (λ o. Option ℕ) [ None ↦ None | Some x ↦ Some x.0 ]
 
 -- the number of the operation for which it is done; a retry is done for whoever began the call
 abbrev pub own_number : Did → Option ℕ
 own_number (sends name number (suc k) msg by) = None
-own_number d = elim (under d) as (λ o. Option ℕ) [ None ↦ None | Some x ↦ Some x.1 ]
+own_number d = elim (name_and_number d) as (λ o. Option ℕ) [ None ↦ None | Some x ↦ Some x.1 ]
 
 -- an `open`, whatever the homes are that the seat has in hand
 abbrev pub OpenedOn : {O : Type 0} → Ghosts O → Plan → ℕ → ℕ → ℕ → Outcome → View → View → Type 0

@@ -52,11 +52,11 @@ impl<O: Out> RuleTable<O> {
         ensures link { result < self.now.plan.links }
         ensures met { (h k : ℕ) → 0 < marks_of (is_hold h) slot seat.old.me.0 → 0 < marks_of (is_met h k) slot seat.old.me.0 → result ≡ k }
     {
-        let home = at as usize;
+        let home_index = at as usize;
         let old = self
             .table
             .shared
-            .exchange(seat, home, SockHome::Message(msg));
+            .exchange(seat, home_index, SockHome::Message(msg));
         drop(old);
         let index = 6 * slot as usize + 2;
         self.table.shared.load::<FillHome>(seat, index)

@@ -60,8 +60,8 @@ impl<O: Out> RuleTable<O> {
         ensures seat { IsSeat self.now.table.shared.table_id self.now.plan seat.new }
         ensures view { seat.new.me ≡ (fault_left (O.state home.out).faults link (without_hand seat.old.me.0 link), rest seat.old.me.1) }
     {
-        let slot = self.plan.requests as usize + link as usize;
-        self.lay_home(seat, slot, home);
+        let home_index = self.plan.requests as usize + link as usize;
+        self.lay_home(seat, home_index, home);
         self.table.shared.load::<PutLink>(seat, 0);
     }
 
@@ -79,8 +79,8 @@ impl<O: Out> RuleTable<O> {
         ensures view { seat.new.me ≡ (seat.old.me.0, (self.now.plan.requests + link, Empty) ∷ rest seat.old.me.1) }
     {
         drop(said);
-        let slot = self.plan.requests as usize + link as usize;
-        self.take_home(seat, slot)
+        let home_index = self.plan.requests as usize + link as usize;
+        self.take_home(seat, home_index)
     }
 
     // The link comes out of the home that the seat has in hand, which is empty then.

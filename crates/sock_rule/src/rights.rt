@@ -64,8 +64,11 @@ impl<O: Out> RuleTable<O> {
         ensures few { (r : Right) → Rights r seat.old.me.0 → r.places < 4294967295 }
     {
         self.table.shared.load::<TakeLetter>(seat, 0);
-        let slot = now.request() as usize;
-        let value = self.table.shared.exchange(seat, slot, SockHome::Empty);
+        let home_index = now.request() as usize;
+        let value = self
+            .table
+            .shared
+            .exchange(seat, home_index, SockHome::Empty);
         let SockHome::Message(msg) = value else {
             unreachable!();
         };
@@ -112,11 +115,11 @@ impl<O: Out> RuleTable<O> {
         ensures view { (r : Right) (n : ℕ) → Rights r seat.old.me.0 → r.stage ≡ Writes n → seat.new.me ≡ (dropped_at (place_index self.now.plan at) value.0 r.heading (with_right seat.old.me.0 (dropped_right r n home.took.list)), seat.old.me.1) }
         ensures home { result ≡ home }
     {
-        let slot = now.request() as usize;
-        self.lay_home(seat, slot, home);
+        let home_index = now.request() as usize;
+        self.lay_home(seat, home_index, home);
         let index = self.place_index(at as usize);
         self.table.shared.store::<DropPlace>(seat, index, value.0);
-        self.take_home(seat, slot)
+        self.take_home(seat, home_index)
     }
 
     /// C8: the request of a message that has its place is free again, and its home is back.
@@ -159,8 +162,8 @@ impl<O: Out> RuleTable<O> {
         ensures seat { IsSeat self.now.table.shared.table_id self.now.plan seat.new }
         ensures view { (r : Right) → Rights r seat.old.me.0 → seat.new.me ≡ (with_right seat.old.me.0 (record r { at_home = true }), rest seat.old.me.1) }
     {
-        let slot = self.plan.requests as usize + link as usize;
-        self.lay_home(seat, slot, home);
+        let home_index = self.plan.requests as usize + link as usize;
+        self.lay_home(seat, home_index, home);
         self.table.shared.load::<PutOwn>(seat, 0);
     }
 
