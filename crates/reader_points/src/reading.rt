@@ -12,7 +12,7 @@ ghost use Rattle.reader_points.specs.Steps.{after_taking};
 use crate::point::{
     AnswerStep, Behind, ByteCount, CloseStep, Closing, ReadNext, ReadPoint, Reader, Taken,
 };
-use call_points::{WordStep, Locker};
+use call_points::{Locker, WordStep};
 use id_points::{CallId, LockTurn, Sought, is_early};
 use sock_words::IdWord;
 
