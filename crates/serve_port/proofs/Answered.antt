@@ -15,7 +15,6 @@ use Rattle.sock_io.specs.Causes.{Rose}
 use Rattle.sock_io.specs.Link.{OutState, InState, IsUnused, IsTakeCount, TakeStep, end_of, given_of, taken_count}
 use Rattle.loop_link.specs.Serving.{Follows}
 use Rattle.loop_link.proofs.Following.{follows_next}
-use Rattle.serve_port.specs.declared.service.Service.{Service}
 use Rattle.serve_port.specs.declared.service.ServiceEnd.{ServiceEnd}
 use Rattle.serve_port.specs.declared.service.ServiceEnd.TheVariants as end_
 use Rattle.serve_port.specs.Serving.{AllAnswered, NoneFailed, EndsBy, Serves}

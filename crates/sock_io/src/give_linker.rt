@@ -1,4 +1,4 @@
-ghost use Rattle.std.specs.Prelude.{◌≡◌, ◌↔◌, ◌+◌, ◌<◌, ◌∷◌, ◌++◌, [], length, Contains, IfOk, IsErrOf, OnErr, OnOk};
+ghost use Rattle.std.specs.Prelude.{◌≡◌, ◌↔◌, ◌+◌, ◌<◌, ◌∷◌, ◌++◌, [], true, length, Contains, IfOk, IsErrOf, OnErr, OnOk};
 ghost use Rattle.sock_io.specs.Causes.{OpenCause, next_number};
 ghost use Rattle.sock_io.specs.Giving.{before_bytes, bytes_and_end, give_in, settled_in};
 ghost use Rattle.sock_io.specs.Link.{MayOpen, SettleStep, end_of};

@@ -1,5 +1,4 @@
 use Rattle.std.proofs.Common.{arith, refl}
-use Rattle.corr_core.specs.Word.{parts}
 use Rattle.corr_id.proofs.Beginning.{none_begun, one_begun, all_begun, free_parts}
 use Rattle.corr_id.proofs.opening.new_words.Goals as goal
 

@@ -1,5 +1,4 @@
 use Rattle.std.proofs.Common.{Bool, refl, sym, ◌∙◌, subst}
-use Rattle.call_table.specs.Responses.{is_early}
 use Rattle.rpc_reader.specs.Books.{books}
 use Rattle.rpc_reader.specs.Met.{KeptIf}
 use Rattle.rpc_reader.proofs.Frames.{lacked}
