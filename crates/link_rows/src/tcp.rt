@@ -1,4 +1,4 @@
-ghost use Rattle.std.specs.Prelude.{◌≡◌, ◌<◌, ◌≤◌, [], IfOk, length};
+ghost use Rattle.std.specs.Prelude.{◌≡◌, ◌<◌, ◌≤◌, IfOk, length};
 
 use crate::halves::{end_of, put_on, take_of};
 use net_link::{TcpLinker, read_some, write_some};
@@ -39,50 +39,74 @@ fn free_port<N: Net<Stream = TcpStream, Listener = TcpListener>>(net: &N) -> io:
     Ok(port)
 }
 
-// What two threads do over one connection: one accepts it, and the other one opens a link to its port.
-trait Talk {
-    type Heard: Drop + Send;
+// What is heard: whether it is the message, what the takes answered, and what the put of the reply did.
+type Heard = (bool, Take, Take, Put);
 
-    type Said: Drop + Send;
+// What is said: whether the reply came, what the put of the message answered, and what the takes did.
+type Said = (bool, Put, Take, Take);
 
-    // What the one that accepts it does.
-    fn hear<O: Out, I: In>(out: &mut O, inn: &mut I) -> Self::Heard;
-
-    // And the other one. The link stays the one that it is.
-    fn say<O: Out, I: In>(out: &mut O, inn: &mut I) -> Self::Said
-        ensures { (O.state out.new).link ≡ (O.state out.old).link };
+// Takes a message and its end, and then replies.
+fn hear_over<O: Out, I: In>(out: &mut O, inn: &mut I) -> Heard {
+    let mut room = [0; 64];
+    let message = take_of(inn, &mut room);
+    let end = take_of(inn, &mut [0; 8]);
+    let reply = put_on(out, b"reply");
+    end_of(out);
+    (room.starts_with(b"message"), message, end, reply)
 }
 
 // Accepts a connection and hears what comes over it.
-fn hear<T: Talk, L: Linker>(links: &mut L, port: u16) -> Option<T::Heard>
-    requires few { L.accepted links.old < 256 }
-    requires done { length (L.done links.old) ≤ L.accepted links.old }
-{
+fn hear<N: Net<Stream = TcpStream, Listener = TcpListener>>(
+    net: &N,
+    alloc: Global,
+    port: u16,
+) -> Option<Heard> {
+    let mut links = TcpLinker::new(net, alloc);
     let (mut out, mut inn) = links.accept(port).ok()?;
-    let heard = T::hear(&mut out, &mut inn);
+    let heard = hear_over(&mut out, &mut inn);
     links.done(out, inn);
     Some(heard)
 }
 
-// Opens the first link and says what is said over it; nothing where nobody listens yet.
-fn say<T: Talk, L: Linker>(links: &mut L, port: u16) -> Option<T::Said>
-    requires { (L.asked links.old ≡ []) × (L.back links.old ≡ []) }
+// Puts a message and ends the link, which stays the one that it is.
+fn put_message<O: Out>(out: &mut O) -> Put
+    ensures { (O.state out.new).link ≡ (O.state out.old).link }
 {
-    let mut ends = links.open(&asked(Mode::Tcp(port))).ok()?;
-    let said = T::say(&mut ends.out, &mut ends.inn);
-    links.back(0, ends);
-    Some(said)
+    let answer = out.put(b"message");
+    out.finish();
+    answer
 }
 
-// The same by a linker of its own, as soon as somebody listens.
-fn say_once_heard<T: Talk, N: Net<Stream = TcpStream, Listener = TcpListener>>(
+// Takes the reply and its end.
+fn take_reply<I: In>(inn: &mut I) -> (bool, Take, Take) {
+    let mut room = [0; 64];
+    let reply = take_of(inn, &mut room);
+    let end = take_of(inn, &mut [0; 8]);
+    (room.starts_with(b"reply"), reply, end)
+}
+
+// Opens a link, puts a message and ends it, and then takes the reply; nothing where nobody listens yet.
+fn say<N: Net<Stream = TcpStream, Listener = TcpListener>>(
     net: &N,
     alloc: Global,
     port: u16,
-) -> Option<T::Said> {
+) -> Option<Said> {
+    let mut links = TcpLinker::new(net, alloc);
+    let mut ends = links.open(&asked(Mode::Tcp(port))).ok()?;
+    let message = put_message(&mut ends.out);
+    let (is_reply, reply, end) = take_reply(&mut ends.inn);
+    links.back(0, ends);
+    Some((is_reply, message, reply, end))
+}
+
+// The same, as soon as somebody listens.
+fn say_once_heard<N: Net<Stream = TcpStream, Listener = TcpListener>>(
+    net: &N,
+    alloc: Global,
+    port: u16,
+) -> Option<Said> {
     for _ in 0..1_000_000 {
-        let mut links = TcpLinker::new(net, alloc);
-        if let Some(said) = say::<T, _>(&mut links, port) {
+        if let Some(said) = say(net, alloc, port) {
             return Some(said);
         }
         thread::yield_now();
@@ -91,51 +115,22 @@ fn say_once_heard<T: Talk, N: Net<Stream = TcpStream, Listener = TcpListener>>(
 }
 
 // What one thread heard, and what another one said.
-fn converse<T: Talk, R: Threads + Net<Stream = TcpStream, Listener = TcpListener> + Sync>(
+fn converse<R: Threads + Net<Stream = TcpStream, Listener = TcpListener> + Sync>(
     rt: &R,
     alloc: Global,
     port: u16,
-) -> (Option<T::Heard>, Option<T::Said>) {
+) -> (Option<Heard>, Option<Said>) {
     thread::join(
         rt,
-        move || hear::<T, _>(&mut TcpLinker::new(rt, alloc), port),
-        move || say_once_heard::<T, _>(rt, alloc, port),
+        move || hear(rt, alloc, port),
+        move || say_once_heard(rt, alloc, port),
     )
-}
-
-// A message and its end, and the reply to it.
-struct Greeting;
-
-impl Talk for Greeting {
-    // Whether it is the message, what the takes answered, and what the put of the reply did.
-    type Heard = (bool, Take, Take, Put);
-
-    // Whether the reply came, what the put of the message answered, and what the takes did.
-    type Said = (bool, Put, Take, Take);
-
-    fn hear<O: Out, I: In>(out: &mut O, inn: &mut I) -> (bool, Take, Take, Put) {
-        let mut room = [0; 64];
-        let message = take_of(inn, &mut room);
-        let end = take_of(inn, &mut [0; 8]);
-        let reply = put_on(out, b"reply");
-        end_of(out);
-        (room.starts_with(b"message"), message, end, reply)
-    }
-
-    fn say<O: Out, I: In>(out: &mut O, inn: &mut I) -> (bool, Put, Take, Take) {
-        let message = out.put(b"message");
-        out.finish();
-        let mut room = [0; 64];
-        let reply = take_of(inn, &mut room);
-        let end = take_of(inn, &mut [0; 8]);
-        (room.starts_with(b"reply"), message, reply, end)
-    }
 }
 
 #[test]
 fn message_and_its_end_come_over(rt: HostRuntime) -> Result<(), Fail> {
     let port = free_port(&rt)?;
-    let (heard, said) = converse::<Greeting, _>(&rt, rt.alloc(), port);
+    let (heard, said) = converse(&rt, rt.alloc(), port);
     assert!(rt; heard == Some((true, Take::Took(7), Take::End, Put::Took(5))));
     assert!(rt; said == Some((true, Put::Took(7), Take::Took(5), Take::End)));
     Ok(())
@@ -279,47 +274,87 @@ fn interrupted_calls_are_made_again(rt: HostRuntime) {
 // How many bytes a link has room for.
 const LINK_ROOM: usize = 2_097_152;
 
-// More bytes than a link has room for.
-struct Flood;
-
-impl Talk for Flood {
-    // How many bytes were taken, of twice as many as a link has room for.
-    type Heard = usize;
-
-    // How many bytes came.
-    type Said = usize;
-
-    fn hear<O: Out, I: In>(out: &mut O, _inn: &mut I) -> usize {
-        let piece = [97; 4_096];
-        let mut put = 0usize;
-        for _ in 0..1_024 {
-            match put_on(out, &piece) {
-                Put::Took(count) => put = put.saturating_add(count),
-                Put::Again | Put::Failed => break,
-            }
+// Puts twice as many bytes as a link has room for, and tells how many were taken.
+fn flood<O: Out>(out: &mut O) -> usize {
+    let piece = [97; 4_096];
+    let mut put = 0usize;
+    for _ in 0..1_024 {
+        match put_on(out, &piece) {
+            Put::Took(count) => put = put.saturating_add(count),
+            Put::Again | Put::Failed => return put,
         }
-        end_of(out);
-        put
     }
+    put
+}
 
-    fn say<O: Out, I: In>(_out: &mut O, inn: &mut I) -> usize {
-        let mut room = [0; 4_096];
-        let mut taken = 0usize;
-        for _ in 0..10_000_000 {
-            match take_of(inn, &mut room) {
-                Take::Took(count) => taken = taken.saturating_add(count),
-                _ => return taken,
-            }
+// Takes all that comes, and tells how many bytes came.
+fn drain<I: In>(inn: &mut I) -> usize {
+    let mut room = [0; 4_096];
+    let mut taken = 0usize;
+    for _ in 0..10_000_000 {
+        match take_of(inn, &mut room) {
+            Take::Took(count) => taken = taken.saturating_add(count),
+            _ => return taken,
         }
-        taken
     }
+    taken
+}
+
+// Accepts a connection and floods it.
+fn flood_next<N: Net<Stream = TcpStream, Listener = TcpListener>>(
+    net: &N,
+    alloc: Global,
+    port: u16,
+) -> usize {
+    let mut links = TcpLinker::new(net, alloc);
+    let Ok((mut out, inn)) = links.accept(port) else {
+        return 0;
+    };
+    let put = flood(&mut out);
+    end_of(&mut out);
+    links.done(out, inn);
+    put
+}
+
+// Opens a link and takes all that comes; nothing where nobody listens yet.
+fn drain_one<N: Net<Stream = TcpStream, Listener = TcpListener>>(
+    net: &N,
+    alloc: Global,
+    port: u16,
+) -> Option<usize> {
+    let mut links = TcpLinker::new(net, alloc);
+    let mut ends = links.open(&asked(Mode::Tcp(port))).ok()?;
+    let taken = drain(&mut ends.inn);
+    links.back(0, ends);
+    Some(taken)
+}
+
+// The same, as soon as somebody listens.
+fn drain_once_heard<N: Net<Stream = TcpStream, Listener = TcpListener>>(
+    net: &N,
+    alloc: Global,
+    port: u16,
+) -> usize {
+    for _ in 0..1_000_000 {
+        if let Some(taken) = drain_one(net, alloc, port) {
+            return taken;
+        }
+        thread::yield_now();
+    }
+    0
 }
 
 #[test]
 fn connection_takes_more_than_a_link_has_room_for(rt: HostRuntime) -> Result<(), Fail> {
     let port = free_port(&rt)?;
-    let (put, taken) = converse::<Flood, _>(&rt, rt.alloc(), port);
-    assert!(rt; put == Some(2 * LINK_ROOM));
+    let net = &rt;
+    let alloc = rt.alloc();
+    let (put, taken) = thread::join(
+        &rt,
+        move || flood_next(net, alloc, port),
+        move || drain_once_heard(net, alloc, port),
+    );
+    assert!(rt; put == 2 * LINK_ROOM);
     assert!(rt; taken == put);
     Ok(())
 }
