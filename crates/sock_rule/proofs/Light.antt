@@ -24,7 +24,6 @@ use Rattle.chain_core.specs.slot_steps.proofs.Sums.{total-set, each_set}
 use Rattle.chain_core.specs.sock_steps.proofs.Places.{counts}
 use Rattle.chain_core.specs.sock_steps.proofs.RuleFrame.{lasts_all, same_rule}
 use Rattle.chain_core.specs.sock_steps.proofs.SlotFrame.{still_holds, slot_frame}
-use Rattle.chain_core.specs.sock_steps.proofs.Steady.{chain_of}
 
 -- a weight that such a note has not
 abbrev pub Light : (Mark → ℕ) → Type 0
@@ -125,7 +124,7 @@ module _ {S : Type 0} (shows : S → Home) (p : Plan) (s : State S View) (id : �
   }
 
   light_law : Lawful shows p s → Lawful shows p t
-  light_law o = slot_frame shows p s o id v w here s.words (ap chain_of a.others)
+  light_law o = slot_frame shows p s o id v w here s.words record { plan = ap (λ (u : View). u.plan) a.others; claims = ap (λ (u : View). u.claims) a.others; loose = ap (λ (u : View). u.loose) a.others; rights = ap (λ (u : View). u.rights) a.others; hands = ap (λ (u : View). u.hands) a.others; lists = ap (λ (u : View). u.lists) a.others }
       record {
         given = λ j h k. a.marks (is_linked h k) (λ g n. refl) j;
         ended = λ j h. a.marks (is_freer h) (λ g n. refl) j;

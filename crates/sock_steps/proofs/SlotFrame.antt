@@ -33,7 +33,7 @@ use Rattle.chain_steps.proofs.Gather.{gather_same}
 use Rattle.chain_steps.proofs.Authored.{keeps_lists}
 use Rattle.chain_steps.proofs.Letters.{messages_frame}
 use Rattle.chain_steps.proofs.Delivers.{delivers_same, delivers_failed}
-use Rattle.sock_steps.proofs.Steady.{Steady, Chained, SameChain}
+use Rattle.sock_steps.proofs.Steady.{Steady, SameChain}
 use Rattle.sock_steps.proofs.Places.{given_to, given_from, lives_to, lives_from, failed_to}
 
 -- rights that stay, and lives that are held and known as before
@@ -81,13 +81,13 @@ module _ {S : Type 0} (shows : S → Home) (p : Plan) (s : State S View) (o : La
   t = record { words = ws; homes = s.homes; views = set s.views id w }
 
   pub rights_stay : (k : ℕ) → (tokens (set s.views id w)).rights k ≡ (tokens s.views).rights k
-  rights_stay k = gather_same (rights_on k) s.views id v w here (ap (λ (y : Chained). filter (λ (x : Right). eqb x.link k) y.2) same)
+  rights_stay k = gather_same (rights_on k) s.views id v w here (ap (λ (l : List Right). filter (λ (x : Right). eqb x.link k) l) same.rights)
 
   pub claims_stay : (r : ℕ) → (tokens (set s.views id w)).claims r ≡ (tokens s.views).claims r
-  claims_stay r = gather_same (claims_of r) s.views id v w here (ap (λ (y : Chained). filter (λ (x : Claim). eqb x.request r) y.0) same)
+  claims_stay r = gather_same (claims_of r) s.views id v w here (ap (λ (l : List Claim). filter (λ (x : Claim). eqb x.request r) l) same.claims)
 
   pub loose_stay : (r : ℕ) → (tokens (set s.views id w)).loose r ≡ (tokens s.views).loose r
-  loose_stay r = gather_same (loose_at r) s.views id v w here (ap (λ (y : Chained). filter (λ (x : Loose). eqb x.request r) y.1) same)
+  loose_stay r = gather_same (loose_at r) s.views id v w here (ap (λ (l : List Loose). filter (λ (x : Loose). eqb x.request r) l) same.loose)
 
   held_stay : HoldsRights p w → (j : ℕ) (u : View) → get_elem? (set s.views id w) j ≡ some u → HoldsRights p u
   held_stay now j u g = ⊎_elim (λ y. subst (HoldsRights p) y.1 now) (λ y. o.held j u y.1) (at_set s.views id j w u g)
@@ -96,15 +96,15 @@ module _ {S : Type 0} (shows : S → Home) (p : Plan) (s : State S View) (o : La
   pub whole_law : (slot : ℕ → Option ℕ) → References p t → InSlots p t slot o.log → HoldsRights p w → Chains p.links p.requests (memory p slot ws) (tokens (set s.views id w)) o.log o.freed o.places
       → ((l : ℕ) → l < 8 * p.operations → get_or ws (place_index p l) 0 ≡ get_or s.words (place_index p l) 0) → ((k : ℕ) → k < p.links → Failed p s k → Failed p t k) → LinkHomes shows p t slot → Lawful shows p t
   whole_law slot references in_slots held chains places fails homes = again shows p o t slot references in_slots (held_stay held) chains
-      (keeps_lists (λ (y : View). y.lists) s.views o.log id v w o.authors here (ap (λ (y : Chained). y.4) same))
+      (keeps_lists (λ (y : View). y.lists) s.views o.log id v w o.authors here same.lists)
       (messages_frame o.chains o.messages (tokens (set s.views id w)) (message shows s.homes) (λ r rl. refl) (λ r rl. claims_stay r)
       (λ k e kl u. record { right = u.right; has = rights_stay k ∙ u.has; stage = u.stage; taken = u.taken }) (λ k r kl h f. (r, sym (rights_stay k) ∙ h, f, refl, refl, refl)))
       (delivers_failed (delivers_same o.delivered (tokens (set s.views id w)) (λ l. get_or ws (place_index p l) 0) places (λ k r kl h. (r, sym (rights_stay k) ∙ h, refl, refl, refl))) (Failed p t) fails)
-      (λ j n u h g e. ⊎_elim (λ y. o.carried id n v h here (subst (λ l. get_elem? l n ≡ some h) (ap (λ (z : View). z.hands) (sym y.1) ∙ ap (λ (z : Chained). z.3) same) e)) (λ y. o.carried j n u h y.1 e) (at_set s.views id j w u g)) homes
+      (λ j n u h g e. ⊎_elim (λ y. o.carried id n v h here (subst (λ l. get_elem? l n ≡ some h) (ap (λ (z : View). z.hands) (sym y.1) ∙ same.hands) e)) (λ y. o.carried j n u h y.1 e) (at_set s.views id j w u g)) homes
 
   module _ (st : Steady v w) where
     handlers_stay : (k : ℕ) → total (hands_of k) (set s.views id w) ≡ total (hands_of k) s.views
-    handlers_stay k = omega (arith, total-set (hands_of k) s.views id v w here, ap (λ (y : Chained). total (carries k) y.3) same)
+    handlers_stay k = omega (arith, total-set (hands_of k) s.views id v w here, ap (total (carries k)) same.hands)
 
     waiters_less : (k : ℕ) → total (waits_of k) (set s.views id w) ≤ total (waits_of k) s.views
     waiters_less k = omega (arith, total-set (waits_of k) s.views id v w here, st.waits k)
@@ -121,7 +121,7 @@ module _ {S : Type 0} (shows : S → Home) (p : Plan) (s : State S View) (o : La
     homes_stay : ((j x : ℕ) → marks_of (is_recycled x) j v ≤ marks_of (is_recycled x) j w) ⊎ ((k : ℕ) → hands_of k w ≡ 0) → LinkHomes shows p t o.slot
     homes_stay hands = homes_again shows p o ws (set s.views id w) (λ k. rights_stay k) (λ k. waiters_less k) (λ k. handlers_stay k)
         (λ j k u g h. ⊎_elim
-        (λ y. let hv : 0 < hands_of k v = omega (arith, ap (hands_of k) y.1, ap (λ (y : Chained). total (carries k) y.3) same) in
+        (λ y. let hv : 0 < hands_of k v = omega (arith, ap (hands_of k) y.1, ap (total (carries k)) same.hands) in
         ⊎_elim (λ more. carry u (λ a x. let q = ap (λ (z : View). marks_of (is_recycled x) a z) y.1 in omega (arith, more a x)) (o.homes.hand_of id k v here hv))
         (λ none_. absurd (omega (arith, none_ k, ap (hands_of k) y.1))) hands)
         (λ y. carry u (λ a x. omega arith) (o.homes.hand_of j k u y.1 h)) (at_set s.views id j w u g))

@@ -6,14 +6,10 @@ use Rattle.slot_steps.specs.sock_model.specs.declared.marks.Mark.{Mark}
 use Rattle.slot_steps.specs.sock_model.specs.declared.marks.Mark.TheVariants.{Claimed, Recycling, Hold, Probe, Zero, Coding, Tried, Known, Saw, Failer, Stored, Told, Freer, Met}
 use Rattle.slot_steps.specs.sock_model.specs.declared.marks.SlotMark.{SlotMark}
 use Rattle.slot_steps.specs.sock_model.specs.declared.view.View.{View}
-use Rattle.slot_steps.specs.sock_model.specs.declared.view.Hand.{Hand}
-use Rattle.slot_steps.specs.sock_model.specs.declared.chain.Claim.{Claim}
-use Rattle.slot_steps.specs.sock_model.specs.declared.chain.Entry.{Entry}
-use Rattle.slot_steps.specs.sock_model.specs.declared.chain.Loose.{Loose}
-use Rattle.slot_steps.specs.sock_model.specs.declared.chain.Right.{Right}
 use Rattle.slot_steps.specs.sock_model.specs.Weights.{total, only, is_failer, is_freer, is_linked, is_met, is_hold, is_zero, is_coding, is_stage, is_recycling, is_recycled, is_reset, is_waiting}
 use Rattle.slot_steps.specs.sock_model.specs.Marks.{about, at, without, without_at}
 use Rattle.slot_steps.specs.sock_model.specs.Slots.{version_of, nref_of}
+use Rattle.slot_steps.specs.sock_model.specs.References.{OnlyMarks}
 use Rattle.slot_steps.specs.sock_model.specs.SlotRows.{marks_of, claimed, added, subbed, failed, recycled, freed, looked, linked, staged, coded, told_code, met, wrote, met_link}
 use Rattle.slot_steps.specs.sock_model.specs.Reads.{waits_link, waits_of}
 use Rattle.slot_steps.proofs.Sums.{taken_as, about-here, about-other}
@@ -40,15 +36,24 @@ pub record Holds (v w : View) : Type 0 where
   pub hold : (j h : ℕ) → marks_of (is_hold h) j v ≤ marks_of (is_hold h) j w
   pub recycling : (j x : ℕ) → marks_of (is_recycled x) j v ≤ marks_of (is_recycled x) j w
 
--- all that the chains read of a view: its claims, its entries that are not connected, its rights, its links in hand and its accepted entries
-abbrev pub Chained : Type 0
-Chained = List Claim × List Loose × List Right × List Hand × List (List Entry)
+-- all that the chains read of a view
+pub record SameChain (v w : View) : Type 0 where
+  pub plan : w.plan ≡ v.plan
+  pub claims : w.claims ≡ v.claims
+  pub loose : w.loose ≡ v.loose
+  pub rights : w.rights ≡ v.rights
+  pub hands : w.hands ≡ v.hands
+  pub lists : w.lists ≡ v.lists
 
-abbrev pub chain_of : View → Chained
-chain_of v = (v.claims, v.loose, v.rights, v.hands, v.lists)
-
-abbrev pub SameChain : View → View → Type 0
-SameChain v w = chain_of w ≡ chain_of v
+pub same_chain : (v w : View) → OnlyMarks v w → SameChain v w
+same_chain v w e = record {
+  plan = ap (λ (u : View). u.plan) e;
+  claims = ap (λ (u : View). u.claims) e;
+  loose = ap (λ (u : View). u.loose) e;
+  rights = ap (λ (u : View). u.rights) e;
+  hands = ap (λ (u : View). u.hands) e;
+  lists = ap (λ (u : View). u.lists) e;
+}
 
 NoFailer : (Mark → ℕ) → Type 0
 NoFailer f = (h : ℕ) → f (Failer h) ≡ 0
