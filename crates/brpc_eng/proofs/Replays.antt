@@ -15,7 +15,7 @@ use Rattle.brpc_eng.specs.declared.input.NoScript.{NoScript}
 use Rattle.brpc_eng.specs.declared.input.NoScript.TheVariants.{Unread, Faulty}
 use Rattle.brpc_eng.specs.declared.streams.InputFault.{InputFault}
 use Rattle.brpc_eng.specs.declared.streams.InputFault.TheVariants as unread
-use Rattle.brpc_eng.specs.Input.{CameAs, FaultTold}
+use Rattle.brpc_eng.specs.Input.{CameAs, NoScriptTold}
 use Rattle.brpc_eng.specs.Answers as answer
 use Rattle.frame_print.specs.Printed.{Edges, PrintsFrames}
 use Rattle.frame_print.specs.declared.print.StreamEnd.{StreamEnd}
@@ -59,7 +59,7 @@ replays_read ran input out links status script came opened ended =
 
 -- there was none to run
 pub replays_none : {mode : Mode} (ran : answer.ScriptEnd) (input : answer.Input) (out : answer.Output) (links : answer.Links) (status : ℕ) (fault : NoScript) → CameAs input.given input.left (Err fault) →
-    (IsErrOf {T = List Item} (Err fault) (Unread unread.Failed) → answer.HaveRisen input.faults) → answer.OpenedNone links → FaultTold fault out status → answer.ReplayedInput mode ran input out links status
+    (IsErrOf {T = List Item} (Err fault) (Unread unread.Failed) → answer.HaveRisen input.faults) → answer.OpenedNone links → NoScriptTold fault out status → answer.ReplayedInput mode ran input out links status
 replays_none ran input out links status (Faulty line kind) came failed none_ told =
     let few = came.is.1 in
     record { bytes = came.bytes; came = came.came; most = omega (arith, few); too_long = λ long. absurd (omega (arith, long, few)); replayed = answer.FaultyScript came.is.0 line kind came.is.2 none_ told }

@@ -31,7 +31,6 @@ use Rattle.sock_io.specs.declared.link.Mode.{Mode}
 use Rattle.sock_io.specs.declared.link.Mode.TheVariants as modes
 use Rattle.sock_io.specs.declared.link.OpenFault.{OpenFault}
 use Rattle.sock_io.specs.declared.link.OpenFault.TheVariants as opening
-use Rattle.sock_io.specs.Link.{ConnectionEnd}
 use Rattle.serve_port.specs.Serving.{ServedConnection, IsServed, any_failing, any_faulty, all_whole, frames_of}
 use Rattle.script_links.specs.Given.{AreNumbered, AreUntouched, IsBeginning, specs_of}
 use Rattle.script_run.specs.Causes.{CameLate, late_in}
@@ -76,7 +75,7 @@ pub record Links : Type 1 where
   pub asked : List LinkSpec
   pub ends : List LinkEnd
   pub accepted : ℕ
-  pub done : List ConnectionEnd
+  pub done : List LinkEnd
   pub faults : Faults
 
 -- ## These over a call, by what they tell before and behind it: of a linker, whether its links are always ready is read
@@ -91,19 +90,20 @@ source_over left_of faults_of old new = record { given = left_of old; left = lef
 abbrev pub sink_over : {K : Type 0} → (K → Option (List ℕ)) → (K → ℕ) → K → K → Output
 sink_over contents_of faults_of old new = record { before = contents_of old; now = contents_of new; faults = faults_over faults_of old new }
 
-abbrev pub linker_over : {L : Type 0} → (L → Bool) → (tells offering : Type 0) → (Mode → Bool) → (L → List LinkSpec) → (L → List LinkEnd) → (L → ℕ) → (L → List ConnectionEnd) → (L → ℕ) → L → L → Links
+abbrev pub linker_over : {L : Type 0} → (L → Bool) → (tells offering : Type 0) → (Mode → Bool) → (L → List LinkSpec) → (L → List LinkEnd) → (L → ℕ) → (L → List LinkEnd) → (L → ℕ) → L → L → Links
 linker_over ready_of tells offering tells_in asked_of back_of accepted_of done_of faults_of old new = record { always_ready = ready_of old; tells = tells; offering = offering; tells_in = tells_in; asked = asked_of new; ends = back_of new; accepted = accepted_of new; done = done_of new; faults = faults_over faults_of old new }
 
 -- no link was opened, and none was given back
 abbrev pub OpenedNothing : List LinkSpec → List LinkEnd → Type 0
 OpenedNothing asked ends = (asked ≡ []) × (ends ≡ [])
 
+-- the same of what is told of links
 abbrev pub OpenedNone : Links → Type 0
 OpenedNone links = OpenedNothing links.asked links.ends
 
 -- no link was opened, no connection accepted, and none given back
-abbrev pub DidNothing : List LinkSpec → List LinkEnd → ℕ → List ConnectionEnd → Type 0
-DidNothing asked ends accepted done = OpenedNothing asked ends × (accepted ≡ 0) × (done ≡ [])
+abbrev pub UnusedLinker : List LinkSpec → List LinkEnd → ℕ → List LinkEnd → Type 0
+UnusedLinker asked ends accepted done = OpenedNothing asked ends × (accepted ≡ 0) × (done ≡ [])
 
 -- the links that the lines of a script ask for were opened as they ask, in this mode, all of them where a report was written or begun, else the
 -- first of them; and each is given back, in order

@@ -17,15 +17,15 @@ IsRead left bytes (Err (Unread unread.Failed)) = length bytes ≤ script_limit
 IsRead left bytes (Err (Unread unread.TooLong)) = length bytes ≡ script_limit + 1
 IsRead left bytes (Err (Unread unread.NoMemory)) = length bytes ≤ script_limit + 1
 
--- these bytes came
+-- these bytes came, and this is what they are as a script
 pub record CameAs (given left : Option (List ℕ)) (read : Result (List Item) NoScript) : Type 0 where
   pub bytes : List ℕ
   pub came : Consumes given left bytes
   pub is : IsRead left bytes read
 
 -- what is written where there is no script to run, and the status
-abbrev pub FaultTold : NoScript → Output → ℕ → Type 0
-FaultTold (Unread unread.Failed) out status = (status ≡ 4) × WroteNothing out
-FaultTold (Unread unread.TooLong) out status = (status ≡ 6) × WroteNothing out
-FaultTold (Unread unread.NoMemory) out status = (status ≡ 7) × WroteNothing out
-FaultTold (Faulty line kind) out status = FaultWritten out line kind status
+abbrev pub NoScriptTold : NoScript → Output → ℕ → Type 0
+NoScriptTold (Unread unread.Failed) out status = (status ≡ 4) × WroteNothing out
+NoScriptTold (Unread unread.TooLong) out status = (status ≡ 6) × WroteNothing out
+NoScriptTold (Unread unread.NoMemory) out status = (status ≡ 7) × WroteNothing out
+NoScriptTold (Faulty line kind) out status = FaultWritten out line kind status

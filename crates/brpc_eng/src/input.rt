@@ -3,7 +3,7 @@ ghost use Rattle.std.specs.List.{list_all};
 ghost use Rattle.sock_io.specs.Causes.{Rose};
 ghost use Rattle.script_links.specs.Given.{has_piece};
 ghost use Rattle.script_threads.specs.Served.{IsShort};
-ghost use Rattle.brpc_eng.specs.Input.{CameAs, FaultTold};
+ghost use Rattle.brpc_eng.specs.Input.{CameAs, NoScriptTold};
 ghost use Rattle.brpc_eng.specs.Status.{number_of};
 ghost use Rattle.brpc_eng.specs.Answers.{sink_over};
 
@@ -46,7 +46,7 @@ pub fn read_input<S: Source>(alloc: Global, source: &mut S) -> Result<Script, No
 
 /// Writes where a script is faulty, and nothing where the input wasn't read whole.
 pub fn tell_fault<K: Sink>(alloc: Global, fault: NoScript, out: &mut K) -> Status
-    ensures told { FaultTold fault (sink_over K.contents K.faults out.old out.new) (number_of result) }
+    ensures told { NoScriptTold fault (sink_over K.contents K.faults out.old out.new) (number_of result) }
     ensures unfailed { number_of result ≢ 4 → fault ≢ NoScript.Unread InputFault.Failed }
 {
     match fault {

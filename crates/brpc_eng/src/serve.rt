@@ -2,7 +2,7 @@ ghost use Rattle.std.specs.Prelude.{◌≡◌, ◌≢◌, ◌⊎◌};
 ghost use Rattle.script_links.specs.Offered.{TellOffers};
 ghost use Rattle.script_run.specs.Played.{TellClosed};
 ghost use Rattle.brpc_eng.specs.Status.{number_of};
-ghost use Rattle.brpc_eng.specs.Answers.{DidNothing, ServedPort, TextWritten, WroteNothing, served_text, linker_over, sink_over};
+ghost use Rattle.brpc_eng.specs.Answers.{UnusedLinker, ServedPort, TextWritten, WroteNothing, served_text, linker_over, sink_over};
 
 use crate::doors::Doors;
 use crate::run::write_report;
@@ -21,7 +21,7 @@ pub fn serve<R: Threads + Wait + Sync, K: Sink, L: Linker>(
     out: &mut K,
     links: &mut L,
 ) -> Status
-    requires unused { DidNothing (L.asked links.old) (L.back links.old) (L.accepted links.old) (L.done links.old) }
+    requires unused { UnusedLinker (L.asked links.old) (L.back links.old) (L.accepted links.old) (L.done links.old) }
     ensures served { ServedPort doors.now.connections (sink_over K.contents K.faults out.old out.new) (linker_over L.always_ready (TellClosed L.I.state) (TellOffers L.O.state L.I.state) L.tells_in L.asked L.back L.accepted L.done L.faults links.old links.new) (number_of result) }
     ensures linker { number_of result ≢ 8 → L.faults links.new ≡ L.faults links.old }
 {

@@ -1,4 +1,4 @@
-ghost use Rattle.brpc_eng.specs.Answers.{DidNothing};
+ghost use Rattle.brpc_eng.specs.Answers.{UnusedLinker};
 
 use crate::run::run_with;
 use loop_link::LoopLinker;
@@ -40,7 +40,7 @@ fn run_over<
     E: Print,
     L: Linker,
 >(rt: &R, errors: &E, links: &mut L) -> ExitCode
-    requires unused { DidNothing (L.asked links.old) (L.back links.old) (L.accepted links.old) (L.done links.old) }
+    requires unused { UnusedLinker (L.asked links.old) (L.back links.old) (L.accepted links.old) (L.done links.old) }
 {
     let mut source = StdEdge::new(rt.reader());
     let mut out = StdEdge::new(io::writer(rt));

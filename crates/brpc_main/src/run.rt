@@ -3,7 +3,7 @@ ghost use Rattle.std.specs.Process.{exit_status};
 ghost use Rattle.std.specs.Vec.Iter.{into_iter_items};
 ghost use Rattle.script_links.specs.Offered.{TellOffers};
 ghost use Rattle.brpc_eng.specs.script_run.specs.Played.{TellClosed};
-ghost use Rattle.brpc_eng.specs.Answers.{DidNothing, Answers, Wrote, linker_over, sink_over, source_over};
+ghost use Rattle.brpc_eng.specs.Answers.{UnusedLinker, Answers, Wrote, linker_over, sink_over, source_over};
 ghost use Rattle.brpc_main.specs.Reasons.{reason_text};
 ghost use Rattle.brpc_main.specs.Words.{arguments, words_behind};
 
@@ -34,7 +34,7 @@ pub fn run_with<R: Threads + Wait + Sync, S: Source, K: Sink, L: Linker, G: Gate
     gate: &G,
     errors: &mut E,
 ) -> ExitCode
-    requires unused { DidNothing (L.asked links.old) (L.back links.old) (L.accepted links.old) (L.done links.old) }
+    requires unused { UnusedLinker (L.asked links.old) (L.back links.old) (L.accepted links.old) (L.done links.old) }
     ensures answers { Answers (words_behind args) (source_over S.left S.faults source.old source.new) (sink_over K.contents K.faults out.old out.new) (linker_over L.always_ready (TellClosed L.I.state) (TellOffers L.O.state L.I.state) L.tells_in L.asked L.back L.accepted L.done L.faults links.old links.new) (exit_status result)
         ⊎ ((exit_status result ≡ 7) × (source.new ≡ source.old) × (out.new ≡ out.old) × (links.new ≡ links.old)) }
     ensures explained { Wrote (sink_over E.contents E.faults errors.old errors.new) (reason_text (exit_status result)) }

@@ -14,9 +14,9 @@ ghost use Rattle.call_writes.specs.Sending.{Rested};
 ghost use Rattle.call_attempts.specs.Both.{both, IsCallId};
 ghost use Rattle.call_attempts.specs.Attempting.{RefusedFor, DeliveredBy, AttemptedBy};
 
-use crate::tables::Tables;
+use crate::at::At;
 use call_errors::{CallSeat, post_error};
-use call_writes::see_through_calling;
+use call_writes::On;
 use sock_io::Out;
 use sock_rule::{Letter, SockSeat};
 use sock_table::SockRef;
@@ -24,113 +24,114 @@ use sock_words::{EFAILEDSOCKET, EREQUESTS, SocketId};
 use std::sync::Wait;
 use write_chain::{Refused, start};
 
-// A frame that was refused: that is posted to its call, and then the reference is given back.
-fn refuse_frame<O: Out, R: Wait>(
-    rt: &R,
-    tables: &Tables<O>,
-    seat: &mut SockSeat<O>,
-    calls: &mut CallSeat,
-    refused: Refused,
-)
-    requires idle { Idle tables.now.socks.rule.table.shared.table_id tables.now.socks.rule.plan seat.old }
-    requires held { RefusedHolds tables.now.socks.rule.plan refused seat.old.me.0 }
-    requires ids { HasNoLock tables.now.ids.table.shared.table_id calls.old }
-    ensures rest { AtRest tables.now.socks.rule.table.shared.table_id tables.now.socks.rule.plan seat.old seat.new }
-    ensures keeps { KeepsSeat tables.now.ids.table.shared.table_id calls.old calls.new }
-    ensures by { RefusedFor tables.now.ids.plan refused (both seat.old.me.0 calls.old) (both seat.new.me.0 calls.new) }
-{
-    match refused {
-        Refused::Failed(sock, msg, _) => {
-            let attempt = Some(msg.label.attempt);
-            post_error(rt, &tables.ids, calls, msg.owner, EFAILEDSOCKET, attempt);
-            tables.socks.release(seat, sock);
-            drop(msg);
-        }
-        Refused::Full(sock, msg) => {
-            let attempt = Some(msg.label.attempt);
-            post_error(rt, &tables.ids, calls, msg.owner, EREQUESTS, attempt);
-            tables.socks.release(seat, sock);
-            drop(msg);
+impl<O: Out, R: Wait> At<'_, O, R> {
+    // A frame that was refused: that is posted to its call, and then the reference is given back.
+    fn refuse_frame(&self, seat: &mut SockSeat<O>, calls: &mut CallSeat, refused: Refused)
+        requires idle { Idle self.now.tables.now.socks.rule.table.shared.table_id self.now.tables.now.socks.rule.plan seat.old }
+        requires held { RefusedHolds self.now.tables.now.socks.rule.plan refused seat.old.me.0 }
+        requires ids { HasNoLock self.now.tables.now.ids.table.shared.table_id calls.old }
+        ensures rest { AtRest self.now.tables.now.socks.rule.table.shared.table_id self.now.tables.now.socks.rule.plan seat.old seat.new }
+        ensures keeps { KeepsSeat self.now.tables.now.ids.table.shared.table_id calls.old calls.new }
+        ensures by { RefusedFor self.now.tables.now.ids.plan refused (both seat.old.me.0 calls.old) (both seat.new.me.0 calls.new) }
+    {
+        match refused {
+            Refused::Failed(sock, msg, _) => {
+                let attempt = Some(msg.label.attempt);
+                post_error(
+                    self.rt,
+                    &self.tables.ids,
+                    calls,
+                    msg.owner,
+                    EFAILEDSOCKET,
+                    attempt,
+                );
+                self.tables.socks.release(seat, sock);
+                drop(msg);
+            }
+            Refused::Full(sock, msg) => {
+                let attempt = Some(msg.label.attempt);
+                post_error(
+                    self.rt,
+                    &self.tables.ids,
+                    calls,
+                    msg.owner,
+                    EREQUESTS,
+                    attempt,
+                );
+                self.tables.socks.release(seat, sock);
+                drop(msg);
+            }
         }
     }
-}
 
-// A frame is sent to a socket to which the seat has a reference, which it gives back.
-fn deliver_frame<O: Out, R: Wait>(
-    rt: &R,
-    tables: &Tables<O>,
-    seat: &mut SockSeat<O>,
-    calls: &mut CallSeat,
-    sock: SockRef,
-    msg: Letter,
-)
-    requires idle { Idle tables.now.socks.rule.table.shared.table_id tables.now.socks.rule.plan seat.old }
-    requires held { Holds tables.now.socks.rule.plan seat.old.me.0 sock.id.0 }
-    requires few { marks_of is_ref (socket_id_slot sock.id.0) seat.old.me.0 < 65540 }
-    requires room { HasRoom seat.old.me.0 }
-    requires label { msg.label.place < 8 * tables.now.socks.rule.plan.operations }
-    requires ids { HasNoLock tables.now.ids.table.shared.table_id calls.old }
-    ensures idle { Idle tables.now.socks.rule.table.shared.table_id tables.now.socks.rule.plan seat.new }
-    ensures keeps { KeepsSeat tables.now.ids.table.shared.table_id calls.old calls.new }
-    ensures by { DeliveredBy O.state tables.now.socks.rule.plan tables.now.ids.plan sock.id msg (both seat.old.me.0 calls.old) (both seat.new.me.0 calls.new) }
-{
-    match start(&tables.socks, seat, sock, msg) {
-        Ok(started) => {
-            see_through_calling(rt, &tables.socks, &tables.ids, seat, calls, started);
+    // A frame is sent to a socket to which the seat has a reference, which it gives back.
+    fn deliver(&self, seat: &mut SockSeat<O>, calls: &mut CallSeat, sock: SockRef, msg: Letter)
+        requires idle { Idle self.now.tables.now.socks.rule.table.shared.table_id self.now.tables.now.socks.rule.plan seat.old }
+        requires held { Holds self.now.tables.now.socks.rule.plan seat.old.me.0 sock.id.0 }
+        requires few { marks_of is_ref (socket_id_slot sock.id.0) seat.old.me.0 < 65540 }
+        requires room { HasRoom seat.old.me.0 }
+        requires label { msg.label.place < 8 * self.now.tables.now.socks.rule.plan.operations }
+        requires ids { HasNoLock self.now.tables.now.ids.table.shared.table_id calls.old }
+        ensures idle { Idle self.now.tables.now.socks.rule.table.shared.table_id self.now.tables.now.socks.rule.plan seat.new }
+        ensures keeps { KeepsSeat self.now.tables.now.ids.table.shared.table_id calls.old calls.new }
+        ensures by { DeliveredBy O.state self.now.tables.now.socks.rule.plan self.now.tables.now.ids.plan sock.id msg (both seat.old.me.0 calls.old) (both seat.new.me.0 calls.new) }
+    {
+        match start(&self.tables.socks, seat, sock, msg) {
+            Ok(started) => {
+                let on = On {
+                    rt: self.rt,
+                    socks: &self.tables.socks,
+                    ids: &self.tables.ids,
+                };
+                on.see_through(seat, calls, started);
+            }
+            Err(refused) => self.refuse_frame(seat, calls, refused),
         }
-        Err(refused) => refuse_frame(rt, tables, seat, calls, refused),
     }
-}
 
-/// An attempt of a call over the socket with this id: the link is stored in the word of the call's operation before the frame is
-/// started. Where the socket is gone or fails, or each request is taken, that is posted to the call.
-/// bRPC's `Controller::IssueRPC`.
-pub fn attempt_one<O: Out, R: Wait>(
-    rt: &R,
-    tables: &Tables<O>,
-    seat: &mut SockSeat<O>,
-    calls: &mut CallSeat,
-    socket: SocketId,
-    msg: Letter,
-)
-    requires may { MayAct tables.now.socks.rule.table.shared.table_id tables.now.socks.rule.plan seat.old }
-    requires known { Knows tables.now.socks.rule.plan seat.old.me.0 socket.0 }
-    requires room { HasRoom seat.old.me.0 }
-    requires ids { HasNoLock tables.now.ids.table.shared.table_id calls.old }
-    requires operation { msg.label.operation < tables.now.ids.plan.operations }
-    requires id { IsCallId tables.now.ids.plan msg.owner }
-    requires label { msg.label.place < 8 * tables.now.socks.rule.plan.operations }
-    ensures rested { Rested tables.now.socks.rule.table.shared.table_id tables.now.socks.rule.plan tables.now.ids.table.shared.table_id seat.old seat.new calls.old calls.new }
-    ensures by { AttemptedBy O.state tables.now.socks.rule.plan tables.now.ids.plan socket msg (both seat.old.me.0 calls.old) (both seat.new.me.0 calls.new) }
-    ensures own { (n : ℕ) → OwnList n seat.old.me.0 → OwnList (n + 1) seat.new.me.0 }
-{
-    let attempt = msg.label.attempt;
-    match tables.socks.address(seat, socket) {
-        Ok(sock) => {
-            let slots = tables.ids.plan.slots;
-            prove!(msg.owner / 4_294_967_296 < slots as u64);
-            let link = tables.socks.link_of(seat, &sock);
-            let links = tables.socks.rule.plan.links;
-            prove!(link < links);
-            tables.ids.set_at(
-                &mut calls.seat,
-                msg.label.operation,
-                msg.owner,
-                link,
-                attempt,
-            );
-            deliver_frame(rt, tables, seat, calls, sock, msg);
-        }
-        Err(_gone) => {
-            post_error(
-                rt,
-                &tables.ids,
-                calls,
-                msg.owner,
-                EFAILEDSOCKET,
-                Some(attempt),
-            );
-            drop(msg);
+    /// An attempt of a call over the socket with this id: the link is stored in the word of the call's operation before the frame is
+    /// started. Where the socket is gone or fails, or each request is taken, that is posted to the call.
+    /// bRPC's `Controller::IssueRPC`.
+    pub fn attempt(&self, seat: &mut SockSeat<O>, calls: &mut CallSeat, to: SocketId, msg: Letter)
+        requires may { MayAct self.now.tables.now.socks.rule.table.shared.table_id self.now.tables.now.socks.rule.plan seat.old }
+        requires known { Knows self.now.tables.now.socks.rule.plan seat.old.me.0 to.0 }
+        requires room { HasRoom seat.old.me.0 }
+        requires ids { HasNoLock self.now.tables.now.ids.table.shared.table_id calls.old }
+        requires operation { msg.label.operation < self.now.tables.now.ids.plan.operations }
+        requires id { IsCallId self.now.tables.now.ids.plan msg.owner }
+        requires label { msg.label.place < 8 * self.now.tables.now.socks.rule.plan.operations }
+        ensures rested { Rested self.now.tables.now.socks.rule.table.shared.table_id self.now.tables.now.socks.rule.plan self.now.tables.now.ids.table.shared.table_id seat.old seat.new calls.old calls.new }
+        ensures by { AttemptedBy O.state self.now.tables.now.socks.rule.plan self.now.tables.now.ids.plan to msg (both seat.old.me.0 calls.old) (both seat.new.me.0 calls.new) }
+        ensures own { (n : ℕ) → OwnList n seat.old.me.0 → OwnList (n + 1) seat.new.me.0 }
+    {
+        let attempt = msg.label.attempt;
+        match self.tables.socks.address(seat, to) {
+            Ok(sock) => {
+                let slots = self.tables.ids.plan.slots;
+                prove!(msg.owner / 4_294_967_296 < slots as u64);
+                let link = self.tables.socks.link_of(seat, &sock);
+                let links = self.tables.socks.rule.plan.links;
+                prove!(link < links);
+                self.tables.ids.set_at(
+                    &mut calls.seat,
+                    msg.label.operation,
+                    msg.owner,
+                    link,
+                    attempt,
+                );
+                self.deliver(seat, calls, sock, msg);
+            }
+            Err(_gone) => {
+                post_error(
+                    self.rt,
+                    &self.tables.ids,
+                    calls,
+                    msg.owner,
+                    EFAILEDSOCKET,
+                    Some(attempt),
+                );
+                drop(msg);
+            }
         }
     }
 }

@@ -9,9 +9,8 @@ ghost use Rattle.call_writes.specs.Sending.{Rested};
 ghost use Rattle.call_attempts.specs.Both.{both};
 ghost use Rattle.call_attempts.specs.Calling.{CalledBy, WantedBy};
 
-use crate::attempting::attempt_one;
+use crate::at::At;
 use crate::letters::letter_of;
-use crate::tables::Tables;
 use call_errors::{CallSeat, give_up};
 use message_parts::CallFrame;
 use sock_io::Out;
@@ -30,48 +29,49 @@ pub enum Called {
     Begun(u64),
 }
 
-/// A call with its first attempt, which goes to its first name. Where memory is wanting before its id is made, nothing was done;
-/// behind that, the call ends by it.
-/// bRPC's `Channel::CallMethod`.
-pub fn call_one<O: Out, R: Wait>(
-    rt: &R,
-    tables: &Tables<O>,
-    seat: &mut SockSeat<O>,
-    calls: &mut CallSeat,
-    call: Call,
-) -> Result<Called, NoMemory>
-    requires may { MayAct tables.now.socks.rule.table.shared.table_id tables.now.socks.rule.plan seat.old }
-    requires room { HasRoom seat.old.me.0 }
-    requires ids { HasNoLock tables.now.ids.table.shared.table_id calls.old }
-    requires name { name_of call 0 < tables.now.socks.rule.plan.names }
-    requires operation { (call.operation < tables.now.socks.rule.plan.operations) × (call.operation < tables.now.ids.plan.operations) }
-    ensures rested { Rested tables.now.socks.rule.table.shared.table_id tables.now.socks.rule.plan tables.now.ids.table.shared.table_id seat.old seat.new calls.old calls.new }
-    ensures by { IfOk result (λ c. CalledBy O.state tables.now.socks.rule.plan tables.now.ids.plan call c (both seat.old.me.0 calls.old) (both seat.new.me.0 calls.new)) }
-    ensures wanted { IfErr result (λ _. WantedBy O.state tables.now.socks.rule.plan tables.now.ids.plan call (both seat.old.me.0 calls.old) (both seat.new.me.0 calls.new)) }
-    ensures own { (n : ℕ) → OwnList n seat.old.me.0 → OwnList (n + 1) seat.new.me.0 }
-{
-    let Some(socket) = tables.socks.find(seat, call.name(0)) else {
-        drop(call);
-        return Ok(Called::Unopened);
-    };
-    let operation = call.operation;
-    let range = call.range;
-    let kept = call.share()?;
-    let Ok(id) = tables.ids.create(&mut calls.seat, range, call) else {
+impl<O: Out, R: Wait> At<'_, O, R> {
+    /// A call with its first attempt, which goes to its first name. Where memory is wanting before its id is made, nothing was done;
+    /// behind that, the call ends by it.
+    /// bRPC's `Channel::CallMethod`.
+    pub fn call_one(
+        &self,
+        seat: &mut SockSeat<O>,
+        calls: &mut CallSeat,
+        call: Call,
+    ) -> Result<Called, NoMemory>
+        requires may { MayAct self.now.tables.now.socks.rule.table.shared.table_id self.now.tables.now.socks.rule.plan seat.old }
+        requires room { HasRoom seat.old.me.0 }
+        requires ids { HasNoLock self.now.tables.now.ids.table.shared.table_id calls.old }
+        requires name { name_of call 0 < self.now.tables.now.socks.rule.plan.names }
+        requires operation { (call.operation < self.now.tables.now.socks.rule.plan.operations) × (call.operation < self.now.tables.now.ids.plan.operations) }
+        ensures rested { Rested self.now.tables.now.socks.rule.table.shared.table_id self.now.tables.now.socks.rule.plan self.now.tables.now.ids.table.shared.table_id seat.old seat.new calls.old calls.new }
+        ensures by { IfOk result (λ c. CalledBy O.state self.now.tables.now.socks.rule.plan self.now.tables.now.ids.plan call c (both seat.old.me.0 calls.old) (both seat.new.me.0 calls.new)) }
+        ensures wanted { IfErr result (λ _. WantedBy O.state self.now.tables.now.socks.rule.plan self.now.tables.now.ids.plan call (both seat.old.me.0 calls.old) (both seat.new.me.0 calls.new)) }
+        ensures own { (n : ℕ) → OwnList n seat.old.me.0 → OwnList (n + 1) seat.new.me.0 }
+    {
+        let Some(socket) = self.tables.socks.find(seat, call.name(0)) else {
+            drop(call);
+            return Ok(Called::Unopened);
+        };
+        let operation = call.operation;
+        let range = call.range;
+        let kept = call.share()?;
+        let Ok(id) = self.tables.ids.create(&mut calls.seat, range, call) else {
+            drop(kept);
+            return Ok(Called::NoSlot);
+        };
+        let slots = self.tables.ids.plan.slots;
+        prove!(id / 4_294_967_296 < slots as u64);
+        self.tables.ids.note(&mut calls.seat, operation, id);
+        let Ok(frame) = CallFrame::new(calls.alloc, &mut calls.pool, &kept, id, 0) else {
+            calls.starved = true;
+            give_up(self.rt, &self.tables.ids, calls, id);
+            drop(kept);
+            return Err(NoMemory);
+        };
         drop(kept);
-        return Ok(Called::NoSlot);
-    };
-    let slots = tables.ids.plan.slots;
-    prove!(id / 4_294_967_296 < slots as u64);
-    tables.ids.note(&mut calls.seat, operation, id);
-    let Ok(frame) = CallFrame::new(calls.alloc, &mut calls.pool, &kept, id, 0) else {
-        calls.starved = true;
-        give_up(rt, &tables.ids, calls, id);
-        drop(kept);
-        return Err(NoMemory);
-    };
-    drop(kept);
-    let msg = letter_of(frame, operation, id, 0);
-    attempt_one(rt, tables, seat, calls, socket, msg);
-    Ok(Called::Begun(id))
+        let msg = letter_of(frame, operation, id, 0);
+        self.attempt(seat, calls, socket, msg);
+        Ok(Called::Begun(id))
+    }
 }

@@ -2,15 +2,15 @@
 //! table of sockets and one of the table of ids.
 #![tactic(auto)]
 
+mod at;
 mod attempting;
 mod calling;
 mod letters;
 mod retrying;
 mod tables;
 
-pub use attempting::attempt_one;
-pub use call_writes::send_calling;
-pub use calling::{Called, call_one};
+pub use at::At;
+pub use call_writes::On;
+pub use calling::Called;
 pub use letters::letter_of;
-pub use retrying::{retry_all, retry_one};
 pub use tables::Tables;

@@ -9,9 +9,8 @@ use Rattle.brpc_model.specs.Operations.{Turn}
 use Rattle.brpc_model.specs.Frame.{Frame}
 use Rattle.brpc_model.specs.Stream.{Ending, Rest, Fault, stream}
 use Rattle.id_rule.specs.Lawful.{id_index}
-use Rattle.seat_programs.specs.Asides.{Step, Found, UnlockId, TakeBytes, Taking, NoMore, AtEnd, Closed, Broken}
-use Rattle.seat_programs.specs.Heads.{Reads, Discards}
-use Rattle.seat_programs.specs.Programs.{Program, Aside, Round}
+use Rattle.seat_programs.specs.Asides.{Step, Found, UnlockId, Taking, NoMore, AtEnd, Closed, Broken}
+use Rattle.seat_programs.specs.Programs.{Program, Aside}
 use Rattle.seat_programs.specs.Readers.{LIMIT, has_response, slot_in, version_in, is_early}
 use Rattle.seat_programs.specs.Beside.{call_at, found_in, taking_in}
 use Rattle.id_runs.specs.Goes.{first_of}
@@ -20,15 +19,9 @@ use Rattle.seat_programs.specs.Runs.{from_to}
 use Rattle.seat_programs.specs.Ticks.{Moment, quiet, taken, ticked}
 use Rattle.seat_programs.specs.Tasks.{plan_of}
 use Rattle.seat_programs.specs.Scripts.{opened, ending, set_up, played, IsRunWithCalls}
+pub use Rattle.owed_calls.specs.Takes.{taken_link}
 
 -- ## Takes
-
--- the link of which the next step takes bytes, if it takes some
-abbrev pub taken_link : Program → List ℕ
-taken_link (Aside (TakeBytes k room) next) = k ∷ []
-taken_link (Round (Reads r) next) = r.link ∷ []
-taken_link (Round (Discards k total) next) = k ∷ []
-taken_link other = []
 
 -- a take of a link, and what it found
 pub record Take : Type 0 where

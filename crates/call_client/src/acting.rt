@@ -1,5 +1,5 @@
 // One operation of a client with calls.
-ghost use Rattle.std.specs.Prelude.{◌≡◌, ◌+◌, ◌<◌, ℕ, IfOk, IfErr, All, length, vec_capacity};
+ghost use Rattle.std.specs.Prelude.{◌≡◌, ◌+◌, ◌*◌, ◌<◌, ℕ, IfOk, IfErr, All, length, vec_capacity};
 ghost use Rattle.sock_table.specs.Passes.{IsPass};
 ghost use Rattle.sock_message.specs.Asked.{name_of};
 ghost use Rattle.corr_id.specs.Seats.{Stays};
@@ -12,7 +12,7 @@ ghost use Rattle.call_client.specs.Running.{NotCalled};
 ghost use Rattle.call_client.specs.Making.{NotMade};
 
 use crate::caller::Caller;
-use call_attempts::{Called, Tables, call_one, send_calling};
+use call_attempts::{At, Called, On, Tables};
 use call_errors::{expire_one, join_one};
 use message_parts::Parcel;
 use rpc_client::{drop_one, fail_one, hold_one, open_one};
@@ -63,57 +63,50 @@ fn send_letter(number: u16, message: Message) -> Letter
 /// A message is sent.
 fn send_message<O: Out, R: Wait>(
     caller: &mut Caller<O>,
-    rt: &R,
-    tables: &Tables<O>,
+    at: &At<O, R>,
     name: u16,
-    number: u16,
-    message: Message,
+    msg: Letter,
 ) -> Option<Outcome>
-    requires may { MayAct tables.now.socks.rule.table.shared.table_id tables.now.socks.rule.plan caller.old.seat }
+    requires may { MayAct at.now.tables.now.socks.rule.table.shared.table_id at.now.tables.now.socks.rule.plan caller.old.seat }
     requires own { OwnList caller.old.sent caller.old.seat.me.0 }
     requires room { caller.old.sent < 33554431 }
-    requires ids { HasNoLock tables.now.ids.table.shared.table_id caller.old.calls }
-    requires name { name < tables.now.socks.rule.plan.names }
-    requires number { number < tables.now.socks.rule.plan.operations }
-    ensures rested { Rested tables.now.socks.rule.table.shared.table_id tables.now.socks.rule.plan tables.now.ids.table.shared.table_id caller.old.seat caller.new.seat caller.old.calls caller.new.calls }
+    requires ids { HasNoLock at.now.tables.now.ids.table.shared.table_id caller.old.calls }
+    requires name { name < at.now.tables.now.socks.rule.plan.names }
+    requires label { msg.label.place < 8 * at.now.tables.now.socks.rule.plan.operations }
+    ensures rested { Rested at.now.tables.now.socks.rule.table.shared.table_id at.now.tables.now.socks.rule.plan at.now.tables.now.ids.table.shared.table_id caller.old.seat caller.new.seat caller.old.calls caller.new.calls }
     ensures own { OwnList caller.new.sent caller.new.seat.me.0 }
-    ensures by { SentCalling O.state tables.now.socks.rule.plan tables.now.ids.plan.slots name (letter_of number message) result caller.old.seat.me.0 (stand_of caller.old.calls) caller.new.seat.me.0 (stand_of caller.new.calls) }
+    ensures by { SentCalling O.state at.now.tables.now.socks.rule.plan at.now.tables.now.ids.plan.slots name msg result caller.old.seat.me.0 (stand_of caller.old.calls) caller.new.seat.me.0 (stand_of caller.new.calls) }
     ensures others { (caller.new.held ≡ caller.old.held) × (caller.new.passes ≡ caller.old.passes) × (caller.new.outcomes ≡ caller.old.outcomes) }
 {
-    let msg = send_letter(number, message);
     caller.sent += 1;
-    send_calling(
-        rt,
-        &tables.socks,
-        &tables.ids,
-        &mut caller.seat,
-        &mut caller.calls,
-        name,
-        msg,
-    )
+    let on = On {
+        rt: at.rt,
+        socks: &at.tables.socks,
+        ids: &at.tables.ids,
+    };
+    on.send(&mut caller.seat, &mut caller.calls, name, msg)
 }
 
 /// A call begins. Where it doesn't, for want of memory or of an id slot, it isn't made.
 fn begin_call<O: Out, R: Wait>(
     caller: &mut Caller<O>,
-    rt: &R,
-    tables: &Tables<O>,
+    at: &At<O, R>,
     call: Call,
 ) -> Result<Option<Outcome>, NoMemory>
-    requires may { MayAct tables.now.socks.rule.table.shared.table_id tables.now.socks.rule.plan caller.old.seat }
+    requires may { MayAct at.now.tables.now.socks.rule.table.shared.table_id at.now.tables.now.socks.rule.plan caller.old.seat }
     requires own { OwnList caller.old.sent caller.old.seat.me.0 }
     requires room { caller.old.sent < 33554431 }
-    requires ids { HasNoLock tables.now.ids.table.shared.table_id caller.old.calls }
-    requires name { name_of call 0 < tables.now.socks.rule.plan.names }
-    requires operation { (call.operation < tables.now.socks.rule.plan.operations) × (call.operation < tables.now.ids.plan.operations) }
-    ensures rested { Rested tables.now.socks.rule.table.shared.table_id tables.now.socks.rule.plan tables.now.ids.table.shared.table_id caller.old.seat caller.new.seat caller.old.calls caller.new.calls }
+    requires ids { HasNoLock at.now.tables.now.ids.table.shared.table_id caller.old.calls }
+    requires name { name_of call 0 < at.now.tables.now.socks.rule.plan.names }
+    requires operation { (call.operation < at.now.tables.now.socks.rule.plan.operations) × (call.operation < at.now.tables.now.ids.plan.operations) }
+    ensures rested { Rested at.now.tables.now.socks.rule.table.shared.table_id at.now.tables.now.socks.rule.plan at.now.tables.now.ids.table.shared.table_id caller.old.seat caller.new.seat caller.old.calls caller.new.calls }
     ensures own { OwnList caller.new.sent caller.new.seat.me.0 }
-    ensures called { IfOk result (λ o. (number : ℕ) → Acted O.state tables.now.socks.rule.plan tables.now.ids.plan number (Op.Call call) o (stand caller.old) (stand caller.new)) }
-    ensures not_called { IfErr result (λ _. NotCalled O.state tables.now.socks.rule.plan tables.now.ids.plan call (stand caller.old) (stand caller.new)) }
+    ensures called { IfOk result (λ o. (number : ℕ) → Acted O.state at.now.tables.now.socks.rule.plan at.now.tables.now.ids.plan number (Op.Call call) o (stand caller.old) (stand caller.new)) }
+    ensures not_called { IfErr result (λ _. NotCalled O.state at.now.tables.now.socks.rule.plan at.now.tables.now.ids.plan call (stand caller.old) (stand caller.new)) }
     ensures others { (caller.new.held ≡ caller.old.held) × (caller.new.passes ≡ caller.old.passes) × (caller.new.outcomes ≡ caller.old.outcomes) }
 {
     caller.sent += 1;
-    let called = call_one(rt, tables, &mut caller.seat, &mut caller.calls, call)?;
+    let called = at.call_one(&mut caller.seat, &mut caller.calls, call)?;
     match called {
         Called::Unopened => Ok(Some(Outcome::Unopened)),
         Called::NoSlot => Err(NoMemory),
@@ -125,21 +118,20 @@ fn begin_call<O: Out, R: Wait>(
 /// that has begun.
 pub fn act<O: Out, R: Wait>(
     caller: &mut Caller<O>,
-    rt: &R,
-    tables: &Tables<O>,
+    at: &At<O, R>,
     made: u16,
     number: u16,
     op: Op,
 ) -> Result<Option<Outcome>, NoMemory>
     requires made { made < 65535 }
-    requires go { MayGo tables.now.socks.rule.table.shared.table_id tables.now.socks.rule.plan tables.now.ids.table.shared.table_id made caller.old }
-    requires number { number < tables.now.socks.rule.plan.operations }
-    requires needs { Needs tables.now.socks.rule.plan tables.now.ids.plan number op (length caller.old.passes.items) }
+    requires go { MayGo at.now.tables.now.socks.rule.table.shared.table_id at.now.tables.now.socks.rule.plan at.now.tables.now.ids.table.shared.table_id made caller.old }
+    requires number { number < at.now.tables.now.socks.rule.plan.operations }
+    requires needs { Needs at.now.tables.now.socks.rule.plan at.now.tables.now.ids.plan number op (length caller.old.passes.items) }
     requires sent { caller.old.sent < 33554431 }
     requires room { length caller.old.held.items < vec_capacity caller.old.held }
-    ensures go { MayGo tables.now.socks.rule.table.shared.table_id tables.now.socks.rule.plan tables.now.ids.table.shared.table_id (made + 1) caller.new }
-    ensures acted { IfOk result (λ o. Acted O.state tables.now.socks.rule.plan tables.now.ids.plan number op o (stand caller.old) (stand caller.new)) }
-    ensures not_made { IfErr result (λ _. NotMade O.state tables.now.socks.rule.plan tables.now.ids.plan op (stand caller.old) (stand caller.new)) }
+    ensures go { MayGo at.now.tables.now.socks.rule.table.shared.table_id at.now.tables.now.socks.rule.plan at.now.tables.now.ids.table.shared.table_id (made + 1) caller.new }
+    ensures acted { IfOk result (λ o. Acted O.state at.now.tables.now.socks.rule.plan at.now.tables.now.ids.plan number op o (stand caller.old) (stand caller.new)) }
+    ensures not_made { IfErr result (λ _. NotMade O.state at.now.tables.now.socks.rule.plan at.now.tables.now.ids.plan op (stand caller.old) (stand caller.new)) }
     ensures seen { StaysSeen caller.old.seat.me.0 caller.new.seat.me.0 }
     ensures share { caller.new.seat.me.0.share ≡ caller.old.seat.me.0.share }
     ensures same { Stays caller.old.calls.seat caller.new.calls.seat }
@@ -149,33 +141,36 @@ pub fn act<O: Out, R: Wait>(
     match op {
         Op::Open(name, _) => {
             drop(op);
-            Ok(Some(open_next(caller, tables, name, number)))
+            Ok(Some(open_next(caller, at.tables, name, number)))
         }
-        Op::Send(name, message) => { Ok(send_message(caller, rt, tables, name, number, message)) }
-        Op::Call(call) => begin_call(caller, rt, tables, call),
+        Op::Send(name, message) => {
+            let msg = send_letter(number, message);
+            Ok(send_message(caller, at, name, msg))
+        }
+        Op::Call(call) => begin_call(caller, at, call),
         Op::Expire(of) => {
             drop(op);
-            let outcome = expire_one(rt, &tables.ids, &mut caller.calls, of);
+            let outcome = expire_one(at.rt, &at.tables.ids, &mut caller.calls, of);
             Ok(Some(outcome))
         }
         Op::Join(of) => {
             drop(op);
-            let outcome = join_one(rt, &tables.ids, &mut caller.calls, of);
+            let outcome = join_one(at.rt, &at.tables.ids, &mut caller.calls, of);
             Ok(Some(outcome))
         }
         Op::Hold(name) => {
             drop(op);
-            let outcome = hold_one(&tables.socks, &mut caller.seat, &mut caller.held, name);
+            let outcome = hold_one(&at.tables.socks, &mut caller.seat, &mut caller.held, name);
             Ok(Some(outcome))
         }
         Op::Drop(name) => {
             drop(op);
-            let outcome = drop_one(&tables.socks, &mut caller.seat, &mut caller.held, name);
+            let outcome = drop_one(&at.tables.socks, &mut caller.seat, &mut caller.held, name);
             Ok(Some(outcome))
         }
         Op::Fail(name, code) => {
             drop(op);
-            let outcome = fail_one(&tables.socks, &mut caller.seat, name, code);
+            let outcome = fail_one(&at.tables.socks, &mut caller.seat, name, code);
             Ok(Some(outcome))
         }
     }

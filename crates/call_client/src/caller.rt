@@ -12,7 +12,7 @@ ghost use Rattle.call_client.specs.Acting.{MayGo};
 ghost use Rattle.call_client.specs.Running.{MayMakeAll, RunBy};
 
 use crate::running::{leave_all, make_or_starve};
-use call_attempts::Tables;
+use call_attempts::{At, Tables};
 use call_errors::CallSeat;
 use corr_id::IdSeat;
 use rpc_client::{Held, Told, give_all};
@@ -35,16 +35,6 @@ pub struct Caller<O: Out> {
     pub outcomes: Vec<Told>,
     pub calls: CallSeat,
     pub sent: u32,
-}
-
-/// What a client leaves: its seats, the outcomes of its operations in their order, but of the calls that have begun, and those of
-/// the calls that it ended, which may be other clients'.
-#[derive(Drop)]
-pub struct Spent<O: Out> {
-    pub seat: SockSeat<O>,
-    pub ids: IdSeat<Call>,
-    pub outcomes: Vec<Told>,
-    pub ended: Vec<Told>,
 }
 
 impl<O: Out> Caller<O> {
@@ -95,37 +85,10 @@ impl<O: Out> Caller<O> {
         ensures fed { IfOk result (λ _. self.new.calls.starved ≡ false) }
         ensures ran { RunBy O.state tables.now.socks.rule.plan tables.now.ids.plan (is_err result) tasks.items self.old self.new }
     {
-        let made = make_or_starve(self, rt, tables, of, &mut tasks, gate);
+        let at = At { rt, tables };
+        let made = make_or_starve(self, &at, of, &mut tasks, gate);
         leave_all(self, tables, tasks);
         give_all(&tables.socks, &mut self.seat, &mut self.held);
         made
-    }
-
-    /// What it leaves.
-    pub fn spent(self) -> Spent<O>
-        ensures { (result.seat ≡ self.seat) × (result.ids ≡ self.calls.seat) × (result.outcomes ≡ self.outcomes) × (result.ended ≡ self.calls.told) }
-    {
-        let Caller {
-            seat,
-            passes: _,
-            held: _,
-            outcomes,
-            calls,
-            sent: _,
-        } = self;
-        let CallSeat {
-            seat: ids,
-            retries: _,
-            told,
-            starved: _,
-            pool: _,
-            alloc: _,
-        } = calls;
-        Spent {
-            seat,
-            ids,
-            outcomes,
-            ended: told,
-        }
     }
 }

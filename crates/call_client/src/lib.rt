@@ -7,5 +7,6 @@ mod caller;
 mod running;
 
 pub use call_attempts::Tables;
-pub use caller::{Caller, Spent};
+pub use call_errors::CallSeat;
+pub use caller::Caller;
 pub use rpc_client::Told;

@@ -13,7 +13,7 @@ ghost use Rattle.call_client.specs.Making.{NotMade, ComesTo, CameBy};
 
 use crate::acting::act;
 use crate::caller::Caller;
-use call_attempts::{Tables, retry_all};
+use call_attempts::{At, Tables};
 use call_errors::starve;
 use rpc_client::{Told, open_none};
 use seat_programs::{Op, Task};
@@ -36,28 +36,21 @@ fn is_full(sent: u32, last: bool) -> bool
 /// The retries that wait are made. Unless the client has made its last operation, there is room then for what the next one sends.
 fn be_ready<O: Out, R: Wait>(
     caller: &mut Caller<O>,
-    rt: &R,
-    tables: &Tables<O>,
+    at: &At<O, R>,
     made: u16,
     last: bool,
 ) -> Result<(), NoMemory>
-    requires go { MayGo tables.now.socks.rule.table.shared.table_id tables.now.socks.rule.plan tables.now.ids.table.shared.table_id made caller.old }
-    ensures go { MayGo tables.now.socks.rule.table.shared.table_id tables.now.socks.rule.plan tables.now.ids.table.shared.table_id made caller.new }
-    ensures retried { IfOk result (λ _. RetriedHere O.state tables.now.socks.rule.plan tables.now.ids.plan (stand caller.old) (stand caller.new)) }
+    requires go { MayGo at.now.tables.now.socks.rule.table.shared.table_id at.now.tables.now.socks.rule.plan at.now.tables.now.ids.table.shared.table_id made caller.old }
+    ensures go { MayGo at.now.tables.now.socks.rule.table.shared.table_id at.now.tables.now.socks.rule.plan at.now.tables.now.ids.table.shared.table_id made caller.new }
+    ensures retried { IfOk result (λ _. RetriedHere O.state at.now.tables.now.socks.rule.plan at.now.tables.now.ids.plan (stand caller.old) (stand caller.new)) }
     ensures room { IfOk result (λ _. last ≡ false → caller.new.sent < 33554431) }
-    ensures ran_out { IfErr result (λ _. RanOut O.state tables.now.socks.rule.plan tables.now.ids.plan caller.new.sent (both_of (stand caller.old)) (both_of (stand caller.new))) }
+    ensures ran_out { IfErr result (λ _. RanOut O.state at.now.tables.now.socks.rule.plan at.now.tables.now.ids.plan caller.new.sent (both_of (stand caller.old)) (both_of (stand caller.new))) }
     ensures seen { StaysSeen caller.old.seat.me.0 caller.new.seat.me.0 }
     ensures share { caller.new.seat.me.0.share ≡ caller.old.seat.me.0.share }
     ensures same { Stays caller.old.calls.seat caller.new.calls.seat }
     ensures others { (caller.new.held ≡ caller.old.held) × (caller.new.passes ≡ caller.old.passes) × (caller.new.outcomes ≡ caller.old.outcomes) }
 {
-    retry_all(
-        rt,
-        tables,
-        &mut caller.seat,
-        &mut caller.calls,
-        &mut caller.sent,
-    )?;
+    at.retry_all(&mut caller.seat, &mut caller.calls, &mut caller.sent)?;
     if is_full(caller.sent, last) {
         caller.calls.starved = true;
         return Err(NoMemory);
@@ -68,26 +61,25 @@ fn be_ready<O: Out, R: Wait>(
 /// An operation is made, and what becomes of it is told.
 fn make<O: Out, R: Wait>(
     caller: &mut Caller<O>,
-    rt: &R,
-    tables: &Tables<O>,
+    at: &At<O, R>,
     made: u16,
     task: Task,
 ) -> Result<(), NoMemory>
     requires made { made < 65535 }
-    requires go { MayGo tables.now.socks.rule.table.shared.table_id tables.now.socks.rule.plan tables.now.ids.table.shared.table_id made caller.old }
-    requires may { MayMake tables.now.socks.rule.plan tables.now.ids.plan task (length caller.old.passes.items) }
+    requires go { MayGo at.now.tables.now.socks.rule.table.shared.table_id at.now.tables.now.socks.rule.plan at.now.tables.now.ids.table.shared.table_id made caller.old }
+    requires may { MayMake at.now.tables.now.socks.rule.plan at.now.tables.now.ids.plan task (length caller.old.passes.items) }
     requires sent { caller.old.sent < 33554431 }
     requires room { (length caller.old.held.items < vec_capacity caller.old.held) × (length caller.old.outcomes.items < vec_capacity caller.old.outcomes) }
-    ensures go { MayGo tables.now.socks.rule.table.shared.table_id tables.now.socks.rule.plan tables.now.ids.table.shared.table_id (made + 1) caller.new }
-    ensures made { IfOk result (λ _. (by : Option AnOutcome) × Acted O.state tables.now.socks.rule.plan tables.now.ids.plan task.number task.op by (stand caller.old) (stand caller.new) × (caller.new.outcomes.items ≡ caller.old.outcomes.items ++ telling task.number by)) }
-    ensures not_made { IfErr result (λ _. NotMade O.state tables.now.socks.rule.plan tables.now.ids.plan task.op (stand caller.old) (stand caller.new) × (caller.new.outcomes ≡ caller.old.outcomes)) }
+    ensures go { MayGo at.now.tables.now.socks.rule.table.shared.table_id at.now.tables.now.socks.rule.plan at.now.tables.now.ids.table.shared.table_id (made + 1) caller.new }
+    ensures made { IfOk result (λ _. (by : Option AnOutcome) × Acted O.state at.now.tables.now.socks.rule.plan at.now.tables.now.ids.plan task.number task.op by (stand caller.old) (stand caller.new) × (caller.new.outcomes.items ≡ caller.old.outcomes.items ++ telling task.number by)) }
+    ensures not_made { IfErr result (λ _. NotMade O.state at.now.tables.now.socks.rule.plan at.now.tables.now.ids.plan task.op (stand caller.old) (stand caller.new) × (caller.new.outcomes ≡ caller.old.outcomes)) }
     ensures seen { StaysSeen caller.old.seat.me.0 caller.new.seat.me.0 }
     ensures share { caller.new.seat.me.0.share ≡ caller.old.seat.me.0.share }
     ensures same { Stays caller.old.calls.seat caller.new.calls.seat }
     ensures capacity { (vec_capacity caller.new.held ≡ vec_capacity caller.old.held) × (vec_capacity caller.new.outcomes ≡ vec_capacity caller.old.outcomes) }
 {
     let Task { number, op } = task;
-    let told = act(caller, rt, tables, made, number, op)?;
+    let told = act(caller, at, made, number, op)?;
     if let Some(outcome) = told {
         caller.outcomes.push_reserved(Told { number, outcome });
     }
@@ -117,33 +109,32 @@ fn next_of(tasks: &mut VecDeque<Task>) -> Task
 /// last; until memory is wanting.
 fn make_all<O: Out, R: Wait, G: Gate>(
     caller: &mut Caller<O>,
-    rt: &R,
-    tables: &Tables<O>,
+    at: &At<O, R>,
     of: u16,
     tasks: &mut VecDeque<Task>,
     gate: &G,
 ) -> Result<(), NoMemory>
     requires few { length tasks.old.items ≤ 65535 }
-    requires go { MayGo tables.now.socks.rule.table.shared.table_id tables.now.socks.rule.plan tables.now.ids.table.shared.table_id 0 caller.old }
-    requires may { MayMakeAll tables.now.socks.rule.plan tables.now.ids.plan tasks.old.items (length caller.old.passes.items) }
+    requires go { MayGo at.now.tables.now.socks.rule.table.shared.table_id at.now.tables.now.socks.rule.plan at.now.tables.now.ids.table.shared.table_id 0 caller.old }
+    requires may { MayMakeAll at.now.tables.now.socks.rule.plan at.now.tables.now.ids.plan tasks.old.items (length caller.old.passes.items) }
     requires room { (length tasks.old.items ≤ vec_capacity caller.old.held) × (length caller.old.outcomes.items + length tasks.old.items ≤ vec_capacity caller.old.outcomes) }
-    ensures go { MayGo tables.now.socks.rule.table.shared.table_id tables.now.socks.rule.plan tables.now.ids.table.shared.table_id (length tasks.old.items) caller.new }
-    ensures all { IfOk result (λ _. CameBy O.state tables.now.socks.rule.plan tables.now.ids.plan (ComesTo O.state tables.now.socks.rule.plan tables.now.ids.plan false tasks.old.items) tasks.old.items tasks.new.items caller.old caller.new) }
-    ensures short { IfErr result (λ _. CameBy O.state tables.now.socks.rule.plan tables.now.ids.plan (ComesTo O.state tables.now.socks.rule.plan tables.now.ids.plan true tasks.old.items) tasks.old.items tasks.new.items caller.old caller.new) }
-    ensures left { MayMakeAll tables.now.socks.rule.plan tables.now.ids.plan tasks.new.items (length caller.new.passes.items) }
+    ensures go { MayGo at.now.tables.now.socks.rule.table.shared.table_id at.now.tables.now.socks.rule.plan at.now.tables.now.ids.table.shared.table_id (length tasks.old.items) caller.new }
+    ensures all { IfOk result (λ _. CameBy O.state at.now.tables.now.socks.rule.plan at.now.tables.now.ids.plan (ComesTo O.state at.now.tables.now.socks.rule.plan at.now.tables.now.ids.plan false tasks.old.items) tasks.old.items tasks.new.items caller.old caller.new) }
+    ensures short { IfErr result (λ _. CameBy O.state at.now.tables.now.socks.rule.plan at.now.tables.now.ids.plan (ComesTo O.state at.now.tables.now.socks.rule.plan at.now.tables.now.ids.plan true tasks.old.items) tasks.old.items tasks.new.items caller.old caller.new) }
+    ensures left { MayMakeAll at.now.tables.now.socks.rule.plan at.now.tables.now.ids.plan tasks.new.items (length caller.new.passes.items) }
     ensures share { caller.new.seat.me.0.share ≡ caller.old.seat.me.0.share }
     ensures same { Stays caller.old.calls.seat caller.new.calls.seat }
 {
     let mut made = 0u16;
     'makes: loop {
         let last = is_done(tasks);
-        be_ready(caller, rt, tables, made, last)?;
+        be_ready(caller, at, made, last)?;
         if last {
             return Ok(());
         }
         let task = next_of(tasks);
-        gate.pass(rt, of, made + 1);
-        make(caller, rt, tables, made, task)?;
+        gate.pass(at.rt, of, made + 1);
+        make(caller, at, made, task)?;
         made += 1;
     }
 }
@@ -162,24 +153,23 @@ fn make_room<O: Out>(caller: &mut Caller<O>, count: usize) -> Result<(), NoMemor
 /// There is room for what the operations tell and hold, and they are made, until memory is wanting.
 fn make_some<O: Out, R: Wait, G: Gate>(
     caller: &mut Caller<O>,
-    rt: &R,
-    tables: &Tables<O>,
+    at: &At<O, R>,
     of: u16,
     tasks: &mut VecDeque<Task>,
     gate: &G,
 ) -> Result<(), NoMemory>
     requires few { length tasks.old.items ≤ 65535 }
-    requires go { MayGo tables.now.socks.rule.table.shared.table_id tables.now.socks.rule.plan tables.now.ids.table.shared.table_id 0 caller.old }
-    requires may { MayMakeAll tables.now.socks.rule.plan tables.now.ids.plan tasks.old.items (length caller.old.passes.items) }
-    ensures go { MayGo tables.now.socks.rule.table.shared.table_id tables.now.socks.rule.plan tables.now.ids.table.shared.table_id (length tasks.old.items) caller.new }
-    ensures all { IfOk result (λ _. CameBy O.state tables.now.socks.rule.plan tables.now.ids.plan (ComesTo O.state tables.now.socks.rule.plan tables.now.ids.plan false tasks.old.items) tasks.old.items tasks.new.items caller.old caller.new) }
-    ensures short { IfErr result (λ _. CameBy O.state tables.now.socks.rule.plan tables.now.ids.plan (ComesTo O.state tables.now.socks.rule.plan tables.now.ids.plan true tasks.old.items) tasks.old.items tasks.new.items caller.old caller.new) }
-    ensures left { MayMakeAll tables.now.socks.rule.plan tables.now.ids.plan tasks.new.items (length caller.new.passes.items) }
+    requires go { MayGo at.now.tables.now.socks.rule.table.shared.table_id at.now.tables.now.socks.rule.plan at.now.tables.now.ids.table.shared.table_id 0 caller.old }
+    requires may { MayMakeAll at.now.tables.now.socks.rule.plan at.now.tables.now.ids.plan tasks.old.items (length caller.old.passes.items) }
+    ensures go { MayGo at.now.tables.now.socks.rule.table.shared.table_id at.now.tables.now.socks.rule.plan at.now.tables.now.ids.table.shared.table_id (length tasks.old.items) caller.new }
+    ensures all { IfOk result (λ _. CameBy O.state at.now.tables.now.socks.rule.plan at.now.tables.now.ids.plan (ComesTo O.state at.now.tables.now.socks.rule.plan at.now.tables.now.ids.plan false tasks.old.items) tasks.old.items tasks.new.items caller.old caller.new) }
+    ensures short { IfErr result (λ _. CameBy O.state at.now.tables.now.socks.rule.plan at.now.tables.now.ids.plan (ComesTo O.state at.now.tables.now.socks.rule.plan at.now.tables.now.ids.plan true tasks.old.items) tasks.old.items tasks.new.items caller.old caller.new) }
+    ensures left { MayMakeAll at.now.tables.now.socks.rule.plan at.now.tables.now.ids.plan tasks.new.items (length caller.new.passes.items) }
     ensures share { caller.new.seat.me.0.share ≡ caller.old.seat.me.0.share }
     ensures same { Stays caller.old.calls.seat caller.new.calls.seat }
 {
     match make_room(caller, tasks.len()) {
-        Ok(()) => make_all(caller, rt, tables, of, tasks, gate),
+        Ok(()) => make_all(caller, at, of, tasks, gate),
         Err(e) => {
             caller.calls.starved = true;
             Err(e)
@@ -190,27 +180,26 @@ fn make_some<O: Out, R: Wait, G: Gate>(
 /// The operations are made, until memory is wanting: then each call whose retry waits ends by that.
 pub fn make_or_starve<O: Out, R: Wait, G: Gate>(
     caller: &mut Caller<O>,
-    rt: &R,
-    tables: &Tables<O>,
+    at: &At<O, R>,
     of: u16,
     tasks: &mut VecDeque<Task>,
     gate: &G,
 ) -> Result<(), NoMemory>
     requires few { length tasks.old.items ≤ 65535 }
-    requires go { MayGo tables.now.socks.rule.table.shared.table_id tables.now.socks.rule.plan tables.now.ids.table.shared.table_id 0 caller.old }
-    requires may { MayMakeAll tables.now.socks.rule.plan tables.now.ids.plan tasks.old.items (length caller.old.passes.items) }
-    ensures go { MayGo tables.now.socks.rule.table.shared.table_id tables.now.socks.rule.plan tables.now.ids.table.shared.table_id (length tasks.old.items) caller.new }
-    ensures came { CameBy O.state tables.now.socks.rule.plan tables.now.ids.plan (EndsBy O.state tables.now.socks.rule.plan tables.now.ids.plan (is_err result) tasks.old.items) tasks.old.items tasks.new.items caller.old caller.new }
-    ensures left { MayMakeAll tables.now.socks.rule.plan tables.now.ids.plan tasks.new.items (length caller.new.passes.items) }
+    requires go { MayGo at.now.tables.now.socks.rule.table.shared.table_id at.now.tables.now.socks.rule.plan at.now.tables.now.ids.table.shared.table_id 0 caller.old }
+    requires may { MayMakeAll at.now.tables.now.socks.rule.plan at.now.tables.now.ids.plan tasks.old.items (length caller.old.passes.items) }
+    ensures go { MayGo at.now.tables.now.socks.rule.table.shared.table_id at.now.tables.now.socks.rule.plan at.now.tables.now.ids.table.shared.table_id (length tasks.old.items) caller.new }
+    ensures came { CameBy O.state at.now.tables.now.socks.rule.plan at.now.tables.now.ids.plan (EndsBy O.state at.now.tables.now.socks.rule.plan at.now.tables.now.ids.plan (is_err result) tasks.old.items) tasks.old.items tasks.new.items caller.old caller.new }
+    ensures left { MayMakeAll at.now.tables.now.socks.rule.plan at.now.tables.now.ids.plan tasks.new.items (length caller.new.passes.items) }
     ensures share { caller.new.seat.me.0.share ≡ caller.old.seat.me.0.share }
     ensures same { Stays caller.old.calls.seat caller.new.calls.seat }
     ensures retries { caller.new.calls.retries.items ≡ [] }
     ensures fed { IfOk result (λ _. caller.new.calls.starved ≡ false) }
 {
-    match make_some(caller, rt, tables, of, tasks, gate) {
+    match make_some(caller, at, of, tasks, gate) {
         Ok(()) => Ok(()),
         Err(e) => {
-            starve(rt, &tables.ids, &mut caller.calls);
+            starve(at.rt, &at.tables.ids, &mut caller.calls);
             Err(e)
         }
     }

@@ -116,7 +116,7 @@ if_not : (b : Bool) (x : ℕ) → b ≡ false → cond b x 0 ≡ 0
 if_not true x e = let k : true ≡ false = e in cc
 if_not false x e = refl
 
-abbrev SameId : ℕ → ℕ → ℕ → ℕ → Type 0
+abbrev pub SameId : ℕ → ℕ → ℕ → ℕ → Type 0
 SameId i f j g = only (i * 4294967296 + f) (j * 4294967296 + g) ≡ cond (eqb j i) (only f g) 0
 
 -- in one slot
@@ -125,7 +125,7 @@ same_first i f g = dite (ℕ_discrete g f)
     (λ d. only-at (i * 4294967296 + f) (i * 4294967296 + g) (ap (λ (n : ℕ). i * 4294967296 + n) d) ∙ sym (if_so (eqb i i) (only f g) (eq-eqb i i refl) ∙ only-at f g d))
     (λ n. only-else (i * 4294967296 + f) (i * 4294967296 + g) (λ q. n (omega (arith, q))) ∙ sym (if_so (eqb i i) (only f g) (eq-eqb i i refl) ∙ only-else f g n))
 
-same_id : (i f j g : ℕ) → f < 4294967296 → g < 4294967296 → SameId i f j g
+pub same_id : (i f j g : ℕ) → f < 4294967296 → g < 4294967296 → SameId i f j g
 same_id i f j g fl gl = dite (ℕ_discrete j i)
     (λ e. subst (λ (y : ℕ). SameId i f y g) (sym e) (same_first i f g))
     (λ n. only-else (i * 4294967296 + f) (j * 4294967296 + g) (λ q. n (omega (arith, q, fl, gl))) ∙ sym (if_not (eqb j i) (only f g) (ne_eqb j i n)))

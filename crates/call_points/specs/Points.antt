@@ -16,11 +16,9 @@ use Rattle.call_points.specs.declared.deciding.DecideNext.{DecideNext}
 use Rattle.call_points.specs.declared.deciding.DecideNext.TheVariants as nexts
 use Rattle.call_points.specs.declared.ending.EndStep.{EndStep}
 use Rattle.call_points.specs.declared.ending.EndStep.TheVariants as ends
-use Rattle.call_points.specs.declared.posting.PostStep.{PostStep}
-use Rattle.call_points.specs.declared.posting.PostStep.TheVariants as posts
+use Rattle.call_points.specs.declared.word_step.WordStep.{WordStep}
+use Rattle.call_points.specs.declared.word_step.WordStep.TheVariants as id_steps
 use Rattle.call_points.specs.declared.locking.Locker.{Locker}
-use Rattle.call_points.specs.declared.locking.LockStep.{LockStep}
-use Rattle.call_points.specs.declared.locking.LockStep.TheVariants as locks
 
 -- ## The end of a range
 
@@ -35,15 +33,15 @@ end_on i k (Some step) = end_program i k step
 
 -- ## Posts
 
-abbrev pub post_program : OnCall → (Posting → Program) → PostStep → Program
-post_program c k posts.Load = post_with (id_of c.id) c.error.0 k
-post_program c k (posts.Exchange from) = Round (Posts (id_of c.id) c.error.0 from.0) k
+abbrev pub post_program : OnCall → (Posting → Program) → WordStep → Program
+post_program c k id_steps.Read = post_with (id_of c.id) c.error.0 k
+post_program c k (id_steps.Exchange from) = Round (Posts (id_of c.id) c.error.0 from.0) k
 
 -- ## Locks
 
-abbrev pub lock_program : Locker → (Locking → Program) → LockStep → Program
-lock_program l k locks.Read = Round (Locks l.slot (sought_as l.sought) None) k
-lock_program l k (locks.Exchange from) = Round (Locks l.slot (sought_as l.sought) (Some from.0)) k
+abbrev pub lock_program : Locker → (Locking → Program) → WordStep → Program
+lock_program l k id_steps.Read = Round (Locks l.slot (sought_as l.sought) None) k
+lock_program l k (id_steps.Exchange from) = Round (Locks l.slot (sought_as l.sought) (Some from.0)) k
 
 -- ## Decisions
 
@@ -71,8 +69,8 @@ MayStand (decides.Unlock from advance n) = IsTrue advance → (parts from.0).att
 MayStand other = Unit {0}
 
 -- a lock is tried from an open word alone
-abbrev pub IsOpen : LockStep → Type 0
-IsOpen (locks.Exchange from) = (parts from.0).state ≡ 1
+abbrev pub IsOpen : WordStep → Type 0
+IsOpen (id_steps.Exchange from) = (parts from.0).state ≡ 1
 IsOpen other = Unit {0}
 
 -- the step finds a word

@@ -71,7 +71,7 @@ impl OnCall {
         requires word { GoesByWord step }
         ensures { (asked : Asked) (k : Deciding → Program) → asked.operation ≡ operation → decide_on asked k self result ≡ after_word (decide_program self asked k step) found }
     {
-        let found = IdWord::from_word(found);
+        let found = IdWord(found);
         match step {
             DecideStep::Take(word) => DecideNext::Step(self.with_call(word)),
             DecideStep::Judge(word) if ends_call(word, self.error) => {

@@ -34,7 +34,7 @@ impl EndStep {
         ensures { (slot : ℕ) (k : Program) → end_on slot k result ≡ after_word (end_program slot k self) found }
     {
         match self {
-            EndStep::End if is_reused(IdWord::from_word(found)) => Some(EndStep::Free),
+            EndStep::End if is_reused(IdWord(found)) => Some(EndStep::Free),
             EndStep::End | EndStep::Free => None,
         }
     }

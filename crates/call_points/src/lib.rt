@@ -7,9 +7,10 @@ pub mod deciding;
 pub mod ending;
 pub mod locking;
 pub mod posting;
+pub mod word_step;
 
 pub use aside::Aside;
 pub use deciding::{DecideNext, DecideStep, OnCall};
 pub use ending::EndStep;
-pub use locking::{LockStep, Locker};
-pub use posting::PostStep;
+pub use locking::Locker;
+pub use word_step::WordStep;

@@ -8,46 +8,38 @@ ghost use Rattle.call_points.specs.Steps.{step_of, aside_in, after_word};
 ghost use Rattle.call_points.specs.Points.{lock_program, IsOpen};
 
 use crate::aside::Aside;
+use crate::word_step::WordStep;
 use id_points::{LockTurn, Sought, lock_behind, lock_by};
 use sock_words::IdWord;
 
 /// Whoever is on the way to a lock: the id slot, and what is sought there.
+/// bRPC's `bthread_id_lock` (bthread_id.md).
 #[derive(Clone, Copy)]
 pub struct Locker {
     pub slot: u16,
     pub sought: Sought,
 }
 
-/// Where the way to a lock stands.
-/// bRPC's `bthread_id_lock` (bthread_id.md).
-#[derive(Clone, Copy)]
-pub enum LockStep {
-    /// The id's word is read.
-    Read,
-    /// The exchange from this open word is tried.
-    Exchange(IdWord),
-}
-
 impl Locker {
     /// The next step on the way.
-    pub fn step(self, step: LockStep) -> Aside
+    pub fn step(self, step: WordStep) -> Aside
         ensures { (asked : Asked) (k : Locking → Program) → Some (step_of asked result) ≡ aside_in (lock_program self k step) }
     {
         match step {
-            LockStep::Read => Aside::LoadIdWord(self.slot),
-            LockStep::Exchange(from) => Aside::LockId(self.slot, from),
+            WordStep::Read => Aside::LoadIdWord(self.slot),
+            WordStep::Exchange(from) => Aside::LockId(self.slot, from),
         }
     }
 
     /// How it goes on behind its step, which found this word.
-    pub fn next(self, step: LockStep, found: u64) -> LockTurn
+    pub fn next(self, step: WordStep, found: u64) -> LockTurn
         requires { IsOpen step }
         ensures { (k : Locking → Program) → lock_on self.slot (sought_as self.sought) k result ≡ after_word (lock_program self k step) found }
     {
-        let found = IdWord::from_word(found);
+        let found = IdWord(found);
         match step {
-            LockStep::Read => lock_by(self.sought, found),
-            LockStep::Exchange(from) => lock_behind(self.sought, from, found),
+            WordStep::Read => lock_by(self.sought, found),
+            WordStep::Exchange(from) => lock_behind(self.sought, from, found),
         }
     }
 }

@@ -9,39 +9,31 @@ ghost use Rattle.call_points.specs.Points.{post_program};
 
 use crate::aside::Aside;
 use crate::deciding::OnCall;
+use crate::word_step::WordStep;
 use id_points::{PostTurn, judge, post_behind};
 use sock_words::IdWord;
 
-/// Where the post of an error stands.
-/// bRPC's `bthread_id_error` (bthread_id.md).
-#[derive(Clone, Copy)]
-pub enum PostStep {
-    /// The id's word is read.
-    Load,
-    /// The exchange from this word is tried.
-    Exchange(IdWord),
-}
-
 impl OnCall {
     /// The next step of a post.
-    pub fn post_step(self, step: PostStep) -> Aside
+    /// bRPC's `bthread_id_error` (bthread_id.md).
+    pub fn post_step(self, step: WordStep) -> Aside
         ensures { (asked : Asked) (k : Posting → Program) → Some (step_of asked result) ≡ aside_in (post_program self k step) }
     {
         let slot = self.id.slot();
         match step {
-            PostStep::Load => Aside::LoadIdWord(slot),
-            PostStep::Exchange(from) => Aside::PostId(slot, from, self.error),
+            WordStep::Read => Aside::LoadIdWord(slot),
+            WordStep::Exchange(from) => Aside::PostId(slot, from, self.error),
         }
     }
 
     /// How a post goes on behind its step, which found this word.
-    pub fn post_next(self, step: PostStep, found: u64) -> PostTurn
+    pub fn post_next(self, step: WordStep, found: u64) -> PostTurn
         ensures { (k : Posting → Program) → post_on (id_of self.id) self.error.0 k result ≡ after_word (post_program self k step) found }
     {
-        let found = IdWord::from_word(found);
+        let found = IdWord(found);
         match step {
-            PostStep::Load => judge(self.id, self.error, found),
-            PostStep::Exchange(from) => post_behind(self.id, self.error, from, found),
+            WordStep::Read => judge(self.id, self.error, found),
+            WordStep::Exchange(from) => post_behind(self.id, self.error, from, found),
         }
     }
 }

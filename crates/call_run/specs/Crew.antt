@@ -67,7 +67,7 @@ AreLeft y = Each (λ s. IsOpen y s × (s.me.1 ≡ []))
 
 -- ## Those that run
 
--- the openings of the setup, and room for their names and for what so many clients and the setup leave
+-- the openings of the setup, and room for their names, for what so many clients and the setup leave, and for the one seat that takes in all others
 pub record IsKit {O : Type 0} {g : Ghosts O} (setup : List Task) (clients : ℕ) (k : Kit O g) : Type 0 where
   pub openings_are : k.openings.items ≡ openings setup
   pub names : IsRoom (length (openings setup)) k.names

@@ -3,7 +3,7 @@ ghost use Rattle.std.specs.Prelude.{◌≡◌, ◌∷◌, ◌||◌, [], IfOk, le
 ghost use Rattle.call_run.specs.Crew.{IsRoomFor, HasMore, HandedIn};
 
 use crate::worker::Worker;
-use call_client::{Spent, Told};
+use call_client::{CallSeat, Caller, Told};
 use corr_id::IdSeat;
 use sock_io::Out;
 use sock_message::Call;
@@ -52,16 +52,26 @@ pub fn hand_in<O: Out>(worker: Worker<O>, left: &mut Left<O>)
         tasks: _,
         short,
     } = worker;
-    let Spent {
+    let Caller {
         seat,
-        ids,
+        passes: _,
+        held: _,
         outcomes,
-        ended,
-    } = caller.spent();
+        calls,
+        sent: _,
+    } = caller;
+    let CallSeat {
+        seat: ids,
+        retries: _,
+        told,
+        starved: _,
+        pool: _,
+        alloc: _,
+    } = calls;
     left.seats.push_reserved(seat);
     left.ids.push_reserved(ids);
     left.told.push_reserved(outcomes);
-    left.ended.push_reserved(ended);
+    left.ended.push_reserved(told);
     left.short = either(left.short, short);
 }
 

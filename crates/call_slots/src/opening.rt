@@ -11,7 +11,7 @@ fn push_slot(words: &mut Vec<u64>) -> Result<(), AllocError>
     ensures { OnOk result (words.new.items ≡ words.old.items ++ opening_ids 1) }
 {
     let free = IdWord::pack(1, IdWord::FREE, 1, 0, 0, 0);
-    words.extend_from_slice(&[0, free.word()])
+    words.extend_from_slice(&[0, free.0])
 }
 
 /// Appends those of so many slots.

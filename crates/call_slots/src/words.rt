@@ -42,7 +42,7 @@ fn made(found: u64, range: u8) -> u64
     requires { (1 ≤ range) × (range ≤ 8) }
     ensures { result ≡ packed (made_word (parts found).first range) }
 {
-    let first = IdWord::from_word(found).first();
+    let first = IdWord(found).first();
     make_id(found, IdWord::pack(first, IdWord::OPEN, range, 0, 0, 0)).next
 }
 
@@ -82,8 +82,8 @@ fn posted(found: u64, from: IdWord, error: u16) -> u64
 {
     if from.state() == IdWord::OPEN {
         locked(found, from)
-    } else if found == from.word() {
-        queued(from, error).word()
+    } else if found == from.0 {
+        queued(from, error).0
     } else {
         found
     }
@@ -103,7 +103,7 @@ fn ended(found: u64) -> u64
     requires { (parts found).first + (parts found).range < 67108864 }
     ensures { result ≡ packed (free_word ((parts found).first + (parts found).range)) }
 {
-    let word = IdWord::from_word(found);
+    let word = IdWord(found);
     let next = word.first() + u32::from(word.range());
     destroy_id(found, IdWord::pack(next, IdWord::FREE, 1, 0, 0, 0)).next
 }
@@ -117,7 +117,7 @@ fn next_word(step: Aside, found: u64) -> u64
         Aside::ClaimId(_) => claim_id(found).next,
         Aside::MakeId(_, range) => made(found, range),
         Aside::StoreCall(_, id) => id.number(),
-        Aside::StoreAt(_, word) => word.word(),
+        Aside::StoreAt(_, word) => word.0,
         Aside::LockId(_, from) => locked(found, from),
         Aside::PostId(_, from, error) => posted(found, from, error.bits()),
         Aside::UnlockId(_, from, advance) => unlocked(found, from, advance),

@@ -1,18 +1,16 @@
 -- Counts of what is told of calls that ended, beside what seats noted of them.
-use Rattle.std.proofs.Common.{◌≡◌, ℕ, ◌+◌, ◌*◌, ◌<◌, Bool, true, false, cond, eqb, eq-eqb, ne_eqb, List, [], ◌∷◌, ◌++◌, map, refl, ◌∙◌, ap, sym, subst, arith}
+use Rattle.std.proofs.Common.{◌≡◌, ℕ, ◌+◌, ◌*◌, ◌<◌, true, false, cond, eqb, List, [], ◌∷◌, ◌++◌, map, refl, ◌∙◌, ap, sym, arith}
 use Rattle.std.specs.List.{AllByRecursion, flat_map}
-use mathlib.Core.Logic.{dite}
-use native.Mathlib.Decide.{ℕ_discrete}
 use Rattle.corr_core.specs.Law.{total, only, is_ended}
 use Rattle.corr_core.specs.declared.marks.Note.TheVariants.{Ended}
 use Rattle.corr_core.specs.declared.marks.Noted.{Noted}
 use Rattle.corr_core.specs.declared.marks.View.{View}
-use Rattle.corr_core.proofs.Notes.{only-at, only-else}
 use Rattle.id_rule.specs.Lawful.{notes_of}
 use Rattle.sock_message.specs.Asked.{Asked}
 use Rattle.corr_id.specs.Calls.{one}
 use Rattle.corr_id.proofs.Seats.{total_append, notes_append}
 use Rattle.call_deeds.specs.Below.rpc_client.specs.declared.acting.Told.{Told}
+use Rattle.call_deeds.specs.Below.call_errors.proofs.Accounts.{same_id}
 use Rattle.call_told.specs.Once.{ends_of, told_ends}
 
 -- how often it was noted that the range of this slot with this first version ended
@@ -62,28 +60,6 @@ balanced_all [] (v ∷ vs) a slot first low = absurd a
 balanced_all (t ∷ ts) [] a slot first low = absurd a
 
 -- ## One end
-
-if_so : (b : Bool) (x : ℕ) → b ≡ true → cond b x 0 ≡ x
-if_so true x e = refl
-if_so false x e = let k : false ≡ true = e in cc
-
-if_not : (b : Bool) (x : ℕ) → b ≡ false → cond b x 0 ≡ 0
-if_not true x e = let k : true ≡ false = e in cc
-if_not false x e = refl
-
--- the ids are the same where the slots and the first versions are
-abbrev SameId : ℕ → ℕ → ℕ → ℕ → Type 0
-SameId i f j g = only (i * 4294967296 + f) (j * 4294967296 + g) ≡ cond (eqb j i) (only f g) 0
-
-same_first : (i f g : ℕ) → SameId i f i g
-same_first i f g = dite (ℕ_discrete g f)
-    (λ d. only-at (i * 4294967296 + f) (i * 4294967296 + g) (ap (λ (n : ℕ). i * 4294967296 + n) d) ∙ sym (if_so (eqb i i) (only f g) (eq-eqb i i refl) ∙ only-at f g d))
-    (λ n. only-else (i * 4294967296 + f) (i * 4294967296 + g) (λ q. n (omega (arith, q))) ∙ sym (if_so (eqb i i) (only f g) (eq-eqb i i refl) ∙ only-else f g n))
-
-same_id : (i f j g : ℕ) → f < 4294967296 → g < 4294967296 → SameId i f j g
-same_id i f j g fl gl = dite (ℕ_discrete j i)
-    (λ e. subst (λ (y : ℕ). SameId i f y g) (sym e) (same_first i f g))
-    (λ n. only-else (i * 4294967296 + f) (j * 4294967296 + g) (λ q. n (omega (arith, q, fl, gl))) ∙ sym (if_not (eqb j i) (only f g) (ne_eqb j i n)))
 
 pub noted_one : (slot first at of_ n : ℕ) → noted_ends slot first (one at (Ended of_ n)) ≡ cond (eqb at slot) (only first of_) 0
 noted_one slot first at of_ n = elim (eqb at slot) as (λ b. total (is_ended {C = Asked} first) (cond b (Ended of_ n ∷ []) []) ≡ cond b (only first of_) 0) [ true ↦ omega arith | false ↦ refl ]

@@ -28,7 +28,7 @@ use Rattle.call_deeds.specs.Below.rpc_reader.specs.Met.{has_response, slot_in, v
 use Rattle.call_deeds.specs.Below.rpc_reader.specs.Posting.{LostBy, LockLost, PostedTo, MetKept, PostedIf, PostedAt, PostedAll, call_at, attempt_at}
 use Rattle.call_deeds.specs.Below.rpc_reader.specs.Resting.{HadEnded, EndedLast, OneEnded, RestEnded}
 use Rattle.call_deeds.specs.Below.rpc_reader.proofs.Frames.{asked_responds}
-use Rattle.call_told.specs.Answers.{IsGiven, AreGiven, IsGivenResponse, Tells}
+use Rattle.call_told.specs.Answers.{IsGiven, AreGiven, IsGivenResponse, TellsEach}
 use Rattle.call_told.proofs.Lists.{all_both, all_but, all_at, all_then, elem_or}
 use Rattle.call_told.proofs.Given.{given_response, for_is}
 
@@ -43,7 +43,7 @@ module _ (p : Plan) (links : ℕ) (gave : ℕ → List ℕ) (Later : View Asked 
   -- from these books to those, whatever was kept before
   pub record Step (b b' : Books) : Type 0 where
     pub later : Later b.view b'.view
-    pub tells : GivenAll b.early → Tells links gave Is b b'
+    pub tells : GivenAll b.early → TellsEach links gave Is b b'
 
   -- the seat locked the id in this slot, and its call ended so
   pub record Ends (b b' : Books) (slot : ℕ) (w : Parts) (call : Asked) (by : Outcome) : Type 0 where
@@ -90,7 +90,7 @@ module _ (p : Plan) (links : ℕ) (gave : ℕ → List ℕ) (Later : View Asked 
     step_ended : (b b' : Books) (slot : ℕ) (w : Parts) (call : Asked) (by : Outcome) → Ends b b' slot w call by → (GivenAll b.early → Is b'.view (end_of call by) × GivenAll b'.early) → Step b b'
     step_ended b b' slot w call by e f = record { later = laws.ended slot w.first w.attempt b.view b'.view e.ended.ended; tells = λ given. (let h = f given in tells h.0 h.1 e.ended.told) }
       where
-        tells : Is b'.view (end_of call by) → GivenAll b'.early → ToldBy call.operation by b.told b.starved b'.told b'.starved → Tells links gave Is b b'
+        tells : Is b'.view (end_of call by) → GivenAll b'.early → ToldBy call.operation by b.told b.starved b'.told b'.starved → TellsEach links gave Is b b'
         tells is early (inl t) = record { more = end_of call by ∷ []; told = t.0; each = (is, tt); early = early }
         tells is early (inr t) = record { more = []; told = t.0 ∙ sym (append-nil b.told); each = tt; early = early }
 

@@ -76,7 +76,7 @@ module _ (links : ℕ) (gave : ℕ → List ℕ) where
     by_response : (f : Frame) → IsGivenResponse links gave slot w f → by ≡ ending_of (id_of slot w) f → EndedBy slot w by
 
 -- what was told behind those before, of which this is known, and what is kept then
-pub record Tells (links : ℕ) (gave : ℕ → List ℕ) (Is : View Asked → Told → Type 0) (b b' : Books) : Type 0 where
+pub record TellsEach (links : ℕ) (gave : ℕ → List ℕ) (Is : View Asked → Told → Type 0) (b b' : Books) : Type 0 where
   pub more : List Told
   pub told : b'.told ≡ b.told ++ more
   pub each : AllByRecursion (Is b'.view) more
@@ -95,7 +95,7 @@ module _ (slots links : ℕ) (gave : ℕ → List ℕ) where
     pub by : EndedBy links gave slot word x.outcome
 
   abbrev pub TellsFrom : Books → Books → Type 0
-  TellsFrom b b' = Tells links gave ToldFrom b b'
+  TellsFrom b b' = TellsEach links gave ToldFrom b b'
 
 -- ## What clients tell
 

@@ -1,5 +1,7 @@
 -- A message that was sent with calls, as one of sockets alone.
-use Rattle.std.proofs.Common.{ℕ, Option, Some, None, refl, inr}
+use Rattle.std.proofs.Common.{ℕ, Option, Some, None, refl, inr, ◌∙◌}
+use Rattle.atomic_table.specs.Seated.{TableId}
+use Rattle.atomic_table.specs.declared.shared.Seat.{Seat}
 use Rattle.sock_io.specs.Link.{OutState}
 use Rattle.sock_words.specs.declared.plain.Plan.{Plan}
 use Rattle.sock_words.specs.declared.outcome.Outcome.{Outcome}
@@ -9,9 +11,13 @@ use Rattle.sock_rule.specs.declared.homes.Letter.{Letter}
 use Rattle.sock_table.specs.declared.refs.SockRef.{SockRef}
 use Rattle.call_errors.specs.rpc_client.specs.declared.reaching.Reached.TheVariants.{Here}
 use Rattle.call_errors.specs.rpc_client.specs.Reaching.{ReachedBy}
+use Rattle.call_errors.specs.rpc_client.specs.Seats.{Idle, AtRest, StaysSeen, OneMore}
 use Rattle.call_errors.specs.rpc_client.specs.Sending.{DeliveredBy}
-use Rattle.call_errors.specs.Books.{CallStand}
-use Rattle.call_writes.specs.Sending.{DeliveredCalling, SentCalling}
+use Rattle.call_errors.specs.rpc_client.proofs.Finding.{seen_then}
+use Rattle.call_errors.specs.rpc_client.proofs.Delivering.{delivered_refs, delivered_share, delivered_seen}
+use Rattle.call_errors.specs.declared.seats.CallSeat.{CallSeat}
+use Rattle.call_errors.specs.Books.{CallStand, stand_of, KeepsSeat}
+use Rattle.call_writes.specs.Sending.{DeliveredCalling, SentCalling, Rested}
 use Rattle.call_writes.proofs.Drains.{drained_all}
 
 module _ {O : Type 0} (state : O → OutState) (p : Plan) (slots : ℕ) (sock : SockRef) (msg : Letter) where
@@ -32,3 +38,12 @@ module _ {O : Type 0} (state : O → OutState) (p : Plan) (slots : ℕ) (sock : 
   sent_calling n (Some (outcome.Gone found)) u v w s t r d = inr record { sock = sock; has = v; reached_it = r; delivered = d }
   sent_calling n (Some outcome.Full) u v w s t r d = record { sock = sock; has = v; reached_it = r; delivered = d }
   sent_calling n (Some _) u v w s t r d = elim d [ ]
+
+  -- what was sent to a life that was reached by a name leaves the seat at rest
+  pub rested_sent : {S : Type 0} (z y : TableId) (o : Option Outcome) (a b c : Seat S View) (k l : CallSeat) → AtRest z p a b → OneMore sock.id.0 a.me.0 b.me.0 → StaysSeen a.me.0 b.me.0 → Idle z p c → DeliveredCalling state p slots sock msg o b.me.0 (stand_of k) c.me.0 (stand_of l) → KeepsSeat y k l → Rested z p y a c k l
+  rested_sent z y o a b c k l rest more seen idle d keeps = let by = plainly o b.me.0 c.me.0 (stand_of k) (stand_of l) d in record {
+    rest = record { idle = idle; share = delivered_share state p sock msg o b.me.0 c.me.0 by ∙ rest.share };
+    refs = delivered_refs state p sock msg o a.me.0 b.me.0 c.me.0 more by;
+    seen = seen_then a.me.0 b.me.0 c.me.0 seen (delivered_seen state p sock msg o b.me.0 c.me.0 by);
+    keeps = keeps;
+  }

@@ -1,18 +1,19 @@
 // A link is written until its head is empty, and calls are told what was dropped.
 ghost use Rattle.std.specs.Prelude.{◌≡◌, ◌≤◌};
 ghost use Rattle.sock_rule.specs.Seated.{IsSeat};
-ghost use Rattle.write_chain.specs.Writing.{MayBegin, MayGoOn, GaveUp};
+ghost use Rattle.write_chain.specs.Writing.{MayGoOn, GaveUp};
 ghost use Rattle.call_errors.specs.Books.{stand_of, HasNoLock, KeepsSeat};
 ghost use Rattle.call_writes.specs.Draining.{ToldDrop, Drained};
 
+use crate::on::On;
 use call_errors::{CallSeat, post_error};
 use corr_id::IdTable;
 use sock_io::Out;
 use sock_message::Call;
 use sock_rule::SockSeat;
-use sock_table::{SockRef, SockTable};
+use sock_table::SockRef;
 use std::sync::Wait;
-use write_chain::{Kept, Once, Undelivered, WriteRight, keep_write, write_once};
+use write_chain::{Kept, Undelivered, WriteRight, keep_write};
 
 /// A message was dropped with this code: the code is posted to its call, for the attempt whose frame it was. Nobody is told of a
 /// send.
@@ -34,61 +35,36 @@ fn tell_dropped<R: Wait>(
     post_error(rt, ids, calls, msg.owner, code, Some(msg.label.attempt));
 }
 
-/// Writes until the head is empty. The call of each message that is dropped is told at once.
-fn drain<O: Out, R: Wait>(
-    rt: &R,
-    table: &SockTable<O>,
-    ids: &IdTable<Call>,
-    seat: &mut SockSeat<O>,
-    calls: &mut CallSeat,
-    mut right: WriteRight<O>,
-) -> SockRef
-    requires seat { IsSeat table.now.rule.table.shared.table_id table.now.rule.plan seat.old }
-    requires may { MayGoOn table.now.rule.plan table.now.rule.ways.list right seat.old.me }
-    requires ids { HasNoLock ids.now.table.shared.table_id calls.old }
-    ensures seat { IsSeat table.now.rule.table.shared.table_id table.now.rule.plan seat.new }
-    ensures gave { (result ≡ right.sock) × GaveUp table.now.rule.plan right.sock.id.0 seat.new.me }
-    ensures keeps { KeepsSeat ids.now.table.shared.table_id calls.old calls.new }
-    ensures drained { Drained O.state table.now.rule.plan ids.now.plan.slots right.sock.id.0 seat.old.me.0 (stand_of calls.old) seat.new.me.0 (stand_of calls.new) }
-{
-    'drops: for _ in rt.forever() {
-        match keep_write(table, rt, seat, right) {
-            Kept::Done(sock) => return sock,
-            Kept::Dropped {
-                right: next,
-                msg,
-                code,
-            } => {
-                tell_dropped(rt, ids, calls, &msg, code);
-                drop(msg);
-                right = next;
+impl<O: Out, R: Wait> On<'_, O, R> {
+    /// Writes until the head is empty. The call of each message that is dropped is told at once.
+    pub fn drain(
+        &self,
+        seat: &mut SockSeat<O>,
+        calls: &mut CallSeat,
+        mut right: WriteRight<O>,
+    ) -> SockRef
+        requires seat { IsSeat self.now.socks.now.rule.table.shared.table_id self.now.socks.now.rule.plan seat.old }
+        requires may { MayGoOn self.now.socks.now.rule.plan self.now.socks.now.rule.ways.list right seat.old.me }
+        requires ids { HasNoLock self.now.ids.now.table.shared.table_id calls.old }
+        ensures seat { IsSeat self.now.socks.now.rule.table.shared.table_id self.now.socks.now.rule.plan seat.new }
+        ensures gave { (result ≡ right.sock) × GaveUp self.now.socks.now.rule.plan right.sock.id.0 seat.new.me }
+        ensures keeps { KeepsSeat self.now.ids.now.table.shared.table_id calls.old calls.new }
+        ensures drained { Drained O.state self.now.socks.now.rule.plan self.now.ids.now.plan.slots right.sock.id.0 seat.old.me.0 (stand_of calls.old) seat.new.me.0 (stand_of calls.new) }
+    {
+        'drops: for _ in self.rt.forever() {
+            match keep_write(self.socks, self.rt, seat, right) {
+                Kept::Done(sock) => return sock,
+                Kept::Dropped {
+                    right: next,
+                    msg,
+                    code,
+                } => {
+                    tell_dropped(self.rt, self.ids, calls, &msg, code);
+                    drop(msg);
+                    right = next;
+                }
             }
         }
-    }
-    unreachable!()
-}
-
-/// Whoever has the right writes until the head is empty. The code of each message of a call that is dropped is posted to the
-/// call, as soon as the message was dropped.
-/// bRPC's `Socket::StartWrite` and `KeepWrite` behind the exchange, with `ReleaseAllFailedWriteRequests` (socket.cpp).
-pub fn write_through<O: Out, R: Wait>(
-    rt: &R,
-    table: &SockTable<O>,
-    ids: &IdTable<Call>,
-    seat: &mut SockSeat<O>,
-    calls: &mut CallSeat,
-    right: WriteRight<O>,
-) -> SockRef
-    requires seat { IsSeat table.now.rule.table.shared.table_id table.now.rule.plan seat.old }
-    requires may { MayBegin table.now.rule.plan right seat.old.me }
-    requires ids { HasNoLock ids.now.table.shared.table_id calls.old }
-    ensures seat { IsSeat table.now.rule.table.shared.table_id table.now.rule.plan seat.new }
-    ensures gave { (result ≡ right.sock) × GaveUp table.now.rule.plan right.sock.id.0 seat.new.me }
-    ensures keeps { KeepsSeat ids.now.table.shared.table_id calls.old calls.new }
-    ensures drained { Drained O.state table.now.rule.plan ids.now.plan.slots right.sock.id.0 seat.old.me.0 (stand_of calls.old) seat.new.me.0 (stand_of calls.new) }
-{
-    match write_once(table, seat, right) {
-        Once::Done(sock) => sock,
-        Once::Keep(right) => drain(rt, table, ids, seat, calls, right),
+        unreachable!()
     }
 }

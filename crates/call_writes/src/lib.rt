@@ -2,7 +2,7 @@
 #![tactic(auto)]
 
 mod draining;
+mod on;
 mod sending;
 
-pub use draining::write_through;
-pub use sending::{see_through_calling, send_calling};
+pub use on::On;

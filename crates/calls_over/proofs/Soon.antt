@@ -45,7 +45,7 @@ use Rattle.served_fits.specs.Below.call_causes.proofs.Handled.{IsResp}
 use Rattle.served_fits.specs.served_runs.specs.Offered.{OffersInRun}
 use Rattle.served_fits.specs.served_runs.proofs.Frames.{IsPiece, reply_is}
 use Rattle.served_fits.specs.served_calls.proofs.Frames.{SaysReply, piece_has, reply_to, reply_says}
-use Rattle.calls_over.specs.Open.{before, open_word, open_id, OpenCall}
+use Rattle.calls_over.specs.Open.{before, slot_word, slot_id, OpenCall}
 use Rattle.calls_over.proofs.Given.{gave_before}
 use Rattle.calls_over.proofs.Handled.{in_soon}
 use Rattle.calls_over.proofs.SoonPieces.{IsLow}
@@ -107,10 +107,10 @@ module _ (bytes : List ℕ) (script : List Item) (reads : script_of bytes ≡ Ok
 
   module _ (i : ℕ) (o : OpenCall script turns core is i) where
     abbrev word : Parts
-    word = open_word script turns core is i
+    word = slot_word script turns core is i
 
     abbrev id : ℕ
-    id = open_id script turns core is i
+    id = slot_id script turns core is i
 
     abbrev g : Frame
     g = reply_to o.asked (id + word.attempt + 1)

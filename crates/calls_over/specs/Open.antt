@@ -23,19 +23,19 @@ module _ (script : List Item) (turns : List Turn) (core : Core) (is : IsRunWithC
   before = played script is.setup (is.scheduled ++ is.later)
 
   -- the word of id slot i there, and its id
-  abbrev pub open_word : ℕ → Parts
-  open_word i = id_word_of before i
+  abbrev pub slot_word : ℕ → Parts
+  slot_word i = id_word_of before i
 
-  abbrev pub open_id : ℕ → ℕ
-  open_id i = call_id i (open_word i).first
+  abbrev pub slot_id : ℕ → ℕ
+  slot_id i = call_id i (slot_word i).first
 
   -- id slot i is open there
   pub record OpenCall (i : ℕ) : Type 0 where
     -- its versions fit
     pub inside : i < (id_plan_of script).slots
-    pub open_ : (open_word i).state ≡ 1
-    pub versions : (open_word i).attempt + 2 ≤ (open_word i).range
-    pub small : (open_word i).first + 8 ≤ 67108864
+    pub open_ : (slot_word i).state ≡ 1
+    pub versions : (slot_word i).attempt + 2 ≤ (slot_word i).range
+    pub small : (slot_word i).first + 8 ≤ 67108864
     -- the call
     pub asked : Asked
     -- the link of the attempt, which has the server
@@ -49,7 +49,7 @@ module _ (script : List Item) (turns : List Turn) (core : Core) (is : IsRunWithC
     -- what it took by then, the call's request among it
     pub took : List ℕ
     pub took_so : TookSoFar (plan_of script) before link took
-    pub request : Has (stream took).frames (request_of asked (open_id i) (open_word i).attempt)
+    pub request : Has (stream took).frames (request_of asked (slot_id i) (slot_word i).attempt)
     -- its reader waits for bytes
     pub seat : SeatState
     pub seat_there : get_elem? before.seats (32 + link) ≡ some seat

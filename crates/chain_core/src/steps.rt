@@ -46,7 +46,7 @@ pub fn swap_head(found: u64, own: Ticket) -> Step
 {
     Step {
         found,
-        next: own.word(),
+        next: own.0,
         won: true,
     }
 }
@@ -59,7 +59,7 @@ pub fn connect(found: u64, before: Ticket) -> Step
 {
     Step {
         found,
-        next: before.word(),
+        next: before.0,
         won: true,
     }
 }
@@ -74,7 +74,7 @@ pub fn empty_head(found: u64, last: Ticket) -> Step
     ensures keeps_won { found ≡ last.0 → (i : ℕ) → KeepsRule (MayTry i last.0) (λ p. head_index i) found result.next (λ p v m. without_right v m.mine.right.link) }
     ensures keeps_lost { found ≢ last.0 → (i : ℕ) → KeepsRule (MayTry i last.0) (λ p. head_index i) found result.next (λ p v m. with_right v (walking_right m.mine.right found)) }
 {
-    Step::exchanged(found, last.word(), found | IDLE)
+    Step::exchanged(found, last.0, found | IDLE)
 }
 
 /// C5, load of a next word. Who wrote the message of a request that isn't the last goes on to the ticket found. Who

@@ -8,7 +8,7 @@ ghost use Rattle.call_client.specs.Running.{MayMakeAll};
 
 use crate::sockets::ONE;
 use call_attempts::Tables;
-use call_client::{Caller, Spent};
+use call_client::Caller;
 use corr_id::{IdSeat, IdTable};
 use rpc_client::Told;
 use seat_programs::{Op, Task};
@@ -154,24 +154,24 @@ fn tasks_of(alloc: Global, call: Call) -> Option<VecDeque<Task>>
     }
 }
 
-/// What a client of these seats leaves that makes them.
-fn spent_by<R: Wait>(
+/// A client of these seats that has made them.
+fn ran_by<R: Wait>(
     rt: &R,
     tables: &Tables<Half>,
     mut caller: Caller<Half>,
     tasks: VecDeque<Task>,
-) -> Option<Spent<Half>>
+) -> Option<Caller<Half>>
     requires few { length tasks.items ≤ 65535 }
     requires go { MayGo tables.now.socks.rule.table.shared.table_id tables.now.socks.rule.plan tables.now.ids.table.shared.table_id 0 caller }
     requires may { MayMakeAll tables.now.socks.rule.plan tables.now.ids.plan tasks.items (length caller.passes.items) }
     requires fed { caller.calls.starved ≡ false }
 {
     caller.run(rt, tables, 1, tasks, &OpenGate).ok()?;
-    Some(caller.spent())
+    Some(caller)
 }
 
-/// What such a client leaves, alone on its tables.
-fn all_spent<R: Wait>(rt: &R, alloc: Global, range: u8) -> Option<Spent<Half>>
+/// Such a client, alone on its tables.
+fn all_ran<R: Wait>(rt: &R, alloc: Global, range: u8) -> Option<Caller<Half>>
     requires { (2 ≤ range) × (range ≤ 8) }
 {
     let Made {
@@ -184,7 +184,7 @@ fn all_spent<R: Wait>(rt: &R, alloc: Global, range: u8) -> Option<Spent<Half>>
     let caller = caller_of(alloc, &tables, seats, id_seats, passes)?;
     let call = call_of(alloc, range)?;
     let tasks = tasks_of(alloc, call)?;
-    spent_by(rt, &tables, caller, tasks)
+    ran_by(rt, &tables, caller, tasks)
 }
 
 /// Whether this is the end of operation 2 by an error of its socket.
@@ -197,18 +197,18 @@ fn is_failed(told: &Told) -> bool {
 
 #[test]
 fn a_call_is_tried_again(rt: HostRuntime) {
-    let Some(left) = all_spent(&rt, rt.alloc(), 3) else {
+    let Some(left) = all_ran(&rt, rt.alloc(), 3) else {
         panic!(&rt; "no memory");
     };
-    assert!(&rt; left.outcomes.len() == 2 && left.ended.is_empty());
+    assert!(&rt; left.outcomes.len() == 2 && left.calls.told.is_empty());
 }
 
 #[test]
 fn a_call_of_one_attempt_ends_with_its_drop(rt: HostRuntime) {
-    let Some(left) = all_spent(&rt, rt.alloc(), 2) else {
+    let Some(left) = all_ran(&rt, rt.alloc(), 2) else {
         panic!(&rt; "no memory");
     };
-    assert!(&rt; left.outcomes.len() == 2 && left.ended.len() == 1);
-    let failed = left.ended.first().is_some_and(is_failed);
+    assert!(&rt; left.outcomes.len() == 2 && left.calls.told.len() == 1);
+    let failed = left.calls.told.first().is_some_and(is_failed);
     assert!(&rt; failed);
 }

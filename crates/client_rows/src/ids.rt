@@ -109,7 +109,7 @@ fn two_errors_are_kept(rt: HostRuntime) {
     let Err(IdGone { found }) = past else {
         panic!(&rt; "locked again");
     };
-    assert!(&rt; IdWord::from_word(found).first() == 3);
+    assert!(&rt; IdWord(found).first() == 3);
     assert!(&rt; matches!(table.create(&mut seat, 2, 7), Ok(3)));
 }
 
@@ -120,7 +120,7 @@ fn some_id(table: &Table, seat: &mut Seat) -> u64
 {
     match table.create(seat, 2, 7) {
         Ok(id) => id,
-        Err(_) => u64::from(IdWord::from_word(table.word(seat, 0)).first()),
+        Err(_) => u64::from(IdWord(table.word(seat, 0)).first()),
     }
 }
 
@@ -164,7 +164,7 @@ fn ended_in(table: &Table, seat: &mut Seat, version: u64) -> u32
     requires { Sits table.now.table.shared.table_id seat.old }
     ensures { Sits table.now.table.shared.table_id seat.new }
 {
-    IdWord::from_word(table.word(seat, version)).first() / 2
+    IdWord(table.word(seat, version)).first() / 2
 }
 
 // Eight threads end ids of two slots; each id is ended by one of them.

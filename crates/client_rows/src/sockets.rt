@@ -217,6 +217,20 @@ fn fail_and_renew(table: &Table, seat: Seat, id: SocketId, pass: Pass) -> Renewe
     }
 }
 
+/// Three seats of the table.
+fn three_of(table: &Table, seats: &mut Vec<Seat>) -> Option<(Seat, Seat, Seat)>
+    requires { AreNewSeats table.now.rule.table.shared.table_id table.now.rule.plan seats.old.items }
+    ensures first { IfSome result (λ r. IsDoneSeat table.now.rule.table.shared.table_id table.now.rule.plan r.0) }
+    ensures second { IfSome result (λ r. IsDoneSeat table.now.rule.table.shared.table_id table.now.rule.plan r.1) }
+    ensures third { IfSome result (λ r. IsDoneSeat table.now.rule.table.shared.table_id table.now.rule.plan r.2) }
+    ensures share { IfSome result (λ r. (r.0.me.0.share ≡ 1) × (r.1.me.0.share ≡ 1) × (r.2.me.0.share ≡ 1)) }
+{
+    let first = one_of(table, seats)?;
+    let second = one_of(table, seats)?;
+    let third = one_of(table, seats)?;
+    Some((first, second, third))
+}
+
 /// The three seats in a list.
 fn three(alloc: Global, table: &Table, one: Seat, two: Seat, other: Seat) -> Option<Vec<Seat>>
     requires one { IsDoneSeat table.now.rule.table.shared.table_id table.now.rule.plan one }
@@ -237,14 +251,8 @@ fn an_id_reaches_only_its_life(rt: HostRuntime) {
     let Some((table, mut seats, first, second)) = begin(alloc, 3) else {
         panic!(&rt; "no memory");
     };
-    let Some(mut main) = one_of(&table, &mut seats) else {
-        panic!(&rt; "no seat");
-    };
-    let Some(mut one) = one_of(&table, &mut seats) else {
-        panic!(&rt; "no seat");
-    };
-    let Some(mut two) = one_of(&table, &mut seats) else {
-        panic!(&rt; "no seat");
+    let Some((main, mut one, mut two)) = three_of(&table, &mut seats) else {
+        panic!(&rt; "no seats");
     };
     let (mut main, made) = renew(&table, main, first);
     let Some(id) = made else {

@@ -10,8 +10,7 @@ use Rattle.seat_states.specs.declared.point.ReleaseStep.TheVariants as releases
 use Rattle.seat_states.specs.declared.point.SendStep.TheVariants as sends
 use Rattle.seat_states.specs.declared.point.WriteStep.TheVariants as writes
 use Rattle.call_points.specs.declared.deciding.DecideStep.TheVariants as decides
-use Rattle.call_points.specs.declared.posting.PostStep.TheVariants as posts
-use Rattle.call_points.specs.declared.locking.LockStep.TheVariants as locks
+use Rattle.call_points.specs.declared.word_step.WordStep.TheVariants as id_steps
 use Rattle.seat_states.specs.declared.point.Author.{Author}
 use Rattle.seat_states.specs.declared.point.Author.TheVariants as authors
 use Rattle.seat_states.specs.declared.point.CallStep.TheVariants as begins
@@ -43,9 +42,9 @@ begun a (points.Send s sends.Look) = look_begun a s.author s.id.0
 begun a (points.Write w writes.PutHome) = refl
 begun a (points.Call begins.LoadName) = refl
 begun a (points.Attempt t socket attempts.AddRef) = refl
-begun a (points.Post c after posts.Load) = refl
+begun a (points.Post c after id_steps.Read) = refl
 begun a (points.Decide c after (decides.Take w)) = refl
-begun a (points.Retry r (retries.Lock locks.Read)) = refl
+begun a (points.Retry r (retries.Lock id_steps.Read)) = refl
 begun a (points.Join o (joins.Wait id)) = refl
 begun a _ = refl
 

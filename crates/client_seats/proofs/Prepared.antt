@@ -10,7 +10,7 @@ use Rattle.id_points.specs.declared.call_id.AttemptNumber.{AttemptNumber}
 use Rattle.id_points.specs.Ids.{id_of, number_of}
 use Rattle.call_points.specs.Steps.{after_call}
 use Rattle.call_points.specs.declared.deciding.DecideStep.TheVariants as decides
-use Rattle.call_points.specs.declared.locking.LockStep.TheVariants as locks
+use Rattle.call_points.specs.declared.word_step.WordStep.TheVariants as id_steps
 use Rattle.seat_states.specs.declared.point.AfterStep.{AfterStep}
 use Rattle.seat_states.specs.declared.point.AfterStep.TheVariants as afters
 use Rattle.seat_states.specs.declared.point.CallStep.TheVariants as begins
@@ -21,7 +21,7 @@ use Rattle.seat_states.specs.declared.point.Next.{Next}
 use Rattle.seat_states.specs.declared.point.Point.{Point}
 use Rattle.seat_states.specs.declared.point.Point.TheVariants as points
 use Rattle.seat_states.specs.Points.{Context, point_program, next_program, after_program, taken_with, IsNextName, TakesCall, HasInHand, HasRetry, IsFramed}
-use Rattle.client_seats.specs.Seats.{SeatData, around, asked_of, seat_program}
+use Rattle.client_seats.specs.Seats.{SeatData, around, asked_or_nothing, seat_program}
 use Rattle.client_seats.specs.Following.{IsFramedAs, IsPrepared, IsWithFrame}
 
 -- what follows where there was memory
@@ -47,15 +47,15 @@ prepared_call sizes old new id socket n at none f = subst (λ (x : SeatData). Is
     with_frame' : SeatData
     with_frame' = framed_in (id_of id) n f.asked old
 
-    asked : asked_of old.call ≡ f.asked
-    asked = ap asked_of f.call
+    asked : asked_or_nothing old.call ≡ f.asked
+    asked = ap asked_or_nothing f.call
 
     first : 0 ≡ n
     first = sym none
 
 -- a retry has the frame of its attempt in hand
 pub prepared_retry : (sizes : Sizes) (old mid new : SeatData) (r r' : Retrying) (step : RetryStep) → old.point ≡ points.Retry r step → IsFramedAs old mid (id_of r.attempt.id) (number_of r.attempt.number) →
-    r'.attempt.id ≡ r.attempt.id → r'.attempt.number ≡ r.attempt.number → r'.attempt.operation ≡ (asked_of mid.call).operation → r'.name ≡ name_of (asked_of mid.call) (number_of r.attempt.number) → new ≡ record mid { point = points.Retry r' step } → IsPrepared sizes old new
+    r'.attempt.id ≡ r.attempt.id → r'.attempt.number ≡ r.attempt.number → r'.attempt.operation ≡ (asked_or_nothing mid.call).operation → r'.name ≡ name_of (asked_or_nothing mid.call) (number_of r.attempt.number) → new ≡ record mid { point = points.Retry r' step } → IsPrepared sizes old new
 prepared_retry sizes old mid new r r' step at f ids numbers operation name is = subst (λ (x : SeatData). IsPrepared sizes old x) (sym (is ∙ ap (λ (x : SeatData). record x { point = points.Retry r' step }) f.is)) (record {
   program = same step ∙ ap (point_program (around sizes old)) (sym at);
   waiting = refl;
@@ -68,17 +68,17 @@ prepared_retry sizes old mid new r r' step at f ids numbers operation name is = 
     seat : SeatData
     seat = record (framed_in (id_of r.attempt.id) (number_of r.attempt.number) f.asked old) { point = points.Retry r' step }
 
-    asked : asked_of old.call ≡ f.asked
-    asked = ap asked_of f.call
+    asked : asked_or_nothing old.call ≡ f.asked
+    asked = ap asked_or_nothing f.call
 
-    own : asked_of mid.call ≡ asked_of old.call
-    own = ap (λ (x : SeatData). asked_of x.call) f.is
+    own : asked_or_nothing mid.call ≡ asked_or_nothing old.call
+    own = ap (λ (x : SeatData). asked_or_nothing x.call) f.is
 
     same : (s : RetryStep) → point_program (around sizes seat) (points.Retry r' s) ≡ point_program (around sizes old) (points.Retry r s)
     same (retries.PutCall w) = ap₂ (λ (i : CallId) (n : AttemptNumber). point_program (around sizes old) (points.Retry (record { attempt = record { operation = 0; id = i; number = n }; name = 0 }) (retries.PutCall w))) ids numbers
     same (retries.Unlock w advance) = ap₂ (λ (i : CallId) (n : AttemptNumber). point_program (around sizes old) (points.Retry (record { attempt = record { operation = 0; id = i; number = n }; name = 0 }) (retries.Unlock w advance))) ids numbers
-    same (retries.Lock locks.Read) = ap₂ (λ (i : CallId) (n : AttemptNumber). point_program (around sizes old) (points.Retry (record { attempt = record { operation = 0; id = i; number = n }; name = 0 }) (retries.Lock locks.Read))) ids numbers
-    same (retries.Lock (locks.Exchange from)) = ap₂ (λ (i : CallId) (n : AttemptNumber). point_program (around sizes old) (points.Retry (record { attempt = record { operation = 0; id = i; number = n }; name = 0 }) (retries.Lock (locks.Exchange from)))) ids numbers
+    same (retries.Lock id_steps.Read) = ap₂ (λ (i : CallId) (n : AttemptNumber). point_program (around sizes old) (points.Retry (record { attempt = record { operation = 0; id = i; number = n }; name = 0 }) (retries.Lock id_steps.Read))) ids numbers
+    same (retries.Lock (id_steps.Exchange from)) = ap₂ (λ (i : CallId) (n : AttemptNumber). point_program (around sizes old) (points.Retry (record { attempt = record { operation = 0; id = i; number = n }; name = 0 }) (retries.Lock (id_steps.Exchange from)))) ids numbers
     same (retries.TakeCall w) = ap₂ (λ (i : CallId) (n : AttemptNumber). point_program (around sizes old) (points.Retry (record { attempt = record { operation = 0; id = i; number = n }; name = 0 }) (retries.TakeCall w))) ids numbers
     same retries.LoadName = ap₂ (λ (i : CallId) (n : AttemptNumber). point_program (around sizes old) (points.Retry (record { attempt = record { operation = 0; id = i; number = n }; name = 0 }) retries.LoadName)) ids numbers
 
@@ -89,7 +89,7 @@ prepared_retry sizes old mid new r r' step at f ids numbers operation name is = 
       parts = λ k. parts_of (sym asked k) (id_of (sym ids k)) (number_of (sym numbers k));
     }
 
-    named : r'.name ≡ name_of (asked_of old.call) (number_of r'.attempt.number)
+    named : r'.name ≡ name_of (asked_or_nothing old.call) (number_of r'.attempt.number)
     named = name ∙ ap₂ (λ (x : Asked) (n : AttemptNumber). name_of x (number_of n)) own (sym numbers)
 
     has : (s : RetryStep) → HasRetry (around sizes seat) r' s

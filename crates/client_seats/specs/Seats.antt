@@ -1,6 +1,7 @@
 -- What a client's seat has still to do, and what it has in hand.
 use Rattle.std.specs.Prelude.{ℕ, Bool, if◌then◌else◌, List, [], map, Option, option_map, Some, None}
 use Rattle.sock_message.specs.Asked.{Asked}
+pub use Rattle.sock_message.specs.Asked.{nothing_asked, asked_or_nothing}
 use Rattle.message_parts.specs.Frames.{ParcelData, OutgoingData}
 use Rattle.message_parts.specs.Parcels.{outgoing_of}
 use Rattle.seat_programs.specs.declared.task.Task.{Task}
@@ -73,14 +74,6 @@ abbrev pub parts_of : Option ParcelData → List ℕ
 parts_of None = []
 parts_of (Some parcel) = parcel.parts
 
--- without a call in hand nothing is asked
-abbrev pub nothing_asked : Asked
-nothing_asked = record { operation = 0; names = []; service = []; method = []; payload = []; attachment = []; range = 0 }
-
-abbrev pub asked_of : Option Asked → Asked
-asked_of None = nothing_asked
-asked_of (Some asked) = asked
-
 abbrev pub left_of : Option OutgoingData → List ℕ
 left_of None = []
 left_of (Some out) = out.left
@@ -107,7 +100,7 @@ module _ (sizes : Sizes) (seat : SeatData) where
     held = seat.held;
     message = bytes_of seat.message;
     parts = parts_of seat.message;
-    asked = asked_of seat.call;
+    asked = asked_or_nothing seat.call;
     left = left_of seat.out;
     taken = taken_of seat.out;
     left_parts = left_parts_of seat.out;

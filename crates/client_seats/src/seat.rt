@@ -7,13 +7,13 @@ ghost use Rattle.seat_programs.specs.Clients.{HeldLife, held_under, without_name
 ghost use Rattle.seat_programs.specs.Cores.{resolved, still_waiting, said, next_step};
 ghost use Rattle.id_points.specs.Ids.{id_of, number_of};
 ghost use Rattle.seat_states.specs.Points.{Context, client_on, point_program, next_program, after_program, IsCalling, TakesCall};
-ghost use Rattle.client_seats.specs.Seats.{lives, retries, bytes_of, asked_of, message_in, call_in, seat_data, around, client_of, seat_program};
+ghost use Rattle.client_seats.specs.Seats.{lives, retries, bytes_of, asked_or_nothing, message_in, call_in, seat_data, around, client_of, seat_program};
 ghost use Rattle.sock_message.specs.Asked.{name_of};
 ghost use Rattle.call_points.specs.Steps.{after_call};
 ghost use Rattle.client_seats.specs.Following.{IsFlat, FollowsOn, IsFramedAs, IsPrepared, HasTaken};
 
 use crate::hand::InHand;
-use call_points::{DecideStep, LockStep};
+use call_points::{DecideStep, WordStep};
 use id_points::{AttemptNumber, CallId};
 use message_parts::OutgoingParcel;
 use seat_programs::{Op, Sizes, Task};
@@ -53,7 +53,7 @@ impl Kept {
         };
         Point::Retry(
             Retrying { attempt, name: 0 },
-            RetryStep::Lock(LockStep::Read),
+            RetryStep::Lock(WordStep::Read),
         )
     }
 }
@@ -120,7 +120,7 @@ fn take_held(held: &mut Vec<Held>, name: u16) -> Option<SocketId>
 /// Where a task begins, over a table of these sizes; nowhere where it is a `drop` of what isn't held. The message of a `send`
 /// and the call of a `call` come into the seat's hand.
 fn begin(held: &mut Vec<Held>, hand: &mut InHand, sizes: Sizes, task: Task) -> Option<Point>
-    ensures some { IfSome result (λ point. (a : Context) → a.sizes ≡ sizes → a.held ≡ lives held.new.items → a.message ≡ bytes_of (message_in hand.new) → a.asked ≡ asked_of (call_in hand.new) →
+    ensures some { IfSome result (λ point. (a : Context) → a.sizes ≡ sizes → a.held ≡ lives held.new.items → a.message ≡ bytes_of (message_in hand.new) → a.asked ≡ asked_or_nothing (call_in hand.new) →
         point_program a point ≡ operation sizes (lives held.old.items) task.number a.goes_on task.op) }
     ensures none { IfNone result ((goes_on : List HeldLife → Program) →
         operation sizes (lives held.old.items) task.number goes_on task.op ≡ Say task.number NotHeld (goes_on (lives held.new.items))) }
@@ -270,8 +270,8 @@ impl Seat {
     /// The retry of this attempt of the call in its hand.
     fn retrying(&self, id: CallId, number: AttemptNumber) -> Retrying
         ensures id { (result.attempt.id ≡ id) × (result.attempt.number ≡ number) }
-        ensures operation { result.attempt.operation ≡ (asked_of (seat_data self.now).call).operation }
-        ensures name { result.name ≡ name_of (asked_of (seat_data self.now).call) (number_of number) }
+        ensures operation { result.attempt.operation ≡ (asked_or_nothing (seat_data self.now).call).operation }
+        ensures name { result.name ≡ name_of (asked_or_nothing (seat_data self.now).call) (number_of number) }
     {
         let (operation, name) = match self.hand.call() {
             Some(call) => (call.operation, call.name(number.get())),

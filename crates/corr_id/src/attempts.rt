@@ -51,7 +51,7 @@ impl<C> IdTable<C> {
         let own = version % 4_294_967_296;
         'looks: for _ in rt.forever() {
             let found = self.load_id_word(seat, at);
-            let word = IdWord::from_word(found);
+            let word = IdWord(found);
             if is_outside(word, own, attempt) {
                 return Err(IdGone { found });
             }

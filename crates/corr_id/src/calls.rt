@@ -84,13 +84,13 @@ impl<C> IdTable<C> {
         ensures unnoted { (x : ℕ) → x % 2 ≡ 0 → total (is_at x result) seat.old.me.0.kept ≡ 0 }
         ensures noted { 0 < total (is_made (version_of result)) (notes_of (slot_of result) seat.new.me.0.notes) }
     {
-        let first = IdWord::from_word(self.read_first(seat, at)).first();
+        let first = IdWord(self.read_first(seat, at)).first();
         let found = self.move_call(seat, at, Some(content));
         let None = found else {
             unreachable!();
         };
         let word = IdWord::pack(first, IdWord::OPEN, range, 0, 0, 0);
-        self.make_id(seat, at, word.word());
+        self.make_id(seat, at, word.0);
         at as u64 * 4_294_967_296 + first as u64
     }
 
@@ -167,12 +167,12 @@ impl<C> IdTable<C> {
         ensures locked { IfOk result (λ k. (k.slot ≡ at) × GotLock at seat.old.me.0 seat.new.me.0 from (parts k.word.0) k.content) }
         ensures lost { IfErr result (λ found. Quiet seat.old.me.0 seat.new.me.0 × Found at found seat.new.me.0) }
     {
-        let next = corr_core::lock_id(from, IdWord::from_word(from)).next;
+        let next = corr_core::lock_id(from, IdWord(from)).next;
         let found = self.lock_id(seat, at, from, next);
         if found != from {
             return Err(found);
         }
-        Ok(self.take_call(seat, at, IdWord::from_word(next)))
+        Ok(self.take_call(seat, at, IdWord(next)))
     }
 
     /// The range of the lock ends, with the errors that are queued (`bthread_id_unlock_and_destroy`). The content comes back.
@@ -190,7 +190,7 @@ impl<C> IdTable<C> {
         } = lock;
         let first = word.first() + word.range() as u32;
         let next = IdWord::pack(first, IdWord::FREE, 1, 0, 0, 0);
-        self.end_id(seat, slot, word, next.word());
+        self.end_id(seat, slot, word, next.0);
         if first <= 67_108_848 {
             self.free_id(seat, slot);
         }
@@ -211,7 +211,7 @@ impl<C> IdTable<C> {
         let at = slot as u16;
         let own = id % 4_294_967_296;
         'looks: for _ in rt.forever() {
-            if lacks_id(IdWord::from_word(self.load_id_word(seat, at)), own) {
+            if lacks_id(IdWord(self.load_id_word(seat, at)), own) {
                 return;
             }
         }

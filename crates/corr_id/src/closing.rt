@@ -48,7 +48,7 @@ fn read_words<S>(table: &Closed<S, Global>, slots: u16, words: &mut Vec<IdWord>)
     let slots = slots as usize;
     let mut i = 0;
     while i < slots {
-        words[i] = IdWord::from_word(table.word(2 * i + 1));
+        words[i] = IdWord(table.word(2 * i + 1));
         i += 1;
     }
 }
@@ -91,7 +91,7 @@ impl<C: Drop> IdTable<C> {
         ensures untouched { IfErr result (λ e. (e.table ≡ self) × (e.seats ≡ seats)) }
     {
         let slots = self.plan.slots;
-        let Ok(mut words) = vec![in alloc; IdWord::from_word(0); slots as usize] else {
+        let Ok(mut words) = vec![in alloc; IdWord(0); slots as usize] else {
             return Err(IdNotClosed { table: self, seats });
         };
         let seat = join_all(&self, seats);

@@ -25,8 +25,8 @@ impl<C> IdTable<C> {
         ensures none { result ≡ 0 → tokens_in at seat.old.me.0 ≡ [] }
         ensures tried { result ≢ 0 → Became at seat.old.me.0 seat.new.me.0 (tokens_in at seat.old.me.0) (one at Tried) }
     {
-        let word = 2 * at as usize;
-        self.table.shared.swap::<Claim>(seat, word, 1)
+        let index = 2 * at as usize;
+        self.table.shared.swap::<Claim>(seat, index, 1)
     }
 
     // I7 by the seat that claimed the slot.
@@ -40,8 +40,8 @@ impl<C> IdTable<C> {
         ensures before { (w : ℕ) → 0 < total (is_saw w) (notes_in at seat.old.me.0) → 0 < (parts w).state → (parts w).first < (parts result).first }
         ensures unnoted { (x : ℕ) → x % 2 ≡ 0 → total (is_at x (at * 4294967296 + (parts result).first)) seat.old.me.0.kept ≡ 0 }
     {
-        let word = 2 * at as usize + 1;
-        self.table.shared.load::<Read>(seat, word)
+        let index = 2 * at as usize + 1;
+        self.table.shared.load::<Read>(seat, index)
     }
 
     // I7.
@@ -54,8 +54,8 @@ impl<C> IdTable<C> {
         ensures behind { (f : ℕ) → 0 < total (is_made f) (notes_in at seat.old.me.0) → IsBehind f (parts result) }
         ensures advanced { (f : ℕ) → 0 < total (is_advance f) (notes_in at seat.old.me.0) → IsBehind f (parts result) }
     {
-        let word = 2 * at as usize + 1;
-        self.table.shared.load::<See>(seat, word)
+        let index = 2 * at as usize + 1;
+        self.table.shared.load::<See>(seat, index)
     }
 
     // K1 and K2: the home gets this value, and the answer is what it had.
@@ -66,10 +66,10 @@ impl<C> IdTable<C> {
         ensures seat { Stays seat.old seat.new }
         ensures moved { Moved at seat.old.me.0 seat.new.me.0 value result }
     {
-        let word = 2 * at as usize;
-        self.table.shared.load::<Take>(seat, word);
+        let index = 2 * at as usize;
+        self.table.shared.load::<Take>(seat, index);
         let found = self.table.shared.exchange(seat, at as usize, value);
-        self.table.shared.load::<Give>(seat, word);
+        self.table.shared.load::<Give>(seat, index);
         found
     }
 
@@ -82,8 +82,8 @@ impl<C> IdTable<C> {
         ensures seat { Stays seat.old seat.new }
         ensures made { (c : C) → Claims at seat.old.me.0 (parts value).first (Full c) → Became at seat.old.me.0 seat.new.me.0 [] (one at (Made (parts value).first (parts value).range c)) }
     {
-        let word = 2 * at as usize + 1;
-        self.table.shared.store::<Make>(seat, word, value);
+        let index = 2 * at as usize + 1;
+        self.table.shared.store::<Make>(seat, index, value);
     }
 
     // I3, and I4 on an open id. The answer is the word found.
@@ -98,10 +98,10 @@ impl<C> IdTable<C> {
         ensures reached { result ≡ from → ReachedUpTo at (parts from).first (parts from).attempt seat.old.me.0 }
         ensures lost { result ≢ from → Became at seat.old.me.0 seat.new.me.0 (tokens_in at seat.old.me.0) (one at (Saw result)) }
     {
-        let word = 2 * at as usize + 1;
+        let index = 2 * at as usize + 1;
         self.table
             .shared
-            .compare_exchange::<Lock>(seat, word, from, next)
+            .compare_exchange::<Lock>(seat, index, from, next)
     }
 
     // I4 on a locked id: the error is queued where the word is still `from`. The answer is the word found.
@@ -123,10 +123,10 @@ impl<C> IdTable<C> {
         ensures latest { result ≡ from → FoundUpTo at (parts from).first seat.old.me.0 }
         ensures lost { result ≢ from → Became at seat.old.me.0 seat.new.me.0 (tokens_in at seat.old.me.0) (one at (Saw result)) }
     {
-        let word = 2 * at as usize + 1;
+        let index = 2 * at as usize + 1;
         self.table
             .shared
-            .compare_exchange::<Queue>(seat, word, from, next)
+            .compare_exchange::<Queue>(seat, index, from, next)
     }
 
     // I5: the id opens, or its oldest error is taken out. The answer is the word found.
@@ -141,10 +141,10 @@ impl<C> IdTable<C> {
         ensures longer { result ≢ from → Longer (parts from).first (parts from).range (parts from).attempt (parts from).oldest (parts from).second (parts result) }
         ensures fresh { result ≢ from → ((parts from).oldest ≡ 0 → (parts result).oldest ≢ 0 → IsFresh (parts result).attempt (parts result).oldest) × ((parts from).second ≡ 0 → (parts result).second ≢ 0 → IsFresh (parts result).attempt (parts result).second) }
     {
-        let word = 2 * at as usize + 1;
+        let index = 2 * at as usize + 1;
         self.table
             .shared
-            .compare_exchange::<Unlock>(seat, word, from, next)
+            .compare_exchange::<Unlock>(seat, index, from, next)
     }
 
     // I6: the range of the lock, whose word is `from`, ends.
@@ -157,9 +157,9 @@ impl<C> IdTable<C> {
         ensures freed { (parts next).first ≤ LAST → Became at seat.old.me.0 seat.new.me.0 (Leaving ∷ []) (one at (Ended (parts from.0).first (parts from.0).attempt)) }
         ensures retired { LAST < (parts next).first → Became at seat.old.me.0 seat.new.me.0 [] (one at (Ended (parts from.0).first (parts from.0).attempt)) }
     {
-        let word = 2 * at as usize + 1;
+        let index = 2 * at as usize + 1;
         let _ = from;
-        self.table.shared.swap::<End>(seat, word, next);
+        self.table.shared.swap::<End>(seat, index, next);
     }
 
     // I8.
@@ -170,7 +170,7 @@ impl<C> IdTable<C> {
         ensures seat { Stays seat.old seat.new }
         ensures freed { Became at seat.old.me.0 seat.new.me.0 [] [] }
     {
-        let word = 2 * at as usize;
-        self.table.shared.store::<Free>(seat, word, 0);
+        let index = 2 * at as usize;
+        self.table.shared.store::<Free>(seat, index, 0);
     }
 }

@@ -61,7 +61,7 @@ fn new_words(alloc: Global, plan: Plan) -> Result<Vec<u64>, AllocError>
     let mut words = vec![in alloc; 0u64; count]?;
     let free = IdWord::pack(1, IdWord::FREE, 1, 0, 0, 0);
     for i in 0..slots {
-        words[2 * i + 1] = free.word();
+        words[2 * i + 1] = free.0;
     }
     Ok(words)
 }

@@ -51,7 +51,7 @@ impl<C> IdTable<C> {
         let error = corr_core::error_bits(code, attempt);
         let mut found = self.load_id_word(seat, at);
         'tries: for _ in rt.forever() {
-            let word = IdWord::from_word(found);
+            let word = IdWord(found);
             if lacks_id(word, own) {
                 return Posted::Gone { found };
             }
@@ -101,5 +101,5 @@ fn queued(word: IdWord, code: u16, attempt: Option<u8>) -> u64
     requires attempt { MatchOption attempt (Unit {0}) (λ n. n ≤ 6) }
     ensures { parts result ≡ posted_word (parts word.0) (error_in code attempt) }
 {
-    corr_core::post_id(word.word(), word, code, attempt).next
+    corr_core::post_id(word.0, word, code, attempt).next
 }

@@ -42,7 +42,7 @@ impl<C> IdTable<C> {
         let None = nothing else {
             unreachable!();
         };
-        let mut from = word.word();
+        let mut from = word.0;
         let mut step = advance;
         'tries: loop {
             let next = without_oldest(from, step);
@@ -51,14 +51,14 @@ impl<C> IdTable<C> {
                 from = found;
                 continue;
             }
-            let oldest = IdWord::from_word(from).oldest();
+            let oldest = IdWord(from).oldest();
             if oldest == 0 {
                 return Unlocked::Open;
             }
             from = next;
             step = false;
             if !is_thrown_away(oldest, from) {
-                let lock = self.take_call(seat, slot, IdWord::from_word(from));
+                let lock = self.take_call(seat, slot, IdWord(from));
                 return Unlocked::Next {
                     lock,
                     code: oldest / 8,
@@ -75,7 +75,7 @@ fn without_oldest(word: u64, advance: bool) -> u64
     requires room { IsTrue advance → (parts word).attempt + 2 < (parts word).range }
     ensures { parts result ≡ unlocked_word (parts word) (tick advance) }
 {
-    corr_core::unlock_id(word, IdWord::from_word(word), advance).next
+    corr_core::unlock_id(word, IdWord(word), advance).next
 }
 
 // Whether the error is stale at this word.
@@ -85,7 +85,7 @@ fn is_thrown_away(error: u16, word: u64) -> bool
     ensures kept { result ≡ false → stale (parts word).attempt error ≡ 0 }
 {
     let attempt = error % 8;
-    attempt != 7 && attempt != u16::from(IdWord::from_word(word).attempt())
+    attempt != 7 && attempt != u16::from(IdWord(word).attempt())
 }
 
 // The attempt of an error.

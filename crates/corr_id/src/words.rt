@@ -21,8 +21,8 @@ impl<C> IdTable<C> {
         ensures seat { Stays seat.old seat.new }
         ensures stored { seat.new.me.0 ≡ with_kept (call_index self.now.plan operation) true id seat.old.me.0 }
     {
-        let word = 2 * self.plan.slots as usize + 2 * operation as usize;
-        self.store_word(seat, word, id);
+        let index = 2 * self.plan.slots as usize + 2 * operation as usize;
+        self.store_word(seat, index, id);
     }
 
     /// The id of a call, by its operation: `None` only where none was there. Where this seat noted one, or was answered one, it
@@ -35,8 +35,8 @@ impl<C> IdTable<C> {
         ensures none { IfNone result (seat.new.me.0 ≡ seat.old.me.0) }
         ensures never_none { 0 < total (is_place (call_index self.now.plan operation)) seat.old.me.0.kept → IsSome result }
     {
-        let word = 2 * self.plan.slots as usize + 2 * operation as usize;
-        self.load_word(seat, word)
+        let index = 2 * self.plan.slots as usize + 2 * operation as usize;
+        self.load_word(seat, index)
     }
 
     /// Stores on which link the last attempt of a call is, by its operation. The id's slot and first version fit an `AtWord`,
@@ -50,11 +50,11 @@ impl<C> IdTable<C> {
         ensures seat { Stays seat.old seat.new }
         ensures stored { seat.new.me.0 ≡ with_kept (at_index self.now.plan operation) true (packed_at (version_of id) (slot_of id) link attempt) seat.old.me.0 }
     {
-        let word = 2 * self.plan.slots as usize + 2 * operation as usize + 1;
+        let index = 2 * self.plan.slots as usize + 2 * operation as usize + 1;
         let slot = (id / 4_294_967_296) as u16;
         let first = (id % 4_294_967_296) as u32;
         let at = AtWord::pack(first, slot, link, attempt);
-        self.store_word(seat, word, at.word());
+        self.store_word(seat, index, at.0);
     }
 
     /// Where the last attempt of a call is, by its operation: `None` only where nothing was stored. Where this seat stored it, or
@@ -67,9 +67,9 @@ impl<C> IdTable<C> {
         ensures none { IfNone result (seat.new.me.0 ≡ seat.old.me.0) }
         ensures never_none { 0 < total (is_place (at_index self.now.plan operation)) seat.old.me.0.kept → IsSome result }
     {
-        let word = 2 * self.plan.slots as usize + 2 * operation as usize + 1;
-        match self.load_word(seat, word) {
-            Some(found) => Some(AtWord::from_word(found)),
+        let index = 2 * self.plan.slots as usize + 2 * operation as usize + 1;
+        match self.load_word(seat, index) {
+            Some(found) => Some(AtWord(found)),
             None => None,
         }
     }
@@ -90,27 +90,27 @@ impl<C> IdTable<C> {
     }
 
     // T1.
-    fn store_word(&self, seat: &mut IdSeat<C>, word: usize, value: u64)
+    fn store_word(&self, seat: &mut IdSeat<C>, index: usize, value: u64)
         requires seat { Sits self.now.table.shared.table_id seat.old }
-        requires place { (2 * self.now.plan.slots ≤ word) × (word < 2 * self.now.plan.slots + 2 * self.now.plan.operations) }
+        requires place { (2 * self.now.plan.slots ≤ index) × (index < 2 * self.now.plan.slots + 2 * self.now.plan.operations) }
         requires some { value ≢ 0 }
-        requires made { word % 2 ≡ 0 → 0 < total (is_made (version_of value)) (notes_of (slot_of value) seat.old.me.0.notes) }
+        requires made { index % 2 ≡ 0 → 0 < total (is_made (version_of value)) (notes_of (slot_of value) seat.old.me.0.notes) }
         ensures seat { Stays seat.old seat.new }
-        ensures stored { seat.new.me.0 ≡ with_kept word true value seat.old.me.0 }
+        ensures stored { seat.new.me.0 ≡ with_kept index true value seat.old.me.0 }
     {
-        self.table.shared.store::<Store>(seat, word, value);
+        self.table.shared.store::<Store>(seat, index, value);
     }
 
     // T2: nothing where the word is 0.
-    fn load_word(&self, seat: &mut IdSeat<C>, word: usize) -> Option<u64>
+    fn load_word(&self, seat: &mut IdSeat<C>, index: usize) -> Option<u64>
         requires seat { Sits self.now.table.shared.table_id seat.old }
-        requires place { (2 * self.now.plan.slots ≤ word) × (word < 2 * self.now.plan.slots + 2 * self.now.plan.operations) }
+        requires place { (2 * self.now.plan.slots ≤ index) × (index < 2 * self.now.plan.slots + 2 * self.now.plan.operations) }
         ensures seat { Stays seat.old seat.new }
-        ensures found { IfSome result (λ n. (n ≢ 0) × (seat.new.me.0 ≡ with_kept word false n seat.old.me.0)) }
+        ensures found { IfSome result (λ n. (n ≢ 0) × (seat.new.me.0 ≡ with_kept index false n seat.old.me.0)) }
         ensures none { IfNone result (seat.new.me.0 ≡ seat.old.me.0) }
-        ensures never_none { 0 < total (is_place word) seat.old.me.0.kept → IsSome result }
+        ensures never_none { 0 < total (is_place index) seat.old.me.0.kept → IsSome result }
     {
-        let found = self.table.shared.load::<Load>(seat, word);
+        let found = self.table.shared.load::<Load>(seat, index);
         if found == 0 { None } else { Some(found) }
     }
 }

@@ -57,7 +57,7 @@ pub fn report(alloc: Global, text: &str) -> Result<String, AllocError> {
 /// The report where nothing was said, and no word tells a position.
 pub fn untold(alloc: Global, text: &str) -> Result<String, AllocError> {
     let lines = lines(alloc, text)?;
-    let words = [PlaceWord::from_word(9_223_372_036_854_775_808); 32];
+    let words = [PlaceWord(9_223_372_036_854_775_808); 32];
     match print_report(alloc, &lines, &[None, None, None, None], &words, &[]) {
         Ok(text) => text_of(alloc, text.as_slice()),
         Err(_) => Err(AllocError),

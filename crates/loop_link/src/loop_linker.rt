@@ -2,7 +2,7 @@ ghost use Rattle.std.specs.Prelude.{◌≡◌, ◌≢◌, ◌↔◌, ℕ, ◌+�
 ghost use Rattle.std.specs.List.{AllByRecursion};
 ghost use Rattle.brpc_model.specs.Link.{LinkEnd};
 ghost use Rattle.sock_io.specs.Causes.{OpenCause, next_number};
-ghost use Rattle.sock_io.specs.Link.{IsFresh, IsNewOffer, IsServed, IsSettled, IsUnused, MayOpen, SettleStep, connection_of, end_of};
+ghost use Rattle.sock_io.specs.Link.{IsFresh, IsNewOffer, IsServed, IsSettled, IsUnused, MayOpen, SettleStep, end_of};
 ghost use Rattle.sock_io.specs.Linker.{new_half, plain_shape, shape_asked};
 ghost use Rattle.sock_io.specs.Memory.{closing};
 ghost use Rattle.sock_io.specs.Shape.{shaped_out};
@@ -115,7 +115,7 @@ impl Linker for LoopLinker {
 
     fn done(&mut self, out: Shaped<MemOut>, inn: LoopIn)
         requires { length self.old.done < self.old.accepted }
-        ensures { self.new ≡ record self.old { done = self.old.done ++ connection_of (shaped_out out) (loop_in inn) ∷ [] } }
+        ensures { self.new ≡ record self.old { done = self.old.done ++ end_of (shaped_out out) (loop_in inn) ∷ [] } }
     {
         self.links.done(out, inn);
     }

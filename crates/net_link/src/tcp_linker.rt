@@ -1,6 +1,6 @@
 ghost use Rattle.std.specs.Prelude.{◌≡◌, ◌+◌, ◌≤◌, ◌<◌, ◌∷◌, ◌++◌, true, false, [], length, IfOk, IsErrOf, OnErr, Ok};
 ghost use Rattle.sock_io.specs.Causes.{OpenCause, Rose};
-ghost use Rattle.sock_io.specs.Link.{MayOpen, connection_of, end_of};
+ghost use Rattle.sock_io.specs.Link.{MayOpen, end_of};
 ghost use Rattle.sock_io.specs.Linker.{shape_asked};
 ghost use Rattle.net_link.specs.Halves.{new_in, new_out, tcp_in};
 ghost use Rattle.net_link.specs.Linker.{is_tcp, new_half};
@@ -159,7 +159,7 @@ impl<N: Net<Stream = TcpStream, Listener = TcpListener> + Drop> Linker for TcpLi
     }
 
     fn done(&mut self, out: TcpHalf, inn: TcpIn)
-        ensures { self.new ≡ record self.old { done = self.old.done ++ connection_of (tcp_half out) (tcp_in inn) ∷ [] } }
+        ensures { self.new ≡ record self.old { done = self.old.done ++ end_of (tcp_half out) (tcp_in inn) ∷ [] } }
     {
         self.notes.done(out, inn);
     }

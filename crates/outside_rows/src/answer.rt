@@ -1,5 +1,5 @@
 //! What a row asks of the top call, and what that answers.
-ghost use Rattle.brpc_eng.specs.Answers.{DidNothing};
+ghost use Rattle.brpc_eng.specs.Answers.{UnusedLinker};
 
 use brpc_eng::brpc;
 use sock_io::{Gate, Linker, MemSink, MemSource};
@@ -35,7 +35,7 @@ pub fn answered<R: Threads + Wait + Sync + Alloc<A = Global>, L: Linker, G: Gate
     links: &mut L,
     gate: &G,
 ) -> Result<Answer, AllocError>
-    requires unused { DidNothing (L.asked links.old) (L.back links.old) (L.accepted links.old) (L.done links.old) }
+    requires unused { UnusedLinker (L.asked links.old) (L.back links.old) (L.accepted links.old) (L.done links.old) }
 {
     let alloc = rt.alloc();
     let reads = vec![in alloc; asked.read]?;

@@ -1,5 +1,5 @@
 //! The top call over each kind of links.
-ghost use Rattle.brpc_eng.specs.Answers.{DidNothing};
+ghost use Rattle.brpc_eng.specs.Answers.{UnusedLinker};
 
 use crate::answer::{Answer, Asked, answered, shown};
 use crate::crowd::is_of_crowd;
@@ -7,7 +7,7 @@ use crate::held::{HeldGate, HeldLinker, is_done, new_flags};
 use crate::noting::Noting;
 use loop_link::LoopLinker;
 use ring_link::RingLinker;
-use sock_io::{GiveLinker, Linker, OpenGate, SinkLinker};
+use sock_io::{GiveLinker, Linker, OpenGate};
 use std::alloc::{AllocError, Global};
 use std::sync::{Arc, Wait};
 use std::thread::Threads;
@@ -18,7 +18,7 @@ pub fn over_sinks<R: Threads + Wait + Sync + Alloc<A = Global>>(
     asked: Asked,
 ) -> Result<String, AllocError> {
     let alloc = rt.alloc();
-    let mut links = SinkLinker::new(alloc, vec![in alloc; asked.open]?, asked.put);
+    let mut links = GiveLinker::failing(alloc, vec![in alloc; asked.open]?, asked.put);
     shown(alloc, &answered(rt, asked, &mut links, &OpenGate)?)
 }
 
@@ -96,7 +96,7 @@ fn given_back<R: Threads + Wait + Sync + Alloc<A = Global>, L: Linker + Drop>(
     asked: Asked,
     links: Noting<L>,
 ) -> Result<String, AllocError>
-    requires unused { DidNothing (L.asked links.inner) (L.back links.inner) (L.accepted links.inner) (L.done links.inner) }
+    requires unused { UnusedLinker (L.asked links.inner) (L.back links.inner) (L.accepted links.inner) (L.done links.inner) }
 {
     let alloc = rt.alloc();
     let mut links = links;
@@ -110,7 +110,7 @@ pub fn back_of_sinks<R: Threads + Wait + Sync + Alloc<A = Global>>(
     asked: Asked,
 ) -> Result<String, AllocError> {
     let alloc = rt.alloc();
-    let inner = SinkLinker::new(alloc, Vec::new(alloc), 0);
+    let inner = GiveLinker::failing(alloc, Vec::new(alloc), 0);
     let links = Noting::failing(alloc, inner, asked.open);
     given_back(rt, asked, links)
 }

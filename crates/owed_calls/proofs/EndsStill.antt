@@ -15,12 +15,12 @@ use Rattle.seat_programs.specs.Beside.{found_in, calls_after}
 use Rattle.seat_programs.specs.Calls.{kind_of}
 use Rattle.seat_programs.specs.Asides.{kind_aside}
 use Rattle.seat_programs.specs.Programs.{Program, Do, Say, Sent, Rest, TakeMessage, TakeHome, PutBytes, AskReady, Write, Aside, Round, Keep, Retries}
-use Rattle.seat_programs.specs.Rounds.{round, kind_of_round}
-use Rattle.seat_programs.specs.Sends.{block}
+use Rattle.seat_programs.specs.Rounds.{kind_of_round}
 use Rattle.seat_programs.specs.Cores.{Calls, Core, SeatState}
 use Rattle.seat_programs.specs.Ticks.{Answer, Unasked, Moment, seats_of, taken, with_message, with_link, with_found, step_with, tick_with, ticked, run, waits, IsAlwaysReady}
 use Rattle.seat_programs.specs.Runs.{kind_in, IsAtRest, from_to}
 use Rattle.seat_programs.specs.Scripts.{AreStill}
+use Rattle.joint_runs.specs.sock_runs.specs.Sound.{first_step}
 use Rattle.joint_runs.specs.sock_runs.proofs.Waiting.{still}
 
 -- ## The run stays one that is ending
@@ -28,6 +28,12 @@ use Rattle.joint_runs.specs.sock_runs.proofs.Waiting.{still}
 after_keeps : (step : Step) (found : Found step) (a : Calls) → (calls_after step found a).ending ≡ a.ending
 after_keeps (TakeBytes k room) (Bytes bytes) a = refl
 after_keeps _ found a = refl
+
+-- a tick is the first step of what its seat is at
+pub ticks_first : (p : Plan) (i : ℕ) (seat : SeatState) (c : Core) (answer : Answer) (program : Program) → tick_with p i seat c answer program ≡ step_with p i seat c answer (first_step program)
+ticks_first p i seat c answer (Write w after) = refl
+ticks_first p i seat c answer (Round head next) = refl
+ticks_first p i seat c answer program = refl
 
 module _ (p : Plan) (c : Core) (i : ℕ) (seat : SeatState) where
   abbrev Same : Core → Type 0
@@ -55,17 +61,12 @@ module _ (p : Plan) (c : Core) (i : ℕ) (seat : SeatState) where
   step_keeps answer (Aside step next) = found_keeps step (found_in step c.calls (taken answer)) next
   step_keeps answer _ = refl
 
-  tick_keeps : (answer : Answer) (program : Program) → Same (tick_with p i seat c answer program)
-  tick_keeps answer (Write w after) = step_keeps answer (block w after)
-  tick_keeps answer (Round head next) = step_keeps answer (round head next)
-  tick_keeps answer other = step_keeps answer other
-
 ticked_ending : (p : Plan) (c : Core) (m : Moment) → (ticked p c m).calls.ending ≡ c.calls.ending
 ticked_ending p c m = by_seat (get_elem? c.seats m.seat)
   where
     by_seat : (q : Option SeatState) → (elim q as (λ o. Core) [ none ↦ c | some seat ↦ tick_with p m.seat seat c m.answer seat.program ]).calls.ending ≡ c.calls.ending
     by_seat none = refl
-    by_seat (some seat) = tick_keeps p c m.seat seat m.answer seat.program
+    by_seat (some seat) = ap (λ (d : Core). d.calls.ending) (ticks_first p m.seat seat c m.answer seat.program) ∙ step_keeps p c m.seat seat m.answer (first_step seat.program)
 
 pub run_ending : (p : Plan) (c : Core) (ms : List Moment) → (run p c ms).calls.ending ≡ c.calls.ending
 run_ending p c [] = refl

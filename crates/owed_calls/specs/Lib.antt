@@ -5,6 +5,7 @@ pub mod Fits
 pub mod Settled
 pub mod Lives
 pub mod Owns
+pub mod Takes
 pub use Rattle.joint_runs.specs.chain_steps
 pub use Rattle.joint_runs.specs.programs_allowed
 pub use Rattle.joint_runs.specs.id_runs

@@ -1,8 +1,8 @@
-ghost use Rattle.std.specs.Prelude.{◌≡◌, ◌≢◌, ◌+◌, ◌≤◌, ◌<◌, ◌∷◌, ◌++◌, [], true, false, length, IfOk, IsErrOf, OnErr};
+ghost use Rattle.std.specs.Prelude.{◌≡◌, ◌≢◌, ◌+◌, ◌≤◌, ◌<◌, ◌∷◌, ◌++◌, [], true, false, if◌then◌else◌, length, IfOk, IsErrOf, OnErr};
 ghost use Rattle.sock_io.specs.Causes.{OpenCause, Rose};
-ghost use Rattle.sock_io.specs.Link.{MayOpen, connection_of, end_of};
+ghost use Rattle.sock_io.specs.Link.{MayOpen, end_of};
 ghost use Rattle.prog_link.specs.Halves.{prog_in, prog_out};
-ghost use Rattle.prog_link.specs.Linker.{are_kind, IsOpened, InMemory, OverRings, OverTcp, kind_asked, tells_in_mode};
+ghost use Rattle.prog_link.specs.Linker.{are_kind, is_kind, IsOpened, InMemory, OverRings, OverTcp, kind_asked, tells_in_mode};
 
 use crate::prog_in::ProgIn;
 use crate::prog_out::ProgOut;
@@ -35,30 +35,106 @@ pub struct ProgLinker<N: Net<Stream = TcpStream, Listener = TcpListener> + Drop>
     pool: BlockPool,
     loops: LoopLinker,
     streams: TcpLinker<N>,
-    /// How many links of each kind were opened.
-    in_memory: u16,
-    over_rings: u16,
-    over_tcp: u16,
+    /// How many links were opened, and in which mode the last one.
+    opened: u16,
+    mode: Mode,
     faults: u64,
     /// What was asked of each link, and what was given back.
     notes: NotedLinks<ProgOut, ProgIn, ProgPeer>,
 }
 
 impl<N: Net<Stream = TcpStream, Listener = TcpListener> + Drop> Model for ProgLinker<N> {
-    ghost use Rattle.std.specs.Prelude.{◌≡◌, ◌+◌, true, [], length};
+    ghost use Rattle.std.specs.Prelude.{◌≡◌, true, [], length};
     ghost use Rattle.sock_io.specs.Link.{LinkerState};
-    ghost use Rattle.prog_link.specs.Linker.{InMemory, OverRings, OverTcp, count_kind};
+    ghost use Rattle.prog_link.specs.Linker.{InMemory, OverTcp, are_kind, count_kind, kind_asked};
 
     ghost Value = { LinkerState };
 
     ghost view = { λ l. record { asked = l.notes.asked; accepted = l.streams.accepted; back = l.notes.back; done = l.notes.done; faults = l.faults; always_ready = true } };
 
-    ghost invariant = { λ l. (length l.notes.asked ≡ l.in_memory + l.over_rings + l.over_tcp) × (length l.loops.asked ≡ l.in_memory) × (length l.streams.asked ≡ l.over_tcp) × (l.loops.fail_opens ≡ []) × (count_kind InMemory l.notes.asked ≡ l.in_memory) × (count_kind OverRings l.notes.asked ≡ l.over_rings) × (count_kind OverTcp l.notes.asked ≡ l.over_tcp) };
+    ghost invariant = { λ l. (length l.notes.asked ≡ l.opened) × (are_kind (kind_asked l.mode) l.notes.asked ≡ true) × (length l.loops.asked ≡ count_kind InMemory l.notes.asked) × (length l.streams.asked ≡ count_kind OverTcp l.notes.asked) × (l.loops.fail_opens ≡ []) };
+}
+
+/// Whether these are modes of one kind.
+fn is_same_kind(one: Mode, other: Mode) -> bool
+    ensures { result ≡ is_kind (kind_asked one) (kind_asked other) }
+{
+    match one {
+        Mode::Loop => matches!(other, Mode::Loop),
+        Mode::Ring => matches!(other, Mode::Ring),
+        Mode::Tcp(_) => matches!(other, Mode::Tcp(_)),
+    }
+}
+
+/// A link over rings, which has this number.
+fn open_rings(alloc: Global, spec: &LinkSpec, number: u16) -> Result<Link, OpenFault>
+    requires piece { 0 < spec.now.piece }
+    requires mode { kind_asked spec.now.mode ≡ OverRings }
+    ensures opened { IfOk result (λ ends. IsOpened number spec.now ends.out ends.peer ends.inn) }
+    ensures never { ¬ IsErrOf result OpenFault.Failed }
+{
+    let Ok(ends) = open_ring(alloc, spec, number) else {
+        return Err(OpenFault::NoMemory);
+    };
+    let Ends { out, inn, peer } = ends;
+    match Shaped::new(alloc, out, Shape::asked(spec)) {
+        Ok(out) => Ok(Ends {
+            out: ProgOut::Ring(out),
+            inn: ProgIn::Ring(inn),
+            peer: ProgPeer::Ring(peer),
+        }),
+        Err(_) => {
+            drop(inn);
+            drop(peer);
+            Err(OpenFault::NoMemory)
+        }
+    }
+}
+
+/// A link of the kind that is asked for, which has this number among those of its kind.
+fn open_ends<N: Net<Stream = TcpStream, Listener = TcpListener> + Drop>(
+    alloc: Global,
+    spec: &LinkSpec,
+    number: u16,
+    loops: &mut LoopLinker,
+    streams: &mut TcpLinker<N>,
+) -> Result<Link, OpenFault>
+    requires asked { (0 < spec.now.piece) × (number < 256) }
+    requires loops { kind_asked spec.now.mode ≡ InMemory → length loops.old.asked ≡ number }
+    requires streams { kind_asked spec.now.mode ≡ OverTcp → length streams.old.asked ≡ number }
+    requires opens { loops.old.fail_opens ≡ [] }
+    ensures opened { IfOk result (λ ends. IsOpened number spec.now ends.out ends.peer ends.inn) }
+    ensures loops { IfOk result (λ _. length loops.new.asked ≡ length loops.old.asked + (if is_kind InMemory (kind_asked spec.now.mode) then 1 else 0)) }
+    ensures streams { IfOk result (λ _. length streams.new.asked ≡ length streams.old.asked + (if is_kind OverTcp (kind_asked spec.now.mode) then 1 else 0)) }
+    ensures refused { OnErr result ((loops.new.asked ≡ loops.old.asked) × (streams.new.asked ≡ streams.old.asked)) }
+    ensures opens { loops.new.fail_opens ≡ [] }
+    ensures accepted { streams.new.accepted ≡ streams.old.accepted }
+    ensures failed { IsErrOf result OpenFault.Failed → kind_asked spec.now.mode ≡ OverTcp }
+{
+    match spec.mode {
+        Mode::Loop => {
+            let Ends { out, inn, peer } = loops.open(spec)?;
+            Ok(Ends {
+                out: ProgOut::Loop(out),
+                inn: ProgIn::Loop(inn),
+                peer: ProgPeer::Absent(peer),
+            })
+        }
+        Mode::Ring => open_rings(alloc, spec, number),
+        Mode::Tcp(_) => {
+            let Ends { out, inn, peer } = streams.open(spec)?;
+            Ok(Ends {
+                out: ProgOut::Tcp(out),
+                inn: ProgIn::Tcp(inn),
+                peer: ProgPeer::Absent(peer),
+            })
+        }
+    }
 }
 
 impl<N: Net<Stream = TcpStream, Listener = TcpListener> + Drop> ProgLinker<N> {
     /// A linker that opened and accepted nothing yet, over this network. It takes no memory.
-    #[tactic(auto, using(crate::proofs::Alike::none_counted))]
+    #[tactic(auto, using(crate::proofs::Alike::none_counted, crate::proofs::Alike::none_other))]
     pub fn new(net: N, alloc: Global) -> Self
         ensures { result ≡ record { asked = []; accepted = 0; back = []; done = []; faults = 0; always_ready = true } }
     {
@@ -67,97 +143,53 @@ impl<N: Net<Stream = TcpStream, Listener = TcpListener> + Drop> ProgLinker<N> {
             pool: BlockPool::new(alloc),
             loops: LoopLinker::new(alloc, Vec::new(alloc)),
             streams: TcpLinker::new(net, alloc),
-            in_memory: 0,
-            over_rings: 0,
-            over_tcp: 0,
+            opened: 0,
+            mode: Mode::Loop,
             faults: 0,
             notes: NotedLinks::new(),
         }
     }
 
-    /// Opens a link in memory, where all others are.
-    fn open_loop(&mut self, spec: &LinkSpec) -> Result<Link, OpenFault>
-        requires asked { MayOpen self.old.asked spec.now }
-        requires mode { kind_asked spec.now.mode ≡ InMemory }
-        ensures opened { IfOk result (λ ends. IsOpened (length self.old.asked) spec.now ends.out ends.peer ends.inn) }
-        ensures linker { IfOk result (λ _. self.new ≡ record self.old { asked = self.old.asked ++ spec.now ∷ [] }) }
-        ensures others { are_kind InMemory self.old.asked ≡ false → IsErrOf result OpenFault.Failed }
-        ensures only_others { IsErrOf result OpenFault.Failed → are_kind InMemory self.old.asked ≡ false }
-        ensures refused { OnErr result (self.new ≡ self.old) }
+    /// Whether all links are of the kind of this mode.
+    fn is_alike(&self, mode: Mode) -> bool
+        ensures { result ≡ are_kind (kind_asked mode) self.now.asked }
     {
-        if self.over_rings != 0 || self.over_tcp != 0 {
-            return Err(OpenFault::Failed);
+        if self.opened == 0 {
+            return true;
         }
-        let Ends { out, inn, peer } = self.loops.open(spec)?;
-        self.in_memory += 1;
-        self.notes.ask(spec);
-        Ok(Ends {
-            out: ProgOut::Loop(out),
-            inn: ProgIn::Loop(inn),
-            peer: ProgPeer::Absent(peer),
-        })
+        is_same_kind(self.mode, mode)
     }
 
-    /// Opens a link over rings, where all others are.
-    fn open_rings(&mut self, spec: &LinkSpec) -> Result<Link, OpenFault>
+    /// Opens a link of the kind of all others.
+    fn open_next(&mut self, spec: &LinkSpec) -> Result<Link, OpenFault>
         requires asked { MayOpen self.old.asked spec.now }
-        requires mode { kind_asked spec.now.mode ≡ OverRings }
+        requires alike { are_kind (kind_asked spec.now.mode) self.old.asked ≡ true }
         ensures opened { IfOk result (λ ends. IsOpened (length self.old.asked) spec.now ends.out ends.peer ends.inn) }
         ensures linker { IfOk result (λ _. self.new ≡ record self.old { asked = self.old.asked ++ spec.now ∷ [] }) }
-        ensures others { are_kind OverRings self.old.asked ≡ false → IsErrOf result OpenFault.Failed }
-        ensures only_others { IsErrOf result OpenFault.Failed → are_kind OverRings self.old.asked ≡ false }
         ensures refused { OnErr result (self.new ≡ self.old) }
+        ensures failed { IsErrOf result OpenFault.Failed → kind_asked spec.now.mode ≡ OverTcp }
     {
-        if self.in_memory != 0 || self.over_tcp != 0 {
-            return Err(OpenFault::Failed);
-        }
-        let Ok(ends) = open_ring(self.alloc, spec, self.over_rings) else {
-            return Err(OpenFault::NoMemory);
-        };
-        let Ends { out, inn, peer } = ends;
-        let shape = Shape {
-            piece: spec.piece,
-            again: spec.again,
-            fail: spec.fail,
-        };
-        match Shaped::new(self.alloc, out, shape) {
-            Ok(out) => {
-                self.over_rings += 1;
-                self.notes.ask(spec);
-                Ok(Ends {
-                    out: ProgOut::Ring(out),
-                    inn: ProgIn::Ring(inn),
-                    peer: ProgPeer::Ring(peer),
-                })
-            }
-            Err(_) => {
-                drop(inn);
-                drop(peer);
-                Err(OpenFault::NoMemory)
-            }
-        }
+        let number = self.opened;
+        let ends = open_ends(self.alloc, spec, number, &mut self.loops, &mut self.streams)?;
+        self.opened += 1;
+        self.mode = spec.mode;
+        self.notes.ask(spec);
+        Ok(ends)
     }
 
-    /// Opens a link over TCP, where all others are.
-    fn open_tcp(&mut self, spec: &LinkSpec) -> Result<Link, OpenFault>
-        requires asked { MayOpen self.old.asked spec.now }
-        requires mode { kind_asked spec.now.mode ≡ OverTcp }
+    /// Opens a link, where all others are of its kind.
+    fn open_alike(&mut self, spec: &LinkSpec) -> Result<Link, OpenFault>
+        requires { MayOpen self.old.asked spec.now }
         ensures opened { IfOk result (λ ends. IsOpened (length self.old.asked) spec.now ends.out ends.peer ends.inn) }
         ensures linker { IfOk result (λ _. self.new ≡ record self.old { asked = self.old.asked ++ spec.now ∷ [] }) }
-        ensures others { are_kind OverTcp self.old.asked ≡ false → IsErrOf result OpenFault.Failed }
         ensures refused { OnErr result (self.new ≡ self.old) }
+        ensures others { are_kind (kind_asked spec.now.mode) self.old.asked ≡ false → IsErrOf result OpenFault.Failed }
+        ensures only_others { IsErrOf result OpenFault.Failed → kind_asked spec.now.mode ≢ OverTcp → are_kind (kind_asked spec.now.mode) self.old.asked ≡ false }
     {
-        if self.in_memory != 0 || self.over_rings != 0 {
-            return Err(OpenFault::Failed);
+        if self.is_alike(spec.mode) {
+            return self.open_next(spec);
         }
-        let Ends { out, inn, peer } = self.streams.open(spec)?;
-        self.over_tcp += 1;
-        self.notes.ask(spec);
-        Ok(Ends {
-            out: ProgOut::Tcp(out),
-            inn: ProgIn::Tcp(inn),
-            peer: ProgPeer::Absent(peer),
-        })
+        Err(OpenFault::Failed)
     }
 
     /// Raises the count where a call failed.
@@ -197,12 +229,7 @@ impl<N: Net<Stream = TcpStream, Listener = TcpListener> + Drop> Linker for ProgL
         ensures only_others { IsErrOf result OpenFault.Failed → kind_asked spec.now.mode ≢ OverTcp → are_kind (kind_asked spec.now.mode) self.old.asked ≡ false }
         ensures cause { OpenCause self.old.faults self.new.faults result }
     {
-        let opened = match spec.mode {
-            Mode::Loop => self.open_loop(spec),
-            Mode::Ring => self.open_rings(spec),
-            Mode::Tcp(_) => self.open_tcp(spec),
-        };
-        match opened {
+        match self.open_alike(spec) {
             Ok(ends) => Ok(ends),
             Err(fault) => {
                 self.count(fault);
@@ -240,7 +267,7 @@ impl<N: Net<Stream = TcpStream, Listener = TcpListener> + Drop> Linker for ProgL
     }
 
     fn done(&mut self, out: ProgOut, inn: ProgIn)
-        ensures { self.new ≡ record self.old { done = self.old.done ++ connection_of (prog_out out) (prog_in inn) ∷ [] } }
+        ensures { self.new ≡ record self.old { done = self.old.done ++ end_of (prog_out out) (prog_in inn) ∷ [] } }
     {
         self.notes.done(out, inn);
     }

@@ -10,7 +10,7 @@ use Rattle.prpc_frame.specs.declared.frame.Frame.{Frame}
 use Rattle.prpc_frame.specs.declared.fault.FrameFault.{FrameFault}
 use Rattle.seat_programs.specs.Readers.{LIMIT}
 use Rattle.call_points.specs.declared.locking.Locker.{Locker}
-use Rattle.call_points.specs.declared.locking.LockStep.TheVariants as locks
+use Rattle.call_points.specs.declared.word_step.WordStep.TheVariants as id_steps
 use Rattle.reader_points.specs.declared.cutting.Cut as code
 use Rattle.reader_points.specs.declared.point.CloseStep.TheVariants as closes
 use Rattle.reader_points.specs.declared.point.ReadPoint.TheVariants as points
@@ -36,7 +36,7 @@ faulty (Some f) j e = (f, cc)
 module _ (r : Reader) (ids : ℕ) (old : List ℕ) (fs : List model.Frame) (all : AllByRecursion (IsSkipped ids) fs) where
   -- a response was cut
   pub goes_locked : (new : List ℕ) (f : Frame) (l : Locker) → Cut old (fs ++ frame_of f ∷ []) new → IsLeft old new → is_asked ids (frame_of f) ≡ true → IsLocker (frame_of f) l →
-      GoesOnBehind r ids old new (record { frame = Some f; point = points.Lock r l locks.Read })
+      GoesOnBehind r ids old new (record { frame = Some f; point = points.Lock r l id_steps.Read })
   goes_locked new f l cut left asked is = record {
     program = λ a n. locks_next a r old new fs (frame_of f) cut left (rw n all) (rw n asked) l is;
     hand = λ a. (refl, is);

@@ -12,7 +12,7 @@ use Rattle.seat_programs.specs.Heads.{Reading, Locks, Version}
 use Rattle.seat_programs.specs.Programs.{Program, Round}
 use Rattle.seat_programs.specs.Readers.{LIMIT, slot_in, version_in, answered, responses, read_on, read, last_of}
 use Rattle.call_points.specs.declared.locking.Locker.{Locker}
-use Rattle.call_points.specs.declared.locking.LockStep.TheVariants as locks
+use Rattle.call_points.specs.declared.word_step.WordStep.TheVariants as id_steps
 use Rattle.reader_points.specs.declared.point.CloseStep.TheVariants as closes
 use Rattle.reader_points.specs.declared.point.ReadPoint.TheVariants as points
 use Rattle.reader_points.specs.Steps.{after_taking}
@@ -143,7 +143,7 @@ module _ (a : Context) (r : Reader) (old new : List ℕ) (fs : List Frame) (f : 
   first_asked : responses (length a.calls) (f ∷ later.frames) a.kept read_old ≡ Round (Locks (slot_in f) (Version (version_in f)) None) (answered f a.kept (λ kept. responses (length a.calls) later.frames kept read_old))
   first_asked = rw asked refl
 
-  pub locks_next : (l : Locker) → IsLocker f l → frames_program a r old a.kept ≡ point_program (with_held new (with_frame f a)) (points.Lock r l locks.Read)
+  pub locks_next : (l : Locker) → IsLocker f l → frames_program a r old a.kept ≡ point_program (with_held new (with_frame f a)) (points.Lock r l id_steps.Read)
   locks_next l is = ap (goes a r old a.kept) (stream_whole old new (fs ++ f ∷ []) cut)
       ∙ ap (λ gs. responses (length a.calls) gs a.kept read_old) split_frames
       ∙ skipped (length a.calls) fs (f ∷ later.frames) a.kept read_old all

@@ -10,7 +10,7 @@ use Rattle.seat_programs.specs.Posts.{end_id, post_with}
 use Rattle.seat_programs.specs.Readers.{answer, ending_of, slot_in, posted_last}
 use Rattle.call_points.specs.Steps.{after_word, after_call}
 use Rattle.call_points.specs.declared.ending.EndStep.TheVariants as ends
-use Rattle.call_points.specs.declared.posting.PostStep.TheVariants as posts
+use Rattle.call_points.specs.declared.word_step.WordStep.TheVariants as id_steps
 use Rattle.id_points.specs.Ids.{id_of, number_of}
 use Rattle.seat_states.specs.declared.point.ReleaseStep.TheVariants as releases
 use Rattle.reader_points.specs.declared.point.Behind.{Behind}
@@ -69,7 +69,7 @@ module _ (a : Context) where
   posts_to c id n = let e = error_of (code_by c.fault) n in post_with id e (posted_last id e a.kept (posts_program a c))
 
   pub loads_post : (c : Closing) (l : Lost) (o w : ℕ) → l.closing ≡ c → id_of l.id ≡ call_id (at_word_slot w) (at_word_first w) → number_of l.attempt ≡ at_word_attempt w
-      → (not (w == 0) && (at_word_link w == c.reader.link)) ≡ true → point_program a (points.Post l posts.Load) ≡ after_word (load_program a c o) w
+      → (not (w == 0) && (at_word_link w == c.reader.link)) ≡ true → point_program a (points.Post l id_steps.Read) ≡ after_word (load_program a c o) w
   loads_post c l o w closing id attempt e =
       ap (λ d. posts_to d (id_of l.id) (number_of l.attempt)) closing
       ∙ ap (λ i. posts_to c i (number_of l.attempt)) id

@@ -23,10 +23,8 @@ use Rattle.call_points.specs.declared.aside.Aside.{Aside}
 use Rattle.call_points.specs.declared.aside.Aside.TheVariants as asides
 use Rattle.call_points.specs.declared.ending.EndStep.TheVariants as ends
 use Rattle.call_points.specs.declared.locking.Locker.{Locker}
-use Rattle.call_points.specs.declared.locking.LockStep.{LockStep}
-use Rattle.call_points.specs.declared.locking.LockStep.TheVariants as locks
-use Rattle.call_points.specs.declared.posting.PostStep.{PostStep}
-use Rattle.call_points.specs.declared.posting.PostStep.TheVariants as posts
+use Rattle.call_points.specs.declared.word_step.WordStep.{WordStep}
+use Rattle.call_points.specs.declared.word_step.WordStep.TheVariants as id_steps
 use Rattle.id_points.specs.declared.call_id.CallId.{CallId}
 use Rattle.id_points.specs.Ids.{id_of}
 use Rattle.reader_points.specs.declared.point.AnswerStep.{AnswerStep}
@@ -62,13 +60,13 @@ module _ (point : ReadPoint) (asked : Asked) where
   takes_call (asides.TakeCall i) slot e t = t
   takes_call _ slot e t = absurd (cc)
 
-pub locks_by : (asked : Asked) (r : Reader) (l : Locker) (at : LockStep) (x : Aside) (k : Locking → Program) → Some (step_of asked x) ≡ aside_in (lock_program l k at) → GoesBy (points.Lock r l at) (Some (steps.Aside x))
-locks_by asked r l locks.Read x k e = goes_by (points.Lock r l locks.Read) asked x (subst FindsIn (sym e) tt) tt
-locks_by asked r l (locks.Exchange from) x k e = goes_by (points.Lock r l (locks.Exchange from)) asked x (subst FindsIn (sym e) tt) tt
+pub locks_by : (asked : Asked) (r : Reader) (l : Locker) (at : WordStep) (x : Aside) (k : Locking → Program) → Some (step_of asked x) ≡ aside_in (lock_program l k at) → GoesBy (points.Lock r l at) (Some (steps.Aside x))
+locks_by asked r l id_steps.Read x k e = goes_by (points.Lock r l id_steps.Read) asked x (subst FindsIn (sym e) tt) tt
+locks_by asked r l (id_steps.Exchange from) x k e = goes_by (points.Lock r l (id_steps.Exchange from)) asked x (subst FindsIn (sym e) tt) tt
 
-pub posts_by : (asked : Asked) (l : Lost) (at : PostStep) (x : Aside) (k : Posting → Program) → Some (step_of asked x) ≡ aside_in (post_program (on_call l) k at) → GoesBy (points.Post l at) (Some (steps.Aside x))
-posts_by asked l posts.Load x k e = goes_by (points.Post l posts.Load) asked x (subst FindsIn (sym e) tt) tt
-posts_by asked l (posts.Exchange from) x k e = goes_by (points.Post l (posts.Exchange from)) asked x (subst FindsIn (sym e) tt) tt
+pub posts_by : (asked : Asked) (l : Lost) (at : WordStep) (x : Aside) (k : Posting → Program) → Some (step_of asked x) ≡ aside_in (post_program (on_call l) k at) → GoesBy (points.Post l at) (Some (steps.Aside x))
+posts_by asked l id_steps.Read x k e = goes_by (points.Post l id_steps.Read) asked x (subst FindsIn (sym e) tt) tt
+posts_by asked l (id_steps.Exchange from) x k e = goes_by (points.Post l (id_steps.Exchange from)) asked x (subst FindsIn (sym e) tt) tt
 
 pub answers_by : (a : Context) (b : Behind) (id : CallId) (at : AnswerStep) (x : Aside) → Some (step_of a.asked x) ≡ aside_in (answer_program a b (id_of id) at) → GoesBy (points.Answer b id at) (Some (steps.Aside x))
 answers_by a b id answers.Take x e = takes_call (points.Answer b id answers.Take) a.asked x _ e tt
@@ -128,15 +126,15 @@ pub goes_by_first : (a : Context) (point : ReadPoint) (step : ReadStep) → firs
 goes_by_first a points.Rest step e = absurd (cc)
 goes_by_first a (points.Open link o) step e = on_word (points.Open link o) a.asked step (subst FirstFindsIn e tt) tt
 goes_by_first a (points.Take r) step e = on_bytes (points.Take r) a.asked step r.link (room_at (points.Take r)) e refl tt
-goes_by_first a (points.Lock r l locks.Read) step e = on_word (points.Lock r l locks.Read) a.asked step (subst FirstFindsIn e tt) tt
-goes_by_first a (points.Lock r l (locks.Exchange from)) step e = on_word (points.Lock r l (locks.Exchange from)) a.asked step (subst FirstFindsIn e tt) tt
+goes_by_first a (points.Lock r l id_steps.Read) step e = on_word (points.Lock r l id_steps.Read) a.asked step (subst FirstFindsIn e tt) tt
+goes_by_first a (points.Lock r l (id_steps.Exchange from)) step e = on_word (points.Lock r l (id_steps.Exchange from)) a.asked step (subst FirstFindsIn e tt) tt
 goes_by_first a (points.Answer b id answers.Take) step e = on_call_home (points.Answer b id answers.Take) a.asked step _ e tt
 goes_by_first a (points.Answer b id (answers.End o ends.End)) step e = on_word (points.Answer b id (answers.End o ends.End)) a.asked step (subst FirstFindsIn e tt) tt
 goes_by_first a (points.Answer b id (answers.End o ends.Free)) step e = on_word (points.Answer b id (answers.End o ends.Free)) a.asked step (subst FirstFindsIn e tt) tt
 goes_by_first a (points.Close c at) step e = on_word (points.Close c at) a.asked step (subst FirstFindsIn e (closes_by a c at)) tt
 goes_by_first a (points.Load c o) step e = on_word (points.Load c o) a.asked step (subst FirstFindsIn e tt) tt
-goes_by_first a (points.Post l posts.Load) step e = on_word (points.Post l posts.Load) a.asked step (subst FirstFindsIn e tt) tt
-goes_by_first a (points.Post l (posts.Exchange from)) step e = on_word (points.Post l (posts.Exchange from)) a.asked step (subst FirstFindsIn e tt) tt
+goes_by_first a (points.Post l id_steps.Read) step e = on_word (points.Post l id_steps.Read) a.asked step (subst FirstFindsIn e tt) tt
+goes_by_first a (points.Post l (id_steps.Exchange from)) step e = on_word (points.Post l (id_steps.Exchange from)) a.asked step (subst FirstFindsIn e tt) tt
 goes_by_first a (points.Fail l (fails.Take word)) step e = on_call_home (points.Fail l (fails.Take word)) a.asked step _ e tt
 goes_by_first a (points.Fail l (fails.Judge word)) step e = on_word (points.Fail l (fails.Judge word)) a.asked step (subst FirstFindsIn e (judges_by a l word)) tt
 goes_by_first a (points.Fail l (fails.Free o)) step e = on_word (points.Fail l (fails.Free o)) a.asked step (subst FirstFindsIn e tt) tt

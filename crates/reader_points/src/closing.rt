@@ -51,7 +51,7 @@ impl CloseStep {
         ensures program { (a : Context) → next_program a result ≡ after_word (close_program a closing self) found }
         ensures hand { (a : Context) → HasNext a result }
     {
-        let word = Vref::from_word(found);
+        let word = Vref(found);
         match self {
             CloseStep::AddRef => {
                 if word.version() == closing.reader.socket.version() {

@@ -4,7 +4,7 @@ ghost use Rattle.reader_points.specs.Points.{count_of, IsLocker};
 ghost use Rattle.reader_points.specs.Cuts.{GoesOnBehind, is_asked};
 
 use crate::point::{CloseStep, ReadPoint, Reader};
-use call_points::{LockStep, Locker};
+use call_points::{Locker, WordStep};
 use id_points::Sought;
 use io_buf::NoMemory;
 use prpc_frame::{Cutter, Frame, NextFault};
@@ -71,7 +71,7 @@ impl Reader {
                     Some(locker) => {
                         return Ok(Cut {
                             frame: Some(frame),
-                            point: ReadPoint::Lock(self, locker, LockStep::Read),
+                            point: ReadPoint::Lock(self, locker, WordStep::Read),
                         });
                     }
                     None => {}

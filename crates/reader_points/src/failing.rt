@@ -40,7 +40,7 @@ impl Lost {
         match step {
             FailStep::Take(_) => ReadNext::Point(ReadPoint::Rest),
             FailStep::Judge(_) => {
-                if is_reused(IdWord::from_word(found)) {
+                if is_reused(IdWord(found)) {
                     ReadNext::Point(ReadPoint::Fail(self, FailStep::Free(operation)))
                 } else {
                     ReadNext::CallEnded(operation, self)

@@ -21,7 +21,7 @@ fn opened(link: u16, operation: u16, found: u64) -> ReadNext
     } else {
         let reader = Reader {
             link,
-            socket: SocketId::from_word(found - 1),
+            socket: SocketId(found - 1),
             total: ByteCount::NONE,
         };
         reader.to_take()

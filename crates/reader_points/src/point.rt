@@ -1,7 +1,7 @@
 ghost use Rattle.std.specs.Prelude.{◌≡◌, ◌≤◌, ◌+◌, nat_lt};
 ghost use Rattle.reader_points.specs.Points.{count_of, room};
 
-use call_points::{Aside, EndStep, LockStep, Locker, PostStep};
+use call_points::{Aside, EndStep, Locker, WordStep};
 use id_points::{AttemptNumber, CallId};
 use seat_states::{Call, ReleaseStep};
 use sock_words::{IdWord, SocketId};
@@ -130,7 +130,7 @@ pub enum ReadPoint {
     /// Bytes are taken.
     Take(Reader),
     /// The id of the response in hand is to be locked.
-    Lock(Reader, Locker, LockStep),
+    Lock(Reader, Locker, WordStep),
     /// The call with this id ends with the response in hand.
     Answer(Behind, CallId, AnswerStep),
     /// The reader's socket is set failed.
@@ -138,7 +138,7 @@ pub enum ReadPoint {
     /// The at word of the call of this operation is loaded,
     Load(Closing, u16),
     /// where it names the link, the error is posted to the call's id,
-    Post(Lost, PostStep),
+    Post(Lost, WordStep),
     /// and whoever gets the lock by that ends the call.
     Fail(Lost, FailStep),
     /// Behind a frame fault: so many bytes came over this link, and what comes now is thrown away.

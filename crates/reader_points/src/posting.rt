@@ -8,7 +8,7 @@ ghost use Rattle.id_points.specs.Turns.{post_on};
 ghost use Rattle.reader_points.specs.Points.{Context, next_program, load_program, posts_program, on_call, error_in, HasNext};
 
 use crate::point::{Closing, Lost, ReadNext, ReadPoint};
-use call_points::{OnCall, PostStep};
+use call_points::{OnCall, WordStep};
 use id_points::{AttemptNumber, CallId, IdError, PostTurn};
 use sock_words::AtWord;
 
@@ -16,7 +16,7 @@ use sock_words::AtWord;
 fn link_of(word: AtWord) -> u16
     ensures { result ≡ at_word_link word.0 }
 {
-    ((word.word() / 64 % 65_536) as u16).saturating_sub(1)
+    ((word.0 / 64 % 65_536) as u16).saturating_sub(1)
 }
 
 impl Closing {
@@ -24,7 +24,7 @@ impl Closing {
     fn is_named(self, word: AtWord) -> bool
         ensures { result ≡ (not (word.0 == 0) && (at_word_link word.0 == self.reader.link)) }
     {
-        word.word() != 0 && link_of(word) == self.reader.link
+        word.0 != 0 && link_of(word) == self.reader.link
     }
 
     /// The call whose at word this is.
@@ -45,10 +45,10 @@ impl Closing {
         ensures program { (a : Context) (operation : ℕ) → next_program a result ≡ after_word (load_program a self operation) found }
         ensures hand { (a : Context) → HasNext a result }
     {
-        let word = AtWord::from_word(found);
+        let word = AtWord(found);
         if self.is_named(word) {
             let lost = self.lost_at(word);
-            ReadNext::Point(ReadPoint::Post(lost, PostStep::Load))
+            ReadNext::Point(ReadPoint::Post(lost, WordStep::Read))
         } else {
             ReadNext::Posts(self)
         }
@@ -77,7 +77,7 @@ impl Lost {
             }
             PostTurn::Locked(word) => ReadNext::Locked(self, word),
             PostTurn::Again(from) => {
-                ReadNext::Point(ReadPoint::Post(self, PostStep::Exchange(from)))
+                ReadNext::Point(ReadPoint::Post(self, WordStep::Exchange(from)))
             }
         }
     }

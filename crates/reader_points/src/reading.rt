@@ -12,7 +12,7 @@ ghost use Rattle.reader_points.specs.Steps.{after_taking};
 use crate::point::{
     AnswerStep, Behind, ByteCount, CloseStep, Closing, ReadNext, ReadPoint, Reader, Taken,
 };
-use call_points::{LockStep, Locker};
+use call_points::{Locker, WordStep};
 use id_points::{CallId, LockTurn, Sought, is_early};
 use sock_words::IdWord;
 
@@ -73,10 +73,10 @@ impl Reader {
                 ReadNext::Point(ReadPoint::Answer(behind, id, AnswerStep::Take))
             }
             LockTurn::Again(None) => {
-                ReadNext::Point(ReadPoint::Lock(self, locker, LockStep::Read))
+                ReadNext::Point(ReadPoint::Lock(self, locker, WordStep::Read))
             }
             LockTurn::Again(Some(from)) => {
-                ReadNext::Point(ReadPoint::Lock(self, locker, LockStep::Exchange(from)))
+                ReadNext::Point(ReadPoint::Lock(self, locker, WordStep::Exchange(from)))
             }
         }
     }

@@ -23,7 +23,8 @@ use Rattle.reader_points.specs.Cuts.{GoesOnBehind, with_cut}
 use Rattle.reader_points.specs.Points.{Context, NO_FRAME, count_of, room_at, frames_program, frames_behind, point_program, next_program, with_held, with_kept, with_taking, HasInHand, TakesBytes}
 use Rattle.reader_seats.specs.declared.hand.Hand.{Hand}
 use Rattle.reader_seats.specs.Hands.{frame_in, is_fresh, hand_of}
-use Rattle.reader_seats.specs.Readers.{ReaderData, around, reader_program, nothing_asked}
+use Rattle.sock_message.specs.Asked.{nothing_asked}
+use Rattle.reader_seats.specs.Readers.{ReaderData, around, reader_program}
 
 -- ## Behind a cut
 

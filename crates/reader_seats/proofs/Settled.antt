@@ -5,8 +5,7 @@ use Rattle.sock_words.specs.declared.outcome.Outcome.{Outcome}
 use Rattle.seat_programs.specs.Cores.{resolved, still_waiting, said, next_step}
 use Rattle.seat_programs.specs.Programs.{Program, Do, Say, Sent, Rest, TakeMessage, TakeHome, PutHome, PutBytes, AskReady, Write, Aside, Round, Keep, Retries}
 use Rattle.call_points.specs.declared.ending.EndStep.TheVariants as ends
-use Rattle.call_points.specs.declared.locking.LockStep.TheVariants as locks
-use Rattle.call_points.specs.declared.posting.PostStep.TheVariants as posts
+use Rattle.call_points.specs.declared.word_step.WordStep.TheVariants as id_steps
 use Rattle.reader_points.specs.seat_states.specs.declared.point.ReleaseStep.TheVariants as releases
 use Rattle.reader_points.specs.declared.point.AnswerStep.TheVariants as answers
 use Rattle.reader_points.specs.declared.point.CloseStep.TheVariants as closes
@@ -39,12 +38,12 @@ reached (Retries requests after) h = absurd h
 reached other h = record { resolved_same = refl; same = refl; silent = λ os. refl; none_kept = refl }
 
 has_step : (a : Context) (point : ReadPoint) → HasStep (point_program a point)
-has_step a (points.Lock r l locks.Read) = tt
+has_step a (points.Lock r l id_steps.Read) = tt
 has_step a (points.Answer b id answers.Take) = tt
 has_step a (points.Answer b id (answers.End o ends.End)) = tt
 has_step a (points.Close c closes.AddRef) = tt
 has_step a (points.Close c (closes.Release releases.SubRef)) = tt
-has_step a (points.Post l posts.Load) = tt
+has_step a (points.Post l id_steps.Read) = tt
 has_step a (points.Fail l (fails.Take word)) = tt
 has_step a other = tt
 

@@ -1,18 +1,10 @@
 -- What the reader of a link has still to do, and what it has in hand.
-use Rattle.std.specs.Prelude.{ℕ, Bool, List, [], Option, Some, None}
+use Rattle.std.specs.Prelude.{ℕ, Bool, List}
 use Rattle.brpc_model.specs.Frame.{Frame}
 use Rattle.sock_message.specs.Asked.{Asked}
 use Rattle.seat_programs.specs.Programs.{Program}
 use Rattle.reader_points.specs.declared.point.ReadPoint.{ReadPoint}
 use Rattle.reader_points.specs.Points.{Context, point_program}
-
--- without a call in hand nothing is asked
-abbrev pub nothing_asked : Asked
-nothing_asked = record { operation = 0; names = []; service = []; method = []; payload = []; attachment = []; range = 0 }
-
-abbrev pub asked_of : Option Asked → Asked
-asked_of None = nothing_asked
-asked_of (Some asked) = asked
 
 -- a reader: where it stands, the bytes behind the last frame that was cut, the responses kept, the response in hand, whether that is a
 -- fresh one, which isn't kept, and the call in hand

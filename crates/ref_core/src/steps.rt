@@ -87,8 +87,7 @@ pub fn recycle(found: u64, from: Vref) -> Step
     ensures lost { found ≢ from.0 → (result.next ≡ found) × (result.won ≡ false) }
     ensures keeps { (i : ℕ) → KeepsSlotRule (MayRecycle i from.0) (ref_index i) found result.next (recycled i from.0 found) }
 {
-    let old = from.word();
-    Step::exchanged(found, old, old + ODD)
+    Step::exchanged(found, from.0, from.0 + ODD)
 }
 
 /// A7, store of 0 into a slot's tag: the slot may be claimed again.

@@ -2,11 +2,10 @@
 use Rattle.std.specs.Prelude.{ℕ, List}
 use Rattle.brpc_model.specs.Link.{LinkEnd}
 use Rattle.sock_io.specs.declared.link.LinkSpec.{LinkSpec}
-use Rattle.sock_io.specs.Link.{ConnectionEnd}
 
 -- what was asked of each link that was opened, how many connections were accepted, and those given back
 pub record RingLinkerState : Type 0 where
   pub asked : List LinkSpec
   pub accepted : ℕ
   pub back : List LinkEnd
-  pub done : List ConnectionEnd
+  pub done : List LinkEnd

@@ -1,5 +1,5 @@
 ghost use Rattle.std.specs.Prelude.{◌≡◌, ◌≢◌, ◌+◌, ◌<◌, ◌∷◌, ◌++◌, false, true, None, Ok, [], length, IfOk, IsErrOf, OnErr, OnOk};
-ghost use Rattle.sock_io.specs.Link.{IsFresh, IsSettled, IsUnused, MayOpen, connection_of, end_of};
+ghost use Rattle.sock_io.specs.Link.{IsFresh, IsSettled, IsUnused, MayOpen, end_of};
 ghost use Rattle.sock_io.specs.Linker.{shape_asked};
 ghost use Rattle.sock_io.specs.Meeting.{AreEnds, IsAskedPeer, MeetOut, MeetStep};
 ghost use Rattle.sock_io.specs.Peer.{IsNewPeer, has_ended};
@@ -151,7 +151,7 @@ impl<R: AllocGlobal + Drop> Linker for RingLinker<R> {
     }
 
     fn done(&mut self, out: Shaped<RingOut>, inn: RingIn)
-        ensures { self.new ≡ record self.old { done = self.old.done ++ connection_of (shaped_out out) (ring_in inn) ∷ [] } }
+        ensures { self.new ≡ record self.old { done = self.old.done ++ end_of (shaped_out out) (ring_in inn) ∷ [] } }
     {
         self.notes.done(out, inn);
     }

@@ -106,9 +106,13 @@ pub record SentWith {O : Type 0} (state : O → OutState) (p : Plan) (n : ℕ) (
   pub reached_it : ReachedBy p n (reached.Here sock) v has
   pub delivered : DeliveredBy state p sock msg by has w
 
+-- of a message that goes to the socket of a name: nothing more is done where nothing was opened under it, or where the life is gone; else this is, by what is told of it
+abbrev pub ByName : (Option Outcome → View → View → Type 0) → Plan → ℕ → Option Outcome → View → View → Type 0
+ByName Goes p n None v w = Goes None v w
+ByName Goes p n (Some outcome.Unopened) v w = ReachedBy p n reached.Unopened v w
+ByName Goes p n (Some (outcome.Gone found)) v w = ReachedBy p n (reached.Gone found) v w ⊎ Goes (Some (outcome.Gone found)) v w
+ByName Goes p n (Some outcome.Full) v w = Goes (Some outcome.Full) v w
+ByName Goes p n (Some _) v w = ⊥
+
 abbrev pub SentBy : {O : Type 0} → (O → OutState) → Plan → ℕ → Letter → Option Outcome → View → View → Type 0
-SentBy state p n msg None v w = SentWith state p n msg None v w
-SentBy state p n msg (Some outcome.Unopened) v w = ReachedBy p n reached.Unopened v w
-SentBy state p n msg (Some (outcome.Gone found)) v w = ReachedBy p n (reached.Gone found) v w ⊎ SentWith state p n msg (Some (outcome.Gone found)) v w
-SentBy state p n msg (Some outcome.Full) v w = SentWith state p n msg (Some outcome.Full) v w
-SentBy state p n msg (Some _) v w = ⊥
+SentBy state p n msg by v w = ByName (SentWith state p n msg) p n by v w

@@ -8,6 +8,14 @@ use Rattle.rpc_meta.specs.Meaning.{meaning}
 use Rattle.rpc_meta.specs.Gathered.{Names, Outcome, Gathered}
 use Rattle.rpc_meta.specs.Answer.{meta_fault, answer_as, request_from, response_from, meta_with, meta_from}
 
+pub same_some : {A : Type 0} {a b : A} → Some a ≡ Some b → a ≡ b
+same_some e = cc
+
+-- a clause of what is there, from what is known to be there
+pub is_that : {A : Type 0} (o : Option A) (a : A) → o ≡ Some a → IfSome o (λ b. b ≡ a)
+is_that None a e = tt
+is_that (Some b) a e = same_some e
+
 pub none_is : {A : Type 0} (o : Option A) → is_some o ≡ false → o ≡ None
 none_is None e = refl
 none_is (Some a) e = absurd (cc)
@@ -25,13 +33,13 @@ failing y g whole h w =
 
 -- a request's fault is the meta's
 pub fails : (x : MetaFault) (g : Gathered) (whole : Result meta.Meta meta.MetaFault) →
-    IfSome (option_map (λ (f : meta.MetaFault). Err f) (meta_fault x)) (λ (built : Result (Option meta.RequestMeta) meta.MetaFault). built ≡ request_from g.request) → meta_from g ≡ whole →
-    IfSome (answer_as meaning (Err x)) (λ read. read ≡ whole)
-fails (Wire fault) g whole h w = failing _ g whole h w
-fails NoService g whole h w = failing meta.NoService g whole h w
-fails NoMethod g whole h w = failing meta.NoMethod g whole h w
-fails Neither g whole h w = failing meta.Neither g whole h w
-fails NoMemory g whole h w = tt
+    ◌≡◌ {A = Option (Result (Option meta.RequestMeta) meta.MetaFault)} (option_map (λ (f : meta.MetaFault). Err f) (meta_fault x)) (Some (request_from g.request)) → meta_from g ≡ whole →
+    answer_as meaning (Err x) ≡ Some whole
+fails (Wire fault) g whole h w = ap Some (failing _ g whole (same_some h) w)
+fails NoService g whole h w = ap Some (failing meta.NoService g whole (same_some h) w)
+fails NoMethod g whole h w = ap Some (failing meta.NoMethod g whole (same_some h) w)
+fails Neither g whole h w = ap Some (failing meta.Neither g whole (same_some h) w)
+fails NoMemory g whole h w = absurd (cc)
 
 -- a request is there where its fields are
 named : (n : Names) (r : Option meta.RequestMeta) → Ok r ≡ meta.names_of n.service n.method n.log_id → is_some r ≡ true

@@ -12,7 +12,7 @@ use crate::write::{
 use pb_wire::NoMemory;
 
 /// A request or a response, as it is written inside a meta.
-pub trait Part {
+pub trait Inner {
     /// What it says.
     ghost Said: { Type 0 };
 
@@ -40,7 +40,7 @@ pub trait Part {
         ensures fits { Fits (said self.now) };
 }
 
-impl Part for RequestMeta {
+impl Inner for RequestMeta {
     ghost use Rattle.pb_wire.specs.brpc_model.specs.Meta.{RequestMeta as RequestSaid};
 
     ghost Said = { RequestSaid };
@@ -79,7 +79,7 @@ impl Part for RequestMeta {
     }
 }
 
-impl Part for ResponseMeta {
+impl Inner for ResponseMeta {
     ghost use Rattle.pb_wire.specs.brpc_model.specs.Meta.{ResponseMeta as ResponseSaid};
 
     ghost Said = { ResponseSaid };

@@ -4,7 +4,7 @@ ghost use Rattle.rpc_meta.specs.Gathered.{nothing};
 ghost use Rattle.rpc_meta.specs.Parts.{gathered_of};
 ghost use Rattle.rpc_meta.specs.Steps.{read_as, message_after, part_after, gathered_after};
 
-use crate::parts::{Message, MetaParts};
+use crate::parts::{Gathering, MetaParts};
 use crate::straight::gather_straight;
 use pb_wire::{Field, Fields, Value, WireFault};
 
@@ -63,7 +63,7 @@ fn add_part<'a>(
 }
 
 /// Adds the fields of the message that stands from `from` up to `to` to those of earlier ones.
-fn read_inside<'a, M: Message<'a>>(
+fn read_inside<'a, M: Gathering<'a>>(
     before: Option<M>,
     bytes: &'a [u8],
     from: usize,

@@ -40,7 +40,7 @@ pub struct MetaParts<'a> {
 }
 
 /// The last occurrences of the fields of a message inside a meta, so far.
-pub trait Message<'a>: Copy {
+pub trait Gathering<'a>: Copy {
     /// What they come to.
     ghost Said: { Type 0 };
 
@@ -60,7 +60,7 @@ pub trait Message<'a>: Copy {
         ensures { said result ≡ added (said self) (field_in bytes.now field) };
 }
 
-impl<'a> Message<'a> for RequestParts<'a> {
+impl<'a> Gathering<'a> for RequestParts<'a> {
     ghost use Rattle.rpc_meta.specs.Gathered.{Names, no_names, name_added};
     ghost use Rattle.rpc_meta.specs.Parts.{names_of};
 
@@ -91,7 +91,7 @@ impl<'a> Message<'a> for RequestParts<'a> {
     }
 }
 
-impl<'a> Message<'a> for ResponseParts<'a> {
+impl<'a> Gathering<'a> for ResponseParts<'a> {
     ghost use Rattle.rpc_meta.specs.Gathered.{Outcome, no_outcome, outcome_added};
     ghost use Rattle.rpc_meta.specs.Parts.{outcome_of};
 

@@ -1,4 +1,4 @@
-ghost use Rattle.std.specs.Prelude.{◌≡◌, ℕ, IfSome, option_map};
+ghost use Rattle.std.specs.Prelude.{◌≡◌, ℕ, Some, option_map};
 ghost use Rattle.pb_wire.specs.brpc_model.specs.Meta.{int32, read_meta};
 ghost use Rattle.rpc_meta.specs.Answer.{answer_as, request_from, response_from};
 ghost use Rattle.rpc_meta.specs.Meaning.{meaning, request_of, response_of};
@@ -67,7 +67,7 @@ impl MetaView<'_> {
     /// order of [`MetaFault`]: first the whole wire form, messages inside it where they stand.
     #[inline(always)]
     pub fn read(bytes: &[u8]) -> Result<MetaView<'_>, MetaFault>
-        ensures { IfSome (answer_as viewed result) (λ read. read ≡ read_meta bytes.now) }
+        ensures { answer_as viewed result ≡ Some (read_meta bytes.now) }
     {
         let parts = gather_parts(bytes)?;
         if parts.request.is_none() && parts.response.is_none() {
@@ -111,7 +111,7 @@ fn response_in(response: &Option<ResponseMeta>) -> Option<ResponseView<'_>>
 // A request must have its service, and then its method.
 #[inline(always)]
 fn view_request(parts: Option<RequestParts<'_>>) -> Result<Option<RequestView<'_>>, MetaFault>
-    ensures { IfSome (answer_as (option_map request_viewed) result) (λ request. request ≡ request_from (option_map names_of parts.entry)) }
+    ensures { answer_as (option_map request_viewed) result ≡ Some (request_from (option_map names_of parts.entry)) }
 {
     let Some(parts) = parts else {
         return Ok(None);

@@ -34,7 +34,7 @@ pub fn meet<R: Wait>(rt: &R, ids: &IdTable<Call>, calls: &mut AnswerSeat, frame:
     match ids.lock_attempt(rt, &mut calls.seat, version) {
         Ok(lock) => end_answered(ids, calls, lock, frame),
         Err(gone) => {
-            let word = IdWord::from_word(gone.found);
+            let word = IdWord(gone.found);
             if is_early(word, (version % 4_294_967_296) as u32) {
                 calls.keep(frame);
             } else {

@@ -58,7 +58,7 @@ pub fn end_lost(ids: &IdTable<Call>, calls: &mut AnswerSeat, lock: IdLock<Call>,
 fn link_of(word: AtWord) -> u16
     ensures { result ≡ at_word_link word.0 }
 {
-    ((word.word() / 64 % 65_536) as u16).saturating_sub(1)
+    ((word.0 / 64 % 65_536) as u16).saturating_sub(1)
 }
 
 // The attempt that it names.
@@ -114,7 +114,7 @@ fn post_last<R: Wait>(rt: &R, ids: &IdTable<Call>, calls: &mut AnswerSeat, code:
     ensures rest { Rests calls.old.seat calls.new.seat }
     ensures met_or_posted { MetOrPosted ids.now.plan.slots code word.0 (books calls.old) (books calls.new) }
 {
-    let found = IdWord::from_word(ids.word(&mut calls.seat, id_at(word)));
+    let found = IdWord(ids.word(&mut calls.seat, id_at(word)));
     if lacks_id(found, word.first()) {
         return;
     }

@@ -27,17 +27,12 @@ use Rattle.seat_programs.specs.Ticks.{Answer, Unasked, OfPut, OfReady, OfTake, M
 use Rattle.seat_programs.specs.Tasks.{plan_of}
 use Rattle.seat_programs.specs.Scripts.{opened, ending, set_up, played, IsRunWithCalls}
 use Rattle.outcome_causes.specs.sock_runs.specs.Sound.{first_step}
+use Rattle.owed_calls.proofs.EndsStill.{ticks_first}
 use Rattle.run_theorems.specs.Heard.{take_of, as_taken, taken_link, taken_at, taken_in, heard_takes, take_answers, bytes_found, given_by}
 use Rattle.run_theorems.proofs.HeardRuns.{same_heard_takes}
 use Rattle.run_theorems.proofs.Lengths.{tick_long, run_sizes}
 
 -- ## A tick
-
--- a tick is the first step of what its seat is at
-ticks_first : (p : Plan) (i : ℕ) (seat : SeatState) (c : Core) (answer : Answer) (program : Program) → tick_with p i seat c answer program ≡ step_with p i seat c answer (first_step program)
-ticks_first p i seat c answer (Write w after) = refl
-ticks_first p i seat c answer (Round head next) = refl
-ticks_first p i seat c answer program = refl
 
 abbrev IsStep : Program → Type 0
 IsStep (Write w after) = ⊥

@@ -5,14 +5,13 @@ use Rattle.brpc_model.specs.Items.{Item}
 use Rattle.brpc_model.specs.Link.{HalfAnswer, TakeAnswer, TakeTook, TakeEmpty, TakeEnd, TakeClosed, TakeFailed}
 use Rattle.brpc_model.specs.Operations.{Turn}
 use Rattle.sock_io.specs.Link.{of_put, of_ready}
-use Rattle.seat_programs.specs.Asides.{TakeBytes, Taking, Bytes, Nothing, NoMore, AtEnd, Closed, Broken}
-use Rattle.seat_programs.specs.Heads.{Reads, Discards}
-use Rattle.seat_programs.specs.Programs.{Program, Aside, Round}
+use Rattle.seat_programs.specs.Asides.{Taking, Bytes, Nothing, NoMore, AtEnd, Closed, Broken}
 use Rattle.seat_programs.specs.Cores.{Core}
 use Rattle.seat_programs.specs.Ticks.{Answer, OfPut, OfReady, OfTake, Moment, asked_link}
 use Rattle.seat_programs.specs.Tasks.{plan_of}
 use Rattle.seat_programs.specs.Scripts.{IsRunWithCalls, set_up}
 use Rattle.run_theorems.specs.Answers.{said_at, said_in}
+pub use Rattle.owed_calls.specs.Takes.{taken_link}
 
 -- ## Answers
 
@@ -34,13 +33,6 @@ abbrev pub as_taken : List Answer → List Taking
 as_taken answers = flat_map take_of answers
 
 -- ## Of each link
-
--- the link of which the next step takes bytes, if it takes any
-abbrev pub taken_link : Program → List ℕ
-taken_link (Aside (TakeBytes k room) next) = k ∷ []
-taken_link (Round (Reads r) next) = r.link ∷ []
-taken_link (Round (Discards k total) next) = k ∷ []
-taken_link other = []
 
 -- what the writing half of link k answered in a tick, if the tick asked it, and in these ticks, one after another
 abbrev pub heard_at : Core → Moment → ℕ → List Answer

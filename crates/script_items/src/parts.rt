@@ -43,17 +43,17 @@ fn is_sized(word: &[u8], most: usize) -> bool
     !word.is_empty() && word.len() <= most
 }
 
-/// A word of 1 to so many bytes, where all of them may stand in it.
+/// A word of 1 to so many bytes, where each of them is allowed.
 fn read_spelled(
     alloc: Global,
     word: &[u8],
     most: usize,
-    may_all_stand: bool,
+    are_all_allowed: bool,
 ) -> Result<Bytes, LineFault>
     ensures { Answers (λ n. n) result (
-        if has_bytes word.now && nat_le (length word.now) most && may_all_stand then Ok word.now else Err 7) }
+        if has_bytes word.now && nat_le (length word.now) most && are_all_allowed then Ok word.now else Err 7) }
 {
-    if !(is_sized(word, most) && may_all_stand) {
+    if !(is_sized(word, most) && are_all_allowed) {
         return Err(BAD_NAME);
     }
     Ok(Bytes::new(Vec::from_slice(alloc, word)?))

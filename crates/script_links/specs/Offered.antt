@@ -11,7 +11,7 @@ TellOffers {A} {B} out_state in_state = ((out : A) → (out_state out).took ≢ 
 
 -- a reading half tells what it gave, and what its other end offers, which was asked to be the server or not and to give its end after so many
 -- responses
-pub record TellsOffer (inn : InState) (serve : Bool) (end : Option ℕ) : Type 0 where
+pub record OffersAsAsked (inn : InState) (serve : Bool) (end : Option ℕ) : Type 0 where
   pub gave : List ℕ
   pub gave_is : inn.gave_bytes ≡ Some gave
   pub offer : Offer
@@ -27,7 +27,7 @@ pub record IsOffered (outs : List OutState) (inns : List InState) (k : ℕ) (ser
   pub inn_at : get_elem? inns k ≡ core.some inn
   pub took : List ℕ
   pub took_is : out.took ≡ Some took
-  pub tells : TellsOffer inn serve end
+  pub tells : OffersAsAsked inn serve end
   pub open tells use *
   pub served : IsServed took out.finished gave offer
 

@@ -62,7 +62,7 @@ pub fn count_placed(words: &[PlaceWord], order: &[Accepted]) -> usize
 pub fn has_position(word: PlaceWord) -> bool
     ensures { IsTrue result ↔ HasPosition word.0 }
 {
-    word.word() % 4_294_967_296 > 0
+    word.0 % 4_294_967_296 > 0
 }
 
 /// What became of a message that was accepted; nothing where the word tells no position.

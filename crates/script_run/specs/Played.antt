@@ -25,7 +25,7 @@ use Rattle.sock_core.specs.Machines.{MachineState, core_with}
 use Rattle.calm_runs.specs.send_causes.specs.Below.run_theorems.specs.Heard.{as_told, as_taken, take_answers, heard_of, taken_of, heard_takes}
 use Rattle.calm_runs.specs.send_causes.specs.Below.run_theorems.specs.OfferedRuns.{OffersInRun}
 use Rattle.calm_runs.specs.send_causes.specs.Below.run_theorems.specs.Over.{IsAllOver}
-use Rattle.sock_core.specs.Runs.{ShowsTaking, LinksShow, RunWith, Made}
+use Rattle.sock_core.specs.Runs.{ShowsTaking, LinksShow, MadeByTicks, Made}
 use Rattle.sock_core.specs.Driving.{FirstRests}
 use Rattle.script_run.specs.Causes.{HasCauses, DropsTold, broken_of, gave_in}
 use Rattle.script_run.specs.declared.report.Print.{Print}
@@ -49,7 +49,7 @@ pub record IsPlayable (m : MachineState) : Type 0 where
 
 -- ticks like these were made, over links that had taken and given this
 abbrev pub PlayedWith : (Core → List Moment → Type 0) → MachineState → MachineState → Taken → Given → Type 0
-PlayedWith Ticks = RunWith (λ p. Ticks)
+PlayedWith Ticks = MadeByTicks (λ p. Ticks)
 
 abbrev pub HasPlayed : (Core → List Moment → Type 0) → MachineState → MachineState → Type 0
 HasPlayed Ticks old new = Made old new (PlayedWith Ticks old new)

@@ -23,8 +23,8 @@ tasks_along all names number link own (item ∷ items) =
     else tasks_along all names number link own items
 
 -- the sorts of operations whose numbers are wanted: a call, or else one that opens a link
-abbrev pub is_one : Bool → Item → Bool
-is_one of_calls item = if of_calls then is_call item else is_open item
+abbrev pub is_of_sort : Bool → Item → Bool
+is_of_sort of_calls item = if of_calls then is_call item else is_open item
 
 -- the numbers of the operations of one sort along these items, where the next operation has this one
 abbrev pub numbers_along : (Item → Bool) → ℕ → List Item → List ℕ

@@ -2,7 +2,7 @@ ghost use Rattle.std.specs.Prelude.{◌≡◌, ◌∷◌, map, IfOk};
 ghost use Rattle.seat_programs.specs.Tasks.{calls, opens};
 ghost use Rattle.script_items.specs.Meaning.{item};
 ghost use Rattle.report_fits.specs.Limits.{KeepsLimits};
-ghost use Rattle.script_tasks.specs.Along.{ends_along, is_one, numbers_along, operation_in};
+ghost use Rattle.script_tasks.specs.Along.{ends_along, is_of_sort, numbers_along, operation_in};
 
 use crate::sizes::{is_call, is_open};
 use script_items::{Line, Target, is_client, is_operation};
@@ -10,8 +10,8 @@ use std::alloc::{AllocError, Global};
 use std::collections::VecDeque;
 
 /// Whether the line is a call, or else opens a link.
-fn is_one(of_calls: bool, line: &Line) -> bool
-    ensures { result ≡ is_one of_calls (item line.now) }
+fn is_of_sort(of_calls: bool, line: &Line) -> bool
+    ensures { result ≡ is_of_sort of_calls (item line.now) }
 {
     if of_calls {
         is_call(line)
@@ -21,15 +21,15 @@ fn is_one(of_calls: bool, line: &Line) -> bool
 }
 
 /// The numbers of the operations that are calls, or else of those that open a link, in their order.
-fn numbers_of(alloc: Global, lines: &[Line], of_calls: bool) -> Result<Vec<u16>, AllocError>
+fn operation_numbers(alloc: Global, lines: &[Line], of_calls: bool) -> Result<Vec<u16>, AllocError>
     requires { KeepsLimits (map item lines.now) }
-    ensures { IfOk result (λ numbers. numbers.items ≡ numbers_along (is_one of_calls) 0 (map item lines.now)) }
+    ensures { IfOk result (λ numbers. numbers.items ≡ numbers_along (is_of_sort of_calls) 0 (map item lines.now)) }
 {
     let mut numbers = Vec::new(alloc);
     let mut number = 0u16;
     for line in lines {
         if is_operation(line) {
-            if is_one(of_calls, line) {
+            if is_of_sort(of_calls, line) {
                 numbers.push(number)?;
             }
             number += 1;
@@ -43,7 +43,7 @@ pub fn opens_of(alloc: Global, lines: &[Line]) -> Result<VecDeque<u16>, AllocErr
     requires { KeepsLimits (map item lines.now) }
     ensures { IfOk result (λ numbers. numbers.items ≡ opens (map item lines.now)) }
 {
-    Ok(VecDeque::from_vec(numbers_of(alloc, lines, false)?))
+    Ok(VecDeque::from_vec(operation_numbers(alloc, lines, false)?))
 }
 
 /// The numbers of the `call` operations, in their order.
@@ -51,7 +51,7 @@ pub fn calls_of(alloc: Global, lines: &[Line]) -> Result<Vec<u16>, AllocError>
     requires { KeepsLimits (map item lines.now) }
     ensures { IfOk result (λ numbers. numbers.items ≡ calls (map item lines.now)) }
 {
-    numbers_of(alloc, lines, true)
+    operation_numbers(alloc, lines, true)
 }
 
 /// The number of the first operation of each client, the setup's first, and behind these how many operations there are.

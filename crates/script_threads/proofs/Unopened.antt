@@ -28,7 +28,7 @@ use Rattle.call_run.specs.sock_rule.specs.Rows.{NOTHING, PutAt}
 use Rattle.rpc_client.specs.Opening.{OpenedBy}
 use Rattle.script_parts.specs.report_fits.proofs.Numbering.{link_at, link_later}
 use Rattle.script_parts.specs.report_fits.proofs.TaskLemmas.{numbers_at, open_asks, task_is}
-use Rattle.script_parts.specs.call_whys.specs.Below.sock_deeds.specs.Deeds.{Did, opens, DoneBy, Deed, own_number, name_in}
+use Rattle.script_parts.specs.call_whys.specs.Below.sock_deeds.specs.Deeds.{Did, opens, DoneBy, Deed, own_number, own_name}
 use Rattle.script_parts.specs.call_whys.specs.Below.sock_deeds.specs.Runs.{DeedRun}
 use Rattle.call_run.specs.sock_open.specs.slot_steps.proofs.Numbers.{pair_is}
 use Rattle.script_parts.specs.call_whys.specs.Below.sock_deeds.proofs.Acts.{Act, All, did_of, done_of, puts_from, same_deed}
@@ -70,7 +70,7 @@ module _ {O : Type 0} {g : Ghosts O} {state : O → OutState} {p : Plan} {client
       by_open_of name number link by is low_name (under_name id by_is e w) = absurd (omega arith)
 
       by_storing : Storing p (open_index p o) word state (did_of run b) b.d.before b.d.after → own_number (did_of run b) ≡ Some o
-      by_storing (by_open name number link by is u) = by_open_of name number link by is (act_name run b name (ap name_in is)) u
+      by_storing (by_open name number link by is u) = by_open_of name number link by is (act_name run b name (ap own_name is)) u
       by_storing (by_drop name number attempt msg is over dropped) = absurd (let e = dropped.at_place in omega arith)
 
   pub none_made : (o : ℕ) → o < p.operations → HasFound record { place = open_index p o; word = NOTHING } (All run) → (n k slot version : ℕ) (m : MadeHere run n k slot version) → m.task.number ≡ o → ⊥

@@ -18,7 +18,7 @@ use Rattle.seat_programs.specs.Writings as heads
 use Rattle.seat_programs.specs.Programs.{Program, Do, Say, Sent, TakeMessage, Write, release, NO_SOCKET}
 use Rattle.id_points.specs.Ids.{id_of, number_of}
 use Rattle.call_points.specs.declared.deciding.OnCall.{OnCall}
-use Rattle.call_points.specs.declared.posting.PostStep.TheVariants as calls_posts
+use Rattle.call_points.specs.declared.word_step.WordStep.TheVariants as id_steps
 use Rattle.seat_states.specs.declared.point.Attempt.{Attempt}
 use Rattle.seat_states.specs.declared.point.AttemptStep.TheVariants as attempts
 use Rattle.seat_states.specs.declared.point.Author.{Author}
@@ -156,7 +156,7 @@ passes a w v now c is_last h author e =
 -- ## Behind an error
 
 -- an attempt tells its call of an error
-pub posts : (a : Context) (t : Attempt) (n : ℕ) (slot : Option ℕ) → next_program a (nexts.Point (points.Post (error_by t n) (afters.Attempt slot) calls_posts.Load)) ≡ post (id_of t.id) n (number_of t.number) (after_program a (afters.Attempt slot))
+pub posts : (a : Context) (t : Attempt) (n : ℕ) (slot : Option ℕ) → next_program a (nexts.Point (points.Post (error_by t n) (afters.Attempt slot) id_steps.Read)) ≡ post (id_of t.id) n (number_of t.number) (after_program a (afters.Attempt slot))
 posts a t n slot = refl
 
 -- a post that has no lock

@@ -22,8 +22,7 @@ use Rattle.seat_programs.specs.Heads.{HasEnded, Unlocks}
 use Rattle.seat_programs.specs.Posts.{ends_call, end_id, unlocked, decided}
 use Rattle.call_points.specs.declared.deciding.OnCall.{OnCall}
 use Rattle.call_points.specs.declared.deciding.DecideStep.TheVariants as decides
-use Rattle.call_points.specs.declared.posting.PostStep.TheVariants as posts
-use Rattle.call_points.specs.declared.locking.LockStep.TheVariants as locks
+use Rattle.call_points.specs.declared.word_step.WordStep.TheVariants as id_steps
 use Rattle.seat_states.specs.declared.point.Sending.{Sending}
 use Rattle.seat_states.specs.declared.point.Author.{Author}
 use Rattle.seat_states.specs.declared.point.Author.TheVariants as authors
@@ -112,12 +111,12 @@ facts a (points.Call begins.LoadName) = (tt, (refl, refl), (λ found h. tt), (λ
 facts a (points.Call _) = (tt, (refl, refl))
 facts a (points.Attempt t socket (attempts.StoreAt k)) = (tt, (refl, refl))
 facts a (points.Attempt t socket _) = (tt, (refl, refl), (λ found h. tt), (λ sizes few fits. tt))
-facts a (points.Post c after posts.Load) = (tt, (refl, refl))
+facts a (points.Post c after id_steps.Read) = (tt, (refl, refl))
 facts a (points.Post c after _) = (tt, (refl, refl))
 facts a (points.Decide c after (decides.Judge w)) = judge_facts c after w (ends_call (parts w.0) c.error.0) (end_id (id_slot (id_of c.id)) (decided (id_of c.id) (after_program a after) (HasEnded a.asked.operation (code_of c.error.0)))) (Aside (PutCall (id_slot (id_of c.id)) a.asked) (λ _. Round (Unlocks (id_slot (id_of c.id)) w.0 true) (unlocked (record { id = id_of c.id; attempt = (parts w.0).attempt + 1 }) (decided (id_of c.id) (after_program a after))))) (tt, (refl, refl)) (tt, (refl, refl))
 facts a (points.Decide c after _) = (tt, (refl, refl))
 facts a (points.Retry r retries.LoadName) = (tt, (refl, refl), (λ found h. tt), (λ sizes few fits. tt))
-facts a (points.Retry r (retries.Lock locks.Read)) = (tt, (refl, refl))
+facts a (points.Retry r (retries.Lock id_steps.Read)) = (tt, (refl, refl))
 facts a (points.Retry r _) = (tt, (refl, refl))
 facts a (points.Expire o t) = (tt, (refl, refl))
 facts a (points.Join o (joins.Wait id)) = (tt, (refl, refl))
@@ -183,11 +182,11 @@ ahead a (points.Call begins.LoadName) = (refl, λ os. refl)
 ahead a (points.Call _) = (refl, λ os. refl)
 ahead a (points.Attempt t socket attempts.AddRef) = (refl, λ os. refl)
 ahead a (points.Attempt t socket _) = (refl, λ os. refl)
-ahead a (points.Post c after posts.Load) = (refl, λ os. refl)
+ahead a (points.Post c after id_steps.Read) = (refl, λ os. refl)
 ahead a (points.Post c after _) = (refl, λ os. refl)
 ahead a (points.Decide c after (decides.Take w)) = (refl, λ os. refl)
 ahead a (points.Decide c after _) = (refl, λ os. refl)
-ahead a (points.Retry r (retries.Lock locks.Read)) = (refl, λ os. refl)
+ahead a (points.Retry r (retries.Lock id_steps.Read)) = (refl, λ os. refl)
 ahead a (points.Retry r _) = (refl, λ os. refl)
 ahead a (points.Expire o t) = (refl, λ os. refl)
 ahead a (points.Join o (joins.Wait id)) = (refl, λ os. refl)

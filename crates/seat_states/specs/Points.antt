@@ -50,7 +50,7 @@ use Rattle.call_points.specs.declared.deciding.DecideStep.{DecideStep}
 use Rattle.call_points.specs.declared.deciding.DecideStep.TheVariants as decide_steps
 use Rattle.call_points.specs.declared.locking.Locker.{Locker}
 use Rattle.call_points.specs.declared.deciding.OnCall.{OnCall}
-use Rattle.call_points.specs.declared.posting.PostStep.TheVariants as calls_posts
+use Rattle.call_points.specs.declared.word_step.WordStep.TheVariants as id_steps
 use Rattle.seat_states.specs.declared.point.Attempt.{Attempt}
 use Rattle.seat_states.specs.declared.calling.Calling.{Calling}
 use Rattle.seat_states.specs.declared.point.Author.{Author}
@@ -155,7 +155,7 @@ sent_then (authors.Attempt t) = thens.GaveBack
 -- the call whose message was dropped is told, and then follows this
 abbrev pub told : Option OnCall → Program → Program
 told None next = next
-told (Some c) next = post_program c (posted (id_of c.id) c.error.0 next) calls_posts.Load
+told (Some c) next = post_program c (posted (id_of c.id) c.error.0 next) id_steps.Read
 
 -- what is told of a message that is dropped with this code
 abbrev pub tell : Author → List ℕ → ℕ → Program → Program

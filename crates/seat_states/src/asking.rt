@@ -10,15 +10,15 @@ ghost use Rattle.seat_states.specs.Points.{Context, after_program, error_by, ref
 
 use crate::point::{AfterStep, Attempt, Author, Continuation, Next, Point, ReleaseStep};
 use crate::releasing::releasing;
-use call_points::{DecideNext, DecideStep, OnCall, PostStep};
+use call_points::{DecideNext, DecideStep, OnCall, WordStep};
 use id_points::{IdError, PostTurn};
 use sock_words::{EFAILEDSOCKET, Outcome};
 
 /// An error is posted, and this follows.
 pub fn posting(error: OnCall, after: AfterStep) -> Next
-    ensures { result ≡ Next.Point (Point.Post error after PostStep.Load) }
+    ensures { result ≡ Next.Point (Point.Post error after WordStep.Read) }
 {
-    Next::Point(Point::Post(error, after, PostStep::Load))
+    Next::Point(Point::Post(error, after, WordStep::Read))
 }
 
 /// An error is decided on, at this step.
@@ -112,7 +112,7 @@ impl AfterStep {
             PostTurn::Again(from) => Next::Point(Point::Post(
                 error,
                 self,
-                PostStep::Exchange(from),
+                WordStep::Exchange(from),
             )),
         }
     }

@@ -190,7 +190,7 @@ impl Call {
             Call::Recycle(_, from) => recycle(found, from).next,
             Call::FreeSlot(_) => free_slot(found).next,
             Call::StoreLink(_, link) => u64::from(link),
-            Call::ResetHead(_, _) => Ticket::IDLE.word(),
+            Call::ResetHead(_, _) => Ticket::IDLE.0,
             Call::ClearCode(_, _) => 0,
             Call::StoreCode(_, _, code) => u64::from(code),
             Call::StoreName(_, word) | Call::StoreOpen(_, word) => word,
@@ -209,10 +209,10 @@ impl Call {
             Call::SwapHead(_, own) => swap_head(found, own).next,
             Call::Connect(_, before) => connect(found, before).next,
             Call::EmptyHead(_, last) => empty_head(found, last).next,
-            Call::ReverseNext(_, value) => turn_next(found, value.word()).next,
+            Call::ReverseNext(_, value) => turn_next(found, value.0).next,
             Call::FreeRequest(_, generation) => free_request(found, generation).next,
-            Call::StorePlace(_, link, position) => PlaceWord::pack(false, link, position).word(),
-            Call::DropPlace(_, link, position) => PlaceWord::pack(true, link, position).word(),
+            Call::StorePlace(_, link, position) => PlaceWord::pack(false, link, position).0,
+            Call::DropPlace(_, link, position) => PlaceWord::pack(true, link, position).0,
         }
     }
 }

@@ -61,7 +61,7 @@ impl CallStep {
                 if found == 0 {
                     Next::Said(calling.operation, Outcome::Unopened)
                 } else {
-                    claiming(ids, 0, SocketId::from_word(found - 1))
+                    claiming(ids, 0, SocketId(found - 1))
                 }
             }
             CallStep::ClaimId(slot, socket) => {
@@ -75,7 +75,7 @@ impl CallStep {
                 Next::Point(Point::Call(CallStep::MakeId(slot, socket)))
             }
             CallStep::MakeId(slot, socket) => {
-                let id = CallId::pack(slot, IdWord::from_word(found).first());
+                let id = CallId::pack(slot, IdWord(found).first());
                 Next::Point(Point::Call(CallStep::StoreCall(id, socket)))
             }
             CallStep::StoreCall(id, socket) => {
@@ -135,7 +135,7 @@ impl AttemptStep {
     {
         match self {
             AttemptStep::AddRef => {
-                let word = Vref::from_word(found);
+                let word = Vref(found);
                 if word.version() == socket.version() {
                     attempt.to(socket, AttemptStep::FindLink)
                 } else {

@@ -55,7 +55,7 @@ impl Opening {
             OpenStep::ResetHead(slot) => self.to(OpenStep::ClearCode(slot)),
             OpenStep::ClearCode(slot) => self.to(OpenStep::CreateLife(slot)),
             OpenStep::CreateLife(slot) => {
-                self.to(OpenStep::StoreOpen(slot, Vref::from_word(found).version()))
+                self.to(OpenStep::StoreOpen(slot, Vref(found).version()))
             }
             OpenStep::StoreOpen(slot, version) => self.to(OpenStep::StoreName(slot, version)),
             OpenStep::StoreName(slot, version) => {

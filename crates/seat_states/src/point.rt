@@ -1,5 +1,5 @@
 use crate::call::Call;
-use call_points::{Aside, DecideStep, LockStep, OnCall, PostStep};
+use call_points::{Aside, DecideStep, OnCall, WordStep};
 use id_points::{AttemptNumber, CallId};
 use sock_words::{IdWord, Outcome, SocketId, Ticket, Vref};
 
@@ -290,7 +290,7 @@ pub enum AttemptStep {
 #[derive(Clone, Copy)]
 pub enum RetryStep {
     /// The call's id is to be locked.
-    Lock(LockStep),
+    Lock(WordStep),
     /// It has this word: the call is taken out of its home,
     TakeCall(IdWord),
     /// goes home again,
@@ -331,7 +331,7 @@ pub enum Point {
     Call(CallStep),
     /// An attempt over the socket with this id.
     Attempt(Attempt, SocketId, AttemptStep),
-    Post(OnCall, AfterStep, PostStep),
+    Post(OnCall, AfterStep, WordStep),
     Decide(OnCall, AfterStep, DecideStep),
     Retry(Retrying, RetryStep),
     /// The operation `expire` of this number, of the call of the second one.

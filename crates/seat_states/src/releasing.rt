@@ -72,15 +72,15 @@ impl ReleaseStep {
     {
         match self {
             ReleaseStep::SubRef => {
-                let word = Vref::from_word(found);
+                let word = Vref(found);
                 if word.is_failed() && word.nref() == 1 {
-                    Released::Step(ReleaseStep::Recycle(Vref::from_word(found - 1)))
+                    Released::Step(ReleaseStep::Recycle(Vref(found - 1)))
                 } else {
                     Released::Done(false)
                 }
             }
             ReleaseStep::Recycle(from) => {
-                if found == from.word() {
+                if found == from.0 {
                     Released::Step(ReleaseStep::LoadLink(from.version() + 1))
                 } else {
                     Released::Done(false)

@@ -13,7 +13,7 @@ use crate::call::Call;
 use crate::point::{
     AfterStep, Attempt, AttemptStep, JoinStep, Next, Point, RetryStep, Retrying, Step,
 };
-use call_points::{Aside, DecideStep, LockStep, Locker, OnCall};
+use call_points::{Aside, DecideStep, Locker, OnCall, WordStep};
 use id_points::{CallId, IdError, LockTurn, Sought, UnlockTurn, is_awaited, unlock_behind};
 use sock_words::{EFAILEDSOCKET, ERPCTIMEDOUT, IdWord, Outcome, SocketId};
 
@@ -60,8 +60,8 @@ impl Retrying {
         match turn {
             LockTurn::NotThere(_) => Next::GaveBack,
             LockTurn::Has(word) => self.to(RetryStep::TakeCall(word)),
-            LockTurn::Again(None) => self.to(RetryStep::Lock(LockStep::Read)),
-            LockTurn::Again(Some(from)) => self.to(RetryStep::Lock(LockStep::Exchange(from))),
+            LockTurn::Again(None) => self.to(RetryStep::Lock(WordStep::Read)),
+            LockTurn::Again(Some(from)) => self.to(RetryStep::Lock(WordStep::Exchange(from))),
         }
     }
 
@@ -95,13 +95,13 @@ impl Retrying {
             RetryStep::TakeCall(_) => Next::GaveBack,
             RetryStep::PutCall(word) => self.to(RetryStep::Unlock(word, false)),
             RetryStep::Unlock(from, advance) => {
-                self.unlocked(unlock_behind(from, advance, IdWord::from_word(found)))
+                self.unlocked(unlock_behind(from, advance, IdWord(found)))
             }
             RetryStep::LoadName => {
                 if found == 0 {
                     posting(self.attempt.error(EFAILEDSOCKET), AfterStep::Attempt(None))
                 } else {
-                    let socket = SocketId::from_word(found - 1);
+                    let socket = SocketId(found - 1);
                     self.attempt.to(socket, AttemptStep::AddRef)
                 }
             }
@@ -167,7 +167,7 @@ impl JoinStep {
                 }
             }
             JoinStep::Wait(id) => {
-                if is_awaited(id.first(), IdWord::from_word(found)) {
+                if is_awaited(id.first(), IdWord(found)) {
                     Next::Point(Point::Join(operation, JoinStep::Wait(id)))
                 } else {
                     Next::Said(operation, Outcome::Joined)

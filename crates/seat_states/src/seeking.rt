@@ -36,7 +36,7 @@ impl Failing {
     {
         match step {
             FailStep::SetOdd => {
-                let word = Vref::from_word(found);
+                let word = Vref(found);
                 if word.is_failed() {
                     self.release(word)
                 } else {
@@ -130,14 +130,14 @@ impl Aim {
         match step {
             SeekStep::Load => {
                 if self.is_id(found) {
-                    let id = SocketId::from_word(found - 1);
+                    let id = SocketId(found - 1);
                     Next::Point(Point::Seek(self, SeekStep::AddRef(id)))
                 } else {
                     self.unopened()
                 }
             }
             SeekStep::AddRef(id) => {
-                let word = Vref::from_word(found);
+                let word = Vref(found);
                 if word.version() == id.version() {
                     self.reached(id)
                 } else {

@@ -152,7 +152,7 @@ impl Sending {
         ensures hand { link_behind result ≡ None }
     {
         match step {
-            SendStep::Look => self.looked(requests, Vref::from_word(found)),
+            SendStep::Look => self.looked(requests, Vref(found)),
             SendStep::Claim(request) => {
                 if found % 2 == 0 {
                     let own = Ticket::pack(false, found / 2, request);
@@ -163,9 +163,7 @@ impl Sending {
             }
             SendStep::PutMessage(request, own) => self.to(SendStep::Unconnect(request, own)),
             SendStep::Unconnect(request, own) => self.to(SendStep::SwapHead(request, own)),
-            SendStep::SwapHead(request, own) => {
-                self.swapped(request, own, Ticket::from_word(found))
-            }
+            SendStep::SwapHead(request, own) => { self.swapped(request, own, Ticket(found)) }
             SendStep::FindLink(request, own) => {
                 self.to(SendStep::TakeHome(request, own, found as u16))
             }

@@ -17,7 +17,7 @@ pub const NO_SOCKET: u64 = u64::MAX;
 fn socket_word(version: u32, slot: u16) -> u64
     ensures { result ≡ socket_id version slot + 1 }
 {
-    SocketId::pack(version, u32::from(slot)).word() + 1
+    SocketId::pack(version, u32::from(slot)).0 + 1
 }
 
 impl Opening {

@@ -27,13 +27,13 @@ const LAST_GENERATION: u64 = 140_737_488_355_327;
 fn request_of(ticket: Ticket) -> u16
     ensures { result ≡ slot_of ticket.0 }
 {
-    ((ticket.word() % 65_536) as u16).saturating_sub(1)
+    ((ticket.0 % 65_536) as u16).saturating_sub(1)
 }
 
 fn generation(ticket: Ticket) -> u64
     ensures { result ≡ generation_of ticket.0 }
 {
-    ticket.word() / 65_536
+    ticket.0 / 65_536
 }
 
 impl Current {
@@ -123,7 +123,7 @@ impl Writer {
             },
             ..self
         };
-        writer.to(WriteStep::Walk(found, found, Ticket::from_word(0)))
+        writer.to(WriteStep::Walk(found, found, Ticket(0)))
     }
 
     /// The next step of whoever writes.
@@ -173,7 +173,7 @@ impl Writer {
     fn by_life(self, found: u64, failed: WriteStep, lives: WriteStep) -> Next
         ensures { result ≡ Next.Point (Point.Write self (if vref_version found % 2 == 0 then lives else failed)) }
     {
-        if Vref::from_word(found).is_failed() {
+        if Vref(found).is_failed() {
             self.to(failed)
         } else {
             self.to(lives)
@@ -293,7 +293,7 @@ impl Writer {
         if found == UNCONNECTED {
             self.to(WriteStep::Walk(top, at, after))
         } else {
-            self.to(WriteStep::Turn(top, at, after, Ticket::from_word(found)))
+            self.to(WriteStep::Turn(top, at, after, Ticket(found)))
         }
     }
 
@@ -329,11 +329,9 @@ impl Writer {
             WriteStep::LoadCode(current) => self.to(WriteStep::DropPlace(current, found as u16)),
             WriteStep::StorePlace(current) => self.passed(current.ticket, None),
             WriteStep::DropPlace(current, code) => self.dropped(current, code),
-            WriteStep::ReadNext(now, told) => {
-                self.gives_back(now, Some(Ticket::from_word(found)), told)
-            }
+            WriteStep::ReadNext(now, told) => { self.gives_back(now, Some(Ticket(found)), told) }
             WriteStep::Free(_, next, told) => self.tells(next, told),
-            WriteStep::EmptyHead => self.emptied(Ticket::from_word(found)),
+            WriteStep::EmptyHead => self.emptied(Ticket(found)),
             WriteStep::Walk(top, at, after) => self.walked(top, at, after, found),
             WriteStep::Turn(top, at, _, before) => self.turned(top, at, before),
             WriteStep::Put(_, _)

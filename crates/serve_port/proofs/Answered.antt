@@ -12,10 +12,9 @@ use Rattle.rpc_server.specs.Feeding.{has_fault}
 use Rattle.sock_io.specs.declared.link.Take.{Take}
 use Rattle.sock_io.specs.declared.link.Take.TheVariants as take_
 use Rattle.sock_io.specs.Causes.{Rose}
-use Rattle.sock_io.specs.Link.{OutState, InState, IsUnused, IsTakeCount, TakeStep, connection_of, given_of, taken_count}
+use Rattle.sock_io.specs.Link.{OutState, InState, IsUnused, IsTakeCount, TakeStep, end_of, given_of, taken_count}
 use Rattle.loop_link.specs.Serving.{Follows}
 use Rattle.loop_link.proofs.Following.{follows_next}
-use Rattle.serve_port.specs.declared.service.Service.{Service}
 use Rattle.serve_port.specs.declared.service.ServiceEnd.{ServiceEnd}
 use Rattle.serve_port.specs.declared.service.ServiceEnd.TheVariants as end_
 use Rattle.serve_port.specs.Serving.{AllAnswered, NoneFailed, EndsBy, Serves}
@@ -140,7 +139,7 @@ module _ (left n : ℕ) (c c' : Held) (out out' : OutState) (inn inn' : InState)
           fine = k.follows.faults piece ∙ sym g.0.fault;
         }
 
-    ends_by : (e : ServiceEnd) → GoesOn out c piece (Err e) out' c' a.left → EndsBy e came' (replies k.came ++ a.part) c'.made (connection_of out' inn')
+    ends_by : (e : ServiceEnd) → GoesOn out c piece (Err e) out' c' a.left → EndsBy e came' (replies k.came ++ a.part) c'.made (end_of out' inn')
     ends_by end_.AtEnd g = absurd g
     ends_by end_.AtLimit g = absurd g
     ends_by end_.TakeFailed g = absurd g
@@ -152,7 +151,7 @@ module _ (left n : ℕ) (c c' : Held) (out out' : OutState) (inn inn' : InState)
     ends_by end_.PutFailed g = (let one : 1 ≤ out'.faults = subst (λ n. Rose n out'.faults) k.puts g in omega (arith, one), takes')
     ends_by end_.NoMemory g = record { puts = g ∙ k.puts; takes = takes' }
 
-    pub stops : (e : ServiceEnd) → result ≡ Err e → Serves (record { end = e; frames = c'.made }) (connection_of out' inn')
+    pub stops : (e : ServiceEnd) → result ≡ Err e → Serves (record { end = e; frames = c'.made }) (end_of out' inn')
     stops e is_err = record {
       came = came';
       put = replies k.came ++ a.part;
@@ -175,7 +174,7 @@ few_came left c out inn k = let s = k.sum in omega (arith, s)
 
 -- all that came was answered, and what came behind the last take is nothing
 ends_here : (left : ℕ) (c : Held) (out : OutState) (inn inn' : InState) (e : ServiceEnd) → (k : Talks left c out inn) → inn'.gave ≡ inn.gave → IfSome inn'.gave_bytes (λ x. x ≡ k.came)
-    → EndsBy e k.came (replies k.came) c.made (connection_of out inn') → Serves (record { end = e; frames = c.made }) (connection_of out inn')
+    → EndsBy e k.came (replies k.came) c.made (end_of out inn') → Serves (record { end = e; frames = c.made }) (end_of out inn')
 ends_here left c out inn inn' e k count gave ended = record {
   came = k.came;
   put = replies k.came;
@@ -188,22 +187,18 @@ ends_here left c out inn inn' e k count gave ended = record {
   ended = ended;
 }
 
-pub at_limit : (left : ℕ) (c : Held) (out : OutState) (inn : InState) → Talks left c out inn → left ≡ 0 → Serves (record { end = end_.AtLimit; frames = c.made }) (connection_of out inn)
+pub at_limit : (left : ℕ) (c : Held) (out : OutState) (inn : InState) → Talks left c out inn → left ≡ 0 → Serves (record { end = end_.AtLimit; frames = c.made }) (end_of out inn)
 at_limit left c out inn k e = ends_here left c out inn inn end_.AtLimit k refl k.gave (answered left c out inn k, k.fine, (let s = k.sum in omega (arith, s, e)), record { puts = k.puts; takes = k.takes })
 
-pub at_end : (left : ℕ) (c : Held) (out : OutState) (inn inn' : InState) (room : List ℕ) (t : Take) → Talks left c out inn → TakeStep inn inn' room t → t ≡ take_.End → Serves (record { end = end_.AtEnd; frames = c.made }) (connection_of out inn')
+pub at_end : (left : ℕ) (c : Held) (out : OutState) (inn inn' : InState) (room : List ℕ) (t : Take) → Talks left c out inn → TakeStep inn inn' room t → t ≡ take_.End → Serves (record { end = end_.AtEnd; frames = c.made }) (end_of out inn')
 at_end left c out inn inn' room t k s e = let step = subst (TakeStep inn inn' room) e s in
     ends_here left c out inn inn' end_.AtEnd k (omega (arith, step.gave)) (none_told inn.gave_bytes inn'.gave_bytes k.came step.bytes k.gave)
     (answered left c out inn k, k.fine, step.end.0 refl, record { puts = k.puts; takes = step.kept (λ x. absurd (cc)) ∙ k.takes })
 
-pub take_failed : (left : ℕ) (c : Held) (out : OutState) (inn inn' : InState) (room : List ℕ) (t : Take) → Talks left c out inn → TakeStep inn inn' room t → t ≡ take_.Failed → Serves (record { end = end_.TakeFailed; frames = c.made }) (connection_of out inn')
+pub take_failed : (left : ℕ) (c : Held) (out : OutState) (inn inn' : InState) (room : List ℕ) (t : Take) → Talks left c out inn → TakeStep inn inn' room t → t ≡ take_.Failed → Serves (record { end = end_.TakeFailed; frames = c.made }) (end_of out inn')
 take_failed left c out inn inn' room t k s e = let step = subst (TakeStep inn inn' room) e s in
     ends_here left c out inn inn' end_.TakeFailed k (omega (arith, step.gave)) (none_told inn.gave_bytes inn'.gave_bytes k.came step.bytes k.gave)
     (answered left c out inn k, k.fine, (let one : 1 ≤ inn'.faults = subst (λ n. Rose n inn'.faults) k.takes (step.failed refl) in omega (arith, one)), k.puts)
-
--- finishing the writing half changes nothing of that
-pub finished_same : (s : Service) (out out' : OutState) (inn : InState) → out'.took ≡ out.took → out'.faults ≡ out.faults → Serves s (connection_of out inn) → Serves s (connection_of out' inn)
-finished_same s out out' inn took faults k = subst (Serves s) (λ i. record (connection_of out inn) { took = (sym took) i; put_faults = (sym faults) i }) k
 
 -- what stands in front of the room
 pub in_front : (room rest : List ℕ) (n : ℕ) (t : Take) → t ≡ take_.Took n → IsTakeCount room t → take n (room ++ rest) ≡ take n room

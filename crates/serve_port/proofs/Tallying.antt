@@ -5,10 +5,10 @@ use Rattle.std.specs.List.{list_all, list_any}
 use Rattle.std.proofs.lemmas.List.Folds.{list_all-append, list_any-append}
 use Rattle.std.proofs.lemmas.List.Sums.{sum_by-append}
 use Rattle.std.proofs.lemmas.List.{length-map, map-append}
+use Rattle.brpc_model.specs.Link.{LinkEnd}
 use Rattle.sock_io.specs.declared.link.OpenFault.{OpenFault}
 use Rattle.sock_io.specs.declared.link.OpenFault.TheVariants as open_
 use Rattle.sock_io.specs.Causes.{Rose}
-use Rattle.sock_io.specs.Link.{ConnectionEnd}
 use Rattle.serve_port.specs.declared.service.ServeFault.{ServeFault}
 use Rattle.serve_port.specs.declared.service.ServeFault.TheVariants as fault_
 use Rattle.serve_port.specs.declared.tally.Tally.{Tally}
@@ -72,13 +72,13 @@ pub none_left : {A B : Type 0} (f : A → B) (given : List B) (left : List A) (a
 none_left f given left all h e = sym (append-nil given) ∙ (sym (ap (λ xs. given ++ map f xs) e) ∙ h)
 
 -- one more is given back than before
-pub done_more : (done done' first : List ConnectionEnd) (given : List ServedConnection) (s : ServedConnection) → done ≡ first ++ map (λ (x : ServedConnection). x.connection) given → done' ≡ done ++ s.connection ∷ []
+pub done_more : (done done' first : List LinkEnd) (given : List ServedConnection) (s : ServedConnection) → done ≡ first ++ map (λ (x : ServedConnection). x.connection) given → done' ≡ done ++ s.connection ∷ []
     → done' ≡ first ++ map (λ (x : ServedConnection). x.connection) (given ++ s ∷ [])
 done_more done done' first given s e f =
     f ∙ ap (λ l. l ++ s.connection ∷ []) e ∙ append_assoc first (map (λ (x : ServedConnection). x.connection) given) (s.connection ∷ []) ∙ ap (λ l. first ++ l) (sym (map-append (λ (x : ServedConnection). x.connection) given (s ∷ [])))
 
 -- while one is left, fewer were given back than accepted
-pub may_give : {A : Type 0} (f : A → ServedConnection) (done first : List ConnectionEnd) (given : List ServedConnection) (left rest all : List A) (x : A) (accepted : ℕ) → done ≡ first ++ map (λ (x : ServedConnection). x.connection) given → given ++ map f left ≡ map f all
+pub may_give : {A : Type 0} (f : A → ServedConnection) (done first : List LinkEnd) (given : List ServedConnection) (left rest all : List A) (x : A) (accepted : ℕ) → done ≡ first ++ map (λ (x : ServedConnection). x.connection) given → given ++ map f left ≡ map f all
     → left ≡ x ∷ rest → length first + length all ≤ accepted → length done < accepted
 may_give f done first given left rest all x accepted e h l few =
     omega (

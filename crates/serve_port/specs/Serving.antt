@@ -3,9 +3,10 @@ use Rattle.std.specs.Prelude.{ℕ, ◌≡◌, ◌+◌, ◌<◌, ◌≤◌, ◌++
 use Rattle.std.specs.List.{list_all, list_any}
 use Rattle.brpc_model.specs.Causes.{reading_limit}
 use Rattle.brpc_model.specs.Reply.{reply_frames, replies}
+use Rattle.brpc_model.specs.Link.{LinkEnd}
 use Rattle.rpc_server.specs.Feeding.{has_fault}
 use Rattle.sock_io.specs.Causes.{Rose}
-use Rattle.sock_io.specs.Link.{ConnectionEnd, LinkerState}
+use Rattle.sock_io.specs.Link.{LinkerState}
 use Rattle.serve_port.specs.declared.service.Service.{Service}
 use Rattle.serve_port.specs.declared.service.ServiceEnd.{ServiceEnd}
 use Rattle.serve_port.specs.declared.service.ServiceEnd.TheVariants as end_
@@ -20,12 +21,12 @@ pub record AllAnswered (came put : List ℕ) (frames : ℕ) : Type 0 where
   pub frames_are : frames ≡ length (reply_frames came)
 
 -- neither half failed
-pub record NoneFailed (c : ConnectionEnd) : Type 0 where
+pub record NoneFailed (c : LinkEnd) : Type 0 where
   pub puts : c.put_faults ≡ 0
   pub takes : c.take_faults ≡ 0
 
 -- why its service ended: what came before a fault was answered in each case but where a put failed or memory ran out
-abbrev pub EndsBy : ServiceEnd → (came put : List ℕ) → (frames : ℕ) → ConnectionEnd → Type 0
+abbrev pub EndsBy : ServiceEnd → (came put : List ℕ) → (frames : ℕ) → LinkEnd → Type 0
 EndsBy end_.AtEnd came put frames c = AllAnswered came put frames × (has_fault came ≡ false) × (c.gave_end ≡ true) × NoneFailed c
 EndsBy end_.AtLimit came put frames c = AllAnswered came put frames × (has_fault came ≡ false) × (length came ≡ reading_limit) × NoneFailed c
 EndsBy end_.AtFault came put frames c = AllAnswered came put frames × (has_fault came ≡ true) × NoneFailed c
@@ -35,7 +36,7 @@ EndsBy end_.NoMemory came put frames c = NoneFailed c
 
 -- A connection that was served: these bytes came, no more than are read of one, and these were put, which is what it gave and took where it tells
 -- that. What was put is a beginning of the replies to what came.
-pub record Serves (s : Service) (c : ConnectionEnd) : Type 0 where
+pub record Serves (s : Service) (c : LinkEnd) : Type 0 where
   pub came : List ℕ
   pub put : List ℕ
   pub left : List ℕ
@@ -51,7 +52,7 @@ pub record Serves (s : Service) (c : ConnectionEnd) : Type 0 where
 -- how the service of a connection ended, and the connection
 pub record ServedConnection : Type 0 where
   pub service : Service
-  pub connection : ConnectionEnd
+  pub connection : LinkEnd
 
 abbrev pub IsServed : ServedConnection → Type 0
 IsServed s = Serves s.service s.connection

@@ -7,7 +7,7 @@ use Rattle.sock_io.specs.declared.link.OpenFault.{OpenFault}
 use Rattle.sock_io.specs.declared.link.OpenFault.TheVariants as open_
 use Rattle.sock_io.specs.declared.stream.Failed.{Failed}
 use Rattle.sock_io.specs.Causes.{Rose}
-use Rattle.sock_io.specs.Link.{OutState, InState, LinkerState, connection_of}
+use Rattle.sock_io.specs.Link.{OutState, InState, LinkerState, end_of}
 use Rattle.loop_link.specs.Serving.{Goes}
 use Rattle.serve_port.specs.declared.service.ServiceEnd.{ServiceEnd}
 use Rattle.serve_port.specs.declared.service.ServiceEnd.TheVariants as end_
@@ -50,10 +50,10 @@ pub record AnswersPiece (out : OutState) (c : Held) (piece : List ℕ) (result :
 
 -- a connection, with how its service ended
 abbrev pub as_served : {O I : Type 0} → (O → OutState) → (I → InState) → Connection O I → ServedConnection
-as_served out inn c = record { service = c.service; connection = connection_of (out c.out) (inn c.inn) }
+as_served out inn c = record { service = c.service; connection = end_of (out c.out) (inn c.inn) }
 
 abbrev pub HasServed : {O I : Type 0} → (O → OutState) → (I → InState) → Connection O I → Type 0
-HasServed out inn c = Serves c.service (connection_of (out c.out) (inn c.inn))
+HasServed out inn c = Serves c.service (end_of (out c.out) (inn c.inn))
 
 -- so many were to be accepted and all were; or an accept failed by the count of faults; or memory ran out
 abbrev pub AcceptedBy : (count accepted before now : ℕ) → Result (Unit {0}) OpenFault → Type 0

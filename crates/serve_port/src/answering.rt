@@ -25,9 +25,12 @@ pub fn answer<R: Wait, O: Out>(
 {
     let mut replies = IoBuf::new(alloc);
     let Ok(faulty) = feeds(conn, pool, piece, &mut replies) else {
+        drop(replies);
         return Err(ServiceEnd::NoMemory);
     };
-    if put_all(rt, pool, replies, out).is_err() {
+    let put = put_all(rt, pool, &mut replies, out);
+    drop(replies);
+    if put.is_err() {
         return Err(ServiceEnd::PutFailed);
     }
     if faulty {

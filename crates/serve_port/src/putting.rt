@@ -31,11 +31,11 @@ fn wait_ready<R: Wait, O: Out>(rt: &R, out: &mut O) -> Result<(), Failed>
 pub fn put_all<R: Wait, O: Out>(
     rt: &R,
     pool: &mut BlockPool,
-    mut bytes: IoBuf,
+    bytes: &mut IoBuf,
     out: &mut O,
 ) -> Result<(), Failed>
     requires { (O.state out.old).finished ≡ false }
-    ensures { Puts (O.state out.old) (O.state out.new) bytes.items result }
+    ensures { Puts (O.state out.old) (O.state out.new) bytes.old.items result }
 {
     'puts: for _ in rt.forever() {
         if bytes.is_empty() {

@@ -1,6 +1,7 @@
 // A connection is served to its end.
 ghost use Rattle.std.specs.Prelude.{◌≡◌, true, false};
-ghost use Rattle.sock_io.specs.Link.{IsUnused, connection_of};
+ghost use Rattle.sock_io.specs.Link.{IsUnused, end_of};
+ghost use Rattle.rpc_server.specs.Held.{unused};
 ghost use Rattle.serve_port.specs.Serving.{Serves};
 
 use crate::answering::answer;
@@ -19,31 +20,37 @@ const MOST_BYTES: usize = 16_777_216;
 const ROOM_BYTES: usize = 4_096;
 
 /// Reads to the end, and answers what comes.
-fn talk<R: Wait, O: Out, I: In>(rt: &R, alloc: Global, out: &mut O, inn: &mut I) -> Service
-    requires { IsUnused (O.state out.old) (I.state inn.old) }
-    ensures { Serves result (connection_of (O.state out.new) (I.state inn.new)) }
+fn talk<R: Wait, O: Out, I: In>(
+    rt: &R,
+    alloc: Global,
+    pool: &mut BlockPool,
+    conn: &mut Conn,
+    out: &mut O,
+    inn: &mut I,
+) -> Service
+    requires both { IsUnused (O.state out.old) (I.state inn.old) }
+    requires anew { conn.old ≡ unused }
+    ensures { Serves result (end_of (O.state out.new) (I.state inn.new)) }
 {
-    let mut pool = BlockPool::new(alloc);
-    let mut conn = Conn::new(alloc);
     let mut room = [0u8; ROOM_BYTES];
     let mut left = MOST_BYTES;
     let backoff = Backoff::new();
     'takes: for _ in rt.forever() {
         if left == 0 {
-            return service(ServiceEnd::AtLimit, &conn);
+            return service(ServiceEnd::AtLimit, conn);
         }
         let most = ROOM_BYTES.min(left);
         match inn.take(&mut room[..most]) {
             Take::Took(count) => {
                 left -= count;
-                if let Err(end) = answer(rt, alloc, &mut pool, &mut conn, &room[..count], out) {
-                    return service(end, &conn);
+                if let Err(end) = answer(rt, alloc, pool, conn, &room[..count], out) {
+                    return service(end, conn);
                 }
             }
             // `Closed` is for a half that was finished, which this one isn't yet
             Take::Empty | Take::Closed => backoff.snooze(),
-            Take::End => return service(ServiceEnd::AtEnd, &conn),
-            Take::Failed => return service(ServiceEnd::TakeFailed, &conn),
+            Take::End => return service(ServiceEnd::AtEnd, conn),
+            Take::Failed => return service(ServiceEnd::TakeFailed, conn),
         }
     }
     unreachable!()
@@ -64,10 +71,12 @@ fn service(end: ServiceEnd, conn: &Conn) -> Service
 /// put fails, or memory runs out. Then it finishes the writing half.
 pub fn serve_one<R: Wait, O: Out, I: In>(rt: &R, alloc: Global, out: &mut O, inn: &mut I) -> Service
     requires { IsUnused (O.state out.old) (I.state inn.old) }
-    ensures served { Serves result (connection_of (O.state out.new) (I.state inn.new)) }
+    ensures served { Serves result (end_of (O.state out.new) (I.state inn.new)) }
     ensures finished { (O.state out.new).finished ≡ true }
 {
-    let service = talk(rt, alloc, out, inn);
+    let mut pool = BlockPool::new(alloc);
+    let mut conn = Conn::new(alloc);
+    let service = talk(rt, alloc, &mut pool, &mut conn, out, inn);
     out.finish();
     service
 }

@@ -1,6 +1,6 @@
 // What the services of all connections come to.
 ghost use Rattle.std.specs.Prelude.{◌≡◌, ◌+◌, ◌∷◌, ◌++◌, ℕ, true, [], List, Some, Err, length, IfOk, IfErr};
-ghost use Rattle.sock_io.specs.Link.{ConnectionEnd};
+ghost use Rattle.brpc_model.specs.Link.{LinkEnd};
 ghost use Rattle.serve_port.specs.Serving.{AnswersBy, ServedConnection, is_failing, is_faulty, is_whole};
 ghost use Rattle.serve_port.specs.Steps.{AcceptedBy, IsTally};
 
@@ -55,7 +55,7 @@ impl Tally {
 
     /// With one connection more.
     pub fn with(self, service: Service) -> Tally
-        ensures { (served : List ServedConnection) (c : ConnectionEnd) → IsTally served self → IsTally (served ++ (record { service = service; connection = c }) ∷ []) result }
+        ensures { (served : List ServedConnection) (c : LinkEnd) → IsTally served self → IsTally (served ++ (record { service = service; connection = c }) ∷ []) result }
     {
         Tally {
             frames: sum_of(self.frames, service.frames),

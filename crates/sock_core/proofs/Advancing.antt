@@ -24,7 +24,7 @@ use Rattle.seat_states.specs.declared.point.Step.{Step}
 use Rattle.seat_states.specs.declared.point.Step.TheVariants as firsts
 use Rattle.seat_states.specs.Steps.{First, OfCall, OfAside, step_as, first_in}
 use Rattle.seat_states.specs.Steps as kinds
-use Rattle.client_seats.specs.Seats.{around, seat_program, asked_of}
+use Rattle.client_seats.specs.Seats.{around, seat_program, asked_or_nothing}
 use Rattle.reader_points.specs.declared.point.ReadStep.{ReadStep}
 use Rattle.reader_points.specs.declared.point.ReadStep.TheVariants as steps
 use Rattle.reader_points.specs.Steps as reader_steps
@@ -248,7 +248,7 @@ module _ (m fresh : MachineState) (room i : ℕ) (step : Step) (tick : Tick) (is
       (λ e. ap (λ (o : core.Option SeatState). elim o as (λ x. Bool) [ core.none ↦ false | core.some x ↦ waits_at m.plan (core_with m s.took s.gave) answer x.program ]) (own_at s.took s.gave) ∙ yet_by first next made e (core_with m s.took s.gave))
 
   called_by : (x : Step) → first_in program ≡ Some (step_as (around (machine_sizes m) w.seat) x) → MadeFirst (table_of m) (table_of fresh) i w.seat w.seat' x (step_as (around (machine_sizes m) w.seat) x) answer → AreCalled fresh.ids
-  called_by (firsts.Aside aside) at x = called_behind (table_of m) (asked_of w.seat.call) aside x.1.found fresh.ids x.1.ids (client_slots m sized slots (is.called enough) (is.sound enough) i w.seat w.at aside at) (is.called enough)
+  called_by (firsts.Aside aside) at x = called_behind (table_of m) (asked_or_nothing w.seat.call) aside x.1.found fresh.ids x.1.ids (client_slots m sized slots (is.called enough) (is.sound enough) i w.seat w.at aside at) (is.called enough)
   called_by (firsts.PutBytes k asked author) at x = subst AreCalled (sym x.2.ids) (is.called enough)
   called_by (firsts.AskReady k) at x = subst AreCalled (sym x.2.ids) (is.called enough)
   called_by _ at x = subst AreCalled (sym x.1.ids) (is.called enough)

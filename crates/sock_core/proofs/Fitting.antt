@@ -36,7 +36,7 @@ use Rattle.seat_states.specs.Points.{Context, MayFindId}
 use Rattle.seat_states.specs.Steps.{First, OfCall, OfAside, OfMessage, OfLink, OfHome, step_of, step_as, first_in}
 use Rattle.seat_states.specs.Steps as kinds
 use Rattle.seat_states.proofs.StepFacts.{FitsSizes, may_find, is_within}
-use Rattle.client_seats.specs.Seats.{SeatData, around, seat_program, asked_of}
+use Rattle.client_seats.specs.Seats.{SeatData, around, seat_program, asked_or_nothing}
 use Rattle.reader_points.specs.declared.point.ReadStep.{ReadStep}
 use Rattle.reader_points.specs.declared.point.ReadStep.TheVariants as steps
 use Rattle.reader_points.specs.Points as reading
@@ -238,7 +238,7 @@ module _ (m : MachineState) (sized : IsSized (table_of m)) (few_slots : m.ids.pl
 
     by_step : (step : Step) → first_in client ≡ Some (step_as a step) → Fits (table_of m) seat step
     by_step (firsts.Call call) next = (word_there i client client_at (step_of call) next, word_allowed i client client_at (step_of call) next, word_links i client client_at (step_of call) next, goes_word (step_of call) next)
-    by_step (firsts.Aside step) next = (id_slots i client client_at (asked_of seat.call) step next, λ word found. goes_aside (aside_steps.step_of (asked_of seat.call) step) word next found)
+    by_step (firsts.Aside step) next = (id_slots i client client_at (asked_or_nothing seat.call) step next, λ word found. goes_aside (aside_steps.step_of (asked_or_nothing seat.call) step) word next found)
     by_step (firsts.PutMessage q author) next = let inside : q < m.plan.requests = ∥∥₁_elim sound (hlevel props) (λ s. (says i client client_at s (step_as a (firsts.PutMessage q author)) next).0) in (
       (let b = sized.letters_are in omega (arith, inside, b)),
       ∥∥₁_elim sound (hlevel props) (λ s. (says i client client_at s (step_as a (firsts.PutMessage q author)) next).1.2),
@@ -267,8 +267,8 @@ module _ (m : MachineState) (sized : IsSized (table_of m)) (few_slots : m.ids.pl
     pub client_takes : (step : Step) → NextIs m i step → (aside : asides.Step) → step_as a step ≡ OfAside aside → NoTake aside
     client_takes step n aside e = takes_none a seat.point aside (next_of step n ∙ ap Some e)
 
-    pub client_slots : (step : Aside) → first_in client ≡ Some (OfAside (aside_steps.step_of (asked_of seat.call) step)) → FitsSlots (table_of m) step
-    client_slots step next = id_slots i client client_at (asked_of seat.call) step next
+    pub client_slots : (step : Aside) → first_in client ≡ Some (OfAside (aside_steps.step_of (asked_or_nothing seat.call) step)) → FitsSlots (table_of m) step
+    client_slots step next = id_slots i client client_at (asked_or_nothing seat.call) step next
 
     pub client_next : (step : Step) → NextIs m i step → first_in client ≡ Some (step_as a step)
     client_next step n = next_of step n

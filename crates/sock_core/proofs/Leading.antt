@@ -19,7 +19,7 @@ use Rattle.sock_core.specs.declared.machine.On.{On}
 use Rattle.sock_core.specs.declared.machine.Tick.TheVariants as ticks
 use Rattle.sock_core.specs.Links.{Taken, Given}
 use Rattle.sock_core.specs.Machines.{MachineState, core_with}
-use Rattle.sock_core.specs.Runs.{SameTable, SameLinks, Follows, Made, Ticked, TickedWith, RunWith, LedWith, Led}
+use Rattle.sock_core.specs.Runs.{SameTable, SameLinks, Follows, Made, Ticked, TickedWith, MadeByTicks, LedWith, Led}
 use Rattle.sock_core.proofs.Joining.{same_table_none, same_table_join, same_links_none, same_links_join, follows_none, follows_join}
 use Rattle.sock_core.proofs.Resting.{follows_idle}
 
@@ -63,7 +63,7 @@ has_step p c m is = waits_by p c m.answer (get_elem? c.seats m.seat) is
 
 -- ticks of the seat so far, none of which was a step of this kind
 abbrev pub PassedWith : MachineState → MachineState → ℕ → Kind → Taken → Given → Type 0
-PassedWith old new seat kind = RunWith (λ p. AreOthers p seat (kind_text kind)) old new
+PassedWith old new seat kind = MadeByTicks (λ p. AreOthers p seat (kind_text kind)) old new
 
 abbrev pub Passed : MachineState → MachineState → ℕ → Kind → Type 0
 Passed old new seat kind = Made old new (PassedWith old new seat kind)

@@ -39,8 +39,7 @@ use Rattle.call_points.specs.Points.{retry_of}
 use Rattle.call_points.specs.Steps.{with_word, word_behind, after_word, after_call}
 use Rattle.call_points.specs.declared.deciding.OnCall.{OnCall}
 use Rattle.call_points.specs.declared.deciding.DecideStep.TheVariants as decides
-use Rattle.call_points.specs.declared.posting.PostStep.TheVariants as posts
-use Rattle.call_points.specs.declared.locking.LockStep.TheVariants as locks
+use Rattle.call_points.specs.declared.word_step.WordStep.TheVariants as id_steps
 use Rattle.seat_states.specs.declared.point.OpenStep.TheVariants as opens
 use Rattle.seat_states.specs.declared.point.Aim.{Aim}
 use Rattle.seat_states.specs.declared.point.Aim.TheVariants as aims
@@ -324,14 +323,14 @@ module _ (a : Context) (on : (hs : List HeldLife) → Calm (a.goes_on hs)) (ends
   step_calm (points.Attempt t socket attempts.AddRef) = inl (λ found. either_way (vref_version found == socket_id_version socket.0) _ _ Calm (λ w. tt) (λ w. tt))
   step_calm (points.Attempt t socket attempts.FindLink) = inl (λ found w. tt)
   step_calm (points.Attempt t socket (attempts.StoreAt k)) = inl (λ found w. tt)
-  step_calm (points.Post c after posts.Load) = inl (λ found. judged_calm (id_of c.id) c.error.0 found (posted_program a c after) (post_calm c after))
-  step_calm (points.Post c after (posts.Exchange from)) = inl (λ found. posts_calm (id_of c.id) c.error.0 from.0 found (posted_program a c after) (post_calm c after))
+  step_calm (points.Post c after id_steps.Read) = inl (λ found. judged_calm (id_of c.id) c.error.0 found (posted_program a c after) (post_calm c after))
+  step_calm (points.Post c after (id_steps.Exchange from)) = inl (λ found. posts_calm (id_of c.id) c.error.0 from.0 found (posted_program a c after) (post_calm c after))
   step_calm (points.Decide c after (decides.Take x)) = inl (λ found w. tt)
   step_calm (points.Decide c after (decides.Judge x)) = inl (either_way (ends_call (parts x.0) c.error.0) _ _ (CalmStep (points.Decide c after (decides.Judge x))) (λ found. either_way (nat_le ((parts found).first + (parts found).range) LAST) _ _ Calm (λ w. tt) (after_calm after)) (λ found w. tt))
   step_calm (points.Decide c after (decides.Free o)) = inl (λ found. after_calm after)
   step_calm (points.Decide c after (decides.Unlock from advance n)) = inl (λ found. unlocks_calm (id_slot (id_of c.id)) from.0 found advance (unlocked (retry_of c (number_of n)) (decided (id_of c.id) (after_program a after))) (unlocked_calm (retry_of c (number_of n)) (decided (id_of c.id) (after_program a after)) (after_calm after)))
-  step_calm (points.Retry r (retries.Lock locks.Read)) = inl (λ found. locking_calm (id_slot (id_of r.attempt.id)) (sought_as (locker_of r).sought) found (retry_locked a.sizes.requests (id_of r.attempt.id) (number_of r.attempt.number) (client_on a)) (locked_calm a.sizes.requests (id_of r.attempt.id) (number_of r.attempt.number) (client_on a) (on a.held)))
-  step_calm (points.Retry r (retries.Lock (locks.Exchange from))) = inl (λ found. either_way (found == from.0) _ _ Calm (λ w. tt) (locking_calm (id_slot (id_of r.attempt.id)) (sought_as (locker_of r).sought) found (retry_locked a.sizes.requests (id_of r.attempt.id) (number_of r.attempt.number) (client_on a)) (locked_calm a.sizes.requests (id_of r.attempt.id) (number_of r.attempt.number) (client_on a) (on a.held))))
+  step_calm (points.Retry r (retries.Lock id_steps.Read)) = inl (λ found. locking_calm (id_slot (id_of r.attempt.id)) (sought_as (locker_of r).sought) found (retry_locked a.sizes.requests (id_of r.attempt.id) (number_of r.attempt.number) (client_on a)) (locked_calm a.sizes.requests (id_of r.attempt.id) (number_of r.attempt.number) (client_on a) (on a.held)))
+  step_calm (points.Retry r (retries.Lock (id_steps.Exchange from))) = inl (λ found. either_way (found == from.0) _ _ Calm (λ w. tt) (locking_calm (id_slot (id_of r.attempt.id)) (sought_as (locker_of r).sought) found (retry_locked a.sizes.requests (id_of r.attempt.id) (number_of r.attempt.number) (client_on a)) (locked_calm a.sizes.requests (id_of r.attempt.id) (number_of r.attempt.number) (client_on a) (on a.held))))
   step_calm (points.Retry r (retries.TakeCall x)) = inl (λ found w. tt)
   step_calm (points.Retry r (retries.PutCall x)) = inl (λ found w. tt)
   step_calm (points.Retry r (retries.Unlock x advance)) = inl (λ found. unlocks_calm (id_slot (id_of r.attempt.id)) x.0 found advance (tried_again a.sizes.requests (id_of r.attempt.id) (number_of r.attempt.number) a.asked (client_on a)) (again_calm a.sizes.requests (id_of r.attempt.id) (number_of r.attempt.number) a.asked (client_on a)))

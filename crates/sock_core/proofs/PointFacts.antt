@@ -18,8 +18,7 @@ use Rattle.id_runs.specs.Held.{IdView}
 use Rattle.id_runs.specs.Goes.{FitsSock, IsLocked, IsTaken, IdGoesOn}
 use Rattle.id_points.specs.Ids.{id_of}
 use Rattle.call_points.specs.declared.deciding.DecideStep.TheVariants as decides
-use Rattle.call_points.specs.declared.posting.PostStep.TheVariants as posts
-use Rattle.call_points.specs.declared.locking.LockStep.TheVariants as locks
+use Rattle.call_points.specs.declared.word_step.WordStep.TheVariants as id_steps
 use Rattle.seat_states.specs.declared.point.OpenStep.TheVariants as opens
 use Rattle.seat_states.specs.declared.point.SeekStep.TheVariants as seeks
 use Rattle.seat_states.specs.declared.point.Aim.TheVariants as aims
@@ -99,7 +98,7 @@ beside_facts a (points.Call _) = (tt, (λ sizes. tt), (λ found. tt), (λ found 
 beside_facts a (points.Attempt t socket attempts.AddRef) = (λ found h. tt)
 beside_facts a (points.Attempt t socket attempts.FindLink) = (λ found h. h)
 beside_facts a (points.Attempt t socket (attempts.StoreAt k)) = (tt, (λ sizes. tt), (λ found. tt), (λ found h. tt))
-beside_facts a (points.Post c after posts.Load) = (tt, (λ sizes. tt), (λ found. tt), (λ found h. tt))
+beside_facts a (points.Post c after id_steps.Read) = (tt, (λ sizes. tt), (λ found. tt), (λ found h. tt))
 beside_facts a (points.Post c after _) = (tt, (λ sizes. tt), (λ found. tt), (λ found h. tt))
 beside_facts a (points.Decide c after (decides.Judge w)) = elim (ends_call (parts w.0) c.error.0) as (λ (ends : Bool). Beside (first_of (if ends then end_id (id_slot (id_of c.id)) (decided (id_of c.id) (after_program a after) (HasEnded a.asked.operation (code_of c.error.0))) else Aside (PutCall (id_slot (id_of c.id)) a.asked) (λ _. Round (Unlocks (id_slot (id_of c.id)) w.0 true) (unlocked (record { id = id_of c.id; attempt = (parts w.0).attempt + 1 }) (decided (id_of c.id) (after_program a after)))))) (points.Decide c after (decides.Judge w))) [
   | true ↦ (tt, (λ sizes. tt), (λ found. tt), (λ found h. tt))
@@ -107,7 +106,7 @@ beside_facts a (points.Decide c after (decides.Judge w)) = elim (ends_call (part
 ]
 beside_facts a (points.Decide c after _) = (tt, (λ sizes. tt), (λ found. tt), (λ found h. tt))
 beside_facts a (points.Retry r retries.LoadName) = (λ found h. tt)
-beside_facts a (points.Retry r (retries.Lock locks.Read)) = (tt, (λ sizes. tt), (λ found. tt), (λ found h. tt))
+beside_facts a (points.Retry r (retries.Lock id_steps.Read)) = (tt, (λ sizes. tt), (λ found. tt), (λ found h. tt))
 beside_facts a (points.Retry r _) = (tt, (λ sizes. tt), (λ found. tt), (λ found h. tt))
 beside_facts a (points.Expire o t) = (tt, (λ sizes. tt), (λ found. tt), (λ found h. h t refl))
 beside_facts a (points.Join o (joins.LoadCall t)) = (tt, (λ sizes. tt), (λ found. tt), (λ found h. h t refl))
@@ -159,8 +158,8 @@ module _ (p : Plan) (q : IdPlan) (few : q.slots ≤ 4096) where
   within_ids a (points.Decide c after (decides.Judge w)) same goes = ∥∥₁_elim goes (hlevel props) (λ g. taken_below _ _ w.0 g.0 g.1.0.1)
   within_ids a (points.Decide c after (decides.Free o)) same goes = tt
   within_ids a (points.Decide c after (decides.Unlock from advance n)) same goes = λ e. ∥∥₁_elim goes (hlevel props) (λ g. locked_below _ _ from.0 g.0 g.1.0.1)
-  within_ids a (points.Retry r (retries.Lock locks.Read)) same goes = tt
-  within_ids a (points.Retry r (retries.Lock (locks.Exchange from))) same goes = ∥∥₁_elim goes (hlevel props) (λ g. g.1.0.2)
+  within_ids a (points.Retry r (retries.Lock id_steps.Read)) same goes = tt
+  within_ids a (points.Retry r (retries.Lock (id_steps.Exchange from))) same goes = ∥∥₁_elim goes (hlevel props) (λ g. g.1.0.2)
   within_ids a (points.Retry r (retries.TakeCall w)) same goes = tt
   within_ids a (points.Retry r (retries.PutCall w)) same goes = tt
   within_ids a (points.Retry r (retries.Unlock w advance)) same goes = λ e. ∥∥₁_elim goes (hlevel props) (λ g. locked_below _ _ w.0 g.0 g.1.0.1)
@@ -168,8 +167,8 @@ module _ (p : Plan) (q : IdPlan) (few : q.slots ≤ 4096) where
   within_ids a _ same goes = tt
 
   pub reads_within : (a : reading.Context) (x : ReadPoint) → Goes (reading.point_program a x) → reading.IsWithin x
-  reads_within a (reads.Lock r l locks.Read) goes = tt
-  reads_within a (reads.Lock r l (locks.Exchange from)) goes = ∥∥₁_elim goes (hlevel props) (λ g. g.1.0.2)
+  reads_within a (reads.Lock r l id_steps.Read) goes = tt
+  reads_within a (reads.Lock r l (id_steps.Exchange from)) goes = ∥∥₁_elim goes (hlevel props) (λ g. g.1.0.2)
   reads_within a _ goes = tt
 
 -- ## Of a reader

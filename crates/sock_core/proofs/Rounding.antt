@@ -14,7 +14,7 @@ use Rattle.sock_core.specs.declared.machine.Tick.{Tick}
 use Rattle.sock_core.specs.declared.machine.Tick.TheVariants.{Moved, Waits, Idle}
 use Rattle.sock_core.specs.Links.{Taken, Given, Agrees, AgreesGave, StayOffered}
 use Rattle.sock_core.specs.Machines.{MachineState, HasSizes, MOST_LEFT, READERS, core_with}
-use Rattle.sock_core.specs.Runs.{SameTable, SameLinks, Follows, Made, TickIs, TickedWith, Ticked, round_by, RunWith, RoundWith, Still, HasMoved, SettlesAfter, PlayedWith, PlayedOn, RanFirst}
+use Rattle.sock_core.specs.Runs.{SameTable, SameLinks, Follows, Made, TickIs, TickedWith, Ticked, round_by, MadeByTicks, RoundWith, Still, HasMoved, SettlesAfter, PlayedWith, PlayedOn, RanFirst}
 use Rattle.sock_core.specs.Driving.{LastsAtMost, LeavesFewer, LeavesAsMany, Leaves, IsPlain, FirstRests, TickedFirst}
 use Rattle.sock_core.proofs.Joining.{same_table_none, same_table_join, same_links_none, same_links_join, seats_append, run_append, follows_none, follows_join, made_join}
 use Rattle.sock_core.proofs.Resting.{Rests}
@@ -191,7 +191,7 @@ module _ (p : Plan) where
   settles_after n c xs ys rounds are still = behind_rounds (SettlesAfter p) (λ k d now later of_it went rest. (now, later, refl, of_it, went, rest)) n c xs ys rounds (are, still)
 
 abbrev pub MovedWith : ℕ → MachineState → MachineState → Taken → Given → Type 0
-MovedWith count = RunWith (λ p. MovedRounds p count)
+MovedWith count = MadeByTicks (λ p. MovedRounds p count)
 
 pub record PlayedSoFar (m fresh : MachineState) (count : ℕ) : Type 0 where
   pub ran : Made m fresh (MovedWith count m fresh)

@@ -17,7 +17,7 @@ use Rattle.client_seats.specs.Seats.{SeatData, seat_program}
 use Rattle.reader_seats.specs.Readers.{ReaderData, reader_program}
 use Rattle.reader_seats.specs.GoesOn.{GoesOn}
 use Rattle.sock_core.specs.Links.{LinksData, Taken, Given, homes_of, hand_of}
-use Rattle.sock_core.specs.Machines.{MachineState, SamePlans, READERS, between, state_of, clients_with, readers_with, resting, seats_with, waiting_of, given_by, calls_of, core_with, machine_sizes, table_of}
+use Rattle.sock_core.specs.Machines.{MachineState, SameGivens, READERS, between, state_of, clients_with, readers_with, resting, seats_with, waiting_of, given_by, calls_of, core_with, machine_sizes, table_of}
 use Rattle.sock_core.specs.Steps.{Goes}
 use Rattle.sock_core.proofs.Changes.{Changed}
 use Rattle.sock_core.proofs.Ranges.{get-behind, set-behind}
@@ -225,7 +225,7 @@ reader_waiting seats readers k few = index_behind (map (λ (s : SeatData). s.wai
 
 -- what no step of a reader changes beside its own
 pub record Stays (old fresh : MachineState) : Type 0 where
-  pub plans : SamePlans (table_of old) (table_of fresh)
+  pub plans : SameGivens (table_of old) (table_of fresh)
   pub open plans use *
   pub seats : fresh.seats ≡ old.seats
 

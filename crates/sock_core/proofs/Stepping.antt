@@ -22,8 +22,7 @@ use Rattle.seat_states.specs.declared.point.ReleaseStep.TheVariants as releases
 use Rattle.seat_states.specs.declared.point.SendStep.TheVariants as sends
 use Rattle.seat_states.specs.declared.point.WriteStep.TheVariants as writes
 use Rattle.call_points.specs.declared.deciding.DecideStep.TheVariants as decides
-use Rattle.call_points.specs.declared.posting.PostStep.TheVariants as posts
-use Rattle.call_points.specs.declared.locking.LockStep.TheVariants as locks
+use Rattle.call_points.specs.declared.word_step.WordStep.TheVariants as id_steps
 use Rattle.call_points.specs.Steps.{after_word}
 use Rattle.seat_states.specs.declared.point.Author.{Author}
 use Rattle.seat_states.specs.declared.point.Author.TheVariants as authors
@@ -138,9 +137,9 @@ behind_put a other others (points.Send s (sends.PutMessage q own)) = refl
 behind_put a other others (points.Write w writes.PutHome) = tt
 behind_put a other others (points.Call begins.LoadName) = tt
 behind_put a other others (points.Attempt t socket attempts.AddRef) = tt
-behind_put a other others (points.Post c after posts.Load) = tt
+behind_put a other others (points.Post c after id_steps.Read) = tt
 behind_put a other others (points.Decide c after (decides.Judge w)) = elim (ends_call (parts w.0) c.error.0) as (λ (ends : Bool). BehindPut (first_of (if ends then end_id (id_slot (id_of c.id)) (decided (id_of c.id) (after_program a after) (HasEnded a.asked.operation (code_of c.error.0))) else Aside (PutCall (id_slot (id_of c.id)) a.asked) (λ _. Round (Unlocks (id_slot (id_of c.id)) w.0 true) (unlocked (record { id = id_of c.id; attempt = (parts w.0).attempt + 1 }) (decided (id_of c.id) (after_program a after)))))) a other others (points.Decide c after (decides.Judge w))) [ true ↦ tt | false ↦ tt ]
-behind_put a other others (points.Retry r (retries.Lock locks.Read)) = tt
+behind_put a other others (points.Retry r (retries.Lock id_steps.Read)) = tt
 behind_put a other others (points.Join o (joins.Wait id)) = tt
 behind_put a other others _ = tt
 

@@ -24,7 +24,7 @@ use Rattle.seat_states.specs.declared.point.Point.{Point}
 use Rattle.seat_states.specs.declared.point.Point.TheVariants as points
 use Rattle.seat_states.specs.Points.{Context, point_program, GoesByWord, TakesCall}
 use Rattle.seat_states.specs.Steps.{OfAside, first_in}
-use Rattle.client_seats.specs.Seats.{SeatData, seat_program, asked_of}
+use Rattle.client_seats.specs.Seats.{SeatData, seat_program, asked_or_nothing}
 use Rattle.sock_core.specs.Steps.{IsOnWord, FitsSlots, IsNext, Goes, Makes}
 use Rattle.sock_core.specs.Machines.{TableState, table_sizes}
 use Rattle.sock_core.proofs.FirstSteps.{IsBare, bare_first, after_first, step_is}
@@ -139,11 +139,11 @@ slots_kept {n} {s} {s'} {step} {found} e m = e ∙ ap (λ (p : IdPlan). p.slots)
 
 -- ## A step that found a word is made
 
-pub made_aside : {t u fresh : TableState} {i : ℕ} {seat seat' : SeatData} (step : code.Aside) (word : ℕ) → t ≡ u → IsNext u seat (firsts.Aside step) → FindsWord (aside_steps.step_of (asked_of seat.call) step)
-    → slots.Makes t.ids (aside_steps.step_of (asked_of seat.call) step) (word_found (aside_steps.step_of (asked_of seat.call) step) word) fresh.ids → Goes t fresh seat seat' (after_word (seat_program (table_sizes t) seat) word)
+pub made_aside : {t u fresh : TableState} {i : ℕ} {seat seat' : SeatData} (step : code.Aside) (word : ℕ) → t ≡ u → IsNext u seat (firsts.Aside step) → FindsWord (aside_steps.step_of (asked_or_nothing seat.call) step)
+    → slots.Makes t.ids (aside_steps.step_of (asked_or_nothing seat.call) step) (word_found (aside_steps.step_of (asked_or_nothing seat.call) step) word) fresh.ids → Goes t fresh seat seat' (after_word (seat_program (table_sizes t) seat) word)
     → fresh.words ≡ t.words → fresh.letters ≡ t.letters → fresh.links ≡ t.links → fresh.ends ≡ t.ends → Makes u fresh i seat seat' (firsts.Aside step) Unasked
 made_aside {t} {u} {fresh} {i} {seat} {seat'} step word e n finds makes goes words letters links ends =
-    let aside = aside_steps.step_of (asked_of seat.call) step in
+    let aside = aside_steps.step_of (asked_or_nothing seat.call) step in
     let next = behind_aside (seat_program (table_sizes t) seat) aside word (next_along seat (firsts.Aside step) e n) finds in
     makes_along e (
       refl,

@@ -22,8 +22,7 @@ use Rattle.seat_programs.specs.Sends.{one_more, freed, passed_telling, tell_drop
 use Rattle.call_points.specs.Steps.{after_word}
 use Rattle.call_points.specs.declared.deciding.OnCall.{OnCall}
 use Rattle.call_points.specs.declared.deciding.DecideStep.TheVariants as decides
-use Rattle.call_points.specs.declared.posting.PostStep.TheVariants as posts
-use Rattle.call_points.specs.declared.locking.LockStep.TheVariants as locks
+use Rattle.call_points.specs.declared.word_step.WordStep.TheVariants as id_steps
 use Rattle.seat_states.specs.declared.point.OpenStep.TheVariants as opens
 use Rattle.seat_states.specs.declared.point.SeekStep.TheVariants as seeks
 use Rattle.seat_states.specs.declared.point.Aim.TheVariants as aims
@@ -248,14 +247,14 @@ ends_none a (points.Call (begins.StoreCall id socket)) found = tt
 ends_none a (points.Attempt t socket attempts.AddRef) found = either_none (vref_version found == socket_id_version socket.0) (find_program (bare a) t socket) (release (socket_id_slot socket.0) (λ _. then_program (bare a) (thens.Unreached t) false)) tt tt
 ends_none a (points.Attempt t socket attempts.FindLink) found = tt
 ends_none a (points.Attempt t socket (attempts.StoreAt k)) found = tt
-ends_none a (points.Post c after posts.Load) found = tt
-ends_none a (points.Post c after (posts.Exchange from)) found = tt
+ends_none a (points.Post c after id_steps.Read) found = tt
+ends_none a (points.Post c after (id_steps.Exchange from)) found = tt
 ends_none a (points.Decide c after (decides.Take w)) found = tt
 ends_none a (points.Decide c after (decides.Judge w)) found = judge_ends a (points.Decide c after (decides.Judge w)) found (ends_call (parts w.0) c.error.0) (end_id (id_slot (id_of c.id)) (decided (id_of c.id) (after_program a after) (HasEnded a.asked.operation (code_of c.error.0)))) (Aside (PutCall (id_slot (id_of c.id)) a.asked) (λ _. Round (Unlocks (id_slot (id_of c.id)) w.0 true) (unlocked (record { id = id_of c.id; attempt = (parts w.0).attempt + 1 }) (decided (id_of c.id) (after_program a after))))) tt tt
 ends_none a (points.Decide c after (decides.Free o)) found = tt
 ends_none a (points.Decide c after (decides.Unlock from advance n)) found = tt
-ends_none a (points.Retry r (retries.Lock locks.Read)) found = tt
-ends_none a (points.Retry r (retries.Lock (locks.Exchange from))) found = tt
+ends_none a (points.Retry r (retries.Lock id_steps.Read)) found = tt
+ends_none a (points.Retry r (retries.Lock (id_steps.Exchange from))) found = tt
 ends_none a (points.Retry r (retries.TakeCall w)) found = tt
 ends_none a (points.Retry r (retries.PutCall w)) found = tt
 ends_none a (points.Retry r (retries.Unlock w advance)) found = tt

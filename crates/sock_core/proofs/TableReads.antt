@@ -15,8 +15,7 @@ use Rattle.seat_programs.specs.Posts.{ends_call, end_id, unlocked}
 use Rattle.seat_programs.specs.Programs.{Program, Aside, Round}
 use Rattle.sock_runs.specs.Sound.{first_step}
 use Rattle.call_points.specs.Steps.{after_call}
-use Rattle.call_points.specs.declared.posting.PostStep.TheVariants as posts
-use Rattle.call_points.specs.declared.locking.LockStep.TheVariants as locks
+use Rattle.call_points.specs.declared.word_step.WordStep.TheVariants as id_steps
 use Rattle.call_points.specs.declared.ending.EndStep.TheVariants as ends
 use Rattle.seat_states.specs.declared.point.ReleaseStep.TheVariants as releases
 use Rattle.reader_points.specs.declared.point.AnswerStep.TheVariants as answers
@@ -52,8 +51,8 @@ facts : (a : Context) (p : ReadPoint) → Facts (first_in (point_program a p)) p
 facts a points.Rest = tt
 facts a (points.Open link o) = tt
 facts a (points.Take r) = (tt, refl)
-facts a (points.Lock r l locks.Read) = tt
-facts a (points.Lock r l (locks.Exchange from)) = tt
+facts a (points.Lock r l id_steps.Read) = tt
+facts a (points.Lock r l (id_steps.Exchange from)) = tt
 facts a (points.Answer b id answers.Take) = tt
 facts a (points.Answer b id (answers.End o ends.End)) = tt
 facts a (points.Answer b id (answers.End o ends.Free)) = tt
@@ -69,8 +68,8 @@ facts a (points.Close c (closes.Release (releases.FinishLink w k))) = tt
 facts a (points.Close c (closes.Release (releases.PutLink w k))) = tt
 facts a (points.Close c (closes.Release releases.FreeSlot)) = tt
 facts a (points.Load c o) = tt
-facts a (points.Post l posts.Load) = tt
-facts a (points.Post l (posts.Exchange from)) = tt
+facts a (points.Post l id_steps.Read) = tt
+facts a (points.Post l (id_steps.Exchange from)) = tt
 facts a (points.Fail l (lost.Take word)) = tt
 facts a (points.Fail l (lost.Judge word)) = judge_facts (points.Fail l (lost.Judge word)) (ends_call (parts word.0) (error_in l)) (end_id (id_slot (id_of l.id)) (ended_call a l (HasEnded a.asked.operation (code_of (error_in l))))) (Aside (PutCall (id_slot (id_of l.id)) a.asked) (λ _. Round (Unlocks (id_slot (id_of l.id)) word.0 true) (unlocked (record { id = id_of l.id; attempt = (parts word.0).attempt + 1 }) (ended_call a l)))) tt tt
 facts a (points.Fail l (lost.Free o)) = tt

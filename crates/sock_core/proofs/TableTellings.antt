@@ -21,7 +21,7 @@ use Rattle.call_points.specs.declared.aside.Aside as code
 use Rattle.call_points.specs.Steps as aside_steps
 use Rattle.seat_states.specs.declared.point.Step.{Step}
 use Rattle.seat_states.specs.declared.point.Step.TheVariants as firsts
-use Rattle.client_seats.specs.Seats.{SeatData, around, seat_program, asked_of}
+use Rattle.client_seats.specs.Seats.{SeatData, around, seat_program, asked_or_nothing}
 use Rattle.sock_core.specs.declared.machine.On.{On}
 use Rattle.sock_core.specs.declared.machine.On.TheVariants as on
 use Rattle.sock_core.specs.declared.machine.Tick.{Tick}
@@ -78,10 +78,10 @@ still_aside t program step first h = still program (subst MovesFirst (sym first)
     still _ m = refl
 
 -- so the tick of such a step moves
-pub moved_aside : {old fresh : TableState} {i : ℕ} {seat seat' : SeatData} {kind : Kind} {step : code.Aside} (is : code.Aside) → MovesCall (aside_steps.step_of (asked_of seat.call) is) → step ≡ is → IsNext old seat (firsts.Aside step)
+pub moved_aside : {old fresh : TableState} {i : ℕ} {seat seat' : SeatData} {kind : Kind} {step : code.Aside} (is : code.Aside) → MovesCall (aside_steps.step_of (asked_or_nothing seat.call) is) → step ≡ is → IsNext old seat (firsts.Aside step)
     → kind ≡ kind_of_first (step_as (around (table_sizes old) seat) (firsts.Aside step)) → Makes old fresh i seat seat' (firsts.Aside is) Unasked → StepTold old fresh i seat seat' (firsts.Aside step) (Moved kind)
 moved_aside {old} {fresh} {i} {seat} {seat'} {kind} {step} is moves e next kind_is makes = moved kind (firsts.Aside is) Unasked (ap firsts.Aside e) next kind_is makes
-    (still_aside old (seat_program (table_sizes old) seat) (aside_steps.step_of (asked_of seat.call) is) (subst (λ (s : code.Aside). IsNext old seat (firsts.Aside s)) e next) moves)
+    (still_aside old (seat_program (table_sizes old) seat) (aside_steps.step_of (asked_or_nothing seat.call) is) (subst (λ (s : code.Aside). IsNext old seat (firsts.Aside s)) e next) moves)
 
 -- what a step aside tells, as one of the whole step
 pub told_aside : (old fresh : TableState) (seat seat' : SeatData) (step : Step) (s : code.Aside) {E : Type 0} (r : Result Tick E) → step ≡ firsts.Aside s → IfOk r (λ tick. (i : ℕ) → StepTold old fresh i seat seat' (firsts.Aside s) tick) → (i : ℕ) → IfOk r (λ tick. StepTold old fresh i seat seat' step tick)

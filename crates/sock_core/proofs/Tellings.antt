@@ -40,7 +40,7 @@ use Rattle.sock_core.specs.declared.machine.On.TheVariants as on
 use Rattle.sock_core.specs.Runs.{IsWaitingFor}
 use Rattle.sock_core.specs.Telling.{is_waiting, waits_by, StepTold}
 use Rattle.sock_core.specs.declared.machine.Tick.TheVariants.{Moved, Waits}
-use Rattle.client_seats.specs.Seats.{SeatData, around, seat_program, bytes_of, parts_of, left_of, taken_of, left_parts_of, asked_of}
+use Rattle.client_seats.specs.Seats.{SeatData, around, seat_program, bytes_of, parts_of, left_of, taken_of, left_parts_of, asked_or_nothing}
 use Rattle.sock_core.specs.Machines.{TableState, table_sizes}
 use Rattle.sock_core.specs.Steps.{IsNext, Makes, FoundBeside, beside}
 use Rattle.seat_states.proofs.StepFacts as facts
@@ -149,7 +149,7 @@ call_waiting : (old : TableState) (seat : SeatData) (call : Call) (found : ℕ) 
 call_waiting old seat call found o next f awaited = call_waits old.plan (words_of old) (seat_program (table_sizes old) seat) (step_of call) next ∙ ap (waits_by (seat_program (table_sizes old) seat)) (sym f) ∙ sym awaited
 
 aside_waiting : (old : TableState) (seat : SeatData) (aside : code.Aside) (found : ℕ) (o : Option On) → IsNext old seat (firsts.Aside aside) → FoundBeside old seat aside found → is_some o ≡ waits_by (seat_program (table_sizes old) seat) found → is_waiting old Unasked (seat_program (table_sizes old) seat) ≡ is_some o
-aside_waiting old seat aside found o next f awaited = aside_waits old.plan (words_of old) (seat_program (table_sizes old) seat) (aside_steps.step_of (asked_of seat.call) aside) found next f ∙ sym awaited
+aside_waiting old seat aside found o next f awaited = aside_waits old.plan (words_of old) (seat_program (table_sizes old) seat) (aside_steps.step_of (asked_or_nothing seat.call) aside) found next f ∙ sym awaited
 
 module _ {old fresh : TableState} {i : ℕ} {seat seat' : SeatData} {step : Step} where
   makes_is : (step' : Step) (answer : Answer) → step ≡ step' → Makes old fresh i seat seat' step' answer → Makes old fresh i seat seat' step answer

@@ -49,8 +49,8 @@ pub record MachineState : Type 0 where
   pub opens : List ℕ
   pub short : Bool
 
--- the plans, the calls and whether the run is ending
-pub record SamePlans (old fresh : TableState) : Type 0 where
+-- the sizes of the tables, the calls, and whether the run is ending, are as before
+pub record SameGivens (old fresh : TableState) : Type 0 where
   pub plan : fresh.plan ≡ old.plan
   pub id_plan : fresh.ids.plan ≡ old.ids.plan
   pub calls : fresh.calls ≡ old.calls

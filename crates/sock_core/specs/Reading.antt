@@ -29,7 +29,7 @@ use Rattle.reader_seats.specs.Readers.{ReaderData, reader_program}
 use Rattle.reader_seats.specs.GoesOn.{GoesOn}
 use Rattle.sock_core.specs.declared.machine.Tick.{Tick}
 use Rattle.sock_core.specs.Links.{AreAlwaysReady, TellClosing, is_done}
-use Rattle.sock_core.specs.Machines.{MachineState, TableState, SamePlans, table_of}
+use Rattle.sock_core.specs.Machines.{MachineState, TableState, SameGivens, table_of}
 use Rattle.sock_core.specs.Runs.{SameLink, ShowsTaking}
 use Rattle.sock_core.specs.Steps.{AsMany, OutsAfter, FitsSlots, IsOfLinks, holders_after, beside}
 use Rattle.sock_core.specs.Telling.{Tells}
@@ -65,7 +65,7 @@ ReadFits m k step = (reader : ReaderData) → get_elem? m.readers k ≡ core.som
 
 -- what no step of a reader changes
 pub record SameTables (old fresh : TableState) : Type 0 where
-  pub plans : SamePlans old fresh
+  pub plans : SameGivens old fresh
   pub open plans use *
   pub letters : fresh.letters ≡ old.letters
   pub nexts : fresh.links.nexts ≡ old.links.nexts
@@ -178,7 +178,7 @@ pub record TickRead (old fresh : MachineState) (i k : ℕ) (step : ReadStep) (ti
 
 -- the tables keep their sizes, and the links are those that they were
 pub record IsCutTable (old fresh : TableState) : Type 0 where
-  pub plans : SamePlans old fresh
+  pub plans : SameGivens old fresh
   pub open plans use *
   pub many : AsMany old fresh
   pub as_many : length fresh.ends ≡ length old.ends

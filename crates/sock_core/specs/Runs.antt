@@ -24,7 +24,7 @@ use Rattle.sock_core.specs.declared.machine.On.TheVariants as on
 use Rattle.sock_core.specs.declared.machine.Tick.{Tick}
 use Rattle.sock_core.specs.declared.machine.Tick.TheVariants.{Moved, Waits, Idle}
 use Rattle.sock_core.specs.Links.{Taken, Given, Agrees, AgreesGave, SoFar, AreAlwaysReady, TellClosing, IsOffering, StayOffered}
-use Rattle.sock_core.specs.Machines.{MachineState, SamePlans, READERS, table_of, core_with, ending_by}
+use Rattle.sock_core.specs.Machines.{MachineState, SameGivens, READERS, table_of, core_with, ending_by}
 
 -- ## Links
 
@@ -80,7 +80,7 @@ pub record LinksShow (old new : MachineState) (failed : List ℕ) (heard got : �
 
 -- the sizes of the tables, what the ending goes over, and whether the run is ending
 pub record SameTable (old new : MachineState) : Type 0 where
-  pub plans : SamePlans (table_of old) (table_of new)
+  pub plans : SameGivens (table_of old) (table_of new)
   pub open plans use *
   pub opens : new.opens ≡ old.opens
 
@@ -144,22 +144,22 @@ Ticked old new seat tick = Made old new (TickedWith old new seat tick)
 
 -- ## Runs
 
--- ticks of which this holds make the one machine of the other
-pub record RunWith (Is : Plan → Core → List Moment → Type 0) (old new : MachineState) (took : Taken) (gave : Given) : Type 0 where
+-- ticks, of which this holds, make the new machine of the old one
+pub record MadeByTicks (Is : Plan → Core → List Moment → Type 0) (old new : MachineState) (took : Taken) (gave : Given) : Type 0 where
   pub moments : List Moment
   pub is : Is old.plan (core_with old took gave) moments
   pub follows : Follows old new took gave moments
 
 -- ticks of these seats, one after another
 abbrev pub RanWith : MachineState → MachineState → List ℕ → Taken → Given → Type 0
-RanWith old new seats = RunWith (λ p c ms. seats_of ms ≡ seats) old new
+RanWith old new seats = MadeByTicks (λ p c ms. seats_of ms ≡ seats) old new
 
 abbrev pub Ran : MachineState → MachineState → List ℕ → Type 0
 Ran old new seats = Made old new (RanWith old new seats)
 
 -- ticks of a seat that lead up to a step of this kind
 abbrev pub LedWith : MachineState → MachineState → ℕ → Kind → Taken → Given → Type 0
-LedWith old new seat kind = RunWith (λ p. LeadsUpTo p seat (kind_text kind)) old new
+LedWith old new seat kind = MadeByTicks (λ p. LeadsUpTo p seat (kind_text kind)) old new
 
 abbrev pub Led : MachineState → MachineState → ℕ → Kind → Type 0
 Led old new seat kind = Made old new (LedWith old new seat kind)
@@ -194,7 +194,7 @@ pub record SettlesBy (p : Plan) (c : Core) (moments : List Moment) : Type 0 wher
   pub after : SettlesAfter p rounds c moments
 
 abbrev pub PlayedWith : MachineState → MachineState → Taken → Given → Type 0
-PlayedWith old new = RunWith SettlesBy old new
+PlayedWith old new = MadeByTicks SettlesBy old new
 
 abbrev pub PlayedOn : MachineState → MachineState → Type 0
 PlayedOn old new = Made old new (PlayedWith old new)

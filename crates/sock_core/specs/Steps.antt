@@ -34,9 +34,9 @@ use Rattle.seat_states.specs.Steps.{First, OfCall, OfAside, OfMessage, OfLink, O
 use Rattle.seat_states.specs.Steps as kinds
 use Rattle.sock_core.specs.declared.letter.Letter.{Letter}
 use Rattle.client_seats.specs.Following.{IsWithFrame, IsPrepared}
-use Rattle.client_seats.specs.Seats.{SeatData, around, seat_program, bytes_of, parts_of, left_of, taken_of, left_parts_of, asked_of}
+use Rattle.client_seats.specs.Seats.{SeatData, around, seat_program, bytes_of, parts_of, left_of, taken_of, left_parts_of, asked_or_nothing}
 use Rattle.sock_core.specs.Runs.{SameLink}
-use Rattle.sock_core.specs.Machines.{MachineState, TableState, SamePlans, machine_sizes, table_of, table_sizes}
+use Rattle.sock_core.specs.Machines.{MachineState, TableState, SameGivens, machine_sizes, table_of, table_sizes}
 
 -- ## Links as they are given back
 
@@ -124,7 +124,7 @@ pub record PreparedAt (old new : MachineState) (i : ℕ) : Type 0 where
 
 -- the step of this code finds this word
 abbrev pub FoundBeside : TableState → SeatData → Aside → ℕ → Type 0
-FoundBeside t seat step word = let aside = aside_steps.step_of (asked_of seat.call) step in found_in aside (beside t) core.none ≡ word_found aside word
+FoundBeside t seat step word = let aside = aside_steps.step_of (asked_or_nothing seat.call) step in found_in aside (beside t) core.none ≡ word_found aside word
 
 -- it finds a word, and no call goes into its home
 abbrev pub IsOnWord : Aside → Type 0
@@ -150,7 +150,7 @@ FitsSlots t other = slots.StepFits t.ids other
 abbrev pub Fits : TableState → SeatData → Step → Type 0
 Fits t seat (firsts.Call call) = let found = found_at t.words (word_of t.plan (step_of call)) in
     ((x : ℕ) → word_of t.plan (step_of call) ≡ core.some x → x < length t.words) × AllowsWord (step_of call) found × IsOfLinks t.plan.links (step_of call) × MayGoOn t seat found
-Fits t seat (firsts.Aside step) = let aside = aside_steps.step_of (asked_of seat.call) step in
+Fits t seat (firsts.Aside step) = let aside = aside_steps.step_of (asked_or_nothing seat.call) step in
     FitsSlots t step × FindsFitting t seat aside
 Fits t seat (firsts.PutMessage q author) = (q < length t.letters) × (bytes_of seat.message ≢ []) × MayGoOn t seat 0
 Fits t seat (firsts.TakeMessage q) = (letter : Letter) × (get_elem? t.letters q ≡ core.some (Some letter))
@@ -202,7 +202,7 @@ OutsAfter other old fresh = fresh ≡ old
 
 -- what no step of a client changes
 pub record SameBase (old fresh : TableState) : Type 0 where
-  pub plans : SamePlans old fresh
+  pub plans : SameGivens old fresh
   pub open plans use *
   pub inns : fresh.links.inns ≡ old.links.inns
 

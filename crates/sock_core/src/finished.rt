@@ -62,6 +62,6 @@ pub fn gather_places(places: &mut Vec<PlaceWord>, plan: &Plan, words: &[u64])
 {
     let count = 8 * plan.operations as usize;
     for number in 0..count {
-        places.push_reserved(PlaceWord::from_word(word_at(plan, words, number)));
+        places.push_reserved(PlaceWord(word_at(plan, words, number)));
     }
 }

@@ -5,7 +5,7 @@ ghost use Rattle.sock_core.specs.Letters.{letters_in};
 ghost use Rattle.sock_core.specs.Beginnings.{AreBegun, AreReading, AreParts, said_first};
 
 use crate::letter::Letter;
-use call_slots::CallSlots;
+use call_slots::{CallSlots, push_zeros};
 use client_seats::Seat;
 use corr_core::Plan as IdPlan;
 use reader_seats::ReaderSeat;
@@ -28,16 +28,6 @@ fn push_slots(words: &mut Vec<u64>, slots: u16, first: u32) -> Result<(), AllocE
 {
     for _ in 0..slots {
         push_slot(words, first)?;
-    }
-    Ok(())
-}
-
-/// Appends so many zeros.
-fn push_zeros(words: &mut Vec<u64>, count: usize) -> Result<(), AllocError>
-    ensures { OnOk result (words.new.items ≡ words.old.items ++ replicate count 0) }
-{
-    for _ in 0..count {
-        words.push(0)?;
     }
     Ok(())
 }

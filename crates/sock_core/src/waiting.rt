@@ -8,7 +8,7 @@ ghost use Rattle.sock_core.specs.Runs.{IsWaitingFor, sought_id};
 ghost use Rattle.sock_core.specs.Telling.{waits_by};
 
 use crate::machine::On;
-use call_points::LockStep;
+use call_points::WordStep;
 use call_table::has_version;
 use id_points::{Sought, is_awaited};
 use reader_points::ReadPoint;
@@ -30,12 +30,12 @@ pub fn awaited(point: &Point, found: u64) -> Option<On>
     ensures waits { (a : Context) → is_some result ≡ waits_by (point_program a point.now) found }
     ensures on { (a : Context) → IfSome result (IsWaitingFor (point_program a point.now)) }
 {
-    let word = IdWord::from_word(found);
+    let word = IdWord(found);
     match *point {
         Point::Write(_, step) => match step {
             WriteStep::Walk(_, at, _) => {
                 if found == UNCONNECTED {
-                    Some(On::Next(at.word()))
+                    Some(On::Next(at.0))
                 } else {
                     None
                 }
@@ -43,7 +43,7 @@ pub fn awaited(point: &Point, found: u64) -> Option<On>
             _ => None,
         },
         Point::Retry(retrying, step) => match step {
-            RetryStep::Lock(LockStep::Read) => {
+            RetryStep::Lock(WordStep::Read) => {
                 let id = retrying.attempt.id;
                 if is_locked(is_awaited(id.first(), word), word) {
                     Some(On::Id(id.number()))
@@ -51,7 +51,7 @@ pub fn awaited(point: &Point, found: u64) -> Option<On>
                     None
                 }
             }
-            RetryStep::Lock(LockStep::Exchange(_)) => None,
+            RetryStep::Lock(WordStep::Exchange(_)) => None,
             _ => None,
         },
         Point::Join(_, step) => match step {
@@ -94,7 +94,7 @@ pub fn awaited_by_reader(point: ReadPoint, found: u64) -> Option<On>
     ensures waits { (a : reading.Context) → is_some result ≡ waits_by (reading.point_program a point) found }
     ensures on { (a : reading.Context) → IfSome result (IsWaitingFor (reading.point_program a point)) }
 {
-    let word = IdWord::from_word(found);
+    let word = IdWord(found);
     match point {
         ReadPoint::Open(_, operation) => {
             if found == 0 {
@@ -104,14 +104,14 @@ pub fn awaited_by_reader(point: ReadPoint, found: u64) -> Option<On>
             }
         }
         ReadPoint::Lock(_, locker, step) => match step {
-            LockStep::Read => {
+            WordStep::Read => {
                 if is_locked(is_there(locker.sought, word), word) {
                     Some(On::Id(sought_id(locker.slot, locker.sought)))
                 } else {
                     None
                 }
             }
-            LockStep::Exchange(_) => None,
+            WordStep::Exchange(_) => None,
         },
         _ => None,
     }

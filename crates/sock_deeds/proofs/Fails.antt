@@ -32,7 +32,7 @@ use Rattle.rpc_client.specs.sock_table.specs.declared.refs.SockRef.{SockRef}
 use Rattle.rpc_client.specs.declared.reaching.Reached.TheVariants as reached
 use Rattle.rpc_client.specs.Failing.{TriedTo}
 use Rattle.rpc_client.specs.Reaching.{ReachedBy}
-use Rattle.sock_deeds.specs.Deeds.{Did, fails, DoneBy, Deed, own_number, name_in}
+use Rattle.sock_deeds.specs.Deeds.{Did, fails, DoneBy, Deed, own_number, own_name}
 use Rattle.sock_deeds.specs.Runs.{IsFor, DeedRun}
 use Rattle.sock_deeds.proofs.Acts.{Act, All, before, after, did_of, done_of, has_marks, once_added, same_deed}
 use Rattle.sock_deeds.proofs.Growing.{HasFound, grew_then, added_grew, back_grew, reached_grew}
@@ -119,7 +119,7 @@ module _ {O : Type 0} {g : Ghosts O} {state : O → OutState} {p : Plan} {client
   life_by a name number code is t =
       let found = here_found p name t.sock (before run a) t.has t.reached_it in
       let later = grew_then t.has t.set (after run a) (added_grew (socket_id_slot t.sock.id.0) t.has t.set _ t.set_by) (back_grew (socket_id_slot t.sock.id.0) (socket_id_version t.sock.id.0) t.set (after run a) t.ended t.back) in
-      let made = found_made run a name t.sock.id (act_name run a name (ap name_in is)) (later.finds record { place = name_index p name; word = t.sock.id.0 + 1 } found) in
+      let made = found_made run a name t.sock.id (act_name run a name (ap own_name is)) (later.finds record { place = name_index p name; word = t.sock.id.0 + 1 } found) in
       record { name = name; number = number; code = code; did_is = is; tried = t; link = made.0; made = made.1 }
 
   pub failed_life : (a : Act run) (name number code : ℕ) → did_of run a ≡ fails name number code outcome.Failed → FailedLife a

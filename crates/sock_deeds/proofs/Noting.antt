@@ -18,7 +18,7 @@ use Rattle.seat_programs.specs.declared.task.Op.TheVariants as ops
 use Rattle.seat_programs.specs.declared.task.Task.{Task}
 use Rattle.rpc_client.specs.sock_rule.specs.Rows.{NOTHING}
 use Rattle.rpc_client.specs.sock_table.specs.declared.finding.Noted.TheVariants as noted
-use Rattle.sock_deeds.specs.Deeds.{Did, looks, DoneBy, name_in}
+use Rattle.sock_deeds.specs.Deeds.{Did, looks, DoneBy, own_name}
 use Rattle.sock_deeds.specs.Runs.{IsFor, did_in, ReaderSeat, DeedRun}
 use Rattle.sock_deeds.proofs.Acts.{Read, All, did_of, done_of, read_found, puts_from}
 use Rattle.sock_deeds.proofs.Growing.{HasFound}
@@ -48,7 +48,7 @@ module _ {O : Type 0} {g : Ghosts O} {state : O → OutState} {p : Plan} {client
         let w = puts_from run (open_index p r.number) (sock.0 + 1) (run.closed.closing.found_was h.0 x h.1) in
         let b = w.0 in
         let low = (fits run r.client record { number = r.number; op = ops.Open r.name r.link } r.asked).0 in
-        let u = done_notes p r.number (sock.0 + 1) low g state (did_of run b) b.d.before b.d.after (done_of run b) (λ name number link by is. act_name run b name (ap name_in is)) some_ w.1 in
+        let u = done_notes p r.number (sock.0 + 1) low g state (did_of run b) b.d.before b.d.after (done_of run b) (λ name number link by is. act_name run b name (ap own_name is)) some_ w.1 in
         let id : u.1.id.0 ≡ sock.0 = (let e = u.1.word in omega arith) in
         let made = made_of run b u.0 r.number u.1.link (socket_id_slot u.1.id.0) (socket_id_version u.1.id.0) u.1.did_is in
         let is = (subst (IsFor clients outcomes b.c) u.1.did_is (is_for run b)).0 in

@@ -25,7 +25,7 @@ use Rattle.seat_programs.specs.declared.task.Task.{Task}
 use Rattle.seat_programs.specs.Told.{Made}
 use Rattle.seat_programs.specs.ToldCalls.{Accepted, Fixed, IsSent as IsSentBy, OfSend}
 use Rattle.report_fits.proofs.Lists.{all_from}
-use Rattle.sock_deeds.specs.Deeds.{name_in}
+use Rattle.sock_deeds.specs.Deeds.{own_name}
 use Rattle.sock_deeds.specs.Left.{accepted_of}
 use Rattle.sock_deeds.specs.Told.{IsAttempt}
 use Rattle.sock_deeds.specs.Runs.{IsOperation, IsMessage, of_send, of_call, DeedRun}
@@ -46,7 +46,7 @@ module _ {O : Type 0} {g : Ghosts O} {state : O → OutState} {p : Plan} {client
       let i = socket_id_slot id.0 in
       let h = socket_id_version id.0 in
       let low = s.sent.reached_it.1.0.inside in
-      let named = act_name run a s.name (ap name_in s.did_is) in
+      let named = act_name run a s.name (ap own_name s.did_is) in
       let found = (over_grew state p s.name s.msg None (before run a) (after run a) s.sent).finds record { place = name_index p s.name; word = id.0 + 1 } (here_found p s.name s.sent.sock (before run a) s.sent.has s.sent.reached_it) in
       let made = found_made run a s.name id named found in
       let f : Mark → ℕ = is_met h d.accepted.entry.link in

@@ -23,7 +23,7 @@ use Rattle.outcome_causes.specs.Causes.{Asks}
 use Rattle.outcome_causes.proofs.Members.{all_in}
 use Rattle.outcome_causes.proofs.Tasks.{one_task, fits_of}
 use Rattle.report_fits.proofs.Lists.{has_from}
-use Rattle.sock_deeds.specs.Deeds.{Did, opens, sends, holds, drops, fails, own_number, Deed, name_in}
+use Rattle.sock_deeds.specs.Deeds.{Did, opens, sends, holds, drops, fails, own_number, Deed, own_name}
 use Rattle.sock_deeds.specs.Runs.{IsOperation, IsMessage, of_send, of_call, IsFor, Seated, DeedRun}
 use Rattle.sock_deeds.proofs.Acts.{Act, did_of, same_seat, same_deed}
 use Rattle.sock_deeds.proofs.Numbered.{IsOnSockets, each_done, deeds_rise}
@@ -91,7 +91,7 @@ module _ {O : Type 0} {g : Ghosts O} {state : O → OutState} {p : Plan} {client
   low_message c name number attempt msg by (of_call client asked is mine low name_is sent told) = subst (λ n. n < p.names) (sym name_is) ((op_fits client number (ops.Call asked) is).names attempt)
 
   -- the table has the name
-  pub low_name : (c : ℕ) (d : Did) (n : ℕ) → name_in d ≡ Some n → IsFor clients outcomes c d → n < p.names
+  pub low_name : (c : ℕ) (d : Did) (n : ℕ) → own_name d ≡ Some n → IsFor clients outcomes c d → n < p.names
   low_name c (opens name number link by) n e is = subst (λ m. m < p.names) (same_Some name n e) (op_fits c number (ops.Open name link) is.0).0
   low_name c (sends name number attempt msg by) n e is = subst (λ m. m < p.names) (same_Some name n e) (low_message c name number attempt msg by is.0)
   low_name c (holds name number by) n e is = subst (λ m. m < p.names) (same_Some name n e) (op_fits c number (ops.Hold name) is.0)
@@ -99,7 +99,7 @@ module _ {O : Type 0} {g : Ghosts O} {state : O → OutState} {p : Plan} {client
   low_name c (fails name number code by) n e is = subst (λ m. m < p.names) (same_Some name n e) (op_fits c number (ops.Fail name code) is.0).0
   low_name c _ n e is = absurd (none-some n e)
 
-  pub act_name : (a : Act run) (n : ℕ) → name_in (did_of run a) ≡ Some n → n < p.names
+  pub act_name : (a : Act run) (n : ℕ) → own_name (did_of run a) ≡ Some n → n < p.names
   act_name a n e = low_name a.c (did_of run a) n e (is_for a)
 
   -- ## Each task's deed

@@ -4,7 +4,6 @@ use Rattle.sock_io.specs.declared.link.Out.{Ghosts}
 use Rattle.sock_io.specs.Link.{OutState}
 use Rattle.sock_words.specs.declared.plain.Plan.{Plan}
 use Rattle.sock_words.specs.declared.outcome.Outcome.{Outcome}
-use Rattle.sock_words.specs.declared.outcome.Outcome.TheVariants as outcome
 use Rattle.sock_words.specs.declared.socket_id.SocketId.{SocketId}
 use Rattle.sock_model.specs.declared.view.View.{View}
 use Rattle.sock_model.specs.Deliveries.{place_value}
@@ -24,7 +23,7 @@ use Rattle.rpc_client.specs.Reaching.{ReachedBy}
 use Rattle.rpc_client.specs.Opening.{OpenedBy}
 use Rattle.rpc_client.specs.Holding.{HeldBy, DroppedBy}
 use Rattle.rpc_client.specs.Failing.{SetBy, FailedBy}
-use Rattle.rpc_client.specs.Sending.{Returned, DeliveredBy}
+use Rattle.rpc_client.specs.Sending.{Returned, DeliveredBy, ByName}
 
 -- what a seat has between two deeds: its view, and the references that it keeps by their names
 pub record Hand : Type 0 where
@@ -64,11 +63,7 @@ pub record SentOver {O : Type 0} (state : O → OutState) (p : Plan) (n : ℕ) (
 
 -- none of a message that was accepted
 abbrev pub MessageBy : {O : Type 0} → (O → OutState) → Plan → ℕ → Letter → Option Outcome → View → View → Type 0
-MessageBy state p n msg None v w = SentOver state p n msg None v w
-MessageBy state p n msg (Some outcome.Unopened) v w = ReachedBy p n reached.Unopened v w
-MessageBy state p n msg (Some (outcome.Gone found)) v w = ReachedBy p n (reached.Gone found) v w ⊎ SentOver state p n msg (Some (outcome.Gone found)) v w
-MessageBy state p n msg (Some outcome.Full) v w = SentOver state p n msg (Some outcome.Full) v w
-MessageBy state p n msg (Some _) v w = ⊥
+MessageBy state p n msg by v w = ByName (SentOver state p n msg) p n by v w
 
 -- ## Deeds
 
@@ -92,21 +87,21 @@ pub data Did : Type 0 where
   returns : (id : ℕ) → Did
 
 -- the name under which it looks for a socket, or opens one, and the number of the operation
-abbrev pub under : Did → Option (ℕ × ℕ)
-under (opens name number link by) = Some (name, number)
-under (sends name number attempt msg by) = Some (name, number)
-under (holds name number by) = Some (name, number)
-under (drops name number by) = Some (name, number)
-under (fails name number code by) = Some (name, number)
-under other = None
+abbrev pub name_and_number : Did → Option (ℕ × ℕ)
+name_and_number (opens name number link by) = Some (name, number)
+name_and_number (sends name number attempt msg by) = Some (name, number)
+name_and_number (holds name number by) = Some (name, number)
+name_and_number (drops name number by) = Some (name, number)
+name_and_number (fails name number code by) = Some (name, number)
+name_and_number other = None
 
-abbrev pub name_in : Did → Option ℕ
-name_in d = elim (under d) as (λ o. Option ℕ) [ None ↦ None | Some x ↦ Some x.0 ]
+abbrev pub own_name : Did → Option ℕ
+own_name d = elim (name_and_number d) as (λ o. Option ℕ) [ None ↦ None | Some x ↦ Some x.0 ]
 
 -- the number of the operation for which it is done; a retry is done for whoever began the call
 abbrev pub own_number : Did → Option ℕ
 own_number (sends name number (suc k) msg by) = None
-own_number d = elim (under d) as (λ o. Option ℕ) [ None ↦ None | Some x ↦ Some x.1 ]
+own_number d = elim (name_and_number d) as (λ o. Option ℕ) [ None ↦ None | Some x ↦ Some x.1 ]
 
 -- an `open`, whatever the homes are that the seat has in hand
 abbrev pub OpenedOn : {O : Type 0} → Ghosts O → Plan → ℕ → ℕ → ℕ → Outcome → View → View → Type 0

@@ -264,19 +264,9 @@ pub record IsFresh (out : OutState) (inn : InState) (number : ℕ) : Type 0 wher
   pub closed : IfSome inn.closed (λ closed. closed ≡ false)
   pub closing : IfSome inn.closing (λ closing. closing ≡ false)
 
--- the link that these halves are, as it is given back
+-- the link that these halves are, or the connection, as it is given back
 abbrev pub end_of : OutState → InState → LinkEnd
 end_of out inn = record { link = out.link; took = out.took; put_faults = out.faults; gave = inn.gave_bytes; gave_count = inn.gave; take_faults = inn.faults; gave_end = inn.gave_end; closed = inn.closed; answers = out.answers; takes = inn.takes }
-
--- a connection that was accepted, as it was given back: what it took, and what it gave, where it tells these bytes; how
--- many bytes it gave; how often its halves failed; and whether its reading half answered `End`
-pub record ConnectionEnd : Type 0 where
-  pub took : Option (List ℕ)
-  pub put_faults : ℕ
-  pub gave : Option (List ℕ)
-  pub gave_count : ℕ
-  pub take_faults : ℕ
-  pub gave_end : Bool
 
 -- what was asked of each link that a linker opened, in order, how many connections it accepted, the links and the connections given back, in order, its
 -- count of faults, and whether `ready` never answers `NotYet` on its links in mode `Loop`
@@ -284,14 +274,10 @@ pub record LinkerState : Type 0 where
   pub asked : List LinkSpec
   pub accepted : ℕ
   pub back : List LinkEnd
-  pub done : List ConnectionEnd
+  pub done : List LinkEnd
   pub faults : ℕ
   pub always_ready : Bool
 
 -- where these links were asked for, one may be asked for so: a put takes a byte at least, and there are at most 256
 abbrev pub MayOpen : List LinkSpec → LinkSpec → Type 0
 MayOpen asked spec = (0 < spec.piece) × (length asked < 256)
-
--- the connection that these halves are, as it is given back
-abbrev pub connection_of : OutState → InState → ConnectionEnd
-connection_of out inn = record { took = out.took; put_faults = out.faults; gave = inn.gave_bytes; gave_count = inn.gave; take_faults = inn.faults; gave_end = inn.gave_end }

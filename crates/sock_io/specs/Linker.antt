@@ -3,7 +3,7 @@ use Rattle.std.specs.Prelude.{ℕ, ◌==◌, List, [], if◌then◌else◌, None
 use Rattle.brpc_model.specs.Link.{LinkEnd}
 use Rattle.sock_io.specs.declared.link.LinkSpec.{LinkSpec}
 use Rattle.sock_io.specs.declared.shape.Shape.{Shape}
-use Rattle.sock_io.specs.Link.{OutState, ConnectionEnd}
+use Rattle.sock_io.specs.Link.{OutState}
 use Rattle.sock_io.specs.Shape.{ShapedState}
 
 -- the links of a linker in memory: what was asked of each that was opened, how many connections were accepted, those given back, the numbers of the
@@ -12,7 +12,7 @@ pub record MemLinksState : Type 0 where
   pub asked : List LinkSpec
   pub accepted : ℕ
   pub back : List LinkEnd
-  pub done : List ConnectionEnd
+  pub done : List LinkEnd
   pub fail_opens : List ℕ
   pub calls : ℕ
   pub faults : ℕ
@@ -21,12 +21,7 @@ pub record MemLinksState : Type 0 where
 pub record NotedLinksState : Type 0 where
   pub asked : List LinkSpec
   pub back : List LinkEnd
-  pub done : List ConnectionEnd
-
--- a linker whose links give nothing: its links, and the put from which on they fail where it isn't asked for
-pub record SinkLinkerState : Type 0 where
-  pub links : MemLinksState
-  pub fail_put : ℕ
+  pub done : List LinkEnd
 
 -- a writing half in memory that was not used yet
 abbrev pub new_mem_out : ℕ → OutState

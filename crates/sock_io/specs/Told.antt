@@ -10,10 +10,10 @@ pub record SaysAsBefore {S A B C D E F : Type 0} (asked_of : S → A) (accepted_
   pub faults : faults_of now ≡ faults_of before
   pub always_ready : ready_of now ≡ ready_of before
 
--- An end that comes in, by an `open` or an `accept`: of the other kind of end as many are counted as before, and what was given back and whether links are
--- always ready is as before too.
-pub record KeepsOthers {S A B C D : Type 0} (counted_of : S → A) (back_of : S → B) (done_of : S → C) (ready_of : S → D) (before now : S) : Type 0 where
-  pub counted : counted_of now ≡ counted_of before
+-- An end comes in, by an `open` or an `accept`: what is told of the other kind (the connections accepted, the links asked for), of what was given back and of
+-- whether links are always ready is as before.
+pub record KeepsOthers {S A B C D : Type 0} (others_of : S → A) (back_of : S → B) (done_of : S → C) (ready_of : S → D) (before now : S) : Type 0 where
+  pub others : others_of now ≡ others_of before
   pub back : back_of now ≡ back_of before
   pub done : done_of now ≡ done_of before
   pub always_ready : ready_of now ≡ ready_of before

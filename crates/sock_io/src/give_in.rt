@@ -1,5 +1,5 @@
 ghost use Rattle.std.specs.Prelude.{◌≡◌, ◌<◌, ◌++◌, IfOk, OnErr, OnOk, length};
-ghost use Rattle.sock_io.specs.Giving.{before_bytes, bytes_and_end, give_in, with_bytes, with_closing};
+ghost use Rattle.sock_io.specs.Giving.{before_bytes, bytes_and_end, give_in, given_half, with_bytes, with_closing};
 ghost use Rattle.sock_io.specs.Memory.{TakesWaiting};
 
 use crate::ending::Ending;
@@ -7,7 +7,6 @@ use crate::link::{In, Take};
 use crate::mem_link::MemIn;
 use crate::stream::NoMemory;
 use std::alloc::Global;
-use std::marker::Model;
 
 /// A reading half in memory that gives stated bytes: at once, or when it is told that they are due. What it offers it
 /// doesn't tell: the bytes are whatever was stated, and no reply of a server.
@@ -16,18 +15,6 @@ pub struct GiveIn {
     inner: MemIn,
     /// Whether the bytes are still to come.
     waits: bool,
-}
-
-impl Model for GiveIn {
-    ghost use Rattle.std.specs.Prelude.{◌≡◌, true};
-    ghost use Rattle.sock_io.specs.declared.ending.Ending.TheVariants as ending;
-    ghost use Rattle.sock_io.specs.Giving.{GiveInState};
-
-    ghost Value = { GiveInState };
-
-    ghost view = { λ i. record { half = i.inner; waits = i.waits } };
-
-    ghost invariant = { λ i. i.waits ≡ true → i.inner.ending ≡ ending.Open };
 }
 
 impl GiveIn {
@@ -59,7 +46,7 @@ impl GiveIn {
         ensures ok { OnOk result (self.new ≡ with_bytes due bytes.now self.old) }
         ensures err { OnErr result (self.new ≡ self.old) }
     {
-        if self.waits && due {
+        if self.waits && due && self.inner.is_open() {
             self.inner.give(bytes)?;
             self.waits = false;
         }
@@ -82,8 +69,7 @@ impl In for GiveIn {
 
     fn take(&mut self, room: &mut [u8]) -> Take
         requires { 0 < length room.old }
-        ensures half { TakesWaiting self.old.half self.new.half (length room.old) room.new result }
-        ensures waits { self.new.waits ≡ self.old.waits }
+        ensures { TakesWaiting (given_half self.old) (given_half self.new) (length room.old) room.new result }
     {
         self.inner.take(room)
     }

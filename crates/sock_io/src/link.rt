@@ -2,7 +2,7 @@ ghost use Rattle.std.specs.Prelude.{◌≡◌, ◌≢◌, ℕ, ◌+◌, ◌<◌,
 ghost use Rattle.std.specs.List.{AllByRecursion};
 ghost use Rattle.brpc_model.specs.Link.{LinkEnd};
 ghost use Rattle.sock_io.specs.Causes.{OpenCause};
-ghost use Rattle.sock_io.specs.Link.{OutState, InState, PutStep, ReadyStep, FinishStep, TakeStep, SettleStep, IsSettled, IsNewOffer, IsFresh, IsUnused, ConnectionEnd, LinkerState, MayOpen, end_of, connection_of};
+ghost use Rattle.sock_io.specs.Link.{OutState, InState, PutStep, ReadyStep, FinishStep, TakeStep, SettleStep, IsSettled, IsNewOffer, IsFresh, IsUnused, LinkerState, MayOpen, end_of};
 ghost use Rattle.sock_io.specs.Meeting.{AreEnds, IsAskedPeer, MeetOut, MeetStep};
 ghost use Rattle.sock_io.specs.Peer.{PeerState, ServeStep, IsNewPeer};
 ghost use Rattle.sock_io.specs.Told.{KeepsOthers, SaysAsBefore};
@@ -179,7 +179,7 @@ pub trait LinkerTold {
     ghost back: { Self → List LinkEnd };
 
     /// The connections given back, in order.
-    ghost done: { Self → List ConnectionEnd };
+    ghost done: { Self → List LinkEnd };
 
     ghost faults: { Self → ℕ };
 
@@ -266,7 +266,7 @@ pub trait Linker: LinkerTold {
     /// Takes a connection back.
     fn done(&mut self, out: Self::O, inn: Self::I)
         requires { length (Self.done self.old) < Self.accepted self.old }
-        ensures done { Self.done self.new ≡ Self.done self.old ++ connection_of (Self.O.state out) (Self.I.state inn) ∷ [] }
+        ensures done { Self.done self.new ≡ Self.done self.old ++ end_of (Self.O.state out) (Self.I.state inn) ∷ [] }
         ensures asked { Self.asked self.new ≡ Self.asked self.old }
         ensures accepted { Self.accepted self.new ≡ Self.accepted self.old }
         ensures back { Self.back self.new ≡ Self.back self.old }

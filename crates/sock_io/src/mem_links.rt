@@ -1,6 +1,6 @@
 ghost use Rattle.std.specs.Prelude.{◌≡◌, ◌↔◌, ◌+◌, ◌<◌, ◌∷◌, ◌++◌, [], length, Contains, IfOk, IsErrOf, OnErr};
 ghost use Rattle.sock_io.specs.Causes.{OpenCause, next_number};
-ghost use Rattle.sock_io.specs.Link.{connection_of, end_of};
+ghost use Rattle.sock_io.specs.Link.{end_of};
 ghost use Rattle.sock_io.specs.Linker.{new_half, plain_shape};
 ghost use Rattle.sock_io.specs.Shape.{shaped_out};
 
@@ -37,13 +37,13 @@ pub struct MemLinks<I: In> {
 
 impl<I: In> Model for MemLinks<I> {
     ghost use Rattle.std.specs.Prelude.{◌≤◌, map, vec_len, vec_capacity};
-    ghost use Rattle.sock_io.specs.Link.{connection_of, end_of};
+    ghost use Rattle.sock_io.specs.Link.{end_of};
     ghost use Rattle.sock_io.specs.Linker.{MemLinksState};
     ghost use Rattle.sock_io.specs.Shape.{shaped_out};
 
     ghost Value = { MemLinksState };
 
-    ghost view = { λ l. record { asked = l.asked.items; accepted = l.accepted; back = map (λ e. end_of (shaped_out e.out) (I.state e.inn)) l.links.items; done = map (λ c. connection_of (shaped_out c.out) (I.state c.inn)) l.connections.items; fail_opens = l.fail_opens.items; calls = l.calls; faults = l.faults } };
+    ghost view = { λ l. record { asked = l.asked.items; accepted = l.accepted; back = map (λ e. end_of (shaped_out e.out) (I.state e.inn)) l.links.items; done = map (λ c. end_of (shaped_out c.out) (I.state c.inn)) l.connections.items; fail_opens = l.fail_opens.items; calls = l.calls; faults = l.faults } };
 
     ghost invariant = { λ l. (vec_len l.asked ≤ vec_capacity l.links) × (vec_len l.links ≤ vec_len l.asked) × (l.accepted ≤ vec_capacity l.connections) × (vec_len l.connections ≤ l.accepted) };
 }
@@ -118,7 +118,7 @@ impl<I: In> MemLinks<I> {
     /// Takes a connection back.
     pub fn done(&mut self, out: Shaped<MemOut>, inn: I)
         requires { length self.old.done < self.old.accepted }
-        ensures { self.new ≡ record self.old { done = self.old.done ++ connection_of (shaped_out out) (I.state inn) ∷ [] } }
+        ensures { self.new ≡ record self.old { done = self.old.done ++ end_of (shaped_out out) (I.state inn) ∷ [] } }
     {
         match self.connections.push(Connection { out, inn }) {
             Ok(()) => {}

@@ -1,5 +1,5 @@
 ghost use Rattle.std.specs.Prelude.{◌≡◌, ◌∷◌, ◌++◌, []};
-ghost use Rattle.sock_io.specs.Link.{connection_of, end_of};
+ghost use Rattle.sock_io.specs.Link.{end_of};
 
 use crate::link::{Ends, In, LinkSpec, Out, Peer};
 use ghosts::Ghosts;
@@ -31,12 +31,12 @@ pub struct NotedLinks<O: Out, I: In, P: Peer> {
 
 impl<O: Out, I: In, P: Peer> Model for NotedLinks<O, I, P> {
     ghost use Rattle.std.specs.Prelude.{map};
-    ghost use Rattle.sock_io.specs.Link.{connection_of, end_of};
+    ghost use Rattle.sock_io.specs.Link.{end_of};
     ghost use Rattle.sock_io.specs.Linker.{NotedLinksState};
 
     ghost Value = { NotedLinksState };
 
-    ghost view = { λ l. record { asked = l.asked.list; back = map (λ e. end_of (O.state e.out) (I.state e.inn)) l.links.list; done = map (λ c. connection_of (O.state c.out) (I.state c.inn)) l.connections.list } };
+    ghost view = { λ l. record { asked = l.asked.list; back = map (λ e. end_of (O.state e.out) (I.state e.inn)) l.links.list; done = map (λ c. end_of (O.state c.out) (I.state c.inn)) l.connections.list } };
 }
 
 impl<O: Out, I: In, P: Peer> NotedLinks<O, I, P> {
@@ -60,7 +60,7 @@ impl<O: Out, I: In, P: Peer> NotedLinks<O, I, P> {
 
     /// A connection was given back.
     pub fn done(&mut self, out: O, inn: I)
-        ensures { self.new ≡ record self.old { done = self.old.done ++ connection_of (O.state out) (I.state inn) ∷ [] } }
+        ensures { self.new ≡ record self.old { done = self.old.done ++ end_of (O.state out) (I.state inn) ∷ [] } }
     {
         self.connections = noted(&self.connections, Connection { out, inn });
     }

@@ -21,6 +21,7 @@ impl<T: Drop> Model for StdEdge<T> {
 }
 
 impl<T: Drop> StdEdge<T> {
+    /// Over this reader or writer, with no fault so far.
     pub fn new(inner: T) -> Self
         ensures { result ≡ record { inner = inner; faults = 0 } }
     {

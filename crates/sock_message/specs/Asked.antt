@@ -17,9 +17,9 @@ pub record Asked : Type 0 where
 abbrev pub nothing_asked : Asked
 nothing_asked = record { operation = 0; names = []; service = []; method = []; payload = []; attachment = []; range = 0 }
 
-abbrev pub asked_of : Option Asked → Asked
-asked_of None = nothing_asked
-asked_of (Some asked) = asked
+abbrev pub asked_or_nothing : Option Asked → Asked
+asked_or_nothing None = nothing_asked
+asked_or_nothing (Some asked) = asked
 
 -- the number of the name to which an attempt goes
 abbrev pub name_of : Asked → ℕ → ℕ

@@ -19,15 +19,15 @@ use Rattle.sock_model.specs.Writing.{loose_of}
 abbrev pub with_claim : View → Claim → View
 with_claim v c = record v { claims = c ∷ [] }
 
--- the claim of request r for a message to link k, which found this word: nothing is at home yet
+-- C1: the claim of request r for a message to link k, which found this word: nothing is at home yet
 abbrev pub fresh_claim : (k r found : ℕ) → Heading → List ℕ → Claim
 fresh_claim k r found heading bytes = record { link = k; request = r; generation = found / 2; filled = false; ready = false; heading = heading; bytes = bytes }
 
--- the message is at home
+-- M1: the message is at home
 abbrev pub filled_claim : Claim → Heading → List ℕ → Claim
 filled_claim c heading bytes = record c { filled = true; heading = heading; bytes = bytes }
 
--- its next word is marked as not connected
+-- C7: its next word is marked as not connected
 abbrev pub ready_claim : Claim → Claim
 ready_claim c = record c { ready = true }
 
@@ -40,11 +40,11 @@ abbrev pub more : List (List Entry) → Entry → List (List Entry)
 more [] e = []
 more (l ∷ ls) e = (l ++ e ∷ []) ∷ ls
 
--- the exchange found a busy head
+-- C2: the exchange found a busy head
 abbrev pub queued : View → Claim → ℕ → View
 queued v c found = record v { claims = []; loose = loose_of (entry_of c found) ∷ v.loose; lists = more v.lists (entry_of c found) }
 
--- the right of whoever found an idle head
+-- C2: the right of whoever found an idle head
 abbrev pub new_right : Claim → ℕ → List ℕ → ℕ → Right
 new_right c found sent places = let e = entry_of c (found - IDLE) in
     record { link = c.link; last = ticket e; stage = Writes (ticket e); clean = false; at_home = true; taken = false; places = places; sent = sent; heading = c.heading; bytes = []; put = 0; turned = 0; noted = suc places }
@@ -52,25 +52,27 @@ new_right c found sent places = let e = entry_of c (found - IDLE) in
 abbrev pub righted : View → Claim → ℕ → List ℕ → ℕ → View
 righted v c found sent places = record v { claims = []; rights = new_right c found sent places ∷ v.rights; lists = more v.lists (entry_of c (found - IDLE)) }
 
+-- C3
 abbrev pub without_loose : View → ℕ → View
 without_loose v r = record v { loose = filter (λ (x : Loose). not (x.request == r)) v.loose }
 
--- the right to write r.link is now r, or it is given up
+-- the right to write r.link is now r
 abbrev pub with_right : View → Right → View
 with_right v r = record v { rights = r ∷ filter (λ (x : Right). not (x.link == r.link)) v.rights }
 
+-- C4, where the head has no newer ticket
 abbrev pub without_right : View → ℕ → View
 without_right v k = record v { rights = filter (λ (x : Right). not (x.link == k)) v.rights }
 
--- the head had this newer ticket, from which the walk begins
+-- C4: the head had this newer ticket, from which the walk begins
 abbrev pub walking_right : Right → ℕ → Right
 walking_right r top = record r { stage = Walks top top 0 }
 
--- the next word of `now`, which has its place, was read
+-- C5: the next word of `now`, which has its place, was read
 abbrev pub passing_right : Right → (now next : ℕ) → Right
 passing_right r now next = record r { stage = Passes now next }
 
--- the next word at which the walk stands was read
+-- C5: the next word at which the walk stands was read
 abbrev pub reading_right : Right → (top at after before : ℕ) → Right
 reading_right r top at after before = record r { stage = Turns top at after before }
 
@@ -79,35 +81,36 @@ abbrev pub freed_stage : Stage → Stage
 freed_stage (Passes now next) = Writes next
 freed_stage other = Empties
 
+-- C8
 abbrev pub freed_right : Right → Right
 freed_right r = record r { stage = freed_stage r.stage }
 
--- the walk turned the next word of `at`
+-- C6: the walk turned the next word of `at`
 abbrev pub turned_right : Right → ℕ → ℕ → ℕ → Right
 turned_right r top at before = cond (before == r.last) (record r { last = top; stage = Writes at; turned = 0; noted = r.noted + suc r.turned }) (record r { stage = Walks top before at; turned = suc r.turned })
 
--- the message in hand got its place, whole or dropped; `sent` is what the link took of it
+-- P1: the message in hand got its place, whole or dropped; `sent` is what the link took of it
 abbrev pub placed_right : Right → ℕ → Right
 placed_right r now = record r { stage = Placed now; taken = false; places = suc r.places; sent = r.sent ++ r.bytes; put = 0 }
 
 abbrev pub dropped_right : Right → ℕ → List ℕ → Right
 dropped_right r now sent = record r { stage = Placed now; taken = false; clean = false; places = suc r.places; sent = sent; put = 0 }
 
--- the message of the first entry without a place is in hand
+-- M2: the message of the first entry without a place is in hand
 abbrev pub taken_right : Right → Heading → List ℕ → Right
 taken_right r label bytes = record r { taken = true; heading = label; bytes = bytes; put = 0 }
 
--- the link took so many bytes more of the message in hand
+-- W1: the link took so many bytes more of the message in hand
 abbrev pub put_right : Right → ℕ → Right
 put_right r n = record r { put = r.put + n }
 
--- a link comes into a hand that belongs to no right, and goes home again
+-- L1 and L2: a link comes into a hand that belongs to no right, and goes home again
 abbrev pub with_hand : View → Hand → View
 with_hand v h = record v { hands = h ∷ v.hands }
 
 abbrev pub without_hand : View → ℕ → View
 without_hand v k = record v { hands = filter (λ (x : Hand). not (x.link == k)) v.hands }
 
--- the same, where the link's pass is spent for it
+-- L1, where the link's pass is spent for it
 abbrev pub spent_hand : View → Hand → View
 spent_hand v h = record v { passes = without_pass h.link v.passes; hands = h ∷ v.hands }

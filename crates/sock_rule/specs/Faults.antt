@@ -12,6 +12,8 @@ use Rattle.sock_model.specs.declared.view.View.{View}
 use Rattle.sock_model.specs.Weights.{total, only}
 use Rattle.sock_model.specs.Marks.{at}
 use Rattle.sock_model.specs.Reads.{hands_of}
+use Rattle.sock_io.specs.Link.{OutState}
+use Rattle.sock_rule.specs.Shows.{way_at}
 
 -- the note that the half of link k has a fault
 abbrev pub fault : ℕ → Mark
@@ -44,6 +46,13 @@ without_fault k (e ∷ es) = cond (faults_link k e == 0) (e ∷ without_fault k 
 abbrev pub fault_left : ℕ → ℕ → View → View
 fault_left zero k v = v
 fault_left (suc n) k v = record v { marks = without_fault k v.marks }
+
+-- the half that came out of the home of link k has that number and goes the way of that link, and has faults where the seat noted one
+pub record CameOut (p : Plan) (ways : List (List ℕ)) (k : ℕ) (v : View) (o : OutState) : Type 0 where
+  pub link_is : o.link ≡ k
+  pub link_in : k < p.links
+  pub way_is : o.way ≡ way_at ways k
+  pub known : 0 < faults_of k v → 0 < o.faults
 
 -- ## Where a link is
 

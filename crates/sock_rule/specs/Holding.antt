@@ -52,7 +52,7 @@ abbrev pub LookedToWrite : {S : Type 0} → Right → ℕ → ℕ → Me S View 
 LookedToWrite r i found m n = WordFits i found m.0 × (version_of found % 2 ≡ 0 → n ≡ (with_right (looked i found m.0) (record r { clean = true }), m.1)) × (version_of found % 2 ≢ 0 → n ≡ (looked i found m.0, m.1))
 
 -- the message that the right took is for the place l, and takes the next place of its link k, which is in hand
-pub record MayPlace (p : Plan) (l k places : ℕ) (v : View) : Type 0 where
+pub record TakesNextPlace (p : Plan) (l k places : ℕ) (v : View) : Type 0 where
   pub right : Right
   pub one : Rights right v
   pub now : ℕ
@@ -66,7 +66,7 @@ pub record MayPlace (p : Plan) (l k places : ℕ) (v : View) : Type 0 where
 
 -- P1 of a message that the link took whole
 pub record MayStorePlace (p : Plan) (l k places : ℕ) (v : View) : Type 0 where
-  pub placing : MayPlace p l k places v
+  pub placing : TakesNextPlace p l k places v
   pub clean : placing.right.clean ≡ true
   pub link_fits : k < 65536
 
@@ -76,7 +76,7 @@ Part q n = (n ≡ q.sent) ⊎ ((q.clean ≡ true) × (part : List ℕ) × (rest 
 
 -- P1 of a message that is dropped, where the seat found that the life of its link was failed; the link took this by then
 pub record MayDropPlace (p : Plan) (l k places : ℕ) (took : List ℕ) (v : View) : Type 0 where
-  pub placing : MayPlace p l k places v
+  pub placing : TakesNextPlace p l k places v
   pub part : Part placing.right took
   pub slot : ℕ
   pub life : ℕ

@@ -21,8 +21,7 @@ impl<O: Out> RuleTable<O> {
         ensures view { PutAt (name_index self.now.plan name) (id.0 + 1) seat.old.me seat.new.me }
     {
         let index = 6 * self.plan.slots as usize + name as usize;
-        let word = id.word() + 1;
-        self.table.shared.store::<StoreId>(seat, index, word);
+        self.table.shared.store::<StoreId>(seat, index, id.0 + 1);
     }
 
     /// S7 of the word of a name.
@@ -47,8 +46,7 @@ impl<O: Out> RuleTable<O> {
         ensures noted { NotedBy self.now.plan operation (Some id) seat.old.me seat.new.me }
     {
         let index = 6 * self.plan.slots as usize + self.plan.names as usize + operation as usize;
-        let word = id.word() + 1;
-        self.table.shared.store::<StoreId>(seat, index, word);
+        self.table.shared.store::<StoreId>(seat, index, id.0 + 1);
     }
 
     /// S6 into the word of an operation that got no socket.

@@ -52,11 +52,11 @@ impl<O: Out> RuleTable<O> {
         ensures link { result < self.now.plan.links }
         ensures met { (h k : ℕ) → 0 < marks_of (is_hold h) slot seat.old.me.0 → 0 < marks_of (is_met h k) slot seat.old.me.0 → result ≡ k }
     {
-        let home = at as usize;
+        let home_index = at as usize;
         let old = self
             .table
             .shared
-            .exchange(seat, home, SockHome::Message(msg));
+            .exchange(seat, home_index, SockHome::Message(msg));
         drop(old);
         let index = 6 * slot as usize + 2;
         self.table.shared.load::<FillHome>(seat, index)
@@ -83,8 +83,7 @@ impl<O: Out> RuleTable<O> {
         ensures view { (c : Claim) → Claims c seat.old.me.0 → Swapped c result.found seat.old.me seat.new.me }
     {
         let index = 6 * at as usize + 3;
-        let new = own.word();
-        let found = self.table.shared.swap::<SwapHead>(seat, index, new);
+        let found = self.table.shared.swap::<SwapHead>(seat, index, own.0);
         chain_core::swap_head(found, own)
     }
 
@@ -97,7 +96,6 @@ impl<O: Out> RuleTable<O> {
         ensures view { seat.new.me ≡ (without_loose seat.old.me.0 at, seat.old.me.1) }
     {
         let index = self.next_index(at as usize);
-        let value = before.word();
-        self.table.shared.store::<Connect>(seat, index, value);
+        self.table.shared.store::<Connect>(seat, index, before.0);
     }
 }

@@ -9,7 +9,7 @@ ghost use Rattle.sock_rule.specs.declared.homes.SockHome.TheVariants.{Empty, Lin
 ghost use Rattle.sock_rule.specs.OnKey.{LinkOnTop};
 ghost use Rattle.sock_rule.specs.Seated.{IsSeat};
 ghost use Rattle.sock_rule.specs.Shows.{way_at};
-ghost use Rattle.sock_rule.specs.Faults.{faults_of, fault_found, fault_left};
+ghost use Rattle.sock_rule.specs.Faults.{faults_of, fault_found, fault_left, CameOut};
 ghost use Rattle.sock_rule.specs.Hands.{hand_of, Recycles};
 
 use crate::homes::{LinkHome, SockHome};
@@ -26,18 +26,12 @@ impl<O: Out> RuleTable<O> {
         requires empty { seat.old.me.0.hands ≡ [] }
         ensures seat { IsSeat self.now.table.shared.table_id self.now.plan seat.new }
         ensures view { seat.new.me ≡ (fault_found (O.state result.out).faults 0 link (with_hand seat.old.me.0 (hand_of link result.took.list result.next)), (self.now.plan.requests + link, Empty) ∷ seat.old.me.1) }
-        ensures link { ((O.state result.out).link ≡ link) × (link < self.now.plan.links) }
-        ensures way { (O.state result.out).way ≡ way_at self.now.ways.list link }
-        ensures known { 0 < faults_of link seat.old.me.0 → 0 < (O.state result.out).faults }
+        ensures came { CameOut self.now.plan self.now.ways.list link seat.old.me.0 (O.state result.out) }
     {
-        let index = 6 * at as usize + 2;
         let said = self.said();
-        self.table
-            .shared
-            .compare_exchange_with::<TakeLast>(seat, index, 0, 0, &said);
-        drop(said);
-        let slot = self.plan.requests as usize + link as usize;
-        self.take_home(seat, slot)
+        let shared = &self.table.shared;
+        shared.compare_exchange_with::<TakeLast>(seat, 6 * at as usize + 2, 0, 0, &said);
+        self.take_link_home(seat, link, said)
     }
 
     /// L1 of a link whose pass gets no socket: the pass is spent.
@@ -46,17 +40,12 @@ impl<O: Out> RuleTable<O> {
         requires pass { seat.old.me.0.passes ≡ link ∷ [] }
         ensures seat { IsSeat self.now.table.shared.table_id self.now.plan seat.new }
         ensures view { seat.new.me ≡ (fault_found (O.state result.out).faults 0 link (spent_hand seat.old.me.0 (hand_of link result.took.list result.next)), (self.now.plan.requests + link, Empty) ∷ seat.old.me.1) }
-        ensures link { ((O.state result.out).link ≡ link) × (link < self.now.plan.links) }
-        ensures way { (O.state result.out).way ≡ way_at self.now.ways.list link }
-        ensures known { 0 < faults_of link seat.old.me.0 → 0 < (O.state result.out).faults }
+        ensures came { CameOut self.now.plan self.now.ways.list link seat.old.me.0 (O.state result.out) }
     {
         let said = self.said();
-        self.table
-            .shared
-            .compare_exchange_with::<SpendPass>(seat, 0, 0, 0, &said);
-        drop(said);
-        let slot = self.plan.requests as usize + link as usize;
-        self.take_home(seat, slot)
+        let shared = &self.table.shared;
+        shared.compare_exchange_with::<SpendPass>(seat, 0, 0, 0, &said);
+        self.take_link_home(seat, link, said)
     }
 
     /// L2: the link in hand goes home, with what it took.
@@ -71,9 +60,27 @@ impl<O: Out> RuleTable<O> {
         ensures seat { IsSeat self.now.table.shared.table_id self.now.plan seat.new }
         ensures view { seat.new.me ≡ (fault_left (O.state home.out).faults link (without_hand seat.old.me.0 link), rest seat.old.me.1) }
     {
-        let slot = self.plan.requests as usize + link as usize;
-        self.lay_home(seat, slot, home);
+        let home_index = self.plan.requests as usize + link as usize;
+        self.lay_home(seat, home_index, home);
         self.table.shared.load::<PutLink>(seat, 0);
+    }
+
+    // The link of this number comes out of its home, which the seat has in hand. What the step was told is let go.
+    pub(crate) fn take_link_home(
+        &self,
+        seat: &mut SockSeat<O>,
+        link: u16,
+        said: SockHome<O>,
+    ) -> LinkHome<O>
+        requires seat { seat.old.table_id ≡ self.now.table.shared.table_id }
+        requires home { LinkOnTop (self.now.plan.requests + link) seat.old.me }
+        ensures seat { seat.new.table_id ≡ seat.old.table_id }
+        ensures home { seat.old.me.1 ≡ (self.now.plan.requests + link, Link result) ∷ rest seat.old.me.1 }
+        ensures view { seat.new.me ≡ (seat.old.me.0, (self.now.plan.requests + link, Empty) ∷ rest seat.old.me.1) }
+    {
+        drop(said);
+        let home_index = self.plan.requests as usize + link as usize;
+        self.take_home(seat, home_index)
     }
 
     // The link comes out of the home that the seat has in hand, which is empty then.

@@ -10,7 +10,7 @@ ghost use Rattle.sock_model.specs.Layout.{place_index};
 ghost use Rattle.sock_model.specs.Entries.{slot_of, generation_of};
 ghost use Rattle.sock_rule.specs.declared.homes.SockHome.TheVariants.{Empty};
 ghost use Rattle.sock_rule.specs.Seated.{IsSeat};
-ghost use Rattle.sock_rule.specs.Faults.{faults_of, fault_found, noting_fault};
+ghost use Rattle.sock_rule.specs.Faults.{faults_of, fault_found, noting_fault, CameOut};
 ghost use Rattle.sock_rule.specs.Shows.{heading_of, way_at};
 ghost use Rattle.sock_rule.specs.Holding.{Rights, LinkAtHome, MayTakeMsg, TookMsg, MayLookToWrite, LookedToWrite, MayStorePlace, MayDropPlace, MayFreeRequest, MayEmptyHead, Emptied, MayReadOn, ReadOn, MayReadBack, ReadBack, MayTurnNext};
 
@@ -32,18 +32,13 @@ impl<O: Out> RuleTable<O> {
         ensures seat { IsSeat self.now.table.shared.table_id self.now.plan seat.new }
         ensures view { (r : Right) → Rights r seat.old.me.0 → seat.new.me ≡ (fault_found (O.state result.out).faults at link (with_right seat.old.me.0 (record r { at_home = false })), (self.now.plan.requests + link, Empty) ∷ seat.old.me.1) }
         ensures took { (r : Right) → Rights r seat.old.me.0 → (result.took.list ≡ r.sent) × (result.next ≡ r.places) }
-        ensures link { ((O.state result.out).link ≡ link) × ((O.state result.out).finished ≡ false) × (link < self.now.plan.links) }
-        ensures way { (O.state result.out).way ≡ way_at self.now.ways.list link }
-        ensures known { 0 < faults_of link seat.old.me.0 → 0 < (O.state result.out).faults }
+        ensures came { CameOut self.now.plan self.now.ways.list link seat.old.me.0 (O.state result.out) }
+        ensures unfinished { (O.state result.out).finished ≡ false }
     {
-        let index = 6 * at as usize + 2;
         let said = self.said();
-        self.table
-            .shared
-            .compare_exchange_with::<TakeOwn>(seat, index, 0, 0, &said);
-        drop(said);
-        let slot = self.plan.requests as usize + link as usize;
-        self.take_home(seat, slot)
+        let shared = &self.table.shared;
+        shared.compare_exchange_with::<TakeOwn>(seat, 6 * at as usize + 2, 0, 0, &said);
+        self.take_link_home(seat, link, said)
     }
 
     /// The seat notes that a fault of the link in hand came.
@@ -69,8 +64,11 @@ impl<O: Out> RuleTable<O> {
         ensures few { (r : Right) → Rights r seat.old.me.0 → r.places < 4294967295 }
     {
         self.table.shared.load::<TakeLetter>(seat, 0);
-        let slot = now.request() as usize;
-        let value = self.table.shared.exchange(seat, slot, SockHome::Empty);
+        let home_index = now.request() as usize;
+        let value = self
+            .table
+            .shared
+            .exchange(seat, home_index, SockHome::Empty);
         let SockHome::Message(msg) = value else {
             unreachable!();
         };
@@ -97,8 +95,7 @@ impl<O: Out> RuleTable<O> {
         ensures view { (r : Right) (now : ℕ) → Rights r seat.old.me.0 → r.stage ≡ Writes now → seat.new.me ≡ (with_right seat.old.me.0 (placed_right r now), seat.old.me.1) }
     {
         let index = self.place_index(at as usize);
-        let place = value.word();
-        self.table.shared.store::<StorePlace>(seat, index, place);
+        self.table.shared.store::<StorePlace>(seat, index, value.0);
     }
 
     /// P1 with the dropped bit, of a message in hand: its link lies in the home of the request meanwhile.
@@ -118,12 +115,11 @@ impl<O: Out> RuleTable<O> {
         ensures view { (r : Right) (n : ℕ) → Rights r seat.old.me.0 → r.stage ≡ Writes n → seat.new.me ≡ (dropped_at (place_index self.now.plan at) value.0 r.heading (with_right seat.old.me.0 (dropped_right r n home.took.list)), seat.old.me.1) }
         ensures home { result ≡ home }
     {
-        let slot = now.request() as usize;
-        self.lay_home(seat, slot, home);
+        let home_index = now.request() as usize;
+        self.lay_home(seat, home_index, home);
         let index = self.place_index(at as usize);
-        let place = value.word();
-        self.table.shared.store::<DropPlace>(seat, index, place);
-        self.take_home(seat, slot)
+        self.table.shared.store::<DropPlace>(seat, index, value.0);
+        self.take_home(seat, home_index)
     }
 
     /// C8: the request of a message that has its place is free again, and its home is back.
@@ -166,8 +162,8 @@ impl<O: Out> RuleTable<O> {
         ensures seat { IsSeat self.now.table.shared.table_id self.now.plan seat.new }
         ensures view { (r : Right) → Rights r seat.old.me.0 → seat.new.me ≡ (with_right seat.old.me.0 (record r { at_home = true }), rest seat.old.me.1) }
     {
-        let slot = self.plan.requests as usize + link as usize;
-        self.lay_home(seat, slot, home);
+        let home_index = self.plan.requests as usize + link as usize;
+        self.lay_home(seat, home_index, home);
         self.table.shared.load::<PutOwn>(seat, 0);
     }
 
@@ -181,7 +177,7 @@ impl<O: Out> RuleTable<O> {
         ensures view { (r : Right) → Rights r seat.old.me.0 → Emptied r last.0 result.found seat.old.me seat.new.me }
     {
         let index = 6 * at as usize + 3;
-        let old = last.word();
+        let old = last.0;
         let new = old + 9_223_372_036_854_775_808;
         let found = self
             .table

@@ -106,7 +106,7 @@ impl<O: Out> RuleTable<O> {
         ensures won { (result.found ≡ from.0 → result.won ≡ true) × (result.found ≢ from.0 → result.won ≡ false) }
     {
         let index = 6 * at as usize + 1;
-        let old = from.word();
+        let old = from.0;
         let shared = &self.table.shared;
         let found = shared.compare_exchange::<Recycle>(seat, index, old, old + 4_294_967_296);
         ref_core::recycle(found, from)

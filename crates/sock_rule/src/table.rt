@@ -93,7 +93,7 @@ impl<O: Out> RuleTable<O> {
         self.table.shared.join_seat::<TakeIn>(seat, from);
     }
 
-    // The place of a request's next word.
+    // The index of a request's next word.
     pub(crate) fn next_index(&self, request: usize) -> usize
         requires request { request < self.now.plan.requests }
         ensures { result ≡ next_index self.now.plan request }

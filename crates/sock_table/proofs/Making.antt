@@ -83,17 +83,22 @@ module _ (p : Plan) (u a x : View) (k : ℕ) (is : x ≡ carrier p (k ∷ [])) (
             all : Became i (record a { passes = b.passes }) e (Claimed 1 k ∷ Claimed 2 k ∷ Claimed 3 k ∷ Linked (version_of found) k ∷ Born (version_of found) ∷ Known (version_of found) ∷ []) (Claimed 0 0 ∷ Claimed 1 k ∷ Claimed 2 k ∷ Claimed 3 k ∷ [])
             all = then_ i three four
 
-            pub made : Made i id k u e
+            pub made : Made p i id k u e
             made = let v : socket_id_version id ≡ version_of found = omega arith in record {
               slot = omega arith;
               here = λ f. (let x = all.here f in let y = ap (λ es. total f (about i es)) marks_same in let l = ap (λ (n : ℕ). f (Linked n k)) v in let m = ap (λ (n : ℕ). f (Born n)) v in let n = ap (λ (n : ℕ). f (Known n)) v in omega arith);
               elsewhere = λ j ne. all.elsewhere j ne ∙ ap (about j) marks_same;
-              rights = ap (λ (y : View). y.rights) all.others ∙ ap (λ (y : View). y.rights) took_in;
-              hands = ap (λ (y : View). y.hands) all.others ∙ ap (λ (y : View). y.hands) took_in;
-              claims = ap (λ (y : View). y.claims) all.others ∙ ap (λ (y : View). y.claims) took_in;
-              loose = ap (λ (y : View). y.loose) all.others ∙ ap (λ (y : View). y.loose) took_in;
-              lists = ap (λ (y : View). y.lists) all.others ∙ (ap (λ (y : View). y.lists) took_in ∙ (ap (λ (y : View). u.lists ++ y.lists) is ∙ append-nil u.lists));
-              share = (let e = ap (λ (y : View). y.share) all.others in let f = ap (λ (y : View). y.share) took_in in let g = ap (λ (y : View). y.share) is in omega arith);
+              tokens = record {
+                refs = λ j jl. dite (ℕ_discrete j i)
+                    (λ q. subst (λ (y : ℕ). marks_of is_ref y e ≡ marks_of is_ref y u) (sym q) (let x = all.here is_ref in let y = ap (λ es. total is_ref (about i es)) marks_same in omega arith))
+                    (λ ne. ap (total is_ref) (all.elsewhere j ne ∙ ap (about j) marks_same));
+                claims = ap (λ (y : View). y.claims) all.others ∙ ap (λ (y : View). y.claims) took_in;
+                loose = ap (λ (y : View). y.loose) all.others ∙ ap (λ (y : View). y.loose) took_in;
+                rights = ap (λ (y : View). y.rights) all.others ∙ ap (λ (y : View). y.rights) took_in;
+                hands = ap (λ (y : View). y.hands) all.others ∙ ap (λ (y : View). y.hands) took_in;
+                lists = ap (λ (y : View). y.lists) all.others ∙ (ap (λ (y : View). y.lists) took_in ∙ (ap (λ (y : View). u.lists ++ y.lists) is ∙ append-nil u.lists));
+                share = (let e = ap (λ (y : View). y.share) all.others in let f = ap (λ (y : View). y.share) took_in in let g = ap (λ (y : View). y.share) is in omega arith);
+              };
               passes = λ none_. ap (λ (y : View). y.passes) all.others ∙ (ap (λ (y : View). y.passes) stored ∙ (ap (without_pass k) (pass_alone none_) ∙ spent_alone k));
               found = ap (λ (y : View). y.found) all.others ∙ (ap (λ (y : View). y.found) took_in ∙ (ap (λ (y : View). u.found ++ y.found) is ∙ append-nil u.found));
               finds = ap (λ (y : View). y.finds) all.others ∙ (ap (λ (y : View). y.finds) took_in ∙ (ap (λ (y : View). u.finds ++ y.finds) is ∙ append-nil u.finds));
@@ -112,7 +117,7 @@ wins i found v w is e = becomes i (is ∙ ap (λ b. record v { marks = at i (con
 pub won_claim : (i : ℕ) (v w : View) → Became i v w (Claimed 0 0 ∷ []) [] → 0 < marks_of (is_stage 0 0) i w
 won_claim i v w b = let x = b.here (is_stage 0 0) in let s = pair-same 0 0 in omega arith
 
-module _ (p : Plan) (i id k : ℕ) (v w x : View) (b : IsBetween p v) (won : Became i v w (Claimed 0 0 ∷ []) []) (m : Made i id k w x) where
+module _ (p : Plan) (i id k : ℕ) (v w x : View) (b : IsBetween p v) (won : Became i v w (Claimed 0 0 ∷ []) []) (m : Made p i id k w x) where
   both : (f : Mark → ℕ) (j : ℕ) → marks_of f j v ≡ 0 → f (Linked (socket_id_version id) k) ≡ 0 → f (Born (socket_id_version id)) ≡ 0 → f (Known (socket_id_version id)) ≡ 0 → marks_of f j x ≡ 0
   both f j none_ l o n = dite (ℕ_discrete j i)
       (λ e. subst (λ (y : ℕ). marks_of f y x ≡ 0) (sym e) (let z : marks_of f i v ≡ 0 = subst (λ (y : ℕ). marks_of f y v ≡ 0) e none_ in let a = won.here f in let c = m.here f in omega arith))
@@ -124,8 +129,8 @@ module _ (p : Plan) (i id k : ℕ) (v w x : View) (b : IsBetween p v) (won : Bec
     unprobed = λ j jl. both is_probe j (b.unprobed j jl) refl refl refl;
     uncoding = λ j jl. both is_any_coding j (b.uncoding j jl) refl refl refl;
     no_zero = λ j z jl. both (is_zero z) j (b.no_zero j z jl) refl refl refl;
-    no_rights = m.rights ∙ (ap (λ (y : View). y.rights) won.others ∙ b.no_rights);
-    empty = m.hands ∙ (ap (λ (y : View). y.hands) won.others ∙ b.empty);
+    no_rights = m.tokens.rights ∙ (ap (λ (y : View). y.rights) won.others ∙ b.no_rights);
+    empty = m.tokens.hands ∙ (ap (λ (y : View). y.hands) won.others ∙ b.empty);
     no_passes = m.passes (ap (λ (y : View). y.passes) won.others ∙ b.no_passes);
   }
 
@@ -151,8 +156,8 @@ one_tried i u v w a b = record {
   others = b.others ∙ ap (λ (y : View). record y { marks = w.marks }) a.others;
 }
 
-pub created : (i id k : ℕ) (u v w x : View) → TriedTo i u v → Became i v w (Claimed 0 0 ∷ []) [] → Made i id k w x → Created id k u x
-created i id k u v w x a won m = let at_id : socket_id_slot id ≡ i = m.slot in record {
+pub created : (p : Plan) (i id k : ℕ) (u v w x : View) → TriedTo i u v → Became i v w (Claimed 0 0 ∷ []) [] → Made p i id k w x → Created id k u x
+created p i id k u v w x a won m = let at_id : socket_id_slot id ≡ i = m.slot in record {
   here = λ f. subst (λ (j : ℕ). marks_of f j x ≡ marks_of f j u + (f (Linked (socket_id_version id) k) + (f (Born (socket_id_version id)) + f (Known (socket_id_version id))))) (sym at_id)
       (let b = won.here f in let c = m.here f in let z = ap (total f) (a.elsewhere i (omega arith)) in omega arith);
   tried = λ j jl f. ap (total f) (m.elsewhere j (λ e. omega arith) ∙ won.elsewhere j (λ e. omega arith)) ∙ a.each j (omega arith) f;
@@ -183,13 +188,5 @@ became_same p i v w adds drops b even = record {
   share = ap (λ (y : View). y.share) b.others;
 }
 
-pub made_same : (p : Plan) (i id k : ℕ) (v w x : View) → Became i v w (Claimed 0 0 ∷ []) [] → Made i id k w x → SameTokens p v x
-made_same p i id k v w x won m = let a = became_same p i v w (Claimed 0 0 ∷ []) [] won refl in record {
-  refs = λ j jl. dite (ℕ_discrete j i) (λ e. subst (λ (y : ℕ). marks_of is_ref y x ≡ marks_of is_ref y v) (sym e) (let c = m.here is_ref in let d = won.here is_ref in omega arith)) (λ ne. ap (total is_ref) (m.elsewhere j ne) ∙ a.refs j jl);
-  claims = m.claims ∙ a.claims;
-  loose = m.loose ∙ a.loose;
-  rights = m.rights ∙ a.rights;
-  hands = m.hands ∙ a.hands;
-  lists = m.lists ∙ a.lists;
-  share = m.share ∙ a.share;
-}
+pub made_same : (p : Plan) (i id k : ℕ) (v w x : View) → Became i v w (Claimed 0 0 ∷ []) [] → Made p i id k w x → SameTokens p v x
+made_same p i id k v w x won m = same_then p v w x (became_same p i v w (Claimed 0 0 ∷ []) [] won refl) m.tokens

@@ -13,6 +13,7 @@ use Rattle.sock_model.specs.Seats.{carrier}
 use Rattle.sock_model.specs.SlotRows.{marks_of}
 use Rattle.sock_rule.specs.OnTable.{put_in}
 use Rattle.sock_table.specs.declared.passes.LinkPass.{LinkPass}
+use Rattle.sock_table.specs.Refs.{SameTokens}
 
 -- a pass of this table
 abbrev pub IsPass : {O : Type 0} {g : Ghosts O} → TableId → Plan → LinkPass O g → Type 0
@@ -23,16 +24,11 @@ abbrev pub Claimed : ℕ → View → Type 0
 Claimed i v = 0 < marks_of (is_stage 0 0) i v
 
 -- the claim of slot i became the life of this id, with the link k
-pub record Made (i id k : ℕ) (v w : View) : Type 0 where
+pub record Made (p : Plan) (i id k : ℕ) (v w : View) : Type 0 where
   pub slot : socket_id_slot id ≡ i
   pub here : (f : Mark → ℕ) → marks_of f i w + f (ClaimOf 0 0) ≡ marks_of f i v + (f (Linked (socket_id_version id) k) + (f (Born (socket_id_version id)) + f (Known (socket_id_version id))))
   pub elsewhere : (j : ℕ) → j ≢ i → about j w.marks ≡ about j v.marks
-  pub rights : w.rights ≡ v.rights
-  pub hands : w.hands ≡ v.hands
-  pub claims : w.claims ≡ v.claims
-  pub loose : w.loose ≡ v.loose
-  pub lists : w.lists ≡ v.lists
-  pub share : w.share ≡ v.share
+  pub tokens : SameTokens p v w
   -- the pass was spent
   pub passes : v.passes ≡ [] → w.passes ≡ []
   -- and nothing was found or stored

@@ -61,7 +61,7 @@ pub fn rooms<O: Out>(alloc: Global, plan: &Plan) -> Result<Closed<O>, AllocError
     ensures { IfOk result (IsRoomOf plan.now) }
 {
     let places = vec![in alloc; PlaceWord::NONE; 8 * plan.operations as usize]?;
-    let vrefs = vec![in alloc; Vref::from_word(0); plan.slots as usize]?;
+    let vrefs = vec![in alloc; Vref(0); plan.slots as usize]?;
     let outs = Vec::with_capacity(alloc, plan.links as usize)?;
     Ok(Closed {
         places,
@@ -80,7 +80,7 @@ fn read_vrefs<S>(table: &ClosedTable<S, Global>, plan: &Plan, vrefs: &mut Vec<Vr
     let slots = plan.slots as usize;
     let mut i = 0;
     while i < slots {
-        vrefs[i] = Vref::from_word(table.word(6 * i + 1));
+        vrefs[i] = Vref(table.word(6 * i + 1));
         i += 1;
     }
 }
@@ -100,7 +100,7 @@ fn read_places<S>(table: &ClosedTable<S, Global>, plan: &Plan, places: &mut Vec<
     let count = 8 * plan.operations as usize;
     let mut i = 0;
     while i < count {
-        places[i] = PlaceWord::from_word(table.word(first + i));
+        places[i] = PlaceWord(table.word(first + i));
         i += 1;
     }
 }

@@ -54,7 +54,7 @@ impl<O: Out> SockTable<O> {
         } else {
             prove!((word - 1) % 4_294_967_296 < slots);
             prove!(word != u64::MAX);
-            Some(SocketId::from_word(word - 1))
+            Some(SocketId(word - 1))
         }
     }
 
@@ -90,7 +90,7 @@ impl<O: Out> SockTable<O> {
         } else if word == u64::MAX {
             Noted::Nothing
         } else {
-            Noted::Id(SocketId::from_word(word - 1))
+            Noted::Id(SocketId(word - 1))
         }
     }
 }

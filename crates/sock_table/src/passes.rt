@@ -44,7 +44,7 @@ impl<O: Out> SockTable<O> {
         requires pass { IsPass self.now.rule.table.shared.table_id self.now.rule.plan pass }
         requires claimed { Claimed at seat.old.me.0 }
         ensures seat { IsSeat self.now.rule.table.shared.table_id self.now.rule.plan seat.new }
-        ensures made { Made at result.0 pass.link seat.old.me.0 seat.new.me.0 }
+        ensures made { Made self.now.rule.plan at result.0 pass.link seat.old.me.0 seat.new.me.0 }
         ensures slots { seat.new.me.1 ≡ seat.old.me.1 }
     {
         let LinkPass { seat: from, link } = pass;
@@ -53,7 +53,7 @@ impl<O: Out> SockTable<O> {
         self.rule.reset_head(seat, at);
         self.rule.wipe_code(seat, at);
         let step = self.rule.birth(seat, at);
-        let version = Vref::from_word(step.found).version();
+        let version = Vref(step.found).version();
         SocketId::pack(version, u32::from(at))
     }
 

@@ -75,7 +75,7 @@ impl<O: Out> SockTable<O> {
         ensures slots { seat.new.me.1 ≡ seat.old.me.1 }
     {
         let step = self.rule.recycle(seat, at, from);
-        if step.found != from.word() {
+        if step.found != from.0 {
             return false;
         }
         let links = self.rule.plan.links;
@@ -107,7 +107,7 @@ impl<O: Out> SockTable<O> {
         ensures slots { seat.new.me.1 ≡ seat.old.me.1 }
     {
         let step = self.rule.sub_ref(seat, at);
-        let left = Vref::from_word(step.next);
+        let left = Vref(step.next);
         if left.nref() != 0 {
             return false;
         }
@@ -135,7 +135,7 @@ impl<O: Out> SockTable<O> {
         prove!(slot < slots as u32);
         let at = slot as u16;
         let step = self.rule.add_ref(seat, at);
-        let found = Vref::from_word(step.found);
+        let found = Vref(step.found);
         if found.version() == id.version() {
             return Ok(SockRef { id });
         }
@@ -179,7 +179,7 @@ impl<O: Out> SockTable<O> {
         let slot = sock.id.slot();
         prove!(slot < slots as u32);
         let step = self.rule.look_word(seat, slot as u16);
-        let found = Vref::from_word(step.found);
+        let found = Vref(step.found);
         if found.version() == sock.id.version() {
             Look::Live
         } else {
@@ -223,7 +223,8 @@ impl<O: Out> SockTable<O> {
         found as u16
     }
 
-    /// Fails the socket, with a code from 1 to 4,095. Already exactly where it had been failed.
+    /// Fails the socket, with a code from 1 to 4,095, also of a seat that has rights to write. Already exactly where it had
+    /// been failed.
     /// bRPC's `SetFailed` (versioned_ref_with_id.h, socket.cpp).
     pub fn set_failed(
         &self,
@@ -231,24 +232,6 @@ impl<O: Out> SockTable<O> {
         sock: &SockRef,
         code: u16,
     ) -> Result<(), Already>
-        requires seat { IsSeat self.now.rule.table.shared.table_id self.now.rule.plan seat.old }
-        requires held { Holds self.now.rule.plan seat.old.me.0 sock.now.id.0 }
-        requires room { marks_of is_ref (socket_id_slot sock.now.id.0) seat.old.me.0 < 65540 }
-        requires between { IsBetween self.now.rule.plan seat.old.me.0 }
-        requires code { code ≢ 0 }
-        requires small { code < 4096 }
-        ensures seat { IsSeat self.now.rule.table.shared.table_id self.now.rule.plan seat.new }
-        ensures ok { IfOk result (λ _. FailedBy sock.now.id.0 code seat.old.me.0 seat.new.me.0) }
-        ensures err { IfErr result (λ e. FoundFailed sock.now.id.0 e.found.0 seat.old.me.0 seat.new.me.0) }
-        ensures stays { IfOk result (λ _. NoneLater sock.now.id.0 seat.old.me.0) }
-        ensures between { IsBetween self.now.rule.plan seat.new.me.0 }
-        ensures slots { seat.new.me.1 ≡ seat.old.me.1 }
-    {
-        self.fail(seat, sock, code)
-    }
-
-    /// The same, also of a seat that has rights to write.
-    pub fn fail(&self, seat: &mut SockSeat<O>, sock: &SockRef, code: u16) -> Result<(), Already>
         requires seat { IsSeat self.now.rule.table.shared.table_id self.now.rule.plan seat.old }
         requires held { Holds self.now.rule.plan seat.old.me.0 sock.now.id.0 }
         requires room { marks_of is_ref (socket_id_slot sock.now.id.0) seat.old.me.0 < 65540 }
@@ -268,7 +251,7 @@ impl<O: Out> SockTable<O> {
         prove!(slot < slots as u32);
         let at = slot as u16;
         let step = self.rule.set_odd(seat, at);
-        let found = Vref::from_word(step.found);
+        let found = Vref(step.found);
         if found.version() != sock.id.version() {
             return Err(Already { found });
         }

@@ -4,7 +4,7 @@ ghost use Rattle.sock_words.specs.Words.{at_word, no_at, at_word_first, at_word_
 /// Where the last attempt of a call went: the call id by its slot and first version, the link, and
 /// the number of the attempt. A link's reader finds the calls that still wait for it by this.
 #[derive(Clone, Copy, PartialEq, Eq)]
-pub struct AtWord(u64);
+pub struct AtWord(pub u64);
 
 impl AtWord {
     /// No attempt of the call went to a link yet.
@@ -20,20 +20,6 @@ impl AtWord {
     {
         let id = (u64::from(first) << 38) + (u64::from(slot) << 22);
         AtWord(id + ((u64::from(link) + 1) << 6) + u64::from(attempt))
-    }
-
-    /// The place that this number tells.
-    pub fn from_word(word: u64) -> Self
-        ensures { result.0 ≡ word }
-    {
-        AtWord(word)
-    }
-
-    /// The place as a number.
-    pub fn word(self) -> u64
-        ensures { result ≡ self.0 }
-    {
-        self.0
     }
 
     /// Whether no attempt went to a link yet.

@@ -7,7 +7,7 @@ ghost use Rattle.sock_words.specs.Words.{id_word, id_word_first, id_word_state, 
 /// attempt in the lower 3, which are 7 for the whole call; 0 where no error is queued. That all of
 /// this is one word, and that two errors are queued at most, is this project's own.
 #[derive(Clone, Copy, Debug, PartialEq, Eq)]
-pub struct IdWord(u64);
+pub struct IdWord(pub u64);
 
 impl IdWord {
     /// The state of a slot that has no call id.
@@ -29,20 +29,6 @@ impl IdWord {
     {
         let id = (u64::from(first) << 38) + (u64::from(state) << 36) + (u64::from(range - 1) << 33);
         IdWord(id + (u64::from(attempt) << 30) + (u64::from(oldest) << 15) + u64::from(second))
-    }
-
-    /// The word of a slot that this number is.
-    pub fn from_word(word: u64) -> Self
-        ensures { result.0 ≡ word }
-    {
-        IdWord(word)
-    }
-
-    /// The word of the slot as a number.
-    pub fn word(self) -> u64
-        ensures { result ≡ self.0 }
-    {
-        self.0
     }
 
     /// The first version of the range; of a free slot the first version that it will have.

@@ -4,7 +4,7 @@ ghost use Rattle.sock_words.specs.Words.{place_word, no_place, place_word_droppe
 /// Where a message stands in the order of a link, and whether it was dropped. Positions are counted
 /// from 0 per link, over placed and dropped messages alike.
 #[derive(Clone, Copy, PartialEq, Eq)]
-pub struct PlaceWord(u64);
+pub struct PlaceWord(pub u64);
 
 impl PlaceWord {
     /// The message was never accepted.
@@ -18,20 +18,6 @@ impl PlaceWord {
         ensures once { OnlyPlaceWord result.0 dropped link position }
     {
         PlaceWord((u64::from(dropped) << 63) + (u64::from(link) << 32) + u64::from(position) + 1)
-    }
-
-    /// The place that this number tells.
-    pub fn from_word(word: u64) -> Self
-        ensures { result.0 ≡ word }
-    {
-        PlaceWord(word)
-    }
-
-    /// The place as a number.
-    pub fn word(self) -> u64
-        ensures { result ≡ self.0 }
-    {
-        self.0
     }
 
     /// Whether the message was never accepted.

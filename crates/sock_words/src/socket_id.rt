@@ -5,7 +5,7 @@ ghost use Rattle.sock_words.specs.Words.{socket_id, socket_id_version, socket_id
 /// Versions of a slot never come twice, so an id names one socket for good. The layout is that of
 /// bRPC's `VersionedRefWithId` (`versioned_ref_with_id.h`).
 #[derive(Clone, Copy, Debug, PartialEq, Eq)]
-pub struct SocketId(u64);
+pub struct SocketId(pub u64);
 
 impl SocketId {
     /// The id of the socket that was made with this version in this slot.
@@ -15,20 +15,6 @@ impl SocketId {
         ensures once { OnlySocketId result.0 version slot }
     {
         SocketId((u64::from(version) << 32) + u64::from(slot))
-    }
-
-    /// The id of this word.
-    pub fn from_word(word: u64) -> Self
-        ensures { result.0 ≡ word }
-    {
-        SocketId(word)
-    }
-
-    /// The word of this id.
-    pub fn word(self) -> u64
-        ensures { result ≡ self.0 }
-    {
-        self.0
     }
 
     /// The version with which the socket was made.

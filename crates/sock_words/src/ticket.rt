@@ -6,7 +6,7 @@ ghost use Rattle.sock_words.specs.Words.{ticket, idle_head, ticket_idle, ticket_
 /// twice. A head that is idle keeps the last ticket beside the mark that it is idle. bRPC has the
 /// request's address here; the generation and the ticket that stays are this project's own.
 #[derive(Clone, Copy, PartialEq, Eq)]
-pub struct Ticket(u64);
+pub struct Ticket(pub u64);
 
 impl Ticket {
     /// The head of a chain that no ticket was ever put into.
@@ -20,20 +20,6 @@ impl Ticket {
         ensures once { OnlyTicket result.0 idle generation request }
     {
         Ticket((u64::from(idle) << 63) + (generation << 16) + u64::from(request) + 1)
-    }
-
-    /// The ticket of this word.
-    pub fn from_word(word: u64) -> Self
-        ensures { result.0 ≡ word }
-    {
-        Ticket(word)
-    }
-
-    /// The word of this ticket.
-    pub fn word(self) -> u64
-        ensures { result ≡ self.0 }
-    {
-        self.0
     }
 
     /// Whether the head is `IDLE`, which no ticket was ever put into.

@@ -76,7 +76,7 @@ pub fn accept<O: Out>(
             doing: Doing::First,
         });
     }
-    table.rule.connect(seat, at, Ticket::from_word(found));
+    table.rule.connect(seat, at, Ticket(found));
     Started::Queued(sock)
 }
 

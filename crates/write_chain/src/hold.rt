@@ -15,7 +15,7 @@ ghost use Rattle.sock_rule.specs.Holding.{Rights, MayFreeRequest};
 ghost use Rattle.write_chain.specs.Noting.{Faulted, Wrote};
 ghost use Rattle.write_chain.specs.Writing.{MayBegin, MayGoOn, Stands, HasLink, HasInHand, HasPart, IsClean, HasWhole, FoundDead, GoesBy, IsLast, OnceBy, TriedBy, TriedFaults, IsDead, IsKeep};
 
-use crate::right::{Doing, InHand, LinkInHand, WriteRight};
+use crate::right::{Chain, Doing, InHand, LinkInHand, WriteRight};
 use sock_io::{Out, Put};
 use sock_rule::{Letter, SockSeat};
 use sock_table::{SockRef, SockTable};
@@ -52,53 +52,43 @@ pub fn slot_at<O: Out>(table: &SockTable<O>, sock: &SockRef) -> u16
     slot as u16
 }
 
-/// The link that the seat may write comes into hand. Where its half has faults the seat notes that.
-pub fn fetch_link<O: Out>(
-    table: &SockTable<O>,
-    seat: &mut SockSeat<O>,
-    sock: &SockRef,
-    link: u16,
-) -> LinkInHand<O>
-    requires seat { IsSeat table.now.rule.table.shared.table_id table.now.rule.plan seat.old }
-    requires may { (last : ℕ) × (stage : Stage) × Stands table.now.rule.plan sock.now.id.0 last stage link seat.old.me }
-    ensures seat { IsSeat table.now.rule.table.shared.table_id table.now.rule.plan seat.new }
-    ensures has { (last : ℕ) (stage : Stage) → Stands table.now.rule.plan sock.now.id.0 last stage link seat.old.me → HasLink table.now.rule.plan table.now.rule.ways.list sock.now.id.0 last stage [] result seat.new.me }
-    ensures wrote { Wrote O.state sock.now.id.0 seat.old.me.0 seat.new.me.0 }
-{
-    let slot = slot_at(table, sock);
-    let home = table.rule.take_link(seat, slot, link);
-    LinkInHand { link, home }
-}
+impl<O: Out> Chain<'_, O> {
+    /// The link that the seat may write comes into hand. Where its half has faults the seat notes that.
+    pub fn fetch_link(&self, seat: &mut SockSeat<O>, link: u16) -> LinkInHand<O>
+        requires seat { IsSeat self.now.table.now.rule.table.shared.table_id self.now.table.now.rule.plan seat.old }
+        requires may { (last : ℕ) × (stage : Stage) × Stands self.now.table.now.rule.plan self.now.sock.id.0 last stage link seat.old.me }
+        ensures seat { IsSeat self.now.table.now.rule.table.shared.table_id self.now.table.now.rule.plan seat.new }
+        ensures has { (last : ℕ) (stage : Stage) → Stands self.now.table.now.rule.plan self.now.sock.id.0 last stage link seat.old.me → HasLink self.now.table.now.rule.plan self.now.table.now.rule.ways.list self.now.sock.id.0 last stage [] result seat.new.me }
+        ensures wrote { Wrote O.state self.now.sock.id.0 seat.old.me.0 seat.new.me.0 }
+    {
+        let slot = slot_at(self.table, &self.sock);
+        let home = self.table.rule.take_link(seat, slot, link);
+        LinkInHand { link, home }
+    }
 
-/// M2: the message of the ticket comes into hand with its link.
-pub fn take_next<O: Out>(
-    table: &SockTable<O>,
-    seat: &mut SockSeat<O>,
-    _sock: &SockRef,
-    _last: Ticket,
-    link: LinkInHand<O>,
-    now: Ticket,
-) -> InHand<O>
-    requires seat { IsSeat table.now.rule.table.shared.table_id table.now.rule.plan seat.old }
-    requires may { HasLink table.now.rule.plan table.now.rule.ways.list _sock.now.id.0 _last.0 (Writes now.0) [] link seat.old.me × IsTicket table.now.rule.plan now.0 }
-    ensures seat { IsSeat table.now.rule.table.shared.table_id table.now.rule.plan seat.new }
-    ensures hand { HasPart table.now.rule.plan table.now.rule.ways.list _sock.now.id.0 _last.0 result seat.new.me }
-    ensures now { result.now.0 ≡ now.0 }
-    ensures others { seat.new.me.0 ≡ record seat.old.me.0 { rights = seat.new.me.0.rights } }
-{
-    let LinkInHand { link: number, home } = link;
-    let Letter {
-        bytes,
-        label,
-        owner,
-    } = table.rule.take_msg(seat, now);
-    InHand {
-        link: number,
-        home,
-        now,
-        bytes: bytes.begin(),
-        label,
-        owner,
+    /// M2: the message of the ticket comes into hand with its link.
+    pub fn take_next(&self, seat: &mut SockSeat<O>, link: LinkInHand<O>, now: Ticket) -> InHand<O>
+        requires seat { IsSeat self.now.table.now.rule.table.shared.table_id self.now.table.now.rule.plan seat.old }
+        requires may { HasLink self.now.table.now.rule.plan self.now.table.now.rule.ways.list self.now.sock.id.0 self.now.last.0 (Writes now.0) [] link seat.old.me × IsTicket self.now.table.now.rule.plan now.0 }
+        ensures seat { IsSeat self.now.table.now.rule.table.shared.table_id self.now.table.now.rule.plan seat.new }
+        ensures hand { HasPart self.now.table.now.rule.plan self.now.table.now.rule.ways.list self.now.sock.id.0 self.now.last.0 result seat.new.me }
+        ensures now { result.now.0 ≡ now.0 }
+        ensures others { seat.new.me.0 ≡ record seat.old.me.0 { rights = seat.new.me.0.rights } }
+    {
+        let LinkInHand { link: number, home } = link;
+        let Letter {
+            bytes,
+            label,
+            owner,
+        } = self.table.rule.take_msg(seat, now);
+        InHand {
+            link: number,
+            home,
+            now,
+            bytes: bytes.begin(),
+            label,
+            owner,
+        }
     }
 }
 
@@ -117,248 +107,190 @@ pub fn give_request_back<O: Out>(table: &SockTable<O>, seat: &mut SockSeat<O>, n
     }
 }
 
-/// A message has its place: its request is given back, and the next one follows, or the head.
-pub fn go_past<O: Out>(
-    table: &SockTable<O>,
-    seat: &mut SockSeat<O>,
-    _sock: &SockRef,
-    last: Ticket,
-    link: LinkInHand<O>,
-    now: Ticket,
-) -> Doing<O>
-    requires seat { IsSeat table.now.rule.table.shared.table_id table.now.rule.plan seat.old }
-    requires may { HasLink table.now.rule.plan table.now.rule.ways.list _sock.now.id.0 last.0 (Placed now.0) ((slot_of now.0, Empty) ∷ []) link seat.old.me × IsTicket table.now.rule.plan now.0 }
-    ensures seat { IsSeat table.now.rule.table.shared.table_id table.now.rule.plan seat.new }
-    ensures goes { GoesBy table.now.rule.plan table.now.rule.ways.list _sock.now.id.0 last.0 result seat.new.me }
-    ensures last { now.0 ≡ last.0 → IsLast result }
-    ensures others { seat.new.me.0 ≡ record seat.old.me.0 { rights = seat.new.me.0.rights } }
-{
-    if now.word() == last.word() {
-        give_request_back(table, seat, now);
-        return Doing::Last(link);
+impl<O: Out> Chain<'_, O> {
+    /// A message has its place: its request is given back, and the next one follows, or the head.
+    pub fn go_past(&self, seat: &mut SockSeat<O>, link: LinkInHand<O>, now: Ticket) -> Doing<O>
+        requires seat { IsSeat self.now.table.now.rule.table.shared.table_id self.now.table.now.rule.plan seat.old }
+        requires may { HasLink self.now.table.now.rule.plan self.now.table.now.rule.ways.list self.now.sock.id.0 self.now.last.0 (Placed now.0) ((slot_of now.0, Empty) ∷ []) link seat.old.me × IsTicket self.now.table.now.rule.plan now.0 }
+        ensures seat { IsSeat self.now.table.now.rule.table.shared.table_id self.now.table.now.rule.plan seat.new }
+        ensures goes { GoesBy self.now.table.now.rule.plan self.now.table.now.rule.ways.list self.now.sock.id.0 self.now.last.0 result seat.new.me }
+        ensures last { now.0 ≡ self.now.last.0 → IsLast result }
+        ensures others { seat.new.me.0 ≡ record seat.old.me.0 { rights = seat.new.me.0.rights } }
+    {
+        if now.0 == self.last.0 {
+            give_request_back(self.table, seat, now);
+            return Doing::Last(link);
+        }
+        let found = self.table.rule.read_on(seat, now);
+        give_request_back(self.table, seat, now);
+        Doing::Next(link, Ticket(found))
     }
-    let found = table.rule.read_on(seat, now);
-    give_request_back(table, seat, now);
-    Doing::Next(link, Ticket::from_word(found))
-}
 
-/// The link took the whole message: it gets its place.
-pub fn place<O: Out>(
-    table: &SockTable<O>,
-    seat: &mut SockSeat<O>,
-    sock: &SockRef,
-    last: Ticket,
-    hand: InHand<O>,
-) -> Doing<O>
-    requires seat { IsSeat table.now.rule.table.shared.table_id table.now.rule.plan seat.old }
-    requires may { HasWhole table.now.rule.plan table.now.rule.ways.list sock.now.id.0 last.0 hand seat.old.me }
-    ensures seat { IsSeat table.now.rule.table.shared.table_id table.now.rule.plan seat.new }
-    ensures goes { GoesBy table.now.rule.plan table.now.rule.ways.list sock.now.id.0 last.0 result seat.new.me }
-    ensures last { hand.now.0 ≡ last.0 → IsLast result }
-    ensures others { seat.new.me.0 ≡ record seat.old.me.0 { rights = seat.new.me.0.rights } }
-{
-    let InHand {
-        link,
-        mut home,
-        now,
-        bytes,
-        label,
-        owner: _,
-    } = hand;
-    drop(bytes);
-    let place = PlaceWord::pack(false, link, home.next);
-    table.rule.store_place(seat, label.place, place);
-    home.count_place();
-    go_past(table, seat, sock, last, LinkInHand { link, home }, now)
-}
-
-/// All that was noted has its place: the link goes home, and the head is tried.
-pub fn leave<O: Out>(
-    table: &SockTable<O>,
-    seat: &mut SockSeat<O>,
-    sock: SockRef,
-    last: Ticket,
-    link: LinkInHand<O>,
-) -> Once<O>
-    requires seat { IsSeat table.now.rule.table.shared.table_id table.now.rule.plan seat.old }
-    requires may { HasLink table.now.rule.plan table.now.rule.ways.list sock.id.0 last.0 Empties [] link seat.old.me }
-    ensures seat { IsSeat table.now.rule.table.shared.table_id table.now.rule.plan seat.new }
-    ensures once { OnceBy table.now.rule.plan table.now.rule.ways.list sock result seat.new.me }
-    ensures others { seat.new.me.0 ≡ record seat.old.me.0 { rights = seat.new.me.0.rights } }
-{
-    let LinkInHand { link: number, home } = link;
-    let slot = slot_at(table, &sock);
-    table.rule.put_own_link(seat, number, home);
-    let step = table.rule.empty_head(seat, slot, last);
-    if step.found == last.word() {
-        return Once::Done(sock);
+    /// The link took the whole message: it gets its place.
+    pub fn place(&self, seat: &mut SockSeat<O>, hand: InHand<O>) -> Doing<O>
+        requires seat { IsSeat self.now.table.now.rule.table.shared.table_id self.now.table.now.rule.plan seat.old }
+        requires may { HasWhole self.now.table.now.rule.plan self.now.table.now.rule.ways.list self.now.sock.id.0 self.now.last.0 hand seat.old.me }
+        ensures seat { IsSeat self.now.table.now.rule.table.shared.table_id self.now.table.now.rule.plan seat.new }
+        ensures goes { GoesBy self.now.table.now.rule.plan self.now.table.now.rule.ways.list self.now.sock.id.0 self.now.last.0 result seat.new.me }
+        ensures last { hand.now.0 ≡ self.now.last.0 → IsLast result }
+        ensures others { seat.new.me.0 ≡ record seat.old.me.0 { rights = seat.new.me.0.rights } }
+    {
+        let InHand {
+            link,
+            mut home,
+            now,
+            bytes,
+            label,
+            owner: _,
+        } = hand;
+        drop(bytes);
+        let place = PlaceWord::pack(false, link, home.next);
+        self.table.rule.store_place(seat, label.place, place);
+        home.count_place();
+        self.go_past(seat, LinkInHand { link, home }, now)
     }
-    Once::Keep(WriteRight {
-        sock,
-        last,
-        doing: Doing::Walks(number, Ticket::from_word(step.found)),
-    })
-}
 
-/// A8: whether the socket lives. Then the right is clean.
-pub fn look<O: Out>(
-    table: &SockTable<O>,
-    seat: &mut SockSeat<O>,
-    sock: &SockRef,
-    _last: Ticket,
-    _hand: &InHand<O>,
-) -> bool
-    requires seat { IsSeat table.now.rule.table.shared.table_id table.now.rule.plan seat.old }
-    requires may { HasPart table.now.rule.plan table.now.rule.ways.list sock.now.id.0 _last.0 _hand.now seat.old.me }
-    ensures seat { IsSeat table.now.rule.table.shared.table_id table.now.rule.plan seat.new }
-    ensures live { result ≡ true → IsClean table.now.rule.plan table.now.rule.ways.list sock.now.id.0 _last.0 _hand.entry.now seat.new.me }
-    ensures stays { FoundDead sock.now.id.0 seat.old.me.0 → result ≡ false }
-    ensures dead { result ≡ false → HasPart table.now.rule.plan table.now.rule.ways.list sock.now.id.0 _last.0 _hand.entry.now seat.new.me × FoundDead sock.now.id.0 seat.new.me.0 }
-    ensures wrote { Wrote O.state sock.now.id.0 seat.old.me.0 seat.new.me.0 }
-{
-    let slot = slot_at(table, sock);
-    let step = table.rule.look_to_write(seat, slot);
-    let found = Vref::from_word(step.found);
-    !found.is_failed()
-}
-
-/// The link failed, which the seat notes: so does the socket, unless it was failed before. As bRPC's `Socket::SetFailed` behind a
-/// write that failed (socket.cpp).
-pub fn fail_link<O: Out>(
-    table: &SockTable<O>,
-    seat: &mut SockSeat<O>,
-    sock: &SockRef,
-    _last: Ticket,
-    _hand: &InHand<O>,
-)
-    requires seat { IsSeat table.now.rule.table.shared.table_id table.now.rule.plan seat.old }
-    requires may { HasPart table.now.rule.plan table.now.rule.ways.list sock.now.id.0 _last.0 _hand.now seat.old.me }
-    requires fault { Faulted O.state _hand.now.link }
-    requires rose { 0 < (O.state _hand.now.home.out).faults }
-    ensures seat { IsSeat table.now.rule.table.shared.table_id table.now.rule.plan seat.new }
-    ensures has { HasPart table.now.rule.plan table.now.rule.ways.list sock.now.id.0 _last.0 _hand.entry.now seat.new.me }
-    ensures dead { FoundDead sock.now.id.0 seat.new.me.0 }
-    ensures wrote { Wrote O.state sock.now.id.0 seat.old.me.0 seat.new.me.0 }
-{
-    let slot = slot_at(table, sock);
-    table.rule.note_fault(seat, slot);
-    let failed = table.fail(seat, sock, EFAILEDSOCKET);
-    drop(failed);
-}
-
-/// One put of what is left of a message.
-pub fn put_piece<O: Out>(
-    table: &SockTable<O>,
-    seat: &mut SockSeat<O>,
-    sock: &SockRef,
-    last: Ticket,
-    mut hand: InHand<O>,
-) -> Tried<O>
-    requires seat { IsSeat table.now.rule.table.shared.table_id table.now.rule.plan seat.old }
-    requires may { IsClean table.now.rule.plan table.now.rule.ways.list sock.now.id.0 last.0 hand seat.old.me × ((outgoing_of hand.bytes).left ≢ []) }
-    ensures seat { IsSeat table.now.rule.table.shared.table_id table.now.rule.plan seat.new }
-    ensures tried { TriedBy table.now.rule.plan table.now.rule.ways.list sock.now.id.0 last.0 hand.now.0 result seat.new.me }
-    ensures faults { TriedFaults (O.state hand.home.out).faults sock.now.id.0 result seat.new.me.0 }
-    ensures wrote { Wrote O.state sock.now.id.0 seat.old.me.0 seat.new.me.0 }
-{
-    let put = hand.put();
-    if hand.bytes.is_whole_taken() {
-        return Tried::Whole(hand);
+    /// All that was noted has its place: the link goes home, and the head is tried.
+    pub fn leave(self, seat: &mut SockSeat<O>, link: LinkInHand<O>) -> Once<O>
+        requires seat { IsSeat self.table.now.rule.table.shared.table_id self.table.now.rule.plan seat.old }
+        requires may { HasLink self.table.now.rule.plan self.table.now.rule.ways.list self.sock.id.0 self.last.0 Empties [] link seat.old.me }
+        ensures seat { IsSeat self.table.now.rule.table.shared.table_id self.table.now.rule.plan seat.new }
+        ensures once { OnceBy self.table.now.rule.plan self.table.now.rule.ways.list self.sock result seat.new.me }
+        ensures others { seat.new.me.0 ≡ record seat.old.me.0 { rights = seat.new.me.0.rights } }
+    {
+        let LinkInHand { link: number, home } = link;
+        let slot = slot_at(self.table, &self.sock);
+        self.table.rule.put_own_link(seat, number, home);
+        let step = self.table.rule.empty_head(seat, slot, self.last);
+        if step.found == self.last.0 {
+            return Once::Done(self.sock);
+        }
+        Once::Keep(WriteRight {
+            sock: self.sock,
+            last: self.last,
+            doing: Doing::Walks(number, Ticket(step.found)),
+        })
     }
-    match put {
-        Put::Took(_) => Tried::Goes(Doing::Puts(hand)),
-        Put::Again => Tried::Goes(Doing::Waits(hand)),
-        Put::Failed => {
-            fail_link(table, seat, sock, last, &hand);
-            Tried::Goes(Doing::Puts(hand))
+
+    /// A8: whether the socket lives. Then the right is clean.
+    pub fn look(&self, seat: &mut SockSeat<O>, _hand: &InHand<O>) -> bool
+        requires seat { IsSeat self.now.table.now.rule.table.shared.table_id self.now.table.now.rule.plan seat.old }
+        requires may { HasPart self.now.table.now.rule.plan self.now.table.now.rule.ways.list self.now.sock.id.0 self.now.last.0 _hand.now seat.old.me }
+        ensures seat { IsSeat self.now.table.now.rule.table.shared.table_id self.now.table.now.rule.plan seat.new }
+        ensures live { result ≡ true → IsClean self.now.table.now.rule.plan self.now.table.now.rule.ways.list self.now.sock.id.0 self.now.last.0 _hand.entry.now seat.new.me }
+        ensures stays { FoundDead self.now.sock.id.0 seat.old.me.0 → result ≡ false }
+        ensures dead { result ≡ false → HasPart self.now.table.now.rule.plan self.now.table.now.rule.ways.list self.now.sock.id.0 self.now.last.0 _hand.entry.now seat.new.me × FoundDead self.now.sock.id.0 seat.new.me.0 }
+        ensures wrote { Wrote O.state self.now.sock.id.0 seat.old.me.0 seat.new.me.0 }
+    {
+        let slot = slot_at(self.table, &self.sock);
+        let step = self.table.rule.look_to_write(seat, slot);
+        let found = Vref(step.found);
+        !found.is_failed()
+    }
+
+    /// The link failed, which the seat notes: so does the socket, unless it was failed before. As bRPC's `Socket::SetFailed` behind a
+    /// write that failed (socket.cpp).
+    pub fn fail_link(&self, seat: &mut SockSeat<O>, _hand: &InHand<O>)
+        requires seat { IsSeat self.now.table.now.rule.table.shared.table_id self.now.table.now.rule.plan seat.old }
+        requires may { HasPart self.now.table.now.rule.plan self.now.table.now.rule.ways.list self.now.sock.id.0 self.now.last.0 _hand.now seat.old.me }
+        requires fault { Faulted O.state _hand.now.link }
+        requires rose { 0 < (O.state _hand.now.home.out).faults }
+        ensures seat { IsSeat self.now.table.now.rule.table.shared.table_id self.now.table.now.rule.plan seat.new }
+        ensures has { HasPart self.now.table.now.rule.plan self.now.table.now.rule.ways.list self.now.sock.id.0 self.now.last.0 _hand.entry.now seat.new.me }
+        ensures dead { FoundDead self.now.sock.id.0 seat.new.me.0 }
+        ensures wrote { Wrote O.state self.now.sock.id.0 seat.old.me.0 seat.new.me.0 }
+    {
+        let slot = slot_at(self.table, &self.sock);
+        self.table.rule.note_fault(seat, slot);
+        let failed = self.table.set_failed(seat, &self.sock, EFAILEDSOCKET);
+        drop(failed);
+    }
+
+    /// One put of what is left of a message.
+    pub fn put_piece(&self, seat: &mut SockSeat<O>, mut hand: InHand<O>) -> Tried<O>
+        requires seat { IsSeat self.now.table.now.rule.table.shared.table_id self.now.table.now.rule.plan seat.old }
+        requires may { IsClean self.now.table.now.rule.plan self.now.table.now.rule.ways.list self.now.sock.id.0 self.now.last.0 hand seat.old.me × ((outgoing_of hand.bytes).left ≢ []) }
+        ensures seat { IsSeat self.now.table.now.rule.table.shared.table_id self.now.table.now.rule.plan seat.new }
+        ensures tried { TriedBy self.now.table.now.rule.plan self.now.table.now.rule.ways.list self.now.sock.id.0 self.now.last.0 hand.now.0 result seat.new.me }
+        ensures faults { TriedFaults (O.state hand.home.out).faults self.now.sock.id.0 result seat.new.me.0 }
+        ensures wrote { Wrote O.state self.now.sock.id.0 seat.old.me.0 seat.new.me.0 }
+    {
+        let put = hand.put();
+        if hand.bytes.is_whole_taken() {
+            return Tried::Whole(hand);
+        }
+        match put {
+            Put::Took(_) => Tried::Goes(Doing::Puts(hand)),
+            Put::Again => Tried::Goes(Doing::Waits(hand)),
+            Put::Failed => {
+                self.fail_link(seat, &hand);
+                Tried::Goes(Doing::Puts(hand))
+            }
         }
     }
-}
 
-/// One put, where bytes are left.
-pub fn put_or_place<O: Out>(
-    table: &SockTable<O>,
-    seat: &mut SockSeat<O>,
-    sock: &SockRef,
-    last: Ticket,
-    hand: InHand<O>,
-) -> Tried<O>
-    requires seat { IsSeat table.now.rule.table.shared.table_id table.now.rule.plan seat.old }
-    requires may { IsClean table.now.rule.plan table.now.rule.ways.list sock.now.id.0 last.0 hand seat.old.me }
-    ensures seat { IsSeat table.now.rule.table.shared.table_id table.now.rule.plan seat.new }
-    ensures tried { TriedBy table.now.rule.plan table.now.rule.ways.list sock.now.id.0 last.0 hand.now.0 result seat.new.me }
-    ensures faults { TriedFaults (O.state hand.home.out).faults sock.now.id.0 result seat.new.me.0 }
-    ensures wrote { Wrote O.state sock.now.id.0 seat.old.me.0 seat.new.me.0 }
-{
-    if hand.bytes.is_whole_taken() {
-        return Tried::Whole(hand);
+    /// One put, where bytes are left.
+    pub fn put_or_place(&self, seat: &mut SockSeat<O>, hand: InHand<O>) -> Tried<O>
+        requires seat { IsSeat self.now.table.now.rule.table.shared.table_id self.now.table.now.rule.plan seat.old }
+        requires may { IsClean self.now.table.now.rule.plan self.now.table.now.rule.ways.list self.now.sock.id.0 self.now.last.0 hand seat.old.me }
+        ensures seat { IsSeat self.now.table.now.rule.table.shared.table_id self.now.table.now.rule.plan seat.new }
+        ensures tried { TriedBy self.now.table.now.rule.plan self.now.table.now.rule.ways.list self.now.sock.id.0 self.now.last.0 hand.now.0 result seat.new.me }
+        ensures faults { TriedFaults (O.state hand.home.out).faults self.now.sock.id.0 result seat.new.me.0 }
+        ensures wrote { Wrote O.state self.now.sock.id.0 seat.old.me.0 seat.new.me.0 }
+    {
+        if hand.bytes.is_whole_taken() {
+            return Tried::Whole(hand);
+        }
+        self.put_piece(seat, hand)
     }
-    put_piece(table, seat, sock, last, hand)
-}
 
-/// A look, and one put where the socket lives. Where the link fails the socket is failed, so that nothing is put any more.
-pub fn try_put<O: Out>(
-    table: &SockTable<O>,
-    seat: &mut SockSeat<O>,
-    sock: &SockRef,
-    last: Ticket,
-    hand: InHand<O>,
-) -> Tried<O>
-    requires seat { IsSeat table.now.rule.table.shared.table_id table.now.rule.plan seat.old }
-    requires may { HasPart table.now.rule.plan table.now.rule.ways.list sock.now.id.0 last.0 hand seat.old.me }
-    ensures seat { IsSeat table.now.rule.table.shared.table_id table.now.rule.plan seat.new }
-    ensures tried { TriedBy table.now.rule.plan table.now.rule.ways.list sock.now.id.0 last.0 hand.now.0 result seat.new.me }
-    ensures stays { FoundDead sock.now.id.0 seat.old.me.0 → IsDead hand result }
-    ensures faults { TriedFaults (O.state hand.home.out).faults sock.now.id.0 result seat.new.me.0 }
-    ensures wrote { Wrote O.state sock.now.id.0 seat.old.me.0 seat.new.me.0 }
-{
-    if look(table, seat, sock, last, &hand) {
-        return put_or_place(table, seat, sock, last, hand);
+    /// A look, and one put where the socket lives. Where the link fails the socket is failed, so that nothing is put any more.
+    pub fn try_put(&self, seat: &mut SockSeat<O>, hand: InHand<O>) -> Tried<O>
+        requires seat { IsSeat self.now.table.now.rule.table.shared.table_id self.now.table.now.rule.plan seat.old }
+        requires may { HasPart self.now.table.now.rule.plan self.now.table.now.rule.ways.list self.now.sock.id.0 self.now.last.0 hand seat.old.me }
+        ensures seat { IsSeat self.now.table.now.rule.table.shared.table_id self.now.table.now.rule.plan seat.new }
+        ensures tried { TriedBy self.now.table.now.rule.plan self.now.table.now.rule.ways.list self.now.sock.id.0 self.now.last.0 hand.now.0 result seat.new.me }
+        ensures stays { FoundDead self.now.sock.id.0 seat.old.me.0 → IsDead hand result }
+        ensures faults { TriedFaults (O.state hand.home.out).faults self.now.sock.id.0 result seat.new.me.0 }
+        ensures wrote { Wrote O.state self.now.sock.id.0 seat.old.me.0 seat.new.me.0 }
+    {
+        if self.look(seat, &hand) {
+            return self.put_or_place(seat, hand);
+        }
+        Tried::Dead(hand)
     }
-    Tried::Dead(hand)
-}
 
-/// The link and the first message come into hand.
-pub fn take_up<O: Out>(
-    table: &SockTable<O>,
-    seat: &mut SockSeat<O>,
-    sock: &SockRef,
-    last: Ticket,
-) -> InHand<O>
-    requires seat { IsSeat table.now.rule.table.shared.table_id table.now.rule.plan seat.old }
-    requires may { (link : ℕ) × Stands table.now.rule.plan sock.now.id.0 last.0 (Writes last.0) link seat.old.me }
-    ensures seat { IsSeat table.now.rule.table.shared.table_id table.now.rule.plan seat.new }
-    ensures hand { HasPart table.now.rule.plan table.now.rule.ways.list sock.now.id.0 last.0 result seat.new.me }
-    ensures now { result.now.0 ≡ last.0 }
-    ensures wrote { Wrote O.state sock.now.id.0 seat.old.me.0 seat.new.me.0 }
-{
-    let slot = slot_at(table, sock);
-    let links = table.rule.plan.links;
-    let found = table.rule.load_link(seat, slot);
-    prove!(found < links as u64);
-    let link = fetch_link(table, seat, sock, found as u16);
-    take_next(table, seat, sock, last, link, last)
-}
+    /// The link and the first message come into hand.
+    pub fn take_up(&self, seat: &mut SockSeat<O>) -> InHand<O>
+        requires seat { IsSeat self.now.table.now.rule.table.shared.table_id self.now.table.now.rule.plan seat.old }
+        requires may { (link : ℕ) × Stands self.now.table.now.rule.plan self.now.sock.id.0 self.now.last.0 (Writes self.now.last.0) link seat.old.me }
+        ensures seat { IsSeat self.now.table.now.rule.table.shared.table_id self.now.table.now.rule.plan seat.new }
+        ensures hand { HasPart self.now.table.now.rule.plan self.now.table.now.rule.ways.list self.now.sock.id.0 self.now.last.0 result seat.new.me }
+        ensures now { result.now.0 ≡ self.now.last.0 }
+        ensures wrote { Wrote O.state self.now.sock.id.0 seat.old.me.0 seat.new.me.0 }
+    {
+        let slot = slot_at(self.table, &self.sock);
+        let links = self.table.rule.plan.links;
+        let found = self.table.rule.load_link(seat, slot);
+        prove!(found < links as u64);
+        let link = self.fetch_link(seat, found as u16);
+        self.take_next(seat, link, self.last)
+    }
 
-/// The head is tried once nothing is left to write.
-pub fn leave_last<O: Out>(
-    table: &SockTable<O>,
-    seat: &mut SockSeat<O>,
-    sock: SockRef,
-    last: Ticket,
-    doing: Doing<O>,
-) -> Once<O>
-    requires seat { IsSeat table.now.rule.table.shared.table_id table.now.rule.plan seat.old }
-    requires may { GoesBy table.now.rule.plan table.now.rule.ways.list sock.id.0 last.0 doing seat.old.me }
-    requires last { IsLast doing }
-    ensures seat { IsSeat table.now.rule.table.shared.table_id table.now.rule.plan seat.new }
-    ensures once { OnceBy table.now.rule.plan table.now.rule.ways.list sock result seat.new.me }
-    ensures others { seat.new.me.0 ≡ record seat.old.me.0 { rights = seat.new.me.0.rights } }
-{
-    let Doing::Last(link) = doing else {
-        unreachable!();
-    };
-    leave(table, seat, sock, last, link)
+    /// The head is tried once nothing is left to write.
+    pub fn leave_last(self, seat: &mut SockSeat<O>, doing: Doing<O>) -> Once<O>
+        requires seat { IsSeat self.table.now.rule.table.shared.table_id self.table.now.rule.plan seat.old }
+        requires may { GoesBy self.table.now.rule.plan self.table.now.rule.ways.list self.sock.id.0 self.last.0 doing seat.old.me }
+        requires last { IsLast doing }
+        ensures seat { IsSeat self.table.now.rule.table.shared.table_id self.table.now.rule.plan seat.new }
+        ensures once { OnceBy self.table.now.rule.plan self.table.now.rule.ways.list self.sock result seat.new.me }
+        ensures others { seat.new.me.0 ≡ record seat.old.me.0 { rights = seat.new.me.0.rights } }
+    {
+        let Doing::Last(link) = doing else {
+            unreachable!();
+        };
+        self.leave(seat, link)
+    }
 }
 
 /// One put of the message that `start` accepted, of whoever has the right. Done exactly where the link took it whole and the
@@ -381,17 +313,22 @@ pub fn write_once<O: Out>(
         last,
         doing: _,
     } = right;
-    let hand = take_up(table, seat, &sock, last);
-    match try_put(table, seat, &sock, last, hand) {
+    let chain = Chain { table, sock, last };
+    let hand = chain.take_up(seat);
+    match chain.try_put(seat, hand) {
         Tried::Dead(hand) => Once::Keep(WriteRight {
-            sock,
-            last,
+            sock: chain.sock,
+            last: chain.last,
             doing: Doing::Puts(hand),
         }),
         Tried::Whole(hand) => {
-            let doing = place(table, seat, &sock, last, hand);
-            leave_last(table, seat, sock, last, doing)
+            let doing = chain.place(seat, hand);
+            chain.leave_last(seat, doing)
         }
-        Tried::Goes(doing) => Once::Keep(WriteRight { sock, last, doing }),
+        Tried::Goes(doing) => Once::Keep(WriteRight {
+            sock: chain.sock,
+            last: chain.last,
+            doing,
+        }),
     }
 }

@@ -7,8 +7,8 @@ ghost use Rattle.sock_model.specs.declared.chain.Stage.TheVariants.{Empties};
 ghost use Rattle.write_chain.specs.Writing.{MayGoOn, HasLink, HasPart, FoundDead, GoesBy, FaultsBy, HasMore};
 ghost use Rattle.write_chain.specs.Keeping.{IsCode, WentBy, WentWriting, KeptBy, KeptWriting, IsDropped, LeavesMore, KeptDropped};
 
-use crate::hold::{Once, Tried, fail_link, fetch_link, go_past, leave, place, take_next, try_put};
-use crate::right::{Doing, InHand, LinkInHand, Undelivered, Walk, WriteRight};
+use crate::hold::{Once, Tried};
+use crate::right::{Chain, Doing, InHand, LinkInHand, Undelivered, Walk, WriteRight};
 use crossbeam_utils::Backoff;
 use sock_io::{Out, Ready};
 use sock_rule::SockSeat;
@@ -43,176 +43,170 @@ pub fn code_or(told: u16) -> u16
     if told == 0 { EFAILEDSOCKET } else { told }
 }
 
-/// The message in hand is dropped, with the code of the socket, or EFAILEDSOCKET where none was stored yet.
-pub fn drop_one<O: Out>(
-    table: &SockTable<O>,
-    seat: &mut SockSeat<O>,
-    sock: &SockRef,
-    last: Ticket,
-    hand: InHand<O>,
-) -> (Doing<O>, Undelivered, u16)
-    requires seat { IsSeat table.now.rule.table.shared.table_id table.now.rule.plan seat.old }
-    requires may { HasPart table.now.rule.plan table.now.rule.ways.list sock.now.id.0 last.0 hand seat.old.me × FoundDead sock.now.id.0 seat.old.me.0 }
-    ensures seat { IsSeat table.now.rule.table.shared.table_id table.now.rule.plan seat.new }
-    ensures goes { GoesBy table.now.rule.plan table.now.rule.ways.list sock.now.id.0 last.0 result.0 seat.new.me }
-    ensures message { (result.1.left ≡ hand.bytes) × (result.1.label ≡ hand.label) × (result.1.owner ≡ hand.owner) }
-    ensures code { IsCode result.2 sock.now.id.0 seat.old.me.0 seat.new.me.0 }
-    ensures dead { FoundDead sock.now.id.0 seat.new.me.0 }
-    ensures wrote { WroteDrop O.state table.now.rule.plan sock.now.id.0 result.1 seat.old.me.0 seat.new.me.0 }
-{
-    let told = table.code(seat, sock);
-    let InHand {
-        link,
-        home,
-        now,
-        bytes,
-        label,
-        owner,
-    } = hand;
-    let place = PlaceWord::pack(true, link, home.next);
-    let mut home = table.rule.drop_place(seat, label.place, place, now, home);
-    home.count_place();
-    let doing = go_past(table, seat, sock, last, LinkInHand { link, home }, now);
-    let code = code_or(told);
-    let msg = Undelivered {
-        left: bytes,
-        label,
-        owner,
-    };
-    (doing, msg, code)
-}
+impl<O: Out> Chain<'_, O> {
+    /// The message in hand is dropped, with the code of the socket, or EFAILEDSOCKET where none was stored yet.
+    pub fn drop_one(&self, seat: &mut SockSeat<O>, hand: InHand<O>) -> (Doing<O>, Undelivered, u16)
+        requires seat { IsSeat self.now.table.now.rule.table.shared.table_id self.now.table.now.rule.plan seat.old }
+        requires may { HasPart self.now.table.now.rule.plan self.now.table.now.rule.ways.list self.now.sock.id.0 self.now.last.0 hand seat.old.me × FoundDead self.now.sock.id.0 seat.old.me.0 }
+        ensures seat { IsSeat self.now.table.now.rule.table.shared.table_id self.now.table.now.rule.plan seat.new }
+        ensures goes { GoesBy self.now.table.now.rule.plan self.now.table.now.rule.ways.list self.now.sock.id.0 self.now.last.0 result.0 seat.new.me }
+        ensures message { (result.1.left ≡ hand.bytes) × (result.1.label ≡ hand.label) × (result.1.owner ≡ hand.owner) }
+        ensures code { IsCode result.2 self.now.sock.id.0 seat.old.me.0 seat.new.me.0 }
+        ensures dead { FoundDead self.now.sock.id.0 seat.new.me.0 }
+        ensures wrote { WroteDrop O.state self.now.table.now.rule.plan self.now.sock.id.0 result.1 seat.old.me.0 seat.new.me.0 }
+    {
+        let told = self.table.code(seat, &self.sock);
+        let InHand {
+            link,
+            home,
+            now,
+            bytes,
+            label,
+            owner,
+        } = hand;
+        let place = PlaceWord::pack(true, link, home.next);
+        let mut home = self
+            .table
+            .rule
+            .drop_place(seat, label.place, place, now, home);
+        home.count_place();
+        let doing = self.go_past(seat, LinkInHand { link, home }, now);
+        let code = code_or(told);
+        let msg = Undelivered {
+            left: bytes,
+            label,
+            owner,
+        };
+        (doing, msg, code)
+    }
 
-/// The link is asked whether it takes more.
-pub fn ask<O: Out>(
-    table: &SockTable<O>,
-    seat: &mut SockSeat<O>,
-    sock: &SockRef,
-    last: Ticket,
-    mut hand: InHand<O>,
-    backoff: &Backoff,
-) -> Doing<O>
-    requires seat { IsSeat table.now.rule.table.shared.table_id table.now.rule.plan seat.old }
-    requires may { HasPart table.now.rule.plan table.now.rule.ways.list sock.now.id.0 last.0 hand seat.old.me }
-    ensures seat { IsSeat table.now.rule.table.shared.table_id table.now.rule.plan seat.new }
-    ensures goes { GoesBy table.now.rule.plan table.now.rule.ways.list sock.now.id.0 last.0 result seat.new.me }
-    ensures faults { FaultsBy (O.state hand.home.out).faults sock.now.id.0 result seat.new.me.0 }
-    ensures more { HasMore result }
-    ensures wrote { Wrote O.state sock.now.id.0 seat.old.me.0 seat.new.me.0 }
-{
-    match hand.ready() {
-        Ready::Now => Doing::Puts(hand),
-        Ready::NotYet => {
+    /// The link is asked whether it takes more.
+    pub fn ask(&self, seat: &mut SockSeat<O>, mut hand: InHand<O>, backoff: &Backoff) -> Doing<O>
+        requires seat { IsSeat self.now.table.now.rule.table.shared.table_id self.now.table.now.rule.plan seat.old }
+        requires may { HasPart self.now.table.now.rule.plan self.now.table.now.rule.ways.list self.now.sock.id.0 self.now.last.0 hand seat.old.me }
+        ensures seat { IsSeat self.now.table.now.rule.table.shared.table_id self.now.table.now.rule.plan seat.new }
+        ensures goes { GoesBy self.now.table.now.rule.plan self.now.table.now.rule.ways.list self.now.sock.id.0 self.now.last.0 result seat.new.me }
+        ensures faults { FaultsBy (O.state hand.home.out).faults self.now.sock.id.0 result seat.new.me.0 }
+        ensures more { HasMore result }
+        ensures wrote { Wrote O.state self.now.sock.id.0 seat.old.me.0 seat.new.me.0 }
+    {
+        match hand.ready() {
+            Ready::Now => Doing::Puts(hand),
+            Ready::NotYet => {
+                backoff.snooze();
+                Doing::Waits(hand)
+            }
+            Ready::Failed => {
+                self.fail_link(seat, &hand);
+                Doing::Puts(hand)
+            }
+        }
+    }
+
+    /// C5 and C6: the walk goes one entry back and turns its next word round, or stays where that isn't connected yet. Behind
+    /// the old last entry the first message in order comes next, and `top` is the last ticket then.
+    /// bRPC's `Socket::IsWriteComplete` (socket.cpp).
+    pub fn walk_back(
+        self,
+        seat: &mut SockSeat<O>,
+        walk: Walk<O>,
+        backoff: &Backoff,
+    ) -> WriteRight<O>
+        requires seat { IsSeat self.table.now.rule.table.shared.table_id self.table.now.rule.plan seat.old }
+        requires may { GoesBy self.table.now.rule.plan self.table.now.rule.ways.list self.sock.id.0 self.last.0 (Back walk) seat.old.me }
+        ensures seat { IsSeat self.table.now.rule.table.shared.table_id self.table.now.rule.plan seat.new }
+        ensures goes { (result.sock ≡ self.sock) × MayGoOn self.table.now.rule.plan self.table.now.rule.ways.list result seat.new.me }
+        ensures more { HasMore result.doing }
+        ensures others { seat.new.me.0 ≡ record seat.old.me.0 { rights = seat.new.me.0.rights } }
+    {
+        let found = self.table.rule.read_back(seat, walk.at);
+        if found == UNCONNECTED {
             backoff.snooze();
-            Doing::Waits(hand)
+            return WriteRight {
+                sock: self.sock,
+                last: self.last,
+                doing: Doing::Back(walk),
+            };
         }
-        Ready::Failed => {
-            fail_link(table, seat, sock, last, &hand);
-            Doing::Puts(hand)
+        let Walk {
+            link,
+            top,
+            at,
+            after,
+        } = walk;
+        self.table.rule.turn_next(seat, at, after);
+        let end = self.last.0;
+        if found == end {
+            return WriteRight {
+                sock: self.sock,
+                last: top,
+                doing: Doing::Next(link, at),
+            };
         }
-    }
-}
-
-/// C5 and C6: the walk goes one entry back and turns its next word round, or stays where that isn't connected yet. Behind
-/// the old last entry the first message in order comes next, and `top` is the last ticket then.
-/// bRPC's `Socket::IsWriteComplete` (socket.cpp).
-pub fn walk_back<O: Out>(
-    table: &SockTable<O>,
-    seat: &mut SockSeat<O>,
-    sock: SockRef,
-    last: Ticket,
-    walk: Walk<O>,
-    backoff: &Backoff,
-) -> WriteRight<O>
-    requires seat { IsSeat table.now.rule.table.shared.table_id table.now.rule.plan seat.old }
-    requires may { GoesBy table.now.rule.plan table.now.rule.ways.list sock.id.0 last.0 (Back walk) seat.old.me }
-    ensures seat { IsSeat table.now.rule.table.shared.table_id table.now.rule.plan seat.new }
-    ensures goes { (result.sock ≡ sock) × MayGoOn table.now.rule.plan table.now.rule.ways.list result seat.new.me }
-    ensures more { HasMore result.doing }
-    ensures others { seat.new.me.0 ≡ record seat.old.me.0 { rights = seat.new.me.0.rights } }
-{
-    let found = table.rule.read_back(seat, walk.at);
-    if found == UNCONNECTED {
-        backoff.snooze();
-        return WriteRight {
-            sock,
-            last,
+        let walk = Walk {
+            link,
+            top,
+            at: Ticket(found),
+            after: at.0,
+        };
+        WriteRight {
+            sock: self.sock,
+            last: self.last,
             doing: Doing::Back(walk),
-        };
-    }
-    let Walk {
-        link,
-        top,
-        at,
-        after,
-    } = walk;
-    table.rule.turn_next(seat, at, after);
-    let end = last.word();
-    if found == end {
-        return WriteRight {
-            sock,
-            last: top,
-            doing: Doing::Next(link, at),
-        };
-    }
-    let walk = Walk {
-        link,
-        top,
-        at: Ticket::from_word(found),
-        after: at.word(),
-    };
-    WriteRight {
-        sock,
-        last,
-        doing: Doing::Back(walk),
-    }
-}
-
-/// A message in hand is put, gets its place, or is dropped.
-pub fn put_or_drop<O: Out>(
-    table: &SockTable<O>,
-    seat: &mut SockSeat<O>,
-    sock: SockRef,
-    last: Ticket,
-    hand: InHand<O>,
-) -> Went<O>
-    requires seat { IsSeat table.now.rule.table.shared.table_id table.now.rule.plan seat.old }
-    requires may { HasPart table.now.rule.plan table.now.rule.ways.list sock.id.0 last.0 hand seat.old.me }
-    ensures seat { IsSeat table.now.rule.table.shared.table_id table.now.rule.plan seat.new }
-    ensures went { WentBy table.now.rule.plan table.now.rule.ways.list sock result seat.old.me.0 seat.new.me }
-    ensures stays { FoundDead sock.id.0 seat.old.me.0 → IsDropped result }
-    ensures wrote { WentWriting table.now.rule.plan sock result seat.old.me.0 seat.new.me.0 }
-{
-    match try_put(table, seat, &sock, last, hand) {
-        Tried::Dead(hand) => {
-            let (doing, msg, code) = drop_one(table, seat, &sock, last, hand);
-            Went::Dropped(WriteRight { sock, last, doing }, msg, code)
         }
-        Tried::Whole(hand) => {
-            let doing = place(table, seat, &sock, last, hand);
-            Went::Further(WriteRight { sock, last, doing })
-        }
-        Tried::Goes(doing) => Went::Further(WriteRight { sock, last, doing }),
     }
-}
 
-/// All that was noted has its place: the right is given up, or the walk begins.
-pub fn try_head<O: Out>(
-    table: &SockTable<O>,
-    seat: &mut SockSeat<O>,
-    sock: SockRef,
-    last: Ticket,
-    link: LinkInHand<O>,
-) -> Went<O>
-    requires seat { IsSeat table.now.rule.table.shared.table_id table.now.rule.plan seat.old }
-    requires may { HasLink table.now.rule.plan table.now.rule.ways.list sock.id.0 last.0 Empties [] link seat.old.me }
-    ensures seat { IsSeat table.now.rule.table.shared.table_id table.now.rule.plan seat.new }
-    ensures went { WentBy table.now.rule.plan table.now.rule.ways.list sock result seat.old.me.0 seat.new.me }
-    ensures wrote { WentWriting table.now.rule.plan sock result seat.old.me.0 seat.new.me.0 }
-    ensures others { seat.new.me.0 ≡ record seat.old.me.0 { rights = seat.new.me.0.rights } }
-{
-    match leave(table, seat, sock, last, link) {
-        Once::Done(sock) => Went::Done(sock),
-        Once::Keep(right) => Went::Further(right),
+    /// A message in hand is put, gets its place, or is dropped.
+    pub fn put_or_drop(self, seat: &mut SockSeat<O>, hand: InHand<O>) -> Went<O>
+        requires seat { IsSeat self.table.now.rule.table.shared.table_id self.table.now.rule.plan seat.old }
+        requires may { HasPart self.table.now.rule.plan self.table.now.rule.ways.list self.sock.id.0 self.last.0 hand seat.old.me }
+        ensures seat { IsSeat self.table.now.rule.table.shared.table_id self.table.now.rule.plan seat.new }
+        ensures went { WentBy self.table.now.rule.plan self.table.now.rule.ways.list self.sock result seat.old.me.0 seat.new.me }
+        ensures stays { FoundDead self.sock.id.0 seat.old.me.0 → IsDropped result }
+        ensures wrote { WentWriting self.table.now.rule.plan self.sock result seat.old.me.0 seat.new.me.0 }
+    {
+        match self.try_put(seat, hand) {
+            Tried::Dead(hand) => {
+                let (doing, msg, code) = self.drop_one(seat, hand);
+                Went::Dropped(
+                    WriteRight {
+                        sock: self.sock,
+                        last: self.last,
+                        doing,
+                    },
+                    msg,
+                    code,
+                )
+            }
+            Tried::Whole(hand) => {
+                let doing = self.place(seat, hand);
+                Went::Further(WriteRight {
+                    sock: self.sock,
+                    last: self.last,
+                    doing,
+                })
+            }
+            Tried::Goes(doing) => Went::Further(WriteRight {
+                sock: self.sock,
+                last: self.last,
+                doing,
+            }),
+        }
+    }
+
+    /// All that was noted has its place: the right is given up, or the walk begins.
+    pub fn try_head(self, seat: &mut SockSeat<O>, link: LinkInHand<O>) -> Went<O>
+        requires seat { IsSeat self.table.now.rule.table.shared.table_id self.table.now.rule.plan seat.old }
+        requires may { HasLink self.table.now.rule.plan self.table.now.rule.ways.list self.sock.id.0 self.last.0 Empties [] link seat.old.me }
+        ensures seat { IsSeat self.table.now.rule.table.shared.table_id self.table.now.rule.plan seat.new }
+        ensures went { WentBy self.table.now.rule.plan self.table.now.rule.ways.list self.sock result seat.old.me.0 seat.new.me }
+        ensures wrote { WentWriting self.table.now.rule.plan self.sock result seat.old.me.0 seat.new.me.0 }
+        ensures others { seat.new.me.0 ≡ record seat.old.me.0 { rights = seat.new.me.0.rights } }
+    {
+        match self.leave(seat, link) {
+            Once::Done(sock) => Went::Done(sock),
+            Once::Keep(right) => Went::Further(right),
+        }
     }
 }
 
@@ -231,27 +225,32 @@ pub fn go_on<O: Out>(
     ensures wrote { WentWriting table.now.rule.plan right.sock result seat.old.me.0 seat.new.me.0 }
 {
     let WriteRight { sock, last, doing } = right;
+    let chain = Chain { table, sock, last };
     match doing {
         Doing::First => unreachable!(),
-        Doing::Puts(hand) => put_or_drop(table, seat, sock, last, hand),
+        Doing::Puts(hand) => chain.put_or_drop(seat, hand),
         Doing::Waits(hand) => {
-            let doing = ask(table, seat, &sock, last, hand, backoff);
-            Went::Further(WriteRight { sock, last, doing })
+            let doing = chain.ask(seat, hand, backoff);
+            Went::Further(WriteRight {
+                sock: chain.sock,
+                last: chain.last,
+                doing,
+            })
         }
         Doing::Next(link, now) => {
-            let hand = take_next(table, seat, &sock, last, link, now);
+            let hand = chain.take_next(seat, link, now);
             Went::Further(WriteRight {
-                sock,
-                last,
+                sock: chain.sock,
+                last: chain.last,
                 doing: Doing::Puts(hand),
             })
         }
-        Doing::Last(link) => try_head(table, seat, sock, last, link),
+        Doing::Last(link) => chain.try_head(seat, link),
         Doing::Walks(number, top) => {
-            let link = fetch_link(table, seat, &sock, number);
+            let link = chain.fetch_link(seat, number);
             Went::Further(WriteRight {
-                sock,
-                last,
+                sock: chain.sock,
+                last: chain.last,
                 doing: Doing::Back(Walk {
                     link,
                     top,
@@ -260,7 +259,7 @@ pub fn go_on<O: Out>(
                 }),
             })
         }
-        Doing::Back(walk) => Went::Further(walk_back(table, seat, sock, last, walk, backoff)),
+        Doing::Back(walk) => Went::Further(chain.walk_back(seat, walk, backoff)),
     }
 }
 

@@ -3,7 +3,7 @@ ghost use Rattle.std.specs.Prelude.{◌≤◌};
 use message_parts::OutgoingParcel;
 use sock_io::Out;
 use sock_rule::LinkHome;
-use sock_table::SockRef;
+use sock_table::{SockRef, SockTable};
 use sock_words::{Label, Ticket};
 
 /// The link that is written, in hand of whoever has the right.
@@ -62,6 +62,13 @@ pub enum Doing<O: Out> {
     Walks(u16, Ticket),
     /// The walk is on its way.
     Back(Walk<O>),
+}
+
+/// What whoever has the right goes by: the table, the socket that is written, whose reference it holds, and the last ticket.
+pub struct Chain<'a, O: Out> {
+    pub table: &'a SockTable<O>,
+    pub sock: SockRef,
+    pub last: Ticket,
 }
 
 /// The right to write the link of a socket, up to the message of the last ticket. It holds the reference.

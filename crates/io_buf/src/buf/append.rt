@@ -26,28 +26,24 @@ impl IoBuf {
         if bytes.len() <= BLOCK_BYTES && (fresh || bytes.len() <= pool.left()) {
             return self.write_piece(pool, bytes);
         }
-        self.append_blocks(pool, bytes)
+        let added = in_blocks(self.alloc, pool, bytes, fresh)?;
+        self.append_whole(added)
     }
 
-    // As `append_bytes`, of bytes that may be several pieces.
+    // As `append_buf`, where room for the references must be made first.
     #[inline(never)]
-    fn append_blocks(&mut self, pool: &mut BlockPool, bytes: &[u8]) -> Result<(), NoMemory>
-        requires { 0 < length bytes.now }
-        ensures items { OnOk result (self.new.items ≡ self.old.items ++ bytes.now) }
-        ensures empty { OnOk result (self.old.items ≡ []
-            → self.new.sizes ≡ block_sizes (length bytes.now)) }
-        ensures kept { OnOk result ((more : List ℕ) × (self.new.sizes ≡ self.old.sizes ++ more)) }
+    fn append_whole(&mut self, other: IoBuf) -> Result<(), NoMemory>
+        ensures items { OnOk result (self.new.items ≡ self.old.items ++ other.items) }
+        ensures sizes { OnOk result (self.new.sizes ≡ self.old.sizes ++ other.sizes) }
         ensures err { OnErr result (self.new ≡ self.old) }
     {
-        let fresh = self.len == 0;
-        let added = in_blocks(self.alloc, pool, bytes, fresh)?;
-        match self.reserve_refs(added.refs()) {
+        match self.reserve_refs(other.refs()) {
             Ok(()) => {
-                self.append_buf(added);
+                self.append_buf(other);
                 Ok(())
             }
             Err(fault) => {
-                drop(added);
+                drop(other);
                 Err(fault)
             }
         }
@@ -138,6 +134,7 @@ impl IoBuf {
 
 // The bytes in pieces of a block; unless they are to begin with a whole piece, what fits goes into
 // the rest of the last block first.
+#[inline(never)]
 fn in_blocks(
     alloc: Global,
     pool: &mut BlockPool,

@@ -10,16 +10,16 @@ pub call_one-requires-clause-room : goal.call_one-requires-clause-room
 call_one-requires-clause-room g c = room_for_one c.args.caller.now.sent c.args.caller.now.seat.me.0 c.requires.own c.requires.room
 
 pub returns-in-Unopened-clause-called : goal.returns-in-Unopened-clause-called
-returns-in-Unopened-clause-called g c = let d = record c.args.caller.now { seat = c.call_one.new.seat; calls = c.call_one.new.calls; sent = c.args.caller.now.sent + 1 } in λ number. (subst (λ k. CalledBy g.O.Out.state c.args.tables.now.socks.rule.plan c.args.tables.now.ids.plan c.args.call k (both_of (stand c.args.caller.now)) (both_of (stand d))) c.in-Unopened.is c.in_ok-called.ensures.by, record { held = refl; passes = refl })
+returns-in-Unopened-clause-called g c = let d = record c.args.caller.now { seat = c.call_one.new.seat; calls = c.call_one.new.calls; sent = c.args.caller.now.sent + 1 } in λ number. (subst (λ k. CalledBy g.O.Out.state c.args.at.now.tables.now.socks.rule.plan c.args.at.now.tables.now.ids.plan c.args.call k (both_of (stand c.args.caller.now)) (both_of (stand d))) c.in-Unopened.is c.in_ok-called.ensures.by, record { held = refl; passes = refl })
 
 pub returns-in-Begun-clause-called : goal.returns-in-Begun-clause-called
-returns-in-Begun-clause-called g c = let d = record c.args.caller.now { seat = c.call_one.new.seat; calls = c.call_one.new.calls; sent = c.args.caller.now.sent + 1 } in λ number. (c.in-Begun.field-0, subst (λ k. CalledBy g.O.Out.state c.args.tables.now.socks.rule.plan c.args.tables.now.ids.plan c.args.call k (both_of (stand c.args.caller.now)) (both_of (stand d))) c.in-Begun.is c.in_ok-called.ensures.by, record { held = refl; passes = refl })
+returns-in-Begun-clause-called g c = let d = record c.args.caller.now { seat = c.call_one.new.seat; calls = c.call_one.new.calls; sent = c.args.caller.now.sent + 1 } in λ number. (c.in-Begun.field-0, subst (λ k. CalledBy g.O.Out.state c.args.at.now.tables.now.socks.rule.plan c.args.at.now.tables.now.ids.plan c.args.call k (both_of (stand c.args.caller.now)) (both_of (stand d))) c.in-Begun.is c.in_ok-called.ensures.by, record { held = refl; passes = refl })
 
 pub returns-in-NoSlot-clause-not_called : goal.returns-in-NoSlot-clause-not_called
-returns-in-NoSlot-clause-not_called g c = let d = record c.args.caller.now { seat = c.call_one.new.seat; calls = c.call_one.new.calls; sent = c.args.caller.now.sent + 1 } in for_slots (subst (λ k. CalledBy g.O.Out.state c.args.tables.now.socks.rule.plan c.args.tables.now.ids.plan c.args.call k (both_of (stand c.args.caller.now)) (both_of (stand d))) c.in-NoSlot.is c.in_ok-called.ensures.by)
+returns-in-NoSlot-clause-not_called g c = let d = record c.args.caller.now { seat = c.call_one.new.seat; calls = c.call_one.new.calls; sent = c.args.caller.now.sent + 1 } in for_slots (subst (λ k. CalledBy g.O.Out.state c.args.at.now.tables.now.socks.rule.plan c.args.at.now.tables.now.ids.plan c.args.call k (both_of (stand c.args.caller.now)) (both_of (stand d))) c.in-NoSlot.is c.in_ok-called.ensures.by)
 
 pub returns-in_err-called-clause-not_called : goal.returns-in_err-called-clause-not_called
-returns-in_err-called-clause-not_called g c = let d = record c.args.caller.now { seat = c.call_one.new.seat; calls = c.call_one.new.calls; sent = c.args.caller.now.sent + 1 } in err_by c.from_residual.result (λ _. NotCalled g.O.Out.state c.args.tables.now.socks.rule.plan c.args.tables.now.ids.plan c.args.call (stand c.args.caller.now) (stand d)) (λ _. for_memory c.in_err-called.ensures.wanted)
+returns-in_err-called-clause-not_called g c = let d = record c.args.caller.now { seat = c.call_one.new.seat; calls = c.call_one.new.calls; sent = c.args.caller.now.sent + 1 } in err_by c.from_residual.result (λ _. NotCalled g.O.Out.state c.args.at.now.tables.now.socks.rule.plan c.args.at.now.tables.now.ids.plan c.args.call (stand c.args.caller.now) (stand d)) (λ _. for_memory c.in_err-called.ensures.wanted)
 
 pub returns-in-Unopened-clause-own : goal.returns-in-Unopened-clause-own
 returns-in-Unopened-clause-own g c = c.call_one.ensures.own c.args.caller.now.sent c.requires.own

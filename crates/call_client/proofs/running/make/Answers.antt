@@ -5,4 +5,4 @@ use Rattle.call_client.specs.Making.{NotMade}
 use Rattle.call_client.proofs.running.make.Goals as goal
 
 pub returns-in_err-told-clause-not_made : goal.returns-in_err-told-clause-not_made
-returns-in_err-told-clause-not_made g c = err_by c.from_residual.result (λ _. NotMade g.O.Out.state c.args.tables.now.socks.rule.plan c.args.tables.now.ids.plan c.args.task.op (stand c.args.caller.now) (stand c.act.new.caller) × (c.act.new.caller.outcomes ≡ c.args.caller.now.outcomes)) (λ _. (c.in_err-told.ensures.not_made, c.act.ensures.told))
+returns-in_err-told-clause-not_made g c = err_by c.from_residual.result (λ _. NotMade g.O.Out.state c.args.at.now.tables.now.socks.rule.plan c.args.at.now.tables.now.ids.plan c.args.task.op (stand c.args.caller.now) (stand c.act.new.caller) × (c.act.new.caller.outcomes ≡ c.args.caller.now.outcomes)) (λ _. (c.in_err-told.ensures.not_made, c.act.ensures.told))

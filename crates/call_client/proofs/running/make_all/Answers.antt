@@ -13,7 +13,7 @@ makes-init g c = record {
   rest = refl;
   few = omega arith;
   go = c.requires.go;
-  ran = ran_none g.O.Out.state c.args.tables.now.socks.rule.plan c.args.tables.now.ids.plan c.args.tasks.now.items c.args.caller.now;
+  ran = ran_none g.O.Out.state c.args.at.now.tables.now.socks.rule.plan c.args.at.now.tables.now.ids.plan c.args.tasks.now.items c.args.caller.now;
   left = c.requires.may;
   share = refl;
   same = (refl, refl, refl);
@@ -22,14 +22,14 @@ makes-init g c = record {
 }
 
 pub make-requires-clause-may : goal.make-requires-clause-may
-make-requires-clause-may g c = (may_next c.args.tables.now.socks.rule.plan c.args.tables.now.ids.plan c.makes.tasks.items c.next_of-task.new.tasks.items c.next_of-task.result (length c.be_ready.new.caller.passes.items) c.next_of-task.ensures (subst (λ v. MayMakeAll c.args.tables.now.socks.rule.plan c.args.tables.now.ids.plan c.makes.tasks.items (length v.items)) (sym c.be_ready.ensures.others.1) c.makes.invariant.left)).0
+make-requires-clause-may g c = (may_next c.args.at.now.tables.now.socks.rule.plan c.args.at.now.tables.now.ids.plan c.makes.tasks.items c.next_of-task.new.tasks.items c.next_of-task.result (length c.be_ready.new.caller.passes.items) c.next_of-task.ensures (subst (λ v. MayMakeAll c.args.at.now.tables.now.socks.rule.plan c.args.at.now.tables.now.ids.plan c.makes.tasks.items (length v.items)) (sym c.be_ready.ensures.others.1) c.makes.invariant.left)).0
 
 pub make-requires-clause-sent : goal.make-requires-clause-sent
 make-requires-clause-sent g c = c.in_ok-be_ready.ensures.room c.if-last.false
 
 pub makes-preserved : goal.makes-preserved
 makes-preserved g c =
-    let p = c.args.tables.now.socks.rule.plan in let q = c.args.tables.now.ids.plan in let xs = c.args.tasks.now.items in
+    let p = c.args.at.now.tables.now.socks.rule.plan in let q = c.args.at.now.tables.now.ids.plan in let xs = c.args.tasks.now.items in
     let i = c.makes.invariant in let n : ℕ = c.makes.made in let x = c.next_of-task.result in let rest = c.next_of-task.new.tasks.items in
     let d = c.makes.caller in let e = c.be_ready.new.caller in let f = c.make.new.caller in let ready = c.in_ok-be_ready.ensures in let m = c.in_ok-make.ensures.made in
     let next = next_there n xs rest x (i.rest ∙ c.next_of-task.ensures) in record {
@@ -45,10 +45,10 @@ makes-preserved g c =
     }
 
 pub returns-in_err-be_ready-clause-go : goal.returns-in_err-be_ready-clause-go
-returns-in_err-be_ready-clause-go g c = more_made c.args.tables.now.socks.rule.table.shared.table_id c.args.tables.now.socks.rule.plan c.args.tables.now.ids.table.shared.table_id c.makes.made (length c.args.tasks.now.items) c.be_ready.new.caller c.be_ready.ensures.go c.makes.invariant.few
+returns-in_err-be_ready-clause-go g c = more_made c.args.at.now.tables.now.socks.rule.table.shared.table_id c.args.at.now.tables.now.socks.rule.plan c.args.at.now.tables.now.ids.table.shared.table_id c.makes.made (length c.args.tasks.now.items) c.be_ready.new.caller c.be_ready.ensures.go c.makes.invariant.few
 
 pub returns-in_err-be_ready-clause-short : goal.returns-in_err-be_ready-clause-short
-returns-in_err-be_ready-clause-short g c = let p = c.args.tables.now.socks.rule.plan in let q = c.args.tables.now.ids.plan in let xs = c.args.tasks.now.items in
+returns-in_err-be_ready-clause-short g c = let p = c.args.at.now.tables.now.socks.rule.plan in let q = c.args.at.now.tables.now.ids.plan in let xs = c.args.tasks.now.items in
     err_by c.from_residual.result (λ _. CameBy g.O.Out.state p q (ComesTo g.O.Out.state p q true xs) xs c.makes.tasks.items c.args.caller.now c.be_ready.new.caller) (λ _. record {
       made = c.makes.made;
       few = c.makes.invariant.few;
@@ -60,10 +60,10 @@ returns-in_err-be_ready-clause-short g c = let p = c.args.tables.now.socks.rule.
     })
 
 pub returns-in_err-be_ready-clause-left : goal.returns-in_err-be_ready-clause-left
-returns-in_err-be_ready-clause-left g c = subst (λ v. MayMakeAll c.args.tables.now.socks.rule.plan c.args.tables.now.ids.plan c.makes.tasks.items (length v.items)) (sym c.be_ready.ensures.others.1) c.makes.invariant.left
+returns-in_err-be_ready-clause-left g c = subst (λ v. MayMakeAll c.args.at.now.tables.now.socks.rule.plan c.args.at.now.tables.now.ids.plan c.makes.tasks.items (length v.items)) (sym c.be_ready.ensures.others.1) c.makes.invariant.left
 
 pub returns-then-last-clause-go : goal.returns-then-last-clause-go
-returns-then-last-clause-go g c = more_made c.args.tables.now.socks.rule.table.shared.table_id c.args.tables.now.socks.rule.plan c.args.tables.now.ids.table.shared.table_id c.makes.made (length c.args.tasks.now.items) c.be_ready.new.caller c.be_ready.ensures.go c.makes.invariant.few
+returns-then-last-clause-go g c = more_made c.args.at.now.tables.now.socks.rule.table.shared.table_id c.args.at.now.tables.now.socks.rule.plan c.args.at.now.tables.now.ids.table.shared.table_id c.makes.made (length c.args.tasks.now.items) c.be_ready.new.caller c.be_ready.ensures.go c.makes.invariant.few
 
 pub returns-then-last-clause-all : goal.returns-then-last-clause-all
 returns-then-last-clause-all g c = record {
@@ -77,13 +77,13 @@ returns-then-last-clause-all g c = record {
 }
 
 pub returns-then-last-clause-left : goal.returns-then-last-clause-left
-returns-then-last-clause-left g c = subst (λ v. MayMakeAll c.args.tables.now.socks.rule.plan c.args.tables.now.ids.plan c.makes.tasks.items (length v.items)) (sym c.be_ready.ensures.others.1) c.makes.invariant.left
+returns-then-last-clause-left g c = subst (λ v. MayMakeAll c.args.at.now.tables.now.socks.rule.plan c.args.at.now.tables.now.ids.plan c.makes.tasks.items (length v.items)) (sym c.be_ready.ensures.others.1) c.makes.invariant.left
 
 pub returns-in_err-make-clause-go : goal.returns-in_err-make-clause-go
-returns-in_err-make-clause-go g c = more_made c.args.tables.now.socks.rule.table.shared.table_id c.args.tables.now.socks.rule.plan c.args.tables.now.ids.table.shared.table_id (c.makes.made + 1) (length c.args.tasks.now.items) c.make.new.caller c.make.ensures.go (let next = next_there c.makes.made c.args.tasks.now.items c.next_of-task.new.tasks.items c.next_of-task.result (c.makes.invariant.rest ∙ c.next_of-task.ensures) in omega (arith, next.2))
+returns-in_err-make-clause-go g c = more_made c.args.at.now.tables.now.socks.rule.table.shared.table_id c.args.at.now.tables.now.socks.rule.plan c.args.at.now.tables.now.ids.table.shared.table_id (c.makes.made + 1) (length c.args.tasks.now.items) c.make.new.caller c.make.ensures.go (let next = next_there c.makes.made c.args.tasks.now.items c.next_of-task.new.tasks.items c.next_of-task.result (c.makes.invariant.rest ∙ c.next_of-task.ensures) in omega (arith, next.2))
 
 pub returns-in_err-make-clause-short : goal.returns-in_err-make-clause-short
-returns-in_err-make-clause-short g c = let p = c.args.tables.now.socks.rule.plan in let q = c.args.tables.now.ids.plan in let xs = c.args.tasks.now.items in
+returns-in_err-make-clause-short g c = let p = c.args.at.now.tables.now.socks.rule.plan in let q = c.args.at.now.tables.now.ids.plan in let xs = c.args.tasks.now.items in
     let not = c.in_err-make.ensures.not_made in
     let s = short_at g.O.Out.state p q xs c.makes.made c.next_of-task.result c.next_of-task.new.tasks.items (stand c.makes.caller) (stand c.be_ready.new.caller) (stand c.make.new.caller) (c.makes.invariant.rest ∙ c.next_of-task.ensures) c.in_ok-be_ready.ensures.retried not.0 in
     err_by c.from_residual-in_err-make.result (λ _. CameBy g.O.Out.state p q (ComesTo g.O.Out.state p q true xs) xs c.next_of-task.new.tasks.items c.args.caller.now c.make.new.caller) (λ _. record {
@@ -97,6 +97,6 @@ returns-in_err-make-clause-short g c = let p = c.args.tables.now.socks.rule.plan
     })
 
 pub returns-in_err-make-clause-left : goal.returns-in_err-make-clause-left
-returns-in_err-make-clause-left g c = let p = c.args.tables.now.socks.rule.plan in let q = c.args.tables.now.ids.plan in
+returns-in_err-make-clause-left g c = let p = c.args.at.now.tables.now.socks.rule.plan in let q = c.args.at.now.tables.now.ids.plan in
     may_rest g.O.Out.state p q c.makes.tasks.items c.next_of-task.new.tasks.items c.next_of-task.result (stand c.be_ready.new.caller) (stand c.make.new.caller) c.next_of-task.ensures (not_made_passes g.O.Out.state p q c.next_of-task.result.op (stand c.be_ready.new.caller) (stand c.make.new.caller) c.in_err-make.ensures.not_made.0)
     (subst (λ v. MayMakeAll p q c.makes.tasks.items (length v.items)) (sym c.be_ready.ensures.others.1) c.makes.invariant.left)

@@ -1,4 +1,4 @@
-use Rattle.std.proofs.Common.{Bool, true, false, ◌+◌, ◌<◌, ◌≤◌, refl, sym, ap, ◌∙◌, arith, IsTrue}
+use Rattle.std.proofs.Common.{Bool, true, false, ◌+◌, ◌<◌, ◌≤◌, refl, ap, ◌∙◌, arith, IsTrue}
 use Rattle.corr_core.specs.Word.{Parts, parts, tick}
 use Rattle.corr_core.proofs.Events.{unlocked}
 use Rattle.corr_core.proofs.steps.unlock_id.Goals as goal
@@ -10,4 +10,4 @@ room_of false w some more = omega arith
 
 pub returns-clause-event : goal.returns-clause-event
 returns-clause-event c here some who = let w = parts c.args.from.0 in
-    unlocked who c.args.advance w (parts c.exchanged.result.next) (ap parts (c.exchanged.ensures.won (here ∙ sym c.word.ensures)).0 ∙ c.unlocked.ensures) c.requires.from (room_of c.args.advance w some c.requires.room)
+    unlocked who c.args.advance w (parts c.exchanged.result.next) (ap parts (c.exchanged.ensures.won here).0 ∙ c.unlocked.ensures) c.requires.from (room_of c.args.advance w some c.requires.room)

@@ -1,13 +1,14 @@
-use Rattle.std.proofs.Common.{length-set, ◌∙◌, arith}
+use Rattle.std.proofs.Common.{refl, length-set, ◌∙◌, arith}
 use Rattle.std.specs.Mem.Slots.{slots_items}
+use Rattle.sock_words.specs.declared.id_word.IdWord.{IdWord}
 use Rattle.corr_id.proofs.Ending.{one_more, low_more, low_all}
 use Rattle.corr_id.proofs.closing.read_words.Goals as goal
 
 pub loop-i-preserved : goal.loop-i-preserved
-loop-i-preserved g c = let h = c.loop-i.invariant in (
-  length-set c.loop-i.words.items c.loop-i.i c.from_word.result ∙ h.0,
-  one_more c.loop-i.words.items (slots_items c.args.table.now.words) c.loop-i.i c.word.result _ c.from_word.result h.0 c.loop-i-test.true c.word.ensures c.from_word.ensures h.1,
-  (let fits = c.word.type_inv in let same = c.from_word.ensures in low_more c.loop-i.words.items c.loop-i.i _ c.from_word.result h.0 c.loop-i-test.true (omega (arith, fits, same)) h.2),
+loop-i-preserved g c = let h = c.loop-i.invariant in let found : IdWord = record { 0 = c.word.result } in (
+  length-set c.loop-i.words.items c.loop-i.i found ∙ h.0,
+  one_more c.loop-i.words.items (slots_items c.args.table.now.words) c.loop-i.i c.word.result _ found h.0 c.loop-i-test.true c.word.ensures refl h.1,
+  (let fits = c.word.type_inv in low_more c.loop-i.words.items c.loop-i.i _ found h.0 c.loop-i-test.true (omega (arith, fits)) h.2),
 )
 
 pub returns-clause-low : goal.returns-clause-low

@@ -1,5 +1,4 @@
-use Rattle.std.proofs.Common.{arith, refl, ap, ◌∙◌}
-use Rattle.corr_core.specs.Word.{parts}
+use Rattle.std.proofs.Common.{arith, refl}
 use Rattle.corr_id.proofs.Beginning.{none_begun, one_begun, all_begun, free_parts}
 use Rattle.corr_id.proofs.opening.new_words.Goals as goal
 
@@ -7,7 +6,7 @@ pub loop-i-init : goal.loop-i-init
 loop-i-init c = none_begun c.args.plan _ c.in_ok-words.words.items (c.in_ok-words.ensures.items_if_clones_equal (λ y e. e)) (omega arith)
 
 pub loop-i-preserved : goal.loop-i-preserved
-loop-i-preserved c = one_begun c.args.plan c.loop-i.i c.word.result c.loop-i.words.items _ refl (ap parts c.word.ensures ∙ free_parts c.pack-free.result.0 c.pack-free.ensures.parts) c.loop-i-test.true c.loop-i.invariant
+loop-i-preserved c = one_begun c.args.plan c.loop-i.i c.pack-free.result.0 c.loop-i.words.items _ refl (free_parts c.pack-free.result.0 c.pack-free.ensures.parts) c.loop-i-test.true c.loop-i.invariant
 
 pub returns : goal.returns
 returns c = all_begun c.args.plan c.loop-i.i c.loop-i.words.items c.loop-i-test.false c.loop-i.auto.i-end c.loop-i.invariant

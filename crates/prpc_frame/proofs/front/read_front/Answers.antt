@@ -3,6 +3,7 @@ use Rattle.std.proofs.lemmas.List.{take_rest}
 use Rattle.rpc_meta.specs.brpc_model.specs.Frame.{Begins}
 use Rattle.rpc_meta.specs.brpc_model.specs.Meta.{read_meta}
 use Rattle.rpc_meta.specs.View.{viewed}
+use Rattle.rpc_meta.proofs.Building.{same_some}
 use Rattle.prpc_frame.proofs.Bodies.{begins_with}
 use Rattle.prpc_frame.proofs.front.read_front.Goals as goal
 
@@ -16,7 +17,7 @@ returns c =
     let n = c.in-Ok-attachment_bytes.attached in
     let rest = c.part_of-rest.result.now in
     let size : meta ≡ 12 + meta - 12 = omega arith in
-    let read : read_meta (take meta (drop 12 bytes)) ≡ Ok m = ap (λ (i : ℕ). read_meta (take i (drop 12 bytes))) size ∙ sym c.in-Ok.ensures in
+    let read : read_meta (take meta (drop 12 bytes)) ≡ Ok m = ap (λ (i : ℕ). read_meta (take i (drop 12 bytes))) size ∙ sym (same_some c.in-Ok.ensures) in
     let same : to_z w32 (of_z w32 m.attachment_size) ≡ m.attachment_size = search rules in
     let k : ℕ = body - meta - n in
     record {

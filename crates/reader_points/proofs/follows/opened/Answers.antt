@@ -1,4 +1,4 @@
-use Rattle.std.proofs.Common.{◌≡◌, ◌==◌, false, sym, refl, arith}
+use Rattle.std.proofs.Common.{◌≡◌, ◌==◌, false, refl, arith}
 use Rattle.std.proofs.lemmas.Bool.Decides.{nat_tests}
 use Rattle.seat_programs.specs.Programs.{NO_SOCKET}
 use Rattle.reader_points.proofs.follows.opened.Goals as goal
@@ -10,4 +10,4 @@ pub returns-else-found-eq-NO_SOCKET-clause-program : goal.returns-else-found-eq-
 returns-else-found-eq-NO_SOCKET-clause-program c a hand =
     let some : (c.args.found == 0) ≡ false = grind (arith, nat_tests, c.if-found-eq0.false) in
     let there : (c.args.found == NO_SOCKET) ≡ false = grind (arith, nat_tests, c.if-found-eq-NO_SOCKET.false) in
-    rw (c.to_take.ensures, some, there, sym c.from_word.ensures, hand.0, hand.1) refl
+    rw (c.to_take.ensures, some, there, hand.0, hand.1) refl

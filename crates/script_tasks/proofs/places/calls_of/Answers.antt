@@ -6,4 +6,4 @@ use Rattle.script_tasks.proofs.Alongs.{calls_are}
 use Rattle.script_tasks.proofs.places.calls_of.Goals as goal
 
 pub returns : goal.returns
-returns c = IfOk-weaker c.numbers_of.result _ (λ numbers. numbers.items ≡ calls (map item c.args.lines.now)) (λ numbers e. e ∙ calls_are (map item c.args.lines.now)) c.numbers_of.ensures
+returns c = IfOk-weaker c.operation_numbers.result _ (λ numbers. numbers.items ≡ calls (map item c.args.lines.now)) (λ numbers e. e ∙ calls_are (map item c.args.lines.now)) c.operation_numbers.ensures

@@ -1,6 +1,4 @@
-use Rattle.std.proofs.Common.{ℕ, inr, subst, ◌/◌, ◌%◌}
-use Rattle.corr_core.specs.Word.{parts}
-use Rattle.corr_id.specs.Calls.{LacksId}
+use Rattle.std.proofs.Common.{inr, ◌/◌}
 use Rattle.corr_id.proofs.Doing.{found_noted}
 use Rattle.corr_id.proofs.table.IdTable.join.Goals as goal
 
@@ -8,5 +6,5 @@ pub returns-then-lacks_id-clause-gone : goal.returns-then-lacks_id-clause-gone
 returns-then-lacks_id-clause-gone g c = inr (
   c.load_id_word.result,
   found_noted (c.args.id / 4294967296) c.load_id_word.result c.looks.seat.me.0 c.load_id_word.new.seat.me.0 c.load_id_word.ensures.saw,
-  subst (λ (y : ℕ). LacksId (parts y) (c.args.id % 4294967296)) c.from_word.ensures (c.lacks_id.ensures.lacks c.if-lacks_id.true),
+  c.lacks_id.ensures.lacks c.if-lacks_id.true,
 )

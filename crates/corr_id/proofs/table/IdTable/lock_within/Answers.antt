@@ -17,30 +17,30 @@ from_first false w v within = within.0
 pub returns-then-is_outside-clause-gone : goal.returns-then-is_outside-clause-gone
 returns-then-is_outside-clause-gone g c = let at = c.args.version / 4294967296 in let v = c.looks.seat.me.0 in let w = c.load_id_word-found.new.seat.me.0 in let saw = c.load_id_word-found.ensures.saw in (
   quiet_more at c.args.seat.now.me.0 v w _ c.looks.invariant.quiet saw refl,
-  inr (found_noted at c.load_id_word-found.result v w saw, subst (λ (y : ℕ). IsOutside c.args.attempt (parts y) (c.args.version % 4294967296)) c.from_word-word.ensures (c.is_outside.ensures.out c.if-is_outside.true)),
+  inr (found_noted at c.load_id_word-found.result v w saw, c.is_outside.ensures.out c.if-is_outside.true),
 )
 
 pub try_lock-requires-clause-from : goal.try_lock-requires-clause-from
 try_lock-requires-clause-from g c = (
-  ap (λ (y : ℕ). (parts y).state) (sym c.from_word-word.ensures) ∙ (sym c.state.ensures ∙ c.if-state-ne-OPEN.false),
+  sym c.state.ensures ∙ c.if-state-ne-OPEN.false,
   found_noted (c.args.version / 4294967296) c.load_id_word-found.result c.looks.seat.me.0 c.load_id_word-found.new.seat.me.0 c.load_id_word-found.ensures.saw,
 )
 
 pub returns-then-is_outside-clause-ended : goal.returns-then-is_outside-clause-ended
 returns-then-is_outside-clause-ended g c own inside known = let at = c.args.version / 4294967296 in let v = c.args.version % 4294967296 in let u = c.args.seat.now.me.0 in let q = c.looks.invariant.quiet in let found = c.load_id_word-found.ensures in
     gone_behind v (parts c.load_id_word-found.result) (⊎_elim (λ made. found.behind v (made_still at v u c.looks.seat.me.0 q made)) (λ more. found.advanced v (advanced_still at v u c.looks.seat.me.0 q more)) known)
-    (subst (λ (b : Bool). IsOutside b (parts c.load_id_word-found.result) v) own (subst (λ (y : ℕ). IsOutside c.args.attempt (parts y) v) c.from_word-word.ensures (c.is_outside.ensures.out c.if-is_outside.true)))
+    (subst (λ (b : Bool). IsOutside b (parts c.load_id_word-found.result) v) own (c.is_outside.ensures.out c.if-is_outside.true))
 
 pub returns-in-Ok-clause-of_range : goal.returns-in-Ok-clause-of_range
 returns-in-Ok-clause-of_range g c = let v = c.args.version % 4294967296 in
-    subst (λ (w : Parts). IsWithin c.args.attempt w v) (sym c.in-Ok.ensures.locked.1.word_is) (within_locked c.args.attempt (parts c.load_id_word-found.result) v (subst (λ (y : ℕ). IsWithin c.args.attempt (parts y) v) c.from_word-word.ensures (c.is_outside.ensures.within c.if-is_outside.false)))
+    subst (λ (w : Parts). IsWithin c.args.attempt w v) (sym c.in-Ok.ensures.locked.1.word_is) (within_locked c.args.attempt (parts c.load_id_word-found.result) v (c.is_outside.ensures.within c.if-is_outside.false))
 
 pub returns-in-Ok-clause-own : goal.returns-in-Ok-clause-own
 returns-in-Ok-clause-own g c known = let v = c.args.version % 4294967296 in
     ap (λ (w : Parts). w.first) c.in-Ok.ensures.locked.1.word_is
     ∙ own_behind v (parts c.load_id_word-found.result)
     (c.load_id_word-found.ensures.behind v (made_still (c.args.version / 4294967296) v c.args.seat.now.me.0 c.looks.seat.me.0 c.looks.invariant.quiet known))
-    (from_first c.args.attempt (parts c.load_id_word-found.result) v (subst (λ (y : ℕ). IsWithin c.args.attempt (parts y) v) c.from_word-word.ensures (c.is_outside.ensures.within c.if-is_outside.false)))
+    (from_first c.args.attempt (parts c.load_id_word-found.result) v (c.is_outside.ensures.within c.if-is_outside.false))
 
 pub returns-in-Ok-clause-locked : goal.returns-in-Ok-clause-locked
 returns-in-Ok-clause-locked g c = let at = c.args.version / 4294967296 in let u = c.args.seat.now.me.0 in let v = c.load_id_word-found.new.seat.me.0 in let n = c.load_id_word-found.result in let h = c.in-Ok.ensures.locked in (

@@ -20,10 +20,10 @@ tries-init g c = let at = slot_of c.args.id in let u = c.args.seat.now.me.0 in l
 pub returns-then-now-found-clause-posted : goal.returns-then-now-found-clause-posted
 returns-then-now-found-clause-posted g c =
     let at = slot_of c.args.id in let u = c.args.seat.now.me.0 in let v = c.tries.seat.me.0 in let w = c.queue_id-now.new.seat.me.0 in let n = c.tries.found in
-    let b = c.queue_id-now.ensures.won c.if-now-found.true in let is = c.from_word-word.ensures in let has = c.lacks_id.ensures.has c.if-lacks_id.false in
-    let first : (parts n).first ≡ version_of c.args.id = ap (λ (y : ℕ). (parts y).first) (sym is) ∙ has.0 in
-    let two : (parts n).state ≡ 2 = ap (λ (y : ℕ). (parts y).state) (sym is) ∙ was_two (parts c.from_word-word.result.0).state has.1 (λ e. c.if-state-eq-OPEN.false (c.state.ensures ∙ e)) in
-    let room : (parts n).second ≡ 0 = ap (λ (y : ℕ). (parts y).second) (sym is) ∙ (sym c.second.ensures ∙ c.if-second-ne0.false) in (
+    let b = c.queue_id-now.ensures.won c.if-now-found.true in let has = c.lacks_id.ensures.has c.if-lacks_id.false in
+    let first : (parts n).first ≡ version_of c.args.id = has.0 in
+    let two : (parts n).state ≡ 2 = was_two (parts n).state has.1 (λ e. c.if-state-eq-OPEN.false (c.state.ensures ∙ e)) in
+    let room : (parts n).second ≡ 0 = sym c.second.ensures ∙ c.if-second-ne0.false in (
       queued_did at u v w (parts n).first (version_of c.args.id) c.error_bits-error.result _ c.tries.invariant.quiet b first (error_is c.args.attempt c.error_bits-error.result c.args.code c.error_bits-error.ensures.2),
       (
         n,
@@ -32,7 +32,7 @@ returns-then-now-found-clause-posted g c =
           (first, omega arith),
           two,
           room,
-          subst (λ (y : ℕ). IsTimely c.args.attempt (parts y).attempt) is (c.is_stale.ensures.timely c.if-is_stale.false),
+          c.is_stale.ensures.timely c.if-is_stale.false,
           subst (λ (y : ℕ). FoundUpTo at y w) first (up_to_more at (parts n).first v w _ (Queued (parts n).first c.error_bits-error.result) b (λ z. refl) (c.queue_id-now.ensures.latest c.if-now-found.true)),
         ),
       ),
@@ -52,10 +52,10 @@ tries-preserved g c = let at = slot_of c.args.id in let u = c.args.seat.now.me.0
 pub returns-in-Ok-clause-posted : goal.returns-in-Ok-clause-posted
 returns-in-Ok-clause-posted g c =
     let at = slot_of c.args.id in let u = c.args.seat.now.me.0 in let v = c.tries.seat.me.0 in let w = c.try_lock.new.seat.me.0 in let n = c.tries.found in
-    let is = c.from_word-word.ensures in let has = c.lacks_id.ensures.has c.if-lacks_id.false in let h = c.in-Ok.ensures.locked in let k = c.in-Ok.lock in (
+    let has = c.lacks_id.ensures.has c.if-lacks_id.false in let h = c.in-Ok.ensures.locked in let k = c.in-Ok.lock in (
       h.0,
       omega (arith, h.0, c.if-slot-self.false),
-      ap (λ (y : Parts). y.first) h.1.word_is ∙ (ap (λ (y : ℕ). (parts y).first) (sym is) ∙ has.0),
-      subst (λ (y : ℕ). IsTimely c.args.attempt y) (sym (ap (λ (y : Parts). y.attempt) h.1.word_is)) (subst (λ (y : ℕ). IsTimely c.args.attempt (parts y).attempt) is (c.is_stale.ensures.timely c.if-is_stale.false)),
+      ap (λ (y : Parts). y.first) h.1.word_is ∙ has.0,
+      subst (λ (y : ℕ). IsTimely c.args.attempt y) (sym (ap (λ (y : Parts). y.attempt) h.1.word_is)) (c.is_stale.ensures.timely c.if-is_stale.false),
       (n, subst (λ (z : ℕ). GotLock z u w n (parts k.word.0) k.content) (sym h.0) (got_after at u v w n (parts k.word.0) k.content c.tries.invariant.quiet h.1)),
     )

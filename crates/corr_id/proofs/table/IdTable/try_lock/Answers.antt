@@ -1,5 +1,5 @@
-use Rattle.std.proofs.Common.{sym, refl, ap, ◌∙◌}
-use Rattle.corr_core.specs.Word.{parts, locked_word}
+use Rattle.std.proofs.Common.{refl, ap}
+use Rattle.corr_core.specs.Word.{parts}
 use Rattle.corr_id.proofs.Doing.{quiet_none, quiet_more, found_noted, locked_next, locked_fits, got_lock}
 use Rattle.corr_id.proofs.table.IdTable.try_lock.Goals as goal
 
@@ -10,17 +10,17 @@ returns-then-found-from-clause-lost g c = let b = c.lock_id-found.ensures.lost c
 )
 
 pub take_call-requires-clause-fits : goal.take_call-requires-clause-fits
-take_call-requires-clause-fits g c = let e = ap parts c.from_word-2.ensures ∙ ((c.lock_id-next.ensures.won (sym c.from_word.ensures)).0 ∙ ap (λ y. locked_word (parts y)) c.from_word.ensures) in let none_ = c.lock_id-found.ensures.none_queued c.if-found-from.false in
-    locked_fits (parts c.args.from) (parts c.from_word-2.result.0) e (c.lock_id-found.ensures.won c.if-found-from.false).0 none_.0 none_.1
+take_call-requires-clause-fits g c = let e = (c.lock_id-next.ensures.won refl).0 in let none_ = c.lock_id-found.ensures.none_queued c.if-found-from.false in
+    locked_fits (parts c.args.from) (parts c.lock_id-next.result.next) e (c.lock_id-found.ensures.won c.if-found-from.false).0 none_.0 none_.1
 
 pub take_call-requires-clause-lock : goal.take_call-requires-clause-lock
-take_call-requires-clause-lock g c = let e = ap parts c.from_word-2.ensures ∙ ((c.lock_id-next.ensures.won (sym c.from_word.ensures)).0 ∙ ap (λ y. locked_word (parts y)) c.from_word.ensures) in let h = (c.lock_id-found.ensures.won c.if-found-from.false).1 in
-    (h.0, locked_next c.lock_id-found.new.seat.me.0 c.args.at (parts c.args.from) (parts c.from_word-2.result.0) h.0 e h.1.tokens)
+take_call-requires-clause-lock g c = let e = (c.lock_id-next.ensures.won refl).0 in let h = (c.lock_id-found.ensures.won c.if-found-from.false).1 in
+    (h.0, locked_next c.lock_id-found.new.seat.me.0 c.args.at (parts c.args.from) (parts c.lock_id-next.result.next) h.0 e h.1.tokens)
 
 pub returns-clause-locked : goal.returns-clause-locked
-returns-clause-locked g c = let e = ap parts c.from_word-2.ensures ∙ ((c.lock_id-next.ensures.won (sym c.from_word.ensures)).0 ∙ ap (λ y. locked_word (parts y)) c.from_word.ensures) in let h = (c.lock_id-found.ensures.won c.if-found-from.false).1 in
-    let has = locked_next c.lock_id-found.new.seat.me.0 c.args.at (parts c.args.from) (parts c.from_word-2.result.0) h.0 e h.1.tokens in let t = c.take_call.ensures.taken h.0 has in let k = c.take_call.result in (
+returns-clause-locked g c = let e = (c.lock_id-next.ensures.won refl).0 in let h = (c.lock_id-found.ensures.won c.if-found-from.false).1 in
+    let has = locked_next c.lock_id-found.new.seat.me.0 c.args.at (parts c.args.from) (parts c.lock_id-next.result.next) h.0 e h.1.tokens in let t = c.take_call.ensures.taken h.0 has in let k = c.take_call.result in (
       c.take_call.ensures.fields.0,
-      got_lock c.args.at c.args.at c.args.seat.now.me.0 c.args.seat.now.me.0 c.lock_id-found.new.seat.me.0 c.take_call.new.seat.me.0 c.args.from (parts c.from_word-2.result.0) (parts k.word.0) h.0 k.content refl (ap (λ y. parts y.0) c.take_call.ensures.fields.1) t.0
+      got_lock c.args.at c.args.at c.args.seat.now.me.0 c.args.seat.now.me.0 c.lock_id-found.new.seat.me.0 c.take_call.new.seat.me.0 c.args.from (parts c.lock_id-next.result.next) (parts k.word.0) h.0 k.content refl (ap (λ y. parts y.0) c.take_call.ensures.fields.1) t.0
           (quiet_none c.args.seat.now.me.0) c.requires.from.1 c.requires.from.0 (c.lock_id-found.ensures.latest c.if-found-from.false) (c.lock_id-found.ensures.reached c.if-found-from.false) h.1 t.1 e,
     )

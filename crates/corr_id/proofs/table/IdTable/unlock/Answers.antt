@@ -1,10 +1,8 @@
-use Rattle.std.proofs.Common.{ℕ, ◌≡◌, ◌<◌, [], ◌∷◌, sym, ap, ◌∙◌, subst}
-use Rattle.corr_core.specs.Word.{Parts, parts}
-use Rattle.corr_core.specs.declared.marks.Hand.TheVariants.{Empty, Full}
+use Rattle.std.proofs.Common.{ℕ, ◌≡◌, ◌<◌, sym, ap, ◌∙◌, subst}
+use Rattle.corr_core.specs.Word.{parts}
+use Rattle.corr_core.specs.declared.marks.Hand.TheVariants.{Empty}
 use Rattle.corr_core.specs.declared.marks.Token.TheVariants.{Locked}
-use Rattle.id_rule.specs.Plays.{LockFits}
-use Rattle.corr_id.specs.Calls.{Became, Locks}
-use Rattle.corr_id.specs.Unlocks.{Stepped, stale}
+use Rattle.corr_id.specs.Unlocks.{stale}
 use Rattle.corr_id.proofs.Measures.{timely, lost_less, won_less}
 use Rattle.corr_id.proofs.Stepping.{stepped_first, stepped_lost, stepped_next, replaced, opened_all, next_answer}
 use Rattle.corr_id.proofs.table.IdTable.unlock.Goals as goal
@@ -17,8 +15,7 @@ tries-init g c = let w = parts c.args.lock.word.0 in let x = c.args.lock.content
   same_table = c.move_call-nothing.ensures.seat.0;
   same_id = c.move_call-nothing.ensures.seat.1;
   same_slots = c.move_call-nothing.ensures.seat.2;
-  stepped = subst (λ (n : ℕ). Stepped u c.move_call-nothing.new.seat.me.0 c.args.lock.slot w x c.args.advance (parts n) c.args.advance) (sym c.word-from.ensures)
-      (stepped_first u c.args.lock.slot w x c.args.advance c.move_call-nothing.new.seat.me.0 c.args.lock.is_locked c.args.lock.fits c.args.lock.in_order c.requires.room m.1);
+  stepped = stepped_first u c.args.lock.slot w x c.args.advance c.move_call-nothing.new.seat.me.0 c.args.lock.is_locked c.args.lock.fits c.args.lock.in_order c.requires.room m.1;
 }
 
 pub unlock_id-found-requires-clause-next : goal.unlock_id-found-requires-clause-next
@@ -28,32 +25,30 @@ pub returns-then-oldest-eq0-clause-unlocked : goal.returns-then-oldest-eq0-claus
 returns-then-oldest-eq0-clause-unlocked g c =
     let u = c.args.seat.now.me.0 in let i = c.args.lock.slot in let p = parts c.args.lock.word.0 in let x = c.args.lock.content in let v = c.tries.seat.me.0 in let w = c.unlock_id-found.new.seat.me.0 in
     let s = c.tries.invariant.stepped in let n = c.tries.from in let q = parts c.without_oldest-next.result in let is = c.without_oldest-next.ensures in let b = c.unlock_id-found.ensures.won c.if-found-from.false x s.did.tokens in
-    let zero : (parts n).oldest ≡ 0 = sym (c.oldest-oldest.ensures ∙ ap (λ (y : ℕ). (parts y).oldest) c.from_word.ensures) ∙ c.if-oldest-eq0.true in
+    let zero : (parts n).oldest ≡ 0 = sym c.oldest-oldest.ensures ∙ c.if-oldest-eq0.true in
     (n, q, replaced u i p x c.args.advance v w n q c.tries.step s is b, zero, opened_all u i p x c.args.advance v w n q c.tries.step s is b zero)
 
 pub take_call-lock-requires : goal.take_call-lock-requires
 take_call-lock-requires g c =
     let u = c.args.seat.now.me.0 in let i = c.args.lock.slot in let p = parts c.args.lock.word.0 in let x = c.args.lock.content in let v = c.tries.seat.me.0 in let w = c.unlock_id-found.new.seat.me.0 in
     let s = c.tries.invariant.stepped in let n = c.tries.from in let q = parts c.without_oldest-next.result in let is = c.without_oldest-next.ensures in let b = c.unlock_id-found.ensures.won c.if-found-from.false x s.did.tokens in
-    let after = stepped_next u i p x c.args.advance v w n q c.tries.step s is b (λ z. c.if-oldest-eq0.false (c.oldest-oldest.ensures ∙ (ap (λ (y : ℕ). (parts y).oldest) c.from_word.ensures ∙ z))) in
-    let k = parts c.from_word-then-not-is_thrown_away.result.0 in let kk : k ≡ q = ap parts c.from_word-then-not-is_thrown_away.ensures in record {
+    let after = stepped_next u i p x c.args.advance v w n q c.tries.step s is b (λ z. c.if-oldest-eq0.false (c.oldest-oldest.ensures ∙ z)) in record {
       seat = (c.unlock_id-found.ensures.seat.0 ∙ (c.tries.invariant.same_table ∙ c.requires.seat.0), subst (λ (n : ℕ). 0 < n) (sym (b.share ∙ s.did.share)) c.requires.seat.1);
       slot = subst (λ q. c.args.lock.slot < q.slots) (sym c.args.self.now.planned) c.requires.lock.0;
-      fits = (subst LockFits (sym kk) after.fits, ap (λ (y : Parts). y.state) kk ∙ after.two, (λ z. ap (λ (y : Parts). y.second) kk ∙ after.in_order (sym (ap (λ (y : Parts). y.oldest) kk) ∙ z)));
-      lock = (x, subst (λ (y : Parts). Locks i w y x (Full x)) (sym kk) after.did.tokens);
+      fits = (after.fits, after.two, after.in_order);
+      lock = (x, after.did.tokens);
     }
 
 pub returns-then-not-is_thrown_away-clause-unlocked : goal.returns-then-not-is_thrown_away-clause-unlocked
 returns-then-not-is_thrown_away-clause-unlocked g c =
     let u = c.args.seat.now.me.0 in let i = c.args.lock.slot in let p = parts c.args.lock.word.0 in let x = c.args.lock.content in let v = c.tries.seat.me.0 in let w = c.unlock_id-found.new.seat.me.0 in let y' = c.take_call-lock.new.seat.me.0 in
     let s = c.tries.invariant.stepped in let n = c.tries.from in let q = parts c.without_oldest-next.result in let is = c.without_oldest-next.ensures in let b = c.unlock_id-found.ensures.won c.if-found-from.false x s.did.tokens in
-    let old : (parts n).oldest ≡ c.oldest-oldest.result = sym (c.oldest-oldest.ensures ∙ ap (λ (y : ℕ). (parts y).oldest) c.from_word.ensures) in
+    let old : (parts n).oldest ≡ c.oldest-oldest.result = sym c.oldest-oldest.ensures in
     let nz = (λ (z : (parts n).oldest ≡ 0). c.if-oldest-eq0.false (sym old ∙ z)) in
     let after = stepped_next u i p x c.args.advance v w n q c.tries.step s is b nz in
-    let k = parts c.from_word-then-not-is_thrown_away.result.0 in let kk : k ≡ q = ap parts c.from_word-then-not-is_thrown_away.ensures in
-    let t = c.take_call-lock.ensures.taken x (subst (λ (y : Parts). Locks i w y x (Full x)) (sym kk) after.did.tokens) in let fields = c.take_call-lock.ensures.fields in
+    let t = c.take_call-lock.ensures.taken x after.did.tokens in let fields = c.take_call-lock.ensures.fields in
     next_answer u i p x c.args.advance v w n q c.tries.step s is b y' (parts c.take_call-lock.result.word.0) c.take_call-lock.result.slot c.take_call-lock.result.content _ c.attempt_in.result nz
-    (subst (λ (y : Parts). Became i w y' (Locked y.first y.range y.attempt x y.oldest y.second Empty ∷ []) []) kk t.1) fields.0 (ap (λ y. parts y.0) fields.1 ∙ kk) t.0 (old ∙ sym c.attempt_in.ensures.error)
+    t.1 fields.0 (ap (λ y. parts y.0) fields.1) t.0 (old ∙ sym c.attempt_in.ensures.error)
     (timely c.attempt_in.result c.oldest-oldest.result q.attempt c.if-oldest-eq0.false c.attempt_in.ensures.error c.attempt_in.ensures.one (c.is_thrown_away.ensures.kept c.if-not-is_thrown_away.true))
 
 pub tries-preserved-then-found-from : goal.tries-preserved-then-found-from
@@ -77,10 +72,10 @@ tries-preserved g c =
       same_table = c.unlock_id-found.ensures.seat.0 ∙ c.tries.invariant.same_table;
       same_id = c.unlock_id-found.ensures.seat.1 ∙ c.tries.invariant.same_id;
       same_slots = c.unlock_id-found.ensures.seat.2 ∙ c.tries.invariant.same_slots;
-      stepped = stepped_next u i p x c.args.advance v w n q c.tries.step s is b (λ z. c.if-oldest-eq0.false (c.oldest-oldest.ensures ∙ (ap (λ (y : ℕ). (parts y).oldest) c.from_word.ensures ∙ z)));
+      stepped = stepped_next u i p x c.args.advance v w n q c.tries.step s is b (λ z. c.if-oldest-eq0.false (c.oldest-oldest.ensures ∙ z));
     }
 
 pub tries-smaller : goal.tries-smaller
 tries-smaller g c = let n = c.tries.from in let q = parts c.without_oldest-next.result in
-    let old : (parts n).oldest ≡ c.oldest-oldest.result = sym (c.oldest-oldest.ensures ∙ ap (λ (y : ℕ). (parts y).oldest) c.from_word.ensures) in
+    let old : (parts n).oldest ≡ c.oldest-oldest.result = sym c.oldest-oldest.ensures in
     won_less (parts n) q c.tries.step c.without_oldest-next.ensures (λ z. c.if-oldest-eq0.false (sym old ∙ z)) (subst (λ (y : ℕ). stale q.attempt y ≡ 1) (sym old) (c.is_thrown_away.ensures.thrown c.if-not-is_thrown_away.false))

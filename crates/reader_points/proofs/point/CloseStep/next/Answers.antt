@@ -1,5 +1,5 @@
-use Rattle.std.proofs.Common.{sym, ◌∙◌, ap}
-use Rattle.sock_words.specs.Words.{vref_version, socket_id_slot}
+use Rattle.std.proofs.Common.{sym, ◌∙◌}
+use Rattle.sock_words.specs.Words.{socket_id_slot}
 use Rattle.reader_points.specs.Points.{posts_program}
 use Rattle.reader_points.proofs.Going.{closes_gone}
 use Rattle.reader_points.proofs.point.CloseStep.next.Goals as goal
@@ -7,7 +7,7 @@ use Rattle.reader_points.proofs.point.CloseStep.next.Goals as goal
 pub returns-else-version-clause-program : goal.returns-else-version-clause-program
 returns-else-version-clause-program c a =
     rw (c.to-else-version.ensures, c.in-AddRef.is)
-    (closes_gone a c.args.closing c.args.found (λ e. c.if-version.false (c.version.ensures ∙ ap vref_version c.from_word-word.ensures ∙ e ∙ sym c.version-in-AddRef.ensures)))
+    (closes_gone a c.args.closing c.args.found (λ e. c.if-version.false (c.version.ensures ∙ e ∙ sym c.version-in-AddRef.ensures)))
 
 pub returns-in-Step-clause-program : goal.returns-in-Step-clause-program
 returns-in-Step-clause-program c a =

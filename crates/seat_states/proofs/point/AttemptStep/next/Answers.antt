@@ -1,12 +1,11 @@
-use Rattle.std.proofs.Common.{sym, ◌∙◌, ap, refl}
-use Rattle.sock_words.specs.Words.{vref_version}
+use Rattle.std.proofs.Common.{sym, ◌∙◌, refl}
 use Rattle.seat_states.proofs.Behind.{attempts_gone}
 use Rattle.seat_states.proofs.point.AttemptStep.next.Goals as goal
 
 pub returns-else-version-clause-program : goal.returns-else-version-clause-program
 returns-else-version-clause-program c a =
     rw (c.releasing.ensures, c.slot.ensures, c.in-AddRef.is)
-    (attempts_gone a c.args.attempt c.args.socket c.args.found (λ e. c.if-version.false (c.version.ensures ∙ ap vref_version c.from_word-word.ensures ∙ e ∙ sym c.version-in-AddRef.ensures)))
+    (attempts_gone a c.args.attempt c.args.socket c.args.found (λ e. c.if-version.false (c.version.ensures ∙ e ∙ sym c.version-in-AddRef.ensures)))
 
 pub returns-in-StoreAt-clause-program : goal.returns-in-StoreAt-clause-program
 returns-in-StoreAt-clause-program c a = rw (c.looks.ensures, c.in-StoreAt.is) refl

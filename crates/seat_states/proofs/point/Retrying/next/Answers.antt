@@ -1,4 +1,4 @@
-use Rattle.std.proofs.Common.{◌≡◌, ◌==◌, ◌-◌, false, sym, refl, arith}
+use Rattle.std.proofs.Common.{◌≡◌, ◌==◌, ◌-◌, false, refl, arith}
 use Rattle.std.proofs.lemmas.Bool.Decides.{nat_tests}
 use Rattle.seat_states.proofs.Asides.{attempts_as}
 use Rattle.seat_states.proofs.point.Retrying.next.Goals as goal
@@ -10,4 +10,4 @@ pub returns-else-found-eq0-clause-program : goal.returns-else-found-eq0-clause-p
 returns-else-found-eq0-clause-program c a h =
     let framed = rw c.in-LoadName.is at h in
     let e : (c.args.found == 0) ≡ false = grind (arith, nat_tests, c.if-found-eq0.false) in
-    rw (c.to-else-found-eq0.ensures, c.in-LoadName.is, e, sym c.from_word-socket.ensures) (attempts_as a c.args.self.attempt c.from_word-socket.result framed.0)
+    rw (c.to-else-found-eq0.ensures, c.in-LoadName.is, e) (attempts_as a c.args.self.attempt (record { 0 = c.args.found - 1 }) framed.0)

@@ -7,7 +7,7 @@ use Rattle.seat_programs.specs.Scripts.{sizes_of}
 use Rattle.call_points.specs.declared.aside.Aside.TheVariants as steps
 use Rattle.call_slots.specs.Steps as slots
 use Rattle.seat_states.specs.Points.{next_program}
-use Rattle.client_seats.specs.Seats.{seat_data, around, asked_of}
+use Rattle.client_seats.specs.Seats.{seat_data, around, asked_or_nothing}
 use Rattle.sock_core.specs.Machines.{TableState, table_sizes}
 use Rattle.sock_core.specs.Steps.{IsReady, FoundBeside}
 use Rattle.sock_core.proofs.Stepping.{written, goes}
@@ -21,9 +21,9 @@ put_call-found-requires g c = subst (λ (x : TableState). c.args.slot < x.ids.pl
 pub next-next-requires : goal.next-next-requires
 next-next-requires g c =
     let seat = seat_data c.args.place.now in
-    let asked = asked_of seat.call in
+    let asked = asked_or_nothing seat.call in
     let aside = asides.PutCall c.args.slot asked in
-    let made = subst (λ (a : Asked). slots.Makes c.self.inside.ids (asides.PutCall c.args.slot a) (core.some c.put_call-found.result) c.put_call-found.new.self) (c.in-Ok.ensures ∙ ap asked_of c.in-Some.ensures) c.put_call-found.ensures in
+    let made = subst (λ (a : Asked). slots.Makes c.self.inside.ids (asides.PutCall c.args.slot a) (core.some c.put_call-found.result) c.put_call-found.new.self) (c.in-Ok.ensures ∙ ap asked_or_nothing c.in-Some.ensures) c.put_call-found.ensures in
     let t = c.args.self.now in
     let sizes = c.sizes-sizes.ensures ∙ ap (λ (p : IdPlan). sizes_of c.self.inside.plan p) (same_ids _ _ _ _ made) ∙ ap (λ (x : TableState). table_sizes x) c.self.view_is in
     let found = subst (λ (x : TableState). FoundBeside x seat (steps.PutCall c.args.slot) c.put_call-found.result) c.self.view_is (made.finds [] [] c.self.inside.ending core.none) in
@@ -45,7 +45,7 @@ returns-clause-ok g c seat_number =
     let same = same_ids _ _ _ _ c.put_call-found.ensures in
     let sizes = c.sizes-sizes.ensures ∙ ap (λ (p : IdPlan). sizes_of c.self.inside.plan p) same in
     let ready = subst (λ (x : TableState). IsReady x seat) (sym c.self.view_is) c.requires.stand.0 in
-    made_aside (steps.PutCall c.args.slot) c.put_call-found.result c.self.view_is c.requires.next tt (subst (λ (a : Asked). slots.Makes c.self.inside.ids (asides.PutCall c.args.slot a) (core.some c.put_call-found.result) c.put_call-found.new.self) (c.in-Ok.ensures ∙ ap asked_of c.in-Some.ensures) c.put_call-found.ensures)
+    made_aside (steps.PutCall c.args.slot) c.put_call-found.result c.self.view_is c.requires.next tt (subst (λ (a : Asked). slots.Makes c.self.inside.ids (asides.PutCall c.args.slot a) (core.some c.put_call-found.result) c.put_call-found.new.self) (c.in-Ok.ensures ∙ ap asked_or_nothing c.in-Some.ensures) c.put_call-found.ensures)
     (goes (next_program (around c.sizes-sizes.result seat) c.next-next.result) (record { plans = record { plan = refl; id_plan = same; calls = refl; ending = refl }; inns = refl }) sizes c.deref_mut.ensures.value (written c.self.inside.outcomes.len c.follow.new.outcomes _ (omega (arith, c.self.inside.outcomes.ok))) c.follow.ensures refl
     (next_is c.sizes-sizes.result seat c.next-next.result c.put_call-found.result c.calling.result sizes ready c.calling.ensures c.next-next.ensures.program))
     refl refl refl refl

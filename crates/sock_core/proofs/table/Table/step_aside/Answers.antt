@@ -2,7 +2,7 @@ use Rattle.std.proofs.Common.{◌≡◌, refl, ℕ, subst}
 use Rattle.call_points.specs.declared.aside.Aside.TheVariants as steps
 use Rattle.call_points.specs.declared.aside.Aside as code
 use Rattle.seat_states.specs.declared.point.Step.TheVariants as firsts
-use Rattle.client_seats.specs.Seats.{seat_data, around, asked_of}
+use Rattle.client_seats.specs.Seats.{seat_data, around, asked_or_nothing}
 use Rattle.sock_core.specs.Machines.{table_sizes}
 use Rattle.sock_core.specs.Steps.{IsNext, Fits, IsOnWord}
 use Rattle.sock_core.proofs.Tellings.{aside_moved, aside_waited}
@@ -11,22 +11,22 @@ use Rattle.sock_core.proofs.TableTellings.{moved_aside}
 use Rattle.sock_core.proofs.table.Table.step_aside.Goals as goal
 
 pub returns-in_ok-put_call-in-PutCall-clause-ok : goal.returns-in_ok-put_call-in-PutCall-clause-ok
-returns-in_ok-put_call-in-PutCall-clause-ok g c i = moved_aside (steps.PutCall c.in-PutCall.slot) tt c.in-PutCall.is c.requires.next (c.kind-kind.ensures (asked_of (seat_data c.args.place.now).call)) (c.in_ok-put_call-in-PutCall.ensures.ok i)
+returns-in_ok-put_call-in-PutCall-clause-ok g c i = moved_aside (steps.PutCall c.in-PutCall.slot) tt c.in-PutCall.is c.requires.next (c.kind-kind.ensures (asked_or_nothing (seat_data c.args.place.now).call)) (c.in_ok-put_call-in-PutCall.ensures.ok i)
 
 pub returns-in_ok-take_call-in-TakeCall-clause-ok : goal.returns-in_ok-take_call-in-TakeCall-clause-ok
-returns-in_ok-take_call-in-TakeCall-clause-ok g c i = moved_aside (steps.TakeCall c.in-TakeCall.slot) tt c.in-TakeCall.is c.requires.next (c.kind-kind.ensures (asked_of (seat_data c.args.place.now).call)) (c.in_ok-take_call-in-TakeCall.ensures.ok i)
+returns-in_ok-take_call-in-TakeCall-clause-ok g c i = moved_aside (steps.TakeCall c.in-TakeCall.slot) tt c.in-TakeCall.is c.requires.next (c.kind-kind.ensures (asked_or_nothing (seat_data c.args.place.now).call)) (c.in_ok-take_call-in-TakeCall.ensures.ok i)
 
 pub returns-in-Some-clause-ok : goal.returns-in-Some-clause-ok
 returns-in-Some-clause-ok g c i =
     let seat = seat_data c.args.place.now in
     let waits = c.make_aside.ensures.waits in
-    aside_waited c.kind-kind.result c.requires.next (c.kind-kind.ensures (asked_of seat.call)) c.args.step waits.0 c.make_aside.result c.in-Some.on refl (c.make_aside.ensures.made i) waits.1 waits.2 c.make_aside.ensures.on c.in-Some.is
+    aside_waited c.kind-kind.result c.requires.next (c.kind-kind.ensures (asked_or_nothing seat.call)) c.args.step waits.0 c.make_aside.result c.in-Some.on refl (c.make_aside.ensures.made i) waits.1 waits.2 c.make_aside.ensures.on c.in-Some.is
 
 pub returns-in-None-clause-ok : goal.returns-in-None-clause-ok
 returns-in-None-clause-ok g c i =
     let seat = seat_data c.args.place.now in
     let waits = c.make_aside.ensures.waits in
-    aside_moved c.kind-kind.result c.requires.next (c.kind-kind.ensures (asked_of seat.call)) c.args.step waits.0 c.make_aside.result refl (c.make_aside.ensures.made i) waits.1 waits.2 c.in-None.is
+    aside_moved c.kind-kind.result c.requires.next (c.kind-kind.ensures (asked_or_nothing seat.call)) c.args.step waits.0 c.make_aside.result refl (c.make_aside.ensures.made i) waits.1 waits.2 c.in-None.is
 
 on_word : (s : code.Aside) → ((i : ℕ) → s ≡ steps.PutCall i → ⊥) → ((i : ℕ) → s ≡ steps.TakeCall i → ⊥) → ((k n : ℕ) → s ≡ steps.TakeBytes k n → ⊥) → IsOnWord s
 on_word (steps.PutCall i) put take bytes = put i refl

@@ -1,8 +1,5 @@
-use Rattle.std.proofs.Common.{ℕ, ◌≡◌, ◌%◌, arith, refl, ◌∙◌, ◌<◌, sym, ap, subst}
+use Rattle.std.proofs.Common.{arith, refl, ◌∙◌, ◌<◌, sym, subst}
 use mathlib.Core.Option.{none}
-use Rattle.sock_model.specs.Weights.{is_zero}
-use Rattle.sock_model.specs.Slots.{version_of, nref_of}
-use Rattle.sock_model.specs.SlotRows.{marks_of, recycled}
 use Rattle.sock_rule.specs.OnKey.{shows_by}
 use Rattle.sock_rule.specs.Shows.{rose}
 use Rattle.sock_rule.proofs.Allowed.{recycles}
@@ -10,18 +7,18 @@ use Rattle.sock_rule.proofs.Seating.{still_seat}
 use Rattle.sock_rule.proofs.table.RuleTable.recycle.Goals as goal
 
 pub compare_exchange-found-requires : goal.compare_exchange-found-requires
-compare_exchange-found-requires g c = let a = c.requires.seat in let e = sym c.word-old.ensures in (
+compare_exchange-found-requires g c = let a = c.requires.seat in (
   a.0,
   omega (arith, c.args.self.now.sized, c.requires.slot),
   recycles (shows_by c.args.self.now.table.shared.key) rose c.args.self.now.table.shared.key.plan _ _ _ (a.1 ∙ sym c.args.self.now.planned) a.2 c.args.at (subst (λ q. c.args.at < q.slots) (sym c.args.self.now.planned) c.requires.slot)
-      c.word-old.result _ refl (subst (λ (q : ℕ). version_of q % 2 ≡ 1) e c.requires.from.1) (subst (λ (q : ℕ). nref_of q ≡ 0) e c.requires.from.2) (subst (λ (q : ℕ). 0 < marks_of (is_zero (version_of q)) c.args.at c.args.seat.now.me.0) e c.requires.zero) none,
+      c.args.from.0 _ refl c.requires.from.1 c.requires.from.2 c.requires.zero none,
 )
 
 pub returns-clause-view : goal.returns-clause-view
-returns-clause-view g c = rw c.recycle.ensures.found ((c.compare_exchange-found.ensures.2 c.args.at refl).0 ∙ ap (λ (q : ℕ). (recycled c.args.at q c.compare_exchange-found.result c.args.seat.now.me.0, c.args.seat.now.me.1)) c.word-old.ensures)
+returns-clause-view g c = rw c.recycle.ensures.found (c.compare_exchange-found.ensures.2 c.args.at refl).0
 
 pub returns-clause-seat : goal.returns-clause-seat
 returns-clause-seat g c = still_seat _ _ c.args.seat.now c.compare_exchange-found.new.seat _ c.requires.seat c.compare_exchange-found.ensures.0 ((c.compare_exchange-found.ensures.2 c.args.at refl).0) refl refl
 
 pub returns-clause-alone : goal.returns-clause-alone
-returns-clause-alone g c = λ hit. (c.compare_exchange-found.ensures.2 c.args.at refl).1 (sym c.recycle.ensures.found ∙ (hit ∙ sym c.word-old.ensures))
+returns-clause-alone g c = λ hit. (c.compare_exchange-found.ensures.2 c.args.at refl).1 (sym c.recycle.ensures.found ∙ hit)

@@ -1,6 +1,4 @@
-use Rattle.std.proofs.Common.{ℕ, ◌+◌, arith, refl, ap, subst}
-use Rattle.sock_model.specs.Layout.{name_index}
-use Rattle.sock_rule.specs.Rows.{PutAt}
+use Rattle.std.proofs.Common.{arith, refl}
 use Rattle.sock_rule.specs.OnKey.{shows_by}
 use Rattle.sock_rule.specs.Shows.{rose}
 use Rattle.sock_rule.proofs.Naming.{stores_name_on}
@@ -8,7 +6,7 @@ use Rattle.sock_rule.proofs.Seating.{still_seat}
 use Rattle.sock_rule.proofs.table.RuleTable.store_name.Goals as goal
 
 pub store-requires : goal.store-requires
-store-requires g c = let a = c.requires.seat in (a.0, omega (arith, c.args.self.now.sized, c.requires.name), stores_name_on (shows_by c.args.self.now.table.shared.key) rose _ _ _ _ _ c.args.self.now.planned a.1 a.2 c.args.name c.args.id.0 _ c.requires.name (ap (λ (n : ℕ). n + 1) c.word-word.ensures) c.requires.known.inside c.requires.known.known)
+store-requires g c = let a = c.requires.seat in (a.0, omega (arith, c.args.self.now.sized, c.requires.name), stores_name_on (shows_by c.args.self.now.table.shared.key) rose _ _ _ _ _ c.args.self.now.planned a.1 a.2 c.args.name c.args.id.0 _ c.requires.name refl c.requires.known.inside c.requires.known.known)
 
 pub returns : goal.returns
-returns g c = record { seat = still_seat _ _ c.args.seat.now c.store.new.seat _ c.requires.seat c.store.ensures.0 c.store.ensures.2.view refl refl; view = subst (λ (n : ℕ). PutAt (name_index c.args.self.now.plan c.args.name) n c.args.seat.now.me c.store.new.seat.me) (ap (λ (n : ℕ). n + 1) c.word-word.ensures) c.store.ensures.2 }
+returns g c = record { seat = still_seat _ _ c.args.seat.now c.store.new.seat _ c.requires.seat c.store.ensures.0 c.store.ensures.2.view refl refl; view = c.store.ensures.2 }

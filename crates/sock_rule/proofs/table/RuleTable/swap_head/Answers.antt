@@ -1,4 +1,4 @@
-use Rattle.std.proofs.Common.{ℕ, ◌≡◌, ◌<◌, arith, ◌∙◌, sym, subst}
+use Rattle.std.proofs.Common.{◌<◌, arith, ◌∙◌, sym, subst}
 use Rattle.sock_rule.specs.OnKey.{shows_by}
 use Rattle.sock_rule.specs.Shows.{rose}
 use Rattle.sock_rule.specs.Sending.{MaySwap}
@@ -6,12 +6,9 @@ use Rattle.sock_rule.proofs.Chaining.{swaps}
 use Rattle.sock_rule.proofs.Sending.{swapped_seat}
 use Rattle.sock_rule.proofs.table.RuleTable.swap_head.Goals as goal
 
-may_on : (q p : Rattle.sock_words.specs.declared.plain.Plan.Plan) (v : Rattle.sock_model.specs.declared.view.View.View) (i own new : ℕ) → q ≡ p → own ≡ new → MaySwap p v i own → MaySwap q v i new
-may_on q p v i own new e f m = subst (λ z. MaySwap z v i new) (sym e) (subst (λ (n : ℕ). MaySwap p v i n) f m)
-
 pub swap-found-requires : goal.swap-found-requires
-swap-found-requires g c = let a = c.requires.seat in let m = may_on c.args.self.now.table.shared.key.plan c.args.self.now.plan _ _ _ c.word-new.result c.args.self.now.planned (sym c.word-new.ensures) c.requires.may in
-    (a.0, omega (arith, c.args.self.now.sized, c.requires.slot), swaps (shows_by c.args.self.now.table.shared.key) rose c.args.self.now.table.shared.key.plan _ _ _ (a.1 ∙ sym c.args.self.now.planned) a.2 c.args.at c.word-new.result m.exchange (subst (λ q. c.args.at < q.slots) (sym c.args.self.now.planned) c.requires.slot) m.room)
+swap-found-requires g c = let a = c.requires.seat in let m = subst (λ q. MaySwap q c.args.seat.now.me.0 c.args.at c.args.own.0) (sym c.args.self.now.planned) c.requires.may in
+    (a.0, omega (arith, c.args.self.now.sized, c.requires.slot), swaps (shows_by c.args.self.now.table.shared.key) rose c.args.self.now.table.shared.key.plan _ _ _ (a.1 ∙ sym c.args.self.now.planned) a.2 c.args.at c.args.own.0 m.exchange (subst (λ q. c.args.at < q.slots) (sym c.args.self.now.planned) c.requires.slot) m.room)
 
 pub returns-clause-view : goal.returns-clause-view
 returns-clause-view g c = λ d is. rw c.swap_head.ensures.step.0 (c.swap-found.ensures.2 d is)

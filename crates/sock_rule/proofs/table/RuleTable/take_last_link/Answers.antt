@@ -19,23 +19,22 @@ compare_exchange_with-requires g c = let a = c.requires.seat in let r = c.requir
   lasts_said c.args.self.now.table.shared.key.plan c.args.self.now.table.shared.key.ways.list _ _ _ _ _ (a.1 ∙ sym c.args.self.now.planned) _ (subst (λ w. SaysWays w c.said-said.result) (sym c.args.self.now.keyed) c.said-said.ensures) (takes_last (shows_by c.args.self.now.table.shared.key) rose c.args.self.now.table.shared.key.plan _ _ _ (a.1 ∙ sym c.args.self.now.planned) a.2 c.args.at r.version c.args.link (subst (λ q. c.args.at < q.slots) (sym c.args.self.now.planned) c.requires.slot) r.recycled r.met (ap (total (carries c.args.link)) c.requires.empty)),
 )
 
-pub take_home-requires-clause-seat : goal.take_home-requires-clause-seat
-take_home-requires-clause-seat g c = c.compare_exchange_with.ensures.0 ∙ c.requires.seat.0
+pub take_link_home-requires-clause-seat : goal.take_link_home-requires-clause-seat
+take_link_home-requires-clause-seat g c = c.compare_exchange_with.ensures.0 ∙ c.requires.seat.0
 
-pub take_home-requires-clause-home : goal.take_home-requires-clause-home
-take_home-requires-clause-home g c = let t = link_came c.args.seat.now.me.0.plan c.args.self.now.ways.list (c.compare_exchange_with.ensures.2 c.args.self.now.ways.list c.said-said.ensures c.args.at c.requires.recycled.version c.args.link refl c.requires.recycled.recycled c.requires.recycled.met) in came_home t c.args.self.now.plan c.requires.seat.1
+pub take_link_home-requires-clause-home : goal.take_link_home-requires-clause-home
+take_link_home-requires-clause-home g c = let t = link_came c.args.seat.now.me.0.plan c.args.self.now.ways.list (c.compare_exchange_with.ensures.2 c.args.self.now.ways.list c.said-said.ensures c.args.at c.requires.recycled.version c.args.link refl c.requires.recycled.recycled c.requires.recycled.met) in came_home t c.args.self.now.plan c.requires.seat.1
 
 pub returns-clause-view : goal.returns-clause-view
-returns-clause-view g c = let t = link_came c.args.seat.now.me.0.plan c.args.self.now.ways.list (c.compare_exchange_with.ensures.2 c.args.self.now.ways.list c.said-said.ensures c.args.at c.requires.recycled.version c.args.link refl c.requires.recycled.recycled c.requires.recycled.met) in came_after t (c.args.self.now.plan.requests + c.args.link) c.take_home.result c.take_home.ensures.home _ c.take_home.ensures.view
+returns-clause-view g c = let t = link_came c.args.seat.now.me.0.plan c.args.self.now.ways.list (c.compare_exchange_with.ensures.2 c.args.self.now.ways.list c.said-said.ensures c.args.at c.requires.recycled.version c.args.link refl c.requires.recycled.recycled c.requires.recycled.met) in came_after t (c.args.self.now.plan.requests + c.args.link) c.take_link_home.result c.take_link_home.ensures.home _ c.take_link_home.ensures.view
 
-pub returns-clause-link : goal.returns-clause-link
-returns-clause-link g c = let t = link_came c.args.seat.now.me.0.plan c.args.self.now.ways.list (c.compare_exchange_with.ensures.2 c.args.self.now.ways.list c.said-said.ensures c.args.at c.requires.recycled.version c.args.link refl c.requires.recycled.recycled c.requires.recycled.met) in ((came_link t (c.args.self.now.plan.requests + c.args.link) c.take_home.result c.take_home.ensures.home t.inside).0, subst (λ q. c.args.link < q.links) c.requires.seat.1 t.inside)
-
-pub returns-clause-way : goal.returns-clause-way
-returns-clause-way g c = let t = link_came c.args.seat.now.me.0.plan c.args.self.now.ways.list (c.compare_exchange_with.ensures.2 c.args.self.now.ways.list c.said-said.ensures c.args.at c.requires.recycled.version c.args.link refl c.requires.recycled.recycled c.requires.recycled.met) in (came_link t (c.args.self.now.plan.requests + c.args.link) c.take_home.result c.take_home.ensures.home t.inside).1
-
-pub returns-clause-known : goal.returns-clause-known
-returns-clause-known g c = let t = link_came c.args.seat.now.me.0.plan c.args.self.now.ways.list (c.compare_exchange_with.ensures.2 c.args.self.now.ways.list c.said-said.ensures c.args.at c.requires.recycled.version c.args.link refl c.requires.recycled.recycled c.requires.recycled.met) in came_known t (c.args.self.now.plan.requests + c.args.link) c.take_home.result c.take_home.ensures.home
+pub returns-clause-came : goal.returns-clause-came
+returns-clause-came g c = let t = link_came c.args.seat.now.me.0.plan c.args.self.now.ways.list (c.compare_exchange_with.ensures.2 c.args.self.now.ways.list c.said-said.ensures c.args.at c.requires.recycled.version c.args.link refl c.requires.recycled.recycled c.requires.recycled.met) in let out = came_link t (c.args.self.now.plan.requests + c.args.link) c.take_link_home.result c.take_link_home.ensures.home t.inside in record {
+  link_is = out.0;
+  link_in = subst (λ q. c.args.link < q.links) c.requires.seat.1 t.inside;
+  way_is = out.1;
+  known = came_known t (c.args.self.now.plan.requests + c.args.link) c.take_link_home.result c.take_link_home.ensures.home;
+}
 
 pub returns-clause-seat : goal.returns-clause-seat
-returns-clause-seat g c = let same = (found_alike (g.O.Out.state c.take_home.result.out).faults 0 c.args.link (with_hand c.args.seat.now.me.0 (hand_of c.args.link c.take_home.result.took.list c.take_home.result.next))).others in still_seat _ _ c.args.seat.now c.take_home.new.seat _ c.requires.seat (c.take_home.ensures.seat ∙ c.compare_exchange_with.ensures.0) (returns-clause-view g c) (ap (λ v. v.plan) same) (sym (ap (λ v. v.share) same))
+returns-clause-seat g c = let same = (found_alike (g.O.Out.state c.take_link_home.result.out).faults 0 c.args.link (with_hand c.args.seat.now.me.0 (hand_of c.args.link c.take_link_home.result.took.list c.take_link_home.result.next))).others in still_seat _ _ c.args.seat.now c.take_link_home.new.seat _ c.requires.seat (c.take_link_home.ensures.seat ∙ c.compare_exchange_with.ensures.0) (returns-clause-view g c) (ap (λ v. v.plan) same) (sym (ap (λ v. v.share) same))

@@ -14,28 +14,29 @@ use Rattle.sock_rule.proofs.table.RuleTable.take_link.Goals as goal
 pub compare_exchange_with-requires : goal.compare_exchange_with-requires
 compare_exchange_with-requires g c = let a = c.requires.seat in let r = c.requires.home in (a.0, omega (arith, c.args.self.now.sized, c.requires.slot), owns_said c.args.self.now.table.shared.key.plan c.args.self.now.table.shared.key.ways.list _ _ _ _ _ (a.1 ∙ sym c.args.self.now.planned) _ (subst (λ w. SaysWays w c.said-said.result) (sym c.args.self.now.keyed) c.said-said.ensures) (takes_own (shows_by c.args.self.now.table.shared.key) rose c.args.self.now.table.shared.key.plan _ _ _ (a.1 ∙ sym c.args.self.now.planned) a.2 r.right r.one c.args.at r.home))
 
-pub take_home-requires-clause-seat : goal.take_home-requires-clause-seat
-take_home-requires-clause-seat g c = c.compare_exchange_with.ensures.0 ∙ c.requires.seat.0
+pub take_link_home-requires-clause-seat : goal.take_link_home-requires-clause-seat
+take_link_home-requires-clause-seat g c = c.compare_exchange_with.ensures.0 ∙ c.requires.seat.0
 
-pub take_home-requires-clause-home : goal.take_home-requires-clause-home
-take_home-requires-clause-home g c = let t = own_came c.args.seat.now.me.0.plan c.args.self.now.ways.list (c.compare_exchange_with.ensures.2 c.args.self.now.ways.list c.said-said.ensures c.requires.home.right c.args.at c.requires.home.one refl) in subst (λ (k : ℕ). LinkOnTop (c.args.self.now.plan.requests + k) c.compare_exchange_with.new.seat.me) c.requires.home.link_is (came_home t c.args.self.now.plan c.requires.seat.1)
+pub take_link_home-requires-clause-home : goal.take_link_home-requires-clause-home
+take_link_home-requires-clause-home g c = let t = own_came c.args.seat.now.me.0.plan c.args.self.now.ways.list (c.compare_exchange_with.ensures.2 c.args.self.now.ways.list c.said-said.ensures c.requires.home.right c.args.at c.requires.home.one refl) in subst (λ (k : ℕ). LinkOnTop (c.args.self.now.plan.requests + k) c.compare_exchange_with.new.seat.me) c.requires.home.link_is (came_home t c.args.self.now.plan c.requires.seat.1)
 
 pub returns-clause-view : goal.returns-clause-view
-returns-clause-view g c = λ r one. came_after (own_came c.args.seat.now.me.0.plan c.args.self.now.ways.list (c.compare_exchange_with.ensures.2 c.args.self.now.ways.list c.said-said.ensures r c.args.at one refl)) (c.args.self.now.plan.requests + c.args.link) c.take_home.result c.take_home.ensures.home _ c.take_home.ensures.view ∙ ap (λ (k : ℕ). (fault_found (g.O.Out.state c.take_home.result.out).faults c.args.at k (with_right c.args.seat.now.me.0 (record r { at_home = false })), (c.args.self.now.plan.requests + c.args.link, Empty) ∷ c.args.seat.now.me.1)) (ap (λ q. q.link) (the_right c.args.seat.now.me.0.rights r c.requires.home.right one c.requires.home.one) ∙ c.requires.home.link_is)
+returns-clause-view g c = λ r one. came_after (own_came c.args.seat.now.me.0.plan c.args.self.now.ways.list (c.compare_exchange_with.ensures.2 c.args.self.now.ways.list c.said-said.ensures r c.args.at one refl)) (c.args.self.now.plan.requests + c.args.link) c.take_link_home.result c.take_link_home.ensures.home _ c.take_link_home.ensures.view ∙ ap (λ (k : ℕ). (fault_found (g.O.Out.state c.take_link_home.result.out).faults c.args.at k (with_right c.args.seat.now.me.0 (record r { at_home = false })), (c.args.self.now.plan.requests + c.args.link, Empty) ∷ c.args.seat.now.me.1)) (ap (λ q. q.link) (the_right c.args.seat.now.me.0.rights r c.requires.home.right one c.requires.home.one) ∙ c.requires.home.link_is)
 
 pub returns-clause-took : goal.returns-clause-took
-returns-clause-took g c = λ r one. came_took (own_came c.args.seat.now.me.0.plan c.args.self.now.ways.list (c.compare_exchange_with.ensures.2 c.args.self.now.ways.list c.said-said.ensures r c.args.at one refl)) (c.args.self.now.plan.requests + c.args.link) c.take_home.result c.take_home.ensures.home
+returns-clause-took g c = λ r one. came_took (own_came c.args.seat.now.me.0.plan c.args.self.now.ways.list (c.compare_exchange_with.ensures.2 c.args.self.now.ways.list c.said-said.ensures r c.args.at one refl)) (c.args.self.now.plan.requests + c.args.link) c.take_link_home.result c.take_link_home.ensures.home
 
-pub returns-clause-link : goal.returns-clause-link
-returns-clause-link g c = let t = own_came c.args.seat.now.me.0.plan c.args.self.now.ways.list (c.compare_exchange_with.ensures.2 c.args.self.now.ways.list c.said-said.ensures c.requires.home.right c.args.at c.requires.home.one refl) in
-    ((came_link t (c.args.self.now.plan.requests + c.args.link) c.take_home.result c.take_home.ensures.home t.inside).0 ∙ c.requires.home.link_is, came_done t (c.args.self.now.plan.requests + c.args.link) c.take_home.result c.take_home.ensures.home, subst (λ (k : ℕ). k < c.args.self.now.plan.links) c.requires.home.link_is (subst (λ q. c.requires.home.right.link < q.links) c.requires.seat.1 t.inside))
+pub returns-clause-came : goal.returns-clause-came
+returns-clause-came g c = let t = own_came c.args.seat.now.me.0.plan c.args.self.now.ways.list (c.compare_exchange_with.ensures.2 c.args.self.now.ways.list c.said-said.ensures c.requires.home.right c.args.at c.requires.home.one refl) in let out = came_link t (c.args.self.now.plan.requests + c.args.link) c.take_link_home.result c.take_link_home.ensures.home t.inside in let is = c.requires.home.link_is in record {
+  link_is = out.0 ∙ is;
+  link_in = subst (λ (k : ℕ). k < c.args.self.now.plan.links) is (subst (λ q. c.requires.home.right.link < q.links) c.requires.seat.1 t.inside);
+  way_is = out.1 ∙ ap (way_at c.args.self.now.ways.list) is;
+  known = subst (λ (k : ℕ). 0 < faults_of k c.args.seat.now.me.0 → 0 < (g.O.Out.state c.take_link_home.result.out).faults) is (came_known t (c.args.self.now.plan.requests + c.args.link) c.take_link_home.result c.take_link_home.ensures.home);
+}
 
-pub returns-clause-way : goal.returns-clause-way
-returns-clause-way g c = let t = own_came c.args.seat.now.me.0.plan c.args.self.now.ways.list (c.compare_exchange_with.ensures.2 c.args.self.now.ways.list c.said-said.ensures c.requires.home.right c.args.at c.requires.home.one refl) in (came_link t (c.args.self.now.plan.requests + c.args.link) c.take_home.result c.take_home.ensures.home t.inside).1 ∙ ap (way_at c.args.self.now.ways.list) c.requires.home.link_is
-
-pub returns-clause-known : goal.returns-clause-known
-returns-clause-known g c = let t = own_came c.args.seat.now.me.0.plan c.args.self.now.ways.list (c.compare_exchange_with.ensures.2 c.args.self.now.ways.list c.said-said.ensures c.requires.home.right c.args.at c.requires.home.one refl) in subst (λ (k : ℕ). 0 < faults_of k c.args.seat.now.me.0 → 0 < (g.O.Out.state c.take_home.result.out).faults) c.requires.home.link_is (came_known t (c.args.self.now.plan.requests + c.args.link) c.take_home.result c.take_home.ensures.home)
+pub returns-clause-unfinished : goal.returns-clause-unfinished
+returns-clause-unfinished g c = let t = own_came c.args.seat.now.me.0.plan c.args.self.now.ways.list (c.compare_exchange_with.ensures.2 c.args.self.now.ways.list c.said-said.ensures c.requires.home.right c.args.at c.requires.home.one refl) in came_done t (c.args.self.now.plan.requests + c.args.link) c.take_link_home.result c.take_link_home.ensures.home
 
 pub returns-clause-seat : goal.returns-clause-seat
-returns-clause-seat g c = let r = c.requires.home.right in let same = (found_alike (g.O.Out.state c.take_home.result.out).faults c.args.at c.args.link (with_right c.args.seat.now.me.0 (record r { at_home = false }))).others in
-    still_seat _ _ c.args.seat.now c.take_home.new.seat _ c.requires.seat (c.take_home.ensures.seat ∙ c.compare_exchange_with.ensures.0) (returns-clause-view g c r c.requires.home.one) (ap (λ v. v.plan) same) (sym (ap (λ v. v.share) same))
+returns-clause-seat g c = let r = c.requires.home.right in let same = (found_alike (g.O.Out.state c.take_link_home.result.out).faults c.args.at c.args.link (with_right c.args.seat.now.me.0 (record r { at_home = false }))).others in
+    still_seat _ _ c.args.seat.now c.take_link_home.new.seat _ c.requires.seat (c.take_link_home.ensures.seat ∙ c.compare_exchange_with.ensures.0) (returns-clause-view g c r c.requires.home.one) (ap (λ v. v.plan) same) (sym (ap (λ v. v.share) same))

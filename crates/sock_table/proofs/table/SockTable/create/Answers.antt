@@ -54,7 +54,7 @@ returns-then-step-clause-same g c = let won = wins c.loop-at.at c.claim_slot-ste
     same_then c.args.self.now.rule.plan _ _ _ c.loop-at.invariant.6 (made_same c.args.self.now.rule.plan c.loop-at.at c.make.result.0 _ c.loop-at.seat.me.0 c.claim_slot-step.new.seat.me.0 c.make.new.seat.me.0 won c.make.ensures.made)
 
 pub returns-then-step-clause-created : goal.returns-then-step-clause-created
-returns-then-step-clause-created g c = created c.loop-at.at c.make.result.0 _ c.args.seat.now.me.0 c.loop-at.seat.me.0 c.claim_slot-step.new.seat.me.0 c.make.new.seat.me.0 c.loop-at.invariant.7
+returns-then-step-clause-created g c = created c.args.self.now.rule.plan c.loop-at.at c.make.result.0 _ c.args.seat.now.me.0 c.loop-at.seat.me.0 c.claim_slot-step.new.seat.me.0 c.make.new.seat.me.0 c.loop-at.invariant.7
     (wins c.loop-at.at c.claim_slot-step.result.found c.loop-at.seat.me.0 c.claim_slot-step.new.seat.me.0 (ap (λ m. m.0) c.claim_slot-step.ensures.view) (c.claim_slot-step.ensures.won.0 c.if-step.true)) c.make.ensures.made
 
 pub returns-clause-tried : goal.returns-clause-tried

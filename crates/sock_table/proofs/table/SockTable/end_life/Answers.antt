@@ -5,69 +5,75 @@ use Rattle.sock_rule.specs.Hands.{hand_of}
 use Rattle.sock_table.proofs.Ending.{noted_taken, came_home, in_hand, lost, recycled_in, recycles, retires, frees, recycled_there}
 use Rattle.sock_table.proofs.table.SockTable.end_life.Goals as goal
 
-pub returns-then-step-word-clause-marks : goal.returns-then-step-word-clause-marks
-returns-then-step-word-clause-marks g c = lost c.args.at c.args.from.0 c.recycle-step.result.found c.args.seat.now.me.0 c.recycle-step.new.seat.me.0 (ap (λ m. m.0) c.recycle-step.ensures.view) c.requires.zero (λ e. c.if-step-word.true (e ∙ sym c.word.ensures))
+pub returns-then-step-from-clause-marks : goal.returns-then-step-from-clause-marks
+returns-then-step-from-clause-marks g c = lost c.args.at c.args.from.0 c.recycle-step.result.found c.args.seat.now.me.0 c.recycle-step.new.seat.me.0 (ap (λ m. m.0) c.recycle-step.ensures.view) c.requires.zero c.if-step-from.true
 
 pub load_last_link-found-requires-clause-recycled : goal.load_last_link-found-requires-clause-recycled
-load_last_link-found-requires-clause-recycled g c = (_, recycled_in c.args.at c.args.from.0 c.recycle-step.result.found c.args.seat.now.me.0 c.recycle-step.new.seat.me.0 (ap (λ m. m.0) c.recycle-step.ensures.view) c.requires.zero (c.if-step-word.false ∙ c.word.ensures))
+load_last_link-found-requires-clause-recycled g c = (_, recycled_in c.args.at c.args.from.0 c.recycle-step.result.found c.args.seat.now.me.0 c.recycle-step.new.seat.me.0 (ap (λ m. m.0) c.recycle-step.ensures.view) c.requires.zero c.if-step-from.false)
 
 pub take_last_link-home-requires-clause-recycled : goal.take_last_link-home-requires-clause-recycled
 take_last_link-home-requires-clause-recycled g c =
-    let e = ap (λ m. m.0) c.recycle-step.ensures.view in let hit = c.if-step-word.false ∙ c.word.ensures in
+    let e = ap (λ m. m.0) c.recycle-step.ensures.view in let hit = c.if-step-from.false in
     let r = recycled_in c.args.at c.args.from.0 c.recycle-step.result.found c.args.seat.now.me.0 c.recycle-step.new.seat.me.0 e c.requires.zero hit in
     recycles c.args.at c.args.from.0 c.recycle-step.result.found c.args.seat.now.me.0 c.recycle-step.new.seat.me.0 e c.requires.zero hit c.load_last_link-found.result c.load_last_link-found.new.seat.me.0 (ap (λ m. m.0) (c.load_last_link-found.ensures.view _ r))
 
 pub take_last_link-home-requires-clause-empty : goal.take_last_link-home-requires-clause-empty
 take_last_link-home-requires-clause-empty g c =
-    let e = ap (λ m. m.0) c.recycle-step.ensures.view in let hit = c.if-step-word.false ∙ c.word.ensures in
+    let e = ap (λ m. m.0) c.recycle-step.ensures.view in let hit = c.if-step-from.false in
     let r = recycled_in c.args.at c.args.from.0 c.recycle-step.result.found c.args.seat.now.me.0 c.recycle-step.new.seat.me.0 e c.requires.zero hit in
     ap (λ m. m.0.hands) (c.load_last_link-found.ensures.view _ r) ∙ (ap (λ v. v.hands) e ∙ c.requires.empty)
 
 pub put_link-requires-clause-hand : goal.put_link-requires-clause-hand
-put_link-requires-clause-hand g c = let e = ap (λ m. m.0) c.recycle-step.ensures.view in let hit = c.if-step-word.false ∙ c.word.ensures in let r = recycled_in c.args.at c.args.from.0 c.recycle-step.result.found c.args.seat.now.me.0 c.recycle-step.new.seat.me.0 e c.requires.zero hit in
+put_link-requires-clause-hand g c = let e = ap (λ m. m.0) c.recycle-step.ensures.view in let hit = c.if-step-from.false in let r = recycled_in c.args.at c.args.from.0 c.recycle-step.result.found c.args.seat.now.me.0 c.recycle-step.new.seat.me.0 e c.requires.zero hit in
     let b = c.load_last_link-found.ensures.view _ r in let empty = ap (λ m. m.0.hands) b ∙ (ap (λ v. v.hands) e ∙ c.requires.empty) in
     in_hand c.load_last_link-found.new.seat.me c.take_last_link-home.new.seat.me c.load_last_link-found.result c.take_last_link-home.result.took.list c.finish.new.self.took.list c.take_last_link-home.result.next c.finish.new.self.next _ _ c.take_last_link-home.ensures.view empty c.finish.ensures.same.0 c.finish.ensures.same.1
 
 pub put_link-requires-clause-noted : goal.put_link-requires-clause-noted
 put_link-requires-clause-noted g c = λ some_. let k : ℕ = c.load_last_link-found.result in let v = c.load_last_link-found.new.seat.me.0 in subst (λ (n : ℕ). 0 < n) (sym c.finish.ensures.faults)
-    (noted_taken (g.O.Out.state c.take_last_link-home.result.out).faults 0 c.load_last_link-found.result v (with_hand v (hand_of c.load_last_link-found.result c.take_last_link-home.result.took.list c.take_last_link-home.result.next)) refl c.take_last_link-home.ensures.known
+    (noted_taken (g.O.Out.state c.take_last_link-home.result.out).faults 0 c.load_last_link-found.result v (with_hand v (hand_of c.load_last_link-found.result c.take_last_link-home.result.took.list c.take_last_link-home.result.next)) refl c.take_last_link-home.ensures.came.known
     (subst (λ (n : ℕ). 0 < n) (ap (λ m. faults_of c.load_last_link-found.result m.0) c.take_last_link-home.ensures.view) some_))
 
+pub put_link-requires-clause-inside : goal.put_link-requires-clause-inside
+put_link-requires-clause-inside g c = c.take_last_link-home.ensures.came.link_in
+
+pub put_link-requires-clause-link : goal.put_link-requires-clause-link
+put_link-requires-clause-link g c = c.finish.ensures.link ∙ c.take_last_link-home.ensures.came.link_is
+
 pub put_link-requires-clause-way : goal.put_link-requires-clause-way
-put_link-requires-clause-way g c = c.finish.ensures.way ∙ c.take_last_link-home.ensures.way
+put_link-requires-clause-way g c = c.finish.ensures.way ∙ c.take_last_link-home.ensures.came.way_is
 
 pub free_slot-requires-clause-recycled : goal.free_slot-requires-clause-recycled
-free_slot-requires-clause-recycled g c = let e = ap (λ m. m.0) c.recycle-step.ensures.view in let hit = c.if-step-word.false ∙ c.word.ensures in let r = recycled_in c.args.at c.args.from.0 c.recycle-step.result.found c.args.seat.now.me.0 c.recycle-step.new.seat.me.0 e c.requires.zero hit in
+free_slot-requires-clause-recycled g c = let e = ap (λ m. m.0) c.recycle-step.ensures.view in let hit = c.if-step-from.false in let r = recycled_in c.args.at c.args.from.0 c.recycle-step.result.found c.args.seat.now.me.0 c.recycle-step.new.seat.me.0 e c.requires.zero hit in
     let b = c.load_last_link-found.ensures.view _ r in let empty = ap (λ m. m.0.hands) b ∙ (ap (λ v. v.hands) e ∙ c.requires.empty) in
     let home = came_home c.load_last_link-found.new.seat.me c.take_last_link-home.new.seat.me c.put_link.new.seat.me c.load_last_link-found.result c.take_last_link-home.result.took.list c.take_last_link-home.result.next _ _ _ c.take_last_link-home.ensures.view c.finish.ensures.faults c.put_link.ensures.view empty in
     (_, recycled_there c.args.at c.args.from.0 c.recycle-step.result.found c.args.seat.now.me.0 c.recycle-step.new.seat.me.0 e c.requires.zero hit c.load_last_link-found.result c.load_last_link-found.new.seat.me.0 (ap (λ m. m.0) b) c.put_link.new.seat.me.0 (ap (λ m. m.0) home), omega (arith, c.if-version-lt-LAST_VERSION.true, c.version.ensures))
 
 pub free_slot-requires-clause-empty : goal.free_slot-requires-clause-empty
-free_slot-requires-clause-empty g c = let e = ap (λ m. m.0) c.recycle-step.ensures.view in let hit = c.if-step-word.false ∙ c.word.ensures in let r = recycled_in c.args.at c.args.from.0 c.recycle-step.result.found c.args.seat.now.me.0 c.recycle-step.new.seat.me.0 e c.requires.zero hit in
+free_slot-requires-clause-empty g c = let e = ap (λ m. m.0) c.recycle-step.ensures.view in let hit = c.if-step-from.false in let r = recycled_in c.args.at c.args.from.0 c.recycle-step.result.found c.args.seat.now.me.0 c.recycle-step.new.seat.me.0 e c.requires.zero hit in
     let b = c.load_last_link-found.ensures.view _ r in let empty = ap (λ m. m.0.hands) b ∙ (ap (λ v. v.hands) e ∙ c.requires.empty) in
     let home = came_home c.load_last_link-found.new.seat.me c.take_last_link-home.new.seat.me c.put_link.new.seat.me c.load_last_link-found.result c.take_last_link-home.result.took.list c.take_last_link-home.result.next _ _ _ c.take_last_link-home.ensures.view c.finish.ensures.faults c.put_link.ensures.view empty in
     ap (λ m. m.0.hands) home ∙ empty
 
 pub returns-then-version-lt-LAST_VERSION-clause-marks : goal.returns-then-version-lt-LAST_VERSION-clause-marks
-returns-then-version-lt-LAST_VERSION-clause-marks g c = let e = ap (λ m. m.0) c.recycle-step.ensures.view in let hit = c.if-step-word.false ∙ c.word.ensures in let r = recycled_in c.args.at c.args.from.0 c.recycle-step.result.found c.args.seat.now.me.0 c.recycle-step.new.seat.me.0 e c.requires.zero hit in
+returns-then-version-lt-LAST_VERSION-clause-marks g c = let e = ap (λ m. m.0) c.recycle-step.ensures.view in let hit = c.if-step-from.false in let r = recycled_in c.args.at c.args.from.0 c.recycle-step.result.found c.args.seat.now.me.0 c.recycle-step.new.seat.me.0 e c.requires.zero hit in
     let b = c.load_last_link-found.ensures.view _ r in let empty = ap (λ m. m.0.hands) b ∙ (ap (λ v. v.hands) e ∙ c.requires.empty) in
     let home = came_home c.load_last_link-found.new.seat.me c.take_last_link-home.new.seat.me c.put_link.new.seat.me c.load_last_link-found.result c.take_last_link-home.result.took.list c.take_last_link-home.result.next _ _ _ c.take_last_link-home.ensures.view c.finish.ensures.faults c.put_link.ensures.view empty in
     frees c.args.at c.args.from.0 c.recycle-step.result.found c.args.seat.now.me.0 c.recycle-step.new.seat.me.0 e c.requires.zero hit c.load_last_link-found.result c.load_last_link-found.new.seat.me.0 (ap (λ m. m.0) b) c.put_link.new.seat.me.0 c.free_slot.new.seat.me.0 (ap (λ m. m.0) home) (ap (λ m. m.0) c.free_slot.ensures.view) (omega (arith, c.if-version-lt-LAST_VERSION.true, c.version.ensures)) (c.recycle-step.ensures.alone hit)
 
 pub returns-then-version-lt-LAST_VERSION-clause-slots : goal.returns-then-version-lt-LAST_VERSION-clause-slots
-returns-then-version-lt-LAST_VERSION-clause-slots g c = let e = ap (λ m. m.0) c.recycle-step.ensures.view in let hit = c.if-step-word.false ∙ c.word.ensures in let r = recycled_in c.args.at c.args.from.0 c.recycle-step.result.found c.args.seat.now.me.0 c.recycle-step.new.seat.me.0 e c.requires.zero hit in
+returns-then-version-lt-LAST_VERSION-clause-slots g c = let e = ap (λ m. m.0) c.recycle-step.ensures.view in let hit = c.if-step-from.false in let r = recycled_in c.args.at c.args.from.0 c.recycle-step.result.found c.args.seat.now.me.0 c.recycle-step.new.seat.me.0 e c.requires.zero hit in
     let b = c.load_last_link-found.ensures.view _ r in let empty = ap (λ m. m.0.hands) b ∙ (ap (λ v. v.hands) e ∙ c.requires.empty) in
     let home = came_home c.load_last_link-found.new.seat.me c.take_last_link-home.new.seat.me c.put_link.new.seat.me c.load_last_link-found.result c.take_last_link-home.result.took.list c.take_last_link-home.result.next _ _ _ c.take_last_link-home.ensures.view c.finish.ensures.faults c.put_link.ensures.view empty in
     ap (λ m. m.1) c.free_slot.ensures.view ∙ (ap (λ m. m.1) home ∙ (ap (λ m. m.1) b ∙ ap (λ m. m.1) c.recycle-step.ensures.view))
 
 pub returns-else-version-lt-LAST_VERSION-clause-marks : goal.returns-else-version-lt-LAST_VERSION-clause-marks
-returns-else-version-lt-LAST_VERSION-clause-marks g c = let e = ap (λ m. m.0) c.recycle-step.ensures.view in let hit = c.if-step-word.false ∙ c.word.ensures in let r = recycled_in c.args.at c.args.from.0 c.recycle-step.result.found c.args.seat.now.me.0 c.recycle-step.new.seat.me.0 e c.requires.zero hit in
+returns-else-version-lt-LAST_VERSION-clause-marks g c = let e = ap (λ m. m.0) c.recycle-step.ensures.view in let hit = c.if-step-from.false in let r = recycled_in c.args.at c.args.from.0 c.recycle-step.result.found c.args.seat.now.me.0 c.recycle-step.new.seat.me.0 e c.requires.zero hit in
     let b = c.load_last_link-found.ensures.view _ r in let empty = ap (λ m. m.0.hands) b ∙ (ap (λ v. v.hands) e ∙ c.requires.empty) in
     let home = came_home c.load_last_link-found.new.seat.me c.take_last_link-home.new.seat.me c.put_link.new.seat.me c.load_last_link-found.result c.take_last_link-home.result.took.list c.take_last_link-home.result.next _ _ _ c.take_last_link-home.ensures.view c.finish.ensures.faults c.put_link.ensures.view empty in
     retires c.args.at c.args.from.0 c.recycle-step.result.found c.args.seat.now.me.0 c.recycle-step.new.seat.me.0 e c.requires.zero hit c.load_last_link-found.result c.load_last_link-found.new.seat.me.0 (ap (λ m. m.0) b) c.put_link.new.seat.me.0 (ap (λ m. m.0) home) (omega (arith, c.if-version-lt-LAST_VERSION.false, c.version.ensures))
 
 pub returns-else-version-lt-LAST_VERSION-clause-slots : goal.returns-else-version-lt-LAST_VERSION-clause-slots
-returns-else-version-lt-LAST_VERSION-clause-slots g c = let e = ap (λ m. m.0) c.recycle-step.ensures.view in let hit = c.if-step-word.false ∙ c.word.ensures in let r = recycled_in c.args.at c.args.from.0 c.recycle-step.result.found c.args.seat.now.me.0 c.recycle-step.new.seat.me.0 e c.requires.zero hit in
+returns-else-version-lt-LAST_VERSION-clause-slots g c = let e = ap (λ m. m.0) c.recycle-step.ensures.view in let hit = c.if-step-from.false in let r = recycled_in c.args.at c.args.from.0 c.recycle-step.result.found c.args.seat.now.me.0 c.recycle-step.new.seat.me.0 e c.requires.zero hit in
     let b = c.load_last_link-found.ensures.view _ r in let empty = ap (λ m. m.0.hands) b ∙ (ap (λ v. v.hands) e ∙ c.requires.empty) in
     let home = came_home c.load_last_link-found.new.seat.me c.take_last_link-home.new.seat.me c.put_link.new.seat.me c.load_last_link-found.result c.take_last_link-home.result.took.list c.take_last_link-home.result.next _ _ _ c.take_last_link-home.ensures.view c.finish.ensures.faults c.put_link.ensures.view empty in
     ap (λ m. m.1) home ∙ (ap (λ m. m.1) b ∙ ap (λ m. m.1) c.recycle-step.ensures.view)

@@ -1,5 +1,5 @@
 use Rattle.std.proofs.Common.{ℕ, ◌≡◌, ◌<◌, arith, sym, ap, ◌∙◌, subst}
-use Rattle.sock_model.specs.Slots.{version_of, nref_of}
+use Rattle.sock_model.specs.Slots.{version_of}
 use Rattle.sock_model.specs.SlotRows.{marks_of}
 use Rattle.sock_model.specs.Weights.{is_zero}
 use Rattle.sock_table.proofs.Giving.{some_ref, kept_on, not_last, not_odd, zero_now, ends}
@@ -11,20 +11,20 @@ sub_ref-step-requires-clause-held g c = some_ref c.args.at c.args.seat.now.me.0 
 pub returns-then-nref-ne0-clause-back : goal.returns-then-nref-ne0-clause-back
 returns-then-nref-ne0-clause-back g c = λ m goes. let s = c.sub_ref-step.ensures in
     kept_on c.args.at c.sub_ref-step.result.found c.args.seat.now.me.0 c.sub_ref-step.new.seat.me.0 (ap (λ x. x.0) s.view) s.fits.held m goes
-    (not_last c.args.at c.sub_ref-step.result.found c.sub_ref-step.result.next s.step s.top.0 (λ e. c.if-nref-ne0.true (c.nref.ensures ∙ (ap nref_of c.from_word-left.ensures ∙ e))))
+    (not_last c.args.at c.sub_ref-step.result.found c.sub_ref-step.result.next s.step s.top.0 (λ e. c.if-nref-ne0.true (c.nref.ensures ∙ e)))
 
 pub returns-then-version-eq0-clause-back : goal.returns-then-version-eq0-clause-back
 returns-then-version-eq0-clause-back g c = λ m goes. let s = c.sub_ref-step.ensures in
     kept_on c.args.at c.sub_ref-step.result.found c.args.seat.now.me.0 c.sub_ref-step.new.seat.me.0 (ap (λ x. x.0) s.view) s.fits.held m goes
-    (not_odd c.args.at c.sub_ref-step.result.found c.sub_ref-step.result.next s.step s.top.0 (λ e. (let z = c.if-version-eq0.true in let v = c.version.ensures in let l = ap version_of c.from_word-left.ensures in absurd (omega arith))))
+    (not_odd c.args.at c.sub_ref-step.result.found c.sub_ref-step.result.next s.step s.top.0 (λ e. (let z = c.if-version-eq0.true in let v = c.version.ensures in absurd (omega arith))))
 
 pub end_life-requires-clause-zero : goal.end_life-requires-clause-zero
-end_life-requires-clause-zero g c = let s = c.sub_ref-step.ensures in let l = c.from_word-left.ensures in let n = c.nref.ensures in let z = c.if-nref-ne0.false in
-    let same : version_of c.sub_ref-step.result.found ≡ version_of c.from_word-left.result.0 = omega (arith, s.step, s.top.0, l, n, z) in
+end_life-requires-clause-zero g c = let s = c.sub_ref-step.ensures in let n = c.nref.ensures in let z = c.if-nref-ne0.false in
+    let same : version_of c.sub_ref-step.result.found ≡ version_of c.sub_ref-step.result.next = omega (arith, s.step, s.top.0, n, z) in
     subst (λ (w : ℕ). 0 < marks_of (is_zero w) c.args.at c.sub_ref-step.new.seat.me.0) same
-    (zero_now c.args.at c.sub_ref-step.result.found c.args.seat.now.me.0 c.sub_ref-step.new.seat.me.0 (ap (λ x. x.0) s.view) s.fits.held c.requires.some.0 c.requires.some.1 (omega (arith, same, c.version.ensures, c.if-version-eq0.false)) (omega (arith, s.step, s.top.0, l, n, z)))
+    (zero_now c.args.at c.sub_ref-step.result.found c.args.seat.now.me.0 c.sub_ref-step.new.seat.me.0 (ap (λ x. x.0) s.view) s.fits.held c.requires.some.0 c.requires.some.1 (omega (arith, same, c.version.ensures, c.if-version-eq0.false)) (omega (arith, s.step, s.top.0, n, z)))
 
 pub returns-clause-back : goal.returns-clause-back
-returns-clause-back g c = λ m goes. let s = c.sub_ref-step.ensures in let x = c.end_life.ensures.marks in let l = c.from_word-left.ensures in let n = c.nref.ensures in let z = c.if-nref-ne0.false in
-    let same : version_of c.sub_ref-step.result.found ≡ version_of c.from_word-left.result.0 = omega (arith, s.step, s.top.0, l, n, z) in
-    ends c.args.at c.sub_ref-step.result.found c.args.seat.now.me.0 c.sub_ref-step.new.seat.me.0 (ap (λ x. x.0) s.view) s.fits.held m goes (omega (arith, same, c.version.ensures, c.if-version-eq0.false)) (omega (arith, s.step, s.top.0, l, n, z)) (version_of c.from_word-left.result.0) c.end_life.new.seat.me.0 c.end_life.result (sym same) x.0 x.1 x.2
+returns-clause-back g c = λ m goes. let s = c.sub_ref-step.ensures in let x = c.end_life.ensures.marks in let n = c.nref.ensures in let z = c.if-nref-ne0.false in
+    let same : version_of c.sub_ref-step.result.found ≡ version_of c.sub_ref-step.result.next = omega (arith, s.step, s.top.0, n, z) in
+    ends c.args.at c.sub_ref-step.result.found c.args.seat.now.me.0 c.sub_ref-step.new.seat.me.0 (ap (λ x. x.0) s.view) s.fits.held m goes (omega (arith, same, c.version.ensures, c.if-version-eq0.false)) (omega (arith, s.step, s.top.0, n, z)) (version_of c.sub_ref-step.result.next) c.end_life.new.seat.me.0 c.end_life.result (sym same) x.0 x.1 x.2

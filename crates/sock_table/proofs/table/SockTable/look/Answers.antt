@@ -12,7 +12,7 @@ use Rattle.sock_table.proofs.table.SockTable.look.Goals as goal
 
 pub returns-then-version-clause-live : goal.returns-then-version-clause-live
 returns-then-version-clause-live g c = subst (λ (j : ℕ). Became j c.args.seat.now.me.0 c.look_word-step.new.seat.me.0 (Saw (socket_id_version c.args.sock.now.id.0) ∷ []) []) c.slot-slot.ensures
-    (subst (λ (w : ℕ). Became c.slot-slot.result c.args.seat.now.me.0 c.look_word-step.new.seat.me.0 (Saw w ∷ []) []) (sym (ap version_of c.from_word-found.ensures) ∙ (sym c.version.ensures ∙ (c.if-version.true ∙ c.version-2.ensures)))
+    (subst (λ (w : ℕ). Became c.slot-slot.result c.args.seat.now.me.0 c.look_word-step.new.seat.me.0 (Saw w ∷ []) []) (sym c.version.ensures ∙ (c.if-version.true ∙ c.version-2.ensures))
     (becomes c.slot-slot.result (ap (λ m. m.0) c.look_word-step.ensures.view) (looked_marks c.slot-slot.result c.look_word-step.result.found c.args.seat.now.me.0)))
 
 pub returns-else-version-clause-live : goal.returns-else-version-clause-live
@@ -23,11 +23,9 @@ returns-else-version-clause-live g c = (
     c.if-version.false,
     c.version.ensures,
     c.version-2.ensures,
-    ap version_of c.from_word-found.ensures,
   ),
-  subst (λ (j : ℕ). Became j c.args.seat.now.me.0 c.look_word-step.new.seat.me.0 (Saw (version_of c.from_word-found.result.0) ∷ []) []) c.slot-slot.ensures
-      (subst (λ (w : ℕ). Became c.slot-slot.result c.args.seat.now.me.0 c.look_word-step.new.seat.me.0 (Saw (version_of w) ∷ []) []) (sym c.from_word-found.ensures)
-      (becomes c.slot-slot.result (ap (λ m. m.0) c.look_word-step.ensures.view) (looked_marks c.slot-slot.result c.look_word-step.result.found c.args.seat.now.me.0))),
+  subst (λ (j : ℕ). Became j c.args.seat.now.me.0 c.look_word-step.new.seat.me.0 (Saw (version_of c.look_word-step.result.found) ∷ []) []) c.slot-slot.ensures
+      (becomes c.slot-slot.result (ap (λ m. m.0) c.look_word-step.ensures.view) (looked_marks c.slot-slot.result c.look_word-step.result.found c.args.seat.now.me.0)),
 )
 
 pub returns-then-version-clause-between : goal.returns-then-version-clause-between
@@ -37,4 +35,4 @@ pub returns-else-version-clause-between : goal.returns-else-version-clause-betwe
 returns-else-version-clause-between g c = saw_between c.args.self.now.rule.plan _ _ c.args.seat.now.me.0 c.look_word-step.new.seat.me.0 c.requires.between ((returns-else-version-clause-live g c).1)
 
 pub returns-then-version-clause-stays : goal.returns-then-version-clause-stays
-returns-then-version-clause-stays g c = none_later c.slot-slot.result c.look_word-step.result.found c.args.sock.now.id.0 c.args.seat.now.me.0 c.slot-slot.ensures c.look_word-step.ensures.fits.saw (sym (ap version_of c.from_word-found.ensures) ∙ (sym c.version.ensures ∙ (c.if-version.true ∙ c.version-2.ensures)))
+returns-then-version-clause-stays g c = none_later c.slot-slot.result c.look_word-step.result.found c.args.sock.now.id.0 c.args.seat.now.me.0 c.slot-slot.ensures c.look_word-step.ensures.fits.saw (sym c.version.ensures ∙ (c.if-version.true ∙ c.version-2.ensures))

@@ -24,7 +24,7 @@ birth-step-requires-clause-claimed g c = let r = ap (λ m. m.0) (c.reset_head.en
 pub returns-clause-made : goal.returns-clause-made
 returns-clause-made g c = let r = ap (λ m. m.0) (c.reset_head.ensures.view _ (stage_one c.args.self.now.rule.plan c.args.seat.now.me.0 c.take_in.new.seat.me.0 c.args.pass.seat.me.0 c.args.pass.link c.requires.pass.2 (ap (λ m. m.0) c.take_in.ensures.view) c.args.at c.requires.claimed c.store_link.new.seat.me.0 (ap (λ m. m.0) c.store_link.ensures.view))) in let w = ap (λ m. m.0) (c.wipe_code.ensures.view _ (stage_two c.args.self.now.rule.plan c.args.seat.now.me.0 c.take_in.new.seat.me.0 c.args.pass.seat.me.0 c.args.pass.link c.requires.pass.2 (ap (λ m. m.0) c.take_in.ensures.view) c.args.at c.requires.claimed c.store_link.new.seat.me.0 (ap (λ m. m.0) c.store_link.ensures.view) c.reset_head.new.seat.me.0 r)) in
     made c.args.self.now.rule.plan c.args.seat.now.me.0 c.take_in.new.seat.me.0 c.args.pass.seat.me.0 c.args.pass.link c.requires.pass.2 (ap (λ m. m.0) c.take_in.ensures.view) c.args.at c.requires.claimed c.store_link.new.seat.me.0 (ap (λ m. m.0) c.store_link.ensures.view) c.reset_head.new.seat.me.0 r c.wipe_code.new.seat.me.0 w c.birth-step.result.found c.pack.result.0 c.birth-step.new.seat.me.0
-    (ap (λ m. m.0) (c.birth-step.ensures.view _ (stage_three c.args.self.now.rule.plan c.args.seat.now.me.0 c.take_in.new.seat.me.0 c.args.pass.seat.me.0 c.args.pass.link c.requires.pass.2 (ap (λ m. m.0) c.take_in.ensures.view) c.args.at c.requires.claimed c.store_link.new.seat.me.0 (ap (λ m. m.0) c.store_link.ensures.view) c.reset_head.new.seat.me.0 r c.wipe_code.new.seat.me.0 w))) (omega (arith, c.ranges.at.fits)) (omega (arith, c.pack.ensures.word, c.version-version.ensures, c.from_word.ensures, c.from.ensures))
+    (ap (λ m. m.0) (c.birth-step.ensures.view _ (stage_three c.args.self.now.rule.plan c.args.seat.now.me.0 c.take_in.new.seat.me.0 c.args.pass.seat.me.0 c.args.pass.link c.requires.pass.2 (ap (λ m. m.0) c.take_in.ensures.view) c.args.at c.requires.claimed c.store_link.new.seat.me.0 (ap (λ m. m.0) c.store_link.ensures.view) c.reset_head.new.seat.me.0 r c.wipe_code.new.seat.me.0 w))) (omega (arith, c.ranges.at.fits)) (omega (arith, c.pack.ensures.word, c.version-version.ensures, c.from.ensures))
 
 pub returns-clause-slots : goal.returns-clause-slots
 returns-clause-slots g c = let r = c.reset_head.ensures.view _ (stage_one c.args.self.now.rule.plan c.args.seat.now.me.0 c.take_in.new.seat.me.0 c.args.pass.seat.me.0 c.args.pass.link c.requires.pass.2 (ap (λ m. m.0) c.take_in.ensures.view) c.args.at c.requires.claimed c.store_link.new.seat.me.0 (ap (λ m. m.0) c.store_link.ensures.view)) in let w = c.wipe_code.ensures.view _ (stage_two c.args.self.now.rule.plan c.args.seat.now.me.0 c.take_in.new.seat.me.0 c.args.pass.seat.me.0 c.args.pass.link c.requires.pass.2 (ap (λ m. m.0) c.take_in.ensures.view) c.args.at c.requires.claimed c.store_link.new.seat.me.0 (ap (λ m. m.0) c.store_link.ensures.view) c.reset_head.new.seat.me.0 (ap (λ m. m.0) r)) in
