@@ -318,7 +318,11 @@ pub fn write_once<O: Out>(
     let hand = chain.take_up(seat);
     match chain.try_put(seat, hand) {
         Tried::Dead(hand) => {
-            let Chain { sock, last, .. } = chain;
+            let Chain {
+                table: _,
+                sock,
+                last,
+            } = chain;
             let doing = Doing::Puts(hand);
             Once::Keep(WriteRight { sock, last, doing })
         }
@@ -327,7 +331,11 @@ pub fn write_once<O: Out>(
             chain.leave_last(seat, doing)
         }
         Tried::Goes(doing) => {
-            let Chain { sock, last, .. } = chain;
+            let Chain {
+                table: _,
+                sock,
+                last,
+            } = chain;
             Once::Keep(WriteRight { sock, last, doing })
         }
     }

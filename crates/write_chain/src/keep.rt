@@ -163,16 +163,28 @@ impl<O: Out> Chain<'_, O> {
         match self.try_put(seat, hand) {
             Tried::Dead(hand) => {
                 let (doing, msg, code) = self.drop_one(seat, hand);
-                let Chain { sock, last, .. } = self;
+                let Chain {
+                    table: _,
+                    sock,
+                    last,
+                } = self;
                 Went::Dropped(WriteRight { sock, last, doing }, msg, code)
             }
             Tried::Whole(hand) => {
                 let doing = self.place(seat, hand);
-                let Chain { sock, last, .. } = self;
+                let Chain {
+                    table: _,
+                    sock,
+                    last,
+                } = self;
                 Went::Further(WriteRight { sock, last, doing })
             }
             Tried::Goes(doing) => {
-                let Chain { sock, last, .. } = self;
+                let Chain {
+                    table: _,
+                    sock,
+                    last,
+                } = self;
                 Went::Further(WriteRight { sock, last, doing })
             }
         }
@@ -207,19 +219,31 @@ impl<O: Out> Chain<'_, O> {
             Doing::Puts(hand) => self.put_or_drop(seat, hand),
             Doing::Waits(hand) => {
                 let doing = self.ask(seat, hand, backoff);
-                let Chain { sock, last, .. } = self;
+                let Chain {
+                    table: _,
+                    sock,
+                    last,
+                } = self;
                 Went::Further(WriteRight { sock, last, doing })
             }
             Doing::Next(link, now) => {
                 let hand = self.take_next(seat, link, now);
-                let Chain { sock, last, .. } = self;
+                let Chain {
+                    table: _,
+                    sock,
+                    last,
+                } = self;
                 let doing = Doing::Puts(hand);
                 Went::Further(WriteRight { sock, last, doing })
             }
             Doing::Last(link) => self.try_head(seat, link),
             Doing::Walks(number, top) => {
                 let link = self.fetch_link(seat, number);
-                let Chain { sock, last, .. } = self;
+                let Chain {
+                    table: _,
+                    sock,
+                    last,
+                } = self;
                 let doing = Doing::Back(Walk {
                     link,
                     top,
