@@ -119,14 +119,12 @@ impl<O: Out> Chain<'_, O> {
         ensures more { HasMore result.doing }
         ensures others { seat.new.me.0 ≡ record seat.old.me.0 { rights = seat.new.me.0.rights } }
     {
-        let found = self.table.rule.read_back(seat, walk.at);
+        let Chain { table, sock, last } = self;
+        let found = table.rule.read_back(seat, walk.at);
         if found == UNCONNECTED {
             backoff.snooze();
-            return WriteRight {
-                sock: self.sock,
-                last: self.last,
-                doing: Doing::Back(walk),
-            };
+            let doing = Doing::Back(walk);
+            return WriteRight { sock, last, doing };
         }
         let Walk {
             link,
@@ -134,26 +132,22 @@ impl<O: Out> Chain<'_, O> {
             at,
             after,
         } = walk;
-        self.table.rule.turn_next(seat, at, after);
-        let end = self.last.0;
+        table.rule.turn_next(seat, at, after);
+        let end = last.0;
         if found == end {
             return WriteRight {
-                sock: self.sock,
+                sock,
                 last: top,
                 doing: Doing::Next(link, at),
             };
         }
-        let walk = Walk {
+        let doing = Doing::Back(Walk {
             link,
             top,
             at: Ticket(found),
             after: at.0,
-        };
-        WriteRight {
-            sock: self.sock,
-            last: self.last,
-            doing: Doing::Back(walk),
-        }
+        });
+        WriteRight { sock, last, doing }
     }
 
     /// A message in hand is put, gets its place, or is dropped.
@@ -168,29 +162,30 @@ impl<O: Out> Chain<'_, O> {
         match self.try_put(seat, hand) {
             Tried::Dead(hand) => {
                 let (doing, msg, code) = self.drop_one(seat, hand);
-                Went::Dropped(
-                    WriteRight {
-                        sock: self.sock,
-                        last: self.last,
-                        doing,
-                    },
-                    msg,
-                    code,
-                )
+                let Chain {
+                    table: _,
+                    sock,
+                    last,
+                } = self;
+                Went::Dropped(WriteRight { sock, last, doing }, msg, code)
             }
             Tried::Whole(hand) => {
                 let doing = self.place(seat, hand);
-                Went::Further(WriteRight {
-                    sock: self.sock,
-                    last: self.last,
-                    doing,
-                })
+                let Chain {
+                    table: _,
+                    sock,
+                    last,
+                } = self;
+                Went::Further(WriteRight { sock, last, doing })
             }
-            Tried::Goes(doing) => Went::Further(WriteRight {
-                sock: self.sock,
-                last: self.last,
-                doing,
-            }),
+            Tried::Goes(doing) => {
+                let Chain {
+                    table: _,
+                    sock,
+                    last,
+                } = self;
+                Went::Further(WriteRight { sock, last, doing })
+            }
         }
     }
 
@@ -231,33 +226,38 @@ pub fn go_on<O: Out>(
         Doing::Puts(hand) => chain.put_or_drop(seat, hand),
         Doing::Waits(hand) => {
             let doing = chain.ask(seat, hand, backoff);
-            Went::Further(WriteRight {
-                sock: chain.sock,
-                last: chain.last,
-                doing,
-            })
+            let Chain {
+                table: _,
+                sock,
+                last,
+            } = chain;
+            Went::Further(WriteRight { sock, last, doing })
         }
         Doing::Next(link, now) => {
             let hand = chain.take_next(seat, link, now);
-            Went::Further(WriteRight {
-                sock: chain.sock,
-                last: chain.last,
-                doing: Doing::Puts(hand),
-            })
+            let Chain {
+                table: _,
+                sock,
+                last,
+            } = chain;
+            let doing = Doing::Puts(hand);
+            Went::Further(WriteRight { sock, last, doing })
         }
         Doing::Last(link) => chain.try_head(seat, link),
         Doing::Walks(number, top) => {
             let link = chain.fetch_link(seat, number);
-            Went::Further(WriteRight {
-                sock: chain.sock,
-                last: chain.last,
-                doing: Doing::Back(Walk {
-                    link,
-                    top,
-                    at: top,
-                    after: 0,
-                }),
-            })
+            let Chain {
+                table: _,
+                sock,
+                last,
+            } = chain;
+            let doing = Doing::Back(Walk {
+                link,
+                top,
+                at: top,
+                after: 0,
+            });
+            Went::Further(WriteRight { sock, last, doing })
         }
         Doing::Back(walk) => Went::Further(chain.walk_back(seat, walk, backoff)),
     }
