@@ -154,8 +154,8 @@ impl<O: Out> Chain<'_, O> {
     pub fn leave(self, seat: &mut SockSeat<O>, link: LinkInHand<O>) -> Once<O>
         requires seat { IsSeat self.table.now.rule.table.shared.table_id self.table.now.rule.plan seat.old }
         requires may { HasLink self.table.now.rule.plan self.table.now.rule.ways.list self.sock.id.0 self.last.0 Empties [] link seat.old.me }
-        ensures seat { IsSeat self.table.now.rule.table.shared.table_id self.table.now.rule.plan seat.new }
-        ensures once { OnceBy self.table.now.rule.plan self.table.now.rule.ways.list self.sock result seat.new.me }
+        ensures seat { IsSeat self.entry.table.now.rule.table.shared.table_id self.entry.table.now.rule.plan seat.new }
+        ensures once { OnceBy self.entry.table.now.rule.plan self.entry.table.now.rule.ways.list self.entry.sock result seat.new.me }
         ensures others { seat.new.me.0 ≡ record seat.old.me.0 { rights = seat.new.me.0.rights } }
     {
         let Chain { table, sock, last } = self;
@@ -283,8 +283,8 @@ impl<O: Out> Chain<'_, O> {
         requires seat { IsSeat self.table.now.rule.table.shared.table_id self.table.now.rule.plan seat.old }
         requires may { GoesBy self.table.now.rule.plan self.table.now.rule.ways.list self.sock.id.0 self.last.0 doing seat.old.me }
         requires last { IsLast doing }
-        ensures seat { IsSeat self.table.now.rule.table.shared.table_id self.table.now.rule.plan seat.new }
-        ensures once { OnceBy self.table.now.rule.plan self.table.now.rule.ways.list self.sock result seat.new.me }
+        ensures seat { IsSeat self.entry.table.now.rule.table.shared.table_id self.entry.table.now.rule.plan seat.new }
+        ensures once { OnceBy self.entry.table.now.rule.plan self.entry.table.now.rule.ways.list self.entry.sock result seat.new.me }
         ensures others { seat.new.me.0 ≡ record seat.old.me.0 { rights = seat.new.me.0.rights } }
     {
         let Doing::Last(link) = doing else {
