@@ -69,14 +69,16 @@ module _ (t : TableState) (items : List Seat) (readers : List ReaderData) (opens
 
     pub told_here : {t' : TableState} (z : Seat) {tick : Tick} → StepTold t t' i (seat_data y) (seat_data z) step tick → TickTold (view_of t items readers opens short) (view_of t' (slice_set items j z) readers opens short) i step tick
     told_here {t'} z {tick} h = record {
-      seat = n.seat;
-      at = n.at;
-      seat' = seat_data z;
-      seats = map-set seat_data items j z ∙ ap (λ k. slice_set (map seat_data items) k (seat_data z)) there;
+      seats = record {
+        one = n.seat;
+        at = n.at;
+        one' = seat_data z;
+        all = map-set seat_data items j z ∙ ap (λ k. slice_set (map seat_data items) k (seat_data z)) there;
+        told = subst (λ (s : SeatData). StepTold t t' i s (seat_data z) step tick) lies h;
+      };
       readers = refl;
       opens = refl;
       short = refl;
-      told = subst (λ (s : SeatData). StepTold t t' i s (seat_data z) step tick) lies h;
     }
 
 -- the seat gets room, and nothing else

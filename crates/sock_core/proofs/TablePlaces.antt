@@ -52,14 +52,16 @@ module _ (m : MachineState) (k j : ℕ) (there : j ≡ k) where
 
     pub read_told : (fresh : MachineState) (i : ℕ) (z : ReaderData) {tick : Tick} → fresh.readers ≡ slice_set m.readers j z → fresh.seats ≡ m.seats → fresh.opens ≡ m.opens → fresh.short ≡ m.short → ReadTold (table_of m) (table_of fresh) i x z step tick → TickRead m fresh i k step tick
     read_told fresh i z {tick} readers seats opens short h = record {
-      reader = n.reader;
-      at = n.at;
-      reader' = z;
-      readers = readers ∙ ap (λ n. slice_set m.readers n z) there;
+      readers = record {
+        one = n.reader;
+        at = n.at;
+        one' = z;
+        all = readers ∙ ap (λ n. slice_set m.readers n z) there;
+        told = subst (λ (r : ReaderData). ReadTold (table_of m) (table_of fresh) i r z step tick) lies h;
+      };
       seats = seats;
       opens = opens;
       short = short;
-      told = subst (λ (r : ReaderData). ReadTold (table_of m) (table_of fresh) i r z step tick) lies h;
     }
 
 -- as many as before

@@ -32,7 +32,7 @@ use Rattle.sock_core.specs.Links.{AreAlwaysReady, TellClosing, is_done}
 use Rattle.sock_core.specs.Machines.{MachineState, TableState, SameGivens, table_of}
 use Rattle.sock_core.specs.Runs.{SameLink, ShowsTaking}
 use Rattle.sock_core.specs.Steps.{AsMany, OutsAfter, FitsSlots, IsOfLinks, holders_after, beside}
-use Rattle.sock_core.specs.Telling.{Tells}
+use Rattle.sock_core.specs.Telling.{OneWent, Tells}
 
 -- ## Before a step
 
@@ -165,14 +165,11 @@ pub record ReadTold (old fresh : TableState) (i : ℕ) (reader reader' : ReaderD
 
 -- the reader of link k
 pub record TickRead (old fresh : MachineState) (i k : ℕ) (step : ReadStep) (tick : Tick) : Type 0 where
-  pub reader : ReaderData
-  pub at : get_elem? old.readers k ≡ core.some reader
-  pub reader' : ReaderData
-  pub readers : fresh.readers ≡ slice_set old.readers k reader'
+  pub readers : OneWent old.readers fresh.readers k (λ reader reader'. ReadTold (table_of old) (table_of fresh) i reader reader' step tick)
+  pub open readers use *
   pub seats : fresh.seats ≡ old.seats
   pub opens : fresh.opens ≡ old.opens
   pub short : fresh.short ≡ old.short
-  pub told : ReadTold (table_of old) (table_of fresh) i reader reader' step tick
 
 -- ## Where memory runs out
 
