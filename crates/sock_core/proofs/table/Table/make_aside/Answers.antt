@@ -24,8 +24,7 @@ next-next-requires g c =
     let aside = aside_steps.step_of asked c.args.step in
     let sizes = c.sizes-sizes.ensures ∙ ap (λ (p : IdPlan). sizes_of c.self.inside.plan p) (same_ids _ _ _ _ (c.step-found.ensures asked)) ∙ ap (λ (x : TableState). table_sizes x) c.self.view_is in
     let found = subst (λ (x : TableState). FoundBeside x seat c.args.step c.step-found.result) c.self.view_is ((c.step-found.ensures asked).finds [] [] c.self.inside.ending core.none) in
-    let m = may_next {t = t} c.sizes-sizes.result seat c.step-found.result sizes (c.requires.fits.1 c.step-found.result found) c.requires.stand.1 (goes_by_word (around (table_sizes t) seat) seat.point aside c.requires.next (finds_word asked c.args.step c.requires.kind)) in
-    record { within = m.within; ids = m.ids; word = m.word; aside = m.aside; link = m.link; told = m.told; step = m.step }
+    may_next {t = t} c.sizes-sizes.result seat c.step-found.result sizes (c.requires.fits.1 c.step-found.result found) c.requires.stand.1 (goes_by_word (around (table_sizes t) seat) seat.point aside c.requires.next (finds_word asked c.args.step c.requires.kind))
 
 pub follow-requires : goal.follow-requires
 follow-requires g c = record { room = λ o name id e. c.requires.room.0; more = inr c.requires.room.1 }

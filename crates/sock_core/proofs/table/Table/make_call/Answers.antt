@@ -22,8 +22,7 @@ next-next-requires g c =
     let call = step_of c.args.call in
     let sizes = c.sizes-sizes.ensures ∙ ap (λ (x : TableState). table_sizes x) c.self.view_is in
     let found = c.step_word-found.ensures.found ∙ ap (λ (ws : List ℕ). found_at ws (word_of c.self.inside.plan call)) c.deref_mut.ensures.value ∙ ap (λ (x : TableState). found_at x.words (word_of x.plan call)) c.self.view_is in
-    let m = may_next {t = t} c.sizes-sizes.result seat c.step_word-found.result sizes (subst (λ (n : ℕ). MayGoOn t seat n) (sym found) c.requires.fits.3) c.requires.stand.1 (goes_by_word (around (table_sizes t) seat) seat.point call c.requires.next) in
-    record { within = m.within; ids = m.ids; word = m.word; aside = m.aside; link = m.link; told = m.told; step = m.step }
+    may_next {t = t} c.sizes-sizes.result seat c.step_word-found.result sizes (subst (λ (n : ℕ). MayGoOn t seat n) (sym found) c.requires.fits.3) c.requires.stand.1 (goes_by_word (around (table_sizes t) seat) seat.point call c.requires.next)
 
 pub follow-requires : goal.follow-requires
 follow-requires g c =

@@ -27,8 +27,7 @@ next-next-requires g c =
     let t = c.args.self.now in
     let sizes = c.sizes-sizes.ensures ∙ ap (λ (p : IdPlan). sizes_of c.self.inside.plan p) (same_ids _ _ _ _ made) ∙ ap (λ (x : TableState). table_sizes x) c.self.view_is in
     let found = subst (λ (x : TableState). FoundBeside x seat (steps.PutCall c.args.slot) c.put_call-found.result) c.self.view_is (made.finds [] [] c.self.inside.ending core.none) in
-    let m = may_next {t = t} c.sizes-sizes.result seat c.put_call-found.result sizes (c.requires.fits.1 c.put_call-found.result found) c.requires.stand.1 (goes_by_word (around (table_sizes t) seat) seat.point aside c.requires.next tt) in
-    record { within = m.within; ids = m.ids; word = m.word; aside = m.aside; link = m.link; told = m.told; step = m.step }
+    may_next {t = t} c.sizes-sizes.result seat c.put_call-found.result sizes (c.requires.fits.1 c.put_call-found.result found) c.requires.stand.1 (goes_by_word (around (table_sizes t) seat) seat.point aside c.requires.next tt)
 
 pub follow-requires : goal.follow-requires
 follow-requires g c = record { room = λ o name id e. c.requires.room.0; more = inr c.requires.room.1 }

@@ -18,8 +18,7 @@ next-next-requires g c =
     let seat = seat_data c.args.place.now in
     let t = c.args.self.now in
     let sizes = c.sizes-sizes.ensures ∙ ap (λ (x : TableState). table_sizes x) c.self.view_is in
-    let m = may_next {t = t} c.sizes-sizes.result seat 0 sizes c.requires.fits.2 c.requires.stand.1 (goes_by_word (around (table_sizes t) seat) seat.point (calls.PutMessage c.args.request (heading_by c.args.author (parts_of seat.message)) (bytes_of seat.message)) c.requires.next) in
-    record { within = m.within; ids = m.ids; word = m.word; aside = m.aside; link = m.link; told = m.told; step = m.step }
+    may_next {t = t} c.sizes-sizes.result seat 0 sizes c.requires.fits.2 c.requires.stand.1 (goes_by_word (around (table_sizes t) seat) seat.point (calls.PutMessage c.args.request (heading_by c.args.author (parts_of seat.message)) (bytes_of seat.message)) c.requires.next)
 
 pub follow-requires : goal.follow-requires
 follow-requires g c =
