@@ -58,6 +58,12 @@ FitsRead t reader (steps.Call call) = let found = found_at t.words (word_of t.pl
     ((x : ℕ) → word_of t.plan (step_of call) ≡ core.some x → x < length t.words) × AllowsWord (step_of call) found × IsOfLinks t.plan.links (step_of call) × MayRead reader found
 FitsRead t reader (steps.Aside step) = let aside = aside_steps.step_of reader.asked step in FitsSlots t step × ((word : ℕ) → found_in aside (beside t) core.none ≡ word_found aside word → MayRead reader word)
 
+-- the next step of a reader of few calls, which fits the tables
+pub record IsFitRead (t : TableState) (reader : ReaderData) (step : ReadStep) : Type 0 where
+  pub calls : length t.calls ≤ 4096
+  pub next : IsNextRead t reader step
+  pub fits : FitsRead t reader step
+
 abbrev pub ReadFits : MachineState → ℕ → ReadStep → Type 0
 ReadFits m k step = (reader : ReaderData) → get_elem? m.readers k ≡ core.some reader → (length m.calls ≤ 4096) × FitsRead (table_of m) reader step
 
