@@ -84,8 +84,6 @@ module _ (s : SocketRun) (callless : is_callless s.script ≡ true) (places : Li
       orders = orders;
       tells = told_of_sockets;
       ends_told = ends_still ends given;
-      took = took;
-      told = told;
-      reported = its_words;
+      reported = (took, told, its_words);
       fits = (its_words.report, run.story, its_words.is_text, (fits_run all_given, complete));
     }

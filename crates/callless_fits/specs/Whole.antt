@@ -32,9 +32,7 @@ pub record IsWholeText (script : List Item) (text : List ℕ) (gave : ℕ → Li
   pub tells : ToldCalls (plan_of script) (all_tasks script) core.outcomes fixed gave orders core
   -- the links are those of this run: they took what is at home, gave what is said of them, and show where they failed
   pub ends_told : AreEndsOf script core fixed gave ends
-  -- what is reported that the links took
-  pub took : List (List ℕ)
-  pub told : AreTold ends took
-  pub reported : IsReportText script core.outcomes (place_words (plan_of script) core.words) took text
+  -- its outcomes and place words are reported, and with them what the links are said to have taken
+  pub reported : (took : List (List ℕ)) × AreTold ends took × IsReportText script core.outcomes (place_words (plan_of script) core.words) took text
   -- the report fits the script and them, with nothing late; and where nothing went wrong, and no link with the server gave anything, every send is placed
   pub fits : IsReportIn (λ run. FitsRun run × (AreSilentServed script ends → Completeness run)) script text ends nothing_late
