@@ -81,7 +81,11 @@ fn tell<R: Print>(rt: &R, asked: Asked, told: Told, nanos: u64) -> io::Result<u8
     let count = count_of(out.taken());
     drop(out);
     let is_sorted = asked.latency && times.sort().is_ok();
-    let sorted = if is_sorted { Some(times.as_slice()) } else { None };
+    let sorted = if is_sorted {
+        Some(times.as_slice())
+    } else {
+        None
+    };
     let said = print_told(rt, asked, count, nanos, sorted);
     drop(times);
     said

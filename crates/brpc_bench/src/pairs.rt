@@ -131,11 +131,7 @@ fn by_four<R: Threads + Sync>(
 }
 
 /// The socket stands under its name, and each thread has a seat.
-fn begun(
-    table: &Table,
-    mut seats: Vec<Seat>,
-    passes: Vec<Pass>,
-) -> Option<(Seat, Seat, Seat, Seat)>
+fn begun(table: &Table, mut seats: Vec<Seat>, passes: Vec<Pass>) -> Option<(Seat, Seat, Seat, Seat)>
     requires seats { AreNewSeats table.now.rule.table.shared.table_id table.now.rule.plan seats.items }
     requires passes { PassesFrom table.now.rule.table.shared.table_id table.now.rule.plan 0 passes.items }
     requires name { 0 < table.now.rule.plan.names }
