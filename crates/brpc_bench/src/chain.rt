@@ -50,10 +50,15 @@ fn turns_for<R: Clock>(rt: &R, nanos: u32) -> io::Result<u64> {
     Ok(u64::from(nanos) * SAMPLE / taken)
 }
 
-/// Prints what came of it; `nanos` is how long all of it took.
-fn tell<R: Print>(rt: &R, asked: Asked, told: Told, nanos: u64) -> io::Result<u8> {
-    let Told { out, mut times } = told;
-    let Some(count) = count_of(out.taken()) else {
+/// Prints what came of it; `nanos` is how long all of it took, and `times` how long each send, in rising order.
+fn print_told<R: Print>(
+    rt: &R,
+    asked: Asked,
+    count: Option<u64>,
+    nanos: u64,
+    times: Option<&[u64]>,
+) -> io::Result<u8> {
+    let Some(count) = count else {
         return Ok(1);
     };
     print_row(rt, &[asked.threads, asked.count], count, "messages")?;
@@ -61,16 +66,29 @@ fn tell<R: Print>(rt: &R, asked: Asked, told: Told, nanos: u64) -> io::Result<u8
         let rate = u128::from(count) * 1_000_000_000 / u128::from(nanos.max(1));
         print!(rt; " {rate} a second")?;
     }
-    if asked.latency && times.sort().is_ok() {
-        let (half, most, nearly) = (
-            time_at(&times, 500),
-            time_at(&times, 990),
-            time_at(&times, 999),
-        );
+    if let Some(times) = times {
+        let (half, most) = (time_at(times, 500), time_at(times, 990));
+        let nearly = time_at(times, 999);
         print!(rt; ", a send {half} {most} {nearly} ns")?;
     }
     println!(rt; "")?;
     Ok(0)
+}
+
+/// The same of what the threads left.
+fn tell<R: Print>(rt: &R, asked: Asked, told: Told, nanos: u64) -> io::Result<u8> {
+    let Told { out, mut times } = told;
+    let count = count_of(out.taken());
+    drop(out);
+    let is_sorted = asked.latency && times.sort().is_ok();
+    let sorted = if is_sorted {
+        Some(times.as_slice())
+    } else {
+        None
+    };
+    let said = print_told(rt, asked, count, nanos, sorted);
+    drop(times);
+    said
 }
 
 /// Runs the loop of a row, and tells what came of it.

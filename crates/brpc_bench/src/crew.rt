@@ -260,6 +260,20 @@ fn end(alloc: Global, table: Table, main: Seat, sent: AllSent) -> Option<Told>
     Some(Told { out, times })
 }
 
+/// The socket stands under its name: the seat that made it, and the threads, each of which found it.
+fn begun(table: &Table, mut seats: Vec<Seat>, passes: Vec<Pass>) -> Option<(Seat, Senders)>
+    requires seats { AreNewSeats table.now.rule.table.shared.table_id table.now.rule.plan seats.items }
+    requires passes { PassesFrom table.now.rule.table.shared.table_id table.now.rule.plan 0 passes.items }
+    requires name { 0 < table.now.rule.plan.names }
+    ensures main { IfSome result (λ r. IsSpent table.now.rule.table.shared.table_id table.now.rule.plan r.0) }
+    ensures senders { IfSome result (λ r. AreSenders table.now.rule.table.shared.table_id table.now.rule.plan r.1) }
+{
+    let first = one_of(table, &mut seats)?;
+    let main = born(table, first, passes)?;
+    let senders = senders_of(table, seats)?;
+    Some((main, senders))
+}
+
 /// So many sends by each of 1, 2 or 4 threads, through a table of so many requests, over a link with this room.
 pub fn on_threads<R: Threads + Wait + Clock + Sync>(
     rt: &R,
@@ -274,12 +288,13 @@ pub fn on_threads<R: Threads + Wait + Clock + Sync>(
     }
     let Made {
         table,
-        mut seats,
+        seats,
         passes,
     } = begin(alloc, room, load.turns, requests)?;
-    let first = one_of(&table, &mut seats)?;
-    let main = born(&table, first, passes)?;
-    let senders = senders_of(&table, seats)?;
+    let Some((main, senders)) = begun(&table, seats, passes) else {
+        drop(table);
+        return None;
+    };
     let sent = by_all(rt, alloc, &table, senders, threads, load);
     end(alloc, table, main, sent)
 }

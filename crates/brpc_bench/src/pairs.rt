@@ -130,6 +130,25 @@ fn by_four<R: Threads + Sync>(
     a.wrapping_add(b)
 }
 
+/// The socket stands under its name, and each thread has a seat.
+fn begun(table: &Table, mut seats: Vec<Seat>, passes: Vec<Pass>) -> Option<(Seat, Seat, Seat, Seat)>
+    requires seats { AreNewSeats table.now.rule.table.shared.table_id table.now.rule.plan seats.items }
+    requires passes { PassesFrom table.now.rule.table.shared.table_id table.now.rule.plan 0 passes.items }
+    requires name { 0 < table.now.rule.plan.names }
+    ensures one { IfSome result (λ r. IsDoneSeat table.now.rule.table.shared.table_id table.now.rule.plan r.0) }
+    ensures two { IfSome result (λ r. IsDoneSeat table.now.rule.table.shared.table_id table.now.rule.plan r.1) }
+    ensures three { IfSome result (λ r. IsDoneSeat table.now.rule.table.shared.table_id table.now.rule.plan r.2) }
+    ensures four { IfSome result (λ r. IsDoneSeat table.now.rule.table.shared.table_id table.now.rule.plan r.3) }
+{
+    let first = one_of(table, &mut seats)?;
+    open(table, first, passes)?;
+    let one = one_of(table, &mut seats)?;
+    let two = one_of(table, &mut seats)?;
+    let three = one_of(table, &mut seats)?;
+    let four = one_of(table, &mut seats)?;
+    Some((one, two, three, four))
+}
+
 /// By 1, 2 or 4 threads, so many pairs by each: how many references were got.
 pub fn on_threads<R: Threads + Sync>(
     rt: &R,
@@ -139,15 +158,13 @@ pub fn on_threads<R: Threads + Sync>(
 ) -> Option<u64> {
     let Made {
         table,
-        mut seats,
+        seats,
         passes,
     } = begin(alloc)?;
-    let first = one_of(&table, &mut seats)?;
-    open(&table, first, passes)?;
-    let one = one_of(&table, &mut seats)?;
-    let two = one_of(&table, &mut seats)?;
-    let three = one_of(&table, &mut seats)?;
-    let four = one_of(&table, &mut seats)?;
+    let Some((one, two, three, four)) = begun(&table, seats, passes) else {
+        drop(table);
+        return None;
+    };
     match threads {
         1 => Some(pairs(&table, one, count)),
         2 => Some(by_two(rt, &table, one, two, count)),

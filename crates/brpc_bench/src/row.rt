@@ -25,12 +25,7 @@ pub fn print_row<R: Print>(rt: &R, asked: &[u32], done: u64, what: &str) -> io::
 }
 
 /// The same as a whole line, where there was memory for the loop. It answers the status of the program.
-pub fn tell_row<R: Print>(
-    rt: &R,
-    asked: &[u32],
-    done: Option<u64>,
-    what: &str,
-) -> io::Result<u8> {
+pub fn tell_row<R: Print>(rt: &R, asked: &[u32], done: Option<u64>, what: &str) -> io::Result<u8> {
     let Some(done) = done else {
         return Ok(NO_MEMORY);
     };

@@ -1,35 +1,32 @@
 -- The report of a run of a script without calls fits, by what is told of its sockets, whatever its links gave.
-use Rattle.std.proofs.Common.{◌≡◌, ℕ, true, false, List, length, slice_get, Option, Some, Ok, refl, sym, ap, ◌∙◌, subst}
-use Rattle.sock_words.specs.declared.outcome.Outcome.{Outcome}
+use Rattle.std.proofs.Common.{◌≡◌, ℕ, true, false, List, slice_get, Some, sym, ap, ◌∙◌, subst}
 use Rattle.sock_words.specs.declared.place_word.PlaceWord.{PlaceWord}
-use Rattle.brpc_model.specs.Items.{Item, Call, CallLine}
+use Rattle.brpc_model.specs.Items.{Call, CallLine}
 use Rattle.brpc_model.specs.Link.{LinkEnd}
 use Rattle.brpc_model.specs.Operations.{Operation, operations}
 use Rattle.brpc_model.specs.Run.{Run, nothing_late}
-use Rattle.brpc_model.specs.Fits.{FitsRun, Reports as IsReportIn}
-use Rattle.brpc_model.specs.Script.{script_of}
-use Rattle.brpc_model.specs.PlaceWords.{IsReportOf, IsReportText, HasEachOutcome}
+use Rattle.brpc_model.specs.PlaceWords.{IsReportText, HasEachOutcome}
 use Rattle.brpc_model.specs.Complete.{Completeness}
 use Rattle.seat_programs.specs.Cores.{Core}
-use Rattle.seat_programs.specs.Scripts.{Reports, all_tasks, is_callless, is_later, place_words}
+use Rattle.seat_programs.specs.Scripts.{all_tasks, is_callless, is_later, place_words}
 use Rattle.seat_programs.specs.Tasks.{plan_of}
-use Rattle.seat_programs.specs.ToldCalls.{Fixed, Order, ToldCalls}
+use Rattle.seat_programs.specs.ToldCalls.{Fixed, ToldCalls}
 use Rattle.report_fits.specs.Ends.{AreTold, IsEndOf, AreEndsOf}
 use Rattle.report_fits.proofs.Callless.{not_later}
 use Rattle.report_fits.proofs.Fitting.{fits_run}
 use Rattle.report_fits.proofs.Lines.{Given}
 use Rattle.report_fits.proofs.Numbering.{are_from}
 use Rattle.report_fits.proofs.Places.{known_of}
-use Rattle.sock_deeds.specs.Told.{fixed_by, ToldSockets}
+use Rattle.sock_deeds.specs.Told.{fixed_by}
 use Rattle.callless_fits.specs.Whole.{IsWholeText, AreSilentServed}
-use Rattle.callless_fits.proofs.Sends.{ToldRun, sends_done}
+use Rattle.callless_fits.proofs.Sends.{SocketRun, ToldRun, sends_done}
 use Rattle.callless_fits.proofs.Silent.{none_early}
 use Rattle.callless_fits.proofs.Socketed.{of_sockets}
 use Rattle.callless_fits.proofs.Telling.{core_with, told_callless}
 
-module _ (bytes : List ℕ) (script : List Item) (reads : script_of bytes ≡ Ok script) (callless : is_callless script ≡ true) (outcomes : List (Option Outcome)) (places : List PlaceWord) (broken early : List ℕ) (fails : List (ℕ × ℕ)) (gave : ℕ → List ℕ) (orders : ℕ → Order) (core : Core)
-    (long : length outcomes ≡ length (operations script)) (words : place_words (plan_of script) core.words ≡ places) (each : HasEachOutcome places outcomes)
-    (tells : ToldSockets (plan_of script) (all_tasks script) outcomes (fixed_by broken early fails) gave orders core) where
+module _ (s : SocketRun) (callless : is_callless s.script ≡ true) (places : List PlaceWord) (words : place_words (plan_of s.script) s.core.words ≡ places) (each : HasEachOutcome places s.outcomes) where
+  open s use {bytes, script, reads, outcomes, broken, early, fails, gave, orders, core, long, tells}
+
   abbrev fixed : Fixed
   fixed = fixed_by broken early fails
 
@@ -50,39 +47,28 @@ module _ (bytes : List ℕ) (script : List Item) (reads : script_of bytes ≡ Ok
   no_call i op call there item = (let later : true ≡ false = ap is_later (sym item) ∙ not_later script callless op.item (are_from 0 1 script i op there).there in cc)
 
   module _ (text : List ℕ) (took : List (List ℕ)) (ends : List LinkEnd) (reported : IsReportText script outcomes places took text) (told : AreTold ends took) (given : AreEndsOf script core fixed gave ends) where
-    reports : Reports script last_core took reported.report
-    reports = subst (λ (l : List PlaceWord). IsReportOf script outcomes l took reported.report) (sym words) reported.told
+    its_words : IsReportText script outcomes (place_words (plan_of script) core.words) took text
+    its_words = subst (λ (l : List PlaceWord). IsReportText script outcomes l took text) (sym words) reported
 
     abbrev all_given : Given
-    all_given = record { run = known_of bytes script reads last_core fixed gave orders long told_of_sockets; report = reported.report; took = took; ends = ends; reports = reports; told = told; given = ends_still ends given }
+    all_given = record { run = known_of bytes script reads last_core fixed gave orders long told_of_sockets; report = its_words.report; took = took; ends = ends; reports = its_words.told; told = told; given = ends_still ends given }
 
     abbrev told_run : ToldRun
     told_run = record {
-      bytes = bytes;
-      script = script;
-      reads = reads;
-      outcomes = outcomes;
-      broken = broken;
-      early = early;
-      fails = fails;
-      gave = gave;
-      orders = orders;
-      core = core;
-      long = long;
-      tells = tells;
+      sockets = s;
       last = told_of_sockets.last;
       few = λ client t asked is op. (told_of_sockets.again client t asked is op).0;
       sent = told_of_sockets.sent;
       opens = λ client t slot version k is became. of_sockets script callless outcomes client t is;
       took = took;
-      report = reported.report;
-      told = reports;
+      report = its_words.report;
+      told = its_words.told;
       ends = ends;
       given = given;
     }
 
     abbrev run : Run
-    run = record { script = script; report = reported.report; ends = ends; late = nothing_late; story = record { fails = fails; gave = gave; last = told_of_sockets.last } }
+    run = record { script = script; report = its_words.report; ends = ends; late = nothing_late; story = record { fails = fails; gave = gave; last = told_of_sockets.last } }
 
     complete : AreSilentServed script ends → Completeness run
     complete silent calm = record {
@@ -97,12 +83,7 @@ module _ (bytes : List ℕ) (script : List Item) (reads : script_of bytes ≡ Ok
       fixed = fixed;
       orders = orders;
       tells = told_of_sockets;
-      took = took;
-      told = told;
-      report = reported.report;
-      reports = reports;
-      is_text = reported.is_text;
       ends_told = ends_still ends given;
-      fits = subst (λ (l : List ℕ). IsReportIn (λ run. FitsRun run × (AreSilentServed script ends → Completeness run)) script l ends nothing_late) (sym reported.is_text)
-          (reported.report, run.story, refl, (fits_run all_given, complete));
+      reported = (took, told, its_words);
+      fits = (its_words.report, run.story, its_words.is_text, (fits_run all_given, complete));
     }

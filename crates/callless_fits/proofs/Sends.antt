@@ -37,8 +37,8 @@ use Rattle.report_fits.proofs.Sizes.{is_counted, keeps_limits}
 use Rattle.report_fits.proofs.TaskLemmas.{numbers_at, asks_at, asked_at, task_is, operation_task, open_asks, send_asks, call_asks, fail_asks, named_at}
 use Rattle.sock_deeds.specs.Told.{fixed_by, IsOfSockets, ToldSockets}
 
--- what is told of the sockets of a run of a script that was read, of the attempts of its calls, and by its report, over the links that were given back
-pub record ToldRun : Type 0 where
+-- what is told of the sockets of a run of a script that was read
+pub record SocketRun : Type 0 where
   pub bytes : List ℕ
   pub script : List Item
   pub reads : script_of bytes ≡ Ok script
@@ -51,6 +51,11 @@ pub record ToldRun : Type 0 where
   pub core : Core
   pub long : length outcomes ≡ length (operations script)
   pub tells : ToldSockets (plan_of script) (all_tasks script) outcomes (fixed_by broken early fails) gave orders core
+
+-- and of the attempts of its calls, and by its report, over the links that were given back
+pub record ToldRun : Type 0 where
+  pub sockets : SocketRun
+  pub open sockets use *
   -- no call made more attempts than it may, and each message that a link accepted is that of a `send` of which nothing is said, or of such an attempt
   pub last : ℕ → ℕ
   pub few : (client : ℕ) (t : Task) (asked : Asked) → IsTask (all_tasks script) outcomes client t → t.op ≡ ops.Call asked → last t.number + 2 ≤ asked.range

@@ -4,12 +4,12 @@ use Rattle.std.specs.List.{AllByRecursion}
 use Rattle.brpc_model.specs.Items.{Item, Shape}
 use Rattle.brpc_model.specs.Operations.{link_shapes}
 use Rattle.brpc_model.specs.Link.{LinkEnd}
-use Rattle.brpc_model.specs.Report.{Report, report_text}
+use Rattle.brpc_model.specs.PlaceWords.{IsReportText}
 use Rattle.brpc_model.specs.Run.{nothing_late}
 use Rattle.brpc_model.specs.Fits.{FitsRun, Reports as IsReportIn}
 use Rattle.brpc_model.specs.Complete.{Completeness}
 use Rattle.seat_programs.specs.Cores.{Core}
-use Rattle.seat_programs.specs.Scripts.{Reports, all_tasks}
+use Rattle.seat_programs.specs.Scripts.{all_tasks, place_words}
 use Rattle.seat_programs.specs.Tasks.{plan_of}
 use Rattle.seat_programs.specs.ToldCalls.{Fixed, Order, ToldCalls}
 use Rattle.report_fits.specs.Ends.{AreTold, AreEndsOf}
@@ -30,13 +30,9 @@ pub record IsWholeText (script : List Item) (text : List ℕ) (gave : ℕ → Li
   -- what each link accepted, and how many messages it took whole
   pub orders : ℕ → Order
   pub tells : ToldCalls (plan_of script) (all_tasks script) core.outcomes fixed gave orders core
-  -- what is reported that the links took
-  pub took : List (List ℕ)
-  pub told : AreTold ends took
-  pub report : Report
-  pub reports : Reports script core took report
-  pub is_text : text ≡ report_text script report
   -- the links are those of this run: they took what is at home, gave what is said of them, and show where they failed
   pub ends_told : AreEndsOf script core fixed gave ends
+  -- its outcomes and place words are reported, and with them what the links are said to have taken
+  pub reported : (took : List (List ℕ)) × AreTold ends took × IsReportText script core.outcomes (place_words (plan_of script) core.words) took text
   -- the report fits the script and them, with nothing late; and where nothing went wrong, and no link with the server gave anything, every send is placed
   pub fits : IsReportIn (λ run. FitsRun run × (AreSilentServed script ends → Completeness run)) script text ends nothing_late

@@ -33,6 +33,7 @@ pub mod Delivered
 pub mod Ordered
 pub mod Senders
 pub mod Messages
+pub mod Worlds
 pub mod Told
 pub mod Openings
 pub mod Lifted

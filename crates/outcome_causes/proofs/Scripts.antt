@@ -18,10 +18,10 @@ use Rattle.seat_programs.specs.Drops.{MadeIn}
 use Rattle.seat_programs.specs.Told.{AreTasks, TaskFits}
 use Rattle.brpc_model.specs.Places.{names}
 use Rattle.brpc_model.specs.Operations.{clients}
-use Rattle.sock_runs.specs.Sound.{views_along}
+use Rattle.sock_runs.specs.Sound.{Sound, views_along}
 use Rattle.sock_runs.proofs.LinkTicks.{RetriesGo}
 use Rattle.sock_runs.proofs.Along.{seat_rests}
-use Rattle.sock_runs.proofs.Whole.{Begins, AreFittingIn, IsOwed, closing_of, views_played, views_closed, views_ended, set_up_answered, end_answered, rested_ahead, rested_idle, closing_sound, closed_sound, ended_sound, end_rests}
+use Rattle.sock_runs.proofs.Whole.{Begins, AreFittingIn, IsOwed, closing_of, rested_of, views_played, views_closed, views_ended, set_up_answered, end_answered, rested_ahead, rested_idle, closing_sound, closed_sound, ended_sound, end_rests}
 use Rattle.sock_model.specs.Links.{Failed}
 use Rattle.sock_runs.specs.Sound.{state}
 use Rattle.outcome_causes.specs.Stories.{Event, In}
@@ -69,6 +69,31 @@ pub own_from : (script : List Item) (client n : ℕ) → AllByRecursion (AllByRe
 own_from script client zero = tt
 own_from script client (suc n) = (own_all (numbered script) (names script) (of_client client (numbered script)), own_from script (client + 1) n)
 
+-- ## Its stories
+
+module _ (script : List Item) (are : AreTasks (plan_of script) (all_tasks script)) (vs : List View) (begins : Begins script vs) where
+  seats_told : AreTasks (plan_of script) (told_tasks_of script)
+  seats_told = are_seats (plan_of script) (all_tasks script) are (length (opens script))
+
+  -- at first nothing has happened
+  pub story_opened : ((i : ℕ) (v : View) → get_elem? vs i ≡ some v → v.lists ≡ [] ∷ []) → Story (plan_of script) (told_tasks_of script) false (opened script) vs [] []
+  story_opened fresh = start_story (plan_of script) (id_plan_of script) (told_tasks_of script) seats_told _ (all_explained (plan_of script) (all_tasks script) are (length (opens script)) (id_plan_of script) (own_from script 0 (clients script + 1)) (calls script) (opens script) refl) vs fresh begins.sound
+
+  module _ (go : RetriesGo (plan_of script)) (turns : List Turn) (core : Core) (is : IsRunWithCalls script turns core) (fitting : AreFittingIn script turns core is) (es : List Event) (lost : List ℕ) where
+    -- seat 0 begins the ending
+    pub story_closing : Sound (plan_of script) (rested_of script turns core is) (views_played script turns core is vs) → Story (plan_of script) (told_tasks_of script) true (rested_of script turns core is) (views_played script turns core is vs) es lost
+        → Story (plan_of script) (told_tasks_of script) true (closing_of script turns core is) (views_played script turns core is vs) es lost
+    story_closing sound story = let c : Core = rested_of script turns core is in
+        let seat = at_there c.seats 0 (omega (arith, story.each, seats_told.some_)) in let v = at_there (views_played script turns core is vs) 0 (omega (arith, sound.each, story.each, seats_told.some_)) in
+        ending_story (plan_of script) (told_tasks_of script) seats_told c (views_played script turns core is vs) es lost (opens script) sound story seat.0 v.0 seat.1
+        (seat_rests c (rested_ahead script are vs begins go turns core is fitting) 0 (rested_idle script are vs begins go turns core is fitting) seat.0 seat.1) v.1
+
+    -- and has made it
+    pub story_ended : Story (plan_of script) (told_tasks_of script) true (run (plan_of script) (closing_of script turns core is) (replicate is.last (quiet 0))) (views_closed script turns core is vs) es lost
+        → Story (plan_of script) (told_tasks_of script) true is.ended (views_closed script turns core is vs) es lost
+    story_ended story = subst (λ c. Story (plan_of script) (told_tasks_of script) true c (views_closed script turns core is vs) es lost) (sym is.is_ended)
+        (is_ending_story (plan_of script) (told_tasks_of script) seats_told (run (plan_of script) (closing_of script turns core is) (replicate is.last (quiet 0))) (views_closed script turns core is vs) es lost story)
+
 -- ## The run
 
 -- the links that were lost in a run: they answered that they failed, or readers or the ending closed their sockets
@@ -94,12 +119,7 @@ module _ (script : List Item) (are : AreTasks (plan_of script) (all_tasks script
   seats = are_seats (plan_of script) (all_tasks script) are (length (opens script))
 
   pub first : IsStoried (plan_of script) (told_tasks_of script) seats false (opened script) vs
-  first = record {
-    events = [];
-    lost = [];
-    sound = begins.sound;
-    story = start_story (plan_of script) (id_plan_of script) (told_tasks_of script) seats _ (all_explained (plan_of script) (all_tasks script) are (length (opens script)) (id_plan_of script) (own_from script 0 (clients script + 1)) (calls script) (opens script) refl) vs fresh begins.sound;
-  }
+  first = record { events = []; lost = []; sound = begins.sound; story = story_opened script are vs begins fresh }
 
   abbrev pub views_set : List View
   views_set = views_along (plan_of script) (opened script) vs (replicate is.setup (quiet 0))
@@ -116,14 +136,12 @@ module _ (script : List Item) (are : AreTasks (plan_of script) (all_tasks script
 
   -- seat 0 begins the ending
   pub closing_told : IsStoried (plan_of script) (told_tasks_of script) seats true (closing_of script turns core is) (views_played script turns core is vs)
-  closing_told = let t = played_told.after in let c : Core = played script is.setup (is.scheduled ++ is.later) in
-      let seat = at_there c.seats 0 (omega (arith, t.story.each, seats.some_)) in let v = at_there (views_played script turns core is vs) 0 (omega (arith, t.sound.each, t.story.each, seats.some_)) in record {
-        events = t.events;
-        lost = t.lost;
-        sound = closing_sound script are vs begins go turns core is fitting;
-        story = ending_story (plan_of script) (told_tasks_of script) seats c (views_played script turns core is vs) t.events t.lost (opens script) t.sound t.story seat.0 v.0 seat.1
-            (seat_rests c (rested_ahead script are vs begins go turns core is fitting) 0 (rested_idle script are vs begins go turns core is fitting) seat.0 seat.1) v.1;
-      }
+  closing_told = let t = played_told.after in record {
+    events = t.events;
+    lost = t.lost;
+    sound = closing_sound script are vs begins go turns core is fitting;
+    story = story_closing script are vs begins go turns core is fitting t.events t.lost t.sound t.story;
+  }
 
   closed_told : Goes (plan_of script) (told_tasks_of script) seats true (replicate is.last (quiet 0)) (closing_of script turns core is) (views_played script turns core is vs) closing_told
   closed_told = seats_run (plan_of script) (told_tasks_of script) seats go (replicate is.last (quiet 0)) (closing_of script turns core is) (views_played script turns core is vs) (end_answered script are vs begins go turns core is fitting) fitting.of_closing closing_told
@@ -134,8 +152,7 @@ module _ (script : List Item) (are : AreTasks (plan_of script) (all_tasks script
     events = t.events;
     lost = t.lost;
     sound = closed_sound script are vs begins go turns core is fitting;
-    story = subst (λ c. Story (plan_of script) (told_tasks_of script) true c (views_closed script turns core is vs) t.events t.lost) (sym is.is_ended)
-        (is_ending_story (plan_of script) (told_tasks_of script) seats (run (plan_of script) (closing_of script turns core is) (replicate is.last (quiet 0))) (views_closed script turns core is vs) t.events t.lost t.story);
+    story = story_ended script are vs begins go turns core is fitting t.events t.lost t.story;
   }
 
   pub final_told : Goes (plan_of script) (told_tasks_of script) seats true is.final is.ended (views_closed script turns core is vs) ended_told

@@ -1,6 +1,6 @@
 -- Where no seat has anything left to do, the story tells why each task has its outcome, and what links accepted.
 use Rattle.std.proofs.Common.{◌≡◌, ◌≢◌, ℕ, ◌+◌, ◌-◌, ◌%◌, ◌<◌, ◌⊎◌, Bool, true, false, List, inl, inr, ⊎_elim, sym, refl, ap, ◌∙◌, subst, arith}
-use Rattle.std.specs.Prelude.{Option, Some, None, slice_get, slice_index, Contains}
+use Rattle.std.specs.Prelude.{Option, Some, None, slice_get, Contains}
 use Rattle.std.proofs.lemmas.List.{length-map}
 use mathlib.Core.Option.{some}
 use lib.ListN.{get_elem?}
@@ -12,25 +12,19 @@ use Rattle.sock_model.specs.declared.chain.Entry.{Entry}
 use Rattle.sock_model.specs.declared.chain.Heading.{Heading}
 use Rattle.sock_model.specs.declared.view.View.{View}
 use Rattle.sock_model.specs.Entries.{on}
-use Rattle.sock_model.specs.Layout.{request_index}
 use Rattle.sock_model.specs.Links.{Failed}
-use Rattle.sock_model.specs.Slots.{SlotLaw, live}
-use Rattle.sock_model.specs.References.{slot_facts}
-use Rattle.sock_runs.specs.slot_steps.proofs.Clauses.{taken_for}
-use Rattle.sock_runs.specs.slot_steps.proofs.Numbers.{life_le}
 use Rattle.seat_programs.specs.declared.task.Task.{Task}
-use Rattle.seat_programs.specs.Calls.{Call, SubRef, Recycle, SetOdd, ClaimRequest, LoadName}
+use Rattle.seat_programs.specs.Calls.{Call, SubRef, Recycle, SetOdd, LoadName}
 use Rattle.seat_programs.specs.Cores.{Core}
 use Rattle.seat_programs.specs.declared.task.Op.{Op}
 use Rattle.seat_programs.specs.declared.task.Op.TheVariants as ops
 use Rattle.seat_programs.specs.Told.{AreTasks, IsOpen, IsTask, Became, Made, IsFail}
 use Rattle.seat_programs.specs.ToldCalls.{Accepted, Order, StandsAt}
-use Rattle.sock_runs.specs.GoesOn.{GoesOn, HasNothing}
 use Rattle.sock_runs.specs.Sound.{state, Sound, AllRest}
 use Rattle.outcome_causes.specs.Stories.{Event, In, trace_of}
 use Rattle.outcome_causes.specs.Explains.{step, Because, Explained, WonRecycling, GaveBackOnly}
 use Rattle.outcome_causes.specs.Causes.{Asks, WasGiven, WasFailed}
-use Rattle.outcome_causes.specs.Kept.{is_of_send, IsSpoken, StaysUsed, Story}
+use Rattle.outcome_causes.specs.Kept.{is_of_send, IsSpoken, Story}
 use Rattle.outcome_causes.specs.TaskCauses.{ToldTasks, DropsMade, IsSent, InOwnOrder}
 use Rattle.std.specs.List.{filter}
 use Rattle.std.specs.Prelude.{cond}
@@ -38,50 +32,30 @@ use Rattle.std.proofs.Common.{suc, [], ◌∷◌}
 use Rattle.outcome_causes.proofs.Members.{all_of, in_contains, from_trace, get_within}
 use Rattle.outcome_causes.proofs.Tasks.{one_task, setup_opens, same_some}
 use Rattle.outcome_causes.proofs.Sending.{Within}
-use Rattle.outcome_causes.proofs.Broken.{good_more}
 use Rattle.outcome_causes.proofs.Events.{event, BeforeIn, marked_fail, cause_of}
-use Rattle.outcome_causes.proofs.Final.{Final, IsMessage, sends, at_there, at_within, idle, final}
+use Rattle.outcome_causes.proofs.Final.{Final, IsMessage, sends, at_there, final}
 use Rattle.outcome_causes.proofs.Lives.{World, task_of, asks_of, named_life, one_life, given_made, given_later, link_means, fail_is}
 use Rattle.outcome_causes.proofs.Fails.{Gathered, IsSender, gather}
 use Rattle.outcome_causes.proofs.Whys.{Timely, why_told}
-use Rattle.outcome_causes.proofs.Delivered.{accepted_of, orders_of, AreQuiet, places_all, requests_used, dropped_failed}
+use Rattle.outcome_causes.proofs.Delivered.{accepted_of, orders_of, AreQuiet, places_all, dropped_failed}
 use Rattle.outcome_causes.proofs.Senders.{HasSent, all_sent, each_before, sent_stands}
+use Rattle.outcome_causes.proofs.Worlds.{quiet, world_of}
 use Rattle.outcome_causes.proofs.Messages.{number_of, each_made, message_of, call_of, sooner}
 
 -- links that were lost are among these
 module _ (p : Plan) (clients : List (List Task)) (are : AreTasks p clients) (over : Bool) (c : Core) (vs : List View) (es : List Event) (failed broken : List ℕ) (within : Within failed broken) (sound : Sound p c vs) (story : Story p clients over c vs es failed) (settled : AllRest c)
     (few : List ℕ) (late : ℕ → Type 0) (timely : Timely p clients c.outcomes es few late) where
-  law : (j : ℕ) → j < p.slots → SlotLaw p.first (live (slot_facts (state c vs) j)) (slot_facts (state c vs) j)
-  law j l = sound.lawful.references.slots j l
-
   abbrev orders : ℕ → Order
   orders = orders_of p c vs sound.lawful
 
-  pub quiet : AreQuiet vs
-  quiet i v at = let seat = at_there c.seats i (omega (arith, at_within vs i v at, sound.each)) in
-      let n : HasNothing v = subst (GoesOn p v) (settled i seat.0 seat.1) (sound.seats i seat.0 v seat.1 at).goes_on in n.quiet
+  abbrev all_quiet : AreQuiet vs
+  all_quiet = quiet p c vs sound settled
 
-  each_final : (i : ℕ) (t : Task) → Asks clients i t → Final p.slots p.requests clients es c.outcomes i t
-  each_final i t a = final p clients are over c vs es failed sound story settled i t a
+  abbrev each_final : (i : ℕ) (t : Task) → Asks clients i t → Final p.slots p.requests clients es c.outcomes i t
+  each_final = final p clients are over c vs es failed sound story settled
 
-  -- a request that was found claimed was used
-  word_used : (q i u id found : ℕ) → In (event i u (ClaimRequest id q) found) es → found % 2 ≡ 1 → slice_index c.words (request_index p q) ≢ 0
-  word_used q i u id found m odd = let x : StaysUsed p c.words (step (ClaimRequest id q) found) = story.used (event i u (ClaimRequest id q) found) m in let y = (x odd).1 in λ e. omega (arith, y, e)
-
-  world : World p clients c.outcomes broken orders es
-  world = record {
-    are = are;
-    few = sound.limits.slots;
-    good = good_more p clients failed broken within es story.good;
-    final = each_final;
-    born_once = λ j l h. omega (arith, story.births j l h, (law j l).born h, life_le p.first h ((slot_facts (state c vs) j).version + live (slot_facts (state c vs) j)));
-    failed_once = λ j l h. omega (arith, story.fails j l h, (law j l).failed h, life_le p.first h (slot_facts (state c vs) j).version);
-    tried_born = λ j l t. let a = story.tries j l in
-        ⊎_elim (λ claimed. let b = idle p clients are over c vs es failed sound story settled j in absurd (omega arith))
-        (λ born. omega (arith, story.births j l p.first, born))
-        (taken_for p.first (slot_facts (state c vs) j) (law j l) sound.lawful.fits.even (omega arith));
-    full = λ h. requests_used p c vs sound.lawful quiet (λ q l. let x = h q l in word_used q x.0 x.1 x.2 x.3 x.4 x.5);
-  }
+  abbrev world : World p clients c.outcomes broken orders es
+  world = world_of p clients are over c vs es failed broken within sound story settled
 
   all_fails : Gathered p clients c.outcomes broken orders es world es
   all_fails = gather p clients c.outcomes broken orders es world es world.good (λ x m. m)
@@ -182,7 +156,7 @@ module _ (p : Plan) (clients : List (List Task)) (are : AreTasks p clients) (ove
   -- each task has its outcome or its message was accepted, each outcome its cause, and each message its link
   pub told_tasks : ToldTasks clients c.outcomes p orders broken few late
   told_tasks = record {
-    within = λ k kl. omega (arith, sound.lawful.delivered.kept_fits k kl, places_all p c vs sound.lawful quiet k kl, length-map (on k sound.lawful.log) accepted_of);
+    within = λ k kl. omega (arith, sound.lawful.delivered.kept_fits k kl, places_all p c vs sound.lawful all_quiet k kl, length-map (on k sound.lawful.log) accepted_of);
     told = told_or_sent;
     fails = all_fails.fails;
     are = all_of (IsFail clients c.outcomes) all_fails.fails (λ f m. fail_is p clients c.outcomes broken orders es world f (all_fails.are f m));
@@ -191,7 +165,7 @@ module _ (p : Plan) (clients : List (List Task)) (are : AreTasks p clients) (ove
     why = λ i t outcome is became. why_told p clients c.outcomes broken orders es world all_fails few late timely i t (asks_of p clients c.outcomes broken orders es world i t is) outcome became;
     sent = λ k kl. all_sent p c vs sound.lawful (each_made p clients are over c vs es failed sound story settled) (λ (a : Accepted). IsSent clients c.outcomes k a ⊎ IsSpoken clients a.operation) k (sent_or_call k);
     own_order = λ k kl. each_before p c vs sound.lawful (each_made p clients are over c vs es failed sound story settled) (InOwnOrder clients c.outcomes) k own_before other_before;
-    dropped = λ k kl less. link_failed k (dropped_failed p c vs sound.lawful quiet k kl (omega (arith, less, length-map (on k sound.lawful.log) accepted_of)));
+    dropped = λ k kl less. link_failed k (dropped_failed p c vs sound.lawful all_quiet k kl (omega (arith, less, length-map (on k sound.lawful.log) accepted_of)));
   }
 
   -- ## Links that failed in time

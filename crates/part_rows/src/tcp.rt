@@ -1,4 +1,4 @@
-ghost use Rattle.std.specs.Prelude.{◌≡◌, ◌<◌, ◌≤◌, IfOk, length};
+ghost use Rattle.std.specs.Prelude.{◌≡◌, ◌<◌, ◌≤◌, [], IfOk, length};
 
 use crate::halves::{end_of, put_on, take_of};
 use net_link::{TcpLinker, read_some, write_some};
@@ -56,13 +56,12 @@ fn hear_over<O: Out, I: In>(out: &mut O, inn: &mut I) -> Heard {
 }
 
 // Accepts a connection and hears what comes over it.
-fn hear<N: Net<Stream = TcpStream, Listener = TcpListener>>(
-    net: &N,
-    alloc: Global,
-    port: u16,
-) -> Option<Heard> {
-    let mut links = TcpLinker::new(net, alloc);
-    let (mut out, mut inn) = links.accept(port).ok()?;
+fn hear<L: Linker>(links: &mut L, port: u16) -> Option<Heard>
+    requires { (L.accepted links.old ≡ 0) × (L.done links.old ≡ []) }
+{
+    let Ok((mut out, mut inn)) = links.accept(port) else {
+        return None;
+    };
     let heard = hear_over(&mut out, &mut inn);
     links.done(out, inn);
     Some(heard)
@@ -86,28 +85,25 @@ fn take_reply<I: In>(inn: &mut I) -> (bool, Take, Take) {
 }
 
 // Opens a link, puts a message and ends it, and then takes the reply; nothing where nobody listens yet.
-fn say<N: Net<Stream = TcpStream, Listener = TcpListener>>(
-    net: &N,
-    alloc: Global,
-    port: u16,
-) -> Option<Said> {
-    let mut links = TcpLinker::new(net, alloc);
-    let mut ends = links.open(&asked(Mode::Tcp(port))).ok()?;
+fn say<L: Linker>(links: &mut L, port: u16) -> Option<Said>
+    requires { (L.asked links.old ≡ []) × (L.back links.old ≡ []) }
+{
+    let Ok(mut ends) = links.open(&asked(Mode::Tcp(port))) else {
+        return None;
+    };
     let message = put_message(&mut ends.out);
     let (is_reply, reply, end) = take_reply(&mut ends.inn);
     links.back(0, ends);
     Some((is_reply, message, reply, end))
 }
 
-// The same, as soon as somebody listens.
-fn say_once_heard<N: Net<Stream = TcpStream, Listener = TcpListener>>(
-    net: &N,
-    alloc: Global,
-    port: u16,
-) -> Option<Said> {
+// What is tried, as soon as somebody listens.
+fn once_heard<T: Drop, F: Fn() -> Option<T>>(tried: &F) -> Option<T>
+    requires { F.IsAlwaysCallable tried.now }
+{
     for _ in 0..1_000_000 {
-        if let Some(said) = say(net, alloc, port) {
-            return Some(said);
+        if let Some(answer) = tried() {
+            return Some(answer);
         }
         thread::yield_now();
     }
@@ -122,8 +118,8 @@ fn converse<R: Threads + Net<Stream = TcpStream, Listener = TcpListener> + Sync>
 ) -> (Option<Heard>, Option<Said>) {
     thread::join(
         rt,
-        move || hear(rt, alloc, port),
-        move || say_once_heard(rt, alloc, port),
+        move || hear(&mut TcpLinker::new(rt, alloc), port),
+        move || once_heard(&|| say(&mut TcpLinker::new(rt, alloc), port)),
     )
 }
 
@@ -137,12 +133,9 @@ fn message_and_its_end_come_over(rt: HostRuntime) -> Result<(), Fail> {
 }
 
 // Whether the first link of a linker isn't opened, in this mode.
-fn is_refused<N: Net<Stream = TcpStream, Listener = TcpListener>>(
-    net: &N,
-    alloc: Global,
-    mode: Mode,
-) -> bool {
-    let mut links = TcpLinker::new(net, alloc);
+fn is_refused<L: Linker>(links: &mut L, mode: Mode) -> bool
+    requires { L.asked links.old ≡ [] }
+{
     matches!(links.open(&asked(mode)), Err(OpenFault::Failed))
 }
 
@@ -150,7 +143,7 @@ fn is_refused<N: Net<Stream = TcpStream, Listener = TcpListener>>(
 fn open_fails_where_nobody_listens(rt: HostRuntime) -> Result<(), Fail> {
     let port = free_port(&rt)?;
     for mode in [Mode::Tcp(port), Mode::Loop, Mode::Ring] {
-        assert!(rt; is_refused(&rt, rt.alloc(), mode));
+        assert!(rt; is_refused(&mut TcpLinker::new(&rt, rt.alloc()), mode));
     }
     Ok(())
 }
@@ -301,12 +294,9 @@ fn drain<I: In>(inn: &mut I) -> usize {
 }
 
 // Accepts a connection and floods it.
-fn flood_next<N: Net<Stream = TcpStream, Listener = TcpListener>>(
-    net: &N,
-    alloc: Global,
-    port: u16,
-) -> usize {
-    let mut links = TcpLinker::new(net, alloc);
+fn flood_next<L: Linker>(links: &mut L, port: u16) -> usize
+    requires { (L.accepted links.old ≡ 0) × (L.done links.old ≡ []) }
+{
     let Ok((mut out, inn)) = links.accept(port) else {
         return 0;
     };
@@ -317,31 +307,15 @@ fn flood_next<N: Net<Stream = TcpStream, Listener = TcpListener>>(
 }
 
 // Opens a link and takes all that comes; nothing where nobody listens yet.
-fn drain_one<N: Net<Stream = TcpStream, Listener = TcpListener>>(
-    net: &N,
-    alloc: Global,
-    port: u16,
-) -> Option<usize> {
-    let mut links = TcpLinker::new(net, alloc);
-    let mut ends = links.open(&asked(Mode::Tcp(port))).ok()?;
+fn drain_one<L: Linker>(links: &mut L, port: u16) -> Option<usize>
+    requires { (L.asked links.old ≡ []) × (L.back links.old ≡ []) }
+{
+    let Ok(mut ends) = links.open(&asked(Mode::Tcp(port))) else {
+        return None;
+    };
     let taken = drain(&mut ends.inn);
     links.back(0, ends);
     Some(taken)
-}
-
-// The same, as soon as somebody listens.
-fn drain_once_heard<N: Net<Stream = TcpStream, Listener = TcpListener>>(
-    net: &N,
-    alloc: Global,
-    port: u16,
-) -> usize {
-    for _ in 0..1_000_000 {
-        if let Some(taken) = drain_one(net, alloc, port) {
-            return taken;
-        }
-        thread::yield_now();
-    }
-    0
 }
 
 #[test]
@@ -351,10 +325,10 @@ fn connection_takes_more_than_a_link_has_room_for(rt: HostRuntime) -> Result<(),
     let alloc = rt.alloc();
     let (put, taken) = thread::join(
         &rt,
-        move || flood_next(net, alloc, port),
-        move || drain_once_heard(net, alloc, port),
+        move || flood_next(&mut TcpLinker::new(net, alloc), port),
+        move || once_heard(&|| drain_one(&mut TcpLinker::new(net, alloc), port)),
     );
     assert!(rt; put == 2 * LINK_ROOM);
-    assert!(rt; taken == put);
+    assert!(rt; taken == Some(put));
     Ok(())
 }

@@ -37,7 +37,7 @@ use Rattle.script_parts.specs.report_fits.proofs.Lists.{within}
 use Rattle.script_threads.specs.Served.{run_of}
 use Rattle.script_threads.specs.Told.{IsThreadsRun, IsThreadsText}
 use Rattle.script_threads.proofs.CallKinds.{text_kinds}
-use Rattle.script_threads.proofs.Reports.{text_of}
+use Rattle.script_threads.proofs.Reports.{socket_run, text_of}
 use Rattle.script_threads.proofs.Small.{text_small}
 
 module _ {script : List Item} {text : List ℕ} {ends : List LinkEnd} (is : IsThreadsText script text ends) where
@@ -72,18 +72,7 @@ module _ (bytes : List ℕ) (script : List Item) (reads : script_of bytes ≡ Ok
 
   abbrev told_run : ToldRun
   told_run = record {
-    bytes = bytes;
-    script = script;
-    reads = reads;
-    outcomes = is.outcomes;
-    broken = is.sockets.broken;
-    early = is.sockets.early;
-    fails = is.sockets.fails;
-    gave = is.answered.gave;
-    orders = is.sockets.orders;
-    core = is.sockets.core;
-    long = is.one_each;
-    tells = is.sockets.tells;
+    sockets = socket_run bytes script reads is.outcomes is.one_each is.sockets;
     last = is.attempts.last;
     few = is.attempts.few;
     sent = is.attempts.sent;

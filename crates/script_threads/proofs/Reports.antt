@@ -1,8 +1,10 @@
 -- What the report of a run tells whose links were read beside its clients: answers come from responses that links gave, and no end of a call is shown twice.
-use Rattle.std.proofs.Common.{◌≡◌, ℕ, Ok, Err, Result, IfOk, List, [], ◌∷◌, ◌++◌, map, length, replicate, None, refl, sym, ◌∙◌, subst}
+use Rattle.std.proofs.Common.{◌≡◌, ℕ, Ok, Err, Result, IfOk, List, [], ◌∷◌, ◌++◌, map, length, replicate, Option, None, refl, sym, ◌∙◌, subst}
 use Rattle.std.specs.List.{AllByRecursion, flat_map}
 use Rattle.sock_io.specs.declared.link.Out.{Ghosts}
 use Rattle.sock_io.specs.Link.{OutState, InState}
+use Rattle.sock_words.specs.declared.outcome.Outcome.{Outcome}
+use Rattle.sock_words.specs.declared.place_word.PlaceWord.{PlaceWord}
 use Rattle.brpc_model.specs.Items.{Item}
 use Rattle.brpc_model.specs.Link.{LinkEnd}
 use Rattle.brpc_model.specs.Operations.{operations}
@@ -12,6 +14,7 @@ use Rattle.rpc_client.specs.declared.acting.Told.{Told}
 use Rattle.script_parts.specs.call_whys.specs.call_told.specs.Answers.{IsFailure, IsOwn, HaveAnswers, AreAnsweredBy}
 use Rattle.script_parts.specs.attempts_told.specs.Attempts.{AreAttemptsTold}
 use Rattle.script_parts.specs.callless_fits.proofs.Fits.{text_is_whole}
+use Rattle.script_parts.specs.callless_fits.proofs.Sends.{SocketRun}
 use Rattle.script_parts.specs.call_whys.specs.Below.sock_deeds.specs.Told.{fixed_by}
 use Rattle.seat_programs.specs.Scripts.{all_tasks}
 use Rattle.seat_programs.specs.ToldCalls.{Fixed, Order}
@@ -39,6 +42,23 @@ use Rattle.script_threads.proofs.Begun.{AreBegun, begun_beside}
 use Rattle.script_threads.proofs.Expires.{calls_beside}
 use Rattle.script_threads.proofs.Sockets.{run, differ, fixed, answered_sockets}
 use Rattle.script_threads.proofs.Telling.{told_once}
+
+-- what is told of the sockets of a run whose script was read
+abbrev pub socket_run : (bytes : List ℕ) (script : List Item) → script_of bytes ≡ Ok script → (outcomes : List (Option Outcome)) → length outcomes ≡ length (operations script) → {places : List PlaceWord} {gave : ℕ → List ℕ} {ends : List LinkEnd} → AreSocketsTold script outcomes places gave ends → SocketRun
+socket_run bytes script reads outcomes long {places} {gave} {ends} told = record {
+  bytes = bytes;
+  script = script;
+  reads = reads;
+  outcomes = outcomes;
+  broken = told.broken;
+  early = told.early;
+  fails = told.fails;
+  gave = gave;
+  orders = told.orders;
+  core = told.core;
+  long = long;
+  tells = told.tells;
+}
 
 module _ (P : Type 0) {O I : Type 0} (out : O → OutState) (inn : I → InState) (g : Ghosts O) (script : List Item) (text : List ℕ) (links : List LinkEnd) (r : IsThreadsRun P g out inn script text links) where
   open parts_of r use {p, q, readers, main, outcomes}
@@ -95,7 +115,7 @@ module _ (P : Type 0) {O I : Type 0} (out : O → OutState) (inn : I → InState
 
   -- it has the outcomes and place words of its report
   pub text_of : (bytes : List ℕ) → script_of bytes ≡ Ok script → IsThreadsText script text links
-  text_of bytes reads = let both = told_of bytes reads in let sockets = both.1 in record {
+  text_of bytes reads = let both = told_of bytes reads in record {
     outcomes = outcomes;
     places = r.places;
     one_each = one_each;
@@ -107,7 +127,7 @@ module _ (P : Type 0) {O I : Type 0} (out : O → OutState) (inn : I → InState
     on_calls = both.2.1;
     joins = joins_told P g out inn bytes script reads text links r (fixed_by both.1.broken both.1.early both.1.fails) both.0.gave both.1.orders;
     once = shown_once q.slots outcomes r.told (tellers ++ r.last ∷ []) (outcomes_few (plan_of script).operations r.told tellers r.last) own_told (told_once P g out inn bytes script reads text links r);
-    whole = λ callless. text_is_whole bytes script reads callless outcomes r.places sockets.broken sockets.early sockets.fails both.0.gave sockets.orders sockets.core one_each sockets.words r.reported.each sockets.tells text r.reported.took links r.reported.report r.reported.told sockets.ends_told;
+    whole = λ callless. text_is_whole (socket_run bytes script reads outcomes one_each both.1) callless r.places both.1.words r.reported.each text r.reported.took links r.reported.report r.reported.told both.1.ends_told;
   }
 
 pub text_if : (P : Type 0) {O I : Type 0} (out : O → OutState) (inn : I → InState) (g : Ghosts O) (bytes : List ℕ) (script : List Item) → script_of bytes ≡ Ok script → (links : List LinkEnd) {T E : Type 0} (items : T → List ℕ) (r : Result T E) → IfOk r (λ t. IsThreadsRun P g out inn script (items t) links) → IfOk r (λ t. IsThreadsText script (items t) links)

@@ -7,7 +7,7 @@ use native.Mathlib.Decide.{ℕ_discrete}
 use lib.ListN.{get_elem?}
 use Rattle.atomic_table.proofs.Lists.{at_set}
 use Rattle.brpc_model.specs.Items.{Item}
-use Rattle.brpc_model.specs.Operations.{Turn, clients}
+use Rattle.brpc_model.specs.Operations.{Turn}
 use Rattle.sock_model.specs.declared.view.View.{View}
 use Rattle.sock_model.specs.References.{slot_facts}
 use Rattle.sock_model.specs.Slots.{live}
@@ -19,27 +19,24 @@ use Rattle.seat_programs.specs.declared.task.Task.{Task}
 use Rattle.seat_programs.specs.Clients.{client_from, ending_of}
 use Rattle.seat_programs.specs.Cores.{Core, SeatState, resolved, waiting_at, next_step}
 use Rattle.seat_programs.specs.Programs.{Program}
-use Rattle.seat_programs.specs.Scripts.{sizes_of, programs, readers_from, all_programs, all_tasks, opened, set_up, played, is_ending, IsRunWithCalls}
+use Rattle.seat_programs.specs.Scripts.{sizes_of, programs, readers_from, all_programs, all_tasks, opened, set_up, is_ending, IsRunWithCalls}
 use Rattle.seat_programs.specs.Tasks.{opens, calls, plan_of, id_plan_of}
 use Rattle.seat_programs.specs.Ticks.{quiet, run}
 use Rattle.seat_programs.specs.Told.{AreTasks}
 use Rattle.sock_runs.specs.Sound.{state, Sound, views_along}
-use Rattle.sock_runs.proofs.Along.{seat_rests}
 use Rattle.sock_runs.proofs.Bounds.{law}
 use Rattle.sock_runs.proofs.LinkTicks.{RetriesGo}
 use Rattle.sock_runs.proofs.Opening.{mapped}
-use Rattle.sock_runs.proofs.Whole.{Begins, AreFittingIn, closing_of, rested_of, views_played, views_closed, views_ended, set_up_answered, end_answered, rested_ahead, rested_idle, closing_sound, closed_sound}
+use Rattle.sock_runs.proofs.Whole.{Begins, AreFittingIn, closing_of, rested_of, views_played, views_closed, views_ended, set_up_answered, end_answered, closing_sound, closed_sound}
 use Rattle.outcome_causes.specs.Explains.{is_plain}
 use Rattle.outcome_causes.specs.Kept.{Story}
 use Rattle.outcome_causes.specs.PlainTasks.{told_tasks_of}
 use Rattle.outcome_causes.specs.Stories.{Event, In}
-use Rattle.outcome_causes.proofs.Begin.{start_story}
-use Rattle.outcome_causes.proofs.Final.{at_there}
 use Rattle.outcome_causes.proofs.Lifted.{down}
 use Rattle.outcome_causes.proofs.Members.{all_of}
-use Rattle.outcome_causes.proofs.Openings.{are_seats, all_explained}
-use Rattle.outcome_causes.proofs.Runs.{set_up_over, ending_story, is_ending_story}
-use Rattle.outcome_causes.proofs.Scripts.{own_from}
+use Rattle.outcome_causes.proofs.Openings.{are_seats}
+use Rattle.outcome_causes.proofs.Runs.{set_up_over}
+use Rattle.outcome_causes.proofs.Scripts.{story_opened, story_closing, story_ended}
 use Rattle.call_causes.specs.joint_runs.proofs.Both.{AreBounded}
 use Rattle.send_causes.proofs.Beginnings.{all_begin}
 use Rattle.send_causes.specs.Refused.{Deed, DidInRun}
@@ -109,7 +106,7 @@ module _ (script : List Item) (are : AreTasks (plan_of script) (all_tasks script
   -- ## The setup
 
   pub first_story : Story (plan_of script) (told_tasks_of script) false (opened script) vs [] []
-  first_story = start_story (plan_of script) (id_plan_of script) (told_tasks_of script) seats _ (all_explained (plan_of script) (all_tasks script) are (length (opens script)) (id_plan_of script) (own_from script 0 (clients script + 1)) (calls script) (opens script) refl) vs fresh begins.sound
+  first_story = story_opened script are vs begins fresh
 
   abbrev pub first_scene : Scene (plan_of script) (id_plan_of script) (IsCallOf script) ids (told_tasks_of script) false (opened script) vs
   first_scene = let l = first script are vs begins go turns core is fitting narrow both ids labelled in record {
@@ -164,17 +161,15 @@ module _ (script : List Item) (are : AreTasks (plan_of script) (all_tasks script
       }
 
   abbrev pub closing_scene : SceneOf (closing_of script turns core is) (views_played script turns core is vs)
-  closing_scene = let t = clients_go.after in let c : Core = played script is.setup (is.scheduled ++ is.later) in let l = closing_law script are vs begins go turns core is fitting narrow both ids labelled in
-      let seat = at_there c.seats 0 (omega (arith, t.story.each, seats.some_)) in let v = at_there (views_played script turns core is vs) 0 (omega (arith, t.sound.each, t.story.each, seats.some_)) in record {
-        events = t.events;
-        lost = t.lost;
-        sound = closing_sound script are vs begins go turns core is fitting;
-        story = ending_story (plan_of script) (told_tasks_of script) seats c (views_played script turns core is vs) t.events t.lost (opens script) t.sound t.story seat.0 v.0 seat.1
-            (seat_rests c (rested_ahead script are vs begins go turns core is fitting) 0 (rested_idle script are vs begins go turns core is fitting) seat.0 seat.1) v.1;
-        trials = l.0;
-        labels = l.1;
-        codes = ending_law t.events t.codes;
-      }
+  closing_scene = let t = clients_go.after in let l = closing_law script are vs begins go turns core is fitting narrow both ids labelled in record {
+    events = t.events;
+    lost = t.lost;
+    sound = closing_sound script are vs begins go turns core is fitting;
+    story = story_closing script are vs begins go turns core is fitting t.events t.lost t.sound t.story;
+    trials = l.0;
+    labels = l.1;
+    codes = ending_law t.events t.codes;
+  }
 
   pub closing_goes : Along (plan_of script) (id_plan_of script) (IsCallOf script) ids (told_tasks_of script) narrow seats go true (closing_of script turns core is) (views_played script turns core is vs) (replicate is.last (quiet 0)) closing_scene
   closing_goes = seats_along (plan_of script) (id_plan_of script) (IsCallOf script) ids (told_tasks_of script) narrow seats go more (replicate is.last (quiet 0)) (closing_of script turns core is) (views_played script turns core is vs) (end_answered script are vs begins go turns core is fitting) fitting.of_closing labelled.of_closing bounded_closing closing_scene
@@ -187,8 +182,7 @@ module _ (script : List Item) (are : AreTasks (plan_of script) (all_tasks script
     events = t.events;
     lost = t.lost;
     sound = closed_sound script are vs begins go turns core is fitting;
-    story = subst (λ c. Story (plan_of script) (told_tasks_of script) true c (views_closed script turns core is vs) t.events t.lost) (sym is.is_ended)
-        (is_ending_story (plan_of script) (told_tasks_of script) seats (run (plan_of script) (closing_of script turns core is) (replicate is.last (quiet 0))) (views_closed script turns core is vs) t.events t.lost t.story);
+    story = story_ended script are vs begins go turns core is fitting t.events t.lost t.story;
     trials = l.0;
     labels = l.1;
     codes = subst (λ c. CodesLaw (told_tasks_of script) (plan_of script) c (views_closed script turns core is vs) t.events) (sym is.is_ended) (on_codes (run (plan_of script) (closing_of script turns core is) (replicate is.last (quiet 0))) (views_closed script turns core is vs) t.events t.codes);

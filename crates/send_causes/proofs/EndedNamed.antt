@@ -22,20 +22,18 @@ use Rattle.seat_programs.specs.Tasks.{opens, calls, plan_of, id_plan_of}
 use Rattle.seat_programs.specs.Scripts.{sizes_of, programs, readers_from, all_programs, all_tasks, beginning, opened, set_up, IsRunWithCalls}
 use Rattle.seat_programs.specs.Told.{AreTasks}
 use Rattle.sock_runs.specs.Sound.{Sound, AreFitting, views_after, views_along}
-use Rattle.sock_runs.proofs.Along.{seat_rests}
 use Rattle.sock_runs.proofs.LinkTicks.{RetriesGo}
 use Rattle.sock_runs.proofs.Opening.{mapped}
 use Rattle.sock_runs.proofs.Ticks.{sound_ticks}
-use Rattle.sock_runs.proofs.Whole.{Begins, AreFittingIn, closing_of, rested_of, views_played, views_closed, views_ended, set_up_answered, end_answered, set_up_sound, played_sound, closing_sound, closed_sound, rested_ahead, rested_idle}
+use Rattle.sock_runs.proofs.Whole.{Begins, AreFittingIn, closing_of, rested_of, views_played, views_closed, views_ended, set_up_answered, end_answered, set_up_sound, played_sound, closing_sound, closed_sound}
 use Rattle.outcome_causes.specs.Kept.{Story}
 use Rattle.outcome_causes.specs.PlainTasks.{told_tasks_of}
 use Rattle.outcome_causes.specs.Stories.{Event, In}
-use Rattle.outcome_causes.proofs.Begin.{start_story}
 use Rattle.outcome_causes.proofs.Final.{at_there}
 use Rattle.outcome_causes.proofs.Plain.{in_left, in_right, in_both}
-use Rattle.outcome_causes.proofs.Openings.{are_seats, all_explained}
-use Rattle.outcome_causes.proofs.Runs.{IsStoried, set_up_over, ending_story, is_ending_story}
-use Rattle.outcome_causes.proofs.Scripts.{own_from}
+use Rattle.outcome_causes.proofs.Openings.{are_seats}
+use Rattle.outcome_causes.proofs.Runs.{IsStoried, set_up_over, is_ending_story}
+use Rattle.outcome_causes.proofs.Scripts.{story_opened, story_closing}
 use Rattle.outcome_causes.proofs.Ticks.{elem_there, tick_story}
 use Rattle.label_runs.proofs.Operations.{OpCalls}
 use Rattle.id_rule.specs.Lawful.{at_index}
@@ -144,7 +142,7 @@ module _ (script : List Item) (are : AreTasks (plan_of script) (all_tasks script
   first = record {
     events = [];
     lost_links = [];
-    story = start_story (plan_of script) (id_plan_of script) (told_tasks_of script) tasks_are _ (all_explained (plan_of script) (all_tasks script) are (length (opens script)) (id_plan_of script) (own_from script 0 (clients script + 1)) (calls script) (opens script) refl) vs fresh begins.sound;
+    story = story_opened script are vs begins fresh;
     trails = map (λ (x : Program). lost) (all_programs (programs (sizes_of (plan_of script) (id_plan_of script)) (all_tasks script)) (readers_from (calls script) 0 (opens script)));
     law = begins_named (plan_of script) (id_plan_of script) (IsCallOf script) (stores_of_run script turns core is) [] (all_programs (programs (sizes_of (plan_of script) (id_plan_of script)) (all_tasks script)) (readers_from (calls script) 0 (opens script)))
         (all_follow (IsCallOf script) (sizes_of (plan_of script) (id_plan_of script)) (all_tasks script) (asked_by script) (calls script) (opens script)) vs bare;
@@ -183,8 +181,7 @@ module _ (script : List Item) (are : AreTasks (plan_of script) (all_tasks script
         named = record {
           events = k.events;
           lost_links = k.lost_links;
-          story = ending_story (plan_of script) (told_tasks_of script) tasks_are (rested_of script turns core is) (views_played script turns core is vs) k.events k.lost_links (opens script) sound k.story seat.0 v.0 seat.1
-              (seat_rests (rested_of script turns core is) (rested_ahead script are vs begins go turns core is fitting) 0 (rested_idle script are vs begins go turns core is fitting) seat.0 seat.1) v.1;
+          story = story_closing script are vs begins go turns core is fitting k.events k.lost_links sound k.story;
           trails = n.0;
           law = n.1;
         };

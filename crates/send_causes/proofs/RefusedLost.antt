@@ -7,7 +7,7 @@ use Rattle.sock_words.specs.Words.{socket_id_slot, socket_id_version}
 use Rattle.sock_words.specs.declared.plain.Plan.{Plan}
 use Rattle.sock_model.specs.declared.view.View.{View}
 use Rattle.brpc_model.specs.Items.{Item}
-use Rattle.brpc_model.specs.Operations.{Turn, clients}
+use Rattle.brpc_model.specs.Operations.{Turn}
 use Rattle.brpc_model.specs.Script.{script_of}
 use Rattle.corr_core.specs.Word.{parts}
 use Rattle.sock_message.specs.Asked.{Asked}
@@ -18,26 +18,23 @@ use Rattle.seat_programs.specs.Posts.{ends_call}
 use Rattle.seat_programs.specs.Programs.{Program, Write, Aside, Round}
 use Rattle.seat_programs.specs.Writings.{Empties}
 use Rattle.seat_programs.specs.Cores.{Core}
-use Rattle.seat_programs.specs.Tasks.{opens, calls, plan_of, id_plan_of}
-use Rattle.seat_programs.specs.Ticks.{Moment, quiet, ticked, run}
+use Rattle.seat_programs.specs.Tasks.{opens, plan_of}
+use Rattle.seat_programs.specs.Ticks.{Moment, quiet, ticked}
 use Rattle.seat_programs.specs.Scripts.{all_tasks, opened, set_up, IsRunWithCalls}
 use Rattle.seat_programs.specs.Told.{AreTasks}
 use Rattle.seat_programs.specs.ToldCalls.{WhyLost, WasFailing, RunEnding}
 use Rattle.sock_runs.specs.Sound.{Sound, first_step, state}
-use Rattle.sock_runs.proofs.Along.{seat_rests}
-use Rattle.sock_runs.proofs.Whole.{closing_of, set_up_answered, end_answered, rested_ahead, rested_idle, set_up_sound, played_sound, closing_sound, closed_sound, ended_sound, end_rests}
+use Rattle.sock_runs.proofs.Whole.{closing_of, set_up_answered, end_answered, set_up_sound, played_sound, closing_sound, closed_sound, ended_sound, end_rests}
 use Rattle.outcome_causes.specs.Facts.{put_by, put_at, shown_in, late_of_run}
 use Rattle.outcome_causes.specs.Kept.{Story}
 use Rattle.outcome_causes.specs.PlainTasks.{told_tasks_of}
 use Rattle.outcome_causes.specs.Stories.{In}
-use Rattle.outcome_causes.proofs.Begin.{start_story}
-use Rattle.outcome_causes.proofs.Final.{at_there}
 use Rattle.outcome_causes.proofs.Lifted.{made_up}
 use Rattle.outcome_causes.proofs.Members.{in_contains}
-use Rattle.outcome_causes.proofs.Openings.{are_seats, all_explained}
+use Rattle.outcome_causes.proofs.Openings.{are_seats}
 use Rattle.outcome_causes.proofs.Plain.{in_left, in_right}
-use Rattle.outcome_causes.proofs.Runs.{IsStoried, set_up_over, ending_story, is_ending_story}
-use Rattle.outcome_causes.proofs.Scripts.{own_from}
+use Rattle.outcome_causes.proofs.Runs.{IsStoried, set_up_over}
+use Rattle.outcome_causes.proofs.Scripts.{story_opened, story_closing, story_ended}
 use Rattle.call_causes.specs.joint_runs.proofs.Runs.{AreMade, first_views}
 use Rattle.call_causes.specs.owed_calls.specs.Lives.{ClosesInRun}
 use Rattle.send_causes.specs.Refused.{Deed, DidStep, DidPut, DidMiss, DidIn, DidEarly, DidLate, FoundLost, WasOther, WasOdd, WasNone}
@@ -91,8 +88,7 @@ module _ (script : List Item) (made : AreMade script) (turns : List Turn) (core 
   first_told = record {
     events = [];
     lost = [];
-    story = start_story (plan_of script) (id_plan_of script) (told_tasks_of script) told_are _ (all_explained (plan_of script) (all_tasks script) made.are (length (opens script)) (id_plan_of script) (own_from script 0 (clients script + 1)) (calls script) (opens script) refl)
-        (first_views script) (first_fresh script) (start script made turns core is).sound;
+    story = story_opened script made.are (first_views script) (start script made turns core is) (first_fresh script);
   }
 
   setup_told : Then (plan_of script) (told_tasks_of script) told_are false (opened script) (first_views script) (replicate is.setup (quiet 0)) first_told.events
@@ -122,11 +118,8 @@ module _ (script : List Item) (made : AreMade script) (turns : List Turn) (core 
 
   -- seat 0 begins the ending
   closing_story : Story (plan_of script) (told_tasks_of script) true (closing_of script turns core is) rested_views played_told.after.events played_told.after.lost
-  closing_story = let k = played_told.after in let c : Core = rested in let seat = at_there c.seats 0 (omega (arith, k.story.each, told_are.some_)) in
-      let v = at_there rested_views 0 (omega (arith, rest_sound.each, k.story.each, told_are.some_)) in
-      ending_story (plan_of script) (told_tasks_of script) told_are rested rested_views k.events k.lost (opens script) rest_sound k.story seat.0 v.0 seat.1
-      (seat_rests rested (rested_ahead script made.are (first_views script) (start script made turns core is) (go script made turns core is) turns core is (fitting script made turns core is)) 0
-      (rested_idle script made.are (first_views script) (start script made turns core is) (go script made turns core is) turns core is (fitting script made turns core is)) seat.0 seat.1) v.1
+  closing_story = let k = played_told.after in
+      story_closing script made.are (first_views script) (start script made turns core is) (go script made turns core is) turns core is (fitting script made turns core is) k.events k.lost rest_sound k.story
 
   closed_told : Then (plan_of script) (told_tasks_of script) told_are true (closing_of script turns core is) rested_views (replicate is.last (quiet 0)) played_told.after.events
   closed_told = seats_named (plan_of script) (told_tasks_of script) told_are (go script made turns core is) (replicate is.last (quiet 0)) (closing_of script turns core is) rested_views
@@ -135,8 +128,8 @@ module _ (script : List Item) (made : AreMade script) (turns : List Turn) (core 
       (record { events = played_told.after.events; lost = played_told.after.lost; story = closing_story })
 
   ended_story : Story (plan_of script) (told_tasks_of script) true is.ended closed_views closed_told.after.events closed_told.after.lost
-  ended_story = subst (λ c. Story (plan_of script) (told_tasks_of script) true c closed_views closed_told.after.events closed_told.after.lost) (sym is.is_ended)
-      (is_ending_story (plan_of script) (told_tasks_of script) told_are (run (plan_of script) (closing_of script turns core is) (replicate is.last (quiet 0))) closed_views closed_told.after.events closed_told.after.lost closed_told.after.story)
+  ended_story = let k = closed_told.after in
+      story_ended script made.are (first_views script) (start script made turns core is) (go script made turns core is) turns core is (fitting script made turns core is) k.events k.lost k.story
 
   final_told : Then (plan_of script) (told_tasks_of script) told_are true is.ended closed_views is.final closed_told.after.events
   final_told = seats_named (plan_of script) (told_tasks_of script) told_are (go script made turns core is) is.final is.ended closed_views

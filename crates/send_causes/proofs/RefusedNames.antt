@@ -1,22 +1,18 @@
 -- A socket that was found under a name is that of a life that was made under it.
-use Rattle.std.proofs.Common.{◌≡◌, ◌≢◌, ℕ, zero, suc, ◌+◌, ◌*◌, ◌%◌, ◌<◌, inl, inr, ⊎_elim, Bool, true, false, List, [], ◌∷◌, replicate, refl, sym, ap, ◌∙◌, subst, arith}
-use Rattle.std.specs.Prelude.{Option, Some, slice_index}
+use Rattle.std.proofs.Common.{◌≡◌, ◌≢◌, ℕ, zero, suc, ◌+◌, ◌*◌, ◌<◌, inl, inr, ⊎_elim, Bool, true, false, List, [], ◌∷◌, replicate, refl, sym, ap, ◌∙◌, subst, arith}
+use Rattle.std.specs.Prelude.{Option, Some}
 use Rattle.sock_words.specs.declared.plain.Plan.{Plan}
 use Rattle.sock_words.specs.declared.outcome.Outcome.{Outcome}
 use Rattle.sock_words.specs.Words.{socket_id, socket_id_slot, socket_id_version, vref_version}
 use Rattle.sock_model.specs.declared.view.View.{View}
-use Rattle.sock_model.specs.Layout.{request_index}
-use Rattle.sock_model.specs.Slots.{SlotLaw, live}
 use Rattle.sock_model.specs.References.{slot_facts}
-use Rattle.slot_steps.proofs.Clauses.{taken_for}
-use Rattle.slot_steps.proofs.Numbers.{life_le}
-use Rattle.seat_programs.specs.Calls.{CreateLife, StoreName, ClaimRequest, LoadName}
+use Rattle.seat_programs.specs.Calls.{CreateLife, StoreName, LoadName}
 use Rattle.seat_programs.specs.Cores.{Core}
 use Rattle.seat_programs.specs.declared.task.Task.{Task}
 use Rattle.seat_programs.specs.Programs.{Do}
 use Rattle.seat_programs.specs.Ticks.{Moment, AreAnswered, quiet, ticked, run}
 use Rattle.seat_programs.specs.Told.{AreTasks, Made}
-use Rattle.sock_runs.specs.GoesOn.{GoesOn, HasNothing}
+use Rattle.sock_runs.specs.GoesOn.{GoesOn}
 use Rattle.sock_runs.specs.Sound.{Sound, AllRest, AreFitting, state, views_after, views_along}
 use Rattle.sock_runs.proofs.Cases.{goes_first}
 use Rattle.sock_runs.proofs.LinkTicks.{RetriesGo}
@@ -25,14 +21,15 @@ use Rattle.sock_runs.proofs.Rounds.{begins_round}
 use Rattle.sock_runs.proofs.Ticks.{sound_ticks}
 use Rattle.outcome_causes.specs.Causes.{Asks}
 use Rattle.outcome_causes.specs.Explains.{step}
-use Rattle.outcome_causes.specs.Kept.{StaysUsed, Story}
+use Rattle.outcome_causes.specs.Kept.{Story}
 use Rattle.outcome_causes.specs.Stories.{Event, In, trace_of}
-use Rattle.outcome_causes.proofs.Delivered.{orders_of, AreQuiet, requests_used}
+use Rattle.outcome_causes.proofs.Delivered.{orders_of}
 use Rattle.outcome_causes.proofs.Events.{event, cause_of, given_by, last_some}
-use Rattle.outcome_causes.proofs.Final.{at_there, at_within, idle, final}
+use Rattle.outcome_causes.proofs.Final.{final}
 use Rattle.outcome_causes.proofs.Lives.{World, task_of, tells_of}
 use Rattle.outcome_causes.proofs.Members.{from_trace, to_trace}
 use Rattle.outcome_causes.proofs.Ticks.{elem_there, tick_story}
+use Rattle.outcome_causes.proofs.Worlds.{world_of}
 use Rattle.send_causes.specs.Refused.{Deed, DidStep, DidAt, DidIn}
 
 -- ## What was found under names
@@ -88,31 +85,8 @@ module _ (p : Plan) (cs : List (List Task)) (are : AreTasks p cs) where
 -- ## Lives of names
 
 module _ (p : Plan) (clients : List (List Task)) (are : AreTasks p clients) (c : Core) (vs : List View) (es : List Event) (lost : List ℕ) (sound : Sound p c vs) (story : Story p clients true c vs es lost) (settled : AllRest c) where
-  law : (j : ℕ) → j < p.slots → SlotLaw p.first (live (slot_facts (state c vs) j)) (slot_facts (state c vs) j)
-  law j l = sound.lawful.references.slots j l
-
-  quiet_views : AreQuiet vs
-  quiet_views i v at = let seat = at_there c.seats i (omega (arith, at_within vs i v at, sound.each)) in
-      let n : HasNothing v = subst (GoesOn p v) (settled i seat.0 seat.1) (sound.seats i seat.0 v seat.1 at).goes_on in n.quiet
-
-  -- a request that was found claimed was used
-  word_used : (q i u id found : ℕ) → In (event i u (ClaimRequest id q) found) es → found % 2 ≡ 1 → slice_index c.words (request_index p q) ≢ 0
-  word_used q i u id found m odd = let x : StaysUsed p c.words (step (ClaimRequest id q) found) = story.used (event i u (ClaimRequest id q) found) m in let y = (x odd).1 in λ e. omega (arith, y, e)
-
   pub world : World p clients c.outcomes lost (orders_of p c vs sound.lawful) es
-  world = record {
-    are = are;
-    few = sound.limits.slots;
-    good = story.good;
-    final = λ i t a. final p clients are true c vs es lost sound story settled i t a;
-    born_once = λ j l h. omega (arith, story.births j l h, (law j l).born h, life_le p.first h ((slot_facts (state c vs) j).version + live (slot_facts (state c vs) j)));
-    failed_once = λ j l h. omega (arith, story.fails j l h, (law j l).failed h, life_le p.first h (slot_facts (state c vs) j).version);
-    tried_born = λ j l t. let a = story.tries j l in
-        ⊎_elim (λ claimed. let b = idle p clients are true c vs es lost sound story settled j in absurd (omega arith))
-        (λ born. omega (arith, story.births j l p.first, born))
-        (taken_for p.first (slot_facts (state c vs) j) (law j l) sound.lawful.fits.even (omega arith));
-    full = λ h. requests_used p c vs sound.lawful quiet_views (λ q l. let x = h q l in word_used q x.0 x.1 x.2 x.3 x.4 x.5);
-  }
+  world = world_of p clients are true c vs es lost lost (λ k m. m) sound story settled
 
   parts_of : (id v i : ℕ) → i < p.slots → id + 1 ≡ socket_id v i + 1 → (i ≡ socket_id_slot id) × (v ≡ socket_id_version id)
   parts_of id v i l e = let f = world.few in let q : id ≡ v * 4294967296 + i = omega arith in (omega arith, omega arith)
