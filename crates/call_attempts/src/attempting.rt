@@ -9,7 +9,8 @@ ghost use Rattle.write_chain.specs.Sending.{HasRoom};
 ghost use Rattle.call_errors.specs.rpc_client.specs.Seats.{Idle, MayAct, AtRest};
 ghost use Rattle.call_errors.specs.rpc_client.specs.Acting.{OwnList};
 ghost use Rattle.call_errors.specs.rpc_client.specs.Sending.{RefusedHolds};
-ghost use Rattle.call_errors.specs.Books.{HasNoLock, KeepsSeat};
+ghost use Rattle.call_errors.specs.Books.{stand_of, HasNoLock, KeepsSeat};
+ghost use Rattle.call_errors.specs.Posting.{PostedBy};
 ghost use Rattle.call_writes.specs.Sending.{Rested};
 ghost use Rattle.call_attempts.specs.Both.{both, IsCallId};
 ghost use Rattle.call_attempts.specs.Attempting.{RefusedFor, DeliveredBy, AttemptedBy};
@@ -25,6 +26,18 @@ use std::sync::Wait;
 use write_chain::{Refused, start};
 
 impl<O: Out, R: Wait> At<'_, O, R> {
+    /// The frame of an attempt doesn't go out: that is posted to its call by this code.
+    pub fn post_for(&self, calls: &mut CallSeat, msg: Letter, code: u16)
+        requires ids { HasNoLock self.now.tables.now.ids.table.shared.table_id calls.old }
+        requires code { (1 ≤ code) × (code ≤ 4095) }
+        ensures keeps { KeepsSeat self.now.tables.now.ids.table.shared.table_id calls.old calls.new }
+        ensures posted { PostedBy self.now.tables.now.ids.plan.slots (stand_of calls.old) msg.owner code (Some msg.label.attempt) (stand_of calls.new) }
+    {
+        let attempt = Some(msg.label.attempt);
+        post_error(self.rt, &self.tables.ids, calls, msg.owner, code, attempt);
+        drop(msg);
+    }
+
     // A frame that was refused: that is posted to its call, and then the reference is given back.
     fn refuse_frame(&self, seat: &mut SockSeat<O>, calls: &mut CallSeat, refused: Refused)
         requires idle { Idle self.now.tables.now.socks.rule.table.shared.table_id self.now.tables.now.socks.rule.plan seat.old }
@@ -36,30 +49,12 @@ impl<O: Out, R: Wait> At<'_, O, R> {
     {
         match refused {
             Refused::Failed(sock, msg, _) => {
-                let attempt = Some(msg.label.attempt);
-                post_error(
-                    self.rt,
-                    &self.tables.ids,
-                    calls,
-                    msg.owner,
-                    EFAILEDSOCKET,
-                    attempt,
-                );
+                self.post_for(calls, msg, EFAILEDSOCKET);
                 self.tables.socks.release(seat, sock);
-                drop(msg);
             }
             Refused::Full(sock, msg) => {
-                let attempt = Some(msg.label.attempt);
-                post_error(
-                    self.rt,
-                    &self.tables.ids,
-                    calls,
-                    msg.owner,
-                    EREQUESTS,
-                    attempt,
-                );
+                self.post_for(calls, msg, EREQUESTS);
                 self.tables.socks.release(seat, sock);
-                drop(msg);
             }
         }
     }
@@ -104,7 +99,6 @@ impl<O: Out, R: Wait> At<'_, O, R> {
         ensures by { AttemptedBy O.state self.now.tables.now.socks.rule.plan self.now.tables.now.ids.plan to msg (both seat.old.me.0 calls.old) (both seat.new.me.0 calls.new) }
         ensures own { (n : ℕ) → OwnList n seat.old.me.0 → OwnList (n + 1) seat.new.me.0 }
     {
-        let attempt = msg.label.attempt;
         match self.tables.socks.address(seat, to) {
             Ok(sock) => {
                 let slots = self.tables.ids.plan.slots;
@@ -117,21 +111,11 @@ impl<O: Out, R: Wait> At<'_, O, R> {
                     msg.label.operation,
                     msg.owner,
                     link,
-                    attempt,
+                    msg.label.attempt,
                 );
                 self.deliver(seat, calls, sock, msg);
             }
-            Err(_gone) => {
-                post_error(
-                    self.rt,
-                    &self.tables.ids,
-                    calls,
-                    msg.owner,
-                    EFAILEDSOCKET,
-                    Some(attempt),
-                );
-                drop(msg);
-            }
+            Err(_gone) => self.post_for(calls, msg, EFAILEDSOCKET),
         }
     }
 }

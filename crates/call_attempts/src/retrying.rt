@@ -11,7 +11,7 @@ ghost use Rattle.call_attempts.specs.Retrying.{IsStray, IsAtHome, TookNext, Went
 use crate::at::At;
 use crate::letters::letter_of;
 use crate::tables::Tables;
-use call_errors::{CallSeat, Retry, end_call, handle, post_error};
+use call_errors::{CallSeat, Retry, end_call, handle};
 use corr_id::Unlocked;
 use message_parts::CallFrame;
 use sock_io::Out;
@@ -61,19 +61,12 @@ impl<O: Out, R: Wait> At<'_, O, R> {
         ensures by { WentTo O.state self.now.tables.now.socks.rule.plan self.now.tables.now.ids.plan name msg (both seat.old.me.0 calls.old) (both seat.new.me.0 calls.new) }
         ensures own { (n : ℕ) → OwnList n seat.old.me.0 → OwnList (n + 1) seat.new.me.0 }
     {
-        let ids = &self.tables.ids;
-        let attempt = Some(msg.label.attempt);
         if is_stray(self.tables, name, msg.label.operation) {
-            post_error(self.rt, ids, calls, msg.owner, EFAILEDSOCKET, attempt);
-            drop(msg);
-            return;
+            return self.post_for(calls, msg, EFAILEDSOCKET);
         }
         match self.tables.socks.find(seat, name) {
             Some(socket) => self.attempt(seat, calls, socket, msg),
-            None => {
-                post_error(self.rt, ids, calls, msg.owner, EFAILEDSOCKET, attempt);
-                drop(msg);
-            }
+            None => self.post_for(calls, msg, EFAILEDSOCKET),
         }
     }
 

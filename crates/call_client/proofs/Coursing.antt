@@ -1,6 +1,7 @@
 -- How a run goes on by an operation, and what of its list is left then.
 use Rattle.std.proofs.Common.{◌≡◌, ◌≢◌, ℕ, zero, suc, ◌+◌, ◌<◌, ◌≤◌, Bool, true, false, cond, Some, None, inl, inr, List, [], ◌∷◌, ◌++◌, length, drop, length-append, add-one, refl, sym, ap, ◌∙◌, subst, arith}
 use Rattle.std.specs.Prelude.{Option as Maybe, All, IfOk, IfErr}
+use Rattle.std.specs.Result.{is_err}
 use Rattle.std.specs.declared.result.Result.{Result}
 use Rattle.std.specs.declared.result.Result.TheVariants.{Ok, Err}
 use Rattle.std.proofs.lemmas.List.Elements.{All-nil, All-append, All-weaker}
@@ -19,6 +20,7 @@ use Rattle.seat_programs.specs.declared.task.Op.TheVariants as ops
 use Rattle.seat_programs.specs.declared.task.Task.{Task}
 use Rattle.rpc_client.specs.Seats.{StaysSeen}
 use Rattle.rpc_client.specs.Running.{telling, finds_name}
+use Rattle.call_errors.specs.declared.seats.CallSeat.{CallSeat}
 use Rattle.call_errors.specs.Books.{stand_of}
 use Rattle.call_errors.specs.Starving.{StarvedBy}
 use Rattle.call_attempts.specs.Both.{wanting}
@@ -27,6 +29,7 @@ use Rattle.call_client.specs.Acting.{Stand, stand, MayMake, Acted}
 use Rattle.call_client.specs.Running.{names_in, Course, RetriedHere, Ran, Stops, without_room, while_calling, begins, RanTo, left_by, MayMakeAll, LeftBy, LeftAll, EndsBy}
 use Rattle.call_client.specs.Making.{NotMade, IsRest, ComesTo, CameBy}
 use Rattle.call_client.proofs.Knowing.{acted_known, unopened_new}
+use Rattle.call_client.proofs.Leaving.{starved_retries}
 
 -- ## The list of operations
 
@@ -137,9 +140,6 @@ module _ {O : Type 0} {g : Ghosts O} (state : O → OutState) (p : Plan) (q : id
 
     -- ## No operation more
 
-    pub came_before : (by : ℕ → Stand g → Stand g → Type 0) (rest : List Task) (b c d : Caller O g) → begins c ≡ begins b → CameBy state p q by xs rest c d → CameBy state p q by xs rest b d
-    came_before by rest b c d e k = record { made = k.made; few = k.few; came = k.came; ran = ran_before k.made b c k.came e k.ran; told = k.told; ends = k.ends; left = k.left }
-
     -- there is no room, and nothing was done
     pub roomless : (b c d : Caller O g) → begins c ≡ begins b → d.outcomes ≡ c.outcomes → stand d ≡ record (stand c) { calls = wanting (stand c).calls } → CameBy state p q (ComesTo state p q true xs) xs xs b d
     roomless b c d e told is = record { made = 0; few = omega arith; came = c; ran = ran_before 0 b c c e (ran_none c); told = told; ends = without_room is; left = inl refl }
@@ -152,20 +152,23 @@ module _ {O : Type 0} {g : Ghosts O} (state : O → OutState) (p : Plan) (q : id
     pub short_at : (n : ℕ) (x : Task) (rest : List Task) (s r t : Stand g) → drop n xs ≡ x ∷ rest → RetriedHere state p q s r → NotMade state p q x.op r t → Stops state p q xs n s t × IsRest xs n rest
     short_at n x rest s r t at ready made = short_by n x.number x.op rest s r t at ready made
 
-    -- the calls whose retries waited were ended
-    pub starved_then : (rest : List Task) (c d e : Caller O g) → CameBy state p q (ComesTo state p q true xs) xs rest c d → StarvedBy q.slots (stand_of d.calls) (stand_of e.calls) → e.seat ≡ d.seat → e.held ≡ d.held → e.passes ≡ d.passes → e.outcomes ≡ d.outcomes → CameBy state p q (EndsBy state p q true xs) xs rest c e
-    starved_then rest c d e k starved seat held passes told = record {
-      made = k.made;
-      few = k.few;
-      came = k.came;
-      ran = k.ran;
-      told = told ∙ k.told;
-      ends = (stand d, k.ends, starved, ap (λ s. s.me) seat, record { held = ap (λ h. h.items) held; passes = ap (λ l. l.items) passes });
-      left = k.left;
-    }
+    -- then each call whose retry waited was ended, where memory was wanting: none waits any more, and where it wasn't it isn't now
+    pub record Ended {A E : Type 0} (r : Result A E) (rest : List Task) (c d : Caller O g) : Type 0 where
+      pub by : CameBy state p q (EndsBy state p q (is_err r) xs) xs rest c d
+      pub none_waits : d.calls.retries.items ≡ []
+      pub fed : IfOk r (λ _. d.calls.starved ≡ false)
 
-    pub all_then : (rest : List Task) (c d : Caller O g) → CameBy state p q (ComesTo state p q false xs) xs rest c d → CameBy state p q (EndsBy state p q false xs) xs rest c d
-    all_then rest c d k = record { made = k.made; few = k.few; came = k.came; ran = k.ran; told = k.told; ends = k.ends; left = k.left }
+    pub ended_then : {A E : Type 0} (r : Result A E) (rest : List Task) (c d : Caller O g) (k : CallSeat) → IfOk r (λ _. CameBy state p q (ComesTo state p q false xs) xs rest c d) → IfErr r (λ _. CameBy state p q (ComesTo state p q true xs) xs rest c d) → (is_err r ≡ true → StarvedBy q.slots (stand_of d.calls) (stand_of k)) → (is_err r ≡ false → k ≡ d.calls) → Ended r rest c (record d { calls = k })
+    ended_then {A} {E} (Ok x) rest c d k all short starved same = subst (λ (m : CallSeat). Ended {E = E} (Ok x) rest c (record d { calls = m })) (sym (same refl)) record {
+      by = record { made = all.made; few = all.few; came = all.came; ran = all.ran; told = all.told; ends = all.ends; left = all.left };
+      none_waits = all.ends.1.all.none_waits;
+      fed = all.ends.1.all.fed;
+    }
+    ended_then (Err x) rest c d k all short starved same = record {
+      by = record { made = short.made; few = short.few; came = short.came; ran = short.ran; told = short.told; ends = (stand d, short.ends, starved refl, refl, record { held = refl; passes = refl }); left = short.left };
+      none_waits = starved_retries q.slots (stand_of d.calls) (stand_of k) (starved refl);
+      fed = tt;
+    }
 
     -- what was left is what follows on the operations that were made
     pub left_behind : (n : ℕ) (rest : List Task) (s t : Stand g) → IsRest xs n rest → LeftAll p rest s t → LeftAll p (drop n xs) s t

@@ -13,7 +13,7 @@ ghost use Rattle.call_client.specs.Making.{NotMade};
 
 use crate::caller::Caller;
 use call_attempts::{At, Called, On, Tables};
-use call_errors::{expire_one, join_one};
+use call_errors::{Ask, ask_one};
 use message_parts::Parcel;
 use rpc_client::{drop_one, fail_one, hold_one, open_one};
 use seat_programs::Op;
@@ -150,12 +150,12 @@ pub fn act<O: Out, R: Wait>(
         Op::Call(call) => begin_call(caller, at, call),
         Op::Expire(of) => {
             drop(op);
-            let outcome = expire_one(at.rt, &at.tables.ids, &mut caller.calls, of);
+            let outcome = ask_one(at.rt, &at.tables.ids, &mut caller.calls, of, Ask::Expire);
             Ok(Some(outcome))
         }
         Op::Join(of) => {
             drop(op);
-            let outcome = join_one(at.rt, &at.tables.ids, &mut caller.calls, of);
+            let outcome = ask_one(at.rt, &at.tables.ids, &mut caller.calls, of, Ask::Join);
             Ok(Some(outcome))
         }
         Op::Hold(name) => {

@@ -11,7 +11,7 @@ ghost use Rattle.call_errors.specs.Books.{books_of, HasNoLock};
 ghost use Rattle.call_client.specs.Acting.{MayGo};
 ghost use Rattle.call_client.specs.Running.{MayMakeAll, RunBy};
 
-use crate::running::{leave_all, make_or_starve};
+use crate::running::{end_retries, leave_all, make_all};
 use call_attempts::{At, Tables};
 use call_errors::CallSeat;
 use corr_id::IdSeat;
@@ -86,7 +86,8 @@ impl<O: Out> Caller<O> {
         ensures ran { RunBy O.state tables.now.socks.rule.plan tables.now.ids.plan (is_err result) tasks.items self.old self.new }
     {
         let at = At { rt, tables };
-        let made = make_or_starve(self, &at, of, &mut tasks, gate);
+        let made = make_all(self, &at, of, &mut tasks, gate);
+        end_retries(&at, &mut self.calls, made.is_err());
         leave_all(self, tables, tasks);
         give_all(&tables.socks, &mut self.seat, &mut self.held);
         made

@@ -1,20 +1,21 @@
 // A client's run with calls.
 ghost use Rattle.std.specs.Prelude.{◌≡◌, ◌+◌, ◌<◌, ◌≤◌, ◌++◌, ◌∷◌, ℕ, [], true, false, Option, IfOk, IfErr, All, length, vec_capacity};
-ghost use Rattle.std.specs.Result.{is_err};
 ghost use Rattle.sock_words.specs.declared.outcome.Outcome.{Outcome as AnOutcome};
 ghost use Rattle.sock_table.specs.Passes.{IsPass};
 ghost use Rattle.corr_id.specs.Seats.{Stays};
 ghost use Rattle.rpc_client.specs.Seats.{Idle, AtRest, StaysSeen, SameRefs};
 ghost use Rattle.rpc_client.specs.Running.{telling};
+ghost use Rattle.call_errors.specs.Books.{stand_of, HasNoLock, KeepsSeat};
+ghost use Rattle.call_errors.specs.Starving.{StarvedBy};
 ghost use Rattle.call_attempts.specs.Retrying.{RanOut};
 ghost use Rattle.call_client.specs.Acting.{both_of, stand, MayGo, MayMake, Acted};
-ghost use Rattle.call_client.specs.Running.{RetriedHere, MayMakeAll, LeftBy, LeftAll, EndsBy};
+ghost use Rattle.call_client.specs.Running.{RetriedHere, MayMakeAll, LeftBy, LeftAll};
 ghost use Rattle.call_client.specs.Making.{NotMade, ComesTo, CameBy};
 
 use crate::acting::act;
 use crate::caller::Caller;
 use call_attempts::{At, Tables};
-use call_errors::starve;
+use call_errors::{CallSeat, starve};
 use rpc_client::{Told, open_none};
 use seat_programs::{Op, Task};
 use sock_io::{Gate, Out};
@@ -105,9 +106,20 @@ fn next_of(tasks: &mut VecDeque<Task>) -> Task
     task
 }
 
-/// The operations are made, one after the other, behind the gate, with the retries that wait before each of them and behind the
-/// last; until memory is wanting.
-fn make_all<O: Out, R: Wait, G: Gate>(
+/// There is room for what so many operations tell and hold.
+fn make_room<O: Out>(caller: &mut Caller<O>, count: usize) -> Result<(), NoMemory>
+    ensures room { IfOk result (λ _. (length caller.new.held.items + count ≤ vec_capacity caller.new.held) × (length caller.new.outcomes.items + count ≤ vec_capacity caller.new.outcomes)) }
+    ensures lists { (caller.new.held.items ≡ caller.old.held.items) × (caller.new.outcomes.items ≡ caller.old.outcomes.items) }
+    ensures others { (caller.new.seat ≡ caller.old.seat) × (caller.new.passes ≡ caller.old.passes) × (caller.new.calls ≡ caller.old.calls) × (caller.new.sent ≡ caller.old.sent) }
+{
+    caller.outcomes.reserve(count)?;
+    caller.held.reserve(count)?;
+    Ok(())
+}
+
+/// There is room for what the operations tell and hold, and they are made, one after the other, behind the gate, with the
+/// retries that wait before each of them and behind the last; until memory is wanting.
+pub fn make_all<O: Out, R: Wait, G: Gate>(
     caller: &mut Caller<O>,
     at: &At<O, R>,
     of: u16,
@@ -117,7 +129,6 @@ fn make_all<O: Out, R: Wait, G: Gate>(
     requires few { length tasks.old.items ≤ 65535 }
     requires go { MayGo at.now.tables.now.socks.rule.table.shared.table_id at.now.tables.now.socks.rule.plan at.now.tables.now.ids.table.shared.table_id 0 caller.old }
     requires may { MayMakeAll at.now.tables.now.socks.rule.plan at.now.tables.now.ids.plan tasks.old.items (length caller.old.passes.items) }
-    requires room { (length tasks.old.items ≤ vec_capacity caller.old.held) × (length caller.old.outcomes.items + length tasks.old.items ≤ vec_capacity caller.old.outcomes) }
     ensures go { MayGo at.now.tables.now.socks.rule.table.shared.table_id at.now.tables.now.socks.rule.plan at.now.tables.now.ids.table.shared.table_id (length tasks.old.items) caller.new }
     ensures all { IfOk result (λ _. CameBy O.state at.now.tables.now.socks.rule.plan at.now.tables.now.ids.plan (ComesTo O.state at.now.tables.now.socks.rule.plan at.now.tables.now.ids.plan false tasks.old.items) tasks.old.items tasks.new.items caller.old caller.new) }
     ensures short { IfErr result (λ _. CameBy O.state at.now.tables.now.socks.rule.plan at.now.tables.now.ids.plan (ComesTo O.state at.now.tables.now.socks.rule.plan at.now.tables.now.ids.plan true tasks.old.items) tasks.old.items tasks.new.items caller.old caller.new) }
@@ -125,6 +136,10 @@ fn make_all<O: Out, R: Wait, G: Gate>(
     ensures share { caller.new.seat.me.0.share ≡ caller.old.seat.me.0.share }
     ensures same { Stays caller.old.calls.seat caller.new.calls.seat }
 {
+    let Ok(()) = make_room(caller, tasks.len()) else {
+        caller.calls.starved = true;
+        return Err(NoMemory);
+    };
     let mut made = 0u16;
     'makes: loop {
         let last = is_done(tasks);
@@ -139,69 +154,15 @@ fn make_all<O: Out, R: Wait, G: Gate>(
     }
 }
 
-/// There is room for what so many operations tell and hold.
-fn make_room<O: Out>(caller: &mut Caller<O>, count: usize) -> Result<(), NoMemory>
-    ensures room { IfOk result (λ _. (length caller.new.held.items + count ≤ vec_capacity caller.new.held) × (length caller.new.outcomes.items + count ≤ vec_capacity caller.new.outcomes)) }
-    ensures lists { (caller.new.held.items ≡ caller.old.held.items) × (caller.new.outcomes.items ≡ caller.old.outcomes.items) }
-    ensures others { (caller.new.seat ≡ caller.old.seat) × (caller.new.passes ≡ caller.old.passes) × (caller.new.calls ≡ caller.old.calls) × (caller.new.sent ≡ caller.old.sent) }
+/// Where memory was wanting, each call whose retry waits ends by that.
+pub fn end_retries<O: Out, R: Wait>(at: &At<O, R>, calls: &mut CallSeat, short: bool)
+    requires ids { HasNoLock at.now.tables.now.ids.table.shared.table_id calls.old }
+    ensures keeps { KeepsSeat at.now.tables.now.ids.table.shared.table_id calls.old calls.new }
+    ensures ended { short ≡ true → StarvedBy at.now.tables.now.ids.plan.slots (stand_of calls.old) (stand_of calls.new) }
+    ensures same { short ≡ false → calls.new ≡ calls.old }
 {
-    caller.outcomes.reserve(count)?;
-    caller.held.reserve(count)?;
-    Ok(())
-}
-
-/// There is room for what the operations tell and hold, and they are made, until memory is wanting.
-fn make_some<O: Out, R: Wait, G: Gate>(
-    caller: &mut Caller<O>,
-    at: &At<O, R>,
-    of: u16,
-    tasks: &mut VecDeque<Task>,
-    gate: &G,
-) -> Result<(), NoMemory>
-    requires few { length tasks.old.items ≤ 65535 }
-    requires go { MayGo at.now.tables.now.socks.rule.table.shared.table_id at.now.tables.now.socks.rule.plan at.now.tables.now.ids.table.shared.table_id 0 caller.old }
-    requires may { MayMakeAll at.now.tables.now.socks.rule.plan at.now.tables.now.ids.plan tasks.old.items (length caller.old.passes.items) }
-    ensures go { MayGo at.now.tables.now.socks.rule.table.shared.table_id at.now.tables.now.socks.rule.plan at.now.tables.now.ids.table.shared.table_id (length tasks.old.items) caller.new }
-    ensures all { IfOk result (λ _. CameBy O.state at.now.tables.now.socks.rule.plan at.now.tables.now.ids.plan (ComesTo O.state at.now.tables.now.socks.rule.plan at.now.tables.now.ids.plan false tasks.old.items) tasks.old.items tasks.new.items caller.old caller.new) }
-    ensures short { IfErr result (λ _. CameBy O.state at.now.tables.now.socks.rule.plan at.now.tables.now.ids.plan (ComesTo O.state at.now.tables.now.socks.rule.plan at.now.tables.now.ids.plan true tasks.old.items) tasks.old.items tasks.new.items caller.old caller.new) }
-    ensures left { MayMakeAll at.now.tables.now.socks.rule.plan at.now.tables.now.ids.plan tasks.new.items (length caller.new.passes.items) }
-    ensures share { caller.new.seat.me.0.share ≡ caller.old.seat.me.0.share }
-    ensures same { Stays caller.old.calls.seat caller.new.calls.seat }
-{
-    match make_room(caller, tasks.len()) {
-        Ok(()) => make_all(caller, at, of, tasks, gate),
-        Err(e) => {
-            caller.calls.starved = true;
-            Err(e)
-        }
-    }
-}
-
-/// The operations are made, until memory is wanting: then each call whose retry waits ends by that.
-pub fn make_or_starve<O: Out, R: Wait, G: Gate>(
-    caller: &mut Caller<O>,
-    at: &At<O, R>,
-    of: u16,
-    tasks: &mut VecDeque<Task>,
-    gate: &G,
-) -> Result<(), NoMemory>
-    requires few { length tasks.old.items ≤ 65535 }
-    requires go { MayGo at.now.tables.now.socks.rule.table.shared.table_id at.now.tables.now.socks.rule.plan at.now.tables.now.ids.table.shared.table_id 0 caller.old }
-    requires may { MayMakeAll at.now.tables.now.socks.rule.plan at.now.tables.now.ids.plan tasks.old.items (length caller.old.passes.items) }
-    ensures go { MayGo at.now.tables.now.socks.rule.table.shared.table_id at.now.tables.now.socks.rule.plan at.now.tables.now.ids.table.shared.table_id (length tasks.old.items) caller.new }
-    ensures came { CameBy O.state at.now.tables.now.socks.rule.plan at.now.tables.now.ids.plan (EndsBy O.state at.now.tables.now.socks.rule.plan at.now.tables.now.ids.plan (is_err result) tasks.old.items) tasks.old.items tasks.new.items caller.old caller.new }
-    ensures left { MayMakeAll at.now.tables.now.socks.rule.plan at.now.tables.now.ids.plan tasks.new.items (length caller.new.passes.items) }
-    ensures share { caller.new.seat.me.0.share ≡ caller.old.seat.me.0.share }
-    ensures same { Stays caller.old.calls.seat caller.new.calls.seat }
-    ensures retries { caller.new.calls.retries.items ≡ [] }
-    ensures fed { IfOk result (λ _. caller.new.calls.starved ≡ false) }
-{
-    match make_some(caller, at, of, tasks, gate) {
-        Ok(()) => Ok(()),
-        Err(e) => {
-            starve(at.rt, &at.tables.ids, &mut caller.calls);
-            Err(e)
-        }
+    if short {
+        starve(at.rt, &at.tables.ids, calls);
     }
 }
 

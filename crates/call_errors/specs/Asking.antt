@@ -13,6 +13,8 @@ use Rattle.corr_id.specs.declared.posts.Posted.{Posted}
 use Rattle.corr_id.specs.declared.posts.Posted.TheVariants.{Locked as HasLock, Queued as IsQueued, Gone, Stale, Crowded}
 use Rattle.corr_id.specs.Calls.{slot_of, version_of, Quiet, Found, LacksId}
 use Rattle.corr_id.specs.Ruled.{is_place}
+use Rattle.call_errors.specs.declared.asking.Ask.{Ask}
+use Rattle.call_errors.specs.declared.asking.Ask.TheVariants.{Expire, Join}
 use Rattle.call_errors.specs.Books.{CallStand}
 use Rattle.call_errors.specs.Posting.{PostedAs}
 
@@ -62,3 +64,8 @@ abbrev pub JoinedBy : Plan → ℕ → Outcome → CallStand → CallStand → T
 JoinedBy p operation outcome.NotBegun s t = FoundNone p operation s t
 JoinedBy p operation outcome.Joined s t = SawEnd p operation s t
 JoinedBy p operation _ s t = ⊥
+
+-- by what was asked
+abbrev pub AskedBy : Ask → Plan → ℕ → Outcome → CallStand → CallStand → Type 0
+AskedBy Expire p operation by s t = ExpiredBy p operation by s t
+AskedBy Join p operation by s t = JoinedBy p operation by s t

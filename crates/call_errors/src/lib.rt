@@ -10,7 +10,7 @@ mod retries;
 mod seats;
 mod starving;
 
-pub use asking::{expire_one, join_one};
+pub use asking::{Ask, ask_one};
 pub use ending::end_call;
 pub use handling::handle;
 pub use posting::post_error;

@@ -26,10 +26,10 @@ pub struct Flags {
 
 pub type Shared = Arc<Flags, Global>;
 
-/// Nothing has come about yet, unless the first put needs to wait for nobody.
-pub fn new_flags(alloc: Global, waits: bool) -> Result<Shared, AllocError> {
+/// Nothing has come about yet.
+pub fn new_flags(alloc: Global) -> Result<Shared, AllocError> {
     let flags = Flags {
-        begun: AtomicU64::new(u64::from(!waits)),
+        begun: AtomicU64::new(0),
         asked: AtomicU64::new(0),
         late: AtomicU64::new(0),
     };
@@ -104,16 +104,15 @@ impl Out for HeldOut {
 
 type Link = Ends<HeldOut, RingIn, RingPeer>;
 
-/// Opens such links over rings, and keeps what they took, as far as there is memory. It accepts no connections.
+/// Opens such links over rings. It accepts no connections.
 #[derive(Drop)]
 pub struct HeldLinker<R: AllocGlobal + Drop> {
     inner: RingLinker<R>,
     flags: Shared,
-    took: Vec<u8>,
 }
 
 impl<R: AllocGlobal + Drop> HeldLinker<R> {
-    pub fn new(rt: R, alloc: Global, flags: Shared) -> Self
+    pub fn new(rt: R, flags: Shared) -> Self
         ensures asked { result.inner.asked ≡ [] }
         ensures back { result.inner.back ≡ [] }
         ensures accepted { result.inner.accepted ≡ 0 }
@@ -122,13 +121,7 @@ impl<R: AllocGlobal + Drop> HeldLinker<R> {
         HeldLinker {
             inner: RingLinker::new(rt),
             flags,
-            took: Vec::new(alloc),
         }
-    }
-
-    /// All that links took before they came back, one after the other.
-    pub fn took(&self) -> &[u8] {
-        self.took.as_slice()
     }
 }
 
@@ -180,7 +173,6 @@ impl<R: AllocGlobal + Drop> Linker for HeldLinker<R> {
     {
         let Ends { out, inn, peer } = ends;
         let HeldOut { half, flags: _ } = out;
-        let _ = self.took.extend_from_slice(half.taken());
         self.inner.back(
             link,
             Ends {

@@ -6,8 +6,8 @@ ghost use Rattle.sock_io.specs.Link.{end_of};
 use sock_io::{Ends, LinkSpec, Linker, LinkerTells, NoMemory, OpenFault, Out};
 use std::alloc::Global;
 
-/// A linker that notes each link that is given back, and how many bytes it took; and what the connections took that are given
-/// back, one behind another. Its `open` calls fail from the one with a stated number on.
+/// A linker that notes each link that is given back, and how many bytes it took; and what links and connections took that are
+/// given back, one behind another, as far as there is memory. Its `open` calls fail from the one with a stated number on.
 #[derive(Drop)]
 pub struct Noting<L: Linker + Drop> {
     pub inner: L,
@@ -101,6 +101,7 @@ impl<L: Linker + Drop> Linker for Noting<L> {
         ensures failed { self.new.failed ≡ self.old.failed }
     {
         let _ = self.noted.push((link, ends.out.taken().len()));
+        let _ = self.taken.extend_from_slice(ends.out.taken());
         self.inner.back(link, ends);
     }
 }

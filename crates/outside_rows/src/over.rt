@@ -12,30 +12,42 @@ use std::alloc::{AllocError, Global};
 use std::sync::{Arc, Wait};
 use std::thread::Threads;
 
+/// What the call answers over these links, which go then.
+fn answer_over<R: Threads + Wait + Sync + Alloc<A = Global>, L: Linker + Drop>(
+    rt: &R,
+    asked: Asked,
+    links: L,
+) -> Result<Answer, AllocError>
+    requires unused { UnusedLinker (L.asked links) (L.back links) (L.accepted links) (L.done links) }
+{
+    let mut links = links;
+    answered(rt, asked, &mut links, &OpenGate)
+}
+
 /// Over links that take all, but for the calls that fail.
 pub fn over_sinks<R: Threads + Wait + Sync + Alloc<A = Global>>(
     rt: &R,
     asked: Asked,
 ) -> Result<String, AllocError> {
     let alloc = rt.alloc();
-    let mut links = GiveLinker::failing(alloc, vec![in alloc; asked.open]?, asked.put);
-    shown(alloc, &answered(rt, asked, &mut links, &OpenGate)?)
+    let (fails, put) = (vec![in alloc; asked.open]?, asked.put);
+    let answer = answer_over(rt, asked, GiveLinker::failing(alloc, fails, put))?;
+    shown(alloc, &answer)
 }
 
 fn in_memory<R: Threads + Wait + Sync + Alloc<A = Global>>(
     rt: &R,
     asked: Asked,
 ) -> Result<Answer, AllocError> {
-    let mut links = LoopLinker::new(rt.alloc(), Vec::new(rt.alloc()));
-    answered(rt, asked, &mut links, &OpenGate)
+    let alloc = rt.alloc();
+    answer_over(rt, asked, LoopLinker::new(alloc, Vec::new(alloc)))
 }
 
 fn on_threads<R: Threads + Wait + Sync + Alloc<A = Global>>(
     rt: &R,
     asked: Asked,
 ) -> Result<Answer, AllocError> {
-    let mut links = RingLinker::new(rt);
-    answered(rt, asked, &mut links, &OpenGate)
+    answer_over(rt, asked, RingLinker::new(rt))
 }
 
 /// Over links in memory whose other ends serve or end as their lines ask.
@@ -43,7 +55,8 @@ pub fn over_loops<R: Threads + Wait + Sync + Alloc<A = Global>>(
     rt: &R,
     asked: Asked,
 ) -> Result<String, AllocError> {
-    shown(rt.alloc(), &in_memory(rt, asked)?)
+    let answer = in_memory(rt, asked)?;
+    shown(rt.alloc(), &answer)
 }
 
 /// Over links whose other ends move by themselves.
@@ -51,7 +64,8 @@ pub fn over_rings<R: Threads + Wait + Sync + Alloc<A = Global>>(
     rt: &R,
     asked: Asked,
 ) -> Result<String, AllocError> {
-    shown(rt.alloc(), &on_threads(rt, asked)?)
+    let answer = on_threads(rt, asked)?;
+    shown(rt.alloc(), &answer)
 }
 
 /// Whether a script ends on threads as it does step by step, with the status 0.
@@ -73,8 +87,59 @@ pub fn over_given<R: Threads + Wait + Sync + Alloc<A = Global>>(
     asked: Asked,
     bytes: Vec<u8>,
 ) -> Result<String, AllocError> {
-    let mut links = GiveLinker::new(rt.alloc(), 30, bytes);
-    shown(rt.alloc(), &answered(rt, asked, &mut links, &OpenGate)?)
+    let answer = answer_over(rt, asked, GiveLinker::new(rt.alloc(), 30, bytes))?;
+    shown(rt.alloc(), &answer)
+}
+
+/// What is told of links that were noted.
+#[derive(Clone, Copy)]
+enum Telling {
+    /// Behind the status, which links came back, and how many bytes each took.
+    Back,
+    /// Behind what is said, what was taken.
+    Taken,
+    /// Behind the status, whether a crowd's messages left whole, and each client's in its own order.
+    Whole,
+}
+
+fn told(
+    alloc: Global,
+    telling: Telling,
+    answer: &Answer,
+    noted: &[(u16, usize)],
+    taken: &[u8],
+) -> Result<String, AllocError> {
+    let status = answer.status;
+    match telling {
+        Telling::Back => format!(in alloc; "{status} {noted:?}"),
+        Telling::Taken => {
+            let said = shown(alloc, answer)?;
+            with_digits(alloc, said.as_str(), taken)
+        }
+        Telling::Whole => {
+            let is_whole = is_of_crowd(alloc, answer.written.as_slice(), taken)?;
+            format!(in alloc; "{status} whole {is_whole}")
+        }
+    }
+}
+
+fn with_digits(alloc: Global, said: &str, taken: &[u8]) -> Result<String, AllocError> {
+    let digits = hex::encode(alloc, taken)?;
+    format!(in alloc; "{said} took [{digits}]")
+}
+
+/// Over links that are noted.
+fn over_noted<R: Threads + Wait + Sync + Alloc<A = Global>, L: Linker + Drop>(
+    rt: &R,
+    asked: Asked,
+    links: Noting<L>,
+    telling: Telling,
+) -> Result<String, AllocError>
+    requires unused { UnusedLinker (L.asked links.inner) (L.back links.inner) (L.accepted links.inner) (L.done links.inner) }
+{
+    let mut links = links;
+    let answer = answered(rt, asked, &mut links, &OpenGate)?;
+    told(rt.alloc(), telling, &answer, links.noted(), links.taken())
 }
 
 /// Over a connection that gives these bytes, with those that it took.
@@ -84,24 +149,8 @@ pub fn over_connection<R: Threads + Wait + Sync + Alloc<A = Global>>(
     bytes: Vec<u8>,
 ) -> Result<String, AllocError> {
     let alloc = rt.alloc();
-    let mut links = Noting::new(alloc, GiveLinker::new(alloc, 0, bytes));
-    let said = shown(alloc, &answered(rt, asked, &mut links, &OpenGate)?)?;
-    let digits = hex::encode(alloc, links.taken())?;
-    format!(in alloc; "{said} took [{digits}]")
-}
-
-/// The status over these links, and which links are given back, with how many bytes each took.
-fn given_back<R: Threads + Wait + Sync + Alloc<A = Global>, L: Linker + Drop>(
-    rt: &R,
-    asked: Asked,
-    links: Noting<L>,
-) -> Result<String, AllocError>
-    requires unused { UnusedLinker (L.asked links.inner) (L.back links.inner) (L.accepted links.inner) (L.done links.inner) }
-{
-    let alloc = rt.alloc();
-    let mut links = links;
-    let status = answered(rt, asked, &mut links, &OpenGate)?.status;
-    format!(in alloc; "{status} {:?}", links.noted())
+    let links = Noting::new(alloc, GiveLinker::new(alloc, 0, bytes));
+    over_noted(rt, asked, links, Telling::Taken)
 }
 
 /// Over links in memory, where an `open` fails.
@@ -112,7 +161,7 @@ pub fn back_of_sinks<R: Threads + Wait + Sync + Alloc<A = Global>>(
     let alloc = rt.alloc();
     let inner = GiveLinker::failing(alloc, Vec::new(alloc), 0);
     let links = Noting::failing(alloc, inner, asked.open);
-    given_back(rt, asked, links)
+    over_noted(rt, asked, links, Telling::Back)
 }
 
 /// The same, over rings.
@@ -121,19 +170,16 @@ pub fn back_of_rings<R: Threads + Wait + Sync + Alloc<A = Global>>(
     asked: Asked,
 ) -> Result<String, AllocError> {
     let links = Noting::failing(rt.alloc(), RingLinker::new(rt), asked.open);
-    given_back(rt, asked, links)
+    over_noted(rt, asked, links, Telling::Back)
 }
 
-/// Over links that tell what they took: whether a crowd's messages left whole, and each client's in its own order.
+/// Over rings: whether a crowd's messages left whole.
 pub fn over_crowd<R: Threads + Wait + Sync + Alloc<A = Global>>(
     rt: &R,
     asked: Asked,
 ) -> Result<String, AllocError> {
-    let alloc = rt.alloc();
-    let mut links = HeldLinker::new(rt, alloc, new_flags(alloc, false)?);
-    let answer = answered(rt, asked, &mut links, &OpenGate)?;
-    let is_whole = is_of_crowd(alloc, answer.written.as_slice(), links.took())?;
-    format!(in alloc; "{} whole {is_whole}", answer.status)
+    let links = Noting::new(rt.alloc(), RingLinker::new(rt));
+    over_noted(rt, asked, links, Telling::Whole)
 }
 
 /// Over a link whose first put lasts until client 2 comes to its second operation: that, and whether it came there.
@@ -142,12 +188,13 @@ pub fn over_held<R: Threads + Wait + Sync + Alloc<A = Global>>(
     asked: Asked,
 ) -> Result<String, AllocError> {
     let alloc = rt.alloc();
-    let flags = new_flags(alloc, true)?;
+    let flags = new_flags(alloc)?;
     let gate = HeldGate {
         flags: Arc::try_clone(&flags)?,
     };
-    let mut links = HeldLinker::new(rt, alloc, Arc::try_clone(&flags)?);
-    let said = shown(alloc, &answered(rt, asked, &mut links, &gate)?)?;
+    let mut links = HeldLinker::new(rt, Arc::try_clone(&flags)?);
+    let answer = answered(rt, asked, &mut links, &gate)?;
+    let said = shown(alloc, &answer)?;
     let is_done = is_done(&flags);
     format!(in alloc; "{said} done {is_done}")
 }

@@ -1,4 +1,4 @@
-ghost use Rattle.std.specs.Prelude.{◌≡◌, ◌+◌, ◌≤◌, List, length, reverse, sum, IfOk};
+ghost use Rattle.std.specs.Prelude.{◌≡◌, ◌+◌, ◌≤◌, List, length, reverse, sum, pos, IfOk};
 ghost use Rattle.std.specs.Int.{w64, to_be_bytes};
 ghost use Rattle.brpc_model.specs.Reply.{served, echo, summing};
 ghost use Rattle.rpc_meta.specs.Meaning.{request_of};
@@ -43,6 +43,19 @@ pub fn serve(
     if compress_type != 0 {
         return Ok(Answer::Refuses(Refusal::BadRequest));
     }
+    serve_plain(alloc, pool, request, payload, attachment)
+}
+
+// The services, of a payload that isn't compressed.
+fn serve_plain(
+    alloc: Global,
+    pool: &mut BlockPool,
+    request: &RequestMeta,
+    payload: IoBuf,
+    attachment: IoBuf,
+) -> Result<Answer, NoMemory>
+    ensures { IfOk result (λ a. IsAnswer (served (pos 0) (request_of request.now) payload.items attachment.items) a) }
+{
     let method = request.method.as_slice();
     let service = request.service.as_slice();
     if service == b"Echo".as_slice() {

@@ -1,12 +1,12 @@
 -- The sums of a run are those of its first operations together with those of the others.
-use Rattle.std.proofs.Common.{◌≡◌, ℕ, zero, suc, ◌+◌, ◌<◌, ◌≤◌, true, false, cond, List, [], ◌∷◌, length, drop, map, slice_get, slice_index_or, Option, Some, None, Bor, refl, sym, ap, ◌∙◌, subst, arith}
+use Rattle.std.proofs.Common.{◌≡◌, ℕ, zero, suc, ◌+◌, ◌<◌, ◌≤◌, Bool, true, false, cond, if◌then◌else◌, List, [], ◌∷◌, length, drop, map, slice_get, slice_index_or, Option, Some, None, Bor, refl, sym, ap, ◌∙◌, subst, arith}
 use Rattle.std.specs.Prelude.{zip, filter, MatchOption, HoldsAt}
 use Rattle.std.proofs.lemmas.List.{drop_more, drop_all}
 use Rattle.std.proofs.lemmas.Option.{same_Some}
 use Rattle.std.proofs.lemmas.List.Sums.{sum_by-cons}
 use Rattle.sock_words.specs.declared.outcome.Outcome.{Outcome}
 use Rattle.sock_words.specs.declared.place_word.PlaceWord.{PlaceWord}
-use Rattle.brpc_model.specs.Items.{Item, Slots, Requests, First, Open, Client, Send, Call, Expire, Join, Fail, Hold, Drop, Sched, Tick, To, is_call, is_operation}
+use Rattle.brpc_model.specs.Items.{Item, Client, is_call, is_operation}
 use Rattle.brpc_model.specs.Operations.{Operation, operations_from}
 use Rattle.brpc_model.specs.PlaceWords.{outcome_of, outcomes_from}
 use Rattle.script_items.specs.declared.line.Line.{Line}
@@ -18,24 +18,18 @@ use Rattle.script_report.specs.Sums.{AreFew, one_of, together, told_of, sums_of,
 abbrev pub sums_behind : List Item → List Outcome → Sums
 sums_behind items outcomes = sums_of (zip (filter is_operation items) outcomes)
 
+-- an item in front of the operations behind it, where it is one
+item_first : (b : Bool) (client number : ℕ) (item : Item) (own same : List Operation) (items : List Item) → map (λ (op : Operation). op.item) own ≡ items → map (λ (op : Operation). op.item) same ≡ items →
+    map (λ (op : Operation). op.item) (if b then record { client = client; number = number; item = item } ∷ own else same) ≡ (if b then item ∷ items else items)
+item_first true client number item own same items of_own of_same = ap (λ l. item ∷ l) of_own
+item_first false client number item own same items of_own of_same = of_same
+
 -- the operations of a script are its lines that are operations
 pub items_are : (client number : ℕ) (items : List Item) → map (λ (op : Operation). op.item) (operations_from client number items) ≡ filter is_operation items
 items_are client number [] = refl
 items_are client number (Client ∷ items) = items_are (client + 1) 1 items
-items_are client number (Slots n ∷ items) = items_are client number items
-items_are client number (Requests n ∷ items) = items_are client number items
-items_are client number (First n ∷ items) = items_are client number items
-items_are client number (Sched ∷ items) = items_are client number items
-items_are client number (Tick seat n ∷ items) = items_are client number items
-items_are client number (To seat kind ∷ items) = items_are client number items
-items_are client number (Open name shape ∷ items) = ap (λ l. Open name shape ∷ l) (items_are client (number + 1) items)
-items_are client number (Send name bytes ∷ items) = ap (λ l. Send name bytes ∷ l) (items_are client (number + 1) items)
-items_are client number (Call call ∷ items) = ap (λ l. Call call ∷ l) (items_are client (number + 1) items)
-items_are client number (Expire c i ∷ items) = ap (λ l. Expire c i ∷ l) (items_are client (number + 1) items)
-items_are client number (Join c i ∷ items) = ap (λ l. Join c i ∷ l) (items_are client (number + 1) items)
-items_are client number (Fail name code ∷ items) = ap (λ l. Fail name code ∷ l) (items_are client (number + 1) items)
-items_are client number (Hold name ∷ items) = ap (λ l. Hold name ∷ l) (items_are client (number + 1) items)
-items_are client number (Drop name ∷ items) = ap (λ l. Drop name ∷ l) (items_are client (number + 1) items)
+items_are client number (item ∷ items) =
+    item_first (is_operation item) client number item (operations_from client (number + 1) items) (operations_from client number items) (filter is_operation items) (items_are client (number + 1) items) (items_are client number items)
 
 pub sums_cons : (item : Item) (outcome : Outcome) (told : List (Item × Outcome)) → sums_of ((item, outcome) ∷ told) ≡ together (one_of item outcome) (sums_of told)
 sums_cons item outcome told = λ i. record {

@@ -758,6 +758,16 @@ GoesByWord (points.Decide c after at) = decides.GoesByWord at
 GoesByWord (points.Retry r at) = RetriesByWord at
 GoesByWord other = Unit {0}
 
+-- what a point wants of the rules, over a table of these sizes, to go on by the word that its step found
+pub record MayNext (sizes : Sizes) (p : Point) (found : ℕ) : Type 0 where
+  pub within : IsWithin sizes p
+  pub ids : IsWithinIds sizes p
+  pub word : MayFind p found
+  pub aside : MayFindAside p found
+  pub link : HasLinkAt p
+  pub told : TellsCodeAt p
+  pub step : GoesByWord p
+
 -- a call is taken out of its home
 abbrev pub DecidesByCall : DecideStep → Type 0
 DecidesByCall (decide_steps.Take w) = Unit {0}

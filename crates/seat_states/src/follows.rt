@@ -1,7 +1,7 @@
 ghost use Rattle.std.specs.Prelude.{◌≡◌, ℕ, List, None, Bool};
 ghost use Rattle.call_points.specs.Steps.{after_word, after_call};
 ghost use Rattle.seat_programs.specs.sock_message.specs.Asked.{Asked};
-ghost use Rattle.seat_states.specs.Points.{Context, point_program, next_program, after_message, after_link, after_home, after_put, after_ready, with_message, with_put, is_whole, IsWithin, IsWithinIds, MayFindAside, HasLinkAt, TellsCodeAt, IsCalling, HasInHand, IsNextName, framed, taken_with, TakesCall, MayFind, GoesByWord, TakesMessage, TakesLink, PutsHome, PutsPiece, Asks, link_behind, link_left};
+ghost use Rattle.seat_states.specs.Points.{Context, point_program, next_program, after_message, after_link, after_home, after_put, after_ready, with_message, with_put, is_whole, MayNext, IsCalling, HasInHand, IsNextName, framed, taken_with, TakesCall, TakesMessage, TakesLink, PutsHome, PutsPiece, Asks, link_behind, link_left};
 
 use crate::asking::deciding;
 use crate::calling::Calling;
@@ -15,13 +15,7 @@ impl Point {
     /// Where a seat goes on, over a table of these sizes and with this call in hand, by the word that its step found; 0 where
     /// it was none on a word.
     pub fn next(&self, sizes: Sizes, calling: Calling, found: u64) -> Next
-        requires within { IsWithin sizes self.now }
-        requires ids { IsWithinIds sizes self.now }
-        requires word { MayFind self.now found }
-        requires aside { MayFindAside self.now found }
-        requires link { HasLinkAt self.now }
-        requires told { TellsCodeAt self.now }
-        requires step { GoesByWord self.now }
+        requires { MayNext sizes self.now found }
         ensures program { (a : Context) → a.sizes ≡ sizes → IsCalling a calling → HasInHand a self.now → next_program (framed self.now a) result ≡ after_word (point_program a self.now) found }
         ensures hand { link_behind result ≡ link_left self.now }
     {
@@ -103,10 +97,10 @@ impl Point {
         ensures program { (a : Context) → next_program a result ≡ after_home (point_program a self) }
         ensures hand { link_behind result ≡ None }
     {
-        match self {
-            Point::Write(writer, _) => writer.to(WriteStep::EmptyHead),
-            _ => Next::Ended,
-        }
+        let Point::Write(writer, _) = self else {
+            return Next::Ended;
+        };
+        writer.to(WriteStep::EmptyHead)
     }
 
     /// Where it goes on by what its link answered to a put, and whether it took all that was left.
@@ -115,12 +109,10 @@ impl Point {
         ensures program { (a : Context) → whole ≡ is_whole a.left answer → next_program (with_put answer a) result ≡ after_put (point_program a self) answer }
         ensures hand { link_behind result ≡ None }
     {
-        match self {
-            Point::Write(writer, WriteStep::Put(current, _)) => {
-                writer.to(current.put_answered(answer, whole))
-            }
-            _ => Next::Ended,
-        }
+        let Point::Write(writer, WriteStep::Put(current, _)) = self else {
+            return Next::Ended;
+        };
+        writer.to(current.put_answered(answer, whole))
     }
 
     /// Where it goes on by what its link answered to the question whether it takes more.
@@ -129,11 +121,9 @@ impl Point {
         ensures program { (a : Context) → next_program a result ≡ after_ready (point_program a self) answer }
         ensures hand { link_behind result ≡ None }
     {
-        match self {
-            Point::Write(writer, WriteStep::Ask(current)) => {
-                writer.to(current.ready_answered(answer))
-            }
-            _ => Next::Ended,
-        }
+        let Point::Write(writer, WriteStep::Ask(current)) = self else {
+            return Next::Ended;
+        };
+        writer.to(current.ready_answered(answer))
     }
 }

@@ -45,7 +45,7 @@ use Rattle.sock_core.proofs.Offering.{made_offers, made_offering, read_offers, r
 use Rattle.sock_core.proofs.Fitting.{paced_prop, client_next, client_may, client_asks, client_takes, client_slots, reader_next, reader_may, reader_slots}
 use Rattle.sock_core.proofs.Joining.{tells_as}
 use Rattle.sock_core.proofs.Keeping.{OutsKept, Keeps, kept_by, readers_paced, made_paced, step_keeps}
-use Rattle.sock_core.proofs.Lengths.{as_many, sizes_kept}
+use Rattle.sock_core.proofs.Lengths.{as_many, sizes_kept, is_sized, few_seats, few_slots, operations_are}
 use Rattle.sock_core.proofs.PointFacts.{NoTake}
 use Rattle.sock_core.proofs.ReadLengths.{read_prompt, read_many, read_same, read_sizes}
 use Rattle.sock_core.proofs.ReadTicks.{MayRead, reads_by}
@@ -53,27 +53,6 @@ use Rattle.sock_core.proofs.Seatings.{seat_at, read_at}
 use Rattle.sock_core.proofs.Takings.{made_taken, made_takes, read_broken, read_told, read_taken, read_takes}
 use Rattle.sock_core.proofs.Tellings.{ready_waits}
 use Rattle.sock_core.proofs.Ticked.{MayMake, SteppedWith, steps_by}
-
--- ## Of a machine
-
-module _ (m : MachineState) (sizes : ∥ HasSizes m ∥₁) where
-  pub is_sized : IsSized (table_of m)
-  is_sized = ∥∥₁_elim sizes (hlevel props) (λ h. h.tables)
-
-  pub few_seats : length m.seats ≤ READERS
-  few_seats = ∥∥₁_elim sizes (hlevel props) (λ h. h.few_seats)
-
-  pub some_seat : 0 < length m.seats
-  some_seat = ∥∥₁_elim sizes (hlevel props) (λ h. h.some_seat)
-
-  pub few_slots : m.ids.plan.slots ≤ 4096
-  few_slots = ∥∥₁_elim sizes (hlevel props) (λ h. h.few_slots)
-
-  pub few_calls : length m.calls ≤ 4096
-  few_calls = ∥∥₁_elim sizes (hlevel props) (λ h. let a = h.slots_are in let b = h.few_slots in omega (arith, a, b))
-
-  pub operations_are : m.ids.plan.operations ≡ m.plan.operations
-  operations_are = ∥∥₁_elim sizes (hlevel props) (λ h. h.operations_are)
 
 pub is_paced : (m : MachineState) (room : ℕ) → IsMachine m room → m.short ≡ false → ArePaced (machine_sizes m) m.links m.seats
 is_paced m room is enough = ∥∥₁_elim (is.paced enough) (paced_prop (machine_sizes m) m.links m.seats) (λ p. p)
@@ -165,39 +144,30 @@ module _ (m fresh : MachineState) (room i : ℕ) (step : Step) (tick : Tick) (is
   moment = record { seat = i; answer = answer }
 
   abbrev program : Program
-  program = seat_program (machine_sizes m) w.seat
+  program = seat_program (machine_sizes m) w.one
 
   abbrev first : First
-  first = step_as (around (machine_sizes m) w.seat) step
-
-  sized : IsSized (table_of m)
-  sized = is_sized m is.sizes
-
-  few : length m.seats ≤ READERS
-  few = few_seats m is.sizes
-
-  slots : m.ids.plan.slots ≤ 4096
-  slots = few_slots m is.sizes
+  first = step_as (around (machine_sizes m) w.one) step
 
   next : first_in program ≡ Some first
-  next = client_next m sized slots (is.called enough) (is.sound enough) i w.seat w.at step n
+  next = client_next m room is enough i w.one w.at step n
 
   may : MayMake m.plan m.links i first
-  may = client_may m sized slots (is.called enough) (is.sound enough) i w.seat w.at step n
+  may = client_may m room is enough i w.one w.at step n
 
   unfinished : AsksUnfinished m.links first
-  unfinished = client_asks m sized slots (is.called enough) (is.sound enough) i w.seat w.at step n
+  unfinished = client_asks m room is enough i w.one w.at step n
 
   takes : (aside : asides.Step) → first ≡ OfAside aside → NoTake aside
-  takes = client_takes m sized slots (is.called enough) (is.sound enough) i w.seat w.at step n
+  takes = client_takes m room is enough i w.one w.at step n
 
   paced : ArePaced (machine_sizes m) m.links m.seats
   paced = is_paced m room is enough
 
-  made : MadeFirst (table_of m) (table_of fresh) i w.seat w.seat' step first answer
+  made : MadeFirst (table_of m) (table_of fresh) i w.one w.one' step first answer
   made = w.told.makes.is
 
-  base_by : (f : First) → MadeFirst (table_of m) (table_of fresh) i w.seat w.seat' step f answer → SameBase (table_of m) (table_of fresh)
+  base_by : (f : First) → MadeFirst (table_of m) (table_of fresh) i w.one w.one' step f answer → SameBase (table_of m) (table_of fresh)
   base_by (kinds.OfPut k asked bytes) x = x.2.goes.base
   base_by (kinds.OfReady k) x = x.2.goes.base
   base_by _ x = x.1.goes.base
@@ -206,29 +176,29 @@ module _ (m fresh : MachineState) (room i : ℕ) (step : Step) (tick : Tick) (is
   base = base_by first made
 
   stepped : (took : Taken) (gave : Given) → Agrees m.links took → AgreesGave m.links gave → SteppedWith m fresh i answer took gave
-  stepped took gave agrees agrees_gave = steps_by m fresh i w.seat w.seat' w.at w.seats w.readers few sized (paced i w.seat w.at) took agrees gave agrees_gave step answer next may takes made
+  stepped took gave agrees agrees_gave = steps_by m fresh i w.one w.one' w.at w.all w.readers (few_seats m is.sizes) (is_sized m is.sizes) (paced i w.one w.at) took agrees gave agrees_gave step answer next may takes made
 
   own_at : (took : Taken) (gave : Given) → get_elem? (core_with m took gave).seats i ≡ core.some (state_of m.plan m.links took program i)
-  own_at took gave = seat_at m took i w.seat w.at
+  own_at took gave = seat_at m took i w.one w.at
 
   follows : (took : Taken) (gave : Given) → Agrees m.links took → AgreesGave m.links gave → Follows m fresh took gave (moment ∷ [])
   follows took gave agrees agrees_gave = let s = stepped took gave agrees agrees_gave in let c : Core = core_with m took gave in record {
     answered = (s.answered, tt);
-    always_ready = λ always_ready. (made_prompt m fresh i w.seat w.seat' step first answer made always_ready, tt);
-    closes = λ tell. made_closes m fresh i w.seat w.seat' step m.plan c first answer made;
-    offers = λ k serve end h. (made_offers m fresh i w.seat w.seat' step m.plan k serve end c first answer made, made_offering m fresh i w.seat w.seat' step k serve end h first answer made);
+    always_ready = λ always_ready. (made_prompt m fresh i w.one w.one' step first answer made always_ready, tt);
+    closes = λ tell. made_closes m fresh i w.one w.one' step m.plan c first answer made;
+    offers = λ k serve end h. (made_offers m fresh i w.one w.one' step m.plan k serve end c first answer made, made_offering m fresh i w.one w.one' step k serve end h first answer made);
     so_far = s.so_far;
     core = s.core;
     shows = record {
-      broken = subst (ShowFaults fresh) (sym (append-nil (broken_at c moment))) (made_broken m fresh i c (state_of m.plan m.links took program i) (own_at took gave) w.seat w.seat' step first answer made next unfinished);
-      told = tells_as m fresh _ _ (λ k. sym (append-nil (heard_at c moment k))) (made_told m fresh i c (state_of m.plan m.links took program i) (own_at took gave) w.seat w.seat' step first answer made next);
-      taken = made_taken m fresh i w.seat w.seat' step m.plan c first answer made s.answered;
-      takes = made_takes m fresh i w.seat w.seat' step m.plan c first answer made s.answered;
+      broken = subst (ShowFaults fresh) (sym (append-nil (broken_at c moment))) (made_broken m fresh i c (state_of m.plan m.links took program i) (own_at took gave) w.one w.one' step first answer made next unfinished);
+      told = tells_as m fresh _ _ (λ k. sym (append-nil (heard_at c moment k))) (made_told m fresh i c (state_of m.plan m.links took program i) (own_at took gave) w.one w.one' step first answer made next);
+      taken = made_taken m fresh i w.one w.one' step m.plan c first answer made s.answered;
+      takes = made_takes m fresh i w.one w.one' step m.plan c first answer made s.answered;
     };
   }
 
   pub told_links : SameLinks m fresh
-  told_links = made_links m fresh i w.seat w.seat' step first answer made
+  told_links = made_links m fresh i w.one w.one' step first answer made
 
   pub told_table : SameTable m fresh
   told_table = record { plans = base.plans; opens = w.opens }
@@ -237,33 +207,33 @@ module _ (m fresh : MachineState) (room i : ℕ) (step : Step) (tick : Tick) (is
   pub told_ticks : Ticked m fresh i tick
   told_ticks = ticks_by m fresh room i program answer is enough own_at told_table told_links follows tick w.told.tells
 
-  yet_by : (f : First) → first_in program ≡ Some f → MadeFirst (table_of m) (table_of fresh) i w.seat w.seat' step f answer → answer ≡ OfReady asks.NotYet → (c : Core) → waits_at m.plan c answer program ≡ true
+  yet_by : (f : First) → first_in program ≡ Some f → MadeFirst (table_of m) (table_of fresh) i w.one w.one' step f answer → answer ≡ OfReady asks.NotYet → (c : Core) → waits_at m.plan c answer program ≡ true
   yet_by (kinds.OfPut k asked bytes) at x e c = absurd (let f = x.1 in cc)
-  yet_by (kinds.OfReady k) at x e c = ap (λ (o : Answer). waits_at m.plan c o program) e ∙ (ready_waits m.plan c (around (machine_sizes m) w.seat) w.seat.point k at).0
+  yet_by (kinds.OfReady k) at x e c = ap (λ (o : Answer). waits_at m.plan c o program) e ∙ (ready_waits m.plan c (around (machine_sizes m) w.one) w.one.point k at).0
   yet_by _ at x e c = absurd (let f = x.0 in cc)
 
   keeps : (s : IsSoundMachine m) → Keeps m fresh s moment
-  keeps s = step_keeps m fresh i answer base.plan base.id_plan w.opens slots (operations_are m is.sizes) s (stepped s.took s.gave s.agrees s.agrees_gave)
+  keeps s = step_keeps m fresh i answer base.plan base.id_plan w.opens (few_slots m is.sizes) (operations_are m is.sizes) s (stepped s.took s.gave s.agrees s.agrees_gave)
       (rests_not m s.took s.gave i program (own_at s.took s.gave) answer s.ahead first next)
       (λ e. ap (λ (o : core.Option SeatState). elim o as (λ x. Bool) [ core.none ↦ false | core.some x ↦ waits_at m.plan (core_with m s.took s.gave) answer x.program ]) (own_at s.took s.gave) ∙ yet_by first next made e (core_with m s.took s.gave))
 
-  called_by : (x : Step) → first_in program ≡ Some (step_as (around (machine_sizes m) w.seat) x) → MadeFirst (table_of m) (table_of fresh) i w.seat w.seat' x (step_as (around (machine_sizes m) w.seat) x) answer → AreCalled fresh.ids
-  called_by (firsts.Aside aside) at x = called_behind (table_of m) (asked_or_nothing w.seat.call) aside x.1.found fresh.ids x.1.ids (client_slots m sized slots (is.called enough) (is.sound enough) i w.seat w.at aside at) (is.called enough)
+  called_by : (x : Step) → first_in program ≡ Some (step_as (around (machine_sizes m) w.one) x) → MadeFirst (table_of m) (table_of fresh) i w.one w.one' x (step_as (around (machine_sizes m) w.one) x) answer → AreCalled fresh.ids
+  called_by (firsts.Aside aside) at x = called_behind (table_of m) (asked_or_nothing w.one.call) aside x.1.found fresh.ids x.1.ids (client_slots m room is enough i w.one w.at aside at) (is.called enough)
   called_by (firsts.PutBytes k asked author) at x = subst AreCalled (sym x.2.ids) (is.called enough)
   called_by (firsts.AskReady k) at x = subst AreCalled (sym x.2.ids) (is.called enough)
   called_by _ at x = subst AreCalled (sym x.1.ids) (is.called enough)
 
   many : AsMany (table_of m) (table_of fresh)
-  many = as_many m fresh i w.seat w.seat' step first answer made
+  many = as_many m fresh i w.one w.one' step first answer made
 
   pub told_sizes : ∥ HasSizes fresh ∥₁
-  told_sizes = ∥∥₁_elim is.sizes (hlevel props) (λ h. ∣ sizes_kept m fresh i w.seat' h many base told_links.as_many w.seats w.readers w.opens ∣₁)
+  told_sizes = ∥∥₁_elim is.sizes (hlevel props) (λ h. ∣ sizes_kept m fresh i w.one' h many base told_links.as_many w.all w.readers w.opens ∣₁)
 
   -- the machine stays one
   pub told_keeps : IsMachine fresh room
   told_keeps = keeps_by m fresh room i program answer is enough own_at keeps told_sizes many
-      (made_paced m sized paced (is.sound enough) fresh i w.seat w.seat' w.at w.seats step first answer next may made)
-      (made_closed m fresh i w.seat w.seat' step (is.closed enough) (place_inside m.seats i w.seat w.at) w.seats w.readers first answer made) (called_by step next made)
+      (made_paced m (is_sized m is.sizes) paced (is.sound enough) fresh i w.one w.one' w.at w.all step first answer next may made)
+      (made_closed m fresh i w.one w.one' step (is.closed enough) (place_inside m.seats i w.one w.at) w.all w.readers first answer made) (called_by step next made)
 
   pub told_leaves : Leaves tick m fresh
   told_leaves = leaves_by m fresh room i program answer is enough own_at keeps w.short tick w.told.tells
@@ -284,10 +254,10 @@ module _ (m fresh : MachineState) (room k : ℕ) (step : ReadStep) (tick : Tick)
   read_moment = record { seat = i; answer = given_answer }
 
   abbrev reading : Program
-  reading = reader_program m.calls w.reader
+  reading = reader_program m.calls w.one
 
   abbrev begins : First
-  begins = reader_steps.step_as w.reader.asked step
+  begins = reader_steps.step_as w.one.asked step
 
   read_sized : IsSized (table_of m)
   read_sized = is_sized m is.sizes
@@ -295,56 +265,53 @@ module _ (m fresh : MachineState) (room k : ℕ) (step : ReadStep) (tick : Tick)
   read_few : length m.seats ≤ READERS
   read_few = few_seats m is.sizes
 
-  read_slots : m.ids.plan.slots ≤ 4096
-  read_slots = few_slots m is.sizes
-
   read_next : first_in reading ≡ Some begins
-  read_next = reader_next m read_sized read_slots (is.called enough) (is.sound enough) read_few k w.reader w.at step n
+  read_next = reader_next m room is enough k w.one w.at step n
 
   read_may : (f : First) → first_in reading ≡ Some f → MayMake m.plan m.links i f
-  read_may f at = reader_may m read_sized read_slots (is.called enough) (is.sound enough) read_few k w.reader w.at f at
+  read_may f at = reader_may m room is enough k w.one w.at f at
 
   read_paced : ArePaced (machine_sizes m) m.links m.seats
   read_paced = is_paced m room is enough
 
-  read_made : MadeRead (table_of m) (table_of fresh) i w.reader w.reader' begins given_answer
+  read_made : MadeRead (table_of m) (table_of fresh) i w.one w.one' begins given_answer
   read_made = w.told.made
 
   same : SameTables (table_of m) (table_of fresh)
-  same = read_same m fresh i w.reader w.reader' begins given_answer read_made
+  same = read_same m fresh i w.one w.one' begins given_answer read_made
 
   read_stepped : (took : Taken) (gave : Given) → Agrees m.links took → AgreesGave m.links gave → SteppedWith m fresh i given_answer took gave
-  read_stepped took gave agrees agrees_gave = reads_by m fresh k w.reader w.reader' w.at w.seats w.readers read_few read_sized took agrees gave agrees_gave step given_answer read_next (by_first begins read_next read_made) read_made
+  read_stepped took gave agrees agrees_gave = reads_by m fresh k w.one w.one' w.at w.seats w.all read_few read_sized took agrees gave agrees_gave step given_answer read_next (by_first begins read_next read_made) read_made
     where
-      by_first : (f : First) → first_in reading ≡ Some f → MadeRead (table_of m) (table_of fresh) i w.reader w.reader' f given_answer → MayRead m fresh k w.reader w.reader' w.at w.seats w.readers read_few read_sized took agrees gave agrees_gave f
+      by_first : (f : First) → first_in reading ≡ Some f → MadeRead (table_of m) (table_of fresh) i w.one w.one' f given_answer → MayRead m fresh k w.one w.one' w.at w.seats w.all read_few read_sized took agrees gave agrees_gave f
       by_first (OfCall call) at x = read_may (OfCall call) at
       by_first (OfAside (asides.TakeBytes j count)) at x = let f = x.2.from in let low = place_inside m.links.inns j f.inn f.at in let many = read_sized.inns_are in omega (arith, low, many)
       by_first _ at x = tt
 
   read_own : (took : Taken) (gave : Given) → get_elem? (core_with m took gave).seats i ≡ core.some (state_of m.plan m.links took reading i)
-  read_own took gave = read_at m took k w.reader read_few w.at
+  read_own took gave = read_at m took k w.one read_few w.at
 
   read_follows : (took : Taken) (gave : Given) → Agrees m.links took → AgreesGave m.links gave → Follows m fresh took gave (read_moment ∷ [])
   read_follows took gave agrees agrees_gave = let s = read_stepped took gave agrees agrees_gave in let c : Core = core_with m took gave in let own : SeatState = state_of m.plan m.links took reading i in record {
     answered = (s.answered, tt);
-    always_ready = λ always_ready. (read_prompt m fresh i w.reader w.reader' begins given_answer read_made, tt);
-    closes = λ tell. read_closes m fresh k w.reader w.reader' (is.closed enough) w.at w.seats read_sized.letters_are read_sized.inns_are read_few took gave tell begins given_answer read_made;
+    always_ready = λ always_ready. (read_prompt m fresh i w.one w.one' begins given_answer read_made, tt);
+    closes = λ tell. read_closes m fresh k w.one w.one' (is.closed enough) w.at w.seats read_sized.letters_are read_sized.inns_are read_few took gave tell begins given_answer read_made;
     offers = λ x serve end h. (
-      read_offers m fresh k w.reader w.reader' x serve end h (is.closed enough) w.at read_sized.letters_are read_sized.inns_are read_few took gave agrees agrees_gave begins given_answer read_made,
-      read_offering m fresh k w.reader w.reader' x serve end h begins given_answer read_made,
+      read_offers m fresh k w.one w.one' x serve end h (is.closed enough) w.at read_sized.letters_are read_sized.inns_are read_few took gave agrees agrees_gave begins given_answer read_made,
+      read_offering m fresh k w.one w.one' x serve end h begins given_answer read_made,
     );
     so_far = s.so_far;
     core = s.core;
     shows = record {
-      broken = read_broken m fresh i w.reader w.reader' m.plan c own (read_own took gave) begins given_answer read_made;
-      told = read_told m fresh i w.reader w.reader' m.plan c own (read_own took gave) begins given_answer read_next read_made;
-      taken = read_taken m fresh i w.reader w.reader' m.plan c own (read_own took gave) begins given_answer read_next read_made;
-      takes = read_takes m fresh i w.reader w.reader' m.plan c own (read_own took gave) begins given_answer read_next read_made;
+      broken = read_broken m fresh i w.one w.one' m.plan c own (read_own took gave) begins given_answer read_made;
+      told = read_told m fresh i w.one w.one' m.plan c own (read_own took gave) begins given_answer read_next read_made;
+      taken = read_taken m fresh i w.one w.one' m.plan c own (read_own took gave) begins given_answer read_next read_made;
+      takes = read_takes m fresh i w.one w.one' m.plan c own (read_own took gave) begins given_answer read_next read_made;
     };
   }
 
   pub read_links_stay : SameLinks m fresh
-  read_links_stay = read_links m fresh k w.reader w.reader' begins given_answer read_made
+  read_links_stay = read_links m fresh k w.one w.one' begins given_answer read_made
 
   pub read_table : SameTable m fresh
   read_table = record { plans = same.plans; opens = w.opens }
@@ -354,35 +321,35 @@ module _ (m fresh : MachineState) (room k : ℕ) (step : ReadStep) (tick : Tick)
   read_ticks = ticks_by m fresh room i reading given_answer is enough read_own read_table read_links_stay read_follows tick w.told.tells
 
   read_kept : (s : IsSoundMachine m) → Keeps m fresh s read_moment
-  read_kept s = step_keeps m fresh i given_answer same.plan same.id_plan w.opens read_slots (operations_are m is.sizes) s (read_stepped s.took s.gave s.agrees s.agrees_gave)
+  read_kept s = step_keeps m fresh i given_answer same.plan same.id_plan w.opens (few_slots m is.sizes) (operations_are m is.sizes) s (read_stepped s.took s.gave s.agrees s.agrees_gave)
       (rests_not m s.took s.gave i reading (read_own s.took s.gave) given_answer s.ahead begins read_next)
-      (λ e. absurd (read_prompt m fresh i w.reader w.reader' begins given_answer read_made e))
+      (λ e. absurd (read_prompt m fresh i w.one w.one' begins given_answer read_made e))
 
-  outs_by : (f : First) → first_in reading ≡ Some f → MadeRead (table_of m) (table_of fresh) i w.reader w.reader' f given_answer → OutsKept m.links i fresh.links.outs
+  outs_by : (f : First) → first_in reading ≡ Some f → MadeRead (table_of m) (table_of fresh) i w.one w.one' f given_answer → OutsKept m.links i fresh.links.outs
   outs_by (OfCall call) at x = kept_by m.plan m.links i fresh.links.outs call (read_may (OfCall call) at) x.1.outs
   outs_by (OfAside aside) at x = by_step aside x
     where
-      by_step : (aside : asides.Step) → MadeRead (table_of m) (table_of fresh) i w.reader w.reader' (OfAside aside) given_answer → OutsKept m.links i fresh.links.outs
+      by_step : (aside : asides.Step) → MadeRead (table_of m) (table_of fresh) i w.one w.one' (OfAside aside) given_answer → OutsKept m.links i fresh.links.outs
       by_step (asides.TakeBytes j count) x = inl x.2.outs
       by_step _ x = inl (ap (λ (l : LinksData). l.outs) x.1.links)
   outs_by _ at x = absurd x
 
-  read_called : (x : ReadStep) → first_in reading ≡ Some (reader_steps.step_as w.reader.asked x) → MadeRead (table_of m) (table_of fresh) i w.reader w.reader' (reader_steps.step_as w.reader.asked x) given_answer → AreCalled fresh.ids
+  read_called : (x : ReadStep) → first_in reading ≡ Some (reader_steps.step_as w.one.asked x) → MadeRead (table_of m) (table_of fresh) i w.one w.one' (reader_steps.step_as w.one.asked x) given_answer → AreCalled fresh.ids
   read_called (steps.Call call) at x = subst AreCalled (sym x.1.ids) (is.called enough)
   read_called (steps.Aside aside) at x = by_step aside at x
     where
-      fits : (aside : AsideStep) → first_in reading ≡ Some (OfAside (aside_steps.step_of w.reader.asked aside)) → FitsSlots (table_of m) aside
-      fits aside at = reader_slots m read_sized read_slots (is.called enough) (is.sound enough) read_few k w.reader w.at aside at
+      fits : (aside : AsideStep) → first_in reading ≡ Some (OfAside (aside_steps.step_of w.one.asked aside)) → FitsSlots (table_of m) aside
+      fits aside at = reader_slots m room is enough k w.one w.at aside at
 
-      by_step : (aside : AsideStep) → first_in reading ≡ Some (OfAside (aside_steps.step_of w.reader.asked aside)) → MadeRead (table_of m) (table_of fresh) i w.reader w.reader' (OfAside (aside_steps.step_of w.reader.asked aside)) given_answer → AreCalled fresh.ids
+      by_step : (aside : AsideStep) → first_in reading ≡ Some (OfAside (aside_steps.step_of w.one.asked aside)) → MadeRead (table_of m) (table_of fresh) i w.one w.one' (OfAside (aside_steps.step_of w.one.asked aside)) given_answer → AreCalled fresh.ids
       by_step (code.TakeBytes j count) at x = subst AreCalled (sym x.2.ids) (is.called enough)
-      by_step aside at x = called_behind (table_of m) w.reader.asked aside x.1.found fresh.ids x.1.ids (fits aside at) (is.called enough)
+      by_step aside at x = called_behind (table_of m) w.one.asked aside x.1.found fresh.ids x.1.ids (fits aside at) (is.called enough)
 
   read_as_many : AsMany (table_of m) (table_of fresh)
-  read_as_many = read_many m fresh i w.reader w.reader' begins given_answer read_made
+  read_as_many = read_many m fresh i w.one w.one' begins given_answer read_made
 
   pub read_has_sizes : ∥ HasSizes fresh ∥₁
-  read_has_sizes = ∥∥₁_elim is.sizes (hlevel props) (λ h. ∣ read_sizes m fresh k w.reader' h read_as_many same read_links_stay.as_many w.readers w.seats w.opens ∣₁)
+  read_has_sizes = ∥∥₁_elim is.sizes (hlevel props) (λ h. ∣ read_sizes m fresh k w.one' h read_as_many same read_links_stay.as_many w.all w.seats w.opens ∣₁)
 
   same_sizes : machine_sizes fresh ≡ machine_sizes m
   same_sizes = ap₂ (λ p q. (record { slots = p.slots; requests = p.requests; ids = q.slots })) same.plan same.id_plan
@@ -391,7 +358,7 @@ module _ (m fresh : MachineState) (room k : ℕ) (step : ReadStep) (tick : Tick)
   pub read_keeps : IsMachine fresh room
   read_keeps = keeps_by m fresh room i reading given_answer is enough read_own read_kept read_has_sizes read_as_many
       (readers_paced m read_sized read_paced (is.sound enough) fresh i (let f = read_few in omega (arith, f)) same_sizes w.seats (outs_by begins read_next read_made))
-      (read_closed m fresh k w.reader w.reader' (is.closed enough) w.at w.seats w.readers begins given_answer read_made) (read_called step read_next read_made)
+      (read_closed m fresh k w.one w.one' (is.closed enough) w.at w.seats w.all begins given_answer read_made) (read_called step read_next read_made)
 
   pub read_leaves : Leaves tick m fresh
   read_leaves = leaves_by m fresh room i reading given_answer is enough read_own read_kept w.short tick w.told.tells

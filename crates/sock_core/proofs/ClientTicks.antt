@@ -15,9 +15,10 @@ use Rattle.sock_core.specs.Steps.{NextIs, HasNoStep, StepFits, PreparedAt}
 use Rattle.sock_core.specs.Passing.{HasPassed}
 use Rattle.sock_core.specs.Telling.{TickTold}
 use Rattle.sock_core.specs.Driving.{Leaves, FirstRests}
-use Rattle.sock_core.proofs.Advancing.{is_sized, few_seats, some_seat, few_slots, few_calls, told_links, told_table, told_ticks, told_keeps, told_leaves, told_enough, read_links_stay, read_table, read_ticks, read_keeps, read_leaves}
+use Rattle.sock_core.proofs.Advancing.{told_links, told_table, told_ticks, told_keeps, told_leaves, told_enough, read_links_stay, read_table, read_ticks, read_keeps, read_leaves}
 use Rattle.sock_core.proofs.Endings.{both_join}
 use Rattle.sock_core.proofs.Fitting.{step_fits, read_fits}
+use Rattle.sock_core.proofs.Lengths.{is_sized, few_seats, some_seat}
 use Rattle.sock_core.proofs.PlainSteps.{no_step_rests, no_read_rests}
 use Rattle.sock_core.proofs.Preparing.{prepared_ticks, prepared_same, prepared_keeps, prepared_enough, prepared_leaves, prepared_rests, prepared_stands, prepared_inside, cut_keeps, cut_same}
 use Rattle.sock_core.proofs.Resting.{first_rests, rest_ticks}
@@ -58,7 +59,7 @@ module _ (old mid : MachineState) (room i : ℕ) (is : IsMachine old room) (enou
   client_sized = is_sized mid mid_is.sizes
 
   pub client_fits : (step : Step) → NextIs mid i step → StepFits mid i step
-  client_fits step n = step_fits mid client_sized (few_slots mid mid_is.sizes) (mid_is.called mid_enough) (mid_is.sound mid_enough) i step (prepared_stands old mid i p) n
+  client_fits step n = step_fits mid room mid_is mid_enough i step (prepared_stands old mid i p) n
 
   -- without a step left
   pub client_idle : HasNoStep mid i → Ticked old mid i Idle
@@ -86,7 +87,7 @@ module _ (old mid : MachineState) (room i : ℕ) (is : IsMachine old room) (enou
 
       pub client_rests : i ≢ 0 → FirstRests old → FirstRests new
       client_rests differ rest = still_rests mid new (told_table mid new room i step tick mid_is mid_enough n w)
-          (ap (λ (ss : List SeatData). get_elem? ss 0) w.seats ∙ set_else mid.seats i 0 w.seat' (λ e. differ (sym e))) (some_seat mid mid_is.sizes) (idle_rests differ rest)
+          (ap (λ (ss : List SeatData). get_elem? ss 0) w.all ∙ set_else mid.seats i 0 w.one' (λ e. differ (sym e))) (some_seat mid mid_is.sizes) (idle_rests differ rest)
 
     module _ (w : IsCutShort mid new) where
       pub cut_client : IsMachine new room
@@ -141,7 +142,7 @@ module _ (old : MachineState) (room k : ℕ) (is : IsMachine old room) (enough :
   reader_sized = is_sized old is.sizes
 
   pub reader_fits : (step : ReadStep) → NextReadIs old k step → ReadFits old k step
-  reader_fits step n = read_fits old reader_sized (few_slots old is.sizes) (is.called enough) (is.sound enough) (few_seats old is.sizes) (few_calls old is.sizes) k step n
+  reader_fits step n = read_fits old room is enough k step n
 
   pub reader_idle : HasNoRead old k → Ticked old old (READERS + k) Idle
   reader_idle none_ = rest_ticks old (READERS + k) (no_read_rests old k (few_seats old is.sizes) none_)

@@ -1,5 +1,5 @@
 -- The next step of a seat of a sound machine fits the tables.
-use Rattle.std.proofs.Common.{◌≡◌, refl, ℕ, ◌+◌, ◌<◌, ◌≤◌, List, length, map, get_or, Option, Some, None, ap, sym, ◌∙◌, arith, subst}
+use Rattle.std.proofs.Common.{◌≡◌, refl, ℕ, ◌+◌, ◌<◌, ◌≤◌, false, List, length, map, get_or, Option, Some, None, ap, sym, ◌∙◌, arith, subst}
 use Rattle.std.proofs.Props.{props}
 use Rattle.std.proofs.Math.Logic.{∥∥₁_elim}
 use Rattle.atomic_table.proofs.Lists.{at_map, at_longer}
@@ -45,10 +45,11 @@ use Rattle.reader_seats.specs.Readers.{ReaderData, reader_program}
 use Rattle.reader_seats.specs.Readers as readers
 use Rattle.sock_core.specs.declared.letter.Letter.{Letter}
 use Rattle.sock_core.specs.Links.{LinksData, IsPaced, letter_home}
-use Rattle.sock_core.specs.Machines.{MachineState, READERS, IsSoundMachine, AreCalled, ArePaced, table_of, machine_sizes, state_of, waiting_of, given_by, core_with, IsSized}
+use Rattle.sock_core.specs.Machines.{MachineState, READERS, IsMachine, IsSoundMachine, ArePaced, table_of, machine_sizes, state_of, waiting_of, given_by, core_with, IsSized}
 use Rattle.sock_core.specs.Steps.{IsOfLinks, NextIs, MayGoOn, StandsAt, FitsSlots, Fits, StepFits, beside}
 use Rattle.sock_core.specs.Reading.{NextReadIs, MayRead, FitsRead, ReadFits}
 use Rattle.sock_core.proofs.Answering.{AsksUnfinished}
+use Rattle.sock_core.proofs.Lengths.{is_sized, few_seats, few_slots, few_calls}
 use Rattle.sock_core.proofs.PointFacts.{NoTake, finds_beside, takes_none, within_aside, finds_aside, finds_call, within_ids, reads_within, reads_word, reads_aside}
 use Rattle.sock_core.proofs.Seatings.{seat_at, read_at}
 use Rattle.sock_core.proofs.Sounds.{Known, id_view, id_goes, id_may, known_first, finds_word}
@@ -125,7 +126,16 @@ of_links p l i _ may = tt
 
 -- ## A seat of a machine
 
-module _ (m : MachineState) (sized : IsSized (table_of m)) (few_slots : m.ids.plan.slots ≤ 4096) (called : AreCalled m.ids) (sound : ∥ IsSoundMachine m ∥₁) where
+module _ (m : MachineState) (room : ℕ) (is : IsMachine m room) (enough : m.short ≡ false) where
+  sized : IsSized (table_of m)
+  sized = is_sized m is.sizes
+
+  few : m.ids.plan.slots ≤ 4096
+  few = few_slots m is.sizes
+
+  sound : ∥ IsSoundMachine m ∥₁
+  sound = is.sound enough
+
   few_requests : m.plan.requests ≤ 4096
   few_requests = ∥∥₁_elim sound (hlevel props) (λ s. s.sound.limits.requests)
 
@@ -189,11 +199,11 @@ module _ (m : MachineState) (sized : IsSized (table_of m)) (few_slots : m.ids.pl
 
     -- a call's word names an id
     call_found : (o word : ℕ) → first_in program ≡ Some (OfAside (asides.LoadCall o)) → get_or m.ids.words (call_index m.ids.plan o) 0 ≡ word → MayFindId word
-    call_found o word next is = (
+    call_found o word next same = (
       dite (ℕ_discrete word 0)
           (λ none_. let z : id_slot word ≡ 0 = ap id_slot none_ in omega (arith, z))
-          (λ some_. ∥∥₁_elim sound (hlevel props) (λ s. let inside = may s in let low = subst (λ w. id_slot w < m.ids.plan.slots) is (s.ids.called o inside (λ e. some_ (sym is ∙ e))) in omega (arith, low, few_slots))),
-      subst (λ w. id_first w < 67108864) is (called o (∥∥₁_elim sound (hlevel props) may)),
+          (λ some_. ∥∥₁_elim sound (hlevel props) (λ s. let inside = may s in let low = subst (λ w. id_slot w < m.ids.plan.slots) same (s.ids.called o inside (λ e. some_ (sym same ∙ e))) in omega (arith, low, few))),
+      subst (λ w. id_first w < 67108864) same (is.called enough o (∥∥₁_elim sound (hlevel props) may)),
     )
       where
         may : IsSoundMachine m → o < m.ids.plan.operations
@@ -223,7 +233,7 @@ module _ (m : MachineState) (sized : IsSized (table_of m)) (few_slots : m.ids.pl
     goes_word : (call : calls.Call) → first_in client ≡ Some (OfCall call) → MayGoOn (table_of m) seat (found_at m.words (word_of m.plan call))
     goes_word call next = record {
       within = is_within a seat.point call (machine_sizes m) next few_requests (word_sizes i client client_at call next);
-      ids = within_ids m.plan m.ids.plan few_slots a seat.point refl (goes_ids i client client_at);
+      ids = within_ids m.plan m.ids.plan few a seat.point refl (goes_ids i client client_at);
       word = may_find a seat.point call _ next (word_allowed i client client_at call next);
       beside = finds_beside a seat.point call _ next (word_sock i client client_at call next);
     }
@@ -231,7 +241,7 @@ module _ (m : MachineState) (sized : IsSized (table_of m)) (few_slots : m.ids.pl
     goes_aside : (step : asides.Step) (word : ℕ) → first_in client ≡ Some (OfAside step) → found_in step (beside (table_of m)) core.none ≡ word_found step word → MayGoOn (table_of m) seat word
     goes_aside step word next found = record {
       within = within_aside a seat.point step (machine_sizes m) next;
-      ids = within_ids m.plan m.ids.plan few_slots a seat.point refl (goes_ids i client client_at);
+      ids = within_ids m.plan m.ids.plan few a seat.point refl (goes_ids i client client_at);
       word = finds_aside a seat.point step word next;
       beside = finds_call a seat.point step word next (loads_call i client client_at step word next found);
     }
@@ -279,15 +289,15 @@ module _ (m : MachineState) (sized : IsSized (table_of m)) (few_slots : m.ids.pl
 
   -- ## A reader
 
-  module _ (few_seats : length m.seats ≤ READERS) (k : ℕ) (reader : ReaderData) (at : get_elem? m.readers k ≡ core.some reader) where
+  module _ (k : ℕ) (reader : ReaderData) (at : get_elem? m.readers k ≡ core.some reader) where
     abbrev own : Program
     own = reader_program m.calls reader
 
     reader_at : (s : IsSoundMachine m) → get_elem? (core_with m s.took s.gave).seats (READERS + k) ≡ core.some (state_of m.plan m.links s.took own (READERS + k))
-    reader_at s = read_at m s.took k reader few_seats at
+    reader_at s = read_at m s.took k reader (few_seats m is.sizes) at
 
     reads_on : (found : ℕ) → reading.MayFind reader.point found → MayRead reader found
-    reads_on found finds = record { within = reads_within m.plan m.ids.plan few_slots (readers.around m.calls reader) reader.point (goes_ids (READERS + k) own reader_at); word = finds }
+    reads_on found finds = record { within = reads_within m.plan m.ids.plan few (readers.around m.calls reader) reader.point (goes_ids (READERS + k) own reader_at); word = finds }
 
     by_read : (step : ReadStep) → first_in own ≡ Some (reader_steps.step_as reader.asked step) → FitsRead (table_of m) reader step
     by_read (steps.Call call) next = (
@@ -311,5 +321,5 @@ module _ (m : MachineState) (sized : IsSized (table_of m)) (few_slots : m.ids.pl
     reader_may first next = may_first (READERS + k) own reader_at first next
 
   -- the next step of a reader fits
-  pub read_fits : length m.seats ≤ READERS → length m.calls ≤ 4096 → (k : ℕ) (step : ReadStep) → NextReadIs m k step → ReadFits m k step
-  read_fits few_seats few_calls k step n reader at = (few_calls, by_read few_seats k reader at step (reader_next few_seats k reader at step n))
+  pub read_fits : (k : ℕ) (step : ReadStep) → NextReadIs m k step → ReadFits m k step
+  read_fits k step n reader at = (few_calls m is.sizes, by_read k reader at step (reader_next k reader at step n))

@@ -1,5 +1,7 @@
 -- A step of a client leaves as many of all as there were, and the tables keep their sizes.
-use Rattle.std.proofs.Common.{◌≡◌, refl, ℕ, ◌+◌, ◌<◌, ◌≤◌, List, length, slice_set, Option, Some, None, ap, sym, subst, ◌∙◌}
+use Rattle.std.proofs.Common.{◌≡◌, refl, ℕ, ◌+◌, ◌<◌, ◌≤◌, List, length, slice_set, Option, Some, None, ap, sym, subst, ◌∙◌, arith}
+use Rattle.std.proofs.Props.{props}
+use Rattle.std.proofs.Math.Logic.{∥∥₁_elim}
 use Rattle.std.proofs.Math.ListN.{length-set}
 use Rattle.std.specs.List.{AllByRecursion}
 use Rattle.corr_core.specs.declared.marks.Plan as marks
@@ -17,7 +19,7 @@ use Rattle.seat_states.specs.Steps as kinds
 use Rattle.client_seats.specs.Seats.{SeatData}
 use Rattle.sock_core.specs.declared.letter.Letter.{Letter}
 use Rattle.sock_core.specs.Links.{LinksData}
-use Rattle.sock_core.specs.Machines.{MachineState, TableState, READERS, HasSizes, table_of}
+use Rattle.sock_core.specs.Machines.{MachineState, TableState, READERS, HasSizes, table_of, IsSized}
 use Rattle.sock_core.specs.Steps.{AsMany, LinkAsked, OutsAfter, LettersAfter, SameBase, Goes, MadeFirst, holders_after}
 
 pub length_said : (p : Program) (os : List (Option Outcome)) → length (said p os) ≡ length os
@@ -133,3 +135,24 @@ sizes_stay old fresh h many plan id_plan calls ends seats readers opens = sizes_
 pub sizes_kept : (old fresh : MachineState) (i : ℕ) (seat' : SeatData) → HasSizes old → AsMany (table_of old) (table_of fresh) → SameBase (table_of old) (table_of fresh) → length fresh.ends ≡ length old.ends → fresh.seats ≡ slice_set old.seats i seat' → fresh.readers ≡ old.readers
     → fresh.opens ≡ old.opens → HasSizes fresh
 sizes_kept old fresh i seat' h many base ends seats readers opens = sizes_stay old fresh h many base.plan base.id_plan base.calls ends (ap length seats ∙ length-set old.seats i seat') (ap length readers) opens
+
+-- ## The sizes of a machine
+
+module _ (m : MachineState) (sizes : ∥ HasSizes m ∥₁) where
+  pub is_sized : IsSized (table_of m)
+  is_sized = ∥∥₁_elim sizes (hlevel props) (λ h. h.tables)
+
+  pub few_seats : length m.seats ≤ READERS
+  few_seats = ∥∥₁_elim sizes (hlevel props) (λ h. h.few_seats)
+
+  pub some_seat : 0 < length m.seats
+  some_seat = ∥∥₁_elim sizes (hlevel props) (λ h. h.some_seat)
+
+  pub few_slots : m.ids.plan.slots ≤ 4096
+  few_slots = ∥∥₁_elim sizes (hlevel props) (λ h. h.few_slots)
+
+  pub few_calls : length m.calls ≤ 4096
+  few_calls = ∥∥₁_elim sizes (hlevel props) (λ h. let a = h.slots_are in let b = h.few_slots in omega (arith, a, b))
+
+  pub operations_are : m.ids.plan.operations ≡ m.plan.operations
+  operations_are = ∥∥₁_elim sizes (hlevel props) (λ h. h.operations_are)

@@ -14,7 +14,7 @@ use Rattle.client_seats.specs.declared.seat.Seat.{Seat}
 use Rattle.client_seats.specs.Seats.{SeatData, seat_data, seat_program, around}
 use Rattle.reader_seats.specs.Readers.{ReaderData}
 use Rattle.sock_core.specs.Machines.{MachineState, TableState, table_sizes}
-use Rattle.sock_core.specs.Steps.{IsNext, NextIs, HasNoStep, MayStand, Fits, IsReady, ReadyAt, StepFits}
+use Rattle.sock_core.specs.Steps.{NextIs, HasNoStep, IsFitStep, ReadyAt, StepFits}
 use Rattle.sock_core.specs.Telling.{StepTold, TickTold}
 use Rattle.sock_core.specs.Driving.{AsksNone, IsPlain}
 
@@ -55,28 +55,24 @@ module _ (t : TableState) (items : List Seat) (readers : List ReaderData) (opens
     lies : seat_data y ≡ n.seat
     lies = same ∙ same_some (sym (seat_there x within is) ∙ n.at)
 
-    pub next_here : IsNext t (seat_data y) step
-    next_here = subst (λ (s : SeatData). IsNext t s step) (sym lies) n.is
-
-    pub fits_here : StepFits (view_of t items readers opens short) i step → MayStand (seat_data y) × Fits t (seat_data y) step
-    fits_here fits = subst (λ (s : SeatData). MayStand s × Fits t s step) (sym lies) (fits n.seat n.at)
-
-    pub ready_here : ReadyAt (view_of t items readers opens short) i → IsReady t (seat_data y)
-    ready_here ready = subst (λ (s : SeatData). IsReady t s) (sym lies) (ready n.seat n.at)
+    pub fit_here : ReadyAt (view_of t items readers opens short) i → StepFits (view_of t items readers opens short) i step → IsFitStep t (seat_data y) step
+    fit_here ready fits = let f = fits n.seat n.at in subst (λ (s : SeatData). IsFitStep t s step) (sym lies) (record { next = n.is; ready = ready n.seat n.at; stand = f.0; fits = f.1 })
 
     pub plain_here : i ≡ 0 → IsPlain (view_of t items readers opens short) → AsksNone (seat_program (table_sizes t) (seat_data y))
     plain_here first plain = subst (λ (s : SeatData). AsksNone (seat_program (table_sizes t) s)) (sym lies) ((plain n.seat (subst (λ k. get_elem? (map seat_data items) k ≡ core.some n.seat) first n.at)).0)
 
     pub told_here : {t' : TableState} (z : Seat) {tick : Tick} → StepTold t t' i (seat_data y) (seat_data z) step tick → TickTold (view_of t items readers opens short) (view_of t' (slice_set items j z) readers opens short) i step tick
     told_here {t'} z {tick} h = record {
-      seat = n.seat;
-      at = n.at;
-      seat' = seat_data z;
-      seats = map-set seat_data items j z ∙ ap (λ k. slice_set (map seat_data items) k (seat_data z)) there;
+      seats = record {
+        one = n.seat;
+        at = n.at;
+        one' = seat_data z;
+        all = map-set seat_data items j z ∙ ap (λ k. slice_set (map seat_data items) k (seat_data z)) there;
+        told = subst (λ (s : SeatData). StepTold t t' i s (seat_data z) step tick) lies h;
+      };
       readers = refl;
       opens = refl;
       short = refl;
-      told = subst (λ (s : SeatData). StepTold t t' i s (seat_data z) step tick) lies h;
     }
 
 -- the seat gets room, and nothing else

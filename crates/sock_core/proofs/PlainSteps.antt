@@ -36,8 +36,9 @@ use Rattle.sock_core.specs.Steps.{ReadyAt, StandsAt, NextIs, HasNoStep, SameBase
 use Rattle.sock_core.specs.Reading.{HasNoRead}
 use Rattle.sock_core.specs.Telling.{TickTold}
 use Rattle.sock_core.specs.Driving.{AsksNone, IsPlain, TickedFirst, Leaves}
-use Rattle.sock_core.proofs.Advancing.{is_sized, few_seats, few_slots, is_paced, base}
+use Rattle.sock_core.proofs.Advancing.{is_paced, base}
 use Rattle.sock_core.proofs.Fitting.{client_next, client_may}
+use Rattle.sock_core.proofs.Lengths.{is_sized, few_seats}
 use Rattle.sock_core.proofs.Joining.{rests}
 use Rattle.sock_core.proofs.Resting.{Rests, beyond_rests}
 use Rattle.sock_core.proofs.Seatings.{seat_at, read_at}
@@ -124,25 +125,25 @@ module _ (m : MachineState) (plain : IsPlain m) where
 
 module _ (m fresh : MachineState) (room : ℕ) (step : Step) (tick : Tick) (is : IsMachine m room) (enough : m.short ≡ false) (n : NextIs m 0 step) (w : TickTold m fresh 0 step tick) (plain : IsPlain m) where
   abbrev program : Program
-  program = seat_program (machine_sizes m) w.seat
+  program = seat_program (machine_sizes m) w.one
 
   abbrev first : First
-  first = step_as (around (machine_sizes m) w.seat) step
+  first = step_as (around (machine_sizes m) w.one) step
 
   next : first_in program ≡ Some first
-  next = client_next m (is_sized m is.sizes) (few_slots m is.sizes) (is.called enough) (is.sound enough) 0 w.seat w.at step n
+  next = client_next m room is enough 0 w.one w.at step n
 
   is_call : IsCall first
-  is_call = only_calls program first next (plain w.seat w.at).0
+  is_call = only_calls program first next (plain w.one w.at).0
 
   -- what follows
   abbrev StaysPlain : SeatData → Type 0
   StaysPlain seat = AsksNone (seat_program (machine_sizes m) seat) × (seat.waiting ≡ [])
 
-  by_first : (f : First) → IsCall f → MadeFirst (table_of m) (table_of fresh) 0 w.seat w.seat' step f w.told.answer → StaysPlain w.seat' × (fresh.ends ≡ m.ends) × ((gave : Given) → AgreesGave m.links gave → AgreesGave fresh.links gave)
+  by_first : (f : First) → IsCall f → MadeFirst (table_of m) (table_of fresh) 0 w.one w.one' step f w.told.answer → StaysPlain w.one' × (fresh.ends ≡ m.ends) × ((gave : Given) → AgreesGave m.links gave → AgreesGave fresh.links gave)
   by_first (OfCall call) c x =
-      let goes = x.1.goes in let found : ℕ = found_at m.words (word_of m.plan call) in let none_ = (plain w.seat w.at).1 in
-      let r = resolved_none (after_word program found) (after_none program found (plain w.seat w.at).0) in (
+      let goes = x.1.goes in let found : ℕ = found_at m.words (word_of m.plan call) in let none_ = (plain w.one w.at).1 in
+      let r = resolved_none (after_word program found) (after_none program found (plain w.one w.at).0) in (
         (
           subst AsksNone (sym (goes.program ∙ ap (λ (ws : List Retry). next_step (resolved ws (after_word program found))) none_)) r.0,
           goes.waiting ∙ ap (λ (ws : List Retry). still_waiting ws (after_word program found)) none_ ∙ r.1,
@@ -154,7 +155,7 @@ module _ (m fresh : MachineState) (room : ℕ) (step : Step) (tick : Tick) (is :
 
   stays_plain : IsPlain fresh
   stays_plain seat at =
-      let same : w.seat' ≡ seat = core.some-injective w.seat' seat (sym (set_here m.seats 0 w.seat' (place_inside m.seats 0 w.seat w.at)) ∙ sym (ap (λ (ss : List SeatData). get_elem? ss 0) w.seats) ∙ at) in
+      let same : w.one' ≡ seat = core.some-injective w.one' seat (sym (set_here m.seats 0 w.one' (place_inside m.seats 0 w.one w.at)) ∙ sym (ap (λ (ss : List SeatData). get_elem? ss 0) w.all) ∙ at) in
       let b : SameBase (table_of m) (table_of fresh) = base m fresh room 0 step tick is enough n w in
       let stays = (by_first first is_call w.told.makes.is).0 in (
         subst (λ (z : Sizes). AsksNone (seat_program z seat)) (sym (ap₂ (λ p q. (record { slots = p.slots; requests = p.requests; ids = q.slots })) b.plan b.id_plan)) (subst (λ (s : SeatData). AsksNone (seat_program (machine_sizes m) s)) same stays.0),
@@ -166,8 +167,8 @@ module _ (m fresh : MachineState) (room : ℕ) (step : Step) (tick : Tick) (is :
   first_told = (
     stays_plain,
     (by_first first is_call w.told.makes.is).1,
-    λ took gave agrees agrees_gave. let q = quiet_by m fresh 0 w.seat w.seat' w.at w.seats w.readers (few_seats m is.sizes) (is_sized m is.sizes) (is_paced m room is enough 0 w.seat w.at) took agrees gave agrees_gave step w.told.answer is_call next
-        (client_may m (is_sized m is.sizes) (few_slots m is.sizes) (is.called enough) (is.sound enough) 0 w.seat w.at step n) w.told.makes.is in
+    λ took gave agrees agrees_gave. let q = quiet_by m fresh 0 w.one w.one' w.at w.all w.readers (few_seats m is.sizes) (is_sized m is.sizes) (is_paced m room is enough 0 w.one w.at) took agrees gave agrees_gave step w.told.answer is_call next
+        (client_may m room is enough 0 w.one w.at step n) w.told.makes.is in
         (q.0, (by_first first is_call w.told.makes.is).2 gave agrees_gave, q.1),
   )
 

@@ -10,7 +10,7 @@ use Rattle.seat_states.specs.declared.point.RetryStep.TheVariants as retries
 use Rattle.seat_states.specs.declared.point.Next.{Next}
 use Rattle.seat_states.specs.declared.point.Point.{Point}
 use Rattle.seat_states.specs.declared.point.Point.TheVariants as points
-use Rattle.seat_states.specs.Points.{Context, point_program, next_program, framed, IsCalling, HasInHand, IsWithin, IsWithinIds, MayFind, MayFindAside, HasLinkAt, TellsCodeAt, GoesByWord}
+use Rattle.seat_states.specs.Points.{Context, point_program, next_program, framed, IsCalling, HasInHand, IsWithin, IsWithinIds, GoesByWord, MayNext}
 use Rattle.seat_states.specs.Steps.{OfCall, first_in}
 use Rattle.message_parts.specs.Frames.{ParcelData}
 use Rattle.client_seats.specs.declared.hand.InHand.{InHand}
@@ -23,15 +23,6 @@ use Rattle.sock_core.proofs.Stepping.{message_put}
 use Rattle.sock_core.proofs.TableFlat.{flat_behind}
 
 -- what a point wants of the rules to go on by a word
-pub record MayNext (s : Sizes) (p : Point) (found : ℕ) : Type 0 where
-  pub within : IsWithin s p
-  pub ids : IsWithinIds s p
-  pub word : MayFind p found
-  pub aside : MayFindAside p found
-  pub link : HasLinkAt p
-  pub told : TellsCodeAt p
-  pub step : GoesByWord p
-
 pub may_next : {t : TableState} (s : Sizes) (seat : SeatData) (found : ℕ) → s ≡ table_sizes t → MayGoOn t seat found → MayStand seat → GoesByWord seat.point → MayNext s seat.point found
 may_next s seat found sizes may stand step = record {
   within = subst (λ (x : Sizes). IsWithin x seat.point) (sym sizes) may.within;

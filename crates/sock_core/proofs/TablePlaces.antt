@@ -16,7 +16,7 @@ use Rattle.client_seats.specs.Seats.{SeatData}
 use Rattle.sock_core.specs.Machines.{MachineState, TableState, machine_sizes, table_of}
 use Rattle.sock_core.specs.Steps.{MayStand, PreparedAt}
 use Rattle.sock_core.specs.Telling.{TickTold}
-use Rattle.sock_core.specs.Reading.{IsNextRead, NextReadIs, HasNoRead, FitsRead, ReadFits, ReadTold, TickRead}
+use Rattle.sock_core.specs.Reading.{NextReadIs, HasNoRead, IsFitRead, ReadFits, ReadTold, TickRead}
 
 module _ (m : MachineState) (k j : ℕ) (there : j ≡ k) where
   pub reader_there : (x : ReaderData) → j < length m.readers → x ≡ slice_index_or m.readers j x → get_elem? m.readers k ≡ core.some x
@@ -44,22 +44,21 @@ module _ (m : MachineState) (k j : ℕ) (there : j ≡ k) where
     lies : x ≡ n.reader
     lies = core.some-injective x n.reader (sym (reader_there x within is) ∙ n.at)
 
-    pub read_here : IsNextRead (table_of m) x step
-    read_here = subst (λ (r : ReaderData). IsNextRead (table_of m) r step) (sym lies) n.is
-
-    pub read_fits : ReadFits m k step → (length m.calls ≤ 4096) × FitsRead (table_of m) x step
-    read_fits fits = subst (λ (r : ReaderData). (length m.calls ≤ 4096) × FitsRead (table_of m) r step) (sym lies) (fits n.reader n.at)
+    pub fit_here : ReadFits m k step → IsFitRead (table_of m) x step
+    fit_here fits = let f = fits n.reader n.at in subst (λ (r : ReaderData). IsFitRead (table_of m) r step) (sym lies) (record { calls = f.0; next = n.is; fits = f.1 })
 
     pub read_told : (fresh : MachineState) (i : ℕ) (z : ReaderData) {tick : Tick} → fresh.readers ≡ slice_set m.readers j z → fresh.seats ≡ m.seats → fresh.opens ≡ m.opens → fresh.short ≡ m.short → ReadTold (table_of m) (table_of fresh) i x z step tick → TickRead m fresh i k step tick
     read_told fresh i z {tick} readers seats opens short h = record {
-      reader = n.reader;
-      at = n.at;
-      reader' = z;
-      readers = readers ∙ ap (λ n. slice_set m.readers n z) there;
+      readers = record {
+        one = n.reader;
+        at = n.at;
+        one' = z;
+        all = readers ∙ ap (λ n. slice_set m.readers n z) there;
+        told = subst (λ (r : ReaderData). ReadTold (table_of m) (table_of fresh) i r z step tick) lies h;
+      };
       seats = seats;
       opens = opens;
       short = short;
-      told = subst (λ (r : ReaderData). ReadTold (table_of m) (table_of fresh) i r z step tick) lies h;
     }
 
 -- as many as before

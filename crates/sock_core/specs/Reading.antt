@@ -32,7 +32,7 @@ use Rattle.sock_core.specs.Links.{AreAlwaysReady, TellClosing, is_done}
 use Rattle.sock_core.specs.Machines.{MachineState, TableState, SameGivens, table_of}
 use Rattle.sock_core.specs.Runs.{SameLink, ShowsTaking}
 use Rattle.sock_core.specs.Steps.{AsMany, OutsAfter, FitsSlots, IsOfLinks, holders_after, beside}
-use Rattle.sock_core.specs.Telling.{Tells}
+use Rattle.sock_core.specs.Telling.{OneWent, Tells}
 
 -- ## Before a step
 
@@ -57,6 +57,12 @@ abbrev pub FitsRead : TableState → ReaderData → ReadStep → Type 0
 FitsRead t reader (steps.Call call) = let found = found_at t.words (word_of t.plan (step_of call)) in
     ((x : ℕ) → word_of t.plan (step_of call) ≡ core.some x → x < length t.words) × AllowsWord (step_of call) found × IsOfLinks t.plan.links (step_of call) × MayRead reader found
 FitsRead t reader (steps.Aside step) = let aside = aside_steps.step_of reader.asked step in FitsSlots t step × ((word : ℕ) → found_in aside (beside t) core.none ≡ word_found aside word → MayRead reader word)
+
+-- the next step of a reader of few calls, which fits the tables
+pub record IsFitRead (t : TableState) (reader : ReaderData) (step : ReadStep) : Type 0 where
+  pub calls : length t.calls ≤ 4096
+  pub next : IsNextRead t reader step
+  pub fits : FitsRead t reader step
 
 abbrev pub ReadFits : MachineState → ℕ → ReadStep → Type 0
 ReadFits m k step = (reader : ReaderData) → get_elem? m.readers k ≡ core.some reader → (length m.calls ≤ 4096) × FitsRead (table_of m) reader step
@@ -165,14 +171,11 @@ pub record ReadTold (old fresh : TableState) (i : ℕ) (reader reader' : ReaderD
 
 -- the reader of link k
 pub record TickRead (old fresh : MachineState) (i k : ℕ) (step : ReadStep) (tick : Tick) : Type 0 where
-  pub reader : ReaderData
-  pub at : get_elem? old.readers k ≡ core.some reader
-  pub reader' : ReaderData
-  pub readers : fresh.readers ≡ slice_set old.readers k reader'
+  pub readers : OneWent old.readers fresh.readers k (λ reader reader'. ReadTold (table_of old) (table_of fresh) i reader reader' step tick)
+  pub open readers use *
   pub seats : fresh.seats ≡ old.seats
   pub opens : fresh.opens ≡ old.opens
   pub short : fresh.short ≡ old.short
-  pub told : ReadTold (table_of old) (table_of fresh) i reader reader' step tick
 
 -- ## Where memory runs out
 

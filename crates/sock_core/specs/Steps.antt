@@ -159,6 +159,13 @@ Fits t seat (firsts.PutHome k n) = k < t.plan.links
 Fits t seat (firsts.PutBytes k asked author) = (k < t.plan.links) × (part (parts_by author (left_parts_of seat.out)) (left_of seat.out) (taken_of seat.out) ≢ [])
 Fits t seat (firsts.AskReady k) = k < t.plan.links
 
+-- the next step of a seat that is ready and stands for it, and which fits the tables
+pub record IsFitStep (t : TableState) (seat : SeatData) (step : Step) : Type 0 where
+  pub next : IsNext t seat step
+  pub ready : IsReady t seat
+  pub stand : MayStand seat
+  pub fits : Fits t seat step
+
 abbrev pub StandsAt : MachineState → ℕ → Type 0
 StandsAt m i = (seat : SeatData) → get_elem? m.seats i ≡ core.some seat → MayStand seat
 

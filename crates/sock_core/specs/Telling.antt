@@ -1,5 +1,5 @@
 -- What a tick of a client answers of a step.
-use Rattle.std.specs.Prelude.{ℕ, ◌≡◌, ◌==◌, ◌&&◌, not, Bool, true, false, [], slice_set, Some, None}
+use Rattle.std.specs.Prelude.{ℕ, ◌≡◌, ◌==◌, ◌&&◌, not, Bool, true, false, List, [], slice_set, Some, None}
 use mathlib.Core.Option as core
 use lib.ListN.{get_elem?}
 use Rattle.corr_core.specs.Word.{parts}
@@ -43,12 +43,17 @@ pub record StepTold (old fresh : TableState) (i : ℕ) (seat seat' : SeatData) (
   pub makes : Makes old fresh i seat seat' step answer
   pub tells : Tells old (seat_program (table_sizes old) seat) answer tick
 
+-- one of these, at this place, went on, and of it this holds
+pub record OneWent {A : Type 0} (old fresh : List A) (i : ℕ) (Told : A → A → Type 0) : Type 0 where
+  pub one : A
+  pub at : get_elem? old i ≡ core.some one
+  pub one' : A
+  pub all : fresh ≡ slice_set old i one'
+  pub told : Told one one'
+
 pub record TickTold (old fresh : MachineState) (i : ℕ) (step : Step) (tick : Tick) : Type 0 where
-  pub seat : SeatData
-  pub at : get_elem? old.seats i ≡ core.some seat
-  pub seat' : SeatData
-  pub seats : fresh.seats ≡ slice_set old.seats i seat'
+  pub seats : OneWent old.seats fresh.seats i (λ seat seat'. StepTold (table_of old) (table_of fresh) i seat seat' step tick)
+  pub open seats use *
   pub readers : fresh.readers ≡ old.readers
   pub opens : fresh.opens ≡ old.opens
   pub short : fresh.short ≡ old.short
-  pub told : StepTold (table_of old) (table_of fresh) i seat seat' step tick

@@ -36,7 +36,7 @@ pub struct NotMade<O: Out, I: In, P: Peer> {
 }
 
 /// For what a seat waits.
-#[derive(Clone, Copy, Debug, PartialEq, Eq)]
+#[derive(Clone, Copy)]
 pub enum On {
     /// The next word of this ticket's request, which isn't connected yet.
     Next(u64),
@@ -51,7 +51,7 @@ pub enum On {
 }
 
 /// What a tick of a seat did.
-#[derive(Clone, Copy, Debug, PartialEq, Eq)]
+#[derive(Clone, Copy)]
 pub enum Tick {
     /// The seat made a step of this kind.
     Moved(Kind),

@@ -5,7 +5,7 @@ ghost use Rattle.reader_seats.specs.GoesOn.{taking_of};
 ghost use Rattle.sock_core.specs.Linkers.{SaysAsBefore};
 ghost use Rattle.sock_core.specs.Machines.{IsSized};
 ghost use Rattle.sock_core.specs.Steps.{IsOnWord};
-ghost use Rattle.sock_core.specs.Reading.{IsNextRead, FitsRead, ReadTold, IsCutTable};
+ghost use Rattle.sock_core.specs.Reading.{IsFitRead, ReadTold, IsCutTable};
 
 use crate::machine::{On, Tick};
 use crate::table::Table;
@@ -52,9 +52,7 @@ impl<O: Out, I: In, P: Peer> Table<O, I, P> {
         seat: u16,
         call: Call,
     ) -> Result<Tick, NoMemory>
-        requires calls { length self.old.calls ≤ 4096 }
-        requires next { IsNextRead self.old reader.old (ReadStep.Call call) }
-        requires fits { FitsRead self.old reader.old (ReadStep.Call call) }
+        requires may { IsFitRead self.old reader.old (ReadStep.Call call) }
         requires sized { IsSized self.old }
         ensures ok { IfOk result (λ tick. ReadTold self.old self.new seat reader.old reader.new (ReadStep.Call call) tick) }
         ensures err { OnErr result (IsCutTable self.old self.new) }
@@ -74,10 +72,8 @@ impl<O: Out, I: In, P: Peer> Table<O, I, P> {
 
     /// A reader's step on the ids that finds a word; what its tick answers.
     fn read_aside(&mut self, reader: &mut ReaderSeat, step: Aside) -> Result<Tick, NoMemory>
-        requires calls { length self.old.calls ≤ 4096 }
         requires kind { IsOnWord step }
-        requires next { IsNextRead self.old reader.old (ReadStep.Aside step) }
-        requires fits { FitsRead self.old reader.old (ReadStep.Aside step) }
+        requires may { IsFitRead self.old reader.old (ReadStep.Aside step) }
         ensures ok { IfOk result (λ tick. (seat : ℕ) → ReadTold self.old self.new seat reader.old reader.new (ReadStep.Aside step) tick) }
         ensures err { OnErr result (IsCutTable self.old self.new) }
     {
@@ -100,9 +96,7 @@ impl<O: Out, I: In, P: Peer> Table<O, I, P> {
         link: u16,
         count: u32,
     ) -> Result<Tick, NoMemory>
-        requires calls { length self.old.calls ≤ 4096 }
-        requires next { IsNextRead self.old reader.old (ReadStep.Aside (Aside.TakeBytes link count)) }
-        requires fits { FitsRead self.old reader.old (ReadStep.Aside (Aside.TakeBytes link count)) }
+        requires may { IsFitRead self.old reader.old (ReadStep.Aside (Aside.TakeBytes link count)) }
         requires sized { IsSized self.old }
         ensures ok { IfOk result (λ tick. (seat : ℕ) → ReadTold self.old self.new seat reader.old reader.new (ReadStep.Aside (Aside.TakeBytes link count)) tick) }
         ensures err { OnErr result (IsCutTable self.old self.new) }
@@ -141,9 +135,7 @@ impl<O: Out, I: In, P: Peer> Table<O, I, P> {
         seat: u16,
         step: ReadStep,
     ) -> Result<Tick, NoMemory>
-        requires calls { length self.old.calls ≤ 4096 }
-        requires next { IsNextRead self.old reader.old step }
-        requires fits { FitsRead self.old reader.old step }
+        requires may { IsFitRead self.old reader.old step }
         requires sized { IsSized self.old }
         ensures ok { IfOk result (λ tick. ReadTold self.old self.new seat reader.old reader.new step tick) }
         ensures err { OnErr result (IsCutTable self.old self.new) }

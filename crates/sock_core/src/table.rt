@@ -7,7 +7,7 @@ ghost use Rattle.client_seats.specs.Following.{HasRoom};
 ghost use Rattle.sock_core.specs.Driving.{AsksNone};
 ghost use Rattle.sock_core.specs.Machines.{table_sizes, IsSized};
 ghost use Rattle.sock_core.specs.Passing.{PassesRequest, PassesSlot};
-ghost use Rattle.sock_core.specs.Steps.{IsNext, IsReady, IsOnWord, MayStand, Fits, Makes, FoundBeside};
+ghost use Rattle.sock_core.specs.Steps.{IsNext, IsFitStep, IsOnWord, Fits, Makes, FoundBeside};
 ghost use Rattle.sock_core.specs.Runs.{IsWaitingFor};
 ghost use Rattle.sock_core.specs.Telling.{StepTold, waits_by};
 ghost use Rattle.sock_core.specs.Reading.{IsCutTable};
@@ -122,9 +122,7 @@ impl<O: Out, I: In, P: Peer> Table<O, I, P> {
     /// A step on a word, or a move that tells nothing; for what its seat waits, if it does. Only a seat that comes to hold a life or to keep a retry
     /// wants room for it.
     pub fn make_call(&mut self, place: &mut Seat, seat: u16, call: Call) -> Option<On>
-        requires next { IsNext self.old (seat_data place.old) (Step.Call call) }
-        requires stand { IsReady self.old (seat_data place.old) × MayStand (seat_data place.old) }
-        requires fits { Fits self.old (seat_data place.old) (Step.Call call) }
+        requires may { IsFitStep self.old (seat_data place.old) (Step.Call call) }
         requires sized { IsSized self.old }
         requires room { HasRoom place.old ⊎ AsksNone (seat_program (table_sizes self.old) (seat_data place.old)) }
         ensures made { Makes self.old self.new seat (seat_data place.old) (seat_data place.new) (Step.Call call) Unasked }
@@ -144,9 +142,7 @@ impl<O: Out, I: In, P: Peer> Table<O, I, P> {
     /// A step on the ids that finds a word; for what its seat waits, if it does.
     pub fn make_aside(&mut self, place: &mut Seat, step: Aside) -> Option<On>
         requires kind { IsOnWord step }
-        requires next { IsNext self.old (seat_data place.old) (Step.Aside step) }
-        requires stand { IsReady self.old (seat_data place.old) × MayStand (seat_data place.old) }
-        requires fits { Fits self.old (seat_data place.old) (Step.Aside step) }
+        requires may { IsFitStep self.old (seat_data place.old) (Step.Aside step) }
         requires room { HasRoom place.old }
         ensures made { (seat : ℕ) → Makes self.old self.new seat (seat_data place.old) (seat_data place.new) (Step.Aside step) Unasked }
         ensures waits { (found : ℕ) × FoundBeside self.old (seat_data place.old) step found × (is_some result ≡ waits_by (seat_program (table_sizes self.old) (seat_data place.old)) found) }
@@ -162,9 +158,7 @@ impl<O: Out, I: In, P: Peer> Table<O, I, P> {
 
     /// The call in the seat's hand goes into its home, as an equal one.
     pub fn put_call(&mut self, place: &mut Seat, slot: u16) -> Result<(), NoMemory>
-        requires next { IsNext self.old (seat_data place.old) (Step.Aside (Aside.PutCall slot)) }
-        requires stand { IsReady self.old (seat_data place.old) × MayStand (seat_data place.old) }
-        requires fits { Fits self.old (seat_data place.old) (Step.Aside (Aside.PutCall slot)) }
+        requires may { IsFitStep self.old (seat_data place.old) (Step.Aside (Aside.PutCall slot)) }
         requires room { HasRoom place.old }
         ensures ok { OnOk result ((seat : ℕ) → Makes self.old self.new seat (seat_data place.old) (seat_data place.new) (Step.Aside (Aside.PutCall slot)) Unasked) }
         ensures err { OnErr result (IsCutTable self.old self.new) }
@@ -185,9 +179,7 @@ impl<O: Out, I: In, P: Peer> Table<O, I, P> {
 
     /// A call is taken out of its home.
     pub fn take_call(&mut self, place: &mut Seat, slot: u16) -> Result<(), NoMemory>
-        requires next { IsNext self.old (seat_data place.old) (Step.Aside (Aside.TakeCall slot)) }
-        requires stand { IsReady self.old (seat_data place.old) × MayStand (seat_data place.old) }
-        requires fits { Fits self.old (seat_data place.old) (Step.Aside (Aside.TakeCall slot)) }
+        requires may { IsFitStep self.old (seat_data place.old) (Step.Aside (Aside.TakeCall slot)) }
         requires room { HasRoom place.old }
         ensures ok { OnOk result ((seat : ℕ) → Makes self.old self.new seat (seat_data place.old) (seat_data place.new) (Step.Aside (Aside.TakeCall slot)) Unasked) }
         ensures err { OnErr result (IsCutTable self.old self.new) }
@@ -213,9 +205,7 @@ impl<O: Out, I: In, P: Peer> Table<O, I, P> {
         request: u16,
         author: Author,
     ) -> Result<(), NoMemory>
-        requires next { IsNext self.old (seat_data place.old) (Step.PutMessage request author) }
-        requires stand { IsReady self.old (seat_data place.old) × MayStand (seat_data place.old) }
-        requires fits { Fits self.old (seat_data place.old) (Step.PutMessage request author) }
+        requires may { IsFitStep self.old (seat_data place.old) (Step.PutMessage request author) }
         requires room { HasRoom place.old ⊎ AsksNone (seat_program (table_sizes self.old) (seat_data place.old)) }
         ensures ok { OnOk result ((seat : ℕ) → Makes self.old self.new seat (seat_data place.old) (seat_data place.new) (Step.PutMessage request author) Unasked) }
         ensures err { OnErr result (IsCutTable self.old self.new) }
@@ -314,9 +304,7 @@ impl<O: Out, I: In, P: Peer> Table<O, I, P> {
 
     /// The next step of a seat aside of the sockets; what its tick answers.
     fn step_aside(&mut self, place: &mut Seat, step: Aside) -> Result<Tick, NoMemory>
-        requires next { IsNext self.old (seat_data place.old) (Step.Aside step) }
-        requires stand { IsReady self.old (seat_data place.old) × MayStand (seat_data place.old) }
-        requires fits { Fits self.old (seat_data place.old) (Step.Aside step) }
+        requires may { IsFitStep self.old (seat_data place.old) (Step.Aside step) }
         requires room { HasRoom place.old }
         ensures ok { IfOk result (λ tick. (seat : ℕ) → StepTold self.old self.new seat (seat_data place.old) (seat_data place.new) (Step.Aside step) tick) }
         ensures err { OnErr result (IsCutTable self.old self.new) }
@@ -340,9 +328,7 @@ impl<O: Out, I: In, P: Peer> Table<O, I, P> {
 
     /// The next step of a seat; what its tick answers.
     pub fn step(&mut self, place: &mut Seat, seat: u16, step: &Step) -> Result<Tick, NoMemory>
-        requires next { IsNext self.old (seat_data place.old) step.now }
-        requires stand { IsReady self.old (seat_data place.old) × MayStand (seat_data place.old) }
-        requires fits { Fits self.old (seat_data place.old) step.now }
+        requires may { IsFitStep self.old (seat_data place.old) step.now }
         requires sized { IsSized self.old }
         requires room { HasRoom place.old ⊎ AsksNone (seat_program (table_sizes self.old) (seat_data place.old)) }
         ensures ok { IfOk result (λ tick. StepTold self.old self.new seat (seat_data place.old) (seat_data place.new) step.now tick) }

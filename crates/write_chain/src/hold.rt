@@ -154,20 +154,21 @@ impl<O: Out> Chain<'_, O> {
     pub fn leave(self, seat: &mut SockSeat<O>, link: LinkInHand<O>) -> Once<O>
         requires seat { IsSeat self.table.now.rule.table.shared.table_id self.table.now.rule.plan seat.old }
         requires may { HasLink self.table.now.rule.plan self.table.now.rule.ways.list self.sock.id.0 self.last.0 Empties [] link seat.old.me }
-        ensures seat { IsSeat self.table.now.rule.table.shared.table_id self.table.now.rule.plan seat.new }
-        ensures once { OnceBy self.table.now.rule.plan self.table.now.rule.ways.list self.sock result seat.new.me }
+        ensures seat { IsSeat self.entry.table.now.rule.table.shared.table_id self.entry.table.now.rule.plan seat.new }
+        ensures once { OnceBy self.entry.table.now.rule.plan self.entry.table.now.rule.ways.list self.entry.sock result seat.new.me }
         ensures others { seat.new.me.0 ≡ record seat.old.me.0 { rights = seat.new.me.0.rights } }
     {
+        let Chain { table, sock, last } = self;
         let LinkInHand { link: number, home } = link;
-        let slot = slot_at(self.table, &self.sock);
-        self.table.rule.put_own_link(seat, number, home);
-        let step = self.table.rule.empty_head(seat, slot, self.last);
-        if step.found == self.last.0 {
-            return Once::Done(self.sock);
+        let slot = slot_at(table, &sock);
+        table.rule.put_own_link(seat, number, home);
+        let step = table.rule.empty_head(seat, slot, last);
+        if step.found == last.0 {
+            return Once::Done(sock);
         }
         Once::Keep(WriteRight {
-            sock: self.sock,
-            last: self.last,
+            sock,
+            last,
             doing: Doing::Walks(number, Ticket(step.found)),
         })
     }
@@ -282,8 +283,8 @@ impl<O: Out> Chain<'_, O> {
         requires seat { IsSeat self.table.now.rule.table.shared.table_id self.table.now.rule.plan seat.old }
         requires may { GoesBy self.table.now.rule.plan self.table.now.rule.ways.list self.sock.id.0 self.last.0 doing seat.old.me }
         requires last { IsLast doing }
-        ensures seat { IsSeat self.table.now.rule.table.shared.table_id self.table.now.rule.plan seat.new }
-        ensures once { OnceBy self.table.now.rule.plan self.table.now.rule.ways.list self.sock result seat.new.me }
+        ensures seat { IsSeat self.entry.table.now.rule.table.shared.table_id self.entry.table.now.rule.plan seat.new }
+        ensures once { OnceBy self.entry.table.now.rule.plan self.entry.table.now.rule.ways.list self.entry.sock result seat.new.me }
         ensures others { seat.new.me.0 ≡ record seat.old.me.0 { rights = seat.new.me.0.rights } }
     {
         let Doing::Last(link) = doing else {
@@ -316,19 +317,26 @@ pub fn write_once<O: Out>(
     let chain = Chain { table, sock, last };
     let hand = chain.take_up(seat);
     match chain.try_put(seat, hand) {
-        Tried::Dead(hand) => Once::Keep(WriteRight {
-            sock: chain.sock,
-            last: chain.last,
-            doing: Doing::Puts(hand),
-        }),
+        Tried::Dead(hand) => {
+            let Chain {
+                table: _,
+                sock,
+                last,
+            } = chain;
+            let doing = Doing::Puts(hand);
+            Once::Keep(WriteRight { sock, last, doing })
+        }
         Tried::Whole(hand) => {
             let doing = chain.place(seat, hand);
             chain.leave_last(seat, doing)
         }
-        Tried::Goes(doing) => Once::Keep(WriteRight {
-            sock: chain.sock,
-            last: chain.last,
-            doing,
-        }),
+        Tried::Goes(doing) => {
+            let Chain {
+                table: _,
+                sock,
+                last,
+            } = chain;
+            Once::Keep(WriteRight { sock, last, doing })
+        }
     }
 }

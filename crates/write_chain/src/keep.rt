@@ -114,19 +114,17 @@ impl<O: Out> Chain<'_, O> {
     ) -> WriteRight<O>
         requires seat { IsSeat self.table.now.rule.table.shared.table_id self.table.now.rule.plan seat.old }
         requires may { GoesBy self.table.now.rule.plan self.table.now.rule.ways.list self.sock.id.0 self.last.0 (Back walk) seat.old.me }
-        ensures seat { IsSeat self.table.now.rule.table.shared.table_id self.table.now.rule.plan seat.new }
-        ensures goes { (result.sock ≡ self.sock) × MayGoOn self.table.now.rule.plan self.table.now.rule.ways.list result seat.new.me }
+        ensures seat { IsSeat self.entry.table.now.rule.table.shared.table_id self.entry.table.now.rule.plan seat.new }
+        ensures goes { (result.sock ≡ self.entry.sock) × MayGoOn self.entry.table.now.rule.plan self.entry.table.now.rule.ways.list result seat.new.me }
         ensures more { HasMore result.doing }
         ensures others { seat.new.me.0 ≡ record seat.old.me.0 { rights = seat.new.me.0.rights } }
     {
-        let found = self.table.rule.read_back(seat, walk.at);
+        let Chain { table, sock, last } = self;
+        let found = table.rule.read_back(seat, walk.at);
         if found == UNCONNECTED {
             backoff.snooze();
-            return WriteRight {
-                sock: self.sock,
-                last: self.last,
-                doing: Doing::Back(walk),
-            };
+            let doing = Doing::Back(walk);
+            return WriteRight { sock, last, doing };
         }
         let Walk {
             link,
@@ -134,11 +132,11 @@ impl<O: Out> Chain<'_, O> {
             at,
             after,
         } = walk;
-        self.table.rule.turn_next(seat, at, after);
-        let end = self.last.0;
+        table.rule.turn_next(seat, at, after);
+        let end = last.0;
         if found == end {
             return WriteRight {
-                sock: self.sock,
+                sock,
                 last: top,
                 doing: Doing::Next(link, at),
             };
@@ -149,48 +147,46 @@ impl<O: Out> Chain<'_, O> {
             at: Ticket(found),
             after: at.0,
         };
-        WriteRight {
-            sock: self.sock,
-            last: self.last,
-            doing: Doing::Back(walk),
-        }
+        let doing = Doing::Back(walk);
+        WriteRight { sock, last, doing }
     }
 
     /// A message in hand is put, gets its place, or is dropped.
     pub fn put_or_drop(self, seat: &mut SockSeat<O>, hand: InHand<O>) -> Went<O>
         requires seat { IsSeat self.table.now.rule.table.shared.table_id self.table.now.rule.plan seat.old }
         requires may { HasPart self.table.now.rule.plan self.table.now.rule.ways.list self.sock.id.0 self.last.0 hand seat.old.me }
-        ensures seat { IsSeat self.table.now.rule.table.shared.table_id self.table.now.rule.plan seat.new }
-        ensures went { WentBy self.table.now.rule.plan self.table.now.rule.ways.list self.sock result seat.old.me.0 seat.new.me }
-        ensures stays { FoundDead self.sock.id.0 seat.old.me.0 → IsDropped result }
-        ensures wrote { WentWriting self.table.now.rule.plan self.sock result seat.old.me.0 seat.new.me.0 }
+        ensures seat { IsSeat self.entry.table.now.rule.table.shared.table_id self.entry.table.now.rule.plan seat.new }
+        ensures went { WentBy self.entry.table.now.rule.plan self.entry.table.now.rule.ways.list self.entry.sock result seat.old.me.0 seat.new.me }
+        ensures stays { FoundDead self.entry.sock.id.0 seat.old.me.0 → IsDropped result }
+        ensures wrote { WentWriting self.entry.table.now.rule.plan self.entry.sock result seat.old.me.0 seat.new.me.0 }
     {
         match self.try_put(seat, hand) {
             Tried::Dead(hand) => {
                 let (doing, msg, code) = self.drop_one(seat, hand);
-                Went::Dropped(
-                    WriteRight {
-                        sock: self.sock,
-                        last: self.last,
-                        doing,
-                    },
-                    msg,
-                    code,
-                )
+                let Chain {
+                    table: _,
+                    sock,
+                    last,
+                } = self;
+                Went::Dropped(WriteRight { sock, last, doing }, msg, code)
             }
             Tried::Whole(hand) => {
                 let doing = self.place(seat, hand);
-                Went::Further(WriteRight {
-                    sock: self.sock,
-                    last: self.last,
-                    doing,
-                })
+                let Chain {
+                    table: _,
+                    sock,
+                    last,
+                } = self;
+                Went::Further(WriteRight { sock, last, doing })
             }
-            Tried::Goes(doing) => Went::Further(WriteRight {
-                sock: self.sock,
-                last: self.last,
-                doing,
-            }),
+            Tried::Goes(doing) => {
+                let Chain {
+                    table: _,
+                    sock,
+                    last,
+                } = self;
+                Went::Further(WriteRight { sock, last, doing })
+            }
         }
     }
 
@@ -198,9 +194,9 @@ impl<O: Out> Chain<'_, O> {
     pub fn try_head(self, seat: &mut SockSeat<O>, link: LinkInHand<O>) -> Went<O>
         requires seat { IsSeat self.table.now.rule.table.shared.table_id self.table.now.rule.plan seat.old }
         requires may { HasLink self.table.now.rule.plan self.table.now.rule.ways.list self.sock.id.0 self.last.0 Empties [] link seat.old.me }
-        ensures seat { IsSeat self.table.now.rule.table.shared.table_id self.table.now.rule.plan seat.new }
-        ensures went { WentBy self.table.now.rule.plan self.table.now.rule.ways.list self.sock result seat.old.me.0 seat.new.me }
-        ensures wrote { WentWriting self.table.now.rule.plan self.sock result seat.old.me.0 seat.new.me.0 }
+        ensures seat { IsSeat self.entry.table.now.rule.table.shared.table_id self.entry.table.now.rule.plan seat.new }
+        ensures went { WentBy self.entry.table.now.rule.plan self.entry.table.now.rule.ways.list self.entry.sock result seat.old.me.0 seat.new.me }
+        ensures wrote { WentWriting self.entry.table.now.rule.plan self.entry.sock result seat.old.me.0 seat.new.me.0 }
         ensures others { seat.new.me.0 ≡ record seat.old.me.0 { rights = seat.new.me.0.rights } }
     {
         match self.leave(seat, link) {
@@ -208,58 +204,56 @@ impl<O: Out> Chain<'_, O> {
             Once::Keep(right) => Went::Further(right),
         }
     }
-}
 
-/// What comes next.
-pub fn go_on<O: Out>(
-    table: &SockTable<O>,
-    seat: &mut SockSeat<O>,
-    right: WriteRight<O>,
-    backoff: &Backoff,
-) -> Went<O>
-    requires seat { IsSeat table.now.rule.table.shared.table_id table.now.rule.plan seat.old }
-    requires may { MayGoOn table.now.rule.plan table.now.rule.ways.list right seat.old.me }
-    ensures seat { IsSeat table.now.rule.table.shared.table_id table.now.rule.plan seat.new }
-    ensures went { WentBy table.now.rule.plan table.now.rule.ways.list right.sock result seat.old.me.0 seat.new.me }
-    ensures stays { FoundDead right.sock.id.0 seat.old.me.0 → HasMore right.doing → LeavesMore result }
-    ensures wrote { WentWriting table.now.rule.plan right.sock result seat.old.me.0 seat.new.me.0 }
-{
-    let WriteRight { sock, last, doing } = right;
-    let chain = Chain { table, sock, last };
-    match doing {
-        Doing::First => unreachable!(),
-        Doing::Puts(hand) => chain.put_or_drop(seat, hand),
-        Doing::Waits(hand) => {
-            let doing = chain.ask(seat, hand, backoff);
-            Went::Further(WriteRight {
-                sock: chain.sock,
-                last: chain.last,
-                doing,
-            })
-        }
-        Doing::Next(link, now) => {
-            let hand = chain.take_next(seat, link, now);
-            Went::Further(WriteRight {
-                sock: chain.sock,
-                last: chain.last,
-                doing: Doing::Puts(hand),
-            })
-        }
-        Doing::Last(link) => chain.try_head(seat, link),
-        Doing::Walks(number, top) => {
-            let link = chain.fetch_link(seat, number);
-            Went::Further(WriteRight {
-                sock: chain.sock,
-                last: chain.last,
-                doing: Doing::Back(Walk {
+    /// What comes next.
+    pub fn go_on(self, seat: &mut SockSeat<O>, doing: Doing<O>, backoff: &Backoff) -> Went<O>
+        requires seat { IsSeat self.table.now.rule.table.shared.table_id self.table.now.rule.plan seat.old }
+        requires may { GoesBy self.table.now.rule.plan self.table.now.rule.ways.list self.sock.id.0 self.last.0 doing seat.old.me }
+        ensures seat { IsSeat self.entry.table.now.rule.table.shared.table_id self.entry.table.now.rule.plan seat.new }
+        ensures went { WentBy self.entry.table.now.rule.plan self.entry.table.now.rule.ways.list self.entry.sock result seat.old.me.0 seat.new.me }
+        ensures stays { FoundDead self.entry.sock.id.0 seat.old.me.0 → HasMore doing → LeavesMore result }
+        ensures wrote { WentWriting self.entry.table.now.rule.plan self.entry.sock result seat.old.me.0 seat.new.me.0 }
+    {
+        match doing {
+            Doing::First => unreachable!(),
+            Doing::Puts(hand) => self.put_or_drop(seat, hand),
+            Doing::Waits(hand) => {
+                let doing = self.ask(seat, hand, backoff);
+                let Chain {
+                    table: _,
+                    sock,
+                    last,
+                } = self;
+                Went::Further(WriteRight { sock, last, doing })
+            }
+            Doing::Next(link, now) => {
+                let hand = self.take_next(seat, link, now);
+                let Chain {
+                    table: _,
+                    sock,
+                    last,
+                } = self;
+                let doing = Doing::Puts(hand);
+                Went::Further(WriteRight { sock, last, doing })
+            }
+            Doing::Last(link) => self.try_head(seat, link),
+            Doing::Walks(number, top) => {
+                let link = self.fetch_link(seat, number);
+                let Chain {
+                    table: _,
+                    sock,
+                    last,
+                } = self;
+                let doing = Doing::Back(Walk {
                     link,
                     top,
                     at: top,
                     after: 0,
-                }),
-            })
+                });
+                Went::Further(WriteRight { sock, last, doing })
+            }
+            Doing::Back(walk) => Went::Further(self.walk_back(seat, walk, backoff)),
         }
-        Doing::Back(walk) => Went::Further(chain.walk_back(seat, walk, backoff)),
     }
 }
 
@@ -283,7 +277,9 @@ pub fn keep_write<O: Out, R: Wait>(
 {
     let backoff = Backoff::new();
     'goes: for _ in rt.forever() {
-        match go_on(table, seat, right, &backoff) {
+        let WriteRight { sock, last, doing } = right;
+        let chain = Chain { table, sock, last };
+        match chain.go_on(seat, doing, &backoff) {
             Went::Done(sock) => return Kept::Done(sock),
             Went::Dropped(right, msg, code) => {
                 return Kept::Dropped { right, msg, code };

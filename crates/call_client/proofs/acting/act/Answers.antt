@@ -43,10 +43,10 @@ pub returns-in-Call-clause-go : goal.returns-in-Call-clause-go
 returns-in-Call-clause-go g c = let d = c.begin_call.new.caller in let o = c.begin_call.ensures.others in kept_go c.args.at.now.tables.now.socks.rule.table.shared.table_id c.args.at.now.tables.now.socks.rule.plan c.args.at.now.tables.now.ids.table.shared.table_id c.args.made (c.args.made + 1) c.args.caller.now d c.requires.go (omega arith) c.begin_call.ensures.rested.rest c.begin_call.ensures.rested.refs o.0 (same_passes c.args.at.now.tables.now.socks.rule.table.shared.table_id c.args.at.now.tables.now.socks.rule.plan c.args.at.now.tables.now.ids.table.shared.table_id c.args.caller.now d o.1 c.requires.go.passes) c.begin_call.ensures.own c.begin_call.ensures.rested.keeps.ids
 
 pub returns-in-Expire-clause-go : goal.returns-in-Expire-clause-go
-returns-in-Expire-clause-go g c = same_go c.args.at.now.tables.now.socks.rule.table.shared.table_id c.args.at.now.tables.now.socks.rule.plan c.args.at.now.tables.now.ids.table.shared.table_id c.args.made (c.args.made + 1) c.args.caller.now (record c.args.caller.now { calls = c.expire_one-outcome.new.calls }) c.requires.go (omega arith) refl refl refl refl c.expire_one-outcome.ensures.keeps.ids
+returns-in-Expire-clause-go g c = same_go c.args.at.now.tables.now.socks.rule.table.shared.table_id c.args.at.now.tables.now.socks.rule.plan c.args.at.now.tables.now.ids.table.shared.table_id c.args.made (c.args.made + 1) c.args.caller.now (record c.args.caller.now { calls = c.ask_one-outcome.new.calls }) c.requires.go (omega arith) refl refl refl refl c.ask_one-outcome.ensures.keeps.ids
 
 pub returns-in-Join-clause-go : goal.returns-in-Join-clause-go
-returns-in-Join-clause-go g c = same_go c.args.at.now.tables.now.socks.rule.table.shared.table_id c.args.at.now.tables.now.socks.rule.plan c.args.at.now.tables.now.ids.table.shared.table_id c.args.made (c.args.made + 1) c.args.caller.now (record c.args.caller.now { calls = c.join_one-outcome.new.calls }) c.requires.go (omega arith) refl refl refl refl c.join_one-outcome.ensures.keeps.ids
+returns-in-Join-clause-go g c = same_go c.args.at.now.tables.now.socks.rule.table.shared.table_id c.args.at.now.tables.now.socks.rule.plan c.args.at.now.tables.now.ids.table.shared.table_id c.args.made (c.args.made + 1) c.args.caller.now (record c.args.caller.now { calls = c.ask_one-outcome-in-Join.new.calls }) c.requires.go (omega arith) refl refl refl refl c.ask_one-outcome-in-Join.ensures.keeps.ids
 
 pub returns-in-Hold-clause-go : goal.returns-in-Hold-clause-go
 returns-in-Hold-clause-go g c = let e = c.hold_one-outcome.ensures in let n = c.hold_one-outcome.new in held_go c.args.at.now.tables.now.socks.rule.table.shared.table_id c.args.at.now.tables.now.socks.rule.plan c.args.at.now.tables.now.ids.table.shared.table_id c.args.made c.args.caller.now (record c.args.caller.now { seat = n.seat; held = n.held }) c.requires.go e.rest e.holder (held_few c.args.at.now.tables.now.socks.rule.plan c.in-Hold.name c.hold_one-outcome.result c.args.caller.now.held.items c.args.caller.now.seat.me.0 n.held.items n.seat.me.0 e.by) refl e.lists refl refl

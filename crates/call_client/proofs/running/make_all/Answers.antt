@@ -1,25 +1,35 @@
 use Rattle.std.proofs.Common.{◌≡◌, ℕ, ◌+◌, add-one, drop, length, vec_capacity, true, inl, ap, ◌∙◌, sym, subst, refl, arith}
+use Rattle.corr_id.specs.Seats.{Stays}
 use Rattle.rpc_client.proofs.Coursing.{told_room}
+use Rattle.call_errors.specs.Books.{HasNoLock}
 use Rattle.call_attempts.proofs.Leaving.{err_by}
 use Rattle.call_client.specs.Acting.{stand}
 use Rattle.call_client.specs.Running.{MayMakeAll, while_retrying}
 use Rattle.call_client.specs.Making.{ComesTo, CameBy}
-use Rattle.call_client.proofs.Coursing.{next_there, none_behind, may_next, may_rest, acted_passes, not_made_passes, ran_none, ran_more, short_at}
-use Rattle.call_client.proofs.Going.{more_made}
+use Rattle.call_client.proofs.Coursing.{next_there, none_behind, may_next, may_rest, acted_passes, not_made_passes, begins_same, roomless, ran_none, ran_before, ran_more, short_at}
+use Rattle.call_client.proofs.Going.{more_made, same_go}
 use Rattle.call_client.proofs.running.make_all.Goals as goal
 
+pub returns-in_default-clause-go : goal.returns-in_default-clause-go
+returns-in_default-clause-go g c = let o = c.make_room.ensures.others in let d = c.make_room.new.caller in same_go c.args.at.now.tables.now.socks.rule.table.shared.table_id c.args.at.now.tables.now.socks.rule.plan c.args.at.now.tables.now.ids.table.shared.table_id 0 (length c.args.tasks.now.items) c.args.caller.now (record d { calls = record d.calls { starved = true } }) c.requires.go (omega arith) o.0 c.make_room.ensures.lists.0 o.1 o.3 (subst (λ k. HasNoLock c.args.at.now.tables.now.ids.table.shared.table_id k) (sym o.2) c.requires.go.ids)
+
+pub returns-in_default-clause-short : goal.returns-in_default-clause-short
+returns-in_default-clause-short g c = let o = c.make_room.ensures.others in let d = c.make_room.new.caller in roomless g.O.Out.state c.args.at.now.tables.now.socks.rule.plan c.args.at.now.tables.now.ids.plan c.args.tasks.now.items c.args.caller.now d (record d { calls = record d.calls { starved = true } }) (begins_same c.args.caller.now d o.0 c.make_room.ensures.lists.0 o.1 o.2 c.make_room.ensures.lists.1) refl refl
+
 pub makes-init : goal.makes-init
-makes-init g c = record {
-  rest = refl;
-  few = omega arith;
-  go = c.requires.go;
-  ran = ran_none g.O.Out.state c.args.at.now.tables.now.socks.rule.plan c.args.at.now.tables.now.ids.plan c.args.tasks.now.items c.args.caller.now;
-  left = c.requires.may;
-  share = refl;
-  same = (refl, refl, refl);
-  held_room = c.requires.room.0;
-  told_room = omega (arith, c.requires.room.1);
-}
+makes-init g c =
+    let z = c.args.at.now.tables.now.socks.rule.table.shared.table_id in let p = c.args.at.now.tables.now.socks.rule.plan in let y = c.args.at.now.tables.now.ids.table.shared.table_id in let q = c.args.at.now.tables.now.ids.plan in
+    let xs = c.args.tasks.now.items in let b = c.args.caller.now in let d = c.make_room.new.caller in let o = c.make_room.ensures.others in let same = c.make_room.ensures.lists in let room = c.in-Ok.ensures.room in record {
+      rest = refl;
+      few = omega arith;
+      go = same_go z p y 0 0 b d c.requires.go (omega arith) o.0 same.0 o.1 o.3 (subst (λ k. HasNoLock y k) (sym o.2) c.requires.go.ids);
+      ran = ran_before g.O.Out.state p q xs 0 b d d (begins_same b d o.0 same.0 o.1 o.2 same.1) (ran_none g.O.Out.state p q xs d);
+      left = subst (λ v. MayMakeAll p q xs (length v.items)) (sym o.1) c.requires.may;
+      share = ap (λ s. s.me.0.share) o.0;
+      same = subst (λ k. Stays b.calls.seat k.seat) (sym o.2) (refl, refl, refl);
+      held_room = omega (arith, c.len.ensures, c.args.tasks.now.ok.0, room.0);
+      told_room = omega (arith, c.len.ensures, c.args.tasks.now.ok.0, room.1);
+    }
 
 pub make-requires-clause-may : goal.make-requires-clause-may
 make-requires-clause-may g c = (may_next c.args.at.now.tables.now.socks.rule.plan c.args.at.now.tables.now.ids.plan c.makes.tasks.items c.next_of-task.new.tasks.items c.next_of-task.result (length c.be_ready.new.caller.passes.items) c.next_of-task.ensures (subst (λ v. MayMakeAll c.args.at.now.tables.now.socks.rule.plan c.args.at.now.tables.now.ids.plan c.makes.tasks.items (length v.items)) (sym c.be_ready.ensures.others.1) c.makes.invariant.left)).0

@@ -70,15 +70,15 @@ pub returns-in-Ok-clause-own : goal.returns-in-Ok-clause-own
 returns-in-Ok-clause-own g c = own_after c.args.seat.now.me.0 c.deliver.new.seat.me.0 (attempted_leaves g.O.Out.state c.args.self.now.tables.now.socks.rule.plan c.args.self.now.tables.now.ids.plan c.args.to c.args.msg (both c.args.seat.now.me.0 c.args.calls.now) (both c.deliver.new.seat.me.0 c.deliver.new.calls) (returns-in-Ok-clause-by g c))
 
 pub returns-in-Err-clause-by : goal.returns-in-Err-clause-by
-returns-in-Err-clause-by g c = nowhere record { found = c.in-Err._gone.found; gone = c.in-Err.ensures.gone; posted = c.post_error.ensures.posted }
+returns-in-Err-clause-by g c = nowhere record { found = c.in-Err._gone.found; gone = c.in-Err.ensures.gone; posted = c.post_for.ensures.posted }
 
 pub returns-in-Err-clause-rested : goal.returns-in-Err-clause-rested
-returns-in-Err-clause-rested g c = let l = attempted_leaves g.O.Out.state c.args.self.now.tables.now.socks.rule.plan c.args.self.now.tables.now.ids.plan c.args.to c.args.msg (both c.args.seat.now.me.0 c.args.calls.now) (both c.address.new.seat.me.0 c.post_error.new.calls) (returns-in-Err-clause-by g c) in record {
+returns-in-Err-clause-rested g c = let l = attempted_leaves g.O.Out.state c.args.self.now.tables.now.socks.rule.plan c.args.self.now.tables.now.ids.plan c.args.to c.args.msg (both c.args.seat.now.me.0 c.args.calls.now) (both c.address.new.seat.me.0 c.post_for.new.calls) (returns-in-Err-clause-by g c) in record {
   rest = rest_became c.args.self.now.tables.now.socks.rule.table.shared.table_id c.args.self.now.tables.now.socks.rule.plan (socket_id_slot c.args.to.0) c.args.seat.now c.address.new.seat _ _ c.requires.may.idle c.address.ensures.seat c.address.ensures.slots c.address.ensures.between c.in-Err.ensures.gone.became;
   refs = l.refs;
   seen = l.seen;
-  keeps = c.post_error.ensures.keeps;
+  keeps = c.post_for.ensures.keeps;
 }
 
 pub returns-in-Err-clause-own : goal.returns-in-Err-clause-own
-returns-in-Err-clause-own g c = own_after c.args.seat.now.me.0 c.address.new.seat.me.0 (attempted_leaves g.O.Out.state c.args.self.now.tables.now.socks.rule.plan c.args.self.now.tables.now.ids.plan c.args.to c.args.msg (both c.args.seat.now.me.0 c.args.calls.now) (both c.address.new.seat.me.0 c.post_error.new.calls) (returns-in-Err-clause-by g c))
+returns-in-Err-clause-own g c = own_after c.args.seat.now.me.0 c.address.new.seat.me.0 (attempted_leaves g.O.Out.state c.args.self.now.tables.now.socks.rule.plan c.args.self.now.tables.now.ids.plan c.args.to c.args.msg (both c.args.seat.now.me.0 c.args.calls.now) (both c.address.new.seat.me.0 c.post_for.new.calls) (returns-in-Err-clause-by g c))

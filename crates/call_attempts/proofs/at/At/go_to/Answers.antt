@@ -22,10 +22,10 @@ pub find-requires-clause-name : goal.find-requires-clause-name
 find-requires-clause-name g c = (c.is_stray.ensures.at_home c.if-is_stray.false).0
 
 pub returns-then-is_stray-clause-by : goal.returns-then-is_stray-clause-by
-returns-then-is_stray-clause-by g c = stray (c.is_stray.ensures.stray c.if-is_stray.true) refl c.post_error.ensures.posted
+returns-then-is_stray-clause-by g c = stray (c.is_stray.ensures.stray c.if-is_stray.true) refl c.post_for.ensures.posted
 
 pub returns-then-is_stray-clause-rested : goal.returns-then-is_stray-clause-rested
-returns-then-is_stray-clause-rested g c = let z = c.args.self.now.tables.now.socks.rule.table.shared.table_id in let p = c.args.self.now.tables.now.socks.rule.plan in let y = c.args.self.now.tables.now.ids.table.shared.table_id in rested_still z p y c.args.seat.now c.args.calls.now c.post_error.new.calls c.requires.may c.post_error.ensures.keeps
+returns-then-is_stray-clause-rested g c = let z = c.args.self.now.tables.now.socks.rule.table.shared.table_id in let p = c.args.self.now.tables.now.socks.rule.plan in let y = c.args.self.now.tables.now.ids.table.shared.table_id in rested_still z p y c.args.seat.now c.args.calls.now c.post_for.new.calls c.requires.may c.post_for.ensures.keeps
 
 pub returns-then-is_stray-clause-own : goal.returns-then-is_stray-clause-own
 returns-then-is_stray-clause-own g c = own_after c.args.seat.now.me.0 c.args.seat.now.me.0 (keeps_leaves c.args.seat.now.me.0 c.args.seat.now.me.0 (none_keeps c.args.seat.now.me.0))
@@ -42,11 +42,11 @@ pub returns-in-Some-clause-own : goal.returns-in-Some-clause-own
 returns-in-Some-clause-own g c = λ n o. c.attempt.ensures.own n (own_keeps n c.args.seat.now.me.0 c.find.new.seat.me.0 (found_keeps c.args.self.now.tables.now.socks.rule.plan c.args.name c.find.result c.args.seat.now.me.0 c.find.new.seat.me.0 c.find.ensures.found) o)
 
 pub returns-in-None-clause-by : goal.returns-in-None-clause-by
-returns-in-None-clause-by g c = unopened c.in-None.ensures.found c.post_error-in-None.ensures.posted
+returns-in-None-clause-by g c = unopened c.in-None.ensures.found c.post_for-in-None.ensures.posted
 
 pub returns-in-None-clause-rested : goal.returns-in-None-clause-rested
 returns-in-None-clause-rested g c = let z = c.args.self.now.tables.now.socks.rule.table.shared.table_id in let p = c.args.self.now.tables.now.socks.rule.plan in let y = c.args.self.now.tables.now.ids.table.shared.table_id in let e = c.find.ensures in
-    rested_found z p y c.args.seat.now c.find.new.seat c.args.calls.now c.post_error-in-None.new.calls c.requires.may e.seat e.slots e.between e.same (found_keeps p c.args.name c.find.result c.args.seat.now.me.0 c.find.new.seat.me.0 e.found) c.post_error-in-None.ensures.keeps
+    rested_found z p y c.args.seat.now c.find.new.seat c.args.calls.now c.post_for-in-None.new.calls c.requires.may e.seat e.slots e.between e.same (found_keeps p c.args.name c.find.result c.args.seat.now.me.0 c.find.new.seat.me.0 e.found) c.post_for-in-None.ensures.keeps
 
 pub returns-in-None-clause-own : goal.returns-in-None-clause-own
 returns-in-None-clause-own g c = own_after c.args.seat.now.me.0 c.find.new.seat.me.0 (keeps_leaves c.args.seat.now.me.0 c.find.new.seat.me.0 (found_keeps c.args.self.now.tables.now.socks.rule.plan c.args.name c.find.result c.args.seat.now.me.0 c.find.new.seat.me.0 c.find.ensures.found))

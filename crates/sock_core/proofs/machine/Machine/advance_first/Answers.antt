@@ -4,8 +4,9 @@ use Rattle.sock_core.specs.declared.machine.Tick.TheVariants.{Idle}
 use Rattle.sock_core.specs.Machines.{MachineState}
 use Rattle.sock_core.specs.Runs.{Ticked}
 use Rattle.sock_core.specs.Driving.{Leaves, IsPlain, TickedFirst}
-use Rattle.sock_core.proofs.Advancing.{is_sized, some_seat, few_slots, base, told_ticks, told_keeps, told_leaves, told_sizes}
+use Rattle.sock_core.proofs.Advancing.{base, told_ticks, told_keeps, told_leaves, told_sizes}
 use Rattle.sock_core.proofs.Fitting.{step_fits}
+use Rattle.sock_core.proofs.Lengths.{is_sized, some_seat}
 use Rattle.sock_core.proofs.PlainSteps.{no_step_rests, plain_ready, plain_at, first_told, idle_first}
 use Rattle.sock_core.proofs.Resting.{rest_ticks}
 use Rattle.sock_core.proofs.machine.Machine.advance_first.Goals as goal
@@ -20,7 +21,7 @@ pub step_first-requires-clause-ready : goal.step_first-requires-clause-ready
 step_first-requires-clause-ready g c = plain_ready c.self.inside.tables (subst IsPlain (sym c.self.view_is) c.requires.plain)
 
 pub step_first-requires-clause-fits : goal.step_first-requires-clause-fits
-step_first-requires-clause-fits g c = step_fits c.self.inside.tables (is_sized c.self.inside.tables c.self.invariant.0.sizes) (few_slots c.self.inside.tables c.self.invariant.0.sizes) (c.self.invariant.0.called (ap (λ (m : MachineState). m.short) c.self.view_is ∙ c.requires.enough)) (c.self.invariant.0.sound (ap (λ (m : MachineState). m.short) c.self.view_is ∙ c.requires.enough)) 0 c.in-Some.step (plain_at c.self.inside.tables (subst IsPlain (sym c.self.view_is) c.requires.plain)) c.in-Some.ensures.some
+step_first-requires-clause-fits g c = step_fits c.self.inside.tables _ c.self.invariant.0 (ap (λ (m : MachineState). m.short) c.self.view_is ∙ c.requires.enough) 0 c.in-Some.step (plain_at c.self.inside.tables (subst IsPlain (sym c.self.view_is) c.requires.plain)) c.in-Some.ensures.some
 
 pub step_first-requires-clause-sized : goal.step_first-requires-clause-sized
 step_first-requires-clause-sized g c = is_sized c.self.inside.tables c.self.invariant.0.sizes

@@ -14,7 +14,7 @@ use Rattle.sock_core.proofs.TableGoes.{may_next, next_is}
 use Rattle.sock_core.proofs.table.Table.make_aside.Goals as goal
 
 pub step-found-requires : goal.step-found-requires
-step-found-requires g c = subst (λ (x : TableState). slots.StepFits x.ids c.args.step) (sym c.self.view_is) (slots_fit c.args.self.now c.args.step c.requires.kind c.requires.fits.0)
+step-found-requires g c = subst (λ (x : TableState). slots.StepFits x.ids c.args.step) (sym c.self.view_is) (slots_fit c.args.self.now c.args.step c.requires.kind c.requires.may.fits.0)
 
 pub next-next-requires : goal.next-next-requires
 next-next-requires g c =
@@ -24,8 +24,7 @@ next-next-requires g c =
     let aside = aside_steps.step_of asked c.args.step in
     let sizes = c.sizes-sizes.ensures ∙ ap (λ (p : IdPlan). sizes_of c.self.inside.plan p) (same_ids _ _ _ _ (c.step-found.ensures asked)) ∙ ap (λ (x : TableState). table_sizes x) c.self.view_is in
     let found = subst (λ (x : TableState). FoundBeside x seat c.args.step c.step-found.result) c.self.view_is ((c.step-found.ensures asked).finds [] [] c.self.inside.ending core.none) in
-    let m = may_next {t = t} c.sizes-sizes.result seat c.step-found.result sizes (c.requires.fits.1 c.step-found.result found) c.requires.stand.1 (goes_by_word (around (table_sizes t) seat) seat.point aside c.requires.next (finds_word asked c.args.step c.requires.kind)) in
-    record { within = m.within; ids = m.ids; word = m.word; aside = m.aside; link = m.link; told = m.told; step = m.step }
+    may_next {t = t} c.sizes-sizes.result seat c.step-found.result sizes (c.requires.may.fits.1 c.step-found.result found) c.requires.may.stand (goes_by_word (around (table_sizes t) seat) seat.point aside c.requires.may.next (finds_word asked c.args.step c.requires.kind))
 
 pub follow-requires : goal.follow-requires
 follow-requires g c = record { room = λ o name id e. c.requires.room.0; more = inr c.requires.room.1 }
@@ -36,8 +35,8 @@ returns-clause-made g c seat_number =
     let made = c.step-found.ensures (asked_or_nothing seat.call) in
     let same = same_ids _ _ _ _ made in
     let sizes = c.sizes-sizes.ensures ∙ ap (λ (p : IdPlan). sizes_of c.self.inside.plan p) same in
-    let ready = subst (λ (x : TableState). IsReady x seat) (sym c.self.view_is) c.requires.stand.0 in
-    made_aside c.args.step c.step-found.result c.self.view_is c.requires.next (finds_word (asked_or_nothing seat.call) c.args.step c.requires.kind) made
+    let ready = subst (λ (x : TableState). IsReady x seat) (sym c.self.view_is) c.requires.may.ready in
+    made_aside c.args.step c.step-found.result c.self.view_is c.requires.may.next (finds_word (asked_or_nothing seat.call) c.args.step c.requires.kind) made
     (goes (next_program (around c.sizes-sizes.result seat) c.next-next.result) (record { plans = record { plan = refl; id_plan = same; calls = refl; ending = refl }; inns = refl }) sizes c.deref_mut.ensures.value (written c.self.inside.outcomes.len c.follow.new.outcomes _ (omega (arith, c.self.inside.outcomes.ok))) c.follow.ensures refl
     (next_is c.sizes-sizes.result seat c.next-next.result c.step-found.result c.calling.result sizes ready c.calling.ensures c.next-next.ensures.program))
     refl refl refl refl

@@ -22,18 +22,17 @@ next-next-requires g c =
     let call = step_of c.args.call in
     let sizes = c.sizes-sizes.ensures ∙ ap (λ (x : TableState). table_sizes x) c.self.view_is in
     let found = c.step_word-found.ensures.found ∙ ap (λ (ws : List ℕ). found_at ws (word_of c.self.inside.plan call)) c.deref_mut.ensures.value ∙ ap (λ (x : TableState). found_at x.words (word_of x.plan call)) c.self.view_is in
-    let m = may_next {t = t} c.sizes-sizes.result seat c.step_word-found.result sizes (subst (λ (n : ℕ). MayGoOn t seat n) (sym found) c.requires.fits.3) c.requires.stand.1 (goes_by_word (around (table_sizes t) seat) seat.point call c.requires.next) in
-    record { within = m.within; ids = m.ids; word = m.word; aside = m.aside; link = m.link; told = m.told; step = m.step }
+    may_next {t = t} c.sizes-sizes.result seat c.step_word-found.result sizes (subst (λ (n : ℕ). MayGoOn t seat n) (sym found) c.requires.may.fits.3) c.requires.may.stand (goes_by_word (around (table_sizes t) seat) seat.point call c.requires.may.next)
 
 pub follow-requires : goal.follow-requires
 follow-requires g c =
     let seat = seat_data c.args.place.now in
     let t = c.args.self.now in
     let sizes = c.sizes-sizes.ensures ∙ ap (λ (x : TableState). table_sizes x) c.self.view_is in
-    let next = next_is {t = t} c.sizes-sizes.result seat c.next-next.result c.step_word-found.result c.calling.result sizes c.requires.stand.0 c.calling.ensures c.next-next.ensures.program in
+    let next = next_is {t = t} c.sizes-sizes.result seat c.next-next.result c.step_word-found.result c.calling.result sizes c.requires.may.ready c.calling.ensures c.next-next.ensures.program in
     record {
       room = room_for t c.args.place.now (around c.sizes-sizes.result seat) c.next-next.result c.step_word-found.result c.requires.room next;
-      more = inl (flat_next t c.sizes-sizes.result seat c.next-next.result (step_of c.args.call) c.step_word-found.result c.calling.result sizes c.requires.next c.requires.stand.0.hand c.calling.ensures c.next-next.ensures.program);
+      more = inl (flat_next t c.sizes-sizes.result seat c.next-next.result (step_of c.args.call) c.step_word-found.result c.calling.result sizes c.requires.may.next c.requires.may.ready.hand c.calling.ensures c.next-next.ensures.program);
     }
 
 pub returns-clause-made : goal.returns-clause-made
@@ -41,7 +40,7 @@ returns-clause-made g c =
     let seat = seat_data c.args.place.now in
     let call = step_of c.args.call in
     let sizes = c.sizes-sizes.ensures in
-    let ready = subst (λ (x : TableState). IsReady x seat) (sym c.self.view_is) c.requires.stand.0 in
+    let ready = subst (λ (x : TableState). IsReady x seat) (sym c.self.view_is) c.requires.may.ready in
     let found = c.step_word-found.ensures.found ∙ ap (λ (ws : List ℕ). found_at ws (word_of c.self.inside.plan call)) c.deref_mut.ensures.value in
     let halves = halves_in (λ e. g.O.Out.state e.out) (λ e. g.I.In.state e.inn) (λ e. end_of (g.O.Out.state e.out) (g.I.In.state e.inn)) call c.deref_mut-3.ensures.value (written c.self.inside.ends.len c.end_link.new.ends _ (omega (arith, c.self.inside.ends.ok))) c.end_link.ensures.outs c.end_link.ensures.inns c.end_link.ensures.ends in
     makes_along c.self.view_is (

@@ -18,8 +18,7 @@ next-next-requires g c =
     let seat = seat_data c.args.place.now in
     let t = c.args.self.now in
     let sizes = c.sizes-sizes.ensures ∙ ap (λ (x : TableState). table_sizes x) c.self.view_is in
-    let m = may_next {t = t} c.sizes-sizes.result seat 0 sizes c.requires.fits.2 c.requires.stand.1 (goes_by_word (around (table_sizes t) seat) seat.point (calls.PutMessage c.args.request (heading_by c.args.author (parts_of seat.message)) (bytes_of seat.message)) c.requires.next) in
-    record { within = m.within; ids = m.ids; word = m.word; aside = m.aside; link = m.link; told = m.told; step = m.step }
+    may_next {t = t} c.sizes-sizes.result seat 0 sizes c.requires.may.fits.2 c.requires.may.stand (goes_by_word (around (table_sizes t) seat) seat.point (calls.PutMessage c.args.request (heading_by c.args.author (parts_of seat.message)) (bytes_of seat.message)) c.requires.may.next)
 
 pub follow-requires : goal.follow-requires
 follow-requires g c =
@@ -27,11 +26,11 @@ follow-requires g c =
     let t = c.args.self.now in
     let sizes = c.sizes-sizes.ensures ∙ ap (λ (x : TableState). table_sizes x) c.self.view_is in
     let next = put_next c.sizes-sizes.result (table_sizes t) seat (seat_data (record c.args.place.now { hand = c.put_message.new.hand })) (message_in c.put_message.new.hand) c.next-next.result c.calling.result c.args.request (heading_by c.args.author (parts_of seat.message)) (bytes_of seat.message) sizes
-    (hand_put c.args.place.now c.put_message.new.hand c.in_ok-put_message.ensures.rest.1) c.requires.next c.calling.ensures c.next-next.ensures.program in
+    (hand_put c.args.place.now c.put_message.new.hand c.in_ok-put_message.ensures.rest.1) c.requires.may.next c.calling.ensures c.next-next.ensures.program in
     record {
       room = room_for t c.args.place.now (around c.sizes-sizes.result (seat_data (record c.args.place.now { hand = c.put_message.new.hand }))) c.next-next.result 0 c.requires.room next;
       more = inl (put_flat c.sizes-sizes.result (table_sizes t) seat (seat_data (record c.args.place.now { hand = c.put_message.new.hand })) (message_in c.put_message.new.hand) c.next-next.result c.calling.result c.args.request (heading_by c.args.author (parts_of seat.message)) (bytes_of seat.message) sizes
-          (hand_put c.args.place.now c.put_message.new.hand c.in_ok-put_message.ensures.rest.1) c.requires.next c.calling.ensures c.next-next.ensures.program);
+          (hand_put c.args.place.now c.put_message.new.hand c.in_ok-put_message.ensures.rest.1) c.requires.may.next c.calling.ensures c.next-next.ensures.program);
     }
 
 pub returns-clause-ok : goal.returns-clause-ok
@@ -57,7 +56,7 @@ returns-clause-ok g c seat_number =
         ends = refl;
         goes = goes (next_program (around c.sizes-sizes.result (seat_data (record c.args.place.now { hand = c.put_message.new.hand }))) c.next-next.result) (record { plans = record { plan = refl; id_plan = refl; calls = refl; ending = refl }; inns = refl }) sizes c.deref_mut-2.ensures.value (written c.self.inside.outcomes.len c.follow.new.outcomes _ (omega (arith, c.self.inside.outcomes.ok))) c.follow.ensures refl
             (put_next c.sizes-sizes.result (sizes_of c.self.inside.plan c.self.inside.ids.plan) seat (seat_data (record c.args.place.now { hand = c.put_message.new.hand })) (message_in c.put_message.new.hand) c.next-next.result c.calling.result c.args.request (heading_by c.args.author (parts_of seat.message)) (bytes_of seat.message) sizes
-            (hand_put c.args.place.now c.put_message.new.hand c.in_ok-put_message.ensures.rest.1) (next_along seat (firsts.PutMessage c.args.request c.args.author) c.self.view_is c.requires.next) c.calling.ensures c.next-next.ensures.program);
+            (hand_put c.args.place.now c.put_message.new.hand c.in_ok-put_message.ensures.rest.1) (next_along seat (firsts.PutMessage c.args.request c.args.author) c.self.view_is c.requires.may.next) c.calling.ensures c.next-next.ensures.program);
       },
     )
 

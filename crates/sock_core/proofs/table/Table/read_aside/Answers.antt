@@ -26,7 +26,7 @@ returns-clause-ok g c =
     let made = c.step-found.ensures reader.asked in
     let same = same_ids _ _ _ _ made in
     let outcomes = written c.self.inside.outcomes.len c.follow_word.new.outcomes _ (omega (arith, c.self.inside.outcomes.ok)) in
-    let next = next_along reader (steps.Aside c.args.step) c.self.view_is c.requires.next in
+    let next = next_along reader (steps.Aside c.args.step) c.self.view_is c.requires.may.next in
     let goes = goes_as (λ (cs : List ℕ). after_word (reader_program cs reader) c.step-found.result) c.follow_word.new.self c.deref.ensures.value c.deref_mut.ensures.value outcomes c.in-Ok.ensures in
     let awaited = awaited_at (around c.self.inside.calls.items reader) c.point-point.result reader.point c.step-found.result c.awaited_by_reader.result c.point-point.ensures c.awaited_by_reader.ensures.waits c.awaited_by_reader.ensures.on in
     elim c.match-awaited_by_reader.branch [

@@ -31,7 +31,7 @@ returns-in_err-settle-clause-err g c =
 pub returns-in_default-follow_take-clause-err : goal.returns-in_default-follow_take-clause-err
 returns-in_default-follow_take-clause-err g c =
     let reader = c.args.reader.now in
-    let next = next_along reader (steps.Aside (variants.TakeBytes c.args.link c.args.count)) c.self.view_is c.requires.next in
+    let next = next_along reader (steps.Aside (variants.TakeBytes c.args.link c.args.count)) c.self.view_is c.requires.may.next in
     let outcomes = written c.self.inside.outcomes.len c.follow_take.new.outcomes _ (omega (arith, c.self.inside.outcomes.ok)) in
     let from = taken_from (λ e. g.O.Out.state e.out) (λ e. g.I.In.state e.inn) _ _ c.self.inside.ends.items c.from-2.result c.args.link c.args.count c.index_mut-ends.result.now c.settle.new.ends _ c.from-2.ensures (omega (arith, c.if-from-len.false, c.from.ensures, c.len.ensures, c.self.inside.ends.ok)) c.index_mut-ends.ensures.value refl refl refl _ c.take_into-answer.result
     (fills (around c.self.inside.calls.items reader) reader.point c.args.link c.args.count c.take_into-answer.new.room next (omega (arith, c.take_into-answer.auto.room, c.deref_mut.ensures.len, c.self.invariant.1))) c.in_ok-settle.ensures.out c.in_ok-settle.ensures.inn c.in_ok-settle.ensures.settled refl c.take_into-answer.ensures refl refl in
@@ -42,7 +42,7 @@ returns-in_default-follow_take-clause-err g c =
 pub returns-clause-ok : goal.returns-clause-ok
 returns-clause-ok g c i =
     let reader = c.args.reader.now in
-    let next = next_along reader (steps.Aside (variants.TakeBytes c.args.link c.args.count)) c.self.view_is c.requires.next in
+    let next = next_along reader (steps.Aside (variants.TakeBytes c.args.link c.args.count)) c.self.view_is c.requires.may.next in
     let room = take c.args.count c.take_into-answer.new.room in
     let outcomes = written c.self.inside.outcomes.len c.follow_take.new.outcomes _ (omega (arith, c.self.inside.outcomes.ok)) in
     let from = taken_from (λ e. g.O.Out.state e.out) (λ e. g.I.In.state e.inn) _ _ c.self.inside.ends.items c.from-2.result c.args.link c.args.count c.index_mut-ends.result.now c.settle.new.ends _ c.from-2.ensures (omega (arith, c.if-from-len.false, c.from.ensures, c.len.ensures, c.self.inside.ends.ok)) c.index_mut-ends.ensures.value refl refl refl room c.take_into-answer.result
@@ -59,7 +59,7 @@ returns-clause-ok g c i =
 pub returns-in-Empty-clause-ok : goal.returns-in-Empty-clause-ok
 returns-in-Empty-clause-ok g c i =
     let reader = c.args.reader.now in
-    let next = next_along reader (steps.Aside (variants.TakeBytes c.args.link c.args.count)) c.self.view_is c.requires.next in
+    let next = next_along reader (steps.Aside (variants.TakeBytes c.args.link c.args.count)) c.self.view_is c.requires.may.next in
     let room = take c.args.count c.take_into-answer.new.room in
     let takes_bytes = reads_bytes (around c.self.inside.calls.items reader) reader.point c.args.link c.args.count next in
     let off : c.self.inside.ending ≡ false = c.if-not-self.true in

@@ -4,29 +4,29 @@ use Rattle.call_points.specs.declared.aside.Aside as code
 use Rattle.seat_states.specs.declared.point.Step.TheVariants as firsts
 use Rattle.client_seats.specs.Seats.{seat_data, around, asked_or_nothing}
 use Rattle.sock_core.specs.Machines.{table_sizes}
-use Rattle.sock_core.specs.Steps.{IsNext, Fits, IsOnWord}
+use Rattle.sock_core.specs.Steps.{IsNext, IsFitStep, IsOnWord}
 use Rattle.sock_core.proofs.Tellings.{aside_moved, aside_waited}
 use Rattle.sock_core.proofs.TableAsides.{takes_none}
 use Rattle.sock_core.proofs.TableTellings.{moved_aside}
 use Rattle.sock_core.proofs.table.Table.step_aside.Goals as goal
 
 pub returns-in_ok-put_call-in-PutCall-clause-ok : goal.returns-in_ok-put_call-in-PutCall-clause-ok
-returns-in_ok-put_call-in-PutCall-clause-ok g c i = moved_aside (steps.PutCall c.in-PutCall.slot) tt c.in-PutCall.is c.requires.next (c.kind-kind.ensures (asked_or_nothing (seat_data c.args.place.now).call)) (c.in_ok-put_call-in-PutCall.ensures.ok i)
+returns-in_ok-put_call-in-PutCall-clause-ok g c i = moved_aside (steps.PutCall c.in-PutCall.slot) tt c.in-PutCall.is c.requires.may.next (c.kind-kind.ensures (asked_or_nothing (seat_data c.args.place.now).call)) (c.in_ok-put_call-in-PutCall.ensures.ok i)
 
 pub returns-in_ok-take_call-in-TakeCall-clause-ok : goal.returns-in_ok-take_call-in-TakeCall-clause-ok
-returns-in_ok-take_call-in-TakeCall-clause-ok g c i = moved_aside (steps.TakeCall c.in-TakeCall.slot) tt c.in-TakeCall.is c.requires.next (c.kind-kind.ensures (asked_or_nothing (seat_data c.args.place.now).call)) (c.in_ok-take_call-in-TakeCall.ensures.ok i)
+returns-in_ok-take_call-in-TakeCall-clause-ok g c i = moved_aside (steps.TakeCall c.in-TakeCall.slot) tt c.in-TakeCall.is c.requires.may.next (c.kind-kind.ensures (asked_or_nothing (seat_data c.args.place.now).call)) (c.in_ok-take_call-in-TakeCall.ensures.ok i)
 
 pub returns-in-Some-clause-ok : goal.returns-in-Some-clause-ok
 returns-in-Some-clause-ok g c i =
     let seat = seat_data c.args.place.now in
     let waits = c.make_aside.ensures.waits in
-    aside_waited c.kind-kind.result c.requires.next (c.kind-kind.ensures (asked_or_nothing seat.call)) c.args.step waits.0 c.make_aside.result c.in-Some.on refl (c.make_aside.ensures.made i) waits.1 waits.2 c.make_aside.ensures.on c.in-Some.is
+    aside_waited c.kind-kind.result c.requires.may.next (c.kind-kind.ensures (asked_or_nothing seat.call)) c.args.step waits.0 c.make_aside.result c.in-Some.on refl (c.make_aside.ensures.made i) waits.1 waits.2 c.make_aside.ensures.on c.in-Some.is
 
 pub returns-in-None-clause-ok : goal.returns-in-None-clause-ok
 returns-in-None-clause-ok g c i =
     let seat = seat_data c.args.place.now in
     let waits = c.make_aside.ensures.waits in
-    aside_moved c.kind-kind.result c.requires.next (c.kind-kind.ensures (asked_or_nothing seat.call)) c.args.step waits.0 c.make_aside.result refl (c.make_aside.ensures.made i) waits.1 waits.2 c.in-None.is
+    aside_moved c.kind-kind.result c.requires.may.next (c.kind-kind.ensures (asked_or_nothing seat.call)) c.args.step waits.0 c.make_aside.result refl (c.make_aside.ensures.made i) waits.1 waits.2 c.in-None.is
 
 on_word : (s : code.Aside) → ((i : ℕ) → s ≡ steps.PutCall i → ⊥) → ((i : ℕ) → s ≡ steps.TakeCall i → ⊥) → ((k n : ℕ) → s ≡ steps.TakeBytes k n → ⊥) → IsOnWord s
 on_word (steps.PutCall i) put take bytes = put i refl
@@ -39,16 +39,10 @@ pub make_aside-requires-clause-kind : goal.make_aside-requires-clause-kind
 make_aside-requires-clause-kind g c =
     let seat = seat_data c.args.place.now in
     let t = c.args.self.now in
-    on_word c.args.step c.in_default.not-PutCall c.in_default.not-TakeCall (λ k n e. takes_none (around (table_sizes t) seat) seat.point k n (subst (λ (s : code.Aside). IsNext t seat (firsts.Aside s)) e c.requires.next))
+    on_word c.args.step c.in_default.not-PutCall c.in_default.not-TakeCall (λ k n e. takes_none (around (table_sizes t) seat) seat.point k n (subst (λ (s : code.Aside). IsNext t seat (firsts.Aside s)) e c.requires.may.next))
 
-pub put_call-requires-clause-fits : goal.put_call-requires-clause-fits
-put_call-requires-clause-fits g c = subst (λ (s : code.Aside). Fits c.args.self.now (seat_data c.args.place.now) (firsts.Aside s)) c.in-PutCall.is c.requires.fits
+pub put_call-requires-clause-may : goal.put_call-requires-clause-may
+put_call-requires-clause-may g c = subst (λ (s : code.Aside). IsFitStep c.args.self.now (seat_data c.args.place.now) (firsts.Aside s)) c.in-PutCall.is c.requires.may
 
-pub put_call-requires-clause-next : goal.put_call-requires-clause-next
-put_call-requires-clause-next g c = subst (λ (s : code.Aside). IsNext c.args.self.now (seat_data c.args.place.now) (firsts.Aside s)) c.in-PutCall.is c.requires.next
-
-pub take_call-requires-clause-fits : goal.take_call-requires-clause-fits
-take_call-requires-clause-fits g c = subst (λ (s : code.Aside). Fits c.args.self.now (seat_data c.args.place.now) (firsts.Aside s)) c.in-TakeCall.is c.requires.fits
-
-pub take_call-requires-clause-next : goal.take_call-requires-clause-next
-take_call-requires-clause-next g c = subst (λ (s : code.Aside). IsNext c.args.self.now (seat_data c.args.place.now) (firsts.Aside s)) c.in-TakeCall.is c.requires.next
+pub take_call-requires-clause-may : goal.take_call-requires-clause-may
+take_call-requires-clause-may g c = subst (λ (s : code.Aside). IsFitStep c.args.self.now (seat_data c.args.place.now) (firsts.Aside s)) c.in-TakeCall.is c.requires.may

@@ -14,10 +14,10 @@ use Rattle.sock_core.proofs.TableCuts.{cut_ids, cut_along}
 use Rattle.sock_core.proofs.table.Table.take_call.Goals as goal
 
 pub take_call-requires : goal.take_call-requires
-take_call-requires g c = subst (λ (x : TableState). c.args.slot < x.ids.plan.slots) (sym c.self.view_is) c.requires.fits.0.0
+take_call-requires g c = subst (λ (x : TableState). c.args.slot < x.ids.plan.slots) (sym c.self.view_is) c.requires.may.fits.0.0
 
 pub with_call-requires : goal.with_call-requires
-with_call-requires g c = let seat = seat_data c.args.place.now in takes_call (around (table_sizes c.args.self.now) seat) seat.point c.args.slot c.requires.next
+with_call-requires g c = let seat = seat_data c.args.place.now in takes_call (around (table_sizes c.args.self.now) seat) seat.point c.args.slot c.requires.may.next
 
 pub follow-requires : goal.follow-requires
 follow-requires g c = let room = c.has_room.ensures.room c.if-not-has_room.false in record { room = λ o name id e. room.0; more = inr room.1 }
@@ -51,7 +51,7 @@ returns-clause-ok g c seat_number =
     let same = same_ids _ _ _ _ c.take_call.ensures in
     let seat = seat_data c.args.place.now in
     let sizes = c.sizes.ensures ∙ ap (λ (p : IdPlan). sizes_of c.self.inside.plan p) same in
-    let first = next_along seat (firsts.Aside (steps.TakeCall c.args.slot)) c.self.view_is c.requires.next in
+    let first = next_along seat (firsts.Aside (steps.TakeCall c.args.slot)) c.self.view_is c.requires.may.next in
     let own = around (sizes_of c.self.inside.plan c.self.inside.ids.plan) seat in
     let next = behind_call own seat.point c.args.slot c.in-Some.call (takes_call own seat.point c.args.slot first) first in
     makes_along c.self.view_is (

@@ -3,7 +3,7 @@ use Rattle.std.proofs.Math.ListN.{length-set}
 use Rattle.sock_core.specs.Machines.{MachineState, table_of, IsSized}
 use Rattle.sock_core.specs.Reading.{ReadFits}
 use Rattle.sock_core.proofs.Places.{view_of}
-use Rattle.sock_core.proofs.TablePlaces.{reader_within, read_here, read_fits, read_told, read_in, read_along}
+use Rattle.sock_core.proofs.TablePlaces.{reader_within, fit_here, read_told, read_in, read_along}
 use Rattle.sock_core.proofs.TableCuts.{cut_none, cut_machine, short_along}
 use Rattle.sock_core.proofs.tables.Tables.read.Goals as goal
 
@@ -19,14 +19,8 @@ index_mut-reader-requires g c =
 pub overflow_add-link : goal.overflow_add-link
 overflow_add-link g c = let h = c.has_reader.ensures c.if-not-has_reader.false in omega (arith, h)
 
-pub read-requires-clause-calls : goal.read-requires-clause-calls
-read-requires-clause-calls g c κs within = (read_fits (view_of c.self.inside.table c.self.inside.seats.items c.self.inside.readers.items c.self.inside.opens.items c.self.inside.short) c.args.link c.from.result c.from.ensures c.index_mut-reader.result.now c.index_mut-reader.ensures.value c.args.step (read_in c.self.view_is c.requires.next) (subst (λ (m : MachineState). ReadFits m c.args.link c.args.step) (sym c.self.view_is) c.requires.fits)).0
-
-pub read-requires-clause-next : goal.read-requires-clause-next
-read-requires-clause-next g c κs within = read_here (view_of c.self.inside.table c.self.inside.seats.items c.self.inside.readers.items c.self.inside.opens.items c.self.inside.short) c.args.link c.from.result c.from.ensures c.index_mut-reader.result.now c.index_mut-reader.ensures.value c.args.step (read_in c.self.view_is c.requires.next)
-
-pub read-requires-clause-fits : goal.read-requires-clause-fits
-read-requires-clause-fits g c κs within = (read_fits (view_of c.self.inside.table c.self.inside.seats.items c.self.inside.readers.items c.self.inside.opens.items c.self.inside.short) c.args.link c.from.result c.from.ensures c.index_mut-reader.result.now c.index_mut-reader.ensures.value c.args.step (read_in c.self.view_is c.requires.next) (subst (λ (m : MachineState). ReadFits m c.args.link c.args.step) (sym c.self.view_is) c.requires.fits)).1
+pub read-requires-clause-may : goal.read-requires-clause-may
+read-requires-clause-may g c κs within = fit_here (view_of c.self.inside.table c.self.inside.seats.items c.self.inside.readers.items c.self.inside.opens.items c.self.inside.short) c.args.link c.from.result c.from.ensures c.index_mut-reader.result.now c.index_mut-reader.ensures.value c.args.step (read_in c.self.view_is c.requires.next) (subst (λ (m : MachineState). ReadFits m c.args.link c.args.step) (sym c.self.view_is) c.requires.fits)
 
 pub read-requires-clause-sized : goal.read-requires-clause-sized
 read-requires-clause-sized g c κs within = subst (λ (m : MachineState). IsSized (table_of m)) (sym c.self.view_is) c.requires.sized

@@ -2,7 +2,7 @@ use Rattle.std.proofs.Common.{refl, arith, subst, sym, inl}
 use Rattle.sock_core.specs.Machines.{MachineState, table_of, IsSized}
 use Rattle.sock_core.specs.Steps.{ReadyAt, StepFits}
 use Rattle.client_seats.specs.Seats.{seat_data}
-use Rattle.sock_core.proofs.Places.{seat_within, next_here, fits_here, ready_here, told_here, next_in, told_along}
+use Rattle.sock_core.proofs.Places.{seat_within, fit_here, told_here, next_in, told_along}
 use Rattle.sock_core.proofs.TablePlaces.{same_many}
 use Rattle.sock_core.proofs.TableCuts.{cut_none, cut_machine, short_along}
 use Rattle.sock_core.proofs.tables.Tables.step.Goals as goal
@@ -17,19 +17,9 @@ pub returns-then-not-has_room-clause-err : goal.returns-then-not-has_room-clause
 returns-then-not-has_room-clause-err g c =
     short_along c.self.view_is (cut_machine _ _ (cut_none refl) refl refl (same_many seat_data c.self.inside.seats.items c.from.result c.has_room.new.place) refl)
 
-pub step-requires-clause-next : goal.step-requires-clause-next
-step-requires-clause-next g c =
-    next_here c.self.inside.table c.self.inside.seats.items c.self.inside.readers.items c.self.inside.opens.items c.self.inside.short c.args.seat c.from.result c.from.ensures c.index_mut-place.result.now c.has_room.new.place c.index_mut-place.ensures.value c.has_room.ensures.same c.args.step.now (next_in c.self.view_is c.requires.next)
-
-pub step-requires-clause-stand : goal.step-requires-clause-stand
-step-requires-clause-stand g c = (
-  ready_here c.self.inside.table c.self.inside.seats.items c.self.inside.readers.items c.self.inside.opens.items c.self.inside.short c.args.seat c.from.result c.from.ensures c.index_mut-place.result.now c.has_room.new.place c.index_mut-place.ensures.value c.has_room.ensures.same c.args.step.now (next_in c.self.view_is c.requires.next) (subst (λ (m : MachineState). ReadyAt m c.args.seat) (sym c.self.view_is) c.requires.ready),
-  (fits_here c.self.inside.table c.self.inside.seats.items c.self.inside.readers.items c.self.inside.opens.items c.self.inside.short c.args.seat c.from.result c.from.ensures c.index_mut-place.result.now c.has_room.new.place c.index_mut-place.ensures.value c.has_room.ensures.same c.args.step.now (next_in c.self.view_is c.requires.next) (subst (λ (m : MachineState). StepFits m c.args.seat c.args.step.now) (sym c.self.view_is) c.requires.fits)).0,
-)
-
-pub step-requires-clause-fits : goal.step-requires-clause-fits
-step-requires-clause-fits g c =
-    (fits_here c.self.inside.table c.self.inside.seats.items c.self.inside.readers.items c.self.inside.opens.items c.self.inside.short c.args.seat c.from.result c.from.ensures c.index_mut-place.result.now c.has_room.new.place c.index_mut-place.ensures.value c.has_room.ensures.same c.args.step.now (next_in c.self.view_is c.requires.next) (subst (λ (m : MachineState). StepFits m c.args.seat c.args.step.now) (sym c.self.view_is) c.requires.fits)).1
+pub step-requires-clause-may : goal.step-requires-clause-may
+step-requires-clause-may g c =
+    fit_here c.self.inside.table c.self.inside.seats.items c.self.inside.readers.items c.self.inside.opens.items c.self.inside.short c.args.seat c.from.result c.from.ensures c.index_mut-place.result.now c.has_room.new.place c.index_mut-place.ensures.value c.has_room.ensures.same c.args.step.now (next_in c.self.view_is c.requires.next) (subst (λ (m : MachineState). ReadyAt m c.args.seat) (sym c.self.view_is) c.requires.ready) (subst (λ (m : MachineState). StepFits m c.args.seat c.args.step.now) (sym c.self.view_is) c.requires.fits)
 
 pub step-requires-clause-sized : goal.step-requires-clause-sized
 step-requires-clause-sized g c = subst (λ (m : MachineState). IsSized (table_of m)) (sym c.self.view_is) c.requires.sized

@@ -3,7 +3,7 @@ use Rattle.std.proofs.lemmas.Bool.{false≢true}
 use Rattle.sock_core.specs.Machines.{MachineState, table_of, IsSized}
 use Rattle.sock_core.specs.Driving.{IsPlain}
 use Rattle.sock_core.specs.Steps.{ReadyAt, StepFits}
-use Rattle.sock_core.proofs.Places.{seat_within, next_here, fits_here, ready_here, plain_here, told_here, next_in, told_along}
+use Rattle.sock_core.proofs.Places.{seat_within, fit_here, plain_here, told_here, next_in, told_along}
 use Rattle.sock_core.proofs.TablePlaces.{tick_as}
 use Rattle.sock_core.proofs.tables.Tables.step_first.Goals as goal
 use Rattle.sock_core.proofs.tables.Tables.step_first.Goals.{in-Ok, in-Err}
@@ -14,19 +14,9 @@ index_mut-place-requires g c =
     let h = seat_within c.self.inside.table c.self.inside.seats.items c.self.inside.readers.items c.self.inside.opens.items c.self.inside.short 0 0 refl n.seat n.at in
     omega (arith, h, c.self.inside.seats.ok)
 
-pub step-requires-clause-next : goal.step-requires-clause-next
-step-requires-clause-next g c =
-    next_here c.self.inside.table c.self.inside.seats.items c.self.inside.readers.items c.self.inside.opens.items c.self.inside.short 0 0 refl c.index_mut-place.result.now c.index_mut-place.result.now c.index_mut-place.ensures.value refl c.args.step.now (next_in c.self.view_is c.requires.next)
-
-pub step-requires-clause-stand : goal.step-requires-clause-stand
-step-requires-clause-stand g c = (
-  ready_here c.self.inside.table c.self.inside.seats.items c.self.inside.readers.items c.self.inside.opens.items c.self.inside.short 0 0 refl c.index_mut-place.result.now c.index_mut-place.result.now c.index_mut-place.ensures.value refl c.args.step.now (next_in c.self.view_is c.requires.next) (subst (λ (m : MachineState). ReadyAt m 0) (sym c.self.view_is) c.requires.ready),
-  (fits_here c.self.inside.table c.self.inside.seats.items c.self.inside.readers.items c.self.inside.opens.items c.self.inside.short 0 0 refl c.index_mut-place.result.now c.index_mut-place.result.now c.index_mut-place.ensures.value refl c.args.step.now (next_in c.self.view_is c.requires.next) (subst (λ (m : MachineState). StepFits m 0 c.args.step.now) (sym c.self.view_is) c.requires.fits)).0,
-)
-
-pub step-requires-clause-fits : goal.step-requires-clause-fits
-step-requires-clause-fits g c =
-    (fits_here c.self.inside.table c.self.inside.seats.items c.self.inside.readers.items c.self.inside.opens.items c.self.inside.short 0 0 refl c.index_mut-place.result.now c.index_mut-place.result.now c.index_mut-place.ensures.value refl c.args.step.now (next_in c.self.view_is c.requires.next) (subst (λ (m : MachineState). StepFits m 0 c.args.step.now) (sym c.self.view_is) c.requires.fits)).1
+pub step-requires-clause-may : goal.step-requires-clause-may
+step-requires-clause-may g c =
+    fit_here c.self.inside.table c.self.inside.seats.items c.self.inside.readers.items c.self.inside.opens.items c.self.inside.short 0 0 refl c.index_mut-place.result.now c.index_mut-place.result.now c.index_mut-place.ensures.value refl c.args.step.now (next_in c.self.view_is c.requires.next) (subst (λ (m : MachineState). ReadyAt m 0) (sym c.self.view_is) c.requires.ready) (subst (λ (m : MachineState). StepFits m 0 c.args.step.now) (sym c.self.view_is) c.requires.fits)
 
 pub step-requires-clause-sized : goal.step-requires-clause-sized
 step-requires-clause-sized g c = subst (λ (m : MachineState). IsSized (table_of m)) (sym c.self.view_is) c.requires.sized

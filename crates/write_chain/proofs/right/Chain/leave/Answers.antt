@@ -34,18 +34,18 @@ empty_head-step-requires-clause-may g c = let h = c.requires.may in may_empty c.
 pub empty_head-step-requires-clause-ticket : goal.empty_head-step-requires-clause-ticket
 empty_head-step-requires-clause-ticket g c = c.requires.may.writer.last_ticket.small
 
-pub returns-then-step-self-clause-once : goal.returns-then-step-self-clause-once
-returns-then-step-self-clause-once g c = let h = c.requires.may in let s = link_home c.args.link c.args.seat.now.me c.put_own_link.new.seat.me h (c.put_own_link.ensures.view h.right_is h.writer.one) in
-    (refl, gave_up c.put_own_link.new.seat.me c.empty_head-step.new.seat.me s ((c.empty_head-step.ensures.view s.right_is s.writer.one).0 c.if-step-self.true))
+pub returns-then-step-last-clause-once : goal.returns-then-step-last-clause-once
+returns-then-step-last-clause-once g c = let h = c.requires.may in let s = link_home c.args.link c.args.seat.now.me c.put_own_link.new.seat.me h (c.put_own_link.ensures.view h.right_is h.writer.one) in
+    (refl, gave_up c.put_own_link.new.seat.me c.empty_head-step.new.seat.me s ((c.empty_head-step.ensures.view s.right_is s.writer.one).0 c.if-step-last.true))
 
-pub returns-then-step-self-clause-others : goal.returns-then-step-self-clause-others
-returns-then-step-self-clause-others g c = let h = c.requires.may in let put = c.put_own_link.ensures.view h.right_is h.writer.one in let s = link_home c.args.link c.args.seat.now.me c.put_own_link.new.seat.me h put in
+pub returns-then-step-last-clause-others : goal.returns-then-step-last-clause-others
+returns-then-step-last-clause-others g c = let h = c.requires.may in let put = c.put_own_link.ensures.view h.right_is h.writer.one in let s = link_home c.args.link c.args.seat.now.me c.put_own_link.new.seat.me h put in
     rights_then c.args.seat.now.me.0 c.put_own_link.new.seat.me.0 c.empty_head-step.new.seat.me.0 (rights_only c.args.seat.now.me.0 c.put_own_link.new.seat.me.0 _ (ap (λ m. m.0) put))
-    (rights_only c.put_own_link.new.seat.me.0 c.empty_head-step.new.seat.me.0 _ (ap (λ m. m.0) ((c.empty_head-step.ensures.view s.right_is s.writer.one).0 c.if-step-self.true)))
+    (rights_only c.put_own_link.new.seat.me.0 c.empty_head-step.new.seat.me.0 _ (ap (λ m. m.0) ((c.empty_head-step.ensures.view s.right_is s.writer.one).0 c.if-step-last.true)))
 
 pub returns-clause-once : goal.returns-clause-once
 returns-clause-once g c = let h = c.requires.may in let s = link_home c.args.link c.args.seat.now.me c.put_own_link.new.seat.me h (c.put_own_link.ensures.view h.right_is h.writer.one) in
-    let lost = (c.empty_head-step.ensures.view s.right_is s.writer.one).1 c.if-step-self.false in (
+    let lost = (c.empty_head-step.ensures.view s.right_is s.writer.one).1 c.if-step-last.false in (
       refl,
       (walks_from c.empty_head-step.result.found c.put_own_link.new.seat.me c.empty_head-step.new.seat.me s lost.0, subst (λ (q : Plan). IsTicket q c.empty_head-step.result.found) c.put_own_link.ensures.seat.1 lost.1),
       tt,
@@ -54,4 +54,4 @@ returns-clause-once g c = let h = c.requires.may in let s = link_home c.args.lin
 pub returns-clause-others : goal.returns-clause-others
 returns-clause-others g c = let h = c.requires.may in let put = c.put_own_link.ensures.view h.right_is h.writer.one in let s = link_home c.args.link c.args.seat.now.me c.put_own_link.new.seat.me h put in
     rights_then c.args.seat.now.me.0 c.put_own_link.new.seat.me.0 c.empty_head-step.new.seat.me.0 (rights_only c.args.seat.now.me.0 c.put_own_link.new.seat.me.0 _ (ap (λ m. m.0) put))
-    (rights_only c.put_own_link.new.seat.me.0 c.empty_head-step.new.seat.me.0 _ (ap (λ m. m.0) ((c.empty_head-step.ensures.view s.right_is s.writer.one).1 c.if-step-self.false).0))
+    (rights_only c.put_own_link.new.seat.me.0 c.empty_head-step.new.seat.me.0 _ (ap (λ m. m.0) ((c.empty_head-step.ensures.view s.right_is s.writer.one).1 c.if-step-last.false).0))

@@ -1,0 +1,14 @@
+use Rattle.std.proofs.Common.{subst, Some}
+use Rattle.sock_open.specs.Made.{AreNewSeats}
+use Rattle.sock_open.proofs.Racing.{popped, new_share}
+use Rattle.sock_open.proofs.Making.{new_done}
+use Rattle.part_rows.proofs.sockets.one_of.Goals as goal
+
+pub returns-clause-seat : goal.returns-clause-seat
+returns-clause-seat c = let z = c.args.table.now.rule.table.shared.table_id in let p = c.args.table.now.rule.plan in new_done z p c.in_ok-seat.seat (popped z p c.pop.new.self.items (Some c.in_ok-seat.seat) (subst (AreNewSeats z p) c.in_ok-seat.ensures.items c.requires)).1
+
+pub returns-clause-share : goal.returns-clause-share
+returns-clause-share c = let z = c.args.table.now.rule.table.shared.table_id in let p = c.args.table.now.rule.plan in new_share z p c.in_ok-seat.seat (popped z p c.pop.new.self.items (Some c.in_ok-seat.seat) (subst (AreNewSeats z p) c.in_ok-seat.ensures.items c.requires)).1
+
+pub returns-clause-left : goal.returns-clause-left
+returns-clause-left c = let z = c.args.table.now.rule.table.shared.table_id in let p = c.args.table.now.rule.plan in (popped z p c.pop.new.self.items (Some c.in_ok-seat.seat) (subst (AreNewSeats z p) c.in_ok-seat.ensures.items c.requires)).0

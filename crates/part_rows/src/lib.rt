@@ -1,0 +1,26 @@
+//! Rows of the parts below the top call: of links over rings and over TCP, of streams, of the buffers that messages lie in, of packed
+//! words, of the tables of sockets and of call ids, and of clients over both. There is nothing here but tests.
+#![tactic(auto)]
+
+#[cfg(test)]
+mod adapters;
+#[cfg(test)]
+mod buffers;
+#[cfg(test)]
+mod callers;
+#[cfg(test)]
+mod halves;
+#[cfg(test)]
+mod ids;
+#[cfg(test)]
+mod printing;
+#[cfg(test)]
+mod rings;
+#[cfg(test)]
+mod sockets;
+#[cfg(test)]
+mod tcp;
+#[cfg(test)]
+mod words;
+#[cfg(test)]
+mod writes;
