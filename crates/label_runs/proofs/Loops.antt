@@ -2,7 +2,6 @@
 use Rattle.std.proofs.Common.{◌≡◌, ℕ, ◌+◌, ◌<◌, ◌≤◌, ◌⊎◌, inl, inr, ◌&&◌, not, Bool, true, false, cond, eqb, eqb-true, eq-eqb, leb, nat_lt, List, [], ◌∷◌, ◌++◌, Option, Some, None, length, refl, sym, ap, ◌∙◌, subst, ⊎_elim, arith}
 use Rattle.brpc_model.specs.Frame.{Frame}
 use Rattle.brpc_model.specs.Stream as streams
-use Rattle.sock_words.specs.declared.outcome.Outcome.{Outcome}
 use Rattle.sock_words.specs.declared.outcome.Outcome.TheVariants.{CallFailed}
 use Rattle.sock_io.specs.declared.link.Put.{Put}
 use Rattle.sock_io.specs.declared.link.Ready.{Ready}
@@ -19,7 +18,6 @@ use Rattle.seat_programs.specs.Programs.{Program, Do, Say, Sent, Rest, TakeMessa
 use Rattle.seat_programs.specs.Readers.{answer, answered, responses, read_on, took, discarded, last_of, room_of, slot_in, version_in, has_response, ending_of, is_early, ended_by as how_ended, LIMIT}
 use Rattle.seat_programs.specs.Rounds.{round}
 use Rattle.seat_programs.specs.Sends.{heading_of}
-use Rattle.seat_programs.specs.Writings.{Writing}
 use Rattle.label_runs.specs.Labels.{FindsLabel, AtLabel, LeavesLabel, LeavesUnlock, LeavesLock, IsSoughtWord}
 pub use Rattle.id_runs.proofs.Loops.{not_true, not_equal, and_left}
 
@@ -61,6 +59,21 @@ module _ {K : Type 0} (lost : K) where
   behind unlocked locked (Locks i sought w) exit t = locked exit t
   behind unlocked locked head exit t = lost
 
+-- G holds behind a step that asks nothing; of the others, it holds before them
+module _ {K : Type 0} (lost : K) (G : K → Program → Type 0) where
+  abbrev pub HoldsBehind : K → Program → Type 0
+  HoldsBehind t (Say o outcome next) = G t next
+  HoldsBehind t (Sent o next) = G t next
+  HoldsBehind t Rest = Unit {0}
+  HoldsBehind t (TakeMessage q next) = (heading : Heading) (bytes : List ℕ) → G lost (next heading bytes)
+  HoldsBehind t (TakeHome k next) = (places : ℕ) → G lost (next places)
+  HoldsBehind t (PutHome k n after) = G lost after
+  HoldsBehind t (PutBytes k asked bytes next) = (answer : Put) → G lost (next answer)
+  HoldsBehind t (AskReady k next) = (answer : Ready) → G lost (next answer)
+  HoldsBehind t (Write w after) = G lost after
+  HoldsBehind t (Retries requests after) = G lost after
+  HoldsBehind t other = G t other
+
 module _ {K : Type 0} (lost : K) (unlocked_behind : ℕ → ℕ → Bool → K → K) (locked_behind : Locking → K → K) (is_call : Asked → Type 0) (G : K → Program → Type 0) where
   -- each step keeps G
   pub record Tracks : Type 0 where
@@ -68,22 +81,13 @@ module _ {K : Type 0} (lost : K) (unlocked_behind : ℕ → ℕ → Bool → K �
     pub looks : (t : K) (call : Call) (next : ℕ → Program) → is_plain call ≡ true → ((found : ℕ) → G lost (next found)) → G t (Do call next)
     pub claim : (s q : ℕ) (next : ℕ → Program) → ((found : ℕ) → G lost (next found)) → G lost (Do (ClaimRequest s q) next)
     pub send : (q o : ℕ) (bytes : List ℕ) (next : ℕ → Program) → ((found : ℕ) → G lost (next found)) → G lost (Do (PutMessage q (heading_of o) bytes) next)
-    pub say : (t : K) (o : ℕ) (outcome : Outcome) (next : Program) → G t next → G t (Say o outcome next)
-    pub sent : (t : K) (o : ℕ) (next : Program) → G t next → G t (Sent o next)
-    pub rest : (t : K) → G t Rest
-    pub message : (t : K) (q : ℕ) (next : Heading → List ℕ → Program) → ((heading : Heading) (bytes : List ℕ) → G lost (next heading bytes)) → G t (TakeMessage q next)
-    pub home : (t : K) (k : ℕ) (next : ℕ → Program) → ((places : ℕ) → G lost (next places)) → G t (TakeHome k next)
-    pub puts_home : (t : K) (k n : ℕ) (after : Program) → G lost after → G t (PutHome k n after)
-    pub put : (t : K) (k : ℕ) (asked : Bool) (bytes : List ℕ) (next : Put → Program) → ((answer : Put) → G lost (next answer)) → G t (PutBytes k asked bytes next)
-    pub ask : (t : K) (k : ℕ) (next : Ready → Program) → ((answer : Ready) → G lost (next answer)) → G t (AskReady k next)
-    pub write : (t : K) (w : Writing) (after : Program) → G lost after → G t (Write w after)
+    pub passes : (t : K) (program : Program) → HoldsBehind lost G t program → G t program
     pub aside : (t : K) (step : Step) (next : Found step → Program) → is_plain_aside step ≡ true → ((found : Found step) → FindsLabel is_call step found → (u : K) × Stays lost t u × G u (next found)) → G t (Aside step next)
     pub puts_call : (t : K) (i : ℕ) (asked : Asked) (next : ℕ → Program) → is_call asked → ((found : ℕ) → G lost (next found)) → G t (Aside (PutCall i asked) next)
     pub unlock : (t : K) (i from : ℕ) (advance : Bool) (next : ℕ → Program)
         → ((found : ℕ) → FindsLabel is_call (UnlockId i from advance) found → ((eqb found from ≡ true) × G (unlocked_behind i from advance t) (next found)) ⊎ ((eqb found from ≡ false) × G t (next found))) → G t (Aside (UnlockId i from advance) next)
     pub round : (t : K) (head : Head) (next : Exit head → Program) → AtLabel is_call head → ((exit : Exit head) → LeavesLabel head exit → G (behind lost unlocked_behind locked_behind head exit t) (next exit)) → G t (Round head next)
     pub keep : (id w : ℕ) (next : Program) → (parts w).first ≡ id_first id → (parts w).attempt + 1 ≤ 6 → G lost next → G (unlocked_behind (id_slot id) w true lost) (Keep (record { id = id; attempt = (parts w).attempt + 1 }) next)
-    pub retries : (t : K) (requests : ℕ) (after : Program) → G lost after → G t (Retries requests after)
     -- a lock that is given back again
     pub again : (t : K) (i from found : ℕ) (b : Bool) → (parts found).first ≡ (parts from).first → (parts found).attempt ≡ (parts from).attempt → unlocked_behind i from b t ≡ unlocked_behind i found b t
     pub unmoved : (t : K) (i w : ℕ) → unlocked_behind i w false t ≡ t
@@ -149,7 +153,7 @@ module _ {K : Type 0} {lost : K} {unlocked_behind : ℕ → ℕ → Bool → K �
       (λ _. g.puts_call t (id_slot id) asked _ call (λ _. g.round lost (Unlocks (id_slot id) w true) (unlocked (record { id = id; attempt = (parts w).attempt + 1 }) k) tt (unlocked_goes id w k first goes)))
 
   pub decided_goes : (id : ℕ) (next : Program) → G lost next → (exit : Deciding) → G lost (decided id next exit)
-  decided_goes id next goes (HasEnded o c) = g.say lost o (CallFailed id c) next goes
+  decided_goes id next goes (HasEnded o c) = g.passes lost (Say o (CallFailed id c) next) goes
   decided_goes id next goes GoesOn = goes
 
   pub posted_goes : (id e : ℕ) (next : Program) → G lost next → (exit : Posting) → LeavesLabel (Posts id e 0) exit → G lost (posted id e next exit)
@@ -219,7 +223,7 @@ module _ {K : Type 0} {lost : K} {unlocked_behind : ℕ → ℕ → Bool → K �
   -- ## Reading
 
   pub answer_goes : (t : K) (frame : Frame) (first : ℕ) (next : Program) → G lost next → G t (answer frame first next)
-  answer_goes t frame first next goes = gives_up t (TakeCall (slot_in frame)) _ refl (λ asked _. end_goes lost (slot_in frame) (Say asked.operation (ending_of (call_id (slot_in frame) first) frame) next) (g.say lost asked.operation (ending_of (call_id (slot_in frame) first) frame) next goes))
+  answer_goes t frame first next goes = gives_up t (TakeCall (slot_in frame)) _ refl (λ asked _. end_goes lost (slot_in frame) (Say asked.operation (ending_of (call_id (slot_in frame) first) frame) next) (g.passes lost (Say asked.operation (ending_of (call_id (slot_in frame) first) frame) next) goes))
 
   responses_goes : (ids : ℕ) (fs kept : List Frame) (k : List Frame → Program) → ((kept' : List Frame) → G lost (k kept')) → G lost (responses ids fs kept k)
   responses_goes ids [] kept k goes = goes kept

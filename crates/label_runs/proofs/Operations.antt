@@ -24,7 +24,7 @@ use Rattle.seat_programs.specs.Clients.{HeldLife, held_under, without_name, give
 use Rattle.seat_programs.specs.Heads.{Posts, Joins, Opens, Reads, Discards, Posting, HasLocked, Locking, Ended}
 use Rattle.seat_programs.specs.Parts.{part}
 use Rattle.seat_programs.specs.Posts.{post_with, posted, post, decided}
-use Rattle.seat_programs.specs.Programs.{Program, Do, Say, Sent, Rest, TakeMessage, TakeHome, PutBytes, Write, Round, NO_SOCKET, LAST_VERSION, LAST_GENERATION, recycle, release, address, reach, set_failed, make_socket, open_from, fail_outcome, fail}
+use Rattle.seat_programs.specs.Programs.{Program, Do, Say, Sent, Rest, TakeMessage, TakeHome, PutHome, PutBytes, AskReady, Write, Round, Retries, NO_SOCKET, LAST_VERSION, LAST_GENERATION, recycle, release, address, reach, set_failed, make_socket, open_from, fail_outcome, fail}
 use Rattle.seat_programs.specs.Readers.{kept_for, ends_with, posted_last, post_each, thrown_away, read, reader, LIMIT}
 use Rattle.seat_programs.specs.Sends.{freed as given_back, one_more, passed_telling, tell_drop, placed, dropped, put_answered, ready_answered, block, first_put, accept, write_link, heading_of, claim_from, start, send}
 use Rattle.seat_programs.specs.Writings.{Holder, Writing, Puts, Waits, Empties, Walks}
@@ -68,48 +68,48 @@ module _ {K : Type 0} {lost : K} {unlocked_behind : ℕ → ℕ → Bool → K �
   passed_goes : (h : Holder) (now : ℕ) (tells : Program → Program) (after : Program) → ((x : Program) → G lost x → G lost (tells x)) → G lost after → G lost (passed_telling h now tells after)
   passed_goes h now tells after told goes = way g lost (now == h.last) (given_back now (tells (Write (Empties h) after)))
       (Do (ReadNext (slot_of now)) (λ next. given_back now (tells (TakeMessage (slot_of next) (λ heading bytes. Write (Puts h next heading bytes 0 false) after)))))
-      (λ _. freed_goes now (tells (Write (Empties h) after)) (told (Write (Empties h) after) (g.write lost (Empties h) after goes)))
+      (λ _. freed_goes now (tells (Write (Empties h) after)) (told (Write (Empties h) after) (g.passes lost (Write (Empties h) after) goes)))
       (λ _. g.step lost (ReadNext (slot_of now)) _ refl (λ next. freed_goes now (tells (TakeMessage (slot_of next) (λ heading bytes. Write (Puts h next heading bytes 0 false) after)))
-      (told (TakeMessage (slot_of next) (λ heading bytes. Write (Puts h next heading bytes 0 false) after)) (g.message lost (slot_of next) _ (λ heading bytes. g.write lost (Puts h next heading bytes 0 false) after goes)))))
+      (told (TakeMessage (slot_of next) (λ heading bytes. Write (Puts h next heading bytes 0 false) after)) (g.passes lost (TakeMessage (slot_of next) _) (λ heading bytes. g.passes lost (Write (Puts h next heading bytes 0 false) after) goes)))))
 
   tell_goes : (heading : Heading) (code : ℕ) (x : Program) → G lost x → G lost (tell_drop heading code x)
   tell_goes heading code x goes = way g lost (eqb heading.owner 0) x (post heading.owner (cond (eqb code 0) 1009 code) heading.attempt x) (λ _. goes) (λ _. post_goes g lost heading.owner (cond (eqb code 0) 1009 code) heading.attempt x goes)
 
   failed_put : (h : Holder) (now : ℕ) (heading : Heading) (left : List ℕ) (taken : ℕ) (after : Program) → G lost after → G lost (set_failed h.id 1009 (λ _. Write (Puts h now heading left taken false) after))
-  failed_put h now heading left taken after goes = set_failed_goes lost h.id 1009 (λ _. Write (Puts h now heading left taken false) after) (λ _. g.write lost (Puts h now heading left taken false) after goes)
+  failed_put h now heading left taken after goes = set_failed_goes lost h.id 1009 (λ _. Write (Puts h now heading left taken false) after) (λ _. g.passes lost (Write (Puts h now heading left taken false) after) goes)
 
   put_goes : (h : Holder) (now : ℕ) (heading : Heading) (left : List ℕ) (taken : ℕ) (after : Program) → G lost after → (answer : Put) → G lost (put_answered h now heading left taken after answer)
   put_goes h now heading left taken after goes (puts.Took n) = way g lost (nat_le (length left) n) (placed h now heading after) (Write (Puts h now heading (drop n left) (taken + n) false) after)
-      (λ _. g.step lost (StorePlace heading.place h.link h.places) _ refl (λ _. passed_goes (one_more h) now (λ x. x) after (λ x goes. goes) goes)) (λ _. g.write lost (Puts h now heading (drop n left) (taken + n) false) after goes)
-  put_goes h now heading left taken after goes puts.Again = g.write lost (Waits h now heading left taken) after goes
+      (λ _. g.step lost (StorePlace heading.place h.link h.places) _ refl (λ _. passed_goes (one_more h) now (λ x. x) after (λ x goes. goes) goes)) (λ _. g.passes lost (Write (Puts h now heading (drop n left) (taken + n) false) after) goes)
+  put_goes h now heading left taken after goes puts.Again = g.passes lost (Write (Waits h now heading left taken) after) goes
   put_goes h now heading left taken after goes puts.Failed = failed_put h now heading left taken after goes
 
   ready_goes : (h : Holder) (now : ℕ) (heading : Heading) (left : List ℕ) (taken : ℕ) (after : Program) → G lost after → (answer : Ready) → G lost (ready_answered h now heading left taken after answer)
-  ready_goes h now heading left taken after goes asks.Now = g.write lost (Puts h now heading left taken true) after goes
-  ready_goes h now heading left taken after goes asks.NotYet = g.write lost (Waits h now heading left taken) after goes
+  ready_goes h now heading left taken after goes asks.Now = g.passes lost (Write (Puts h now heading left taken true) after) goes
+  ready_goes h now heading left taken after goes asks.NotYet = g.passes lost (Write (Waits h now heading left taken) after) goes
   ready_goes h now heading left taken after goes asks.Failed = failed_put h now heading left taken after goes
 
   pub block_goes : (t : K) (w : Writing) (after : Program) → G lost after → G t (block w after)
   block_goes t (Puts h now heading left taken asked) after goes = g.looks t (LookWord h.id) _ refl (λ found.
       way g lost (vref_version found % 2 == 0) (PutBytes h.link asked (part heading.parts left taken) (put_answered h now heading left taken after)) (dropped h now heading after)
-      (λ _. g.put lost h.link asked (part heading.parts left taken) (put_answered h now heading left taken after) (put_goes h now heading left taken after goes))
+      (λ _. g.passes lost (PutBytes h.link asked (part heading.parts left taken) (put_answered h now heading left taken after)) (put_goes h now heading left taken after goes))
       (λ _. g.step lost (LoadCode (socket_id_slot h.id) (socket_id_version h.id)) _ refl (λ code. g.step lost (DropPlace heading.place h.link h.places) _ refl (λ _. passed_goes (one_more h) now (tell_drop heading code) after (λ x goes. tell_goes heading code x goes) goes))))
-  block_goes t (Waits h now heading left taken) after goes = g.ask t h.link (ready_answered h now heading left taken after) (ready_goes h now heading left taken after goes)
-  block_goes t (Empties h) after goes = g.puts_home t h.link h.places _ (g.step lost (EmptyHead (socket_id_slot h.id) h.last) _ refl (λ found. way g lost (found == h.last) after (TakeHome h.link (λ places. Write (Walks (record h { places = places }) found found 0) after))
-      (λ _. goes) (λ _. g.home lost h.link _ (λ places. g.write lost (Walks (record h { places = places }) found found 0) after goes))))
+  block_goes t (Waits h now heading left taken) after goes = g.passes t (AskReady h.link (ready_answered h now heading left taken after)) (ready_goes h now heading left taken after goes)
+  block_goes t (Empties h) after goes = g.passes t (PutHome h.link h.places _) (g.step lost (EmptyHead (socket_id_slot h.id) h.last) _ refl (λ found. way g lost (found == h.last) after (TakeHome h.link (λ places. Write (Walks (record h { places = places }) found found 0) after))
+      (λ _. goes) (λ _. g.passes lost (TakeHome h.link _) (λ places. g.passes lost (Write (Walks (record h { places = places }) found found 0) after) goes))))
   block_goes t (Walks h top at after) then_ goes = g.looks t (ReadNext (slot_of at)) _ refl (λ found. way g lost (found == UNCONNECTED) (Write (Walks h top at after) then_)
       (Do (ReverseNext (slot_of at) after) (λ _. cond (found == h.last) (TakeMessage (slot_of at) (λ heading bytes. Write (Puts (record h { last = top }) at heading bytes 0 false) then_)) (Write (Walks h top found at) then_)))
-      (λ _. g.write lost (Walks h top at after) then_ goes)
+      (λ _. g.passes lost (Write (Walks h top at after) then_) goes)
       (λ _. g.step lost (ReverseNext (slot_of at) after) _ refl (λ _. way g lost (found == h.last) (TakeMessage (slot_of at) (λ heading bytes. Write (Puts (record h { last = top }) at heading bytes 0 false) then_)) (Write (Walks h top found at) then_)
-      (λ _. g.message lost (slot_of at) _ (λ heading bytes. g.write lost (Puts (record h { last = top }) at heading bytes 0 false) then_ goes)) (λ _. g.write lost (Walks h top found at) then_ goes))))
+      (λ _. g.passes lost (TakeMessage (slot_of at) _) (λ heading bytes. g.passes lost (Write (Puts (record h { last = top }) at heading bytes 0 false) then_) goes)) (λ _. g.passes lost (Write (Walks h top found at) then_) goes))))
 
   first_goes : (h : Holder) (now : ℕ) (heading : Heading) (bytes : List ℕ) (after : Program) → G lost after → G lost (first_put h now heading bytes after)
   first_goes h now heading bytes after goes = g.step lost (LookWord h.id) _ refl (λ found.
       way g lost (vref_version found % 2 == 0) (PutBytes h.link false (part heading.parts bytes 0) (put_answered h now heading bytes 0 after)) (Write (Puts h now heading bytes 0 false) after)
-      (λ _. g.put lost h.link false (part heading.parts bytes 0) (put_answered h now heading bytes 0 after) (put_goes h now heading bytes 0 after goes)) (λ _. g.write lost (Puts h now heading bytes 0 false) after goes))
+      (λ _. g.passes lost (PutBytes h.link false (part heading.parts bytes 0) (put_answered h now heading bytes 0 after)) (put_goes h now heading bytes 0 after goes)) (λ _. g.passes lost (Write (Puts h now heading bytes 0 false) after) goes))
 
   write_goes : (id q own : ℕ) (after : Program) → G lost after → G lost (write_link id q own after)
-  write_goes id q own after goes = g.step lost (FindLink (socket_id_slot id) (socket_id_version id)) _ refl (λ k. g.home lost k _ (λ places. g.message lost q _ (λ heading bytes. first_goes (record { id = id; link = k; last = own; places = places }) own heading bytes after goes)))
+  write_goes id q own after goes = g.step lost (FindLink (socket_id_slot id) (socket_id_version id)) _ refl (λ k. g.passes lost (TakeHome k _) (λ places. g.passes lost (TakeMessage q _) (λ heading bytes. first_goes (record { id = id; link = k; last = own; places = places }) own heading bytes after goes)))
 
   -- ## Messages
 
@@ -121,47 +121,47 @@ module _ {K : Type 0} {lost : K} {unlocked_behind : ℕ → ℕ → Bool → K �
   expire_goes : (o t : ℕ) (next : Program) → G lost next → G lost (expire o t next)
   expire_goes o t next goes = gives_up g lost (LoadCall t) _ refl (λ id _.
       way g lost (eqb id 0) (Say o outcomes.NotBegun next) (post_with id (error_of 1008 7) (λ how. posted id (error_of 1008 7) (Say o (expire_outcome how) next) how))
-      (λ _. g.say lost o outcomes.NotBegun next goes) (λ _. post_with_goes g lost id (error_of 1008 7) (λ how. posted id (error_of 1008 7) (Say o (expire_outcome how) next) how) (λ how l. posted_goes g id (error_of 1008 7) (Say o (expire_outcome how) next) (g.say lost o (expire_outcome how) next goes) how l)))
+      (λ _. g.passes lost (Say o outcomes.NotBegun next) goes) (λ _. post_with_goes g lost id (error_of 1008 7) (λ how. posted id (error_of 1008 7) (Say o (expire_outcome how) next) how) (λ how l. posted_goes g id (error_of 1008 7) (Say o (expire_outcome how) next) (g.passes lost (Say o (expire_outcome how) next) goes) how l)))
 
   join_goes : (o t : ℕ) (next : Program) → G lost next → G lost (join o t next)
-  join_goes o t next goes = gives_up g lost (LoadCall t) _ refl (λ id _. way g lost (eqb id 0) (Say o outcomes.NotBegun next) (Round (Joins id) (λ _. Say o outcomes.Joined next)) (λ _. g.say lost o outcomes.NotBegun next goes) (λ _. g.round lost (Joins id) _ tt (λ _ _. g.say lost o outcomes.Joined next goes)))
+  join_goes o t next goes = gives_up g lost (LoadCall t) _ refl (λ id _. way g lost (eqb id 0) (Say o outcomes.NotBegun next) (Round (Joins id) (λ _. Say o outcomes.Joined next)) (λ _. g.passes lost (Say o outcomes.NotBegun next) goes) (λ _. g.round lost (Joins id) _ tt (λ _ _. g.passes lost (Say o outcomes.Joined next) goes)))
 
   -- ## Clients
 
   open_goes : (more i o name k : ℕ) (next : Program) → G lost next → G lost (open_from more i o name k next)
-  open_goes zero i o name k next goes = g.step lost (TakeLink k) _ refl (λ _. g.step lost (FinishLink k) _ refl (λ _. g.step lost (PutLink k) _ refl (λ _. g.step lost (StoreOpen o NO_SOCKET) _ refl (λ _. g.say lost o _ next goes))))
+  open_goes zero i o name k next goes = g.step lost (TakeLink k) _ refl (λ _. g.step lost (FinishLink k) _ refl (λ _. g.step lost (PutLink k) _ refl (λ _. g.step lost (StoreOpen o NO_SOCKET) _ refl (λ _. g.passes lost (Say o _ next) goes))))
   open_goes (suc more) i o name k next goes = g.step lost (ClaimSlot i) _ refl (λ found. way g lost (found == 0) (make_socket o name k i next) (open_from more (i + 1) o name k next)
-      (λ _. g.step lost (StoreLink i k) _ refl (λ _. g.step lost (ResetHead i k) _ refl (λ _. g.step lost (ClearCode i k) _ refl (λ _. g.step lost (CreateLife i k) _ refl (λ found. g.step lost (StoreOpen o _) _ refl (λ _. g.step lost (StoreName name _) _ refl (λ _. g.say lost o _ next goes)))))))
+      (λ _. g.step lost (StoreLink i k) _ refl (λ _. g.step lost (ResetHead i k) _ refl (λ _. g.step lost (ClearCode i k) _ refl (λ _. g.step lost (CreateLife i k) _ refl (λ found. g.step lost (StoreOpen o _) _ refl (λ _. g.step lost (StoreName name _) _ refl (λ _. g.passes lost (Say o _ next) goes)))))))
       (λ _. open_goes more (i + 1) o name k next goes))
 
   reach_goes : (name : ℕ) (unopened : Program) (held gone : ℕ → Program) → G lost unopened → ((id : ℕ) → G lost (held id)) → ((found : ℕ) → G lost (gone found)) → G lost (reach name unopened held gone)
   reach_goes name unopened held gone none_ one others = g.step lost (LoadName name) _ refl (λ word. way g lost (word == 0) unopened (address (word - 1) (held (word - 1)) gone) (λ _. none_) (λ _. address_goes lost (word - 1) (held (word - 1)) gone (one (word - 1)) others))
 
   claim_from_goes : (more q o id : ℕ) (bytes : List ℕ) (next : Program) → G lost next → G lost (claim_from more q o id bytes next)
-  claim_from_goes zero q o id bytes next goes = release_goes lost (socket_id_slot id) (λ _. Say o outcomes.Full next) (λ _. g.say lost o outcomes.Full next goes)
+  claim_from_goes zero q o id bytes next goes = release_goes lost (socket_id_slot id) (λ _. Say o outcomes.Full next) (λ _. g.passes lost (Say o outcomes.Full next) goes)
   claim_from_goes (suc more) q o id bytes next goes = g.claim id q _ (λ found.
       way g lost (found % 2 == 0) (accept id q (found / 2) (heading_of o) bytes (release (socket_id_slot id) (λ _. Sent o next))) (claim_from more (q + 1) o id bytes next)
-      (λ _. accept_goes lost id q (found / 2) (heading_of o) bytes (release (socket_id_slot id) (λ _. Sent o next)) (g.send q o bytes) (release_goes lost (socket_id_slot id) (λ _. Sent o next) (λ _. g.sent lost o next goes)))
+      (λ _. accept_goes lost id q (found / 2) (heading_of o) bytes (release (socket_id_slot id) (λ _. Sent o next)) (g.send q o bytes) (release_goes lost (socket_id_slot id) (λ _. Sent o next) (λ _. g.passes lost (Sent o next) goes)))
       (λ _. claim_from_goes more (q + 1) o id bytes next goes))
 
   gone_goes : (o : ℕ) (next : Program) → G lost next → (found : ℕ) → G lost (Say o (outcomes.Gone (record { 0 = found })) next)
-  gone_goes o next goes found = g.say lost o (outcomes.Gone (record { 0 = found })) next goes
+  gone_goes o next goes found = g.passes lost (Say o (outcomes.Gone (record { 0 = found })) next) goes
 
   send_goes : (requests o name : ℕ) (bytes : List ℕ) (next : Program) → G lost next → G lost (send requests o name bytes next)
-  send_goes requests o name bytes next goes = reach_goes name (Say o outcomes.Unopened next) (λ id. start requests o id bytes next) (λ found. Say o (outcomes.Gone (record { 0 = found })) next) (g.say lost o outcomes.Unopened next goes)
+  send_goes requests o name bytes next goes = reach_goes name (Say o outcomes.Unopened next) (λ id. start requests o id bytes next) (λ found. Say o (outcomes.Gone (record { 0 = found })) next) (g.passes lost (Say o outcomes.Unopened next) goes)
       (λ id. g.step lost (LookWord id) _ refl (λ found.
       way g lost (vref_version found % 2 == 0) (claim_from requests 0 o id bytes next) (release (socket_id_slot id) (λ _. Say o (outcomes.Gone (record { 0 = found })) next))
       (λ _. claim_from_goes requests 0 o id bytes next goes) (λ _. release_goes lost (socket_id_slot id) (λ _. Say o (outcomes.Gone (record { 0 = found })) next) (λ _. gone_goes o next goes found))))
       (gone_goes o next goes)
 
   fail_goes : (o name code : ℕ) (next : Program) → G lost next → G lost (fail o name code next)
-  fail_goes o name code next goes = reach_goes name (Say o outcomes.Unopened next) (λ id. set_failed id code (λ found. release (socket_id_slot id) (λ _. Say o (fail_outcome found) next))) (λ found. Say o (outcomes.Gone (record { 0 = found })) next) (g.say lost o outcomes.Unopened next goes)
-      (λ id. set_failed_goes lost id code (λ found. release (socket_id_slot id) (λ _. Say o (fail_outcome found) next)) (λ found. release_goes lost (socket_id_slot id) (λ _. Say o (fail_outcome found) next) (λ _. g.say lost o (fail_outcome found) next goes)))
+  fail_goes o name code next goes = reach_goes name (Say o outcomes.Unopened next) (λ id. set_failed id code (λ found. release (socket_id_slot id) (λ _. Say o (fail_outcome found) next))) (λ found. Say o (outcomes.Gone (record { 0 = found })) next) (g.passes lost (Say o outcomes.Unopened next) goes)
+      (λ id. set_failed_goes lost id code (λ found. release (socket_id_slot id) (λ _. Say o (fail_outcome found) next)) (λ found. release_goes lost (socket_id_slot id) (λ _. Say o (fail_outcome found) next) (λ _. g.passes lost (Say o (fail_outcome found) next) goes)))
       (gone_goes o next goes)
 
   drop_goes : (o : ℕ) (h : Option ℕ) (next : Program) → G lost next → G lost (drop_of o h next)
-  drop_goes o None next goes = g.say lost o _ next goes
-  drop_goes o (Some id) next goes = release_goes lost (socket_id_slot id) (λ freed. Say o (cond freed outcomes.Freed outcomes.Kept) next) (λ freed. g.say lost o (cond freed outcomes.Freed outcomes.Kept) next goes)
+  drop_goes o None next goes = g.passes lost (Say o _ next) goes
+  drop_goes o (Some id) next goes = release_goes lost (socket_id_slot id) (λ freed. Say o (cond freed outcomes.Freed outcomes.Kept) next) (λ freed. g.passes lost (Say o (cond freed outcomes.Freed outcomes.Kept) next) goes)
 
   -- a call begins so
   module _ (calls_go : (requests ids : ℕ) (asked : Asked) → is_call asked → (next : Program) → G lost next → G lost (call requests ids asked next)) where
@@ -171,23 +171,23 @@ module _ {K : Type 0} {lost : K} {unlocked_behind : ℕ → ℕ → Bool → K �
     operation_goes sizes held o next (ops.Call asked) called goes = calls_go sizes.requests sizes.ids asked called (next held) (goes held)
     operation_goes sizes held o next (ops.Expire t) called goes = expire_goes o t (next held) (goes held)
     operation_goes sizes held o next (ops.Join t) called goes = join_goes o t (next held) (goes held)
-    operation_goes sizes held o next (ops.Hold name) called goes = reach_goes name (Say o outcomes.Unopened (next held)) (λ id. Say o outcomes.Held (next (held ++ (record { name = name; id = id }) ∷ []))) (λ found. Say o (outcomes.Gone (record { 0 = found })) (next held)) (g.say lost o outcomes.Unopened (next held) (goes held))
-        (λ id. g.say lost o outcomes.Held _ (goes (held ++ (record { name = name; id = id }) ∷ []))) (gone_goes o (next held) (goes held))
+    operation_goes sizes held o next (ops.Hold name) called goes = reach_goes name (Say o outcomes.Unopened (next held)) (λ id. Say o outcomes.Held (next (held ++ (record { name = name; id = id }) ∷ []))) (λ found. Say o (outcomes.Gone (record { 0 = found })) (next held)) (g.passes lost (Say o outcomes.Unopened (next held)) (goes held))
+        (λ id. g.passes lost (Say o outcomes.Held _) (goes (held ++ (record { name = name; id = id }) ∷ []))) (gone_goes o (next held) (goes held))
     operation_goes sizes held o next (ops.Drop name) called goes = drop_goes o (held_under name held) (next (without_name name held)) (goes (without_name name held))
     operation_goes sizes held o next (ops.Fail name code) called goes = fail_goes o name code (next held) (goes held)
 
     give_goes : (held : List HeldLife) → G lost (give_back held)
-    give_goes [] = g.rest lost
+    give_goes [] = g.passes lost Rest tt
     give_goes (h ∷ hs) = release_goes lost (socket_id_slot h.id) (λ _. give_back hs) (λ _. give_goes hs)
 
     pub client_goes : (sizes : Sizes) (held : List HeldLife) (ts : List Task) → AllByRecursion (λ (t : Task). OpCalls is_call t.op) ts → G lost (client_from sizes held ts)
-    client_goes sizes held [] all = g.retries lost sizes.requests (give_back held) (give_goes held)
-    client_goes sizes held (t ∷ ts) all = g.retries lost sizes.requests _ (operation_goes sizes held t.number (λ held'. client_from sizes held' ts) t.op all.0 (λ hs. client_goes sizes hs ts all.1))
+    client_goes sizes held [] all = g.passes lost (Retries sizes.requests (give_back held)) (give_goes held)
+    client_goes sizes held (t ∷ ts) all = g.passes lost (Retries sizes.requests _) (operation_goes sizes held t.number (λ held'. client_from sizes held' ts) t.op all.0 (λ hs. client_goes sizes hs ts all.1))
 
   -- ## The ending
 
   pub ending_goes : (os : List ℕ) → G lost (ending_of os)
-  ending_goes [] = g.rest lost
+  ending_goes [] = g.passes lost Rest tt
   ending_goes (o ∷ os) = g.step lost (LoadOpen o) _ refl (λ word.
       way g lost (word == 0) (ending_of os) (cond (word == NO_SOCKET) (ending_of os) (address (word - 1) (set_failed (word - 1) 1014 (λ _. release (socket_id_slot (word - 1)) (λ _. ending_of os))) (λ _. ending_of os)))
       (λ _. ending_goes os)
@@ -217,7 +217,7 @@ module _ {K : Type 0} {lost : K} {unlocked_behind : ℕ → ℕ → Bool → K �
       by more w false false = more
 
   thrown_goes : (how : Ended) → G lost (thrown_away how)
-  thrown_goes how = way g lost (how.fault && nat_lt how.reading.total LIMIT) (Round (Discards how.reading.link how.reading.total) (λ _. Rest)) Rest (λ _. g.round lost (Discards how.reading.link how.reading.total) _ tt (λ _ _. g.rest lost)) (λ _. g.rest lost)
+  thrown_goes how = way g lost (how.fault && nat_lt how.reading.total LIMIT) (Round (Discards how.reading.link how.reading.total) (λ _. Rest)) Rest (λ _. g.round lost (Discards how.reading.link how.reading.total) _ tt (λ _ _. g.passes lost Rest tt)) (λ _. g.passes lost Rest tt)
 
   read_goes : (calls : List ℕ) (how : Ended) → G lost (read calls how)
   read_goes calls how = let last : Program = post_each calls how.reading.link how.code how.reading.kept (thrown_away how) in let goes : G lost last = each_goes calls how.reading.link how.code how.reading.kept (thrown_away how) (thrown_goes how) in
@@ -226,4 +226,4 @@ module _ {K : Type 0} {lost : K} {unlocked_behind : ℕ → ℕ → Bool → K �
       (set_failed_goes lost how.reading.id how.code (λ _. release (socket_id_slot how.reading.id) (λ _. last)) (λ _. release_goes lost (socket_id_slot how.reading.id) (λ _. last) (λ _. goes))) (λ _. goes))
 
   pub reader_goes : (calls : List ℕ) (k o : ℕ) → G lost (reader calls k o)
-  reader_goes calls k o = g.round lost (Opens o) _ tt (λ word _. way g lost (word == NO_SOCKET) Rest (Round (Reads (record { ids = length calls; link = k; id = word - 1; rest = []; total = 0; kept = [] })) (read calls)) (λ _. g.rest lost) (λ _. g.round lost (Reads (record { ids = length calls; link = k; id = word - 1; rest = []; total = 0; kept = [] })) (read calls) tt (λ how _. read_goes calls how)))
+  reader_goes calls k o = g.round lost (Opens o) _ tt (λ word _. way g lost (word == NO_SOCKET) Rest (Round (Reads (record { ids = length calls; link = k; id = word - 1; rest = []; total = 0; kept = [] })) (read calls)) (λ _. g.passes lost Rest tt) (λ _. g.round lost (Reads (record { ids = length calls; link = k; id = word - 1; rest = []; total = 0; kept = [] })) (read calls) tt (λ how _. read_goes calls how)))

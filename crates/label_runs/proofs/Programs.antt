@@ -14,13 +14,13 @@ use Rattle.seat_programs.specs.Calls.{Call, PutMessage, FindLink, LookWord}
 use Rattle.seat_programs.specs.Clients.{HeldLife, client_from, ending_of}
 use Rattle.seat_programs.specs.Heads.{Head, Exit, Posts, Decides, Opens, First, Unlocks, Locks, Joins, Reads, Discards, Unlocking, IsOpen, HasNext, Locking, NotThere, Has}
 use Rattle.seat_programs.specs.Posts.{post, decided}
-use Rattle.seat_programs.specs.Programs.{Program, Do, Say, Write, Aside, Round, release}
+use Rattle.seat_programs.specs.Programs.{Program, Do, Say, Rest, Write, Aside, Round, release}
 use Rattle.seat_programs.specs.Readers.{reader}
 use Rattle.seat_programs.specs.Rounds.{round}
 use Rattle.seat_programs.specs.Sends.{block, accept}
 use Rattle.seat_programs.specs.Writings.{Writing}
 use Rattle.label_runs.specs.Labels.{Trial, Idle, Tries, Sends, IsOfTrial, MayPut, Kept, put_behind, AsideMove, AtLabel, Labels, LeavesLabel, LeavesLock, LeavesUnlock, unlocks_trial, unlocked_trial, locked_trial}
-use Rattle.label_runs.proofs.Loops.{id_back, is_plain, is_plain_aside, Tracks, behind, way, post_goes, decide_goes, decided_goes, round_goes}
+use Rattle.label_runs.proofs.Loops.{id_back, is_plain, is_plain_aside, HoldsBehind, Tracks, behind, way, post_goes, decide_goes, decided_goes, round_goes}
 use Rattle.label_runs.proofs.Operations as kept
 use Rattle.label_runs.proofs.Operations.{OpCalls, release_goes, address_goes, accept_goes}
 
@@ -62,27 +62,22 @@ module _ (is_call : Asked → Type 0) where
   locks (NotThere w) t = inr refl
   locks (Has w) t = inl refl
 
+  passes : (t : Trial) (program : Program) → HoldsBehind Idle (Labels is_call) t program → Labels is_call t program
+  passes t Rest goes = tt
+  passes t _ goes = goes
+
   pub tracks : Tracks Idle unlocks_trial locked_trial is_call (Labels is_call)
   tracks = record {
     step = λ t call next plain goes. (may_plain t call plain, λ found _. (t, stays_plain t call plain, goes found));
     looks = λ t call next plain goes. (may_plain t call plain, λ found _. (Idle, inr refl, goes found));
     claim = λ s q next goes. (tt, λ found _. (Idle, inl refl, goes found));
     send = λ q o bytes next goes. (inl (refl, refl), λ found _. (Idle, inl refl, goes found));
-    say = λ t o outcome next goes. goes;
-    sent = λ t o next goes. goes;
-    rest = λ t. tt;
-    message = λ t q next goes. goes;
-    home = λ t k next goes. goes;
-    puts_home = λ t k n after goes. goes;
-    put = λ t k asked bytes next goes. goes;
-    ask = λ t k next goes. goes;
-    write = λ t w after goes. goes;
+    passes = passes;
     aside = λ t step next plain goes found f. let x = goes found f in (x.0, aside_moves step plain found t x.0 x.1, x.2);
     puts_call = λ t i asked next call goes found _. (Idle, (inr refl, call), goes found);
     unlock = λ t i from advance next goes found f. ⊎_elim (λ a. (unlocks_trial i from advance t, hit_is t i from advance found a.0, a.1)) (λ b. (t, miss_is t i from advance found b.0, b.1)) (goes found f);
     round = rounds;
     keep = λ id w next first few goes. (ap (λ x. Tries x ((parts w).attempt + 1)) (ap (call_id (id_slot id)) first ∙ id_back id), few, goes);
-    retries = λ t requests after goes. goes;
     again = found_is;
     unmoved = λ t i w. refl;
     locking = locks;

@@ -55,8 +55,7 @@ pub fn over_loops<R: Threads + Wait + Sync + Alloc<A = Global>>(
     rt: &R,
     asked: Asked,
 ) -> Result<String, AllocError> {
-    let answer = in_memory(rt, asked)?;
-    shown(rt.alloc(), &answer)
+    shown(rt.alloc(), &in_memory(rt, asked)?)
 }
 
 /// Over links whose other ends move by themselves.
@@ -64,8 +63,7 @@ pub fn over_rings<R: Threads + Wait + Sync + Alloc<A = Global>>(
     rt: &R,
     asked: Asked,
 ) -> Result<String, AllocError> {
-    let answer = on_threads(rt, asked)?;
-    shown(rt.alloc(), &answer)
+    shown(rt.alloc(), &on_threads(rt, asked)?)
 }
 
 /// Whether a script ends on threads as it does step by step, with the status 0.

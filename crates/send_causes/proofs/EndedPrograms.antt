@@ -14,13 +14,13 @@ use Rattle.seat_programs.specs.Calls.{Call, PutMessage, ClaimRequest, LoadName, 
 use Rattle.seat_programs.specs.Clients.{HeldLife, client_from, ending_of}
 use Rattle.seat_programs.specs.Heads.{Head, Exit, Posts, First, Unlocking, IsOpen, HasNext, Locking, NotThere, Has}
 use Rattle.seat_programs.specs.Posts.{post, decided}
-use Rattle.seat_programs.specs.Programs.{Program, Do, Say, Write, Aside, Round, release}
+use Rattle.seat_programs.specs.Programs.{Program, Do, Say, Rest, Write, Aside, Round, release}
 use Rattle.seat_programs.specs.Readers.{reader}
 use Rattle.seat_programs.specs.Rounds.{round}
 use Rattle.seat_programs.specs.Sends.{block, accept}
 use Rattle.seat_programs.specs.Writings.{Writing}
 use Rattle.label_runs.specs.Labels.{AtLabel, LeavesLabel, LeavesLock, LeavesUnlock}
-use Rattle.label_runs.proofs.Loops.{id_back, not_equal, is_plain, is_plain_aside, Tracks, behind, way, post_goes, decide_goes, decided_goes, round_goes}
+use Rattle.label_runs.proofs.Loops.{id_back, not_equal, is_plain, is_plain_aside, HoldsBehind, Tracks, behind, way, post_goes, decide_goes, decided_goes, round_goes}
 use Rattle.label_runs.proofs.Operations as kept
 use Rattle.label_runs.proofs.Operations.{OpCalls, release_goes, address_goes, accept_goes}
 use Rattle.send_causes.proofs.EndedTrails.{Trail, lost, Stays, NoCall, Makes, Knows, with_link, GoesDo, GoesAside, MayAttempt, Follows}
@@ -51,27 +51,22 @@ module _ (is_call : Asked → Type 0) where
   rounds t (Posts id e w) next at goes = (at, goes)
   rounds t _ next at goes = (at, goes)
 
+  passes : (t : Trail) (program : Program) → HoldsBehind lost (Follows is_call) t program → Follows is_call t program
+  passes t Rest goes = tt
+  passes t _ goes = goes
+
   pub tracks : Tracks lost (λ i w advance t. t) (λ exit t. lost) is_call (Follows is_call)
   tracks = record {
     step = λ t call next plain goes. (may_plain t call plain, λ found _. (t, stays_plain t call found plain, goes found));
     looks = λ t call next plain goes. (may_plain t call plain, λ found _. (lost, lost_by t call found, goes found));
     claim = λ s q next goes. (tt, λ found _. (lost, inl refl, goes found));
     send = λ q o bytes next goes. (inl refl, λ found _. (lost, inl refl, goes found));
-    say = λ t o outcome next goes. goes;
-    sent = λ t o next goes. goes;
-    rest = λ t. tt;
-    message = λ t q next goes. goes;
-    home = λ t k next goes. goes;
-    puts_home = λ t k n after goes. goes;
-    put = λ t k asked bytes next goes. goes;
-    ask = λ t k next goes. goes;
-    write = λ t w after goes. goes;
+    passes = passes;
     aside = λ t step next plain goes found f. let x = goes found f in (x.0, aside_goes step plain (next found) found t x.0 x.1, x.2);
     puts_call = λ t i asked next call goes found _. (lost, (inl (inr refl), call), goes found);
     unlock = λ t i from advance next goes found f. (t, inl refl, ⊎_elim (λ a. a.1) (λ b. b.1) (goes found f));
     round = rounds;
     keep = λ id w next first few goes. (few, goes);
-    retries = λ t requests after goes. goes;
     again = λ t i from found b first attempt. refl;
     unmoved = λ t i w. refl;
     locking = λ exit t. inr refl;

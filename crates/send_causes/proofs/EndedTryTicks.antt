@@ -34,7 +34,7 @@ use Rattle.send_causes.specs.EndedCalls.{Store, stores_by, stored_at}
 use Rattle.send_causes.proofs.Words.{made_on, finds_label, words_forward, makes_new, advances_new}
 use Rattle.send_causes.proofs.Readings.{ticks_first}
 use Rattle.outcome_causes.proofs.HomeCalls.{AreCalls, PutsAsked, calls_behind}
-use Rattle.send_causes.proofs.Ticks.{few_more, few_of, calls_waiting, fits_as, made_now, untried, waiting_set, once_more, old_or_new, pairs_set, labels_first}
+use Rattle.send_causes.proofs.Ticks.{few_more, few_of, calls_waiting, fits_as, pair_now, untried, waiting_set, once_more, old_or_new, pairs_set, labels_first}
 use Rattle.call_causes.proofs.Chains.{AreFewTries as AreTries}
 use Rattle.label_runs.proofs.Programs.{retry_goes}
 use Rattle.send_causes.proofs.SeatFacts.{seat_facts}
@@ -216,7 +216,7 @@ module _ (p : Plan) (q : IdPlan) (narrow : q.slots ≤ 65536) (is_call : Asked �
         calls = calls_behind is_call step found c.calls puts law.calls;
         new = λ id n. pair_of id n id₀ n₀;
         fewer = λ id n. omega arith;
-        fresh = λ id n some_. let m = made_now q c.calls.words (calls_after step found c.calls).words id₀ n₀ made unmade id n some_ in (m.0, untried (tries_of id n c ts) (law.made id n) m.2, m.1, m.2);
+        fresh = λ id n some_. let m = pair_now q c.calls.words (calls_after step found c.calls).words id₀ n₀ made unmade id n some_ in (m.0, untried (tries_of id n c ts) (law.made id n) m.2, m.1, m.2);
       }
 
     abbrev pub End : List Store → Core → Type 0

@@ -44,7 +44,7 @@ use Rattle.send_causes.specs.Counts.{pair_of, of_retry, with_waiting, word_of_id
 use Rattle.send_causes.proofs.Words.{made_on, finds_label, words_forward, makes_new, advances_new}
 use Rattle.send_causes.proofs.Readings.{ticks_first}
 use Rattle.send_causes.proofs.SeatFacts.{ids_first}
-use Rattle.send_causes.proofs.Ticks.{few_more, few_of, calls_waiting, made_now, untried, waiting_set, once_more, old_or_new, pairs_set}
+use Rattle.send_causes.proofs.Ticks.{few_more, few_of, calls_waiting, pair_now, untried, waiting_set, once_more, old_or_new, pairs_set}
 use Rattle.call_causes.proofs.Chains.{AreFewTries as AreTries}
 use Rattle.label_runs.proofs.Loops.{id_back}
 use Rattle.id_runs.specs.Goes.{HandFits, HomesFit}
@@ -444,7 +444,7 @@ module _ (p : Plan) (q : IdPlan) (narrow : q.slots ≤ 65536) (Taken : Post → 
           words = words_on;
           new = λ id n. pair_of id n id₀ n₀;
           fewer = λ id n. omega arith;
-          fresh = λ id n some_. let m = made_now q c.calls.words (calls_after step found c.calls).words id₀ n₀ made unmade id n some_ in (m.0, untried (tries_of id n c ss) (law.made id n) m.2, m.1, m.2);
+          fresh = λ id n some_. let m = pair_now q c.calls.words (calls_after step found c.calls).words id₀ n₀ made unmade id n some_ in (m.0, untried (tries_of id n c ss) (law.made id n) m.2, m.1, m.2);
           stand = few;
           ats = kept_ats (Trying id₀ n₀) none_;
           homes = old_homes (Trying id₀ n₀);

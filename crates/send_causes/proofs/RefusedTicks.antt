@@ -40,7 +40,7 @@ use Rattle.send_causes.specs.Refused.{Deed, DidStep, DidPut, Charge, NoCharge, I
 use Rattle.send_causes.proofs.SeatFacts.{ids_first}
 use Rattle.outcome_causes.proofs.HomeCalls.{AreCalls}
 use Rattle.send_causes.proofs.SeatFacts.{tick_moves}
-use Rattle.send_causes.proofs.Ticks.{put_count, few_more, few_of, calls_waiting, fits_as, kept_count, kept_fits, made_now, waits_set}
+use Rattle.send_causes.proofs.Ticks.{put_count, few_more, few_of, calls_waiting, fits_as, kept_count, kept_fits, pair_now, waits_set}
 use Rattle.send_causes.proofs.Views.{row_count, rights_count}
 use Rattle.send_causes.proofs.Words.{made_on, finds_label, words_forward, makes_new, advances_new}
 use Rattle.send_causes.proofs.RefusedLoops.{bare, charges_round}
@@ -504,7 +504,7 @@ module _ (p : Plan) (q : IdPlan) (narrow : q.slots ≤ 65536) (is_call : Asked �
           did = did_then y held;
           new = λ id n. pair_of id n id₀ n₀;
           fewer = λ id n. (let z : of_trial id n y.trial ≡ pair_of id n id₀ n₀ = ap (of_trial id n) e in omega (arith, z));
-          fresh = λ id n some_. let m = made_now q c.calls.words (calls_after step found c.calls).words id₀ n₀ now unmade id n some_ in (m.0, m.2, (m.1.0, inr m.1.1));
+          fresh = λ id n some_. let m = pair_now q c.calls.words (calls_after step found c.calls).words id₀ n₀ now unmade id n some_ in (m.0, m.2, (m.1.0, inr m.1.1));
           due = inl (due_then y held);
         }
 

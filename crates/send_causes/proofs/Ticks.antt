@@ -60,8 +60,8 @@ pair_same id n i m some_ = by (eqb i id) (eqb m n) refl refl some_
     by false b x y s = absurd (omega (arith, s))
 
 -- where one attempt is made now, which wasn't made before, so is each that is made
-pub made_now : (q : IdPlan) (old new : List ℕ) (id₀ n₀ : ℕ) → WasNow q new id₀ n₀ → (WasMade q old id₀ n₀ → ⊥) → (id n : ℕ) → 0 < pair_of id n id₀ n₀ → (pair_of id n id₀ n₀ ≤ 1) × WasNow q new id n × (WasMade q old id n → ⊥)
-made_now q old new id₀ n₀ now unmade id n some_ = let same = pair_same id n id₀ n₀ some_ in (
+pub pair_now : (q : IdPlan) (old new : List ℕ) (id₀ n₀ : ℕ) → WasNow q new id₀ n₀ → (WasMade q old id₀ n₀ → ⊥) → (id n : ℕ) → 0 < pair_of id n id₀ n₀ → (pair_of id n id₀ n₀ ≤ 1) × WasNow q new id n × (WasMade q old id n → ⊥)
+pair_now q old new id₀ n₀ now unmade id n some_ = let same = pair_same id n id₀ n₀ some_ in (
   pair_one id n id₀ n₀,
   subst (λ x. WasNow q new x n) same.0 (subst (WasNow q new id₀) same.1 now),
   λ was. unmade (subst (λ x. WasMade q old x n₀) (sym same.0) (subst (WasMade q old id) (sym same.1) was)),
@@ -336,7 +336,7 @@ module _ (p : Plan) (q : IdPlan) (narrow : q.slots ≤ 65536) (is_call : Asked �
         -- a new attempt
         makes : (id₀ n₀ : ℕ) → Labels is_call (Tries id₀ n₀) (next found) → WasNow q (calls_after step found c.calls).words id₀ n₀ → (WasMade q c.calls.words id₀ n₀ → ⊥) → Ends
         makes id₀ n₀ g made unmade = goes_with (Tries id₀ n₀) g tt (λ id n. pair_of id n id₀ n₀) (λ id n. omega arith)
-            (λ id n some_. let m = made_now q c.calls.words (calls_after step found c.calls).words id₀ n₀ made unmade id n some_ in (m.0, untried (times_of id n c vs ts) (law.made id n) m.2, m.1))
+            (λ id n some_. let m = pair_now q c.calls.words (calls_after step found c.calls).words id₀ n₀ made unmade id n some_ in (m.0, untried (times_of id n c vs ts) (law.made id n) m.2, m.1))
 
       -- the slot of an id that the seat tries is one of the table
       tried_low : (id n : ℕ) → t ≡ Tries id n → id_slot id < 65536

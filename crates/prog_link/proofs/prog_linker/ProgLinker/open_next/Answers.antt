@@ -6,12 +6,12 @@ use Rattle.prog_link.proofs.Alike.{numbered, one_longer, alike_more, counted_mor
 use Rattle.prog_link.proofs.prog_linker.ProgLinker.open_next.Goals as goal
 
 pub open_ends-requires-clause-loops : goal.open_ends-requires-clause-loops
-open_ends-requires-clause-loops g c κs within =
+open_ends-requires-clause-loops g c =
     let s = c.self.inside in let i = c.self.invariant in let kind = kind_asked c.args.spec.now.mode in
     numbered InMemory kind s.notes.asked _ _ i.0 i.2 (subst (λ l. are_kind kind l ≡ true) (sym (ap (λ (x : LinkerState). x.asked) c.self.view_is)) c.requires.alike)
 
 pub open_ends-requires-clause-streams : goal.open_ends-requires-clause-streams
-open_ends-requires-clause-streams g c κs within =
+open_ends-requires-clause-streams g c =
     let s = c.self.inside in let i = c.self.invariant in let kind = kind_asked c.args.spec.now.mode in
     numbered OverTcp kind s.notes.asked _ _ i.0 i.3 (subst (λ l. are_kind kind l ≡ true) (sym (ap (λ (x : LinkerState). x.asked) c.self.view_is)) c.requires.alike)
 
