@@ -2,7 +2,7 @@ use Rattle.script_run.specs.Played.{turns_of}
 use Rattle.script_run.proofs.Running.{playable_of, run_answered, plan_answered}
 use Rattle.sock_core.proofs.Linkers.{says_still}
 use Rattle.sock_core.proofs.Joining.{same_links_join}
-use Rattle.script_run.proofs.run.play.Goals as goal
+use Rattle.script_run.proofs.schedule.play.Goals as goal
 
 pub play_schedule-requires-clause-playable : goal.play_schedule-requires-clause-playable
 play_schedule-requires-clause-playable g c κs within = playable_of c.requires.script.0 c.args.script.now c.args.machine.now c.requires.script.1 c.requires.made
