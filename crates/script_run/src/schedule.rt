@@ -3,7 +3,6 @@ ghost use Rattle.brpc_model.specs.Items.{Item};
 ghost use Rattle.brpc_model.specs.Script.{script_of};
 ghost use Rattle.seat_programs.specs.Ticks.{seats_of};
 ghost use Rattle.seat_programs.specs.Runs.{Scheduled};
-ghost use Rattle.seat_programs.specs.Scripts.{drawn_turns};
 ghost use Rattle.brpc_model.specs.Operations.{seat_number, turn_of, schedule};
 ghost use Rattle.script_items.specs.Meaning.{seat_of};
 ghost use Rattle.sock_core.specs.Beginnings.{IsMade};
@@ -116,49 +115,6 @@ fn play_marks<L: Linker>(
     Ok(())
 }
 
-/// Plays a tick of each seat that is drawn from a seed.
-fn play_drawn<L: Linker>(
-    machine: &mut Machine<L::O, L::I, L::P>,
-    links: &mut L,
-    script: &Outline,
-    seed: u64,
-) -> Result<(), NoMemory>
-    requires script { (bytes : List ℕ) × (script_of bytes ≡ Ok script.now) }
-    requires playable { IsPlayable machine.old }
-    ensures played { OnOk result (HasPlayed (λ c. Scheduled machine.old.plan c (drawn_turns script.now seed)) machine.old machine.new) }
-    ensures playable { OnOk result (IsPlayable machine.new) }
-    ensures ends { SameLinks machine.old machine.new }
-    ensures says { SaysAsBefore L.asked L.accepted L.back L.done L.faults L.always_ready links.old links.new }
-{
-    let plan = script.plan();
-    let mut seats = DrawnSeats::new(plan.seats - 1, plan.links, seed);
-    for _ in 0..seats.count(plan.operations) {
-        let seat = seats.next_seat();
-        tick_seat(machine, links, seat)?;
-    }
-    Ok(())
-}
-
-/// Plays a schedule of a script.
-fn play_schedule<L: Linker>(
-    machine: &mut Machine<L::O, L::I, L::P>,
-    links: &mut L,
-    script: &Outline,
-    schedule: Schedule,
-) -> Result<(), NoMemory>
-    requires script { (bytes : List ℕ) × (script_of bytes ≡ Ok script.now) }
-    requires playable { IsPlayable machine.old }
-    ensures played { OnOk result (HasPlayed (λ c. Scheduled machine.old.plan c (turns_of script.now schedule)) machine.old machine.new) }
-    ensures playable { OnOk result (IsPlayable machine.new) }
-    ensures ends { SameLinks machine.old machine.new }
-    ensures says { SaysAsBefore L.asked L.accepted L.back L.done L.faults L.always_ready links.old links.new }
-{
-    match schedule {
-        Schedule::Own => play_marks(machine, links, script.marks()),
-        Schedule::Drawn(seed) => play_drawn(machine, links, script, seed),
-    }
-}
-
 /// Plays a schedule of a script, and then settles it.
 pub fn play<L: Linker>(
     machine: &mut Machine<L::O, L::I, L::P>,
@@ -173,6 +129,16 @@ pub fn play<L: Linker>(
     ensures ends { SameLinks machine.old machine.new }
     ensures says { SaysAsBefore L.asked L.accepted L.back L.done L.faults L.always_ready links.old links.new }
 {
-    play_schedule(machine, links, script, schedule)?;
+    match schedule {
+        Schedule::Own => play_marks(machine, links, script.marks())?,
+        Schedule::Drawn(seed) => {
+            let plan = script.plan();
+            let mut seats = DrawnSeats::new(plan.seats - 1, plan.links, seed);
+            for _ in 0..seats.count(plan.operations) {
+                let seat = seats.next_seat();
+                tick_seat(machine, links, seat)?;
+            }
+        }
+    }
     machine.settle(links)
 }
