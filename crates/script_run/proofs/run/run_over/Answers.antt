@@ -43,15 +43,13 @@ give_back-requires-in-Ok-of-clause-numbered g c κs within =
 
 pub give_back-requires-in-Ok-of-clause-opened : goal.give_back-requires-in-Ok-of-clause-opened
 give_back-requires-in-Ok-of-clause-opened g c κs within =
-    let links = λ e. end_of (g.L.O.Out.state e.out) (g.L.I.In.state e.inn) in
-    ap length c.play-played.ensures.says.asked ∙ c.requires.opened ∙ sym (count_later links c.in-Ok-of.machine c.play-played.new.machine c.finish-outcomes.result.ends.items c.play-played.ensures.ends c.finish-outcomes.ensures.ends
-    ∙ ap length c.in-Ok-of.ensures.over.ends ∙ length-map c.args.ends.items links)
+    ap length c.play-played.ensures.says.asked ∙ c.requires.opened
+    ∙ sym (count_later (λ e. end_of (g.L.O.Out.state e.out) (g.L.I.In.state e.inn)) c.in-Ok-of.machine c.play-played.new.machine c.finish-outcomes.result.ends.items c.play-played.ensures.ends c.finish-outcomes.ensures.ends ∙ ap length c.in-Ok-of.ensures.over.ends ∙ length-map c.args.ends.items (λ e. end_of (g.L.O.Out.state e.out) (g.L.I.In.state e.inn)))
 
 pub give_back-requires-in-Ok-of-clause-few : goal.give_back-requires-in-Ok-of-clause-few
 give_back-requires-in-Ok-of-clause-few g c κs within =
-    let links = λ e. end_of (g.L.O.Out.state e.out) (g.L.I.In.state e.inn) in
     let few = c.requires.few in
-    let count = count_later links c.in-Ok-of.machine c.play-played.new.machine c.finish-outcomes.result.ends.items c.play-played.ensures.ends c.finish-outcomes.ensures.ends ∙ ap length c.in-Ok-of.ensures.over.ends ∙ length-map c.args.ends.items links in omega (arith, few, count)
+    let count = count_later (λ e. end_of (g.L.O.Out.state e.out) (g.L.I.In.state e.inn)) c.in-Ok-of.machine c.play-played.new.machine c.finish-outcomes.result.ends.items c.play-played.ensures.ends c.finish-outcomes.ensures.ends ∙ ap length c.in-Ok-of.ensures.over.ends ∙ length-map c.args.ends.items (λ e. end_of (g.L.O.Out.state e.out) (g.L.I.In.state e.inn)) in omega (arith, few, count)
 
 pub returns-clause-back : goal.returns-clause-back
 returns-clause-back g c =
@@ -64,8 +62,8 @@ returns-clause-text g c =
     let played = c.play-played.ensures in let done = c.finish-outcomes.ensures in
     subst (λ (s : List Item). IfOk c.report_played-text.result (λ text. g.L.LinkerTold.always_ready c.args.links.now ≡ true → TellClosed g.L.I.In.state → IsPrinted (TellOffers g.L.O.Out.state g.L.I.In.state) c.args.print s (turns_of s c.args.schedule) text.items (g.L.LinkerTold.back c.give_back.new.links))) is
     (text_answered c.args.print (λ text. text.items) c.report_played-text.result c.play-played.result c.requires.script.0 outline (turns_of outline c.args.schedule) start c.play-played.new.machine c.finish-outcomes.result.outcomes.items c.deref.result.now
-    (links c.deref-2.result.now) (g.L.LinkerTold.back c.give_back.new.links) (c.requires.script.1 ∙ ap (λ (s : List Item). Ok s) (sym is)) (subst (λ (s : List Item). IsMade s start) (c.in-Ok.ensures.0 ∙ sym is) c.in-Ok-of.ensures.made)
-    (subst (AreUntouched 0) (sym over.ends) c.requires.untouched) (ap length over.ends ∙ length-map c.args.ends.items _ ∙ c.requires.all ∙ ap (λ (s : List Item). length (link_names s)) (sym is))
+    (links c.deref-2.result.now) (g.L.LinkerTold.back c.give_back.new.links) (subst (λ (s : List Item). script_of c.requires.script.0 ≡ Ok s) (sym is) c.requires.script.1) (subst (λ (s : List Item). IsMade s start) (c.in-Ok.ensures.0 ∙ sym is) c.in-Ok-of.ensures.made)
+    (subst (AreUntouched 0) (sym over.ends) c.requires.untouched) (ap length over.ends ∙ length-map c.args.ends.items (λ e. end_of (g.L.O.Out.state e.out) (g.L.I.In.state e.inn)) ∙ c.requires.all ∙ ap (λ (s : List Item). length (link_names s)) (sym is))
     played.ends done.took done.gave_count done.gave done.letters done.numbered (c.deref.ensures.value ∙ done.places) (ap links c.deref-2.ensures.value ∙ done.ends) (c.give_back.ensures.back ∙ sym (ap links c.deref-2.ensures.value))
     c.report_played-text.ensures.played (λ ready. over.outs (c.requires.always_ready ready)) (λ tell. over.tell (all_so (λ e. (g.L.I.In.state e.inn).closing ≢ None) (λ e. (tell e.inn).0) c.args.ends.items))
     (λ tell. subst (AllByRecursion (λ (e : LinkEnd). e.closed ≢ None)) (sym over.ends) (all_mapped (λ e. end_of (g.L.O.Out.state e.out) (g.L.I.In.state e.inn)) (λ (e : LinkEnd). e.closed ≢ None) (λ e. (tell e.inn).1) c.args.ends.items))
