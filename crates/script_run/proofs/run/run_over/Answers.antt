@@ -37,34 +37,34 @@ give_back-requires-in-Err-clause-numbered g c κs within = rw c.in-Err.ensures.b
 
 -- ## Behind the run
 
-pub give_back-requires-in-Ok-of-clause-numbered : goal.give_back-requires-in-Ok-of-clause-numbered
-give_back-requires-in-Ok-of-clause-numbered g c κs within =
+pub give_back-requires-2-clause-numbered : goal.give_back-requires-2-clause-numbered
+give_back-requires-2-clause-numbered g c κs within =
     numbered_later c.in-Ok-of.machine c.play-played.new.machine _ (subst (AreUntouched 0) (sym c.in-Ok-of.ensures.over.ends) c.requires.untouched) c.play-played.ensures.ends c.finish-outcomes.ensures.ends
 
-pub give_back-requires-in-Ok-of-clause-opened : goal.give_back-requires-in-Ok-of-clause-opened
-give_back-requires-in-Ok-of-clause-opened g c κs within =
+pub give_back-requires-2-clause-opened : goal.give_back-requires-2-clause-opened
+give_back-requires-2-clause-opened g c κs within =
     ap length c.play-played.ensures.says.asked ∙ c.requires.opened
     ∙ sym (count_later (λ e. end_of (g.L.O.Out.state e.out) (g.L.I.In.state e.inn)) c.in-Ok-of.machine c.play-played.new.machine c.finish-outcomes.result.ends.items c.play-played.ensures.ends c.finish-outcomes.ensures.ends ∙ ap length c.in-Ok-of.ensures.over.ends ∙ length-map c.args.ends.items (λ e. end_of (g.L.O.Out.state e.out) (g.L.I.In.state e.inn)))
 
-pub give_back-requires-in-Ok-of-clause-few : goal.give_back-requires-in-Ok-of-clause-few
-give_back-requires-in-Ok-of-clause-few g c κs within =
+pub give_back-requires-2-clause-few : goal.give_back-requires-2-clause-few
+give_back-requires-2-clause-few g c κs within =
     let few = c.requires.few in
     let count = count_later (λ e. end_of (g.L.O.Out.state e.out) (g.L.I.In.state e.inn)) c.in-Ok-of.machine c.play-played.new.machine c.finish-outcomes.result.ends.items c.play-played.ensures.ends c.finish-outcomes.ensures.ends ∙ ap length c.in-Ok-of.ensures.over.ends ∙ length-map c.args.ends.items (λ e. end_of (g.L.O.Out.state e.out) (g.L.I.In.state e.inn)) in omega (arith, few, count)
 
 pub returns-clause-back : goal.returns-clause-back
 returns-clause-back g c =
-    ap length c.give_back.ensures.back ∙ ap length c.finish-outcomes.ensures.ends ∙ c.play-played.ensures.ends.as_many ∙ ap length c.in-Ok-of.ensures.over.ends ∙ length-map c.args.ends.items (λ e. end_of (g.L.O.Out.state e.out) (g.L.I.In.state e.inn))
+    ap length c.give_back-2.ensures.back ∙ ap length c.finish-outcomes.ensures.ends ∙ c.play-played.ensures.ends.as_many ∙ ap length c.in-Ok-of.ensures.over.ends ∙ length-map c.args.ends.items (λ e. end_of (g.L.O.Out.state e.out) (g.L.I.In.state e.inn))
 
 pub returns-clause-text : goal.returns-clause-text
 returns-clause-text g c =
     let links = map (λ e. end_of (g.L.O.Out.state e.out) (g.L.I.In.state e.inn)) in
     let outline = c.in-Ok.outline in let is = c.in-Ok.ensures.1 in let start = c.in-Ok-of.machine in let over = c.in-Ok-of.ensures.over in
     let played = c.play-played.ensures in let done = c.finish-outcomes.ensures in
-    subst (λ (s : List Item). IfOk c.report_played-text.result (λ text. g.L.LinkerTold.always_ready c.args.links.now ≡ true → TellClosed g.L.I.In.state → IsPrinted (TellOffers g.L.O.Out.state g.L.I.In.state) c.args.print s (turns_of s c.args.schedule) text.items (g.L.LinkerTold.back c.give_back.new.links))) is
+    subst (λ (s : List Item). IfOk c.report_played-text.result (λ text. g.L.LinkerTold.always_ready c.args.links.now ≡ true → TellClosed g.L.I.In.state → IsPrinted (TellOffers g.L.O.Out.state g.L.I.In.state) c.args.print s (turns_of s c.args.schedule) text.items (g.L.LinkerTold.back c.give_back-2.new.links))) is
     (text_answered c.args.print (λ text. text.items) c.report_played-text.result c.play-played.result c.requires.script.0 outline (turns_of outline c.args.schedule) start c.play-played.new.machine c.finish-outcomes.result.outcomes.items c.deref.result.now
-    (links c.deref-2.result.now) (g.L.LinkerTold.back c.give_back.new.links) (subst (λ (s : List Item). script_of c.requires.script.0 ≡ Ok s) (sym is) c.requires.script.1) (subst (λ (s : List Item). IsMade s start) (c.in-Ok.ensures.0 ∙ sym is) c.in-Ok-of.ensures.made)
+    (links c.deref-2.result.now) (g.L.LinkerTold.back c.give_back-2.new.links) (subst (λ (s : List Item). script_of c.requires.script.0 ≡ Ok s) (sym is) c.requires.script.1) (subst (λ (s : List Item). IsMade s start) (c.in-Ok.ensures.0 ∙ sym is) c.in-Ok-of.ensures.made)
     (subst (AreUntouched 0) (sym over.ends) c.requires.untouched) (ap length over.ends ∙ length-map c.args.ends.items (λ e. end_of (g.L.O.Out.state e.out) (g.L.I.In.state e.inn)) ∙ c.requires.all ∙ ap (λ (s : List Item). length (link_names s)) (sym is))
-    played.ends done.took done.gave_count done.gave done.letters done.numbered (c.deref.ensures.value ∙ done.places) (ap links c.deref-2.ensures.value ∙ done.ends) (c.give_back.ensures.back ∙ sym (ap links c.deref-2.ensures.value))
+    played.ends done.took done.gave_count done.gave done.letters done.numbered (c.deref.ensures.value ∙ done.places) (ap links c.deref-2.ensures.value ∙ done.ends) (c.give_back-2.ensures.back ∙ sym (ap links c.deref-2.ensures.value))
     c.report_played-text.ensures.played (λ ready. over.outs (c.requires.always_ready ready)) (λ tell. over.tell (all_so (λ e. (g.L.I.In.state e.inn).closing ≢ None) (λ e. (tell e.inn).0) c.args.ends.items))
     (λ tell. subst (AllByRecursion (λ (e : LinkEnd). e.closed ≢ None)) (sym over.ends) (all_mapped (λ e. end_of (g.L.O.Out.state e.out) (g.L.I.In.state e.inn)) (λ (e : LinkEnd). e.closed ≢ None) (λ e. (tell e.inn).1) c.args.ends.items))
     (TellOffers g.L.O.Out.state g.L.I.In.state) (λ tell k spec at. over.offers k spec.serve spec.end (c.requires.offers tell k spec (sym (ap (λ s. slice_get (specs_of mode.Loop s) k) is) ∙ at)))

@@ -1,7 +1,8 @@
-use Rattle.std.proofs.Common.{List, map, refl, ap, sym, subst, ◌∙◌, arith}
+use Rattle.std.proofs.Common.{◌≡◌, Err, List, map, refl, ap, sym, subst, ◌∙◌, arith}
 use Rattle.std.specs.List.{list_all}
 use Rattle.sock_io.specs.declared.link.LinkSpec.{LinkSpec}
 use Rattle.sock_io.specs.declared.link.Mode.TheVariants as mode
+use Rattle.sock_io.specs.declared.link.OpenFault.TheVariants.{Failed}
 use Rattle.script_links.specs.Given.{has_piece, specs_of}
 use Rattle.script_links.specs.Offered.{AreAsked}
 use Rattle.script_links.proofs.Numbering.{numbered_of, links_of, few_links, pieces_of}
@@ -55,4 +56,10 @@ returns-in-Err-run_over-clause-cause g c =
     rw c.run_over.ensures.faults (record { later = opened.later; failed = λ e. absurd (cc); kept = λ other. opened.kept (λ e. absurd (cc)) })
 
 pub returns-in-Err-clause-cause : goal.returns-in-Err-clause-cause
-returns-in-Err-clause-cause g c = let opened = c.in-Err.ensures in rw c.give_back.ensures.faults (record { later = opened.later; failed = opened.failed; kept = opened.kept })
+returns-in-Err-clause-cause g c =
+    let opened = c.in-Err.ensures in
+    rw c.give_back.ensures.faults (record {
+      later = opened.later;
+      failed = λ e. let is : c.in-Err.fault ≡ Failed = cc in opened.failed (ap (λ x. Err x) is);
+      kept = λ other. opened.kept (λ e. let is : c.in-Err.fault ≡ Failed = cc in other (ap (λ x. Err x) is));
+    })
