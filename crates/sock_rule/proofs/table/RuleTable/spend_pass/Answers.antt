@@ -1,4 +1,4 @@
-use Rattle.std.proofs.Common.{◌+◌, ◌<◌, arith, ◌∙◌, sym, ap, subst}
+use Rattle.std.proofs.Common.{◌+◌, arith, ◌∙◌, sym, ap, subst}
 use Rattle.sock_model.specs.ChainRows.{spent_hand}
 use Rattle.sock_rule.specs.Hands.{hand_of}
 use Rattle.sock_rule.specs.OnKey.{shows_by}
