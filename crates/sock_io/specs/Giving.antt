@@ -10,6 +10,10 @@ use Rattle.sock_io.specs.Memory.{MemInState, closing, empty_in, is_open, mem_in}
 abbrev pub given_half : GiveIn → MemInState
 given_half i = i.inner
 
+-- whether the stated bytes are still to come
+abbrev pub still_to_come : GiveIn → Bool
+still_to_come i = i.waits
+
 -- such a half as a reading half, whose other end offers nothing that it would tell
 abbrev pub give_in : GiveIn → InState
 give_in i = mem_in i.inner

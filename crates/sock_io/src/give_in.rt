@@ -1,5 +1,5 @@
 ghost use Rattle.std.specs.Prelude.{◌≡◌, ◌<◌, ◌++◌, IfOk, OnErr, OnOk, length};
-ghost use Rattle.sock_io.specs.Giving.{before_bytes, bytes_and_end, give_in, given_half, with_bytes, with_closing};
+ghost use Rattle.sock_io.specs.Giving.{before_bytes, bytes_and_end, give_in, given_half, still_to_come, with_bytes, with_closing};
 ghost use Rattle.sock_io.specs.Memory.{TakesWaiting};
 
 use crate::ending::Ending;
@@ -69,7 +69,8 @@ impl In for GiveIn {
 
     fn take(&mut self, room: &mut [u8]) -> Take
         requires { 0 < length room.old }
-        ensures { TakesWaiting (given_half self.old) (given_half self.new) (length room.old) room.new result }
+        ensures half { TakesWaiting (given_half self.old) (given_half self.new) (length room.old) room.new result }
+        ensures waits { still_to_come self.new ≡ still_to_come self.old }
     {
         self.inner.take(room)
     }
