@@ -96,9 +96,8 @@ impl Linker for GiveLinker {
             spec.fail
         };
         let shape = Shape {
-            piece: spec.piece,
-            again: spec.again,
             fail,
+            ..Shape::asked(spec)
         };
         let out = self.links.open(spec, shape)?;
         Ok(Ends {

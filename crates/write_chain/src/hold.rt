@@ -52,6 +52,21 @@ pub fn slot_at<O: Out>(table: &SockTable<O>, sock: &SockRef) -> u16
     slot as u16
 }
 
+/// C8: the request of a message that has its place is free again, unless its generation is the last one.
+pub fn give_request_back<O: Out>(table: &SockTable<O>, seat: &mut SockSeat<O>, now: Ticket)
+    requires seat { IsSeat table.now.rule.table.shared.table_id table.now.rule.plan seat.old }
+    requires may { MayFreeRequest now.0 seat.old.me }
+    requires ticket { IsTicket table.now.rule.plan now.0 }
+    ensures seat { IsSeat table.now.rule.table.shared.table_id table.now.rule.plan seat.new }
+    ensures view { (r : Right) → Rights r seat.old.me.0 → seat.new.me ≡ (with_right seat.old.me.0 (freed_right r), rest seat.old.me.1) }
+{
+    if now.generation() < LAST_GENERATION {
+        table.rule.free_request(seat, now);
+    } else {
+        table.rule.retire_request(seat, now);
+    }
+}
+
 impl<O: Out> Chain<'_, O> {
     /// The link that the seat may write comes into hand. Where its half has faults the seat notes that.
     pub fn fetch_link(&self, seat: &mut SockSeat<O>, link: u16) -> LinkInHand<O>
@@ -90,24 +105,7 @@ impl<O: Out> Chain<'_, O> {
             owner,
         }
     }
-}
 
-/// C8: the request of a message that has its place is free again, unless its generation is the last one.
-pub fn give_request_back<O: Out>(table: &SockTable<O>, seat: &mut SockSeat<O>, now: Ticket)
-    requires seat { IsSeat table.now.rule.table.shared.table_id table.now.rule.plan seat.old }
-    requires may { MayFreeRequest now.0 seat.old.me }
-    requires ticket { IsTicket table.now.rule.plan now.0 }
-    ensures seat { IsSeat table.now.rule.table.shared.table_id table.now.rule.plan seat.new }
-    ensures view { (r : Right) → Rights r seat.old.me.0 → seat.new.me ≡ (with_right seat.old.me.0 (freed_right r), rest seat.old.me.1) }
-{
-    if now.generation() < LAST_GENERATION {
-        table.rule.free_request(seat, now);
-    } else {
-        table.rule.retire_request(seat, now);
-    }
-}
-
-impl<O: Out> Chain<'_, O> {
     /// A message has its place: its request is given back, and the next one follows, or the head.
     pub fn go_past(&self, seat: &mut SockSeat<O>, link: LinkInHand<O>, now: Ticket) -> Doing<O>
         requires seat { IsSeat self.now.table.now.rule.table.shared.table_id self.now.table.now.rule.plan seat.old }
