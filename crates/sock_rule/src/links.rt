@@ -30,7 +30,8 @@ impl<O: Out> RuleTable<O> {
         let said = self.said();
         let shared = &self.table.shared;
         shared.compare_exchange_with::<TakeLast>(seat, 6 * at as usize + 2, 0, 0, &said);
-        self.take_link_home(seat, link, said)
+        drop(said);
+        self.take_link_home(seat, link)
     }
 
     /// L1 of a link whose pass gets no socket: the pass is spent.
@@ -44,7 +45,8 @@ impl<O: Out> RuleTable<O> {
         let said = self.said();
         let shared = &self.table.shared;
         shared.compare_exchange_with::<SpendPass>(seat, 0, 0, 0, &said);
-        self.take_link_home(seat, link, said)
+        drop(said);
+        self.take_link_home(seat, link)
     }
 
     /// L2: the link in hand goes home, with what it took.
@@ -61,20 +63,14 @@ impl<O: Out> RuleTable<O> {
         self.table.shared.load::<PutLink>(seat, 0);
     }
 
-    // The link of this number comes out of its home, which the seat has in hand. What the step was told is let go.
-    pub(crate) fn take_link_home(
-        &self,
-        seat: &mut SockSeat<O>,
-        link: u16,
-        said: SockHome<O>,
-    ) -> LinkHome<O>
+    // The link of this number comes out of its home, which the seat has in hand.
+    pub(crate) fn take_link_home(&self, seat: &mut SockSeat<O>, link: u16) -> LinkHome<O>
         requires seat { seat.old.table_id ≡ self.now.table.shared.table_id }
         requires home { LinkOnTop (self.now.plan.requests + link) seat.old.me }
         ensures seat { seat.new.table_id ≡ seat.old.table_id }
         ensures home { seat.old.me.1 ≡ (self.now.plan.requests + link, Link result) ∷ rest seat.old.me.1 }
         ensures view { seat.new.me ≡ (seat.old.me.0, (self.now.plan.requests + link, Empty) ∷ rest seat.old.me.1) }
     {
-        drop(said);
         let home_index = self.plan.requests as usize + link as usize;
         self.take_home(seat, home_index)
     }
