@@ -87,7 +87,7 @@ impl<O: Out, R: Wait> At<'_, O, R> {
     /// An attempt of a call over the socket with this id: the link is stored in the word of the call's operation before the frame is
     /// started. Where the socket is gone or fails, or each request is taken, that is posted to the call.
     /// bRPC's `Controller::IssueRPC`.
-    pub fn attempt(&self, seat: &mut SockSeat<O>, calls: &mut CallSeat, to: SocketId, msg: Letter)
+    pub(crate) fn attempt(&self, seat: &mut SockSeat<O>, calls: &mut CallSeat, to: SocketId, msg: Letter)
         requires may { MayAct self.now.tables.now.socks.rule.table.shared.table_id self.now.tables.now.socks.rule.plan seat.old }
         requires known { Knows self.now.tables.now.socks.rule.plan seat.old.me.0 to.0 }
         requires room { HasRoom seat.old.me.0 }

@@ -12,5 +12,4 @@ mod tables;
 pub use at::At;
 pub use call_writes::On;
 pub use calling::Called;
-pub use letters::letter_of;
 pub use tables::Tables;

@@ -73,7 +73,7 @@ impl<O: Out, R: Wait> At<'_, O, R> {
     /// A retry that waited: its id is locked for as long as the frame of its attempt is made, which goes out then. Where the call has
     /// ended nothing is done; where another error waited for the lock, that one is handled and the retry is spent. Where there is no
     /// memory for the frame, the call ends by that.
-    pub fn retry_one(
+    fn retry_one(
         &self,
         seat: &mut SockSeat<O>,
         calls: &mut CallSeat,

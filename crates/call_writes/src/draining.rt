@@ -37,7 +37,7 @@ fn tell_dropped<R: Wait>(
 
 impl<O: Out, R: Wait> On<'_, O, R> {
     /// Writes until the head is empty. The call of each message that is dropped is told at once.
-    pub fn drain(
+    pub(crate) fn drain(
         &self,
         seat: &mut SockSeat<O>,
         calls: &mut CallSeat,
