@@ -1,7 +1,7 @@
 use Rattle.std.proofs.Common.{◌≡◌, ℕ, ◌+◌, ◌≤◌, List, ◌++◌, length, ◌∙◌, ap, sym, subst, rules}
 use Rattle.pb_wire.specs.brpc_model.specs.Spelling.{spelled_int, number_field, where_not_empty}
 use Rattle.rpc_meta.proofs.Appending.{joined, room_for, room_behind}
-use Rattle.rpc_meta.proofs.fields.ResponseMetaInner.spell_fields.Goals as goal
+use Rattle.rpc_meta.proofs.fields.ResponseMetaMetaPart.spell_fields.Goals as goal
 
 pub spell_number-requires : goal.spell_number-requires
 spell_number-requires c =

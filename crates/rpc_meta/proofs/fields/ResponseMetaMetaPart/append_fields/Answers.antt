@@ -2,7 +2,7 @@ use Rattle.std.proofs.Common.{◌≡◌, ℕ, List, ◌++◌, ◌∙◌, ap, sub
 use Rattle.pb_wire.specs.brpc_model.specs.Spelling.{spelled_int, number_field, where_not_empty}
 use Rattle.rpc_meta.specs.Writing.{Appends}
 use Rattle.rpc_meta.proofs.Appending.{behind}
-use Rattle.rpc_meta.proofs.fields.ResponseMetaInner.append_fields.Goals as goal
+use Rattle.rpc_meta.proofs.fields.ResponseMetaMetaPart.append_fields.Goals as goal
 
 pub returns-clause-written : goal.returns-clause-written
 returns-clause-written c =

@@ -2,7 +2,7 @@ use Rattle.std.proofs.lemmas.Result.{err_from_is_err_and}
 use Rattle.std.proofs.Common.{◌++◌}
 use Rattle.pb_wire.specs.brpc_model.specs.Spelling.{bytes_field}
 use Rattle.rpc_meta.proofs.Appending.{kept, joined}
-use Rattle.rpc_meta.proofs.fields.RequestMetaInner.append_fields.Goals as goal
+use Rattle.rpc_meta.proofs.fields.RequestMetaMetaPart.append_fields.Goals as goal
 
 pub returns-in_err-append_bytes-2-clause-written : goal.returns-in_err-append_bytes-2-clause-written
 returns-in_err-append_bytes-2-clause-written c =
