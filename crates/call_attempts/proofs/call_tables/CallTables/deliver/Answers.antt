@@ -11,7 +11,7 @@ use Rattle.call_errors.specs.Books.{stand_of}
 use Rattle.call_writes.specs.Sending.{SeenCalling}
 use Rattle.call_attempts.specs.Attempting.{PostedOf, code_for, went_out, came_back}
 use Rattle.call_attempts.proofs.Leaving.{message_is, reference_is}
-use Rattle.call_attempts.proofs.at.At.deliver.Goals as goal
+use Rattle.call_attempts.proofs.call_tables.CallTables.deliver.Goals as goal
 
 pub start-requires-clause-may : goal.start-requires-clause-may
 start-requires-clause-may g c = record { between = c.requires.idle.between; claims = c.requires.idle.claims; loose = c.requires.idle.loose; room = c.requires.room }

@@ -5,7 +5,7 @@ use Rattle.call_errors.proofs.Keeping.{keeps_none}
 use Rattle.call_attempts.specs.Both.{both}
 use Rattle.call_attempts.specs.Retrying.{stray, unopened, to_socket}
 use Rattle.call_attempts.proofs.Leaving.{found_keeps, keeps_leaves, own_after, own_keeps, none_keeps, rested_still, rested_found, rested_then}
-use Rattle.call_attempts.proofs.at.At.go_to.Goals as goal
+use Rattle.call_attempts.proofs.call_tables.CallTables.go_to.Goals as goal
 
 pub attempt-requires : goal.attempt-requires
 attempt-requires g c = let z = c.args.self.now.tables.now.socks.rule.table.shared.table_id in let p = c.args.self.now.tables.now.socks.rule.plan in let e = c.find.ensures in let k = found_keeps p c.args.name c.find.result c.args.seat.now.me.0 c.find.new.seat.me.0 e.found in let has = c.is_stray.ensures.at_home c.if-is_stray.false in record {

@@ -2,7 +2,7 @@ use Rattle.call_errors.specs.rpc_client.specs.Acting.{OwnList}
 use Rattle.call_writes.specs.Sending.{Rested}
 use Rattle.call_attempts.specs.Both.{both}
 use Rattle.call_attempts.specs.Retrying.{Retried}
-use Rattle.call_attempts.proofs.at.At.retry_all.Given as goal
+use Rattle.call_attempts.proofs.call_tables.CallTables.retry_all.Given as goal
 
 abbrev pub invariant-retries : goal.invariant-retries
 invariant-retries g l = record {

@@ -5,7 +5,7 @@ use Rattle.call_errors.proofs.Keeping.{keeps_none}
 use Rattle.call_attempts.specs.Both.{both}
 use Rattle.call_attempts.specs.Retrying.{none_yet, RanOut}
 use Rattle.call_attempts.proofs.Leaving.{err_by, rested_still, rested_same, rested_then, keeps_same, own_room, none_taken, one_taken, ends_fed, made_one, gave_out, wanting_before}
-use Rattle.call_attempts.proofs.at.At.retry_all.Goals as goal
+use Rattle.call_attempts.proofs.call_tables.CallTables.retry_all.Goals as goal
 
 pub retries-init : goal.retries-init
 retries-init g c = let y = c.args.self.now.tables.now.ids.table.shared.table_id in record {

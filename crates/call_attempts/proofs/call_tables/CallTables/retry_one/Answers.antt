@@ -13,7 +13,7 @@ use Rattle.call_attempts.specs.Retrying.{WentTo, had_ended, overtaken, went_agai
 use Rattle.call_attempts.proofs.Locking.{id_short, version_low, locked_but, let_go_free, next_locks, next_but}
 use Rattle.call_attempts.proofs.Leaving.{own_after, keeps_leaves, none_keeps, not_ok, both_err, rested_still}
 use Rattle.call_attempts.proofs.Framing.{letter_is}
-use Rattle.call_attempts.proofs.at.At.retry_one.Goals as goal
+use Rattle.call_attempts.proofs.call_tables.CallTables.retry_one.Goals as goal
 
 pub new-requires : goal.new-requires
 new-requires g c = id_short c.args.retry.id c.args.retry.attempt (omega (arith, c.in-Ok.ensures.inside, c.in-Ok.ensures.locked.0)) (omega arith)

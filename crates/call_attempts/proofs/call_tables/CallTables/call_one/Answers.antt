@@ -16,7 +16,7 @@ use Rattle.call_attempts.specs.Calling.{WantedBy, before_id, behind_id}
 use Rattle.call_attempts.proofs.Leaving.{err_by, found_keeps, keeps_leaves, own_after, own_keeps, not_ok, not_named, rested_found, rested_then}
 use Rattle.call_attempts.proofs.Locking.{id_some, id_short, noted_free}
 use Rattle.call_attempts.proofs.Framing.{letter_is}
-use Rattle.call_attempts.proofs.at.At.call_one.Goals as goal
+use Rattle.call_attempts.proofs.call_tables.CallTables.call_one.Goals as goal
 
 pub create-requires-clause-range : goal.create-requires-clause-range
 create-requires-clause-range g c = subst (λ (a : Asked). (2 ≤ a.range) × (a.range ≤ 8)) (sym c.call.view_is) (c.name.ensures.limits.some_range, c.name.ensures.limits.few_versions)

@@ -3,7 +3,7 @@ use Rattle.sock_table.specs.Answers.{is_freed}
 use Rattle.call_errors.specs.rpc_client.proofs.Finding.{rest_became}
 use Rattle.call_attempts.specs.Both.{both}
 use Rattle.call_attempts.proofs.Leaving.{refused_failed, refused_full}
-use Rattle.call_attempts.proofs.at.At.refuse_frame.Goals as goal
+use Rattle.call_attempts.proofs.call_tables.CallTables.refuse_frame.Goals as goal
 
 pub returns-in-Failed-clause-rest : goal.returns-in-Failed-clause-rest
 returns-in-Failed-clause-rest g c = rest_became c.args.self.now.tables.now.socks.rule.table.shared.table_id c.args.self.now.tables.now.socks.rule.plan (socket_id_slot c.in-Failed.sock.id.0) c.args.seat.now c.release.new.seat _ _ c.requires.idle c.release.ensures.seat c.release.ensures.slots c.release.ensures.between c.release.ensures.back.became

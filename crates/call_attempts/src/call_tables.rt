@@ -2,9 +2,9 @@ use crate::tables::Tables;
 use sock_io::Out;
 use std::sync::Wait;
 
-/// At which tables a client acts, and what it waits by.
+/// The tables at which a client acts, and what it waits by.
 #[derive(Drop)]
-pub struct At<'a, O: Out, R: Wait> {
+pub struct CallTables<'a, O: Out, R: Wait> {
     pub rt: &'a R,
     pub tables: &'a Tables<O>,
 }

@@ -11,7 +11,7 @@ use Rattle.call_errors.proofs.Keeping.{stays_then}
 use Rattle.call_attempts.specs.Both.{both}
 use Rattle.call_attempts.specs.Attempting.{DeliveredBy, nowhere, over_link}
 use Rattle.call_attempts.proofs.Leaving.{kept_free, own_after, link_keeps, few_still, attempted_leaves}
-use Rattle.call_attempts.proofs.at.At.attempt.Goals as goal
+use Rattle.call_attempts.proofs.call_tables.CallTables.attempt.Goals as goal
 
 pub address-requires-clause-may : goal.address-requires-clause-may
 address-requires-clause-may g c = record { inside = c.requires.known.inside; known = c.requires.known.known; room = c.requires.may.room (socket_id_slot c.args.to.0) c.requires.known.inside }
