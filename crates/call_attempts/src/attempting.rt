@@ -17,7 +17,7 @@ ghost use Rattle.call_attempts.specs.Attempting.{RefusedFor, DeliveredBy, Attemp
 
 use crate::call_tables::CallTables;
 use call_errors::{CallSeat, post_error};
-use call_writes::On;
+use call_writes::SharedTables;
 use sock_io::Out;
 use sock_rule::{Letter, SockSeat};
 use sock_table::SockRef;
@@ -73,7 +73,7 @@ impl<O: Out, R: Wait> CallTables<'_, O, R> {
     {
         match start(&self.tables.socks, seat, sock, msg) {
             Ok(started) => {
-                let on = On {
+                let on = SharedTables {
                     rt: self.rt,
                     socks: &self.tables.socks,
                     ids: &self.tables.ids,

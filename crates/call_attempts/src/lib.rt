@@ -10,6 +10,6 @@ mod retrying;
 mod tables;
 
 pub use call_tables::CallTables;
-pub use call_writes::On;
+pub use call_writes::SharedTables;
 pub use calling::Called;
 pub use tables::Tables;

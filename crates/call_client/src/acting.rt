@@ -12,7 +12,7 @@ ghost use Rattle.call_client.specs.Running.{NotCalled};
 ghost use Rattle.call_client.specs.Making.{NotMade};
 
 use crate::caller::Caller;
-use call_attempts::{CallTables, Called, On, Tables};
+use call_attempts::{CallTables, Called, SharedTables, Tables};
 use call_errors::{Ask, ask_one};
 use message_parts::Parcel;
 use rpc_client::{drop_one, fail_one, hold_one, open_one};
@@ -79,7 +79,7 @@ fn send_message<O: Out, R: Wait>(
     ensures others { (caller.new.held ≡ caller.old.held) × (caller.new.passes ≡ caller.old.passes) × (caller.new.outcomes ≡ caller.old.outcomes) }
 {
     caller.sent += 1;
-    let on = On {
+    let on = SharedTables {
         rt: at.rt,
         socks: &at.tables.socks,
         ids: &at.tables.ids,

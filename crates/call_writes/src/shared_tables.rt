@@ -4,9 +4,9 @@ use sock_message::Call;
 use sock_table::SockTable;
 use std::sync::Wait;
 
-/// Where threads act: what they wait by, and the tables that they share, of sockets and of the ids of calls.
+/// The tables that threads share, of sockets and of the ids of calls, and what they wait by.
 #[derive(Drop)]
-pub struct On<'a, O: Out, R: Wait> {
+pub struct SharedTables<'a, O: Out, R: Wait> {
     pub rt: &'a R,
     pub socks: &'a SockTable<O>,
     pub ids: &'a IdTable<Call>,

@@ -1,7 +1,7 @@
 use Rattle.write_chain.specs.Keeping.{StillWrites}
 use Rattle.call_errors.specs.Books.{stand_of, KeepsSeat}
 use Rattle.call_writes.specs.Draining.{DroppedAll}
-use Rattle.call_writes.proofs.on.On.drain.Given as goal
+use Rattle.call_writes.proofs.shared_tables.SharedTables.drain.Given as goal
 
 abbrev pub invariant-drops : goal.invariant-drops
 invariant-drops g l = record {

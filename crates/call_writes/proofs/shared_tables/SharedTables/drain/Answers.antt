@@ -5,7 +5,7 @@ use Rattle.write_chain.specs.Keeping.{KeptBy, KeptWriting}
 use Rattle.call_errors.specs.Books.{stand_of}
 use Rattle.call_errors.proofs.Keeping.{keeps_none, keeps_then}
 use Rattle.call_writes.specs.Draining.{none, one_more}
-use Rattle.call_writes.proofs.on.On.drain.Goals as goal
+use Rattle.call_writes.proofs.shared_tables.SharedTables.drain.Goals as goal
 
 pub drops-init : goal.drops-init
 drops-init g c = record { can_go = tt; is_finite = tt; still = record { seat = c.requires.seat; same = refl; may = c.requires.may }; keeps = keeps_none c.args.self.now.ids.now.table.shared.table_id c.args.calls.now c.requires.ids; dropped = none }

@@ -9,7 +9,7 @@ use Rattle.call_errors.specs.Books.{stand_of}
 use Rattle.call_errors.proofs.Keeping.{keeps_none}
 use Rattle.call_writes.specs.Sending.{SeenCalling}
 use Rattle.call_writes.proofs.Delivering.{came_back_calling, rested_sent, sent_calling}
-use Rattle.call_writes.proofs.on.On.send.Goals as goal
+use Rattle.call_writes.proofs.shared_tables.SharedTables.send.Goals as goal
 
 -- ## With a reference
 
