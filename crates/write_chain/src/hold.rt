@@ -15,7 +15,7 @@ ghost use Rattle.sock_rule.specs.Holding.{Rights, MayFreeRequest};
 ghost use Rattle.write_chain.specs.Noting.{Faulted, Wrote};
 ghost use Rattle.write_chain.specs.Writing.{MayBegin, MayGoOn, Stands, HasLink, HasInHand, HasPart, IsClean, HasWhole, FoundDead, GoesBy, IsLast, OnceBy, TriedBy, TriedFaults, IsDead, IsKeep};
 
-use crate::right::{Chain, Doing, InHand, LinkInHand, WriteRight};
+use crate::right::{Doing, HeldChain, InHand, LinkInHand, WriteRight};
 use sock_io::{Out, Put};
 use sock_rule::{Letter, SockSeat};
 use sock_table::{SockRef, SockTable};
@@ -67,7 +67,7 @@ pub fn give_request_back<O: Out>(table: &SockTable<O>, seat: &mut SockSeat<O>, n
     }
 }
 
-impl<O: Out> Chain<'_, O> {
+impl<O: Out> HeldChain<'_, O> {
     /// The link that the seat may write comes into hand. Where its half has faults the seat notes that.
     pub fn fetch_link(&self, seat: &mut SockSeat<O>, link: u16) -> LinkInHand<O>
         requires seat { IsSeat self.now.table.now.rule.table.shared.table_id self.now.table.now.rule.plan seat.old }
@@ -156,7 +156,7 @@ impl<O: Out> Chain<'_, O> {
         ensures once { OnceBy self.entry.table.now.rule.plan self.entry.table.now.rule.ways.list self.entry.sock result seat.new.me }
         ensures others { seat.new.me.0 ≡ record seat.old.me.0 { rights = seat.new.me.0.rights } }
     {
-        let Chain { table, sock, last } = self;
+        let HeldChain { table, sock, last } = self;
         let LinkInHand { link: number, home } = link;
         let slot = slot_at(table, &sock);
         table.rule.put_own_link(seat, number, home);
@@ -312,11 +312,11 @@ pub fn write_once<O: Out>(
         last,
         doing: _,
     } = right;
-    let chain = Chain { table, sock, last };
+    let chain = HeldChain { table, sock, last };
     let hand = chain.take_up(seat);
     match chain.try_put(seat, hand) {
         Tried::Dead(hand) => {
-            let Chain {
+            let HeldChain {
                 table: _,
                 sock,
                 last,
@@ -329,7 +329,7 @@ pub fn write_once<O: Out>(
             chain.leave_last(seat, doing)
         }
         Tried::Goes(doing) => {
-            let Chain {
+            let HeldChain {
                 table: _,
                 sock,
                 last,
