@@ -1,4 +1,4 @@
-ghost use Rattle.std.specs.Prelude.{◌≡◌, ◌<◌, ◌++◌, IfOk, OnErr, OnOk, length};
+ghost use Rattle.std.specs.Prelude.{◌≡◌, ◌<◌, ◌++◌, [], Ok, IfOk, OnErr, OnOk, length};
 ghost use Rattle.sock_io.specs.Giving.{before_bytes, bytes_and_end, give_in, given_half, still_to_come, with_bytes, with_closing};
 ghost use Rattle.sock_io.specs.Memory.{TakesWaiting};
 
@@ -45,9 +45,12 @@ impl GiveIn {
     pub(crate) fn hand(&mut self, due: bool, bytes: &[u8]) -> Result<(), NoMemory>
         ensures ok { OnOk result (self.new ≡ with_bytes due bytes.now self.old) }
         ensures err { OnErr result (self.new ≡ self.old) }
+        ensures nothing { bytes.now ≡ [] → result ≡ Ok tt }
     {
         if self.waits && due && self.inner.is_open() {
-            self.inner.give(bytes)?;
+            if !bytes.is_empty() {
+                self.inner.give(bytes)?;
+            }
             self.waits = false;
         }
         Ok(())
