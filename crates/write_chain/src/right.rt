@@ -65,7 +65,7 @@ pub enum Doing<O: Out> {
 }
 
 /// What whoever has the right goes by: the table, the socket that is written, whose reference it holds, and the last ticket.
-pub struct Chain<'a, O: Out> {
+pub struct HeldChain<'a, O: Out> {
     pub table: &'a SockTable<O>,
     pub sock: SockRef,
     pub last: Ticket,
