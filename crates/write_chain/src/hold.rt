@@ -315,26 +315,11 @@ pub fn write_once<O: Out>(
     let chain = HeldChain { table, sock, last };
     let hand = chain.take_up(seat);
     match chain.try_put(seat, hand) {
-        Tried::Dead(hand) => {
-            let HeldChain {
-                table: _,
-                sock,
-                last,
-            } = chain;
-            let doing = Doing::Puts(hand);
-            Once::Keep(WriteRight { sock, last, doing })
-        }
+        Tried::Dead(hand) => Once::Keep(chain.with(Doing::Puts(hand))),
         Tried::Whole(hand) => {
             let doing = chain.place(seat, hand);
             chain.leave_last(seat, doing)
         }
-        Tried::Goes(doing) => {
-            let HeldChain {
-                table: _,
-                sock,
-                last,
-            } = chain;
-            Once::Keep(WriteRight { sock, last, doing })
-        }
+        Tried::Goes(doing) => Once::Keep(chain.with(doing)),
     }
 }

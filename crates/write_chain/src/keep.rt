@@ -163,30 +163,13 @@ impl<O: Out> HeldChain<'_, O> {
         match self.try_put(seat, hand) {
             Tried::Dead(hand) => {
                 let (doing, msg, code) = self.drop_one(seat, hand);
-                let HeldChain {
-                    table: _,
-                    sock,
-                    last,
-                } = self;
-                Went::Dropped(WriteRight { sock, last, doing }, msg, code)
+                Went::Dropped(self.with(doing), msg, code)
             }
             Tried::Whole(hand) => {
                 let doing = self.place(seat, hand);
-                let HeldChain {
-                    table: _,
-                    sock,
-                    last,
-                } = self;
-                Went::Further(WriteRight { sock, last, doing })
+                Went::Further(self.with(doing))
             }
-            Tried::Goes(doing) => {
-                let HeldChain {
-                    table: _,
-                    sock,
-                    last,
-                } = self;
-                Went::Further(WriteRight { sock, last, doing })
-            }
+            Tried::Goes(doing) => Went::Further(self.with(doing)),
         }
     }
 
@@ -219,38 +202,23 @@ impl<O: Out> HeldChain<'_, O> {
             Doing::Puts(hand) => self.put_or_drop(seat, hand),
             Doing::Waits(hand) => {
                 let doing = self.ask(seat, hand, backoff);
-                let HeldChain {
-                    table: _,
-                    sock,
-                    last,
-                } = self;
-                Went::Further(WriteRight { sock, last, doing })
+                Went::Further(self.with(doing))
             }
             Doing::Next(link, now) => {
                 let hand = self.take_next(seat, link, now);
-                let HeldChain {
-                    table: _,
-                    sock,
-                    last,
-                } = self;
                 let doing = Doing::Puts(hand);
-                Went::Further(WriteRight { sock, last, doing })
+                Went::Further(self.with(doing))
             }
             Doing::Last(link) => self.try_head(seat, link),
             Doing::Walks(number, top) => {
                 let link = self.fetch_link(seat, number);
-                let HeldChain {
-                    table: _,
-                    sock,
-                    last,
-                } = self;
                 let doing = Doing::Back(Walk {
                     link,
                     top,
                     at: top,
                     after: 0,
                 });
-                Went::Further(WriteRight { sock, last, doing })
+                Went::Further(self.with(doing))
             }
             Doing::Back(walk) => Went::Further(self.walk_back(seat, walk, backoff)),
         }

@@ -1,4 +1,4 @@
-ghost use Rattle.std.specs.Prelude.{◌≤◌};
+ghost use Rattle.std.specs.Prelude.{◌≡◌, ◌≤◌};
 
 use message_parts::OutgoingParcel;
 use sock_io::Out;
@@ -76,4 +76,18 @@ pub struct WriteRight<O: Out> {
     pub sock: SockRef,
     pub last: Ticket,
     pub doing: Doing<O>,
+}
+
+impl<O: Out> HeldChain<'_, O> {
+    /// The right to go on by this.
+    pub fn with(self, doing: Doing<O>) -> WriteRight<O>
+        ensures { result ≡ record { sock = self.entry.sock; last = self.entry.last; doing = doing } }
+    {
+        let HeldChain {
+            table: _,
+            sock,
+            last,
+        } = self;
+        WriteRight { sock, last, doing }
+    }
 }
