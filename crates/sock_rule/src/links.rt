@@ -1,6 +1,6 @@
 // L1 and L2 of links that nobody has a right to write. While such a link is in hand, the seat notes where its half has faults. A link comes out of its home by an
 // exchange of 0 for 0, which takes the slot's turn and is told the ways of the links, and a plain move, and goes back by a plain move and a load that gives the turn back.
-ghost use Rattle.std.specs.Prelude.{◌≡◌, ◌+◌, [], ◌∷◌};
+ghost use Rattle.std.specs.Prelude.{◌≡◌, ◌+◌, ◌<◌, [], ◌∷◌};
 ghost use Rattle.atomic_table.specs.Table.{rest};
 ghost use Rattle.sock_model.specs.Weights.{is_recycled, is_met};
 ghost use Rattle.sock_model.specs.SlotRows.{marks_of};
