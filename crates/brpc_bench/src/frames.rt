@@ -1,4 +1,5 @@
-ghost use Rattle.std.specs.Prelude.{◌≡◌, ◌≤◌, pos, length, IfOk};
+ghost use Rattle.std.specs.Prelude.{◌≡◌, ◌+◌, ◌≤◌, pos, [], length, IfOk};
+ghost use Rattle.brpc_model.specs.Frame.{body_limit};
 ghost use Rattle.brpc_model.specs.Spelling.{meta_bytes};
 ghost use Rattle.rpc_meta.specs.Meaning.{meaning};
 ghost use Rattle.rpc_meta.specs.Writing.{HasPart};
@@ -45,6 +46,24 @@ fn payload(alloc: Global, pool: &mut BlockPool, size: usize) -> Result<IoBuf, No
     Ok(buf)
 }
 
+/// Encodes a frame and gives it back: how many bytes it had.
+fn encode_one(
+    alloc: Global,
+    pool: &mut BlockPool,
+    meta: &RpcMeta,
+    payload: &IoBuf,
+    attachment: &IoBuf,
+) -> Result<u64, NoMemory>
+    requires sized { meta.now.attachment_size ≡ pos (length attachment.now.items) }
+    requires part { HasPart (meaning meta.now) }
+    requires small { length (meta_bytes (meaning meta.now)) + length payload.now.items + length attachment.now.items ≤ body_limit }
+{
+    let frame = encode(alloc, pool, meta, payload, attachment)?;
+    let size = frame.len() as u64;
+    frame.recycle(pool);
+    Ok(size)
+}
+
 /// Encodes so many frames with payloads of so many bytes, and gives each back.
 pub fn encode_all(alloc: Global, size: u32, count: u32) -> Result<u64, NoMemory> {
     let mut pool = BlockPool::new(alloc);
@@ -53,9 +72,8 @@ pub fn encode_all(alloc: Global, size: u32, count: u32) -> Result<u64, NoMemory>
     let attachment = IoBuf::new(alloc);
     let mut sum = 0u64;
     for _ in 0..count {
-        let frame = encode(alloc, &mut pool, &meta, &payload, &attachment)?;
-        sum = sum.wrapping_add(frame.len() as u64);
-        frame.recycle(&mut pool);
+        let size = encode_one(alloc, &mut pool, &meta, &payload, &attachment)?;
+        sum = sum.wrapping_add(size);
     }
     Ok(sum)
 }

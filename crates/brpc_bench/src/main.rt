@@ -1,75 +1,38 @@
-//! Loops that are timed from outside. Each argument is a row, whose first word names a loop and the others its sizes; for each it
-//! prints a line. The loops are over the library layer (`encode`, `cut`, `buffer`, `malloc`, `read`, `print`), and over tables, links
-//! and rings that threads share (`chain`, `ring`, `table`, `ids`).
+//! Loops over the library layer, to be timed from outside: `encode`, `cut`, `buffer` or `malloc`, the bytes of a message,
+//! and how often; `read` or `print`, the sends of each of 31 clients, and how often. It prints how many bytes went through.
 #![tactic(auto)]
 
 mod buffers;
-mod chain;
-mod crew;
 mod frames;
-mod ids;
-mod layer;
 mod memory;
-mod out;
-mod pairs;
-mod request;
-mod ring;
-mod rings;
-mod row;
 mod scripts;
-mod sending;
-mod taken;
 
-use crate::chain::tell_chain;
-use crate::layer::tell_layer;
-use crate::rings::tell_rings;
-use crate::row::{number, tell_row, word};
+use bench_rows::{number, tell_row, word};
+use io_buf::NoMemory;
 use std::alloc::Global;
+use std::io;
 use std::process::ExitCode;
-use std::sync::Wait;
-use std::thread::Threads;
-use std::time::Clock;
-use std::{env, io};
 
-/// `address` with `release` of one id, by 1, 2 or 4 threads that share a table: THREADS COUNT. So many pairs by each; it prints how
-/// many references were got.
-fn tell_pairs<R: Threads + Sync + Alloc<A = Global> + Print>(rt: &R, row: &str) -> io::Result<u8> {
-    let (threads, count) = (number(row, 1), number(row, 2));
-    let got = pairs::on_threads(rt, rt.alloc(), threads, count);
-    tell_row(rt, &[threads, count], got, "pairs")
-}
-
-/// Call ids that are made, locked and ended by 1 to 64 threads that share a table: THREADS COUNT. So many by each; it prints how
-/// many did.
-fn tell_ids<R: Threads + Wait + Sync + Alloc<A = Global> + Print>(
-    rt: &R,
-    row: &str,
-) -> io::Result<u8> {
-    let (threads, count) = (number(row, 1), number(row, 2));
-    let done = ids::on_threads(rt, rt.alloc(), threads, count);
-    tell_row(rt, &[threads, count], done, "ids")
-}
-
-/// Runs the loop of a row, and tells what came of it.
-fn tell<R: Threads + Wait + Clock + Sync + Alloc<A = Global> + Print>(
-    rt: &R,
-    row: &str,
-) -> io::Result<u8> {
-    match word(row, 0) {
-        "chain" => tell_chain(rt, row),
-        "ring" => tell_rings(rt, row),
-        "table" => tell_pairs(rt, row),
-        "ids" => tell_ids(rt, row),
-        _ => tell_layer(rt, row),
+/// Runs the loop of this name; how many bytes went through.
+fn run(alloc: Global, name: &str, size: u32, count: u32) -> Result<u64, NoMemory> {
+    match name {
+        "encode" => frames::encode_all(alloc, size, count),
+        "cut" => frames::cut_all(alloc, size, count),
+        "malloc" => memory::take_all(alloc, size, count),
+        "read" => scripts::read_all(alloc, size, count),
+        "print" => scripts::print_all(alloc, size, count),
+        _ => buffers::pass_all(alloc, size, count),
     }
 }
 
 fn main(rt: HostRuntime) -> io::Result<ExitCode> {
-    for row in env::args(&rt)?.skip(1) {
-        let status = tell(&rt, row.as_str())?;
-        if status != 0 {
-            return Ok(ExitCode::from(status));
-        }
+    let (size, count) = (number(&rt, 1), number(&rt, 2));
+    let Some(name) = word(&rt, 0) else {
+        return Ok(ExitCode::from(2));
+    };
+    let bytes = run(rt.alloc(), &name, size, count).ok();
+    if bytes.is_some() {
+        print!(rt; "{name} ")?;
     }
-    Ok(ExitCode::from(0))
+    tell_row(&rt, &[size, count], bytes, "bytes")
 }

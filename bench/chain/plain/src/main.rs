@@ -2,7 +2,7 @@
 //! `mutex`: a `Mutex<VecDeque>`; who finds nobody writing writes, until the queue is empty. `mpsc`: a thread writes what comes over
 //! std's channel. `chain`: the steps of the write chain on bare words, as `write_chain` makes them: an exchange of the head, the link
 //! to the request before, one put, and the walk over what came in the meantime.
-//! A put takes all of a message, and so many turns of a loop as take PUT_NANOS nanoseconds, as in brpc_bench. With `latency` it prints
+//! A put takes all of a message, and so many turns of a loop as take PUT_NANOS nanoseconds, as in chain_bench. With `latency` it prints
 //! how long sends took, at p50, p99 and p99.9.
 use std::cell::UnsafeCell;
 use std::collections::VecDeque;

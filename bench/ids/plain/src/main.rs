@@ -1,4 +1,4 @@
-//! What the rows `ids` of `brpc_bench` do, as one writes it in Rust with std alone: so many ids by each thread are made, locked and ended.
+//! What `id_bench` does, as one writes it in Rust with std alone: so many ids by each thread are made, locked and ended.
 //! `steps` takes the same steps on the same words; `mutex` has a `Mutex` for each slot and one for the list of the free
 //! slots, as bRPC's bthread_id has a lock in each id and a pool of them.
 use std::cell::UnsafeCell;

@@ -1,4 +1,4 @@
-//! What the rows `ring` of `brpc_bench` do, as one writes it in Rust with std alone: WAY bytes|calls SIZE COUNT LINKS. Bytes go from one thread to
+//! What `ring_bench` does, as one writes it in Rust with std alone: WAY bytes|calls SIZE COUNT LINKS. Bytes go from one thread to
 //! another through room for 65,536 of them, and are taken 1,024 at a time. The way `ring` has two atomic indexes, of which each end
 //! keeps what it last saw; `mutex` has a `Mutex<VecDeque<u8>>`. `calls` has one of them there and one back, with a server of the
 //! frames of bench/plain between.

@@ -1,4 +1,4 @@
-//! What the rows `table` of `brpc_bench` do, as one writes it in Rust with std alone, so many times by each thread:
+//! What `table_bench` does, as one writes it in Rust with std alone, so many times by each thread:
 //! `table` the same steps on the same words, `add` a bare `fetch_add` with `fetch_sub`, `arc` an `Arc` cloned and dropped.
 use std::hint::black_box;
 use std::sync::atomic::{AtomicU64, Ordering::SeqCst};

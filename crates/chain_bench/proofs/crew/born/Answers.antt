@@ -1,0 +1,23 @@
+use Rattle.std.proofs.Common.{subst, Some}
+use Rattle.sock_open.specs.Made.{PassesFrom}
+use Rattle.sock_open.proofs.Racing.{pass_popped}
+use Rattle.sock_open.proofs.Testing.{done_between}
+use Rattle.write_chain.proofs.Testing.{kept_free, stored_ready}
+use Rattle.chain_bench.proofs.crew.born.Goals as goal
+
+pub create-requires-clause-seat : goal.create-requires-clause-seat
+create-requires-clause-seat c = c.requires.seat.done.seat
+
+pub create-requires-clause-between : goal.create-requires-clause-between
+create-requires-clause-between c = done_between c.args.table.now.rule.table.shared.table_id c.args.table.now.rule.plan c.args.seat c.requires.seat.done
+
+pub create-requires-clause-pass : goal.create-requires-clause-pass
+create-requires-clause-pass c = let z = c.args.table.now.rule.table.shared.table_id in let p = c.args.table.now.rule.plan in (pass_popped z p 0 c.pop.new.self.items (Some c.in_ok-pass.pass) (subst (PassesFrom z p 0) c.in_ok-pass.ensures.items c.requires.passes)).1
+
+pub publish-requires-clause-known : goal.publish-requires-clause-known
+publish-requires-clause-known c = record { inside = c.in-Ok.ensures.made.0; known = c.in-Ok.ensures.made.1 }
+
+pub returns : goal.returns
+returns c = let z = c.args.table.now.rule.table.shared.table_id in let p = c.args.table.now.rule.plan in
+    let r = stored_ready z p _ _ c.in-Ok.id.0 c.create.new.seat c.publish.new.seat (kept_free z p c.args.seat c.create.new.seat c.requires.seat c.create.ensures.seat c.create.ensures.slots c.create.ensures.between c.create.ensures.same)
+    record { inside = c.in-Ok.ensures.made.0; known = c.in-Ok.ensures.made.1 } c.publish.ensures.seat c.publish.ensures.published c.publish.ensures.between c.publish.ensures.same in (r.done, r.share)

@@ -1,0 +1,12 @@
+use Rattle.std.proofs.Common.{◌≡◌, ◌*◌, ◌<◌}
+use Rattle.chain_bench.specs.Senders.{IsHolding}
+use Rattle.chain_bench.proofs.sending.hand_in.Given as goal
+
+abbrev pub invariant-tries : goal.invariant-tries
+invariant-tries g l = record {
+  can_go : (goal.iterator-tries g).can_next l.iterator';
+  is_finite : (goal.iterator-tries g).is_finite l.iterator';
+  holding : IsHolding l.table.rule.table.shared.table_id l.table.rule.plan l.sock.id.0 l.seat;
+  lists : l.seat.me.0.lists ≡ l.fn.seat.me.0.lists;
+  label : l.msg.label.place < 8 * l.table.rule.plan.operations;
+}

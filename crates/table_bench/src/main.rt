@@ -1,0 +1,15 @@
+//! `address` with `release` of one id, by 1, 2 or 4 threads that share a table: so many pairs by each. It prints how many
+//! references were got.
+#![tactic(auto)]
+
+mod pairs;
+
+use bench_rows::{number, tell_row};
+use std::io;
+use std::process::ExitCode;
+
+fn main(rt: HostRuntime) -> io::Result<ExitCode> {
+    let (threads, count) = (number(&rt, 0), number(&rt, 1));
+    let got = pairs::on_threads(&rt, rt.alloc(), threads, count);
+    tell_row(&rt, &[threads, count], got, "pairs")
+}
