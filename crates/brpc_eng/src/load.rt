@@ -8,8 +8,8 @@ use crate::draw::Draw;
 use crate::run::write_report;
 use crate::status::Status;
 use script_print::generate;
-use script_run::{Load, Print, RunFault, Schedule, run_script};
-use sock_io::{Linker, Sink};
+use script_run::{Load, Print, Schedule, run_script};
+use sock_io::{Linker, OpenFault, Sink};
 use std::alloc::Global;
 
 /// Draws a script, runs it by the schedule that its seed draws, and writes the summary of that run.
@@ -29,7 +29,7 @@ pub fn load<K: Sink, L: Linker>(alloc: Global, draw: &Draw, out: &mut K, links: 
     });
     match run_script(alloc, script, Schedule::Drawn(seed), summary, links) {
         Ok(text) => write_report(out, &text),
-        Err(RunFault::OpenFailed) => Status::OpenFailed,
-        Err(RunFault::NoMemory) => Status::NoMemory,
+        Err(OpenFault::Failed) => Status::OpenFailed,
+        Err(OpenFault::NoMemory) => Status::NoMemory,
     }
 }

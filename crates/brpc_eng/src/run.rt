@@ -10,8 +10,8 @@ ghost use Rattle.brpc_eng.specs.Answers.{OpenedNothing, OpenedBy, Ran, TextWritt
 
 use crate::status::Status;
 use script_items::Script;
-use script_run::{Print, RunFault, Schedule, run_script};
-use sock_io::{Failed, Linker, Sink, write_all};
+use script_run::{Print, Schedule, run_script};
+use sock_io::{Failed, Linker, OpenFault, Sink, write_all};
 use std::alloc::Global;
 
 /// Runs a script, and writes its report.
@@ -31,8 +31,8 @@ pub fn run_and_report<K: Sink, L: Linker>(
 {
     match run_script(alloc, script, schedule, Print::Report, links) {
         Ok(text) => write_report(out, &text),
-        Err(RunFault::OpenFailed) => Status::OpenFailed,
-        Err(RunFault::NoMemory) => Status::NoMemory,
+        Err(OpenFault::Failed) => Status::OpenFailed,
+        Err(OpenFault::NoMemory) => Status::NoMemory,
     }
 }
 

@@ -196,7 +196,3 @@ run_answered script turns start mid end_ (Err e) made played settled = tt
 pub plan_answered : {T E : Type 0} (start mid end_ : MachineState) (r : Result T E) → mid.plan ≡ start.plan → mid.ids.plan ≡ start.ids.plan → OnOk r (Settled mid end_) → OnOk r ((end_.plan ≡ start.plan) × (end_.ids.plan ≡ start.ids.plan))
 plan_answered start mid end_ (Ok x) same same_ids settled = (settled.plan ∙ same, settled.id_plan ∙ same_ids)
 plan_answered start mid end_ (Err e) same same_ids settled = tt
-
-pub ok_all : {T E P : Type 0} (r : Result T E) → P → OnOk r P
-ok_all (Ok text) h = h
-ok_all (Err e) h = tt

@@ -11,6 +11,6 @@ mod run;
 mod schedule;
 
 pub use report::Print;
-pub use run::{RunFault, run_script};
+pub use run::run_script;
 pub use schedule::Schedule;
 pub use script_report::Load;

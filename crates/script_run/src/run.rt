@@ -1,40 +1,27 @@
-ghost use Rattle.std.specs.Prelude.{◌≡◌, ◌≢◌, ◌<◌, ◌≤◌, ℕ, List, Option, Ok, None, true, false, [], map, length, IfOk, IfSome, OnOk, IsOk, IsErrOf};
+ghost use Rattle.std.specs.Prelude.{◌≡◌, ◌≤◌, ℕ, List, Option, Ok, true, false, [], map, length, IfOk, IfSome, OnOk, IsOk, IsErrOf};
 ghost use Rattle.std.specs.List.{list_all, AllByRecursion};
-ghost use Rattle.brpc_model.specs.Link.{LinkEnd};
 ghost use Rattle.brpc_model.specs.Script.{script_of};
 ghost use Rattle.brpc_model.specs.Operations.{link_names, operations};
 ghost use Rattle.brpc_model.specs.PlaceWords.{ArePlaces, HasEachOutcome};
 ghost use Rattle.sock_io.specs.declared.link.Ends.{Ends};
-ghost use Rattle.sock_io.specs.Causes.{Rose};
+ghost use Rattle.sock_io.specs.Causes.{OpenCause};
 ghost use Rattle.sock_io.specs.Link.{end_of};
 ghost use Rattle.sock_words.specs.declared.outcome.Outcome.{Outcome};
-ghost use Rattle.sock_core.specs.Beginnings.{IsMade};
 ghost use Rattle.sock_core.specs.Finish.{told_from};
-ghost use Rattle.sock_core.specs.Linkers.{SaysAsBefore};
-ghost use Rattle.sock_core.specs.Links.{AreAlwaysReady, TellClosing};
-ghost use Rattle.sock_core.specs.Runs.{SameLinks};
 ghost use Rattle.script_links.specs.Given.{AreNumbered, AreUntouched, IsBeginning, has_piece, specs_of};
 ghost use Rattle.script_links.specs.Offered.{AreAsked, TellOffers};
-ghost use Rattle.script_run.specs.Played.{HasRun, IsPrintOf, IsPrinted, TellClosed, turns_of};
+ghost use Rattle.script_run.specs.Played.{IsPrintOf, IsPrinted, TellClosed, turns_of};
 ghost use Rattle.report_fits.specs.Ends.{AreTold};
 
 use crate::outline::Outline;
 use crate::report::{Print, report};
-use crate::schedule::{Schedule, play_schedule};
+use crate::schedule::{Schedule, play};
 use script_items::Script;
 use script_links::{give_back, open_links};
 use sock_core::{Finished, Machine, NotMade, Prepared};
 use sock_io::{Ends, In, Linker, Mode, NoMemory, OpenFault, Out, Peer};
 use sock_words::{Outcome, PlaceWord};
 use std::alloc::Global;
-
-/// Why a script wasn't run.
-#[derive(Clone, Copy, Debug, PartialEq, Eq)]
-pub enum RunFault {
-    /// A link couldn't be opened.
-    OpenFailed,
-    NoMemory,
-}
 
 /// Runs a script by a schedule: the text of its report, or of its summary.
 ///
@@ -46,13 +33,13 @@ pub fn run_script<L: Linker>(
     schedule: Schedule,
     print: Print,
     links: &mut L,
-) -> Result<Vec<u8>, RunFault>
+) -> Result<Vec<u8>, OpenFault>
     requires script { (bytes : List ℕ) × (script_of bytes ≡ Ok script) }
     requires pieces { list_all has_piece script ≡ true }
     requires asked { L.asked links.old ≡ [] }
     requires back { L.back links.old ≡ [] }
     ensures text { IfOk result (λ text. L.always_ready links.old ≡ true → TellClosed L.I.state → IsPrinted (TellOffers L.O.state L.I.state) print script (turns_of script schedule) text.items (L.back links.new)) }
-    ensures unopened { IsErrOf result RunFault.OpenFailed → AreUntouched 0 (L.back links.new) }
+    ensures unopened { IsErrOf result OpenFault.Failed → AreUntouched 0 (L.back links.new) }
     ensures all { OnOk result (length (L.back links.new) ≡ length (link_names script)) }
     // What is asked of the links is what the lines of the script ask, all of it unless one could not be opened.
     ensures asked { OnOk result (L.asked links.new ≡ specs_of Mode.Loop script) }
@@ -60,29 +47,19 @@ pub fn run_script<L: Linker>(
     ensures given_back { length (L.back links.new) ≡ length (L.asked links.new) }
     ensures numbered { AreNumbered 0 (L.back links.new) }
     ensures always_ready { L.always_ready links.new ≡ L.always_ready links.old }
-    ensures later { L.faults links.old ≤ L.faults links.new }
-    ensures failed { IsErrOf result RunFault.OpenFailed → Rose (L.faults links.old) (L.faults links.new) }
-    ensures kept { (¬ IsErrOf result RunFault.OpenFailed) → L.faults links.new ≡ L.faults links.old }
+    ensures cause { OpenCause (L.faults links.old) (L.faults links.new) result }
 {
     let mut ends = Vec::new(alloc);
     let opened = open_links(Mode::Loop, script.lines(), links, &mut ends);
     match opened {
-        Ok(()) => run_over(alloc, script, schedule, print, links, ends),
+        Ok(()) => match run_over(alloc, script, schedule, print, links, ends) {
+            Ok(text) => Ok(text),
+            Err(NoMemory) => Err(OpenFault::NoMemory),
+        },
         Err(fault) => {
             give_back(links, ends);
-            Err(not_opened(fault))
+            Err(fault)
         }
-    }
-}
-
-/// The answer where a link wasn't opened.
-fn not_opened(fault: OpenFault) -> RunFault
-    ensures failed { result ≡ RunFault.OpenFailed → fault ≡ OpenFault.Failed }
-    ensures kept { fault ≡ OpenFault.Failed → result ≡ RunFault.OpenFailed }
-{
-    match fault {
-        OpenFault::Failed => RunFault::OpenFailed,
-        OpenFault::NoMemory => RunFault::NoMemory,
     }
 }
 
@@ -108,7 +85,7 @@ fn run_over<L: Linker>(
     print: Print,
     links: &mut L,
     ends: Vec<Ends<L::O, L::I, L::P>>,
-) -> Result<Vec<u8>, RunFault>
+) -> Result<Vec<u8>, NoMemory>
     requires script { (bytes : List ℕ) × (script_of bytes ≡ Ok script) }
     requires untouched { AreUntouched 0 (map (λ e. end_of (L.O.state e.out) (L.I.state e.inn)) ends.items) }
     requires unfinished { AllByRecursion (λ (e : Ends L.O L.I L.P). (L.O.state e.out).finished ≡ false) ends.items }
@@ -125,58 +102,26 @@ fn run_over<L: Linker>(
     ensures asked { L.asked links.new ≡ L.asked links.old }
     ensures faults { L.faults links.new ≡ L.faults links.old }
     ensures always_ready { L.always_ready links.new ≡ L.always_ready links.old }
-    ensures known { IsErrOf result RunFault.OpenFailed → ⊥ }
 {
     // Behind this its lines aren't there any more.
     let Ok((prepared, outline)) = prepare(alloc, script) else {
         give_back(links, ends);
-        return Err(RunFault::NoMemory);
+        return Err(NoMemory);
     };
-    let machine = match Machine::of(alloc, prepared, ends) {
+    let mut machine = match Machine::of(alloc, prepared, ends) {
         Ok(machine) => machine,
         Err(NotMade { ends: unused }) => {
             give_back(links, unused);
-            return Err(RunFault::NoMemory);
+            return Err(NoMemory);
         }
     };
-    run_on(alloc, outline, schedule, print, links, machine)
-}
-
-/// Runs a script on a machine, and gives its links back.
-fn run_on<L: Linker>(
-    alloc: Global,
-    script: Outline,
-    schedule: Schedule,
-    print: Print,
-    links: &mut L,
-    mut machine: Machine<L::O, L::I, L::P>,
-) -> Result<Vec<u8>, RunFault>
-    requires script { (bytes : List ℕ) × (script_of bytes ≡ Ok script) }
-    requires made { IsMade script machine }
-    requires untouched { AreUntouched 0 machine.ends }
-    requires always_ready { L.always_ready links.old ≡ true → AreAlwaysReady machine.links }
-    requires tell { TellClosed L.I.state → TellClosing machine.links }
-    requires closed { TellClosed L.I.state → AllByRecursion (λ (e : LinkEnd). e.closed ≢ None) machine.ends }
-    requires offers { TellOffers L.O.state L.I.state → AreAsked (specs_of Mode.Loop script) machine.links.outs machine.links.inns }
-    requires all { length machine.ends ≡ length (link_names script) }
-    requires few { length machine.ends ≤ 256 }
-    requires opened { length (L.asked links.old) ≡ length machine.ends }
-    requires back { L.back links.old ≡ [] }
-    ensures text { IfOk result (λ text. L.always_ready links.old ≡ true → TellClosed L.I.state → IsPrinted (TellOffers L.O.state L.I.state) print script (turns_of script schedule) text.items (L.back links.new)) }
-    ensures back { length (L.back links.new) ≡ length machine.ends }
-    ensures numbered { AreNumbered 0 (L.back links.new) }
-    ensures asked { L.asked links.new ≡ L.asked links.old }
-    ensures faults { L.faults links.new ≡ L.faults links.old }
-    ensures always_ready { L.always_ready links.new ≡ L.always_ready links.old }
-    ensures known { IsErrOf result RunFault.OpenFailed → ⊥ }
-{
-    let played = play(&mut machine, links, &script, schedule);
+    let played = play(&mut machine, links, &outline, schedule);
     let Finished {
         outcomes,
         places,
         ends,
     } = machine.finish();
-    let text = report_played(alloc, script, print, played, outcomes, &places, &ends);
+    let text = report_played(alloc, outline, print, played, outcomes, &places, &ends);
     give_back(links, ends);
     text
 }
@@ -190,36 +135,17 @@ fn report_played<O: Out, I: In, P: Peer>(
     outcomes: Vec<(u16, Outcome)>,
     places: &[PlaceWord],
     ends: &[Ends<O, I, P>],
-) -> Result<Vec<u8>, RunFault>
+) -> Result<Vec<u8>, NoMemory>
     requires script { (bytes : List ℕ) × (script_of bytes ≡ Ok script) }
     ensures played { IsOk result → IsOk played }
     ensures text { IfOk result (λ text. (os : List (Option Outcome)) → length os ≡ length (operations script) → outcomes.items ≡ told_from 0 os → ArePlaces places.now → HasEachOutcome places.now os →
         (took : List (List ℕ)) × AreTold (map (λ e. end_of (O.state e.out) (I.state e.inn)) ends.now) took × IsPrintOf print script os places.now took text.items) }
-    ensures known { IsErrOf result RunFault.OpenFailed → ⊥ }
 {
     if played.is_err() {
-        return Err(RunFault::NoMemory);
+        return Err(NoMemory);
     }
     match report(alloc, script, print, outcomes, places, ends) {
         Ok(text) => Ok(text),
-        Err(_) => Err(RunFault::NoMemory),
+        Err(_) => Err(NoMemory),
     }
-}
-
-/// Plays a schedule of a script, and then settles it.
-fn play<L: Linker>(
-    machine: &mut Machine<L::O, L::I, L::P>,
-    links: &mut L,
-    script: &Outline,
-    schedule: Schedule,
-) -> Result<(), NoMemory>
-    requires script { (bytes : List ℕ) × (script_of bytes ≡ Ok script.now) }
-    requires made { IsMade script.now machine.old }
-    ensures run { OnOk result (AreAlwaysReady machine.old.links → HasRun script.now (turns_of script.now schedule) machine.old machine.new) }
-    ensures plan { OnOk result ((machine.new.plan ≡ machine.old.plan) × (machine.new.ids.plan ≡ machine.old.ids.plan)) }
-    ensures ends { SameLinks machine.old machine.new }
-    ensures says { SaysAsBefore L.asked L.accepted L.back L.done L.faults L.always_ready links.old links.new }
-{
-    play_schedule(machine, links, script, schedule)?;
-    machine.settle(links)
 }

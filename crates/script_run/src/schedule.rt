@@ -2,15 +2,15 @@ ghost use Rattle.std.specs.Prelude.{◌≡◌, ◌∷◌, [], ℕ, List, Ok, fal
 ghost use Rattle.brpc_model.specs.Items.{Item};
 ghost use Rattle.brpc_model.specs.Script.{script_of};
 ghost use Rattle.seat_programs.specs.Ticks.{seats_of};
-ghost use Rattle.seat_programs.specs.Runs.{LeadsUpTo, Scheduled};
-ghost use Rattle.seat_programs.specs.Scripts.{drawn_turns};
+ghost use Rattle.seat_programs.specs.Runs.{Scheduled};
 ghost use Rattle.brpc_model.specs.Operations.{seat_number, turn_of, schedule};
 ghost use Rattle.script_items.specs.Meaning.{seat_of};
-ghost use Rattle.sock_words.specs.KindText.{kind_text};
+ghost use Rattle.sock_core.specs.Beginnings.{IsMade};
 ghost use Rattle.sock_core.specs.Linkers.{SaysAsBefore};
+ghost use Rattle.sock_core.specs.Links.{AreAlwaysReady};
 ghost use Rattle.sock_core.specs.Runs.{SameLinks};
 ghost use Rattle.script_run.specs.Outlines.{meant};
-ghost use Rattle.script_run.specs.Played.{IsPlayable, HasPlayed, HasTurns, turns_of};
+ghost use Rattle.script_run.specs.Played.{IsPlayable, HasPlayed, HasRun, HasTurns, turns_of};
 
 use crate::mark::Mark;
 use crate::outline::Outline;
@@ -18,7 +18,6 @@ use script_items::Seat;
 use script_print::DrawnSeats;
 use sock_core::{Machine, Tick};
 use sock_io::{Linker, NoMemory};
-use sock_words::Kind;
 
 /// By which schedule a script is run.
 #[derive(Clone, Copy, Debug, PartialEq, Eq)]
@@ -79,22 +78,6 @@ fn play_ticks<L: Linker>(
     Ok(())
 }
 
-/// Ticks of a seat up to its first step of this kind, or to where it waits or has no step left.
-fn play_until<L: Linker>(
-    machine: &mut Machine<L::O, L::I, L::P>,
-    links: &mut L,
-    seat: u16,
-    kind: Kind,
-) -> Result<(), NoMemory>
-    requires playable { IsPlayable machine.old }
-    ensures played { OnOk result (HasPlayed (LeadsUpTo machine.old.plan seat (kind_text kind)) machine.old machine.new) }
-    ensures playable { OnOk result (IsPlayable machine.new) }
-    ensures ends { SameLinks machine.old machine.new }
-    ensures says { SaysAsBefore L.asked L.accepted L.back L.done L.faults L.always_ready links.old links.new }
-{
-    machine.tick_until(links, seat, kind)
-}
-
 /// Plays a line by its mark, where it is one of the schedule.
 fn play_mark<L: Linker>(
     machine: &mut Machine<L::O, L::I, L::P>,
@@ -109,7 +92,7 @@ fn play_mark<L: Linker>(
 {
     match mark {
         Mark::Tick { seat, ticks } => play_ticks(machine, links, seat_number(*seat), *ticks),
-        Mark::To { seat, kind } => play_until(machine, links, seat_number(*seat), *kind),
+        Mark::To { seat, kind } => machine.tick_until(links, seat_number(*seat), *kind),
         _ => Ok(()),
     }
 }
@@ -132,45 +115,30 @@ fn play_marks<L: Linker>(
     Ok(())
 }
 
-/// Plays a tick of each seat that is drawn from a seed.
-fn play_drawn<L: Linker>(
-    machine: &mut Machine<L::O, L::I, L::P>,
-    links: &mut L,
-    script: &Outline,
-    seed: u64,
-) -> Result<(), NoMemory>
-    requires script { (bytes : List ℕ) × (script_of bytes ≡ Ok script.now) }
-    requires playable { IsPlayable machine.old }
-    ensures played { OnOk result (HasPlayed (λ c. Scheduled machine.old.plan c (drawn_turns script.now seed)) machine.old machine.new) }
-    ensures playable { OnOk result (IsPlayable machine.new) }
-    ensures ends { SameLinks machine.old machine.new }
-    ensures says { SaysAsBefore L.asked L.accepted L.back L.done L.faults L.always_ready links.old links.new }
-{
-    let plan = script.plan();
-    let mut seats = DrawnSeats::new(plan.seats - 1, plan.links, seed);
-    for _ in 0..seats.count(plan.operations) {
-        let seat = seats.next_seat();
-        tick_seat(machine, links, seat)?;
-    }
-    Ok(())
-}
-
-/// Plays a schedule of a script.
-pub fn play_schedule<L: Linker>(
+/// Plays a schedule of a script, and then settles it.
+pub fn play<L: Linker>(
     machine: &mut Machine<L::O, L::I, L::P>,
     links: &mut L,
     script: &Outline,
     schedule: Schedule,
 ) -> Result<(), NoMemory>
     requires script { (bytes : List ℕ) × (script_of bytes ≡ Ok script.now) }
-    requires playable { IsPlayable machine.old }
-    ensures played { OnOk result (HasPlayed (λ c. Scheduled machine.old.plan c (turns_of script.now schedule)) machine.old machine.new) }
-    ensures playable { OnOk result (IsPlayable machine.new) }
+    requires made { IsMade script.now machine.old }
+    ensures run { OnOk result (AreAlwaysReady machine.old.links → HasRun script.now (turns_of script.now schedule) machine.old machine.new) }
+    ensures plan { OnOk result ((machine.new.plan ≡ machine.old.plan) × (machine.new.ids.plan ≡ machine.old.ids.plan)) }
     ensures ends { SameLinks machine.old machine.new }
     ensures says { SaysAsBefore L.asked L.accepted L.back L.done L.faults L.always_ready links.old links.new }
 {
     match schedule {
-        Schedule::Own => play_marks(machine, links, script.marks()),
-        Schedule::Drawn(seed) => play_drawn(machine, links, script, seed),
+        Schedule::Own => play_marks(machine, links, script.marks())?,
+        Schedule::Drawn(seed) => {
+            let plan = script.plan();
+            let mut seats = DrawnSeats::new(plan.seats - 1, plan.links, seed);
+            for _ in 0..seats.count(plan.operations) {
+                let seat = seats.next_seat();
+                tick_seat(machine, links, seat)?;
+            }
+        }
     }
+    machine.settle(links)
 }

@@ -1,14 +1,11 @@
-use Rattle.std.proofs.Common.{◌≡◌, true, Err, List, map, refl, ap, sym, subst, ◌∙◌, arith}
-use Rattle.std.proofs.lemmas.Result.{IfOk-weaker}
-use Rattle.sock_io.specs.declared.link.OpenFault.TheVariants.{Failed}
+use Rattle.std.proofs.Common.{◌≡◌, Err, List, map, refl, ap, sym, subst, ◌∙◌, arith}
 use Rattle.std.specs.List.{list_all}
 use Rattle.sock_io.specs.declared.link.LinkSpec.{LinkSpec}
 use Rattle.sock_io.specs.declared.link.Mode.TheVariants as mode
+use Rattle.sock_io.specs.declared.link.OpenFault.TheVariants.{Failed}
 use Rattle.script_links.specs.Given.{has_piece, specs_of}
-use Rattle.script_links.specs.Offered.{AreAsked, TellOffers}
-use Rattle.script_run.specs.Played.{IsPrinted, TellClosed, turns_of}
+use Rattle.script_links.specs.Offered.{AreAsked}
 use Rattle.script_links.proofs.Numbering.{numbered_of, links_of, few_links, pieces_of}
-use Rattle.script_run.proofs.Running.{ok_all}
 use Rattle.script_run.proofs.run.run_script.Goals as goal
 
 pub open_links-opened-requires-clause-few : goal.open_links-opened-requires-clause-few
@@ -42,14 +39,27 @@ give_back-requires-clause-few g c κs within =
     let most = c.in-Err.ensures.most in
     let few = few_links c.requires.script.0 c.args.script c.lines.result.now c.requires.script.1 c.lines.ensures in omega (arith, most, few)
 
-pub returns-in-Ok-clause-all : goal.returns-in-Ok-clause-all
-returns-in-Ok-clause-all g c =
-    ok_all c.run_over.result (c.run_over.ensures.back ∙ c.in-Ok.ensures.whole ∙ links_of c.args.script c.lines.result.now c.lines.ensures)
+pub returns-in-Ok-run_over-clause-all : goal.returns-in-Ok-run_over-clause-all
+returns-in-Ok-run_over-clause-all g c = c.run_over.ensures.back ∙ c.in-Ok.ensures.whole ∙ links_of c.args.script c.lines.result.now c.lines.ensures
 
-pub returns-in-Err-clause-kept : goal.returns-in-Err-clause-kept
-returns-in-Err-clause-kept g c known =
-    c.give_back.ensures.faults ∙ c.in-Err.ensures.kept (λ e. let is : c.in-Err.fault ≡ Failed = cc in known (ap (λ x. Err x) (c.not_opened.ensures.kept is)))
+pub returns-in-Ok-run_over-clause-text : goal.returns-in-Ok-run_over-clause-text
+returns-in-Ok-run_over-clause-text g c always_ready tell = c.in-Ok-run_over.ensures.text (c.in-Ok.ensures.always_ready ∙ always_ready) tell
 
-pub returns-in-Ok-clause-text : goal.returns-in-Ok-clause-text
-returns-in-Ok-clause-text g c = IfOk-weaker c.run_over.result _ (λ text. g.L.LinkerTold.always_ready c.args.links.now ≡ true → TellClosed g.L.I.In.state → IsPrinted (TellOffers g.L.O.Out.state g.L.I.In.state) c.args.print c.args.script (turns_of c.args.script c.args.schedule) text.items (g.L.LinkerTold.back c.run_over.new.links))
-    (λ text h always_ready tell. h (c.in-Ok.ensures.always_ready ∙ always_ready) tell) c.run_over.ensures.text
+pub returns-in-Ok-run_over-clause-cause : goal.returns-in-Ok-run_over-clause-cause
+returns-in-Ok-run_over-clause-cause g c =
+    let opened = c.in-Ok.ensures in
+    rw c.run_over.ensures.faults (record { later = opened.later; failed = λ e. absurd (cc); kept = λ other. opened.kept (λ e. absurd (cc)) })
+
+pub returns-in-Err-run_over-clause-cause : goal.returns-in-Err-run_over-clause-cause
+returns-in-Err-run_over-clause-cause g c =
+    let opened = c.in-Ok.ensures in
+    rw c.run_over.ensures.faults (record { later = opened.later; failed = λ e. absurd (cc); kept = λ other. opened.kept (λ e. absurd (cc)) })
+
+pub returns-in-Err-clause-cause : goal.returns-in-Err-clause-cause
+returns-in-Err-clause-cause g c =
+    let opened = c.in-Err.ensures in
+    rw c.give_back.ensures.faults (record {
+      later = opened.later;
+      failed = λ e. let is : c.in-Err.fault ≡ Failed = cc in opened.failed (ap (λ x. Err x) is);
+      kept = λ other. opened.kept (λ e. let is : c.in-Err.fault ≡ Failed = cc in other (ap (λ x. Err x) is));
+    })

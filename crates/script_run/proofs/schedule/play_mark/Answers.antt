@@ -1,6 +1,7 @@
 use Rattle.sock_core.proofs.Linkers.{says_same}
 use Rattle.sock_core.proofs.Joining.{same_links_none}
 use Rattle.sock_core.proofs.Endings.{on_ok}
+use Rattle.script_run.proofs.Playing.{playable_by, led_played}
 use Rattle.script_run.proofs.Lines.{tick_mark, to_mark, unscheduled_mark}
 use Rattle.script_run.proofs.schedule.play_mark.Goals as goal
 
@@ -10,7 +11,11 @@ returns-in-Tick-clause-played g c =
 
 pub returns-in-To-clause-played : goal.returns-in-To-clause-played
 returns-in-To-clause-played g c =
-    on_ok c.play_until.result (to_mark c.args.machine.now c.play_until.new.machine c.in-To.seat c.in-To.kind c.seat_number-in-To.result c.args.mark.now c.in-To.is c.seat_number-in-To.ensures c.requires.playable) c.play_until.ensures.played
+    on_ok c.tick_until.result (λ led. to_mark c.args.machine.now c.tick_until.new.self c.in-To.seat c.in-To.kind c.seat_number-in-To.result c.args.mark.now c.in-To.is c.seat_number-in-To.ensures c.requires.playable
+    (led_played c.args.machine.now c.tick_until.new.self c.seat_number-in-To.result c.in-To.kind led)) c.tick_until.ensures.led
+
+pub returns-in-To-clause-playable : goal.returns-in-To-clause-playable
+returns-in-To-clause-playable g c = on_ok c.tick_until.result (λ rest. playable_by c.tick_until.new.self rest c.tick_until.ensures.sizes) c.tick_until.ensures.rest
 
 pub returns-in_default : goal.returns-in_default
 returns-in_default g c = record {

@@ -6,7 +6,7 @@ use Rattle.sock_core.specs.Runs.{SameLinks}
 use Rattle.sock_core.specs.Linkers.{SaysAsBefore}
 use Rattle.script_run.specs.Played.{IsPlayable, HasPlayed}
 use Rattle.script_run.proofs.Lines.{drawn_so_far, draws_of, seats_in}
-use Rattle.script_run.proofs.schedule.play_drawn.Given as goal
+use Rattle.script_run.proofs.schedule.play.Given as goal
 
 abbrev pub invariant-loop : goal.invariant-loop
 invariant-loop g l = record {
