@@ -15,9 +15,9 @@ ghost use Rattle.call_writes.specs.Sending.{Rested};
 ghost use Rattle.call_attempts.specs.Both.{both, IsCallId};
 ghost use Rattle.call_attempts.specs.Attempting.{RefusedFor, DeliveredBy, AttemptedBy};
 
-use crate::at::At;
+use crate::call_tables::CallTables;
 use call_errors::{CallSeat, post_error};
-use call_writes::On;
+use call_writes::SharedTables;
 use sock_io::Out;
 use sock_rule::{Letter, SockSeat};
 use sock_table::SockRef;
@@ -25,7 +25,7 @@ use sock_words::{EFAILEDSOCKET, EREQUESTS, SocketId};
 use std::sync::Wait;
 use write_chain::{Refused, start};
 
-impl<O: Out, R: Wait> At<'_, O, R> {
+impl<O: Out, R: Wait> CallTables<'_, O, R> {
     /// The frame of an attempt doesn't go out: that is posted to its call by this code.
     pub fn post_for(&self, calls: &mut CallSeat, msg: Letter, code: u16)
         requires ids { HasNoLock self.now.tables.now.ids.table.shared.table_id calls.old }
@@ -73,7 +73,7 @@ impl<O: Out, R: Wait> At<'_, O, R> {
     {
         match start(&self.tables.socks, seat, sock, msg) {
             Ok(started) => {
-                let on = On {
+                let on = SharedTables {
                     rt: self.rt,
                     socks: &self.tables.socks,
                     ids: &self.tables.ids,
@@ -87,7 +87,13 @@ impl<O: Out, R: Wait> At<'_, O, R> {
     /// An attempt of a call over the socket with this id: the link is stored in the word of the call's operation before the frame is
     /// started. Where the socket is gone or fails, or each request is taken, that is posted to the call.
     /// bRPC's `Controller::IssueRPC`.
-    pub fn attempt(&self, seat: &mut SockSeat<O>, calls: &mut CallSeat, to: SocketId, msg: Letter)
+    pub(crate) fn attempt(
+        &self,
+        seat: &mut SockSeat<O>,
+        calls: &mut CallSeat,
+        to: SocketId,
+        msg: Letter,
+    )
         requires may { MayAct self.now.tables.now.socks.rule.table.shared.table_id self.now.tables.now.socks.rule.plan seat.old }
         requires known { Knows self.now.tables.now.socks.rule.plan seat.old.me.0 to.0 }
         requires room { HasRoom seat.old.me.0 }

@@ -9,7 +9,7 @@ ghost use Rattle.call_writes.specs.Sending.{Rested};
 ghost use Rattle.call_attempts.specs.Both.{both};
 ghost use Rattle.call_attempts.specs.Calling.{CalledBy, WantedBy};
 
-use crate::at::At;
+use crate::call_tables::CallTables;
 use crate::letters::letter_of;
 use call_errors::{CallSeat, give_up};
 use message_parts::CallFrame;
@@ -29,7 +29,7 @@ pub enum Called {
     Begun(u64),
 }
 
-impl<O: Out, R: Wait> At<'_, O, R> {
+impl<O: Out, R: Wait> CallTables<'_, O, R> {
     /// A call with its first attempt, which goes to its first name. Where memory is wanting before its id is made, nothing was done;
     /// behind that, the call ends by it.
     /// bRPC's `Channel::CallMethod`.

@@ -8,7 +8,7 @@ use sock_rule::Letter;
 use sock_words::Label;
 
 /// The letter of an attempt, counted from 0, of the call that is this operation of the script and has this id.
-pub fn letter_of(frame: CallFrame, operation: u16, id: u64, attempt: u8) -> Letter
+pub(crate) fn letter_of(frame: CallFrame, operation: u16, id: u64, attempt: u8) -> Letter
     requires { attempt ≤ 6 }
     ensures bytes { result.bytes ≡ Frame frame }
     ensures label { result.label ≡ attempt_label operation attempt }

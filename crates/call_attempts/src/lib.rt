@@ -2,15 +2,14 @@
 //! table of sockets and one of the table of ids.
 #![tactic(auto)]
 
-mod at;
 mod attempting;
+mod call_tables;
 mod calling;
 mod letters;
 mod retrying;
 mod tables;
 
-pub use at::At;
-pub use call_writes::On;
+pub use call_tables::CallTables;
+pub use call_writes::SharedTables;
 pub use calling::Called;
-pub use letters::letter_of;
 pub use tables::Tables;

@@ -8,7 +8,7 @@ ghost use Rattle.call_writes.specs.Sending.{Rested};
 ghost use Rattle.call_attempts.specs.Both.{both, IsCallId};
 ghost use Rattle.call_attempts.specs.Retrying.{IsStray, IsAtHome, TookNext, WentTo, RetriedBy, GaveUp, RetriedAll, RanOut};
 
-use crate::at::At;
+use crate::call_tables::CallTables;
 use crate::letters::letter_of;
 use crate::tables::Tables;
 use call_errors::{CallSeat, Retry, end_call, handle};
@@ -49,7 +49,7 @@ fn next_retry(calls: &mut CallSeat, sent: u32) -> Result<Option<Retry>, NoMemory
     Ok(calls.retries.pop_front())
 }
 
-impl<O: Out, R: Wait> At<'_, O, R> {
+impl<O: Out, R: Wait> CallTables<'_, O, R> {
     // An attempt goes to the socket of its name. Where there is none, that is posted to the call.
     fn go_to(&self, seat: &mut SockSeat<O>, calls: &mut CallSeat, name: u16, msg: Letter)
         requires may { MayAct self.now.tables.now.socks.rule.table.shared.table_id self.now.tables.now.socks.rule.plan seat.old }
@@ -73,7 +73,7 @@ impl<O: Out, R: Wait> At<'_, O, R> {
     /// A retry that waited: its id is locked for as long as the frame of its attempt is made, which goes out then. Where the call has
     /// ended nothing is done; where another error waited for the lock, that one is handled and the retry is spent. Where there is no
     /// memory for the frame, the call ends by that.
-    pub fn retry_one(
+    fn retry_one(
         &self,
         seat: &mut SockSeat<O>,
         calls: &mut CallSeat,

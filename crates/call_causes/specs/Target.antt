@@ -12,7 +12,7 @@ use Rattle.seat_programs.specs.declared.task.Task.{Task}
 use Rattle.corr_core.specs.Word.{error_of}
 use Rattle.seat_programs.specs.Posts.{is_final}
 use Rattle.seat_programs.specs.Told.{IsTask, Became}
-use Rattle.seat_programs.specs.ToldCalls.{Fixed, Order, FoundNone, HasCode, IsAnsweredBy, IsExpiredWith, GaveFault, ShowsId, Why, WhyExpire, WhyJoin}
+use Rattle.seat_programs.specs.ToldCalls.{Fixed, Order, FoundNone, HasCode, IsAnsweredBy, IsExpiredWith, GaveFault, ShowsId, WhyExpire, WhyJoin}
 use Rattle.call_causes.specs.Posts.{Post}
 use Rattle.call_causes.specs.Decided.{Decision}
 use Rattle.call_causes.specs.Scenes.{In}
@@ -22,16 +22,6 @@ IsOnCalls (ops.Call asked) = Unit {0}
 IsOnCalls (ops.Expire t) = Unit {0}
 IsOnCalls (ops.Join t) = Unit {0}
 IsOnCalls other = ⊥
-
--- the fields of `ToldCalls` that speak of these tasks; last o is the last attempt of operation o
-pub record ToldOnCalls (p : Plan) (clients : List (List Task)) (outcomes : List (Option Outcome)) (fixed : Fixed) (gave : ℕ → List ℕ) (orders : ℕ → Order) (last : ℕ → ℕ) : Type 0 where
-  pub told : (client : ℕ) (t : Task) → IsTask clients outcomes client t → IsOnCalls t.op → (outcome : Outcome) × Became clients outcomes t.number outcome
-  pub why : (client : ℕ) (t : Task) (outcome : Outcome) → IsTask clients outcomes client t → IsOnCalls t.op → Became clients outcomes t.number outcome → Why p clients outcomes fixed gave orders last client t.number t.op outcome
-  -- an `expire` ends a call once at most
-  pub expired_once : (c d : ℕ) (t u : Task) (o : ℕ) → IsTask clients outcomes c t → IsTask clients outcomes d u → t.op ≡ ops.Expire o → u.op ≡ ops.Expire o → Became clients outcomes t.number Expired → Became clients outcomes u.number Expired → t.number ≡ u.number
-  -- no two calls have a version in common
-  pub versions : (c d : ℕ) (t u : Task) (a b : Asked) (x y : Outcome) (i j : ℕ) → IsTask clients outcomes c t → IsTask clients outcomes d u → t.op ≡ ops.Call a → u.op ≡ ops.Call b → Became clients outcomes t.number x → Became clients outcomes u.number y
-      → ShowsId p clients outcomes fixed gave orders x i → ShowsId p clients outcomes fixed gave orders y j → t.number ≢ u.number → (i + a.range ≤ j) ⊎ (j + b.range ≤ i)
 
 -- ## In part
 
@@ -59,7 +49,7 @@ module _ (p : Plan) (clients : List (List Task)) (outcomes : List (Option Outcom
   WhyInPart last c o (ops.Join t) outcome = WhyJoin p clients outcomes fixed gave orders last c o t outcome
   WhyInPart last c o op outcome = ⊥
 
-  -- the fields of `ToldOnCalls`, but that `why` tells so much only of a call that failed
+  -- the fields of `ToldCalls` that speak of these tasks, but that `why` tells so much only of a call that failed; last o is the last attempt of operation o
   pub record ToldOnCallsInPart (last : ℕ → ℕ) : Type 0 where
     pub told : (client : ℕ) (t : Task) → IsTask clients outcomes client t → IsOnCalls t.op → (outcome : Outcome) × Became clients outcomes t.number outcome
     pub why : (client : ℕ) (t : Task) (outcome : Outcome) → IsTask clients outcomes client t → IsOnCalls t.op → Became clients outcomes t.number outcome → WhyInPart last client t.number t.op outcome

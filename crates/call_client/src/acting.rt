@@ -12,7 +12,7 @@ ghost use Rattle.call_client.specs.Running.{NotCalled};
 ghost use Rattle.call_client.specs.Making.{NotMade};
 
 use crate::caller::Caller;
-use call_attempts::{At, Called, On, Tables};
+use call_attempts::{CallTables, Called, SharedTables, Tables};
 use call_errors::{Ask, ask_one};
 use message_parts::Parcel;
 use rpc_client::{drop_one, fail_one, hold_one, open_one};
@@ -63,7 +63,7 @@ fn send_letter(number: u16, message: Message) -> Letter
 /// A message is sent.
 fn send_message<O: Out, R: Wait>(
     caller: &mut Caller<O>,
-    at: &At<O, R>,
+    at: &CallTables<O, R>,
     name: u16,
     msg: Letter,
 ) -> Option<Outcome>
@@ -79,7 +79,7 @@ fn send_message<O: Out, R: Wait>(
     ensures others { (caller.new.held ≡ caller.old.held) × (caller.new.passes ≡ caller.old.passes) × (caller.new.outcomes ≡ caller.old.outcomes) }
 {
     caller.sent += 1;
-    let on = On {
+    let on = SharedTables {
         rt: at.rt,
         socks: &at.tables.socks,
         ids: &at.tables.ids,
@@ -90,7 +90,7 @@ fn send_message<O: Out, R: Wait>(
 /// A call begins. Where it doesn't, for want of memory or of an id slot, it isn't made.
 fn begin_call<O: Out, R: Wait>(
     caller: &mut Caller<O>,
-    at: &At<O, R>,
+    at: &CallTables<O, R>,
     call: Call,
 ) -> Result<Option<Outcome>, NoMemory>
     requires may { MayAct at.now.tables.now.socks.rule.table.shared.table_id at.now.tables.now.socks.rule.plan caller.old.seat }
@@ -118,7 +118,7 @@ fn begin_call<O: Out, R: Wait>(
 /// that has begun.
 pub fn act<O: Out, R: Wait>(
     caller: &mut Caller<O>,
-    at: &At<O, R>,
+    at: &CallTables<O, R>,
     made: u16,
     number: u16,
     op: Op,

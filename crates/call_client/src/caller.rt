@@ -12,7 +12,7 @@ ghost use Rattle.call_client.specs.Acting.{MayGo};
 ghost use Rattle.call_client.specs.Running.{MayMakeAll, RunBy};
 
 use crate::running::{end_retries, leave_all, make_all};
-use call_attempts::{At, Tables};
+use call_attempts::{CallTables, Tables};
 use call_errors::CallSeat;
 use corr_id::IdSeat;
 use rpc_client::{Held, Told, give_all};
@@ -85,7 +85,7 @@ impl<O: Out> Caller<O> {
         ensures fed { IfOk result (λ _. self.new.calls.starved ≡ false) }
         ensures ran { RunBy O.state tables.now.socks.rule.plan tables.now.ids.plan (is_err result) tasks.items self.old self.new }
     {
-        let at = At { rt, tables };
+        let at = CallTables { rt, tables };
         let made = make_all(self, &at, of, &mut tasks, gate);
         end_retries(&at, &mut self.calls, made.is_err());
         leave_all(self, tables, tasks);

@@ -14,7 +14,7 @@ ghost use Rattle.call_client.specs.Making.{NotMade, ComesTo, CameBy};
 
 use crate::acting::act;
 use crate::caller::Caller;
-use call_attempts::{At, Tables};
+use call_attempts::{CallTables, Tables};
 use call_errors::{CallSeat, starve};
 use rpc_client::{Told, open_none};
 use seat_programs::{Op, Task};
@@ -37,7 +37,7 @@ fn is_full(sent: u32, last: bool) -> bool
 /// The retries that wait are made. Unless the client has made its last operation, there is room then for what the next one sends.
 fn be_ready<O: Out, R: Wait>(
     caller: &mut Caller<O>,
-    at: &At<O, R>,
+    at: &CallTables<O, R>,
     made: u16,
     last: bool,
 ) -> Result<(), NoMemory>
@@ -62,7 +62,7 @@ fn be_ready<O: Out, R: Wait>(
 /// An operation is made, and what becomes of it is told.
 fn make<O: Out, R: Wait>(
     caller: &mut Caller<O>,
-    at: &At<O, R>,
+    at: &CallTables<O, R>,
     made: u16,
     task: Task,
 ) -> Result<(), NoMemory>
@@ -121,7 +121,7 @@ fn make_room<O: Out>(caller: &mut Caller<O>, count: usize) -> Result<(), NoMemor
 /// retries that wait before each of them and behind the last; until memory is wanting.
 pub fn make_all<O: Out, R: Wait, G: Gate>(
     caller: &mut Caller<O>,
-    at: &At<O, R>,
+    at: &CallTables<O, R>,
     of: u16,
     tasks: &mut VecDeque<Task>,
     gate: &G,
@@ -155,7 +155,7 @@ pub fn make_all<O: Out, R: Wait, G: Gate>(
 }
 
 /// Where memory was wanting, each call whose retry waits ends by that.
-pub fn end_retries<O: Out, R: Wait>(at: &At<O, R>, calls: &mut CallSeat, short: bool)
+pub fn end_retries<O: Out, R: Wait>(at: &CallTables<O, R>, calls: &mut CallSeat, short: bool)
     requires ids { HasNoLock at.now.tables.now.ids.table.shared.table_id calls.old }
     ensures keeps { KeepsSeat at.now.tables.now.ids.table.shared.table_id calls.old calls.new }
     ensures ended { short ≡ true → StarvedBy at.now.tables.now.ids.plan.slots (stand_of calls.old) (stand_of calls.new) }

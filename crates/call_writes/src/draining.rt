@@ -5,7 +5,7 @@ ghost use Rattle.write_chain.specs.Writing.{MayGoOn, GaveUp};
 ghost use Rattle.call_errors.specs.Books.{stand_of, HasNoLock, KeepsSeat};
 ghost use Rattle.call_writes.specs.Draining.{ToldDrop, Drained};
 
-use crate::on::On;
+use crate::shared_tables::SharedTables;
 use call_errors::{CallSeat, post_error};
 use corr_id::IdTable;
 use sock_io::Out;
@@ -35,9 +35,9 @@ fn tell_dropped<R: Wait>(
     post_error(rt, ids, calls, msg.owner, code, Some(msg.label.attempt));
 }
 
-impl<O: Out, R: Wait> On<'_, O, R> {
+impl<O: Out, R: Wait> SharedTables<'_, O, R> {
     /// Writes until the head is empty. The call of each message that is dropped is told at once.
-    pub fn drain(
+    pub(crate) fn drain(
         &self,
         seat: &mut SockSeat<O>,
         calls: &mut CallSeat,

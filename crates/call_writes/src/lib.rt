@@ -2,7 +2,7 @@
 #![tactic(auto)]
 
 mod draining;
-mod on;
 mod sending;
+mod shared_tables;
 
-pub use on::On;
+pub use shared_tables::SharedTables;

@@ -9,7 +9,7 @@ ghost use Rattle.call_errors.specs.Books.{stand_of, HasNoLock, KeepsSeat};
 ghost use Rattle.call_writes.specs.Draining.{Drained};
 ghost use Rattle.call_writes.specs.Sending.{SeenCalling, SentCalling, Rested};
 
-use crate::on::On;
+use crate::shared_tables::SharedTables;
 use call_errors::{CallSeat, Reached, reach, refuse};
 use sock_io::Out;
 use sock_rule::{Letter, SockSeat};
@@ -18,7 +18,7 @@ use sock_words::Outcome;
 use std::sync::Wait;
 use write_chain::{Once, Started, start, write_once};
 
-impl<O: Out, R: Wait> On<'_, O, R> {
+impl<O: Out, R: Wait> SharedTables<'_, O, R> {
     /// A message that was accepted is written, with all that comes meanwhile, where this seat has the right. The code of each message
     /// of a call that is dropped is posted to the call, as soon as the message was dropped.
     /// bRPC's `Socket::StartWrite` and `KeepWrite` behind the exchange, with `ReleaseAllFailedWriteRequests` (socket.cpp).

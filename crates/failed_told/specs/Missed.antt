@@ -85,11 +85,7 @@ module _ {O : Type 0} {g : Ghosts O} {state : O → OutState} {p : Plan} {q : id
   attempt_of (operates x by s t a) = 0
   attempt_of (retries r s t by) = r.attempt
 
-  -- what its seat had of the sockets before and behind it
-  abbrev pub socks_before : Deed g state p q → sock_view.View
-  socks_before (operates x by s t a) = s.me.0
-  socks_before (retries r s t by) = s.socks
-
+  -- what its seat had of the sockets behind it
   abbrev pub socks_behind : Deed g state p q → sock_view.View
   socks_behind (operates x by s t a) = t.me.0
   socks_behind (retries r s t by) = t.socks

@@ -8,7 +8,7 @@ ghost use Rattle.corr_id.specs.Opening.{AreNew};
 
 use crate::sockets::ONE;
 use call_errors::CallSeat;
-use call_writes::On;
+use call_writes::SharedTables;
 use corr_id::{IdSeat, IdTable};
 use message_parts::{CallFrame, Parcel};
 use rpc_client::open_one;
@@ -158,7 +158,7 @@ fn send<R: Wait>(
     requires label { msg.label.place ≡ 8 }
     requires ids { Sits ids.now.table.shared.table_id calls.old.seat × IsFree calls.old.seat.me.0 }
 {
-    let on = On {
+    let on = SharedTables {
         rt,
         socks: table,
         ids,

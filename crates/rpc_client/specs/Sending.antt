@@ -106,7 +106,7 @@ pub record SentWith {O : Type 0} (state : O → OutState) (p : Plan) (n : ℕ) (
   pub reached_it : ReachedBy p n (reached.Here sock) v has
   pub delivered : DeliveredBy state p sock msg by has w
 
--- of a message that goes to the socket of a name: nothing more is done where nothing was opened under it, or where the life is gone; else this is, by what is told of it
+-- of a message that goes to the socket of a name: `Unopened` where nothing was opened under it; `Gone` where the life is gone, or by what `Goes` says; accepted or `Full` by what `Goes` says; and told nothing else
 abbrev pub ByName : (Option Outcome → View → View → Type 0) → Plan → ℕ → Option Outcome → View → View → Type 0
 ByName Goes p n None v w = Goes None v w
 ByName Goes p n (Some outcome.Unopened) v w = ReachedBy p n reached.Unopened v w

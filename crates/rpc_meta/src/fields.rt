@@ -12,7 +12,7 @@ use crate::write::{
 use pb_wire::NoMemory;
 
 /// A request or a response, as it is written inside a meta.
-pub trait Inner {
+pub trait MetaPart {
     /// What it says.
     ghost Said: { Type 0 };
 
@@ -40,7 +40,7 @@ pub trait Inner {
         ensures fits { Fits (said self.now) };
 }
 
-impl Inner for RequestMeta {
+impl MetaPart for RequestMeta {
     ghost use Rattle.pb_wire.specs.brpc_model.specs.Meta.{RequestMeta as RequestSaid};
 
     ghost Said = { RequestSaid };
@@ -79,7 +79,7 @@ impl Inner for RequestMeta {
     }
 }
 
-impl Inner for ResponseMeta {
+impl MetaPart for ResponseMeta {
     ghost use Rattle.pb_wire.specs.brpc_model.specs.Meta.{ResponseMeta as ResponseSaid};
 
     ghost Said = { ResponseSaid };

@@ -6,7 +6,7 @@ ghost use Rattle.rpc_meta.specs.Meaning.{meaning};
 ghost use Rattle.rpc_meta.specs.Sizes.{IsSizeOf, AreSizes};
 ghost use Rattle.rpc_meta.specs.Writing.{part_field, HasPart, MetaFits};
 
-use crate::fields::Inner;
+use crate::fields::MetaPart;
 use crate::front::{FRONT_BYTES, Front};
 use crate::meta::{MetaBytes, RpcMeta};
 use crate::sizes::MetaSizes;
@@ -39,7 +39,7 @@ fn spell_meta(meta: &RpcMeta, sizes: MetaSizes, out: &mut Front)
 }
 
 /// Spells a part under a number where there is one, behind its length.
-fn spell_part<P: Inner>(number: u8, part: &Option<P>, size: usize, out: &mut Front)
+fn spell_part<P: MetaPart>(number: u8, part: &Option<P>, size: usize, out: &mut Front)
     requires size { IsSizeOf P.bytes (option_map P.said part.now) size }
     requires room { length out.old + length (part_field number P.bytes (option_map P.said part.now)) ≤ FRONT_BYTES }
     ensures exact { out.new ≡ out.old ++ part_field number P.bytes (option_map P.said part.now) }

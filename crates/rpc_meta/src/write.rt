@@ -6,7 +6,7 @@ ghost use Rattle.rpc_meta.specs.Meaning.{meaning};
 ghost use Rattle.rpc_meta.specs.Sizes.{IsSizeOf, AreSizes};
 ghost use Rattle.rpc_meta.specs.Writing.{Appends, part_field, HasPart, MetaFits};
 
-use crate::fields::Inner;
+use crate::fields::MetaPart;
 use crate::meta::RpcMeta;
 use crate::sizes::MetaSizes;
 use pb_wire::{NoMemory, varint_size, write_varint};
@@ -105,7 +105,7 @@ fn append_meta(meta: &RpcMeta, out: &mut Vec<u8>) -> Result<(), NoMemory>
 }
 
 /// Appends a part under a number where there is one. Its length stands before it, so it is counted first.
-fn append_part<P: Inner>(number: u8, part: &Option<P>, out: &mut Vec<u8>) -> Result<(), NoMemory>
+fn append_part<P: MetaPart>(number: u8, part: &Option<P>, out: &mut Vec<u8>) -> Result<(), NoMemory>
     ensures written { Appends out.old.items (part_field number P.bytes (option_map P.said part.now)) result out.new.items }
     ensures fits { OnOk result (IfSome (option_map P.said part.now) P.Fits) }
 {
@@ -165,7 +165,7 @@ fn append_head(number: u8, size: usize, out: &mut Vec<u8>) -> Result<(), NoMemor
 }
 
 /// How many bytes the fields of a part have where there is one, where that fits.
-fn part_size<P: Inner>(part: &Option<P>) -> Option<usize>
+fn part_size<P: MetaPart>(part: &Option<P>) -> Option<usize>
     ensures { IfSome result (IsSizeOf P.bytes (option_map P.said part.now)) }
 {
     match part {
@@ -175,7 +175,7 @@ fn part_size<P: Inner>(part: &Option<P>) -> Option<usize>
 }
 
 /// How many bytes a part has where there is one, with what stands before its fields, where that fits.
-fn whole_part<P: Inner>(number: u8, part: &Option<P>, size: usize) -> Option<usize>
+fn whole_part<P: MetaPart>(number: u8, part: &Option<P>, size: usize) -> Option<usize>
     requires { IsSizeOf P.bytes (option_map P.said part.now) size }
     ensures { IfSome result (λ n. n ≡ length (part_field number P.bytes (option_map P.said part.now))) }
 {

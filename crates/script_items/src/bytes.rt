@@ -29,13 +29,6 @@ impl Bytes {
     {
         self.bytes.as_slice()
     }
-
-    /// The bytes as a vector.
-    pub fn into_vec(self) -> Vec<u8>
-        ensures { result.items ≡ self }
-    {
-        self.bytes
-    }
 }
 
 /// The name of a socket: in a script that was read, 1 to 16 letters, digits or `_`.

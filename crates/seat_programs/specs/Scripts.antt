@@ -20,7 +20,7 @@ use Rattle.seat_programs.specs.declared.task.Sizes.{Sizes}
 use Rattle.seat_programs.specs.Tasks.{tasks, opens, calls, plan_of, id_plan_of}
 use Rattle.seat_programs.specs.Clients.{client_from, ending_of}
 use Rattle.seat_programs.specs.Cores.{Calls, Core, resolved, said, next_step, with_seat, lies_at, link_place}
-use Rattle.seat_programs.specs.Ticks.{Answer, Moment, quiet, seats_of, ticked, run, waits, AreAnswered, IsAlwaysReady, broken_in, answers_in}
+use Rattle.seat_programs.specs.Ticks.{Moment, quiet, seats_of, ticked, run, waits, AreAnswered, IsAlwaysReady, broken_in}
 use Rattle.seat_programs.specs.Runs.{IsAtRest, IsSettled, from_to, rounds, Scheduled}
 
 -- ## Which scripts
@@ -205,11 +205,7 @@ pub record IsRunWithCalls (script : List Item) (turns : List Turn) (end_ : Core)
   pub always_ready : AllByRecursion IsAlwaysReady (scheduled ++ later ++ final)
   pub is_end : end_ ≡ run (plan_of script) ended final
 
--- what the links that were asked answered in the run, one after another
-abbrev pub answers_of : {script : List Item} {turns : List Turn} {end_ : Core} → IsRunOf script turns end_ → List Answer
-answers_of {script} r = answers_in (plan_of script) (set_up script r.setup) (r.scheduled ++ r.later)
-
--- and those that answered that they failed
+-- the links that were asked in the run and answered that they failed, one after another
 abbrev pub broken_of : {script : List Item} {turns : List Turn} {end_ : Core} → IsRunOf script turns end_ → List ℕ
 broken_of {script} r = broken_in (plan_of script) (set_up script r.setup) (r.scheduled ++ r.later)
 

@@ -183,15 +183,6 @@ abbrev pub broken_in : Plan → Core → List Moment → List ℕ
 broken_in p c [] = []
 broken_in p c (m ∷ ms) = broken_at c m ++ broken_in p (ticked p c m) ms
 
--- what the link answered that a tick asked, if it asked one
-abbrev pub answers_at : Core → Moment → List Answer
-answers_at c m = elim (get_elem? c.seats m.seat) as (λ o. List Answer) [ none ↦ [] | some seat ↦ map (λ (k : ℕ). m.answer) (asked_link seat.program) ]
-
--- and in these ticks, one after another
-abbrev pub answers_in : Plan → Core → List Moment → List Answer
-answers_in p c [] = []
-answers_in p c (m ∷ ms) = answers_at c m ++ answers_in p (ticked p c m) ms
-
 -- ## Waiting
 
 -- the seat waits: for the next word of the entry to which its walk has come, or for its link to take more. Its tick changes nothing.

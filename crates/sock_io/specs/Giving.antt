@@ -10,6 +10,10 @@ use Rattle.sock_io.specs.Memory.{MemInState, closing, empty_in, is_open, mem_in}
 abbrev pub given_half : GiveIn → MemInState
 given_half i = i.inner
 
+-- whether the stated bytes are still to come
+abbrev pub still_to_come : GiveIn → Bool
+still_to_come i = i.waits
+
 -- such a half as a reading half, whose other end offers nothing that it would tell
 abbrev pub give_in : GiveIn → InState
 give_in i = mem_in i.inner
@@ -22,7 +26,7 @@ before_bytes = record { inner = empty_in ending.Open; waits = true }
 abbrev pub bytes_and_end : List ℕ → GiveIn
 bytes_and_end bytes = record { inner = record (empty_in ending.Ended) { waiting = bytes }; waits = false }
 
--- where so many bytes were taken as are asked for, the bytes come, once
+-- where so many bytes were taken as are asked for, and the half is open, the bytes come, once
 abbrev pub with_bytes : (due : Bool) → List ℕ → GiveIn → GiveIn
 with_bytes due bytes i = if i.waits && due && is_open i.inner.ending then record { inner = record i.inner { waiting = i.inner.waiting ++ bytes }; waits = false } else i
 

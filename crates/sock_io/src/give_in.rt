@@ -1,5 +1,5 @@
-ghost use Rattle.std.specs.Prelude.{◌≡◌, ◌<◌, ◌++◌, IfOk, OnErr, OnOk, length};
-ghost use Rattle.sock_io.specs.Giving.{before_bytes, bytes_and_end, give_in, given_half, with_bytes, with_closing};
+ghost use Rattle.std.specs.Prelude.{◌≡◌, ◌<◌, ◌++◌, [], Ok, IfOk, OnErr, OnOk, length};
+ghost use Rattle.sock_io.specs.Giving.{before_bytes, bytes_and_end, give_in, given_half, still_to_come, with_bytes, with_closing};
 ghost use Rattle.sock_io.specs.Memory.{TakesWaiting};
 
 use crate::ending::Ending;
@@ -45,9 +45,12 @@ impl GiveIn {
     pub(crate) fn hand(&mut self, due: bool, bytes: &[u8]) -> Result<(), NoMemory>
         ensures ok { OnOk result (self.new ≡ with_bytes due bytes.now self.old) }
         ensures err { OnErr result (self.new ≡ self.old) }
+        ensures nothing { bytes.now ≡ [] → result ≡ Ok tt }
     {
         if self.waits && due && self.inner.is_open() {
-            self.inner.give(bytes)?;
+            if !bytes.is_empty() {
+                self.inner.give(bytes)?;
+            }
             self.waits = false;
         }
         Ok(())
@@ -69,7 +72,8 @@ impl In for GiveIn {
 
     fn take(&mut self, room: &mut [u8]) -> Take
         requires { 0 < length room.old }
-        ensures { TakesWaiting (given_half self.old) (given_half self.new) (length room.old) room.new result }
+        ensures half { TakesWaiting (given_half self.old) (given_half self.new) (length room.old) room.new result }
+        ensures waits { still_to_come self.new ≡ still_to_come self.old }
     {
         self.inner.take(room)
     }

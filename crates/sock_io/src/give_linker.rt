@@ -1,4 +1,4 @@
-ghost use Rattle.std.specs.Prelude.{◌≡◌, ◌↔◌, ◌+◌, ◌<◌, ◌∷◌, ◌++◌, [], true, length, Contains, IfOk, IsErrOf, OnErr, OnOk};
+ghost use Rattle.std.specs.Prelude.{◌≡◌, ◌↔◌, ◌+◌, ◌<◌, ◌∷◌, ◌++◌, [], true, Ok, length, Contains, IfOk, IsErrOf, OnErr, OnOk};
 ghost use Rattle.sock_io.specs.Causes.{OpenCause, next_number};
 ghost use Rattle.sock_io.specs.Giving.{before_bytes, bytes_and_end, give_in, settled_in};
 ghost use Rattle.sock_io.specs.Link.{MayOpen, SettleStep, end_of};
@@ -96,9 +96,8 @@ impl Linker for GiveLinker {
             spec.fail
         };
         let shape = Shape {
-            piece: spec.piece,
-            again: spec.again,
             fail,
+            ..Shape::asked(spec)
         };
         let out = self.links.open(spec, shape)?;
         Ok(Ends {
@@ -114,6 +113,7 @@ impl Linker for GiveLinker {
         ensures inn { OnOk result (ends.new.inn ≡ settled_in self.old.after self.old.bytes ends.old.out.taken ends.old.out.inner.finished ends.old.inn) }
         ensures err { OnErr result (ends.new ≡ ends.old) }
         ensures linker { self.new ≡ self.old }
+        ensures never { self.old.bytes ≡ [] → result ≡ Ok tt }
     {
         let due = ends.out.taken().len() >= self.after as usize;
         let finished = ends.out.is_finished();

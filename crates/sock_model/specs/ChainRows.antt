@@ -1,4 +1,4 @@
--- What each step on the chains does to the view of the seat that makes it.
+-- What each step on the chains, each with its kind's name (`Kind` of sock_words), does to the view of the seat that makes it.
 use Rattle.std.specs.Prelude.{ℕ, suc, ◌+◌, ◌-◌, ◌/◌, ◌==◌, true, false, cond, not, List, [], ◌∷◌, ◌++◌}
 use Rattle.std.specs.List.{filter}
 use Rattle.sock_model.specs.declared.chain.Heading.{Heading}
@@ -52,7 +52,7 @@ new_right c found sent places = let e = entry_of c (found - IDLE) in
 abbrev pub righted : View → Claim → ℕ → List ℕ → ℕ → View
 righted v c found sent places = record v { claims = []; rights = new_right c found sent places ∷ v.rights; lists = more v.lists (entry_of c (found - IDLE)) }
 
--- C3
+-- C3: the request is connected
 abbrev pub without_loose : View → ℕ → View
 without_loose v r = record v { loose = filter (λ (x : Loose). not (x.request == r)) v.loose }
 
@@ -81,7 +81,7 @@ abbrev pub freed_stage : Stage → Stage
 freed_stage (Passes now next) = Writes next
 freed_stage other = Empties
 
--- C8
+-- C8: the request was given back
 abbrev pub freed_right : Right → Right
 freed_right r = record r { stage = freed_stage r.stage }
 

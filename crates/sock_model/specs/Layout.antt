@@ -2,7 +2,7 @@
 use Rattle.std.specs.Prelude.{ℕ, ◌+◌, ◌*◌}
 use Rattle.sock_words.specs.declared.plain.Plan.{Plan}
 
--- six words for each slot
+-- six words for each slot, of which no step names the last
 abbrev pub tag_index : ℕ → ℕ
 tag_index i = 6 * i
 
@@ -17,9 +17,6 @@ head_index i = 6 * i + 3
 
 abbrev pub code_index : ℕ → ℕ
 code_index i = 6 * i + 4
-
-abbrev pub wait_index : ℕ → ℕ
-wait_index i = 6 * i + 5
 
 -- then one for each name, two for each operation, two for each request and eight for each operation
 module _ (p : Plan) where

@@ -18,8 +18,8 @@ use Rattle.sock_model.specs.Entries.{slot_of}
 use Rattle.sock_model.specs.ChainRows.{with_right, taken_right, dropped_right}
 use Rattle.sock_rule.specs.Rows.{dropped_at}
 use Rattle.sock_rule.specs.ChainPlays.{TookOwn, TookLetter}
-use Rattle.sock_rule.specs.Faults.{faults_of, fault_found, fault_left}
-use Rattle.sock_rule.specs.Shows.{shows, rose, heading_of, way_at, number_in, shows_in}
+use Rattle.sock_rule.specs.Faults.{faults_of, fault_found, fault_left, CameOut}
+use Rattle.sock_rule.specs.Shows.{shows, rose, heading_of, number_in, shows_in}
 use Rattle.sock_rule.specs.OnKey.{LinkOnTop}
 use Rattle.sock_rule.specs.Plays.{TookLink}
 use Rattle.sock_rule.proofs.Ways.{own_number}
@@ -85,17 +85,19 @@ module _ {O : Type 0} {g : Ghosts O} {p : Plan} {ways : List (List ℕ)} {m n : 
     came_shown : home.Link (number_in p ways (g.state h.out)) h.took.list h.next (g.state h.out).finished ≡ home.Link k took next done
     came_shown = ap (shows_in p ways) (sym came_is) ∙ t.shown
 
-    pub came_link : k < p.links → ((g.state h.out).link ≡ k) × ((g.state h.out).way ≡ way_at ways k)
-    came_link low = own_number p ways (g.state h.out) k (ap number came_shown) low
-
     pub came_done : (g.state h.out).finished ≡ done
     came_done = ap is_done came_shown
 
     pub came_took : (h.took.list ≡ took) × (h.next ≡ next)
     came_took = (ap bytes came_shown, ap next_place came_shown)
 
-    pub came_known : 0 < faults_of k m.0 → 0 < (g.state h.out).faults
-    came_known some_ = subst (λ (y : SockHome O g). 0 < rose y) came_is (t.known some_)
+    pub came_out : k < p.links → (q : Plan) → m.0.plan ≡ q → CameOut q ways k m.0 (g.state h.out)
+    came_out low q e = let own = own_number p ways (g.state h.out) k (ap number came_shown) low in record {
+      link_is = own.0;
+      link_in = subst (λ (x : Plan). k < x.links) e t.inside;
+      way_is = own.1;
+      known = λ some_. subst (λ (y : SockHome O g). 0 < rose y) came_is (t.known some_);
+    }
 
     pub came_after : (new : Me (SockHome O g) View) → new ≡ (n.0, (slot, Empty) ∷ rest n.1) → new ≡ (fault_found (g.state h.out).faults i k (row h.took.list h.next), (slot, Empty) ∷ m.1)
     came_after new e = let same = came_is in let v : n.0 ≡ fault_found (g.state h.out).faults i k (row h.took.list h.next) = t.view ∙ (λ j. fault_found (rose (same j)) i k (row (sym came_took.0 j) (sym came_took.1 j))) in

@@ -1,5 +1,5 @@
 -- A note that no law weighs comes or goes: the rule of the sockets stays.
-use Rattle.std.proofs.Common.{◌≡◌, ℕ, ◌+◌, ◌-◌, ◌/◌, ◌%◌, List, get_or, set, length-set, inl, refl, sym, ap, subst, arith}
+use Rattle.std.proofs.Common.{◌≡◌, ℕ, ◌+◌, ◌-◌, ◌/◌, ◌%◌, List, get_or, set, length-set, inl, refl, sym, ap, ◌∙◌, subst, arith}
 use mathlib.Core.Option.{some}
 use lib.ListN.{get_elem?}
 use lib.Seq.{map-set}
@@ -124,7 +124,7 @@ module _ {S : Type 0} (shows : S → Home) (p : Plan) (s : State S View) (id : �
   }
 
   light_law : Lawful shows p s → Lawful shows p t
-  light_law o = slot_frame shows p s o id v w here s.words record { plan = ap (λ (u : View). u.plan) a.others; claims = ap (λ (u : View). u.claims) a.others; loose = ap (λ (u : View). u.loose) a.others; rights = ap (λ (u : View). u.rights) a.others; hands = ap (λ (u : View). u.hands) a.others; lists = ap (λ (u : View). u.lists) a.others }
+  light_law o = slot_frame shows p s o id v w here s.words (a.others ∙ ap (λ (u : View). record v { marks = w.marks; passes = u.passes; stores = u.stores }) (sym a.others))
       record {
         given = λ j h k. a.marks (is_linked h k) (λ g n. refl) j;
         ended = λ j h. a.marks (is_freer h) (λ g n. refl) j;

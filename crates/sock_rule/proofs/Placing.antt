@@ -82,7 +82,7 @@ module _ {S : Type 0} (shows : S → Home) (p : Plan) (s : State S View) (id : �
   }
 
   noted_law : Lawful shows p s → Lawful shows p t
-  noted_law o = slot_frame shows p s o id v w here s.words record { plan = refl; claims = refl; loose = refl; rights = refl; hands = refl; lists = refl } (wrote_steady v x word).0.0
+  noted_law o = slot_frame shows p s o id v w here s.words refl (wrote_steady v x word).0.0
       record { heads = λ k j e. refl; nexts = λ r l. refl; requests = λ r l. refl; places = λ l ll. refl }
       (λ j jl r. o.in_slots.reset j jl (subst (λ (l : SlotFacts). 0 < count is_reset l) (local_same j) r)) (still_holds p v w (λ j h k. omega arith) (λ j h. omega arith) refl (o.held id v here)) (inl (λ j y. omega arith)) (noted_references o.references)
 

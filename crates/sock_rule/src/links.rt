@@ -1,6 +1,6 @@
 // L1 and L2 of links that nobody has a right to write. While such a link is in hand, the seat notes where its half has faults. A link comes out of its home by an
 // exchange of 0 for 0, which takes the slot's turn and is told the ways of the links, and a plain move, and goes back by a plain move and a load that gives the turn back.
-ghost use Rattle.std.specs.Prelude.{◌≡◌, ◌+◌, ◌-◌, ◌<◌, ℕ, [], ◌∷◌};
+ghost use Rattle.std.specs.Prelude.{◌≡◌, ◌+◌, ◌<◌, [], ◌∷◌};
 ghost use Rattle.atomic_table.specs.Table.{rest};
 ghost use Rattle.sock_model.specs.Weights.{is_recycled, is_met};
 ghost use Rattle.sock_model.specs.SlotRows.{marks_of};
@@ -8,8 +8,7 @@ ghost use Rattle.sock_model.specs.ChainRows.{with_hand, without_hand, spent_hand
 ghost use Rattle.sock_rule.specs.declared.homes.SockHome.TheVariants.{Empty, Link};
 ghost use Rattle.sock_rule.specs.OnKey.{LinkOnTop};
 ghost use Rattle.sock_rule.specs.Seated.{IsSeat};
-ghost use Rattle.sock_rule.specs.Shows.{way_at};
-ghost use Rattle.sock_rule.specs.Faults.{faults_of, fault_found, fault_left, CameOut};
+ghost use Rattle.sock_rule.specs.Faults.{fault_found, fault_left, CameOut};
 ghost use Rattle.sock_rule.specs.Hands.{hand_of, Recycles};
 
 use crate::homes::{LinkHome, SockHome};
@@ -31,7 +30,8 @@ impl<O: Out> RuleTable<O> {
         let said = self.said();
         let shared = &self.table.shared;
         shared.compare_exchange_with::<TakeLast>(seat, 6 * at as usize + 2, 0, 0, &said);
-        self.take_link_home(seat, link, said)
+        drop(said);
+        self.take_link_home(seat, link)
     }
 
     /// L1 of a link whose pass gets no socket: the pass is spent.
@@ -45,18 +45,16 @@ impl<O: Out> RuleTable<O> {
         let said = self.said();
         let shared = &self.table.shared;
         shared.compare_exchange_with::<SpendPass>(seat, 0, 0, 0, &said);
-        self.take_link_home(seat, link, said)
+        drop(said);
+        self.take_link_home(seat, link)
     }
 
     /// L2: the link in hand goes home, with what it took.
     pub fn put_link(&self, seat: &mut SockSeat<O>, link: u16, home: LinkHome<O>)
         requires seat { IsSeat self.now.table.shared.table_id self.now.plan seat.old }
-        requires inside { link < self.now.plan.links }
         requires top { seat.old.me.1 ≡ (self.now.plan.requests + link, Empty) ∷ rest seat.old.me.1 }
         requires hand { seat.old.me.0.hands ≡ hand_of link home.took.list home.next ∷ [] }
-        requires link { (O.state home.out).link ≡ link }
-        requires way { (O.state home.out).way ≡ way_at self.now.ways.list link }
-        requires noted { 0 < faults_of link seat.old.me.0 → 0 < (O.state home.out).faults }
+        requires came { CameOut self.now.plan self.now.ways.list link seat.old.me.0 (O.state home.out) }
         ensures seat { IsSeat self.now.table.shared.table_id self.now.plan seat.new }
         ensures view { seat.new.me ≡ (fault_left (O.state home.out).faults link (without_hand seat.old.me.0 link), rest seat.old.me.1) }
     {
@@ -65,20 +63,14 @@ impl<O: Out> RuleTable<O> {
         self.table.shared.load::<PutLink>(seat, 0);
     }
 
-    // The link of this number comes out of its home, which the seat has in hand. What the step was told is let go.
-    pub(crate) fn take_link_home(
-        &self,
-        seat: &mut SockSeat<O>,
-        link: u16,
-        said: SockHome<O>,
-    ) -> LinkHome<O>
+    // The link of this number comes out of its home, which the seat has in hand.
+    pub(crate) fn take_link_home(&self, seat: &mut SockSeat<O>, link: u16) -> LinkHome<O>
         requires seat { seat.old.table_id ≡ self.now.table.shared.table_id }
         requires home { LinkOnTop (self.now.plan.requests + link) seat.old.me }
         ensures seat { seat.new.table_id ≡ seat.old.table_id }
         ensures home { seat.old.me.1 ≡ (self.now.plan.requests + link, Link result) ∷ rest seat.old.me.1 }
         ensures view { seat.new.me ≡ (seat.old.me.0, (self.now.plan.requests + link, Empty) ∷ rest seat.old.me.1) }
     {
-        drop(said);
         let home_index = self.plan.requests as usize + link as usize;
         self.take_home(seat, home_index)
     }

@@ -38,7 +38,8 @@ impl<O: Out> RuleTable<O> {
         let said = self.said();
         let shared = &self.table.shared;
         shared.compare_exchange_with::<TakeOwn>(seat, 6 * at as usize + 2, 0, 0, &said);
-        self.take_link_home(seat, link, said)
+        drop(said);
+        self.take_link_home(seat, link)
     }
 
     /// The seat notes that a fault of the link in hand came.

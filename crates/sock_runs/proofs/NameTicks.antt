@@ -73,6 +73,5 @@ module _ (p : Plan) (s : State Home View) (o : Lawful (λ home. home) p s) (i : 
 
   pub store_opens : (n w : ℕ) → May p v (StoreOpen n w) → KeepsWord p s i v (StoreOpen n w)
   store_opens n w may = ⊎_elim
-      (λ e. subst (λ z. KeepsWord p s i v (StoreOpen n z)) (sym e) (slot_law (λ home. home) p s o i v at (open_index p n) NO_SOCKET (omega arith) (λ j jl q. omega arith) (wrote (open_index p n) NO_SOCKET v)
-      record { plan = refl; claims = refl; loose = refl; rights = refl; hands = refl; lists = refl } (wrote_steady v (open_index p n) NO_SOCKET) (no_socket_refs n may.0)))
+      (λ e. subst (λ z. KeepsWord p s i v (StoreOpen n z)) (sym e) (slot_law (λ home. home) p s o i v at (open_index p n) NO_SOCKET (omega arith) (λ j jl q. omega arith) (wrote (open_index p n) NO_SOCKET v) refl (wrote_steady v (open_index p n) NO_SOCKET) (no_socket_refs n may.0)))
       (λ k. store_open_law (λ home. home) p s o i v at (socket_id_slot (w - 1)) k.1.0 n w may.0 (inr (refl, k.1.1))) may.1

@@ -34,7 +34,7 @@ use Rattle.chain_steps.proofs.Frames.{Changed, in_log}
 use Rattle.chain_steps.proofs.Gather.{gather_same}
 use Rattle.chain_steps.proofs.Settles.{comes_in}
 use Rattle.sock_steps.proofs.Quiet.{Less, More, less_add, more_add, less_without, more_without}
-use Rattle.sock_steps.proofs.Steady.{same_chain, waits-taken, staged_steady, staged_else}
+use Rattle.sock_steps.proofs.Steady.{waits-taken, staged_steady, staged_else}
 use Rattle.sock_steps.proofs.Places.{counts, own_count, given_more, failed_more, busy_idle, claimed_unborn}
 use Rattle.sock_steps.proofs.SlotFrame.{still_holds, ChainWords, head_is, whole_law, slot_frame}
 use Rattle.sock_steps.proofs.SlotSteps.{low_words}
@@ -58,7 +58,7 @@ module _ {S : Type 0} (shows : S → Home) (p : Plan) (s : State S View) (o : La
   -- S3
   pub reset_law : (k : ℕ) → 0 < marks_of (is_stage 1 k) i v → Lawful shows p (stepped s (head_index i) IDLE id [] (staged i 1 k 2 v) keeps)
   reset_law k there = let w : View = staged i 1 k 2 v in let st = staged_steady v i 1 k 2 there (λ x. refl) in let sized = o.references.sized in
-      slot_frame shows p s o id v w here (set s.words (head_index i) IDLE) (same_chain v w refl) st.0
+      slot_frame shows p s o id v w here (set s.words (head_index i) IDLE) refl st.0
       record {
         heads = λ l j e. let a = o.in_slots.lives l j e in get_or-set_other s.words (head_index i) (head_index j) IDLE 0 (λ q. let same : j ≡ i = omega arith in claimed_idle 1 k there a.0 l (subst (λ y. Lives p s y a.0 l) same a.1));
         nexts = λ r rl. get_or-set_other s.words (head_index i) (next_index p r) IDLE 0 (λ q. omega arith);
@@ -201,7 +201,7 @@ module _ {S : Type 0} (shows : S → Home) (p : Plan) (s : State S View) (o : La
 
     -- A2
     pub birth_law : Lawful shows p (stepped s (ref_index i) ((found + 1) % 2 ^ 64) id [] (gave_birth i found k v) keeps)
-    birth_law = whole_law shows p s o id v w here ws (same_chain v w refl) slot (birth_keeps p s o.references id v here [] keeps i inside fits k there) slots_after
+    birth_law = whole_law shows p s o id v w here ws refl slot (birth_keeps p s o.references id v here [] keeps i inside fits k there) slots_after
         (still_holds p v w (λ a b c. more (is_met b c) refl a) (λ a b. more (is_hold b) refl a) refl (o.held id v here))
         (comes_in o.chains k was_home.0 no_entries (ap (head_at s.words) no_slot) heads words.nexts words.requests (λ l ll. rights_same l)
         (λ r rl. gather_same (claims_of r) s.views id v w here refl) (λ r rl. gather_same (loose_at r) s.views id v w here refl))

@@ -32,7 +32,6 @@ use Rattle.chain_steps.proofs.Frames.{Changed}
 use Rattle.chain_steps.proofs.Gather.{gather_same}
 use Rattle.chain_steps.proofs.Settles.{goes_out}
 use Rattle.sock_steps.proofs.Quiet.{Less, More, less_add, more_add, less_without, more_without, waits-without}
-use Rattle.sock_steps.proofs.Steady.{same_chain}
 use Rattle.sock_steps.proofs.Places.{counts, own_count, given_more, failed_more, last_life, one_link, holder_lives, held_nref}
 use Rattle.sock_steps.proofs.SlotFrame.{still_holds, ChainWords, head_is, whole_law}
 use Rattle.sock_steps.proofs.SlotSteps.{low_words}
@@ -173,7 +172,7 @@ module _ {S : Type 0} (shows : S → Home) (p : Plan) (s : State S View) (o : La
       carry l {v'} u rec (inr a) = let b = a.recycling in inr record { slot = a.slot; version = a.version; recycling = omega (arith, rec a.slot a.version); life = to a.slot (a.version - 2) l a.life }
 
   won : References p t → Lawful shows p t
-  won refs = whole_law shows p s o id v w here ws (same_chain v w refl) slot refs slots_after (still_holds p v w (λ a b l. more (is_met b l) refl a) (λ a b. more (is_hold b) refl a) refl (o.held id v here))
+  won refs = whole_law shows p s o id v w here ws refl slot refs slots_after (still_holds p v w (λ a b l. more (is_met b l) refl a) (λ a b. more (is_hold b) refl a) refl (o.held id v here))
       (goes_out o.chains k k_in gone heads words.nexts words.requests (λ l ll. rights_same l) (λ r rl. gather_same (claims_of r) s.views id v w here refl) (λ r rl. gather_same (loose_at r) s.views id v w here refl))
       words.places (λ l ll. failed_more s id v w here ws s.homes p (λ j h y. more (is_linked h y) refl j) (λ j h. more (is_failer h) refl j) l) homes_after
     where

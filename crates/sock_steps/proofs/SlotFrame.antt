@@ -1,13 +1,9 @@
 -- A step on a word of a slot, or on a word that names a life, leaves the chains' part of the rule as it was.
-use Rattle.std.proofs.Common.{◌≡◌, ℕ, ◌-◌, ◌*◌, ◌<◌, ◌≤◌, ◌⊎◌, eqb, List, get_or, set, refl, sym, ap, ◌∙◌, subst, inl, inr, ⊎_elim, arith}
-use Rattle.std.specs.List.{filter}
+use Rattle.std.proofs.Common.{◌≡◌, ℕ, ◌-◌, ◌*◌, ◌<◌, ◌≤◌, ◌⊎◌, List, get_or, set, refl, sym, ap, ◌∙◌, subst, inl, inr, ⊎_elim, arith}
 use mathlib.Core.Option.{Option, some, none}
 use lib.ListN.{get_elem?}
 use Rattle.atomic_table.specs.Table.{State}
 use Rattle.atomic_table.proofs.Lists.{at_set}
-use Rattle.slot_steps.specs.sock_model.specs.declared.chain.Right.{Right}
-use Rattle.slot_steps.specs.sock_model.specs.declared.chain.Claim.{Claim}
-use Rattle.slot_steps.specs.sock_model.specs.declared.chain.Loose.{Loose}
 use Rattle.slot_steps.specs.sock_model.specs.declared.home.Home.{Home}
 use Rattle.slot_steps.specs.sock_words.specs.declared.plain.Plan.{Plan}
 use Rattle.slot_steps.specs.sock_model.specs.declared.view.View.{View}
@@ -17,7 +13,7 @@ use Rattle.slot_steps.specs.sock_model.specs.Slots.{count}
 use Rattle.slot_steps.specs.sock_model.specs.References.{slot_facts, References}
 use Rattle.slot_steps.specs.sock_model.specs.SlotRows.{marks_of}
 use Rattle.slot_steps.specs.sock_model.specs.Memory.{IDLE}
-use Rattle.slot_steps.specs.sock_model.specs.Reads.{head_at, memory, rights_on, claims_of, loose_at, tokens, link_home, message, waits_of, carries, hands_of}
+use Rattle.slot_steps.specs.sock_model.specs.Reads.{head_at, memory, rights_on, claims_of, loose_at, tokens, link_home, message, waits_of, hands_of}
 use Rattle.slot_steps.specs.sock_model.specs.declared.view.Hand.{Hand}
 use Rattle.slot_steps.specs.sock_model.specs.Entries.{on}
 use Rattle.slot_steps.specs.sock_model.specs.Chains.{Chains}
@@ -81,13 +77,13 @@ module _ {S : Type 0} (shows : S → Home) (p : Plan) (s : State S View) (o : La
   t = record { words = ws; homes = s.homes; views = set s.views id w }
 
   pub rights_stay : (k : ℕ) → (tokens (set s.views id w)).rights k ≡ (tokens s.views).rights k
-  rights_stay k = gather_same (rights_on k) s.views id v w here (ap (λ (l : List Right). filter (λ (x : Right). eqb x.link k) l) same.rights)
+  rights_stay k = gather_same (rights_on k) s.views id v w here (ap (rights_on k) same)
 
   pub claims_stay : (r : ℕ) → (tokens (set s.views id w)).claims r ≡ (tokens s.views).claims r
-  claims_stay r = gather_same (claims_of r) s.views id v w here (ap (λ (l : List Claim). filter (λ (x : Claim). eqb x.request r) l) same.claims)
+  claims_stay r = gather_same (claims_of r) s.views id v w here (ap (claims_of r) same)
 
   pub loose_stay : (r : ℕ) → (tokens (set s.views id w)).loose r ≡ (tokens s.views).loose r
-  loose_stay r = gather_same (loose_at r) s.views id v w here (ap (λ (l : List Loose). filter (λ (x : Loose). eqb x.request r) l) same.loose)
+  loose_stay r = gather_same (loose_at r) s.views id v w here (ap (loose_at r) same)
 
   held_stay : HoldsRights p w → (j : ℕ) (u : View) → get_elem? (set s.views id w) j ≡ some u → HoldsRights p u
   held_stay now j u g = ⊎_elim (λ y. subst (HoldsRights p) y.1 now) (λ y. o.held j u y.1) (at_set s.views id j w u g)
@@ -96,15 +92,15 @@ module _ {S : Type 0} (shows : S → Home) (p : Plan) (s : State S View) (o : La
   pub whole_law : (slot : ℕ → Option ℕ) → References p t → InSlots p t slot o.log → HoldsRights p w → Chains p.links p.requests (memory p slot ws) (tokens (set s.views id w)) o.log o.freed o.places
       → ((l : ℕ) → l < 8 * p.operations → get_or ws (place_index p l) 0 ≡ get_or s.words (place_index p l) 0) → ((k : ℕ) → k < p.links → Failed p s k → Failed p t k) → LinkHomes shows p t slot → Lawful shows p t
   whole_law slot references in_slots held chains places fails homes = again shows p o t slot references in_slots (held_stay held) chains
-      (keeps_lists (λ (y : View). y.lists) s.views o.log id v w o.authors here same.lists)
+      (keeps_lists (λ (y : View). y.lists) s.views o.log id v w o.authors here (ap (λ (y : View). y.lists) same))
       (messages_frame o.chains o.messages (tokens (set s.views id w)) (message shows s.homes) (λ r rl. refl) (λ r rl. claims_stay r)
       (λ k e kl u. record { right = u.right; has = rights_stay k ∙ u.has; stage = u.stage; taken = u.taken }) (λ k r kl h f. (r, sym (rights_stay k) ∙ h, f, refl, refl, refl)))
       (delivers_failed (delivers_same o.delivered (tokens (set s.views id w)) (λ l. get_or ws (place_index p l) 0) places (λ k r kl h. (r, sym (rights_stay k) ∙ h, refl, refl, refl))) (Failed p t) fails)
-      (λ j n u h g e. ⊎_elim (λ y. o.carried id n v h here (subst (λ l. get_elem? l n ≡ some h) (ap (λ (z : View). z.hands) (sym y.1) ∙ same.hands) e)) (λ y. o.carried j n u h y.1 e) (at_set s.views id j w u g)) homes
+      (λ j n u h g e. ⊎_elim (λ y. o.carried id n v h here (subst (λ l. get_elem? l n ≡ some h) (ap (λ (z : View). z.hands) (sym y.1 ∙ same)) e)) (λ y. o.carried j n u h y.1 e) (at_set s.views id j w u g)) homes
 
   module _ (st : Steady v w) where
     handlers_stay : (k : ℕ) → total (hands_of k) (set s.views id w) ≡ total (hands_of k) s.views
-    handlers_stay k = omega (arith, total-set (hands_of k) s.views id v w here, ap (total (carries k)) same.hands)
+    handlers_stay k = omega (arith, total-set (hands_of k) s.views id v w here, ap (hands_of k) same)
 
     waiters_less : (k : ℕ) → total (waits_of k) (set s.views id w) ≤ total (waits_of k) s.views
     waiters_less k = omega (arith, total-set (waits_of k) s.views id v w here, st.waits k)
@@ -121,7 +117,7 @@ module _ {S : Type 0} (shows : S → Home) (p : Plan) (s : State S View) (o : La
     homes_stay : ((j x : ℕ) → marks_of (is_recycled x) j v ≤ marks_of (is_recycled x) j w) ⊎ ((k : ℕ) → hands_of k w ≡ 0) → LinkHomes shows p t o.slot
     homes_stay hands = homes_again shows p o ws (set s.views id w) (λ k. rights_stay k) (λ k. waiters_less k) (λ k. handlers_stay k)
         (λ j k u g h. ⊎_elim
-        (λ y. let hv : 0 < hands_of k v = omega (arith, ap (hands_of k) y.1, ap (total (carries k)) same.hands) in
+        (λ y. let hv : 0 < hands_of k v = omega (arith, ap (hands_of k) y.1, ap (hands_of k) same) in
         ⊎_elim (λ more. carry u (λ a x. let q = ap (λ (z : View). marks_of (is_recycled x) a z) y.1 in omega (arith, more a x)) (o.homes.hand_of id k v here hv))
         (λ none_. absurd (omega (arith, none_ k, ap (hands_of k) y.1))) hands)
         (λ y. carry u (λ a x. omega arith) (o.homes.hand_of j k u y.1 h)) (at_set s.views id j w u g))

@@ -31,7 +31,7 @@ use Rattle.slot_steps.proofs.Slots.{IsRef, probe-ref, hold-ref, probe_is}
 use Rattle.slot_steps.proofs.Kept.{conds, claim_keeps, add_ref_keeps, sub_ref_keeps, life_found, set_odd_keeps, recycle_lost_keeps, free_keeps, look_keeps}
 use Rattle.slot_steps.proofs.Stored.{link_keeps, wipe_keeps, code_keeps, found_code_keeps, find_keeps, meet_keeps, meet_last_keeps, store_name_keeps, store_open_keeps}
 use Rattle.sock_steps.proofs.Quiet.{either_way}
-use Rattle.sock_steps.proofs.Steady.{Steady, NoReset, Holds, SameChain, same_chain, added_steady, added_holds, subbed_steady, subbed_recycling, subbed_else, failed_steady, failed_holds, looked_steady, met_steady, met_link_steady, claimed_steady, freed_steady, lost_steady, coded_steady, told_steady, wrote_steady, staged_steady, staged_reset, linked_steady}
+use Rattle.sock_steps.proofs.Steady.{Steady, NoReset, Holds, SameChain, added_steady, added_holds, subbed_steady, subbed_recycling, subbed_else, failed_steady, failed_holds, looked_steady, met_steady, met_link_steady, claimed_steady, freed_steady, lost_steady, coded_steady, told_steady, wrote_steady, staged_steady, staged_reset, linked_steady}
 use Rattle.sock_steps.proofs.Places.{counts}
 use Rattle.sock_steps.proofs.SlotFrame.{still_holds, ChainWords, slot_frame}
 
@@ -74,7 +74,7 @@ module _ {S : Type 0} (shows : S → Home) (p : Plan) (s : State S View) (o : La
     -- a step that takes no reference back, and frees no slot
     pub slot_law : (w : View) → SameChain v w → (Steady v w × NoReset v w) × Holds v w → References p (stepped s x n id [] w keeps) → Lawful shows p (stepped s x n id [] w keeps)
     slot_law w same st refs = slot_frame shows p s o id v w here (set s.words x n) same st.0.0 low_words (still_reset w st.0.1)
-        (still_holds p v w st.0.0.met st.1.hold same.rights (o.held id v here)) (inl st.1.recycling) refs
+        (still_holds p v w st.0.0.met st.1.hold (ap (λ (u : View). u.rights) same) (o.held id v here)) (inl st.1.recycling) refs
 
   module _ (i : ℕ) (inside : i < p.slots) where
     abbrev found : ℕ
@@ -82,13 +82,13 @@ module _ {S : Type 0} (shows : S → Home) (p : Plan) (s : State S View) (o : La
 
     -- A1
     pub claim_law : Lawful shows p (stepped s (tag_index i) 1 id [] (claimed i (get_or s.words (tag_index i) 0) v) keeps)
-    claim_law = slot_law (tag_index i) 1 (omega arith) (λ j jl e. omega arith) (claimed i (get_or s.words (tag_index i) 0) v) (same_chain v _ refl) (claimed_steady v i (get_or s.words (tag_index i) 0))
+    claim_law = slot_law (tag_index i) 1 (omega arith) (λ j jl e. omega arith) (claimed i (get_or s.words (tag_index i) 0) v) refl (claimed_steady v i (get_or s.words (tag_index i) 0))
         (claim_keeps p s o.references id v here [] keeps i inside)
 
     module _ (fits : found < 18446744073709551616) where
       -- A3
       pub add_law : (is_life : Bool) → (is_life ≡ true → 0 < marks_of (is_known (version_of found)) i v) → marks_of is_ref i v < 65540 → Lawful shows p (stepped s (ref_index i) ((found + 1) % 2 ^ 64) id [] (added i found is_life v) keeps)
-      add_law is_life known room = slot_law (ref_index i) ((found + 1) % 2 ^ 64) (omega arith) (λ j jl e. omega arith) (added i found is_life v) (same_chain v _ refl) (added_steady v i found is_life, added_holds v i found is_life)
+      add_law is_life known room = slot_law (ref_index i) ((found + 1) % 2 ^ 64) (omega arith) (λ j jl e. omega arith) (added i found is_life v) refl (added_steady v i found is_life, added_holds v i found is_life)
           (add_ref_keeps p s o.references id v here [] keeps i inside fits is_life known room)
 
       -- A4, where each right of the seat keeps its life
@@ -110,7 +110,7 @@ module _ {S : Type 0} (shows : S → Home) (p : Plan) (s : State S View) (o : La
                   (λ far. omega (arith, subbed_else v i found (back i found v) kind b.1 b.2 far));
             },
           ) in
-          slot_frame shows p s o id v w here (set s.words (ref_index i) n) (same_chain v w refl) st.0 (low_words (ref_index i) n (omega arith) (λ j jl e. omega arith)) (still_reset (ref_index i) n (omega arith) (λ j jl e. omega arith) w st.1)
+          slot_frame shows p s o id v w here (set s.words (ref_index i) n) refl st.0 (low_words (ref_index i) n (omega arith) (λ j jl e. omega arith)) (still_reset (ref_index i) n (omega arith) (λ j jl e. omega arith) w st.1)
           held (inl (subbed_recycling v i found (back i found v) kind)) (sub_ref_keeps p s o.references id v here [] keeps i inside fits there idle)
         where
           kept_hold : (h : ℕ) → 0 < marks_of is_ref i v → 0 < marks_of (is_hold h) i v → (0 < marks_of is_probe i v) ⊎ (1 < marks_of (is_hold h) i v) → 0 < marks_of (is_hold h) i (subbed i found (back i found v) v)
@@ -125,68 +125,68 @@ module _ {S : Type 0} (shows : S → Home) (p : Plan) (s : State S View) (o : La
 
       -- A5
       pub set_odd_law : (h : ℕ) → 0 < marks_of (is_hold h) i v → marks_of is_ref i v < 65540 → Lawful shows p (stepped s (ref_index i) (bit_or found 4294967296) id [] (failed i found v) keeps)
-      set_odd_law h there room = slot_law (ref_index i) (bit_or found 4294967296) (omega arith) (λ j jl e. omega arith) (failed i found v) (same_chain v _ refl) (failed_steady v i found, failed_holds v i found)
+      set_odd_law h there room = slot_law (ref_index i) (bit_or found 4294967296) (omega arith) (λ j jl e. omega arith) (failed i found v) refl (failed_steady v i found, failed_holds v i found)
           (set_odd_keeps p s o.references id v here [] keeps i inside fits h there room)
 
       -- A6, lost
       pub recycle_lost_law : (from : ℕ) → found ≢ from → nref_of from ≡ 0 → 0 < marks_of (is_zero (version_of from)) i v → Lawful shows p (stepped s (ref_index i) found id [] (recycled i from found v) keeps)
-      recycle_lost_law from miss last there = slot_law (ref_index i) found (omega arith) (λ j jl e. omega arith) (recycled i from found v) (same_chain v _ refl) (lost_steady v i from found miss)
+      recycle_lost_law from miss last there = slot_law (ref_index i) found (omega arith) (λ j jl e. omega arith) (recycled i from found v) refl (lost_steady v i from found miss)
           (recycle_lost_keeps p s o.references id v here [] keeps i inside fits from miss last there)
 
       -- A8, without a right
       pub look_law : Lawful shows p (stepped s (ref_index i) found id [] (looked i found v) keeps)
-      look_law = slot_law (ref_index i) found (omega arith) (λ j jl e. omega arith) (looked i found v) (same_chain v _ refl) (looked_steady v i found)
+      look_law = slot_law (ref_index i) found (omega arith) (λ j jl e. omega arith) (looked i found v) refl (looked_steady v i found)
           (look_keeps p s o.references id v here [] keeps i inside fits)
 
     -- A7
     pub free_law : (x : ℕ) → 0 < marks_of (is_recycled x) i v → x ≤ 4294967292 → v.hands ≡ [] → Lawful shows p (stepped s (tag_index i) 0 id [] (freed i v) keeps)
     free_law x there last empty = let st = freed_steady v i in
-        slot_frame shows p s o id v (freed i v) here (set s.words (tag_index i) 0) (same_chain v _ refl) st.0.0 (low_words (tag_index i) 0 (omega arith) (λ j jl e. omega arith)) (still_reset (tag_index i) 0 (omega arith) (λ j jl e. omega arith) (freed i v) st.0.1)
+        slot_frame shows p s o id v (freed i v) here (set s.words (tag_index i) 0) refl st.0.0 (low_words (tag_index i) 0 (omega arith) (λ j jl e. omega arith)) (still_reset (tag_index i) 0 (omega arith) (λ j jl e. omega arith) (freed i v) st.0.1)
         (still_holds p v (freed i v) st.0.0.met st.1 refl (o.held id v here)) (inr (λ k. ap (total (carries k)) empty)) (free_keeps p s o.references id v here [] keeps i inside x there last)
 
     -- S1
     pub link_law : (k : ℕ) → 0 < marks_of (is_stage 0 0) i v → 0 < total (only k) v.passes → Lawful shows p (stepped s (link_index i) k id [] (linked i k v) keeps)
-    link_law k there pass = slot_law (link_index i) k (omega arith) (λ j jl e. omega arith) (linked i k v) (same_chain v _ refl) (linked_steady v i k there pass)
+    link_law k there pass = slot_law (link_index i) k (omega arith) (λ j jl e. omega arith) (linked i k v) refl (linked_steady v i k there pass)
         (link_keeps p s o.references id v here [] keeps i inside k there pass)
 
     -- S2, of a life that it holds
     pub meet_law : (h : ℕ) → 0 < marks_of (is_hold h) i v → Lawful shows p (stepped s (link_index i) (slot_facts s i).link id [] (met_link i h (slot_facts s i).link v) keeps)
-    meet_law h there = slot_law (link_index i) (slot_facts s i).link (omega arith) (λ j jl e. omega arith) (met_link i h (slot_facts s i).link v) (same_chain v _ refl) (met_link_steady v i h (slot_facts s i).link)
+    meet_law h there = slot_law (link_index i) (slot_facts s i).link (omega arith) (λ j jl e. omega arith) (met_link i h (slot_facts s i).link v) refl (met_link_steady v i h (slot_facts s i).link)
         (meet_keeps p s o.references id v here [] keeps i inside h there)
 
     -- S2, of whoever recycled the slot
     pub meet_last_law : (x : ℕ) → 0 < marks_of (is_recycled x) i v → Lawful shows p (stepped s (link_index i) (slot_facts s i).link id [] (met_link i (x - 2) (slot_facts s i).link v) keeps)
-    meet_last_law x there = slot_law (link_index i) (slot_facts s i).link (omega arith) (λ j jl e. omega arith) (met_link i (x - 2) (slot_facts s i).link v) (same_chain v _ refl) (met_link_steady v i (x - 2) (slot_facts s i).link)
+    meet_last_law x there = slot_law (link_index i) (slot_facts s i).link (omega arith) (λ j jl e. omega arith) (met_link i (x - 2) (slot_facts s i).link v) refl (met_link_steady v i (x - 2) (slot_facts s i).link)
         (meet_last_keeps p s o.references id v here [] keeps i inside x there)
 
     -- S4 of 0
     pub wipe_law : (k : ℕ) → 0 < marks_of (is_stage 2 k) i v → Lawful shows p (stepped s (code_index i) 0 id [] (staged i 2 k 3 v) keeps)
-    wipe_law k there = let st = staged_steady v i 2 k 3 there (λ x. refl) in slot_law (code_index i) 0 (omega arith) (λ j jl e. omega arith) (staged i 2 k 3 v) (same_chain v _ refl) ((st.0, staged_reset v i 2 k 3 there refl), st.1)
+    wipe_law k there = let st = staged_steady v i 2 k 3 there (λ x. refl) in slot_law (code_index i) 0 (omega arith) (λ j jl e. omega arith) (staged i 2 k 3 v) refl ((st.0, staged_reset v i 2 k 3 there refl), st.1)
         (wipe_keeps p s o.references id v here [] keeps i inside k there)
 
     -- S4 of a code
     pub code_law : (h d : ℕ) → 0 < marks_of (is_coding h) i v → d ≢ 0 → Lawful shows p (stepped s (code_index i) d id [] (coded i h d v) keeps)
-    code_law h d there some_ = slot_law (code_index i) d (omega arith) (λ j jl e. omega arith) (coded i h d v) (same_chain v _ refl) (coded_steady v i h d)
+    code_law h d there some_ = slot_law (code_index i) d (omega arith) (λ j jl e. omega arith) (coded i h d v) refl (coded_steady v i h d)
         (code_keeps p s o.references id v here [] keeps i inside h d there some_)
 
     -- S5 of a code
     pub found_code_law : (h : ℕ) → 0 < marks_of (is_hold h) i v → 0 < (slot_facts s i).code → Lawful shows p (stepped s (code_index i) (slot_facts s i).code id [] (told_code i h (slot_facts s i).code v) keeps)
-    found_code_law h there some_ = slot_law (code_index i) (slot_facts s i).code (omega arith) (λ j jl e. omega arith) (told_code i h (slot_facts s i).code v) (same_chain v _ refl) (told_steady v i h (slot_facts s i).code)
+    found_code_law h there some_ = slot_law (code_index i) (slot_facts s i).code (omega arith) (λ j jl e. omega arith) (told_code i h (slot_facts s i).code v) refl (told_steady v i h (slot_facts s i).code)
         (found_code_keeps p s o.references id v here [] keeps i inside h there some_)
 
     -- S7, of a name or an operation's word
     pub find_law : (x h : ℕ) → x < 6 * p.slots + p.names + p.operations → ((j : ℕ) → j < p.slots → x ≢ head_index j) → 0 < count (is_born h) (slot_facts s i) → Lawful shows p (stepped s x (get_or s.words x 0) id [] (met i h v) keeps)
-    find_law x h low no_head there = slot_law x (get_or s.words x 0) low no_head (met i h v) (same_chain v _ refl) (met_steady v i h)
+    find_law x h low no_head there = slot_law x (get_or s.words x 0) low no_head (met i h v) refl (met_steady v i h)
         (find_keeps p s o.references id v here [] keeps i inside x h there)
 
     -- S6 into a name
     pub store_name_law : (n val : ℕ) → n < p.names → (val - 1) % 4294967296 ≡ i → 0 < marks_of (is_known ((val - 1) / 4294967296)) i v → Lawful shows p (stepped s (name_index p n) val id [] (wrote (name_index p n) val v) keeps)
-    store_name_law n val inside_n at_i known = slot_law (name_index p n) val (omega arith) (λ j jl e. omega arith) (wrote (name_index p n) val v) record { plan = refl; claims = refl; loose = refl; rights = refl; hands = refl; lists = refl } (wrote_steady v (name_index p n) val)
+    store_name_law n val inside_n at_i known = slot_law (name_index p n) val (omega arith) (λ j jl e. omega arith) (wrote (name_index p n) val v) refl (wrote_steady v (name_index p n) val)
         (store_name_keeps p s o.references id v here [] keeps i inside n val inside_n at_i known)
 
     -- S6 into an operation's word
     pub store_open_law : (n val : ℕ) → n < p.operations → (val ≡ 18446744073709551615) ⊎ (((val - 1) % 4294967296 ≡ i) × (0 < marks_of (is_known ((val - 1) / 4294967296)) i v)) → Lawful shows p (stepped s (open_index p n) val id [] (wrote (open_index p n) val v) keeps)
-    store_open_law n val inside_n how = slot_law (open_index p n) val (omega arith) (λ j jl e. omega arith) (wrote (open_index p n) val v) record { plan = refl; claims = refl; loose = refl; rights = refl; hands = refl; lists = refl } (wrote_steady v (open_index p n) val)
+    store_open_law n val inside_n how = slot_law (open_index p n) val (omega arith) (λ j jl e. omega arith) (wrote (open_index p n) val v) refl (wrote_steady v (open_index p n) val)
         (store_open_keeps p s o.references id v here [] keeps i inside n val inside_n how)
 
   -- a load that tells nothing: S5 and S7 of 0, C5 of UNCONNECTED

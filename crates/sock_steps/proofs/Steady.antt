@@ -9,7 +9,6 @@ use Rattle.slot_steps.specs.sock_model.specs.declared.view.View.{View}
 use Rattle.slot_steps.specs.sock_model.specs.Weights.{total, only, is_failer, is_freer, is_linked, is_met, is_hold, is_zero, is_coding, is_stage, is_recycling, is_recycled, is_reset, is_waiting}
 use Rattle.slot_steps.specs.sock_model.specs.Marks.{about, at, without, without_at}
 use Rattle.slot_steps.specs.sock_model.specs.Slots.{version_of, nref_of}
-use Rattle.slot_steps.specs.sock_model.specs.References.{OnlyMarks}
 use Rattle.slot_steps.specs.sock_model.specs.SlotRows.{marks_of, claimed, added, subbed, failed, recycled, freed, looked, linked, staged, coded, told_code, met, wrote, met_link}
 use Rattle.slot_steps.specs.sock_model.specs.Reads.{waits_link, waits_of}
 use Rattle.slot_steps.proofs.Sums.{taken_as, about-here, about-other}
@@ -36,24 +35,9 @@ pub record Holds (v w : View) : Type 0 where
   pub hold : (j h : ℕ) → marks_of (is_hold h) j v ≤ marks_of (is_hold h) j w
   pub recycling : (j x : ℕ) → marks_of (is_recycled x) j v ≤ marks_of (is_recycled x) j w
 
--- all that the chains read of a view
-pub record SameChain (v w : View) : Type 0 where
-  pub plan : w.plan ≡ v.plan
-  pub claims : w.claims ≡ v.claims
-  pub loose : w.loose ≡ v.loose
-  pub rights : w.rights ≡ v.rights
-  pub hands : w.hands ≡ v.hands
-  pub lists : w.lists ≡ v.lists
-
-pub same_chain : (v w : View) → OnlyMarks v w → SameChain v w
-same_chain v w e = record {
-  plan = ap (λ (u : View). u.plan) e;
-  claims = ap (λ (u : View). u.claims) e;
-  loose = ap (λ (u : View). u.loose) e;
-  rights = ap (λ (u : View). u.rights) e;
-  hands = ap (λ (u : View). u.hands) e;
-  lists = ap (λ (u : View). u.lists) e;
-}
+-- the view w is v in all that the chains read: but for its marks, its passes and its stores
+abbrev pub SameChain : View → View → Type 0
+SameChain v w = let u : View = record v { marks = w.marks; passes = w.passes; stores = w.stores } in w ≡ u
 
 NoFailer : (Mark → ℕ) → Type 0
 NoFailer f = (h : ℕ) → f (Failer h) ≡ 0

@@ -2,6 +2,8 @@
 use Rattle.std.proofs.Common.{◌≡◌, ◌≢◌, ℕ, zero, suc, ◌+◌, ◌-◌, ◌<◌, ◌≤◌, true, false, cond, eqb, List, [], ◌∷◌, le-leb, refl, sym, ap, ◌∙◌, subst, arith}
 use Rattle.std.proofs.lemmas.Bool.{lt-leb}
 use Rattle.atomic_table.specs.Table.{Me, rest}
+use Rattle.sock_io.specs.Link.{OutState}
+use Rattle.sock_words.specs.declared.plain.Plan.{Plan}
 use Rattle.sock_model.specs.declared.marks.Mark.{Mark}
 use Rattle.sock_model.specs.declared.marks.Mark.TheVariants.{Recycling, Zero, Freer, Met}
 use Rattle.sock_model.specs.declared.marks.SlotMark.{SlotMark}
@@ -14,7 +16,7 @@ use Rattle.sock_rule.specs.slot_steps.proofs.Numbers.{only-same, pair-same}
 use Rattle.sock_rule.specs.slot_steps.proofs.Sums.{total_mono}
 use Rattle.sock_rule.specs.Becoming.{Became}
 use Rattle.sock_model.specs.ChainRows.{with_hand, without_hand}
-use Rattle.sock_rule.specs.Faults.{fault, faults_link, faults_of, fault_found, without_fault, fault_left}
+use Rattle.sock_rule.specs.Faults.{fault, faults_link, faults_of, fault_found, without_fault, fault_left, CameOut}
 use Rattle.sock_rule.proofs.Faults.{found_alike}
 use Rattle.sock_rule.specs.Hands.{hand_of, Recycles}
 use Rattle.sock_rule.proofs.Becoming.{then_, back_again, counts_as, becomes, lost_marks, won_marks, met_marks, freed_marks}
@@ -28,9 +30,18 @@ left_found (suc n) v k took next empty =
     ap (λ (ms : List SlotMark). record (without_hand (with_hand v (hand_of k took next)) k) { marks = ms }) gone ∙ back_again v (hand_of k took next) empty
 
 -- a half has faults where its seat noted one, once it is in hand
-pub noted_taken : (n i k : ℕ) (v w : View) → w.marks ≡ v.marks → (0 < faults_of k v → 0 < n) → 0 < faults_of k (fault_found n i k w) → 0 < n
+noted_taken : (n i k : ℕ) (v w : View) → w.marks ≡ v.marks → (0 < faults_of k v → 0 < n) → 0 < faults_of k (fault_found n i k w) → 0 < n
 noted_taken zero i k v w same known some_ = known (subst (λ (ms : List SlotMark). 0 < total (faults_link k) ms) same some_)
 noted_taken (suc n) i k v w same known some_ = omega arith
+
+-- a link that came out of its home, and was ended since, goes back as it came
+pub goes_back : {p : Plan} {ways : List (List ℕ)} {k : ℕ} {v u : View} {o e : OutState} (i : ℕ) (w : View) → CameOut p ways k v o → w.marks ≡ v.marks → u ≡ fault_found o.faults i k w → e.link ≡ o.link → e.way ≡ o.way → e.faults ≡ o.faults → CameOut p ways k u e
+goes_back {k = k} {v = v} {o = o} i w out same is link way faults = record {
+  link_is = link ∙ out.link_is;
+  link_in = out.link_in;
+  way_is = way ∙ out.way_is;
+  known = λ some_. subst (λ (n : ℕ). 0 < n) (sym faults) (noted_taken o.faults i k v w same out.known (subst (λ (x : View). 0 < faults_of k x) is some_));
+}
 
 pub came_home : {S : Type 0} (b t c : Me S View) (k : ℕ) (took : List ℕ) (next n m : ℕ) (x : ℕ × S) → t ≡ (fault_found n 0 k (with_hand b.0 (hand_of k took next)), x ∷ b.1) → m ≡ n → c ≡ (fault_left m k (without_hand t.0 k), rest t.1) → b.0.hands ≡ [] → c ≡ b
 came_home {S} b t c k took next n m x came same went empty = went ∙ ((λ i. (fault_left (same i) k (without_hand (came i).0 k), rest (came i).1)) ∙ (λ i. (left_found n b.0 k took next empty i, b.1)))

@@ -58,10 +58,6 @@ IsFailedVref word = vref_version word % 2 ≡ 1
 abbrev pub ticket : Bool → ℕ → ℕ → ℕ
 ticket idle generation request = bit idle * 2 ^ 63 + generation * 2 ^ 16 + (request + 1)
 
--- the head that no ticket was put into
-abbrev pub idle_head : ℕ
-idle_head = 2 ^ 63
-
 abbrev pub ticket_idle : ℕ → Bool
 ticket_idle word = word / 2 ^ 63 == 1
 

@@ -1,5 +1,5 @@
-ghost use Rattle.std.specs.Prelude.{◌≡◌, ◌↔◌, IsTrue};
-ghost use Rattle.sock_words.specs.Words.{ticket, idle_head, ticket_idle, ticket_generation, ticket_request, HasRequest, FitsTicket, IsTicket, OnlyTicket};
+ghost use Rattle.std.specs.Prelude.{◌≡◌};
+ghost use Rattle.sock_words.specs.Words.{ticket, ticket_idle, ticket_generation, ticket_request, HasRequest, FitsTicket, IsTicket, OnlyTicket};
 
 /// A ticket: the mark of a writer's request in the head of a write chain (bRPC's io.md). It has the
 /// slot of the request and the generation in which the request was claimed, so that no ticket comes
@@ -20,13 +20,6 @@ impl Ticket {
         ensures once { OnlyTicket result.0 idle generation request }
     {
         Ticket((u64::from(idle) << 63) + (generation << 16) + u64::from(request) + 1)
-    }
-
-    /// Whether the head is `IDLE`, which no ticket was ever put into.
-    pub fn is_idle_alone(self) -> bool
-        ensures { IsTrue result ↔ (self.0 ≡ idle_head) }
-    {
-        self == Ticket::IDLE
     }
 
     /// Whether the head is idle.

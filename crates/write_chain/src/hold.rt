@@ -15,7 +15,7 @@ ghost use Rattle.sock_rule.specs.Holding.{Rights, MayFreeRequest};
 ghost use Rattle.write_chain.specs.Noting.{Faulted, Wrote};
 ghost use Rattle.write_chain.specs.Writing.{MayBegin, MayGoOn, Stands, HasLink, HasInHand, HasPart, IsClean, HasWhole, FoundDead, GoesBy, IsLast, OnceBy, TriedBy, TriedFaults, IsDead, IsKeep};
 
-use crate::right::{Chain, Doing, InHand, LinkInHand, WriteRight};
+use crate::right::{Doing, HeldChain, InHand, LinkInHand, WriteRight};
 use sock_io::{Out, Put};
 use sock_rule::{Letter, SockSeat};
 use sock_table::{SockRef, SockTable};
@@ -52,7 +52,22 @@ pub fn slot_at<O: Out>(table: &SockTable<O>, sock: &SockRef) -> u16
     slot as u16
 }
 
-impl<O: Out> Chain<'_, O> {
+/// C8: the request of a message that has its place is free again, unless its generation is the last one.
+pub fn give_request_back<O: Out>(table: &SockTable<O>, seat: &mut SockSeat<O>, now: Ticket)
+    requires seat { IsSeat table.now.rule.table.shared.table_id table.now.rule.plan seat.old }
+    requires may { MayFreeRequest now.0 seat.old.me }
+    requires ticket { IsTicket table.now.rule.plan now.0 }
+    ensures seat { IsSeat table.now.rule.table.shared.table_id table.now.rule.plan seat.new }
+    ensures view { (r : Right) → Rights r seat.old.me.0 → seat.new.me ≡ (with_right seat.old.me.0 (freed_right r), rest seat.old.me.1) }
+{
+    if now.generation() < LAST_GENERATION {
+        table.rule.free_request(seat, now);
+    } else {
+        table.rule.retire_request(seat, now);
+    }
+}
+
+impl<O: Out> HeldChain<'_, O> {
     /// The link that the seat may write comes into hand. Where its half has faults the seat notes that.
     pub fn fetch_link(&self, seat: &mut SockSeat<O>, link: u16) -> LinkInHand<O>
         requires seat { IsSeat self.now.table.now.rule.table.shared.table_id self.now.table.now.rule.plan seat.old }
@@ -90,24 +105,7 @@ impl<O: Out> Chain<'_, O> {
             owner,
         }
     }
-}
 
-/// C8: the request of a message that has its place is free again, unless its generation is the last one.
-pub fn give_request_back<O: Out>(table: &SockTable<O>, seat: &mut SockSeat<O>, now: Ticket)
-    requires seat { IsSeat table.now.rule.table.shared.table_id table.now.rule.plan seat.old }
-    requires may { MayFreeRequest now.0 seat.old.me }
-    requires ticket { IsTicket table.now.rule.plan now.0 }
-    ensures seat { IsSeat table.now.rule.table.shared.table_id table.now.rule.plan seat.new }
-    ensures view { (r : Right) → Rights r seat.old.me.0 → seat.new.me ≡ (with_right seat.old.me.0 (freed_right r), rest seat.old.me.1) }
-{
-    if now.generation() < LAST_GENERATION {
-        table.rule.free_request(seat, now);
-    } else {
-        table.rule.retire_request(seat, now);
-    }
-}
-
-impl<O: Out> Chain<'_, O> {
     /// A message has its place: its request is given back, and the next one follows, or the head.
     pub fn go_past(&self, seat: &mut SockSeat<O>, link: LinkInHand<O>, now: Ticket) -> Doing<O>
         requires seat { IsSeat self.now.table.now.rule.table.shared.table_id self.now.table.now.rule.plan seat.old }
@@ -158,7 +156,7 @@ impl<O: Out> Chain<'_, O> {
         ensures once { OnceBy self.entry.table.now.rule.plan self.entry.table.now.rule.ways.list self.entry.sock result seat.new.me }
         ensures others { seat.new.me.0 ≡ record seat.old.me.0 { rights = seat.new.me.0.rights } }
     {
-        let Chain { table, sock, last } = self;
+        let HeldChain { table, sock, last } = self;
         let LinkInHand { link: number, home } = link;
         let slot = slot_at(table, &sock);
         table.rule.put_own_link(seat, number, home);
@@ -314,29 +312,14 @@ pub fn write_once<O: Out>(
         last,
         doing: _,
     } = right;
-    let chain = Chain { table, sock, last };
+    let chain = HeldChain { table, sock, last };
     let hand = chain.take_up(seat);
     match chain.try_put(seat, hand) {
-        Tried::Dead(hand) => {
-            let Chain {
-                table: _,
-                sock,
-                last,
-            } = chain;
-            let doing = Doing::Puts(hand);
-            Once::Keep(WriteRight { sock, last, doing })
-        }
+        Tried::Dead(hand) => Once::Keep(chain.with(Doing::Puts(hand))),
         Tried::Whole(hand) => {
             let doing = chain.place(seat, hand);
             chain.leave_last(seat, doing)
         }
-        Tried::Goes(doing) => {
-            let Chain {
-                table: _,
-                sock,
-                last,
-            } = chain;
-            Once::Keep(WriteRight { sock, last, doing })
-        }
+        Tried::Goes(doing) => Once::Keep(chain.with(doing)),
     }
 }

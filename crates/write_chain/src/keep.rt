@@ -8,7 +8,7 @@ ghost use Rattle.write_chain.specs.Writing.{MayGoOn, HasLink, HasPart, FoundDead
 ghost use Rattle.write_chain.specs.Keeping.{IsCode, WentBy, WentWriting, KeptBy, KeptWriting, IsDropped, LeavesMore, KeptDropped};
 
 use crate::hold::{Once, Tried};
-use crate::right::{Chain, Doing, InHand, LinkInHand, Undelivered, Walk, WriteRight};
+use crate::right::{Doing, HeldChain, InHand, LinkInHand, Undelivered, Walk, WriteRight};
 use crossbeam_utils::Backoff;
 use sock_io::{Out, Ready};
 use sock_rule::SockSeat;
@@ -43,7 +43,7 @@ pub fn code_or(told: u16) -> u16
     if told == 0 { EFAILEDSOCKET } else { told }
 }
 
-impl<O: Out> Chain<'_, O> {
+impl<O: Out> HeldChain<'_, O> {
     /// The message in hand is dropped, with the code of the socket, or EFAILEDSOCKET where none was stored yet.
     pub fn drop_one(&self, seat: &mut SockSeat<O>, hand: InHand<O>) -> (Doing<O>, Undelivered, u16)
         requires seat { IsSeat self.now.table.now.rule.table.shared.table_id self.now.table.now.rule.plan seat.old }
@@ -119,7 +119,7 @@ impl<O: Out> Chain<'_, O> {
         ensures more { HasMore result.doing }
         ensures others { seat.new.me.0 ≡ record seat.old.me.0 { rights = seat.new.me.0.rights } }
     {
-        let Chain { table, sock, last } = self;
+        let HeldChain { table, sock, last } = self;
         let found = table.rule.read_back(seat, walk.at);
         if found == UNCONNECTED {
             backoff.snooze();
@@ -163,30 +163,13 @@ impl<O: Out> Chain<'_, O> {
         match self.try_put(seat, hand) {
             Tried::Dead(hand) => {
                 let (doing, msg, code) = self.drop_one(seat, hand);
-                let Chain {
-                    table: _,
-                    sock,
-                    last,
-                } = self;
-                Went::Dropped(WriteRight { sock, last, doing }, msg, code)
+                Went::Dropped(self.with(doing), msg, code)
             }
             Tried::Whole(hand) => {
                 let doing = self.place(seat, hand);
-                let Chain {
-                    table: _,
-                    sock,
-                    last,
-                } = self;
-                Went::Further(WriteRight { sock, last, doing })
+                Went::Further(self.with(doing))
             }
-            Tried::Goes(doing) => {
-                let Chain {
-                    table: _,
-                    sock,
-                    last,
-                } = self;
-                Went::Further(WriteRight { sock, last, doing })
-            }
+            Tried::Goes(doing) => Went::Further(self.with(doing)),
         }
     }
 
@@ -219,38 +202,23 @@ impl<O: Out> Chain<'_, O> {
             Doing::Puts(hand) => self.put_or_drop(seat, hand),
             Doing::Waits(hand) => {
                 let doing = self.ask(seat, hand, backoff);
-                let Chain {
-                    table: _,
-                    sock,
-                    last,
-                } = self;
-                Went::Further(WriteRight { sock, last, doing })
+                Went::Further(self.with(doing))
             }
             Doing::Next(link, now) => {
                 let hand = self.take_next(seat, link, now);
-                let Chain {
-                    table: _,
-                    sock,
-                    last,
-                } = self;
                 let doing = Doing::Puts(hand);
-                Went::Further(WriteRight { sock, last, doing })
+                Went::Further(self.with(doing))
             }
             Doing::Last(link) => self.try_head(seat, link),
             Doing::Walks(number, top) => {
                 let link = self.fetch_link(seat, number);
-                let Chain {
-                    table: _,
-                    sock,
-                    last,
-                } = self;
                 let doing = Doing::Back(Walk {
                     link,
                     top,
                     at: top,
                     after: 0,
                 });
-                Went::Further(WriteRight { sock, last, doing })
+                Went::Further(self.with(doing))
             }
             Doing::Back(walk) => Went::Further(self.walk_back(seat, walk, backoff)),
         }
@@ -278,7 +246,7 @@ pub fn keep_write<O: Out, R: Wait>(
     let backoff = Backoff::new();
     'goes: for _ in rt.forever() {
         let WriteRight { sock, last, doing } = right;
-        let chain = Chain { table, sock, last };
+        let chain = HeldChain { table, sock, last };
         match chain.go_on(seat, doing, &backoff) {
             Went::Done(sock) => return Kept::Done(sock),
             Went::Dropped(right, msg, code) => {

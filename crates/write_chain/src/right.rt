@@ -1,4 +1,4 @@
-ghost use Rattle.std.specs.Prelude.{◌≤◌};
+ghost use Rattle.std.specs.Prelude.{◌≡◌, ◌≤◌};
 
 use message_parts::OutgoingParcel;
 use sock_io::Out;
@@ -65,7 +65,7 @@ pub enum Doing<O: Out> {
 }
 
 /// What whoever has the right goes by: the table, the socket that is written, whose reference it holds, and the last ticket.
-pub struct Chain<'a, O: Out> {
+pub struct HeldChain<'a, O: Out> {
     pub table: &'a SockTable<O>,
     pub sock: SockRef,
     pub last: Ticket,
@@ -76,4 +76,18 @@ pub struct WriteRight<O: Out> {
     pub sock: SockRef,
     pub last: Ticket,
     pub doing: Doing<O>,
+}
+
+impl<O: Out> HeldChain<'_, O> {
+    /// The right to go on by this.
+    pub fn with(self, doing: Doing<O>) -> WriteRight<O>
+        ensures { result ≡ record { sock = self.entry.sock; last = self.entry.last; doing = doing } }
+    {
+        let HeldChain {
+            table: _,
+            sock,
+            last,
+        } = self;
+        WriteRight { sock, last, doing }
+    }
 }

@@ -19,8 +19,8 @@ load-requires g c = let a = c.requires.seat in let same = ap (λ m. m.0) c.lay_h
   c.lay_home.ensures.seat ∙ a.0,
   omega (arith, c.args.self.now.sized, c.args.self.now.some_slots),
   puts (shows_by c.args.self.now.table.shared.key) rose c.args.self.now.table.shared.key.plan _ _ _ (ap (λ v. v.plan) same ∙ (a.1 ∙ sym c.args.self.now.planned)) (subst (λ (n : ℕ). 0 < n) (sym (ap (λ v. v.share) same)) a.2) 0 (hand_of c.args.link c.args.home.took.list c.args.home.next) (at_home.Link c.args.home) (rest c.args.seat.now.me.1) (g.O.Out.state c.args.home.out).finished
-      (ap (λ v. v.hands) same ∙ c.requires.hand) (subst (λ q. c.args.link < q.links) (sym c.args.self.now.planned) c.requires.inside)
-      (put_slots c.args.self.now.table.shared.key.plan c.args.self.now.plan c.lay_home.new.seat.me.1 c.args.link (at_home.Link c.args.home) (rest c.args.seat.now.me.1) c.args.self.now.planned (ap (λ m. m.1) c.lay_home.ensures.view)) (ap (λ (k : ℕ). Link k c.args.home.took.list c.args.home.next (g.O.Out.state c.args.home.out).finished) (is_number c.args.self.now.table.shared.key.plan c.args.self.now.table.shared.key.ways.list (g.O.Out.state c.args.home.out) c.args.link c.requires.link (c.requires.way ∙ ap (λ w. way_at w c.args.link) (sym c.args.self.now.keyed)))) (λ some_. c.requires.noted (subst (λ (n : ℕ). 0 < n) (ap (λ v. faults_of c.args.link v) same) some_)),
+      (ap (λ v. v.hands) same ∙ c.requires.hand) (subst (λ q. c.args.link < q.links) (sym c.args.self.now.planned) c.requires.came.link_in)
+      (put_slots c.args.self.now.table.shared.key.plan c.args.self.now.plan c.lay_home.new.seat.me.1 c.args.link (at_home.Link c.args.home) (rest c.args.seat.now.me.1) c.args.self.now.planned (ap (λ m. m.1) c.lay_home.ensures.view)) (ap (λ (k : ℕ). Link k c.args.home.took.list c.args.home.next (g.O.Out.state c.args.home.out).finished) (is_number c.args.self.now.table.shared.key.plan c.args.self.now.table.shared.key.ways.list (g.O.Out.state c.args.home.out) c.args.link c.requires.came.link_is (c.requires.came.way_is ∙ ap (λ w. way_at w c.args.link) (sym c.args.self.now.keyed)))) (λ some_. c.requires.came.known (subst (λ (n : ℕ). 0 < n) (ap (λ v. faults_of c.args.link v) same) some_)),
 )
 
 pub returns-clause-view : goal.returns-clause-view

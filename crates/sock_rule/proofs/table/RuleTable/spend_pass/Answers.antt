@@ -1,11 +1,11 @@
-use Rattle.std.proofs.Common.{◌+◌, ◌<◌, arith, ◌∙◌, sym, ap, subst}
+use Rattle.std.proofs.Common.{◌+◌, arith, ◌∙◌, sym, ap, subst}
 use Rattle.sock_model.specs.ChainRows.{spent_hand}
 use Rattle.sock_rule.specs.Hands.{hand_of}
 use Rattle.sock_rule.specs.OnKey.{shows_by}
 use Rattle.sock_rule.specs.Shows.{rose, SaysWays}
 use Rattle.sock_rule.proofs.Faults.{found_alike}
 use Rattle.sock_rule.proofs.Moving.{spends}
-use Rattle.sock_rule.proofs.Handing.{link_came, came_home, came_link, came_known, came_after}
+use Rattle.sock_rule.proofs.Handing.{link_came, came_home, came_out, came_after}
 use Rattle.sock_rule.proofs.Seating.{still_seat}
 use Rattle.sock_rule.proofs.Ways.{spends_said}
 use Rattle.sock_rule.proofs.table.RuleTable.spend_pass.Goals as goal
@@ -23,12 +23,7 @@ pub returns-clause-view : goal.returns-clause-view
 returns-clause-view g c = let t = link_came c.args.seat.now.me.0.plan c.args.self.now.ways.list (c.compare_exchange_with.ensures.2 c.args.self.now.ways.list c.said-said.ensures c.args.link c.requires.pass) in came_after t (c.args.self.now.plan.requests + c.args.link) c.take_link_home.result c.take_link_home.ensures.home _ c.take_link_home.ensures.view
 
 pub returns-clause-came : goal.returns-clause-came
-returns-clause-came g c = let t = link_came c.args.seat.now.me.0.plan c.args.self.now.ways.list (c.compare_exchange_with.ensures.2 c.args.self.now.ways.list c.said-said.ensures c.args.link c.requires.pass) in let out = came_link t (c.args.self.now.plan.requests + c.args.link) c.take_link_home.result c.take_link_home.ensures.home t.inside in record {
-  link_is = out.0;
-  link_in = subst (λ q. c.args.link < q.links) c.requires.seat.1 t.inside;
-  way_is = out.1;
-  known = came_known t (c.args.self.now.plan.requests + c.args.link) c.take_link_home.result c.take_link_home.ensures.home;
-}
+returns-clause-came g c = let t = link_came c.args.seat.now.me.0.plan c.args.self.now.ways.list (c.compare_exchange_with.ensures.2 c.args.self.now.ways.list c.said-said.ensures c.args.link c.requires.pass) in came_out t (c.args.self.now.plan.requests + c.args.link) c.take_link_home.result c.take_link_home.ensures.home t.inside c.args.self.now.plan c.requires.seat.1
 
 pub returns-clause-seat : goal.returns-clause-seat
 returns-clause-seat g c = let same = (found_alike (g.O.Out.state c.take_link_home.result.out).faults 0 c.args.link (spent_hand c.args.seat.now.me.0 (hand_of c.args.link c.take_link_home.result.took.list c.take_link_home.result.next))).others in still_seat _ _ c.args.seat.now c.take_link_home.new.seat _ c.requires.seat (c.take_link_home.ensures.seat ∙ c.compare_exchange_with.ensures.0) (returns-clause-view g c) (ap (λ v. v.plan) same) (sym (ap (λ v. v.share) same))

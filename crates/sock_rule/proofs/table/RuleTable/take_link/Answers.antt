@@ -1,14 +1,14 @@
 use Rattle.std.proofs.Common.{ℕ, ◌+◌, ◌<◌, ◌∷◌, false, arith, refl, ◌∙◌, sym, ap, subst}
-use Rattle.sock_rule.specs.Faults.{faults_of, fault_found}
+use Rattle.sock_rule.specs.Faults.{fault_found, CameOut}
 use Rattle.sock_model.specs.ChainRows.{with_right}
 use Rattle.sock_rule.specs.declared.homes.SockHome.TheVariants.{Empty}
 use Rattle.sock_rule.specs.OnKey.{shows_by, LinkOnTop}
-use Rattle.sock_rule.specs.Shows.{rose, SaysWays, way_at}
+use Rattle.sock_rule.specs.Shows.{rose, SaysWays}
 use Rattle.sock_rule.proofs.Seating.{still_seat}
 use Rattle.sock_rule.proofs.Ways.{owns_said}
 use Rattle.sock_rule.proofs.Faults.{found_alike}
 use Rattle.sock_rule.proofs.Holding.{takes_own, the_right}
-use Rattle.sock_rule.proofs.Handing.{own_came, came_home, came_link, came_done, came_known, came_took, came_after}
+use Rattle.sock_rule.proofs.Handing.{own_came, came_home, came_out, came_done, came_took, came_after}
 use Rattle.sock_rule.proofs.table.RuleTable.take_link.Goals as goal
 
 pub compare_exchange_with-requires : goal.compare_exchange_with-requires
@@ -27,12 +27,8 @@ pub returns-clause-took : goal.returns-clause-took
 returns-clause-took g c = λ r one. came_took (own_came c.args.seat.now.me.0.plan c.args.self.now.ways.list (c.compare_exchange_with.ensures.2 c.args.self.now.ways.list c.said-said.ensures r c.args.at one refl)) (c.args.self.now.plan.requests + c.args.link) c.take_link_home.result c.take_link_home.ensures.home
 
 pub returns-clause-came : goal.returns-clause-came
-returns-clause-came g c = let t = own_came c.args.seat.now.me.0.plan c.args.self.now.ways.list (c.compare_exchange_with.ensures.2 c.args.self.now.ways.list c.said-said.ensures c.requires.home.right c.args.at c.requires.home.one refl) in let out = came_link t (c.args.self.now.plan.requests + c.args.link) c.take_link_home.result c.take_link_home.ensures.home t.inside in let is = c.requires.home.link_is in record {
-  link_is = out.0 ∙ is;
-  link_in = subst (λ (k : ℕ). k < c.args.self.now.plan.links) is (subst (λ q. c.requires.home.right.link < q.links) c.requires.seat.1 t.inside);
-  way_is = out.1 ∙ ap (way_at c.args.self.now.ways.list) is;
-  known = subst (λ (k : ℕ). 0 < faults_of k c.args.seat.now.me.0 → 0 < (g.O.Out.state c.take_link_home.result.out).faults) is (came_known t (c.args.self.now.plan.requests + c.args.link) c.take_link_home.result c.take_link_home.ensures.home);
-}
+returns-clause-came g c = let t = own_came c.args.seat.now.me.0.plan c.args.self.now.ways.list (c.compare_exchange_with.ensures.2 c.args.self.now.ways.list c.said-said.ensures c.requires.home.right c.args.at c.requires.home.one refl) in
+    subst (λ (k : ℕ). CameOut c.args.self.now.plan c.args.self.now.ways.list k c.args.seat.now.me.0 (g.O.Out.state c.take_link_home.result.out)) c.requires.home.link_is (came_out t (c.args.self.now.plan.requests + c.args.link) c.take_link_home.result c.take_link_home.ensures.home t.inside c.args.self.now.plan c.requires.seat.1)
 
 pub returns-clause-unfinished : goal.returns-clause-unfinished
 returns-clause-unfinished g c = let t = own_came c.args.seat.now.me.0.plan c.args.self.now.ways.list (c.compare_exchange_with.ensures.2 c.args.self.now.ways.list c.said-said.ensures c.requires.home.right c.args.at c.requires.home.one refl) in came_done t (c.args.self.now.plan.requests + c.args.link) c.take_link_home.result c.take_link_home.ensures.home

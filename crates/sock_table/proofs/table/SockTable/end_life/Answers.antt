@@ -1,8 +1,7 @@
-use Rattle.std.proofs.Common.{ℕ, ◌<◌, arith, refl, sym, ap, ◌∙◌, subst}
+use Rattle.std.proofs.Common.{arith, refl, ap, ◌∙◌}
 use Rattle.sock_model.specs.ChainRows.{with_hand}
-use Rattle.sock_rule.specs.Faults.{faults_of}
 use Rattle.sock_rule.specs.Hands.{hand_of}
-use Rattle.sock_table.proofs.Ending.{noted_taken, came_home, in_hand, lost, recycled_in, recycles, retires, frees, recycled_there}
+use Rattle.sock_table.proofs.Ending.{came_home, goes_back, in_hand, lost, recycled_in, recycles, retires, frees, recycled_there}
 use Rattle.sock_table.proofs.table.SockTable.end_life.Goals as goal
 
 pub returns-then-step-from-clause-marks : goal.returns-then-step-from-clause-marks
@@ -28,19 +27,8 @@ put_link-requires-clause-hand g c = let e = ap (λ m. m.0) c.recycle-step.ensure
     let b = c.load_last_link-found.ensures.view _ r in let empty = ap (λ m. m.0.hands) b ∙ (ap (λ v. v.hands) e ∙ c.requires.empty) in
     in_hand c.load_last_link-found.new.seat.me c.take_last_link-home.new.seat.me c.load_last_link-found.result c.take_last_link-home.result.took.list c.finish.new.self.took.list c.take_last_link-home.result.next c.finish.new.self.next _ _ c.take_last_link-home.ensures.view empty c.finish.ensures.same.0 c.finish.ensures.same.1
 
-pub put_link-requires-clause-noted : goal.put_link-requires-clause-noted
-put_link-requires-clause-noted g c = λ some_. let k : ℕ = c.load_last_link-found.result in let v = c.load_last_link-found.new.seat.me.0 in subst (λ (n : ℕ). 0 < n) (sym c.finish.ensures.faults)
-    (noted_taken (g.O.Out.state c.take_last_link-home.result.out).faults 0 c.load_last_link-found.result v (with_hand v (hand_of c.load_last_link-found.result c.take_last_link-home.result.took.list c.take_last_link-home.result.next)) refl c.take_last_link-home.ensures.came.known
-    (subst (λ (n : ℕ). 0 < n) (ap (λ m. faults_of c.load_last_link-found.result m.0) c.take_last_link-home.ensures.view) some_))
-
-pub put_link-requires-clause-inside : goal.put_link-requires-clause-inside
-put_link-requires-clause-inside g c = c.take_last_link-home.ensures.came.link_in
-
-pub put_link-requires-clause-link : goal.put_link-requires-clause-link
-put_link-requires-clause-link g c = c.finish.ensures.link ∙ c.take_last_link-home.ensures.came.link_is
-
-pub put_link-requires-clause-way : goal.put_link-requires-clause-way
-put_link-requires-clause-way g c = c.finish.ensures.way ∙ c.take_last_link-home.ensures.came.way_is
+pub put_link-requires-clause-came : goal.put_link-requires-clause-came
+put_link-requires-clause-came g c = goes_back 0 (with_hand c.load_last_link-found.new.seat.me.0 (hand_of c.load_last_link-found.result c.take_last_link-home.result.took.list c.take_last_link-home.result.next)) c.take_last_link-home.ensures.came refl (ap (λ m. m.0) c.take_last_link-home.ensures.view) c.finish.ensures.link c.finish.ensures.way c.finish.ensures.faults
 
 pub free_slot-requires-clause-recycled : goal.free_slot-requires-clause-recycled
 free_slot-requires-clause-recycled g c = let e = ap (λ m. m.0) c.recycle-step.ensures.view in let hit = c.if-step-from.false in let r = recycled_in c.args.at c.args.from.0 c.recycle-step.result.found c.args.seat.now.me.0 c.recycle-step.new.seat.me.0 e c.requires.zero hit in

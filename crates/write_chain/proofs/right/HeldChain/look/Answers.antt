@@ -1,0 +1,23 @@
+use Rattle.std.proofs.Common.{not, refl}
+use Rattle.write_chain.proofs.Stepping.{may_look}
+use Rattle.write_chain.proofs.Looking.{live, dead, dead_again, never_true, looked_wrote, found_live, found_dead}
+use Rattle.write_chain.proofs.right.HeldChain.look.Goals as goal
+
+pub slot_at-slot-requires : goal.slot_at-slot-requires
+slot_at-slot-requires g c = record { inside = c.requires.may.0.writer.holds.inside }
+
+pub look_to_write-step-requires-clause-may : goal.look_to_write-step-requires-clause-may
+look_to_write-step-requires-clause-may g c = may_look c.slot_at-slot.result c.slot_at-slot.ensures.slot c.requires.may.0.writer
+
+pub returns-clause-live : goal.returns-clause-live
+returns-clause-live g c = let h = c.requires.may in λ t. live c.args._hand.now c.args.seat.now.me c.look_to_write-step.new.seat.me c.slot_at-slot.result c.look_to_write-step.result.found c.slot_at-slot.ensures.slot h (c.look_to_write-step.ensures.view h.0.right_is h.0.writer.one) (found_live c.is_failed.result c.look_to_write-step.result.found c.look_to_write-step.result.found refl c.is_failed.ensures t)
+
+pub returns-clause-dead : goal.returns-clause-dead
+returns-clause-dead g c = let h = c.requires.may in λ f. dead c.args._hand.now c.args.seat.now.me c.look_to_write-step.new.seat.me c.slot_at-slot.result c.look_to_write-step.result.found c.slot_at-slot.ensures.slot h (c.look_to_write-step.ensures.view h.0.right_is h.0.writer.one) (found_dead c.is_failed.result c.look_to_write-step.result.found c.look_to_write-step.result.found refl c.is_failed.ensures f)
+
+pub returns-clause-wrote : goal.returns-clause-wrote
+returns-clause-wrote g c = let h = c.requires.may in looked_wrote c.args._hand.now c.args.seat.now.me c.look_to_write-step.new.seat.me c.slot_at-slot.result c.look_to_write-step.result.found c.slot_at-slot.ensures.slot h (c.look_to_write-step.ensures.view h.0.right_is h.0.writer.one)
+
+pub returns-clause-stays : goal.returns-clause-stays
+returns-clause-stays g c = let h = c.requires.may in λ d. never_true (not c.is_failed.result) (λ t. dead_again c.args._hand.now c.args.seat.now.me c.look_to_write-step.new.seat.me c.slot_at-slot.result c.look_to_write-step.result.found c.slot_at-slot.ensures.slot h (c.look_to_write-step.ensures.view h.0.right_is h.0.writer.one) d
+    (found_live c.is_failed.result c.look_to_write-step.result.found c.look_to_write-step.result.found refl c.is_failed.ensures t))
