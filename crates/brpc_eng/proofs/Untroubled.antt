@@ -10,7 +10,7 @@ use Rattle.brpc_model.specs.Script.{script_of}
 use Rattle.brpc_model.specs.Places.{names}
 use Rattle.brpc_model.specs.Link.{LinkEnd}
 use Rattle.brpc_model.specs.Report.{Report, report_text}
-use Rattle.brpc_model.specs.PlaceWords.{word_at, outcome_by_word}
+use Rattle.brpc_model.specs.PlaceWords.{word_at, outcome_by_word, AreTold}
 use Rattle.brpc_model.specs.Run.{Run, IsOperation, HasOutcome, IsLinkOf}
 use Rattle.brpc_model.specs.Outcomes.{SendCause, Cause}
 use Rattle.brpc_model.specs.Fits.{Fits}
@@ -20,7 +20,7 @@ use Rattle.seat_programs.specs.Cores.{Core}
 use Rattle.seat_programs.specs.Tasks.{name_number, numbered, op_of, plan_of}
 use Rattle.seat_programs.specs.Scripts.{Reports, all_tasks, is_callless}
 use Rattle.seat_programs.specs.ToldCalls.{Fixed, Order, ToldCalls}
-use Rattle.report_fits.specs.Ends.{AreEndsOf, AreTold}
+use Rattle.report_fits.specs.Ends.{AreEndsOf}
 use Rattle.report_fits.proofs.Lists.{Has, has_later, has_from, contains_from, all_at, some_is}
 use Rattle.report_fits.proofs.Callless.{not_later}
 use Rattle.report_fits.proofs.TaskLemmas.{numbers_at, asks_at, mentions_send}

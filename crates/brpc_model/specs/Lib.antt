@@ -5,6 +5,7 @@ pub mod Lines
 pub mod Places
 pub mod Operations
 pub mod Script
+pub mod Limits
 pub mod Wire
 pub mod Meta
 pub mod Spelling

@@ -1,10 +1,11 @@
 -- The report of a run with messages, by what its clients said, the place words that it leaves, and what its links took.
-use Rattle.std.specs.Prelude.{ℕ, ◌≡◌, ◌<◌, ◌+◌, ◌*◌, ◌⊎◌, ◌↔◌, if◌then◌else◌, Bool, not, List, [], ◌∷◌, length, count_by, slice_get, unwrap_or, option_map, Option, Some, None}
+use Rattle.std.specs.Prelude.{ℕ, ◌≡◌, ◌<◌, ◌+◌, ◌*◌, ◌⊎◌, ◌↔◌, if◌then◌else◌, Bool, not, List, [], ◌∷◌, length, count_by, slice_get, unwrap_or, option_map, Option, Some, None, IfSome}
 use Rattle.sock_words.specs.declared.outcome.Outcome.{Outcome}
 use Rattle.sock_words.specs.declared.outcome.Outcome.TheVariants.{Placed, Dropped}
 use Rattle.sock_words.specs.declared.place_word.PlaceWord.{PlaceWord}
 use Rattle.sock_words.specs.Words.{no_place, HasPosition, place_word_dropped, place_word_link, place_word_position}
 use Rattle.brpc_model.specs.Items.{Item}
+use Rattle.brpc_model.specs.Link.{LinkEnd}
 use Rattle.brpc_model.specs.Operations.{Label, link_names}
 use Rattle.brpc_model.specs.Report.{LinkLine, Report, report_text}
 
@@ -70,6 +71,10 @@ outcomes_from words operation (said ∷ later) = outcome_of words operation said
 -- what a link took, where that is given
 abbrev pub took_at : List (List ℕ) → ℕ → List ℕ
 took_at took link = unwrap_or (slice_get took link) []
+
+-- what is said of each link that tells what it took is what it tells
+abbrev pub AreTold : List LinkEnd → List (List ℕ) → Type 0
+AreTold ends took = (k : ℕ) (e : LinkEnd) → slice_get ends k ≡ Some e → IfSome e.took (λ bytes. took_at took k ≡ bytes)
 
 -- what is reported of a link that took these bytes
 pub record IsLineOf (words : List PlaceWord) (link : ℕ) (bytes : List ℕ) (line : LinkLine) : Type 0 where

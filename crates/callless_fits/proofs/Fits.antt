@@ -5,13 +5,13 @@ use Rattle.brpc_model.specs.Items.{Call, CallLine}
 use Rattle.brpc_model.specs.Link.{LinkEnd}
 use Rattle.brpc_model.specs.Operations.{Operation, operations}
 use Rattle.brpc_model.specs.Run.{Run, nothing_late}
-use Rattle.brpc_model.specs.PlaceWords.{IsReportText, HasEachOutcome}
+use Rattle.brpc_model.specs.PlaceWords.{IsReportText, HasEachOutcome, AreTold}
 use Rattle.brpc_model.specs.Complete.{Completeness}
 use Rattle.seat_programs.specs.Cores.{Core}
 use Rattle.seat_programs.specs.Scripts.{all_tasks, is_callless, is_later, place_words}
 use Rattle.seat_programs.specs.Tasks.{plan_of}
 use Rattle.seat_programs.specs.ToldCalls.{Fixed, ToldCalls}
-use Rattle.report_fits.specs.Ends.{AreTold, IsEndOf, AreEndsOf}
+use Rattle.report_fits.specs.Ends.{IsEndOf, AreEndsOf}
 use Rattle.report_fits.proofs.Callless.{not_later}
 use Rattle.report_fits.proofs.Fitting.{fits_run}
 use Rattle.report_fits.proofs.Lines.{Given}

@@ -4,7 +4,7 @@ use Rattle.std.specs.List.{AllByRecursion}
 use Rattle.brpc_model.specs.Items.{Item, Shape}
 use Rattle.brpc_model.specs.Operations.{link_shapes}
 use Rattle.brpc_model.specs.Link.{LinkEnd}
-use Rattle.brpc_model.specs.PlaceWords.{IsReportText}
+use Rattle.brpc_model.specs.PlaceWords.{IsReportText, AreTold}
 use Rattle.brpc_model.specs.Run.{nothing_late}
 use Rattle.brpc_model.specs.Fits.{FitsRun, Reports as IsReportIn}
 use Rattle.brpc_model.specs.Complete.{Completeness}
@@ -12,7 +12,7 @@ use Rattle.seat_programs.specs.Cores.{Core}
 use Rattle.seat_programs.specs.Scripts.{all_tasks, place_words}
 use Rattle.seat_programs.specs.Tasks.{plan_of}
 use Rattle.seat_programs.specs.ToldCalls.{Fixed, Order, ToldCalls}
-use Rattle.report_fits.specs.Ends.{AreTold, AreEndsOf}
+use Rattle.report_fits.specs.Ends.{AreEndsOf}
 
 -- where the link of this end was opened with `serve`, its other end gave nothing, and no end: so does a server that is asked nothing
 abbrev pub IsSilentServed : List Item → LinkEnd → Type 0

@@ -8,7 +8,8 @@ use Rattle.brpc_model.specs.Link.{LinkEnd}
 use Rattle.brpc_model.specs.Operations.{Turn}
 use Rattle.brpc_model.specs.Report.{Report}
 use Rattle.brpc_model.specs.Script.{script_of}
-use Rattle.report_fits.specs.Ends.{AreEndsOf, AreTold}
+use Rattle.brpc_model.specs.PlaceWords.{AreTold}
+use Rattle.report_fits.specs.Ends.{AreEndsOf}
 use Rattle.report_fits.proofs.Reading.{InRange}
 use Rattle.report_fits.proofs.Sizes.{is_counted}
 use Rattle.report_fits.proofs.Targets.{AreThere, are_there}

@@ -14,7 +14,8 @@ use Rattle.brpc_model.specs.Report.{Report}
 use Rattle.brpc_model.specs.Script.{script_of}
 use Rattle.brpc_model.specs.Served.{first_of, given_for}
 use Rattle.brpc_model.specs.Stream.{stream}
-use Rattle.report_fits.specs.Ends.{AreEndsOf, AreTold}
+use Rattle.brpc_model.specs.PlaceWords.{AreTold}
+use Rattle.report_fits.specs.Ends.{AreEndsOf}
 use Rattle.report_fits.proofs.Known as known
 use Rattle.report_fits.proofs.Lines.{Given}
 use Rattle.report_fits.proofs.Lists.{Has, has_later, has_filter_map, contains_from, some_is, all_at, all_from, filter_map_has}

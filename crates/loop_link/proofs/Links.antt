@@ -367,8 +367,8 @@ served_new serve end = is_served [] false (empty_in (first_ending serve end)) (r
     (record { left = []; begins = refl; offered = nothing_offered serve end; ended = steady_new serve end; closed = λ _. refl })
     (λ e. absurd (not_closed (serve && is_reached end 0) e))
 
-pub new_offer : (spec : LinkSpec) (i : LoopInState) → i ≡ new_in spec.serve spec.end → IsNewOffer spec (offer_of i)
-new_offer spec i is = subst (λ x. IsNewOffer spec (offer_of x)) (sym is) record { serve = refl; end = refl; served = served_new spec.serve spec.end }
+pub new_offer : (spec : LinkSpec) (i : LoopInState) → i ≡ new_in spec.shape.serve spec.shape.end → IsNewOffer spec (offer_of i)
+new_offer spec i is = subst (λ x. IsNewOffer spec (offer_of x)) (sym is) record { serve = refl; end = refl; served = served_new spec.shape.serve spec.shape.end }
 
 -- ## A link that is given back
 

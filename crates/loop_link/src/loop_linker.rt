@@ -3,16 +3,16 @@ ghost use Rattle.std.specs.List.{AllByRecursion};
 ghost use Rattle.brpc_model.specs.Link.{LinkEnd};
 ghost use Rattle.sock_io.specs.Causes.{OpenCause, next_number};
 ghost use Rattle.sock_io.specs.Link.{IsFresh, IsNewOffer, IsServed, IsSettled, IsUnused, MayOpen, SettleStep, end_of};
-ghost use Rattle.sock_io.specs.Linker.{new_half, plain_shape, shape_asked};
+ghost use Rattle.sock_io.specs.Linker.{new_half};
 ghost use Rattle.sock_io.specs.Memory.{closing};
 ghost use Rattle.sock_io.specs.Shape.{shaped_out};
+ghost use Rattle.sock_io.specs.sock_words.specs.Shape.{plain_shape};
 ghost use Rattle.loop_link.specs.Serving.{Settled, loop_in, new_in, offer_of};
 
 use crate::loop_in::LoopIn;
 use io_buf::BlockPool;
 use sock_io::{
-    Ends, LinkSpec, Linker, LinkerTells, MemLinks, MemOut, NoMemory, NoPeer, OpenFault, Out, Shape,
-    Shaped,
+    Ends, LinkSpec, Linker, LinkerTells, MemLinks, MemOut, NoMemory, NoPeer, OpenFault, Out, Shaped,
 };
 use std::alloc::Global;
 use std::marker::Model;
@@ -66,8 +66,8 @@ impl Linker for LoopLinker {
 
     fn open(&mut self, spec: &LinkSpec) -> Result<Link, OpenFault>
         requires { MayOpen self.old.asked spec.now }
-        ensures out { IfOk result (λ ends. ends.out ≡ new_half (length self.old.asked) (shape_asked spec.now)) }
-        ensures inn { IfOk result (λ ends. ends.inn ≡ new_in spec.now.serve spec.now.end) }
+        ensures out { IfOk result (λ ends. ends.out ≡ new_half (length self.old.asked) spec.now.shape) }
+        ensures inn { IfOk result (λ ends. ends.inn ≡ new_in spec.now.shape.serve spec.now.shape.end) }
         ensures fresh { IfOk result (λ ends. IsFresh (shaped_out ends.out) (loop_in ends.inn) (length self.old.asked)) }
         ensures served { IfOk result (λ ends. IsNewOffer spec.now (offer_of ends.inn)) }
         ensures linker { IfOk result (λ _. self.new ≡ record self.old { asked = self.old.asked ++ spec.now ∷ []; calls = next_number self.old.calls }) }
@@ -75,10 +75,10 @@ impl Linker for LoopLinker {
         ensures cause { OpenCause self.old.faults self.new.faults result }
         ensures failed_at { IsErrOf result OpenFault.Failed ↔ Contains self.old.fail_opens (next_number self.old.calls) }
     {
-        let out = self.links.open(spec, Shape::asked(spec))?;
+        let out = self.links.open(spec, spec.shape)?;
         Ok(Ends {
             out,
-            inn: LoopIn::new(self.alloc, spec.serve, spec.end),
+            inn: LoopIn::new(self.alloc, spec.shape.serve, spec.shape.end),
             peer: NoPeer,
         })
     }

@@ -2,7 +2,7 @@
 use Rattle.std.specs.Prelude.{ℕ, Bool, true, false, []}
 use Rattle.sock_io.specs.declared.link.Mode.{Mode}
 use Rattle.sock_io.specs.declared.link.Mode.TheVariants as mode
-use Rattle.sock_io.specs.declared.shape.Shape.{Shape}
+use Rattle.sock_io.specs.sock_words.specs.declared.shape.Shape.{Shape}
 use Rattle.sock_io.specs.Shape.{ShapedState}
 use Rattle.net_link.specs.Halves.{new_out, tcp_out}
 

@@ -1,7 +1,6 @@
 ghost use Rattle.std.specs.Prelude.{◌≡◌, ◌+◌, ◌≤◌, ◌<◌, ◌∷◌, ◌++◌, true, false, [], length, IfOk, IsErrOf, OnErr, Ok};
 ghost use Rattle.sock_io.specs.Causes.{OpenCause, Rose};
 ghost use Rattle.sock_io.specs.Link.{MayOpen, end_of};
-ghost use Rattle.sock_io.specs.Linker.{shape_asked};
 ghost use Rattle.net_link.specs.Halves.{new_in, new_out, tcp_in};
 ghost use Rattle.net_link.specs.Linker.{is_tcp, new_half};
 ghost use Rattle.net_link.specs.Writing.{tcp_half};
@@ -10,8 +9,8 @@ use crate::streams::{accept, connect};
 use crate::tcp_half::TcpHalf;
 use crate::tcp_in::TcpIn;
 use sock_io::{
-    Ends, LinkSpec, Linker, LinkerTells, Mode, NoMemory, NoPeer, NotedLinks, OpenFault, Shape,
-    Shaped, risen,
+    Ends, LinkSpec, Linker, LinkerTells, Mode, NoMemory, NoPeer, NotedLinks, OpenFault, Shaped,
+    risen,
 };
 use std::alloc::Global;
 use std::marker::Model;
@@ -103,7 +102,7 @@ impl<N: Net<Stream = TcpStream, Listener = TcpListener> + Drop> Linker for TcpLi
     fn open(&mut self, spec: &LinkSpec) -> Result<Link, OpenFault>
         requires { MayOpen self.old.asked spec.now }
         ensures mode { is_tcp spec.now.mode ≡ false → IsErrOf result OpenFault.Failed }
-        ensures out { IfOk result (λ ends. ends.out ≡ TcpHalf.Opened (new_half (length self.old.asked) (shape_asked spec.now))) }
+        ensures out { IfOk result (λ ends. ends.out ≡ TcpHalf.Opened (new_half (length self.old.asked) spec.now.shape)) }
         ensures inn { IfOk result (λ ends. ends.inn ≡ new_in) }
         ensures linker { IfOk result (λ _. self.new ≡ record self.old { asked = self.old.asked ++ spec.now ∷ [] }) }
         ensures refused { OnErr result (self.new ≡ record self.old { faults = self.new.faults }) }
@@ -117,7 +116,7 @@ impl<N: Net<Stream = TcpStream, Listener = TcpListener> + Drop> Linker for TcpLi
             Ok(halves) => halves,
             Err(_) => return Err(self.fault()),
         };
-        match Shaped::new(self.alloc, out, Shape::asked(spec)) {
+        match Shaped::new(self.alloc, out, spec.shape) {
             Ok(out) => {
                 self.note(spec);
                 Ok(Ends {

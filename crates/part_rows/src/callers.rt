@@ -37,8 +37,8 @@ fn half(alloc: Global, link: u16, fail: u32) -> Option<Half>
 {
     let shape = Shape {
         piece: 8192,
-        again: 0,
         fail,
+        ..Shape::plain()
     };
     match Shaped::new(alloc, MemOut::new(link), shape) {
         Ok(half) => Some(half),

@@ -1,6 +1,6 @@
 use crate::halves::{end_of, put_on, served_by, take_of};
 use ring_link::{RingIn, RingOut, RingPeer, open_ring};
-use sock_io::{Ends, In, LinkSpec, Mode, Out, Peer, Put, Served, Take};
+use sock_io::{Ends, In, LinkSpec, Mode, Out, Peer, Put, Served, Shape, Take};
 use std::sync::Wait;
 use std::test::Fail;
 use std::thread;
@@ -15,11 +15,11 @@ const REPLY: &[u8] = b"PRPC\x00\x00\x00\x08\x00\x00\x00\x06\x12\x02\x08\x00\x20\
 fn asked() -> LinkSpec {
     LinkSpec {
         mode: Mode::Ring,
-        piece: 64,
-        again: 0,
-        fail: 0,
-        serve: true,
-        end: None,
+        shape: Shape {
+            piece: 64,
+            serve: true,
+            ..Shape::plain()
+        },
     }
 }
 

@@ -2,7 +2,7 @@ ghost use Rattle.std.specs.Prelude.{◌≡◌, ◌<◌, ◌≤◌, [], IfOk, len
 
 use crate::halves::{end_of, put_on, take_of};
 use net_link::{TcpLinker, read_some, write_some};
-use sock_io::{Failed, In, LinkSpec, Linker, Mode, OpenFault, Out, Put, Take};
+use sock_io::{Failed, In, LinkSpec, Linker, Mode, OpenFault, Out, Put, Shape, Take};
 use std::alloc::Global;
 use std::io::{ErrorKind, Read, Write};
 use std::net::{Ipv4Addr, Net, SocketAddr, TcpListener, TcpStream};
@@ -12,15 +12,14 @@ use std::{io, thread};
 
 // A link of this mode.
 fn asked(mode: Mode) -> LinkSpec
-    ensures { result.piece ≡ 64 }
+    ensures { result.shape.piece ≡ 64 }
 {
     LinkSpec {
         mode,
-        piece: 64,
-        again: 0,
-        fail: 0,
-        serve: false,
-        end: None,
+        shape: Shape {
+            piece: 64,
+            ..Shape::plain()
+        },
     }
 }
 

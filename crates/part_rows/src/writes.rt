@@ -41,8 +41,8 @@ fn begin(alloc: Global) -> Option<Made<Half>>
     let plan = PLAN;
     let shape = Shape {
         piece: 8192,
-        again: 0,
         fail: 1,
+        ..Shape::plain()
     };
     let Ok(half) = Shaped::new(alloc, MemOut::new(0), shape) else {
         return None;

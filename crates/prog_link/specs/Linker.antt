@@ -3,8 +3,7 @@ use Rattle.std.specs.Prelude.{ℕ, ◌≡◌, ◌≢◌, ◌+◌, ◌&&◌, if�
 use Rattle.sock_io.specs.declared.link.LinkSpec.{LinkSpec}
 use Rattle.sock_io.specs.declared.link.Mode.{Mode}
 use Rattle.sock_io.specs.declared.link.Mode.TheVariants as mode
-use Rattle.sock_io.specs.declared.shape.Shape.{Shape}
-use Rattle.sock_io.specs.Linker.{shape_asked}
+use Rattle.sock_io.specs.sock_words.specs.declared.shape.Shape.{Shape}
 use Rattle.sock_io.specs.Link.{IsFresh, IsNewOffer}
 use Rattle.sock_io.specs.Meeting.{AreEnds, IsAskedPeer}
 use Rattle.sock_io.specs.Peer.{IsNewPeer}
@@ -77,7 +76,7 @@ shape_out (out.Tcp (Accepted half)) = None
 -- never asks to be called again.
 pub record IsOpened (number : ℕ) (spec : LinkSpec) (out : ProgOut) (peer : ProgPeer) (inn : ProgIn) : Type 0 where
   pub kind : (kind_out out ≡ kind_asked spec.mode) × (kind_in inn ≡ kind_asked spec.mode)
-  pub shape : shape_out out ≡ Some (shape_asked spec)
+  pub shape : shape_out out ≡ Some spec.shape
   pub fresh : IsFresh (prog_out out) (prog_in inn) number
   pub unused : IsNewPeer (prog_peer peer)
   pub offer : IfSome (prog_in inn).offer (λ o. IsNewOffer spec o)

@@ -12,8 +12,7 @@ use loop_link::LoopLinker;
 use net_link::TcpLinker;
 use ring_link::open_ring;
 use sock_io::{
-    Ends, LinkSpec, Linker, LinkerTells, Mode, NoMemory, NotedLinks, OpenFault, Out, Shape, Shaped,
-    risen,
+    Ends, LinkSpec, Linker, LinkerTells, Mode, NoMemory, NotedLinks, OpenFault, Out, Shaped, risen,
 };
 use std::alloc::Global;
 use std::marker::Model;
@@ -68,7 +67,7 @@ fn is_same_kind(one: Mode, other: Mode) -> bool
 
 /// A link over rings, which has this number.
 fn open_rings(alloc: Global, spec: &LinkSpec, number: u16) -> Result<Link, OpenFault>
-    requires piece { 0 < spec.now.piece }
+    requires piece { 0 < spec.now.shape.piece }
     requires mode { kind_asked spec.now.mode ≡ OverRings }
     ensures opened { IfOk result (λ ends. IsOpened number spec.now ends.out ends.peer ends.inn) }
     ensures never { ¬ IsErrOf result OpenFault.Failed }
@@ -77,7 +76,7 @@ fn open_rings(alloc: Global, spec: &LinkSpec, number: u16) -> Result<Link, OpenF
         return Err(OpenFault::NoMemory);
     };
     let Ends { out, inn, peer } = ends;
-    match Shaped::new(alloc, out, Shape::asked(spec)) {
+    match Shaped::new(alloc, out, spec.shape) {
         Ok(out) => Ok(Ends {
             out: ProgOut::Ring(out),
             inn: ProgIn::Ring(inn),
@@ -99,7 +98,7 @@ fn open_ends<N: Net<Stream = TcpStream, Listener = TcpListener> + Drop>(
     loops: &mut LoopLinker,
     streams: &mut TcpLinker<N>,
 ) -> Result<Link, OpenFault>
-    requires asked { (0 < spec.now.piece) × (number < 256) }
+    requires asked { (0 < spec.now.shape.piece) × (number < 256) }
     requires loops { kind_asked spec.now.mode ≡ InMemory → length loops.old.asked ≡ number }
     requires streams { kind_asked spec.now.mode ≡ OverTcp → length streams.old.asked ≡ number }
     requires opens { loops.old.fail_opens ≡ [] }

@@ -14,7 +14,7 @@ use Rattle.brpc_model.specs.Script.{script_of}
 use Rattle.brpc_model.specs.Link.{LinkEnd}
 use Rattle.brpc_model.specs.Report.{Report, report_text}
 use Rattle.brpc_model.specs.Run.{nothing_late}
-use Rattle.brpc_model.specs.PlaceWords.{ArePlaces, HasEachOutcome}
+use Rattle.brpc_model.specs.PlaceWords.{ArePlaces, HasEachOutcome, AreTold}
 use Rattle.brpc_model.specs.Complete.{FitsWhole}
 use Rattle.seat_programs.specs.sock_model.specs.Layout.{place_index}
 use Rattle.seat_programs.specs.sock_model.specs.Deliveries.{place_value}
@@ -31,7 +31,7 @@ use Rattle.seat_programs.specs.Told as sends
 use Rattle.seat_programs.specs.ToldCalls.{Accepted, Order, Fixed, ToldCalls, AreOrders, IsTaken, StandsAt, OfSend, StandsOn, all_accepted, label, bytes_of}
 use Rattle.seat_programs.specs.ToldCalls as told
 use Rattle.report_fits.specs.Calm.{IsCalm}
-use Rattle.report_fits.specs.Ends.{AreEnds, AreEndsOf, AreTold}
+use Rattle.report_fits.specs.Ends.{AreEnds, AreEndsOf}
 use Rattle.report_fits.proofs.Lists.{has_from, has_none, all_from, all_at, before_from, before_at}
 use Rattle.report_fits.proofs.Flat.{map_at, at_map, map_length, map_map}
 use Rattle.report_fits.proofs.Numbering.{are_from}

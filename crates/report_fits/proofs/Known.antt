@@ -18,7 +18,7 @@ use Rattle.seat_programs.specs.Tasks.{name_number, numbered, asked_of, op_of, pl
 use Rattle.seat_programs.specs.Scripts.{all_tasks}
 use Rattle.seat_programs.specs.Told.{IsTask, Made}
 use Rattle.seat_programs.specs.ToldCalls.{Accepted, Order, StandsAt, Fixed, ToldCalls, IsSent, OfSend, OfCall, StandsOn, all_accepted}
-use Rattle.report_fits.specs.Limits.{KeepsLimits}
+use Rattle.brpc_model.specs.Limits.{KeepsLimits}
 use Rattle.report_fits.proofs.Lists.{Has, within, some_is, all_at}
 use Rattle.report_fits.proofs.Names.{mentioned_has}
 use Rattle.report_fits.proofs.Numbering.{are_from}

@@ -12,11 +12,11 @@ use Rattle.brpc_model.specs.Messages.{message, written, id_at, shown_id}
 use Rattle.brpc_model.specs.Link.{LinkEnd}
 use Rattle.brpc_model.specs.Order.{IsCut}
 use Rattle.brpc_model.specs.Report.{LinkLine, Report}
-use Rattle.brpc_model.specs.PlaceWords.{word_at, outcome_by_word, took_at}
+use Rattle.brpc_model.specs.PlaceWords.{word_at, outcome_by_word, took_at, AreTold}
 use Rattle.seat_programs.specs.Tasks.{plan_of}
 use Rattle.seat_programs.specs.Scripts.{place_words, took_at_home, Reports}
 use Rattle.seat_programs.specs.ToldCalls.{Accepted, bytes_of, all_accepted, label as number_of}
-use Rattle.report_fits.specs.Ends.{AreEndsOf, AreTold}
+use Rattle.report_fits.specs.Ends.{AreEndsOf}
 use Rattle.report_fits.proofs.Lists.{within}
 use Rattle.report_fits.proofs.Flat.{map_at, at_map, map_length, map_same, map_map, flat_of_map, sum_places}
 use Rattle.report_fits.proofs.Reported.{told_outcome}

@@ -9,14 +9,14 @@ use Rattle.brpc_model.specs.Script.{script_of}
 use Rattle.brpc_model.specs.Link.{LinkEnd}
 use Rattle.brpc_model.specs.Report.{Report, report_text}
 use Rattle.brpc_model.specs.Run.{Lateness}
-use Rattle.brpc_model.specs.PlaceWords.{word_at, ArePlaces, HasEachOutcome}
+use Rattle.brpc_model.specs.PlaceWords.{word_at, ArePlaces, HasEachOutcome, AreTold}
 use Rattle.brpc_model.specs.Complete.{FitsWhole, IsUntroubled}
 use Rattle.seat_programs.specs.Cores.{Core}
 use Rattle.seat_programs.specs.Tasks.{plan_of}
 use Rattle.seat_programs.specs.Scripts.{all_tasks, place_words, Reports}
 use Rattle.seat_programs.specs.ToldCalls.{Fixed, Order, ToldCalls, StandsOn, label}
 use Rattle.report_fits.specs.Calm.{IsCalm}
-use Rattle.report_fits.specs.Ends.{AreEndsOf, AreTold}
+use Rattle.report_fits.specs.Ends.{AreEndsOf}
 use Rattle.report_fits.proofs.Lists.{within, some_is}
 use Rattle.report_fits.proofs.TaskLemmas.{asked_at, operation_task}
 use Rattle.report_fits.proofs.Sizes.{is_counted, keeps_limits}

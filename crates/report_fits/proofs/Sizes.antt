@@ -10,7 +10,7 @@ use Rattle.brpc_model.specs.Script.{script_of}
 use Rattle.seat_programs.specs.sock_model.specs.Lawful.{PlanFits}
 use Rattle.seat_programs.specs.Tasks.{plan_of}
 use Rattle.seat_programs.specs.Scripts.{all_tasks}
-use Rattle.report_fits.specs.Limits.{KeepsLimits}
+use Rattle.brpc_model.specs.Limits.{KeepsLimits}
 use Rattle.report_fits.proofs.Lists.{or_parts, all_at, filter_map_has}
 use Rattle.report_fits.proofs.Numbering.{behind_item, OpensOrNot, opens_or_not}
 use Rattle.report_fits.proofs.TaskLemmas.{tasks_length}

@@ -4,7 +4,6 @@ use Rattle.sock_words.specs.declared.plain.Plan.{Plan}
 use Rattle.brpc_model.specs.Items.{Item}
 use Rattle.brpc_model.specs.Operations.{link_names}
 use Rattle.brpc_model.specs.Link.{LinkEnd}
-use Rattle.brpc_model.specs.PlaceWords.{took_at}
 use Rattle.brpc_model.specs.Causes.{HasFault, reading_limit}
 use Rattle.seat_programs.specs.Cores.{Core}
 use Rattle.seat_programs.specs.Tasks.{plan_of}
@@ -24,10 +23,6 @@ pub record IsEnd (p : Plan) (core : Core) (broken : List ℕ) (k : ℕ) (e : Lin
 pub record AreEnds (script : List Item) (core : Core) (broken : List ℕ) (ends : List LinkEnd) : Type 0 where
   pub as_many : length ends ≡ length (link_names script)
   pub each : (k : ℕ) (e : LinkEnd) → slice_get ends k ≡ Some e → IsEnd (plan_of script) core broken k e
-
--- what is said of each link that tells what it took is what it tells
-abbrev pub AreTold : List LinkEnd → List (List ℕ) → Type 0
-AreTold ends took = (k : ℕ) (e : LinkEnd) → slice_get ends k ≡ Some e → IfSome e.took (λ bytes. took_at took k ≡ bytes)
 
 -- ## With calls
 

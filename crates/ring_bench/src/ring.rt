@@ -3,7 +3,7 @@ ghost use Rattle.std.specs.Prelude.{◌<◌, length};
 
 use crate::request::request_of;
 use ring_link::{RingIn, RingOut, RingPeer, open_ring};
-use sock_io::{Ends, In, LinkSpec, Mode, Out, Peer, Put, Served, Take};
+use sock_io::{Ends, In, LinkSpec, Mode, Out, Peer, Put, Served, Shape, Take};
 use std::alloc::Global;
 use std::sync::Wait;
 use std::thread;
@@ -12,21 +12,25 @@ use std::thread::Threads;
 /// A link whose other end gives its end at once, and from then on takes what comes and throws it away.
 const SINK: LinkSpec = LinkSpec {
     mode: Mode::Ring,
-    piece: 65_536,
-    again: 0,
-    fail: 0,
-    serve: true,
-    end: Some(0),
+    shape: Shape {
+        piece: 65_536,
+        again: 0,
+        fail: 0,
+        serve: true,
+        end: Some(0),
+    },
 };
 
 /// A link to a server.
 const SERVER: LinkSpec = LinkSpec {
     mode: Mode::Ring,
-    piece: 65_536,
-    again: 0,
-    fail: 0,
-    serve: true,
-    end: None,
+    shape: Shape {
+        piece: 65_536,
+        again: 0,
+        fail: 0,
+        serve: true,
+        end: None,
+    },
 };
 
 /// What the writing half answers to this piece. Nothing more is said of it, nor of the others below, so that loops over them are

@@ -3,7 +3,9 @@ ghost use Rattle.sock_io.specs.Link.{IsTakeCount, OfferTaken, given_of};
 ghost use Rattle.ring_link.specs.Inside.{IsNewInner, IsServing, SameAsked, inner_gave, inner_offer};
 
 use loop_link::{LoopIn, LoopLinker};
-use sock_io::{Ends, In, LinkSpec, Linker, MemOut, Mode, NoMemory, NoPeer, Out, Put, Shaped, Take};
+use sock_io::{
+    Ends, In, LinkSpec, Linker, MemOut, Mode, NoMemory, NoPeer, Out, Put, Shape, Shaped, Take,
+};
 use std::alloc::Global;
 use std::marker::Model;
 
@@ -34,11 +36,13 @@ impl Inner {
         let mut links = LoopLinker::new(alloc, Vec::new(alloc));
         let asked = LinkSpec {
             mode: Mode::Loop,
-            piece: 65_536,
-            again: 0,
-            fail: 0,
-            serve,
-            end,
+            shape: Shape {
+                piece: 65_536,
+                again: 0,
+                fail: 0,
+                serve,
+                end,
+            },
         };
         match links.open(&asked) {
             Ok(ends) => Ok(Inner { links, ends }),

@@ -63,7 +63,7 @@ pub fn open_ring(
             return Err(fault);
         }
     };
-    let inner = match Inner::new(alloc, spec.serve, spec.end) {
+    let inner = match Inner::new(alloc, spec.shape.serve, spec.shape.end) {
         Ok(inner) => inner,
         Err(fault) => {
             drop(there);

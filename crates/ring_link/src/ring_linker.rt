@@ -1,6 +1,5 @@
 ghost use Rattle.std.specs.Prelude.{◌≡◌, ◌≢◌, ◌+◌, ◌<◌, ◌∷◌, ◌++◌, false, true, None, Ok, [], length, IfOk, IsErrOf, OnErr, OnOk};
 ghost use Rattle.sock_io.specs.Link.{IsFresh, IsSettled, IsUnused, MayOpen, end_of};
-ghost use Rattle.sock_io.specs.Linker.{shape_asked};
 ghost use Rattle.sock_io.specs.Meeting.{AreEnds, IsAskedPeer, MeetOut, MeetStep};
 ghost use Rattle.sock_io.specs.Peer.{IsNewPeer, has_ended};
 ghost use Rattle.sock_io.specs.Shape.{shaped_out};
@@ -86,7 +85,7 @@ impl<R: AllocGlobal + Drop> Linker for RingLinker<R> {
         ensures other { IfOk result (λ ends. IsAskedPeer spec.now (ring_peer ends.peer)) }
         ensures one { IfOk result (λ ends. AreEnds (shaped_out ends.out) (ring_peer ends.peer) (ring_in ends.inn)) }
         ensures unknown { IfOk result (λ ends. (ring_in ends.inn).offer ≡ None) }
-        ensures shape { IfOk result (λ ends. ends.out.shape ≡ shape_asked spec.now) }
+        ensures shape { IfOk result (λ ends. ends.out.shape ≡ spec.now.shape) }
         ensures linker { IfOk result (λ _. self.new ≡ record self.old { asked = self.old.asked ++ spec.now ∷ [] }) }
         ensures refused { OnErr result (self.new ≡ self.old) }
         ensures never { ¬ IsErrOf result OpenFault.Failed }
@@ -95,7 +94,7 @@ impl<R: AllocGlobal + Drop> Linker for RingLinker<R> {
             return Err(OpenFault::NoMemory);
         };
         let Ends { out, inn, peer } = ends;
-        match Shaped::new(self.rt.alloc(), out, Shape::asked(spec)) {
+        match Shaped::new(self.rt.alloc(), out, spec.shape) {
             Ok(out) => {
                 self.note(spec);
                 Ok(Ends { out, inn, peer })

@@ -7,7 +7,7 @@ use Rattle.brpc_model.specs.Script.{script_of}
 use Rattle.brpc_model.specs.Link.{LinkEnd}
 use Rattle.brpc_model.specs.Causes.{HasFault}
 use Rattle.brpc_model.specs.Report.{Report, report_text}
-use Rattle.brpc_model.specs.PlaceWords.{ArePlaces, HasEachOutcome}
+use Rattle.brpc_model.specs.PlaceWords.{ArePlaces, HasEachOutcome, AreTold}
 use Rattle.brpc_model.specs.Complete.{FitsWhole, IsUntroubled, IsSilentUnserved, IsServed}
 use Rattle.seat_programs.specs.Tasks.{opens, calls, plan_of, id_plan_of}
 use Rattle.seat_programs.specs.Cores.{Core}
@@ -26,7 +26,7 @@ use Rattle.owed_calls.specs.Owing.{Owing}
 use Rattle.owed_calls.specs.Sound.{SoundOwing}
 use Rattle.owed_calls.proofs.End.{all_ended}
 use Rattle.owed_calls.specs.report_fits.specs.Calm.{IsCalm}
-use Rattle.owed_calls.specs.report_fits.specs.Ends.{AreEndsOf, AreTold, EndsEarly}
+use Rattle.owed_calls.specs.report_fits.specs.Ends.{AreEndsOf, EndsEarly}
 use Rattle.owed_calls.specs.report_fits.proofs.Lists.{Has, has_first, has_later, within, all_at, contains_from}
 use Rattle.owed_calls.specs.report_fits.proofs.Places.{lateness, script_fits, script_places}
 use Rattle.owed_calls.specs.report_fits.proofs.Sizes.{keeps_limits}

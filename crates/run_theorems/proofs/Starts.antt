@@ -11,7 +11,7 @@ use Rattle.outcome_causes.specs.sock_runs.specs.Sound.{IsWithinLimits}
 use Rattle.outcome_causes.specs.sock_runs.proofs.Whole.{AreFittingIn, Begins}
 use Rattle.owed_calls.specs.joint_runs.proofs.Runs.{AreMade, first_views, begins, are_fitting_in, joint_runs}
 use Rattle.owed_calls.specs.joint_runs.proofs.Made.{are_made}
-use Rattle.owed_calls.specs.report_fits.specs.Limits.{KeepsLimits}
+use Rattle.brpc_model.specs.Limits.{KeepsLimits}
 use Rattle.owed_calls.specs.report_fits.proofs.Sizes.{keeps_limits, plan_fits, few_seats}
 use Rattle.owed_calls.specs.report_fits.proofs.Tasks.{tasks_of_script}
 

@@ -4,7 +4,6 @@ use Rattle.brpc_model.specs.Items.{Item, Slots, Requests, First, Open, Client, S
 use Rattle.brpc_model.specs.Items as model
 use Rattle.script_items.specs.declared.line.Seat.{Seat}
 use Rattle.script_items.specs.declared.line.Seat.TheVariants as seats
-use Rattle.script_items.specs.declared.line.Shape.{Shape}
 use Rattle.script_items.specs.declared.line.CallLine.{CallLine}
 use Rattle.script_items.specs.declared.line.Line.{Line}
 use Rattle.script_items.specs.declared.line.Line.TheVariants as lines
@@ -13,10 +12,6 @@ use Rattle.script_items.specs.declared.line.Line.TheVariants as lines
 abbrev pub seat_of : Seat → model.Seat
 seat_of (seats.Client c) = ClientSeat c
 seat_of (seats.Reader k) = ReaderSeat k
-
--- the shape of a link
-abbrev pub shape_of : Shape → model.Shape
-shape_of s = record { piece = s.piece; again = s.again; fail = s.fail; serve = s.serve; «end» = s.«end» }
 
 -- a call
 abbrev pub call_of : CallLine → model.CallLine
@@ -27,7 +22,7 @@ abbrev pub item : Line → Item
 item (lines.Slots n) = Slots n
 item (lines.Requests n) = Requests n
 item (lines.First v) = First v
-item (lines.Open o) = Open o.name (shape_of o.shape)
+item (lines.Open o) = Open o.name o.shape
 item lines.Client = Client
 item (lines.Send s) = Send s.name s.bytes
 item (lines.Call c) = Call (call_of c)

@@ -3,16 +3,17 @@ ghost use Rattle.brpc_model.specs.Text.{words};
 ghost use Rattle.brpc_model.specs.Items.{Item};
 ghost use Rattle.brpc_model.specs.Lines.{shape_in, of_name, of_number, first_item, open_item, send_item, call_item, target_item, fail_item, tick_item, to_item, alone};
 ghost use Rattle.script_items.specs.Answers.{Answers, Behind};
-ghost use Rattle.script_items.specs.Meaning.{item, shape_of};
+ghost use Rattle.script_items.specs.Meaning.{item};
 
 use crate::bytes::Name;
 use crate::calls::{read_call, read_target};
 use crate::fault::{BAD_NUMBER, BAD_WORDS, LineFault, both};
-use crate::line::{Line, OpenLine, SendLine, Shape, Target};
+use crate::line::{Line, OpenLine, SendLine, Target};
 use crate::numbers::read_number;
 use crate::options::{Command, read_end, read_number_option, read_serve};
 use crate::parts::{read_kind, read_message, read_name, read_seat};
 use crate::words::{next_word, no_more_words};
+use sock_words::Shape;
 use std::alloc::Global;
 
 /// `word NAME`: the name.
@@ -67,7 +68,7 @@ pub fn read_first(args: &[u8]) -> Result<Line, LineFault>
 
 /// The options of an `open`.
 fn read_shape(options: &[u8]) -> Result<Shape, LineFault>
-    ensures { Answers shape_of result (shape_in (words options.now)) }
+    ensures { Answers (λ shape. shape) result (shape_in (words options.now)) }
 {
     if !Command::Open.knows_all(options) {
         return Err(BAD_WORDS);

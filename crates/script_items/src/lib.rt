@@ -18,10 +18,11 @@ mod writing;
 
 pub use bytes::{Bytes, Name};
 pub use fault::LineFault;
-pub use line::{CallLine, Line, OpenLine, Seat, SendLine, Shape, Target};
+pub use line::{CallLine, Line, OpenLine, Seat, SendLine, Target};
 pub use names::Names;
 pub use numbers::number;
 pub use read::read_line;
 pub use script::Script;
 pub use sizes::{client_count, first_version, is_client, is_operation, request_count, slot_count};
+pub use sock_words::Shape;
 pub use writing::{push_hex, push_hex_word, push_number, push_number_word, push_word};

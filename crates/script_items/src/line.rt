@@ -1,6 +1,6 @@
 use crate::bytes::{Bytes, Name};
 use crate::names::Names;
-use sock_words::Kind;
+use sock_words::{Kind, Shape};
 
 /// Whose steps a line of the schedule asks for: a client by its number, from 1, or the reader of a
 /// link by the link's number, from 0.
@@ -8,21 +8,6 @@ use sock_words::Kind;
 pub enum Seat {
     Client(u16),
     Reader(u16),
-}
-
-/// The shape of a link.
-#[derive(Clone, Copy, Debug, PartialEq, Eq)]
-pub struct Shape {
-    /// The most bytes that one put takes, 1 to 65,536.
-    pub piece: u32,
-    /// Each put with a number that this divides answers that it wants to be tried again; 0 for none.
-    pub again: u32,
-    /// The number of the put from which on each one fails; 0 for none.
-    pub fail: u32,
-    /// Whether the built-in server stands behind the link.
-    pub serve: bool,
-    /// After how many responses the server gives its end.
-    pub end: Option<u32>,
 }
 
 /// `open NAME` with its options: a socket on a new link.

@@ -22,7 +22,7 @@ told_none None told h = absurd (told refl)
 told_none (Some bytes) told h = ap Some h
 
 -- a link that was opened just now is offered what belongs to it
-new_offered : (out : OutState) (inn : InState) (number : ℕ) (spec : LinkSpec) → IsFresh out inn number → IfSome inn.offer (λ o. IsNewOffer spec o) → out.took ≢ None → inn.gave_bytes ≢ None → inn.offer ≢ None → IsOffered (out ∷ []) (inn ∷ []) 0 spec.serve spec.end
+new_offered : (out : OutState) (inn : InState) (number : ℕ) (spec : LinkSpec) → IsFresh out inn number → IfSome inn.offer (λ o. IsNewOffer spec o) → out.took ≢ None → inn.gave_bytes ≢ None → inn.offer ≢ None → IsOffered (out ∷ []) (inn ∷ []) 0 spec.shape.serve spec.shape.end
 new_offered out inn number spec fresh new took gave offers =
     let o = told_there inn.offer offers in
     let is = subst (λ (x : Option Offer). IfSome x (λ o. IsNewOffer spec o)) o.1 new in record {
@@ -57,17 +57,17 @@ elsewhere outs outs' inns inns' k k' serve end outs_are inns_are h = record {
 }
 
 -- one link more
-module _ (spec : LinkSpec) (out : OutState) (inn : InState) (one : IsOffered (out ∷ []) (inn ∷ []) 0 spec.serve spec.end) where
+module _ (spec : LinkSpec) (out : OutState) (inn : InState) (one : IsOffered (out ∷ []) (inn ∷ []) 0 spec.shape.serve spec.shape.end) where
   asked_push : (specs : List LinkSpec) (outs : List OutState) (inns : List InState) → length specs ≡ length outs → length specs ≡ length inns → AreAsked specs outs inns → AreAsked (specs ++ spec ∷ []) (outs ++ out ∷ []) (inns ++ inn ∷ [])
-  asked_push [] [] [] m n h zero other at = let same : spec ≡ other = cc in subst (λ (s : LinkSpec). IsOffered (out ∷ []) (inn ∷ []) 0 s.serve s.end) same one
+  asked_push [] [] [] m n h zero other at = let same : spec ≡ other = cc in subst (λ (s : LinkSpec). IsOffered (out ∷ []) (inn ∷ []) 0 s.shape.serve s.shape.end) same one
   asked_push [] [] [] m n h (suc k) other at = absurd (cc)
   asked_push [] (o ∷ os) inns m n h k other at = absurd (omega (arith, m))
   asked_push [] [] (i ∷ is) m n h k other at = absurd (omega (arith, n))
   asked_push (s ∷ ss) [] inns m n h k other at = absurd (omega (arith, m))
   asked_push (s ∷ ss) (o ∷ os) [] m n h k other at = absurd (omega (arith, n))
-  asked_push (s ∷ ss) (o ∷ os) (i ∷ is) m n h zero other at = elsewhere (o ∷ os) (o ∷ (os ++ out ∷ [])) (i ∷ is) (i ∷ (is ++ inn ∷ [])) 0 0 other.serve other.end refl refl (h zero other at)
-  asked_push (s ∷ ss) (o ∷ os) (i ∷ is) m n h (suc k) other at = elsewhere (os ++ out ∷ []) (o ∷ (os ++ out ∷ [])) (is ++ inn ∷ []) (i ∷ (is ++ inn ∷ [])) k (suc k) other.serve other.end refl refl
-      (asked_push ss os is (omega (arith, m)) (omega (arith, n)) (λ j s at. elsewhere (o ∷ os) os (i ∷ is) is (suc j) j s.serve s.end refl refl (h (suc j) s at)) k other at)
+  asked_push (s ∷ ss) (o ∷ os) (i ∷ is) m n h zero other at = elsewhere (o ∷ os) (o ∷ (os ++ out ∷ [])) (i ∷ is) (i ∷ (is ++ inn ∷ [])) 0 0 other.shape.serve other.shape.end refl refl (h zero other at)
+  asked_push (s ∷ ss) (o ∷ os) (i ∷ is) m n h (suc k) other at = elsewhere (os ++ out ∷ []) (o ∷ (os ++ out ∷ [])) (is ++ inn ∷ []) (i ∷ (is ++ inn ∷ [])) k (suc k) other.shape.serve other.shape.end refl refl
+      (asked_push ss os is (omega (arith, m)) (omega (arith, n)) (λ j s at. elsewhere (o ∷ os) os (i ∷ is) is (suc j) j s.shape.serve s.shape.end refl refl (h (suc j) s at)) k other at)
 
 pub asked_with : {A : Type 0} (out_of : A → OutState) (inn_of : A → InState) (specs more : List LinkSpec) (old new : List A) (x : A) (number : ℕ) (spec : LinkSpec) → length specs ≡ length old → more ≡ specs ++ spec ∷ [] → new ≡ old ++ x ∷ [] →
     IsFresh (out_of x) (inn_of x) number → IfSome (inn_of x).offer (λ o. IsNewOffer spec o) → (out_of x).took ≢ None → (inn_of x).gave_bytes ≢ None → (inn_of x).offer ≢ None →

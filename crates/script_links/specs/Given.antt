@@ -48,7 +48,7 @@ has_piece_line line = has_piece (item line)
 
 -- what a link of this shape is asked, made in this mode
 abbrev pub spec_of : Mode → Shape → LinkSpec
-spec_of mode shape = record { mode = mode; piece = shape.piece; again = shape.again; fail = shape.fail; serve = shape.serve; end = shape.end }
+spec_of mode shape = record { mode = mode; shape = shape }
 
 -- what a line asks of its link, where it opens one
 abbrev pub spec_asked : Mode → Item → Option LinkSpec

@@ -33,4 +33,4 @@ pub record IsOffered (outs : List OutState) (inns : List InState) (k : ℕ) (ser
 
 -- each link of which this was asked tells what it took, gave and is offered, and is offered what belongs to it, by what was asked of it
 abbrev pub AreAsked : List LinkSpec → List OutState → List InState → Type 0
-AreAsked specs outs inns = (k : ℕ) (spec : LinkSpec) → slice_get specs k ≡ Some spec → IsOffered outs inns k spec.serve spec.end
+AreAsked specs outs inns = (k : ℕ) (spec : LinkSpec) → slice_get specs k ≡ Some spec → IsOffered outs inns k spec.shape.serve spec.shape.end

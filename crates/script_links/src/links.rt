@@ -6,7 +6,6 @@ ghost use Rattle.brpc_model.specs.Items.{is_open};
 ghost use Rattle.script_items.specs.Meaning.{item};
 ghost use Rattle.sock_io.specs.Causes.{OpenCause, Rose};
 ghost use Rattle.sock_io.specs.Link.{end_of};
-ghost use Rattle.script_items.specs.Meaning.{shape_of};
 ghost use Rattle.script_links.specs.Given.{IsUntouched, AreUntouched, AreNumbered, IsBeginning, has_piece, is_open_line, has_piece_line, spec_of, specs_of};
 ghost use Rattle.script_links.specs.Offered.{AreAsked, TellOffers};
 ghost use Rattle.script_links.specs.Opened.{AreOpened};
@@ -16,15 +15,11 @@ use sock_io::{Ends, LinkSpec, Linker, Mode, OpenFault};
 
 /// What a line asks of its link, made in this mode.
 pub fn spec_of(mode: Mode, open: &OpenLine) -> LinkSpec
-    ensures { result ≡ spec_of mode (shape_of «open».now.shape) }
+    ensures { result ≡ spec_of mode «open».now.shape }
 {
     LinkSpec {
         mode,
-        piece: open.shape.piece,
-        again: open.shape.again,
-        fail: open.shape.fail,
-        serve: open.shape.serve,
-        end: open.shape.end,
+        shape: open.shape,
     }
 }
 

@@ -3,8 +3,7 @@ use Rattle.std.proofs.Common.{◌≡◌, ℕ, zero, suc, List, [], ◌∷◌, le
 use Rattle.sock_io.specs.declared.link.Ends.{Ends}
 use Rattle.sock_io.specs.Link.{OutState, InState}
 use Rattle.brpc_model.specs.Link.{LinkEnd}
-use Rattle.brpc_model.specs.PlaceWords.{took_at}
-use Rattle.report_fits.specs.Ends.{AreTold}
+use Rattle.brpc_model.specs.PlaceWords.{took_at, AreTold}
 use Rattle.report_fits.proofs.Flat.{at_map}
 use Rattle.call_run.specs.link_crew.specs.declared.beside.Rest.{Rest}
 use Rattle.script_parts.specs.Halves.{AreTaken, joined}

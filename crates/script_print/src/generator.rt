@@ -6,8 +6,9 @@ ghost use Rattle.brpc_model.specs.ScriptText.{script_text};
 ghost use Rattle.script_items.specs.Meaning.{item};
 
 use crate::draws::Draws;
-use script_items::{Bytes, CallLine, Line, Name, Names, OpenLine, Script, SendLine, Shape};
+use script_items::{Bytes, CallLine, Line, Name, Names, OpenLine, Script, SendLine};
 use sock_io::NoMemory;
+use sock_words::Shape;
 use std::alloc::{AllocError, Global};
 
 /// A name.

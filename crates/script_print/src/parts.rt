@@ -2,9 +2,10 @@ ghost use Rattle.std.specs.Prelude.{◌≡◌, [], ◌++◌, codes, OnOk, if◌t
 ghost use Rattle.sock_words.specs.Printed.{word};
 ghost use Rattle.brpc_model.specs.ScriptText.{option_text, end_text, shape_text, seat_text, target_text};
 ghost use Rattle.std.specs.List.{join_with_byte};
-ghost use Rattle.script_items.specs.Meaning.{seat_of, shape_of};
+ghost use Rattle.script_items.specs.Meaning.{seat_of};
 
-use script_items::{Names, Seat, Shape, Target, push_number, push_number_word, push_word};
+use script_items::{Names, Seat, Target, push_number, push_number_word, push_word};
+use sock_words::Shape;
 use std::alloc::AllocError;
 
 /// Appends ` KEY=N`, unless the number is its default.
@@ -49,7 +50,7 @@ fn push_end(text: &mut Vec<u8>, replies: Option<u32>) -> Result<(), AllocError>
 
 /// Appends the options of an `open` that differ from their defaults.
 pub fn push_shape(text: &mut Vec<u8>, shape: &Shape) -> Result<(), AllocError>
-    ensures { OnOk result (text.new.items ≡ text.old.items ++ shape_text (shape_of shape.now)) }
+    ensures { OnOk result (text.new.items ≡ text.old.items ++ shape_text shape.now) }
 {
     push_option(text, b"piece", 65_536, shape.piece)?;
     push_option(text, b"again", 0, shape.again)?;

@@ -6,11 +6,10 @@ use Rattle.sock_words.specs.declared.place_word.PlaceWord.{PlaceWord}
 use Rattle.std.specs.Prelude.{Option}
 use Rattle.brpc_model.specs.Items.{Item}
 use Rattle.brpc_model.specs.Link.{LinkEnd}
-use Rattle.brpc_model.specs.PlaceWords.{ArePlaces, HasEachOutcome, outcomes_from}
+use Rattle.brpc_model.specs.PlaceWords.{ArePlaces, HasEachOutcome, outcomes_from, AreTold}
 use Rattle.brpc_model.specs.Operations.{operations}
 use Rattle.script_items.specs.Meaning.{item}
 use Rattle.script_items.specs.declared.line.Line.{Line}
-use Rattle.report_fits.specs.Ends.{AreTold}
 use Rattle.sock_core.specs.Finish.{told_from}
 use Rattle.script_report.specs.declared.summary.Load.{Load}
 use Rattle.script_report.specs.Sums.{told_of, sums_of, summary_text}

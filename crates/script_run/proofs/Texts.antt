@@ -13,7 +13,7 @@ use Rattle.brpc_model.specs.Script.{script_of}
 use Rattle.brpc_model.specs.Link.{LinkEnd, HalfAnswer, TakeAnswer}
 use Rattle.brpc_model.specs.Operations.{Turn, link_names, link_shapes, operations}
 use Rattle.brpc_model.specs.Causes.{HasFault}
-use Rattle.brpc_model.specs.PlaceWords.{ArePlaces, HasEachOutcome, IsReportText, outcomes_from}
+use Rattle.brpc_model.specs.PlaceWords.{ArePlaces, HasEachOutcome, IsReportText, outcomes_from, AreTold}
 use Rattle.sock_io.specs.declared.link.Mode.TheVariants as mode
 use Rattle.sock_io.specs.Link.{OutState, InState, more_told}
 use Rattle.sock_model.specs.declared.home.Home.TheVariants.{Link}
@@ -32,7 +32,7 @@ use Rattle.calm_runs.specs.send_causes.specs.Below.run_theorems.proofs.Runs.{run
 use Rattle.calm_runs.specs.send_causes.specs.Below.run_theorems.proofs.Starts.{made, starts, fitting}
 use Rattle.calm_runs.specs.send_causes.specs.Below.owed_calls.proofs.Known.{run_owed_of}
 use Rattle.run_laws.proofs.Laws.{keeps_laws}
-use Rattle.report_fits.specs.Ends.{IsEndOf, AreEndsOf, AreTold, EndsEarly}
+use Rattle.report_fits.specs.Ends.{IsEndOf, AreEndsOf, EndsEarly}
 use Rattle.report_fits.proofs.Lists.{within, has_from, all_at}
 use Rattle.report_fits.proofs.Places.{script_places}
 use Rattle.report_fits.proofs.Sizes.{keeps_limits}

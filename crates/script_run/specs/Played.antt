@@ -5,7 +5,7 @@ use Rattle.brpc_model.specs.Items.{Item, Shape}
 use Rattle.brpc_model.specs.Link.{LinkEnd}
 use Rattle.brpc_model.specs.Operations.{Turn, schedule, clients, link_names, link_shapes}
 use Rattle.brpc_model.specs.Report.{Report, report_text}
-use Rattle.brpc_model.specs.PlaceWords.{IsReportText}
+use Rattle.brpc_model.specs.PlaceWords.{IsReportText, AreTold}
 use Rattle.sock_words.specs.declared.outcome.Outcome.{Outcome}
 use Rattle.sock_words.specs.declared.place_word.PlaceWord.{PlaceWord}
 use Rattle.script_report.specs.declared.summary.Load.{Load}
@@ -16,7 +16,7 @@ use Rattle.seat_programs.specs.Ticks.{Answer, Moment}
 use Rattle.seat_programs.specs.Runs.{IsAtRest, Turns}
 use Rattle.seat_programs.specs.Scripts.{IsRunWithCalls, Reports, is_callless, played, drawn_turns, took_at_home}
 use Rattle.seat_programs.specs.Tasks.{plan_of}
-use Rattle.report_fits.specs.Ends.{AreEndsOf, AreTold}
+use Rattle.report_fits.specs.Ends.{AreEndsOf}
 use Rattle.run_laws.specs.Laws.{KeepsLaws}
 use Rattle.sock_io.specs.Link.{InState}
 use Rattle.calm_runs.specs.send_causes.specs.Below.owed_calls.specs.Lives.{ClosesInRun}

@@ -4,7 +4,8 @@ ghost use Rattle.script_items.specs.Meaning.{item};
 ghost use Rattle.script_run.specs.Outlines.{outlined, meant, bare_shape, bare_call};
 
 use crate::mark::Mark;
-use script_items::{Bytes, CallLine, Line, Name, Names, OpenLine, SendLine, Shape, Target};
+use script_items::{Bytes, CallLine, Line, Name, Names, OpenLine, SendLine, Target};
+use sock_words::Shape;
 use std::alloc::{AllocError, Global};
 
 /// What is wanted of a line.

@@ -2,11 +2,10 @@ ghost use Rattle.std.specs.Prelude.{◌≡◌, ℕ, List, Option, Ok, IfOk, IfSo
 ghost use Rattle.sock_words.specs.declared.outcome.Outcome.{Outcome};
 ghost use Rattle.brpc_model.specs.Script.{script_of};
 ghost use Rattle.brpc_model.specs.Operations.{operations};
-ghost use Rattle.brpc_model.specs.PlaceWords.{ArePlaces, HasEachOutcome};
+ghost use Rattle.brpc_model.specs.PlaceWords.{ArePlaces, HasEachOutcome, AreTold};
 ghost use Rattle.script_items.specs.Meaning.{item};
 ghost use Rattle.sock_io.specs.Link.{end_of};
 ghost use Rattle.sock_core.specs.Finish.{told_from};
-ghost use Rattle.report_fits.specs.Ends.{AreTold};
 ghost use Rattle.script_run.specs.Played.{IsPrintOf};
 
 use crate::outcomes::said_of;

@@ -2,7 +2,7 @@ ghost use Rattle.std.specs.Prelude.{◌≡◌, ◌≤◌, ℕ, List, Option, Ok,
 ghost use Rattle.std.specs.List.{list_all, AllByRecursion};
 ghost use Rattle.brpc_model.specs.Script.{script_of};
 ghost use Rattle.brpc_model.specs.Operations.{link_names, operations};
-ghost use Rattle.brpc_model.specs.PlaceWords.{ArePlaces, HasEachOutcome};
+ghost use Rattle.brpc_model.specs.PlaceWords.{ArePlaces, HasEachOutcome, AreTold};
 ghost use Rattle.sock_io.specs.declared.link.Ends.{Ends};
 ghost use Rattle.sock_io.specs.Causes.{OpenCause};
 ghost use Rattle.sock_io.specs.Link.{end_of};
@@ -11,7 +11,6 @@ ghost use Rattle.sock_core.specs.Finish.{told_from};
 ghost use Rattle.script_links.specs.Given.{AreNumbered, AreUntouched, IsBeginning, has_piece, specs_of};
 ghost use Rattle.script_links.specs.Offered.{AreAsked, TellOffers};
 ghost use Rattle.script_run.specs.Played.{IsPrintOf, IsPrinted, TellClosed, turns_of};
-ghost use Rattle.report_fits.specs.Ends.{AreTold};
 
 use crate::outline::Outline;
 use crate::report::{Print, report};

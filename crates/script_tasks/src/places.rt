@@ -1,7 +1,7 @@
 ghost use Rattle.std.specs.Prelude.{◌≡◌, ◌∷◌, map, IfOk};
 ghost use Rattle.seat_programs.specs.Tasks.{calls, opens};
 ghost use Rattle.script_items.specs.Meaning.{item};
-ghost use Rattle.report_fits.specs.Limits.{KeepsLimits};
+ghost use Rattle.brpc_model.specs.Limits.{KeepsLimits};
 ghost use Rattle.script_tasks.specs.Along.{ends_along, is_of_sort, numbers_along, operation_in};
 
 use crate::sizes::{is_call, is_open};

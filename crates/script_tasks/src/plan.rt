@@ -2,7 +2,7 @@ ghost use Rattle.std.specs.Prelude.{◌≡◌, map, IfOk};
 ghost use Rattle.seat_programs.specs.Tasks.{id_plan_of, plan_of};
 ghost use Rattle.seat_programs.specs.Scripts.{sizes_of};
 ghost use Rattle.script_items.specs.Meaning.{item};
-ghost use Rattle.report_fits.specs.Limits.{KeepsLimits};
+ghost use Rattle.brpc_model.specs.Limits.{KeepsLimits};
 
 use crate::names::names_of;
 use crate::sizes::{call_count, link_count, operation_count};

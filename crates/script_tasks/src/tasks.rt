@@ -4,7 +4,7 @@ ghost use Rattle.script_items.specs.Meaning.{item, call_of};
 ghost use Rattle.seat_programs.specs.Tasks.{Numbered, asked_of, op_of};
 ghost use Rattle.seat_programs.specs.Scripts.{all_tasks};
 ghost use Rattle.sock_message.specs.Inside.{KeepsLimits as IsWithinLimits};
-ghost use Rattle.report_fits.specs.Limits.{KeepsLimits};
+ghost use Rattle.brpc_model.specs.Limits.{KeepsLimits};
 ghost use Rattle.script_tasks.specs.Along.{Knows, IsShort, numbered_as, task_at};
 
 use crate::names::{names_of, number_of, numbers_of};

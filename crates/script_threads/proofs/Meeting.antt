@@ -136,7 +136,7 @@ module _ {O I P : Type 0} (tells_in : Mode → Bool) (out : O → OutState) (pee
   abbrev end_at : Ends O I P → LinkEnd
   end_at e = end_of (out e.out) (inn e.inn)
 
-  same_offer : (spec : LinkSpec) (o : Offer) (took : List ℕ) → o.serve ≡ spec.serve → o.end ≡ spec.end → offered_by o took ≡ offered_for spec took
+  same_offer : (spec : LinkSpec) (o : Offer) (took : List ℕ) → o.serve ≡ spec.shape.serve → o.end ≡ spec.shape.end → offered_by o took ≡ offered_for spec took
   same_offer spec o took s e = λ i. if s i then flat_map frame_bytes (first_of (e i) (reply_frames took)) else []
 
   -- the link as it is given back shows the same
@@ -148,13 +148,13 @@ module _ {O I P : Type 0} (tells_in : Mode → Bool) (out : O → OutState) (pee
     record HasOffer : Type 0 where
       offer : Offer
       known : (inn e'.inn).offer ≡ Some offer
-      serve : offer.serve ≡ spec.serve
-      end : offer.end ≡ spec.end
+      serve : offer.serve ≡ spec.shape.serve
+      end : offer.end ≡ spec.shape.end
 
     calm : (peer e.peer).starved ≡ false
     calm = kept.served.calm refl ∙ kept.new.starved
 
-    same_asked : ((peer e.peer).serve ≡ spec.serve) × ((peer e.peer).end ≡ spec.end)
+    same_asked : ((peer e.peer).serve ≡ spec.shape.serve) × ((peer e.peer).end ≡ spec.shape.end)
     same_asked = let w = kept.tells told in asked_stays false kept.before (peer e.peer) kept.served spec kept.asked (kept.served.moved.2.present ∙ w.2)
 
     offer_of : (took given : List ℕ) → (out e.out).took ≡ Some took → (inn e.inn).gave_bytes ≡ Some given → WasReadOut (end_at e) → HasOffer

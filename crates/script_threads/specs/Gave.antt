@@ -9,7 +9,7 @@ use Rattle.sock_io.specs.declared.link.Mode.{Mode}
 
 -- what the other end that was asked for gives for these bytes: the server the replies, up to the number that is given
 abbrev pub offered_for : LinkSpec → List ℕ → List ℕ
-offered_for spec took = if spec.serve then flat_map frame_bytes (first_of spec.end (reply_frames took)) else []
+offered_for spec took = if spec.shape.serve then flat_map frame_bytes (first_of spec.shape.end (reply_frames took)) else []
 
 -- the reading half answered its end or its closing
 abbrev pub WasReadOut : LinkEnd → Type 0

@@ -16,7 +16,8 @@ use Rattle.brpc_model.specs.Report.{Report, report_text}
 use Rattle.brpc_model.specs.Script.{script_of}
 use Rattle.report_fits.specs.Calm.{IsCalm}
 use Rattle.report_fits.specs.Calm as calls
-use Rattle.report_fits.specs.Ends.{AreEndsOf, AreTold, EndsEarly}
+use Rattle.brpc_model.specs.PlaceWords.{AreTold}
+use Rattle.report_fits.specs.Ends.{AreEndsOf, EndsEarly}
 use Rattle.report_fits.proofs.Fitting.{fits_run, complete}
 use Rattle.report_fits.proofs.Known as known
 use Rattle.report_fits.proofs.Lines.{Given}

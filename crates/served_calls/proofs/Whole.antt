@@ -8,7 +8,8 @@ use Rattle.brpc_model.specs.Link.{LinkEnd}
 use Rattle.brpc_model.specs.Operations.{Turn, operations}
 use Rattle.brpc_model.specs.Report.{Report, report_text}
 use Rattle.brpc_model.specs.Script.{script_of}
-use Rattle.report_fits.specs.Ends.{AreEndsOf, AreTold}
+use Rattle.brpc_model.specs.PlaceWords.{AreTold}
+use Rattle.report_fits.specs.Ends.{AreEndsOf}
 use Rattle.report_fits.proofs.Lives.{run_of, story_of}
 use Rattle.report_fits.proofs.Places.{lateness}
 use Rattle.report_fits.proofs.Reading.{InRange}

@@ -7,12 +7,12 @@ use Rattle.brpc_model.specs.Items.{Item, Shape}
 use Rattle.brpc_model.specs.Link.{LinkEnd}
 use Rattle.brpc_model.specs.Operations.{Turn}
 use Rattle.brpc_model.specs.Places.{names}
-use Rattle.brpc_model.specs.PlaceWords.{took_at}
+use Rattle.brpc_model.specs.PlaceWords.{took_at, AreTold}
 use Rattle.brpc_model.specs.Report.{LinkLine, Report}
 use Rattle.brpc_model.specs.Run.{Run}
 use Rattle.brpc_model.specs.Script.{script_of}
 use Rattle.brpc_model.specs.Served as model
-use Rattle.report_fits.specs.Ends.{AreEndsOf, AreTold}
+use Rattle.report_fits.specs.Ends.{AreEndsOf}
 use Rattle.report_fits.proofs.Lines.{Given}
 use Rattle.report_fits.proofs.Lines as lines
 use Rattle.report_fits.proofs.Lists.{within, has_from}

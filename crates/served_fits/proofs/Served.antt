@@ -11,7 +11,8 @@ use Rattle.brpc_model.specs.Report.{Report, report_text}
 use Rattle.brpc_model.specs.Run.{Run}
 use Rattle.brpc_model.specs.Script.{script_of}
 use Rattle.brpc_model.specs.Served.{ServesAll, FitsServed}
-use Rattle.report_fits.specs.Ends.{AreEndsOf, AreTold}
+use Rattle.brpc_model.specs.PlaceWords.{AreTold}
+use Rattle.report_fits.specs.Ends.{AreEndsOf}
 use Rattle.report_fits.proofs.Fitting.{fits_run}
 use Rattle.report_fits.proofs.Places.{lateness}
 use Rattle.seat_programs.specs.Cores.{Core}

@@ -9,7 +9,8 @@ use Rattle.brpc_model.specs.Operations.{Turn}
 use Rattle.brpc_model.specs.Report.{Report, report_text}
 use Rattle.brpc_model.specs.Run.{Run}
 use Rattle.brpc_model.specs.Script.{script_of}
-use Rattle.report_fits.specs.Ends.{AreEndsOf, AreTold}
+use Rattle.brpc_model.specs.PlaceWords.{AreTold}
+use Rattle.report_fits.specs.Ends.{AreEndsOf}
 use Rattle.report_fits.proofs.Lists.{Has, has_from, contains_from, has_later, has_cases, has_none}
 use Rattle.report_fits.proofs.Places.{lateness}
 use Rattle.seat_programs.specs.Cores.{Core}

@@ -12,14 +12,14 @@ use Rattle.brpc_model.specs.Link.{LinkEnd}
 use Rattle.brpc_model.specs.Messages.{id_at, shown_id, request_frame}
 use Rattle.brpc_model.specs.Operations.{Operation, link_names, link_shapes}
 use Rattle.brpc_model.specs.Places.{names}
-use Rattle.brpc_model.specs.PlaceWords.{IsLineOf, IsReportText, took_at}
+use Rattle.brpc_model.specs.PlaceWords.{IsLineOf, IsReportText, took_at, AreTold}
 use Rattle.brpc_model.specs.Reply.{reply}
 use Rattle.brpc_model.specs.Report.{LinkLine}
 use Rattle.brpc_model.specs.Run.{Run, nothing_late, GaveFrame, IsLinkOf, IsOperation, StandsIn}
 use Rattle.brpc_model.specs.Script.{script_of}
 use Rattle.brpc_model.specs.Served.{GivesReplies, GivesOwnReplies, given_for}
 use Rattle.brpc_model.specs.Stream.{stream}
-use Rattle.report_fits.specs.Ends.{AreEndsOf, AreTold}
+use Rattle.report_fits.specs.Ends.{AreEndsOf}
 use Rattle.report_fits.proofs.Lists.{contains_from, has_from, within}
 use Rattle.report_fits.proofs.Reported.{outcome_told}
 use Rattle.report_fits.proofs.TaskLemmas.{numbers_at, operation_task}

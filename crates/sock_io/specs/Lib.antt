@@ -10,3 +10,4 @@ pub mod Peer
 pub mod Shape
 pub mod Told
 pub mod Writing
+pub use Rattle.sock_words

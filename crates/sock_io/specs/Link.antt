@@ -73,8 +73,8 @@ pub record IsServed (took : List ℕ) (finished : Bool) (gave : List ℕ) (o : O
 
 -- it was asked so, and nothing was fed or given so far
 pub record IsNewOffer (spec : LinkSpec) (o : Offer) : Type 0 where
-  pub serve : o.serve ≡ spec.serve
-  pub end : o.end ≡ spec.end
+  pub serve : o.serve ≡ spec.shape.serve
+  pub end : o.end ≡ spec.shape.end
   pub served : IsServed [] false [] o
 
 -- a reading half
@@ -280,4 +280,4 @@ pub record LinkerState : Type 0 where
 
 -- where these links were asked for, one may be asked for so: a put takes a byte at least, and there are at most 256
 abbrev pub MayOpen : List LinkSpec → LinkSpec → Type 0
-MayOpen asked spec = (0 < spec.piece) × (length asked < 256)
+MayOpen asked spec = (0 < spec.shape.piece) × (length asked < 256)

@@ -2,7 +2,7 @@
 use Rattle.std.specs.Prelude.{ℕ, ◌==◌, List, [], if◌then◌else◌, None, true, false}
 use Rattle.brpc_model.specs.Link.{LinkEnd}
 use Rattle.sock_io.specs.declared.link.LinkSpec.{LinkSpec}
-use Rattle.sock_io.specs.declared.shape.Shape.{Shape}
+use Rattle.sock_words.specs.declared.shape.Shape.{Shape}
 use Rattle.sock_io.specs.Link.{OutState}
 use Rattle.sock_io.specs.Shape.{ShapedState}
 
@@ -27,17 +27,9 @@ pub record NotedLinksState : Type 0 where
 abbrev pub new_mem_out : ℕ → OutState
 new_mem_out link = record { link = link; took = None; put_bytes = None; way = []; faults = 0; finished = false; clear = true; always_ready = true; again = false; steady = true; whole = true; answers = None }
 
--- the shape that is asked for
-abbrev pub shape_asked : LinkSpec → Shape
-shape_asked spec = record { piece = spec.piece; again = spec.again; fail = spec.fail }
-
 -- the shape that is asked for: the linker's own failing put stands in where none is
 abbrev pub shape_of : LinkSpec → (fail_put : ℕ) → Shape
-shape_of spec fail_put = record { piece = spec.piece; again = spec.again; fail = (if spec.fail == 0 then fail_put else spec.fail) }
-
--- no shape at all: no put takes less for it, none pauses, none fails
-abbrev pub plain_shape : Shape
-plain_shape = record { piece = 4294967295; again = 0; fail = 0 }
+shape_of spec fail_put = record spec.shape { fail = (if spec.shape.fail == 0 then fail_put else spec.shape.fail) }
 
 -- a half of this shape over memory that took nothing yet
 abbrev pub new_half : ℕ → Shape → ShapedState

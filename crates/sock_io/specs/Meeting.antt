@@ -11,7 +11,7 @@ AreEnds out peer inn = (out.way ≡ peer.way_in) × (peer.way_out ≡ inn.way)
 
 -- an other end is what was asked for
 abbrev pub IsAskedPeer : LinkSpec → PeerState → Type 0
-IsAskedPeer spec peer = peer.present ≡ true → (peer.serve ≡ spec.serve) × (peer.end ≡ spec.end)
+IsAskedPeer spec peer = peer.present ≡ true → (peer.serve ≡ spec.shape.serve) × (peer.end ≡ spec.shape.end)
 
 -- of the writing half nothing changes but whether its next put isn't `Again`
 abbrev pub MeetOut : OutState → OutState → Type 0

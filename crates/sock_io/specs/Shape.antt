@@ -1,6 +1,6 @@
 -- How the puts of a link behave, by their numbers.
 use Rattle.std.specs.Prelude.{ℕ, ◌≡◌, ◌%◌, ◌<◌, ◌≤◌, ◌==◌, ◌&&◌, ◌||◌, nat_lt, nat_le, min, not, Bool, true, false, List, length, Some, if◌then◌else◌}
-use Rattle.sock_io.specs.declared.shape.Shape.{Shape}
+use Rattle.sock_words.specs.declared.shape.Shape.{Shape}
 use Rattle.sock_io.specs.declared.link.Put.{Put}
 use Rattle.sock_io.specs.declared.link.Put.TheVariants as put
 use Rattle.sock_io.specs.Causes.{next_number}

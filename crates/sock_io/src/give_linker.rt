@@ -2,16 +2,17 @@ ghost use Rattle.std.specs.Prelude.{◌≡◌, ◌↔◌, ◌+◌, ◌<◌, ◌�
 ghost use Rattle.sock_io.specs.Causes.{OpenCause, next_number};
 ghost use Rattle.sock_io.specs.Giving.{before_bytes, bytes_and_end, give_in, settled_in};
 ghost use Rattle.sock_io.specs.Link.{MayOpen, SettleStep, end_of};
-ghost use Rattle.sock_io.specs.Linker.{new_half, plain_shape, shape_of};
+ghost use Rattle.sock_io.specs.Linker.{new_half, shape_of};
 ghost use Rattle.sock_io.specs.Shape.{shaped_out};
+ghost use Rattle.sock_words.specs.Shape.{plain_shape};
 
 use crate::give_in::GiveIn;
 use crate::link::{Ends, LinkSpec, Linker, LinkerTells, OpenFault, Out};
 use crate::mem_link::{MemOut, NoPeer};
 use crate::mem_links::MemLinks;
-use crate::shape::Shape;
 use crate::shaped::Shaped;
 use crate::stream::NoMemory;
+use sock_words::Shape;
 use std::alloc::Global;
 use std::marker::Model;
 
@@ -90,15 +91,12 @@ impl Linker for GiveLinker {
         ensures cause { OpenCause self.old.links.faults self.new.links.faults result }
         ensures failed_at { IsErrOf result OpenFault.Failed ↔ Contains self.old.links.fail_opens (next_number self.old.links.calls) }
     {
-        let fail = if spec.fail == 0 {
+        let fail = if spec.shape.fail == 0 {
             self.fail_put
         } else {
-            spec.fail
+            spec.shape.fail
         };
-        let shape = Shape {
-            fail,
-            ..Shape::asked(spec)
-        };
+        let shape = Shape { fail, ..spec.shape };
         let out = self.links.open(spec, shape)?;
         Ok(Ends {
             out,

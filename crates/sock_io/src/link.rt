@@ -8,6 +8,7 @@ ghost use Rattle.sock_io.specs.Peer.{PeerState, ServeStep, IsNewPeer};
 ghost use Rattle.sock_io.specs.Told.{KeepsOthers, SaysAsBefore};
 
 use crate::stream::NoMemory;
+use sock_words::Shape;
 use std::sync::Wait;
 
 /// What a put answers.
@@ -129,19 +130,10 @@ pub enum Mode {
 }
 
 /// What is asked of a link.
-#[derive(Clone, Copy, Debug, PartialEq, Eq)]
+#[derive(Clone, Copy)]
 pub struct LinkSpec {
     pub mode: Mode,
-    /// How many bytes a put takes at most. Not 0.
-    pub piece: u32,
-    /// Each put whose number this divides answers `Again`, unless the one before it did. 0 where it isn't asked for.
-    pub again: u32,
-    /// The put from which on all fail, counted from 1. 0 where it isn't asked for.
-    pub fail: u32,
-    /// Whether the other end is the built-in server.
-    pub serve: bool,
-    /// After how many responses the server gives its end.
-    pub end: Option<u32>,
+    pub shape: Shape,
 }
 
 /// The two halves of a link, and its other end.

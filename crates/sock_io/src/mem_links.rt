@@ -1,14 +1,15 @@
 ghost use Rattle.std.specs.Prelude.{◌≡◌, ◌↔◌, ◌+◌, ◌<◌, ◌∷◌, ◌++◌, [], length, Contains, IfOk, IsErrOf, OnErr};
 ghost use Rattle.sock_io.specs.Causes.{OpenCause, next_number};
 ghost use Rattle.sock_io.specs.Link.{end_of};
-ghost use Rattle.sock_io.specs.Linker.{new_half, plain_shape};
+ghost use Rattle.sock_io.specs.Linker.{new_half};
 ghost use Rattle.sock_io.specs.Shape.{shaped_out};
+ghost use Rattle.sock_words.specs.Shape.{plain_shape};
 
 use crate::counts::{is_counted, next_call, risen};
 use crate::link::{Ends, In, LinkSpec, OpenFault};
 use crate::mem_link::{MemOut, NoPeer};
-use crate::shape::Shape;
 use crate::shaped::Shaped;
+use sock_words::Shape;
 use std::alloc::Global;
 use std::marker::Model;
 

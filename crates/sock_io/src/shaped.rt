@@ -10,9 +10,10 @@ use crate::counts::{next_call, risen};
 use crate::link::{Out, Put, Ready};
 use crate::noted_links::noted;
 use crate::room::with_room;
-use crate::shape::{Shape, does_fail, does_pause};
+use crate::shape::{does_fail, does_pause};
 use crate::stream::NoMemory;
 use ghosts::Ghosts;
+use sock_words::Shape;
 use std::alloc::Global;
 use std::marker::Model;
 

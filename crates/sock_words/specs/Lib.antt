@@ -2,4 +2,5 @@ pub mod Codes
 pub mod KindText
 pub mod OutcomeText
 pub mod Printed
+pub mod Shape
 pub mod Words

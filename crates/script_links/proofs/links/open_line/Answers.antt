@@ -23,7 +23,7 @@ pub open-requires : goal.open-requires
 open-requires g c =
     let piece = subst (λ (l : Line). has_piece (item l) ≡ true) c.in-Open.is c.requires.piece in
     let opens = ap (λ (l : Line). is_open (item l)) c.in-Open.is in
-    (subst (λ (s : LinkSpec). 0 < s.piece) (sym c.spec_of.ensures) (ltb-true 0 c.in-Open.open.shape.piece piece), subst (λ (n : ℕ). n < 256) (sym c.requires.opened) (search rules))
+    (subst (λ (s : LinkSpec). 0 < s.shape.piece) (sym c.spec_of.ensures) (ltb-true 0 c.in-Open.open.shape.piece piece), subst (λ (n : ℕ). n < 256) (sym c.requires.opened) (search rules))
 
 pub returns-clause-unclosed : goal.returns-clause-unclosed
 returns-clause-unclosed g c old = all_with _ _ _ c.in_ok-opened.opened old (search rules) c.in_ok-opened.ensures.fresh.closing

@@ -1,6 +1,6 @@
 use Rattle.std.proofs.Common.{sym, subst}
 use Rattle.std.specs.List.{AllByRecursion}
-use Rattle.report_fits.specs.Limits.{KeepsLimits}
+use Rattle.brpc_model.specs.Limits.{KeepsLimits}
 use Rattle.report_fits.proofs.Sizes.{is_counted, keeps_limits}
 use Rattle.script_tasks.specs.Along.{IsShort}
 use Rattle.script_tasks.proofs.Shorts.{are_short}

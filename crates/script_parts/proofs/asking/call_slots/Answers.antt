@@ -1,7 +1,7 @@
 use Rattle.std.proofs.Common.{sym, subst, ap, ◌∙◌, length}
 use Rattle.corr_core.specs.declared.marks.Plan.{Plan}
 use Rattle.seat_programs.specs.Tasks.{calls}
-use Rattle.report_fits.specs.Limits.{KeepsLimits}
+use Rattle.brpc_model.specs.Limits.{KeepsLimits}
 use Rattle.report_fits.proofs.Sizes.{keeps_limits}
 use Rattle.script_parts.proofs.asking.call_slots.Goals as goal
 

@@ -2,7 +2,7 @@ use Rattle.std.proofs.Common.{ap, sym, subst, ◌∙◌, ◌+◌, length, map, a
 use Rattle.std.proofs.lemmas.List.{length-map}
 use Rattle.brpc_model.specs.Operations.{clients}
 use Rattle.seat_programs.specs.Tasks.{plan_of}
-use Rattle.report_fits.specs.Limits.{KeepsLimits}
+use Rattle.brpc_model.specs.Limits.{KeepsLimits}
 use Rattle.report_fits.proofs.Sizes.{keeps_limits}
 use Rattle.report_fits.proofs.TaskLemmas.{tasks_length}
 use Rattle.script_parts.proofs.Numbers.{front_of}

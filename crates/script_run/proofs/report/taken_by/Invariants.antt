@@ -1,6 +1,6 @@
 use Rattle.std.proofs.Common.{◌≡◌, length, map, take}
 use Rattle.sock_io.specs.Link.{end_of}
-use Rattle.report_fits.specs.Ends.{AreTold}
+use Rattle.brpc_model.specs.PlaceWords.{AreTold}
 use Rattle.script_run.proofs.report.taken_by.Given as goal
 
 abbrev pub invariant-loop-link : goal.invariant-loop-link

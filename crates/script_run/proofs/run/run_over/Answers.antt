@@ -67,5 +67,5 @@ returns-clause-text g c =
     played.ends done.took done.gave_count done.gave done.letters done.numbered (c.deref.ensures.value ∙ done.places) (ap links c.deref-2.ensures.value ∙ done.ends) (c.give_back-2.ensures.back ∙ sym (ap links c.deref-2.ensures.value))
     c.report_played-text.ensures.played (λ ready. over.outs (c.requires.always_ready ready)) (λ tell. over.tell (all_so (λ e. (g.L.I.In.state e.inn).closing ≢ None) (λ e. (tell e.inn).0) c.args.ends.items))
     (λ tell. subst (AllByRecursion (λ (e : LinkEnd). e.closed ≢ None)) (sym over.ends) (all_mapped (λ e. end_of (g.L.O.Out.state e.out) (g.L.I.In.state e.inn)) (λ (e : LinkEnd). e.closed ≢ None) (λ e. (tell e.inn).1) c.args.ends.items))
-    (TellOffers g.L.O.Out.state g.L.I.In.state) (λ tell k spec at. over.offers k spec.serve spec.end (c.requires.offers tell k spec (sym (ap (λ s. slice_get (specs_of mode.Loop s) k) is) ∙ at)))
+    (TellOffers g.L.O.Out.state g.L.I.In.state) (λ tell k spec at. over.offers k spec.shape.serve spec.shape.end (c.requires.offers tell k spec (sym (ap (λ s. slice_get (specs_of mode.Loop s) k) is) ∙ at)))
     played.run played.plan c.report_played-text.ensures.text)
