@@ -58,51 +58,59 @@ module _ (first : ℕ) (l : SlotFacts) (law : SlotLaw first (live l) l) (j : ℕ
       let not_yet : (d : ℕ) → tally (is_stored h d) l.marks ≡ 0 = λ d. let t = tally_each (is_failer h) (is_coding h) (is_coded h) l.marks (λ i x e. (law.codes i x e).0 h) in
       omega (arith, t, law.failed h, life_le first h v, mine (is_coding h), tally_mono (is_stored h d) (is_coded h) (stored_coded h d) l.marks) in
       let idle : tally is_busy l.marks ≡ 0 = dite (ℕ_discrete (tally is_busy l.marks) 0) (λ e. e) (λ n. absurd (omega (arith, law.busy_even (omega arith)))) in record {
-        counted = omega (arith, by is_ref, rest is_ref, law.counted);
-        few = few_with first l law j m here w (let k = law.few j m here in omega (arith, rest is_ref));
-        tagged = law.tagged;
-        busy_once = omega (arith, by is_busy, rest is_busy, law.busy_once);
-        busy_taken = λ p. law.busy_taken (omega (arith, by is_busy, rest is_busy));
-        busy_even = λ p. law.busy_even (omega (arith, by is_busy, rest is_busy));
-        free_even = law.free_even;
-        free_low = law.free_low;
-        claimed_low = λ p. law.claimed_low (omega (arith, by is_claimed, rest is_claimed));
-        recycled = λ x p. law.recycled x (omega (arith, by (is_recycled x), rest (is_recycled x)));
-        begun = law.begun;
-        top = law.top;
-        taken_by = λ p. omega (arith, by is_claimed, rest is_claimed, by is_tried, rest is_tried, law.taken_by);
-        held = λ g p. law.held g (omega (arith, by (is_hold g), rest (is_hold g)));
-        saw = λ x p. law.saw x (omega (arith, by (is_saw x), rest (is_saw x)));
-        zero_noted = λ p q. omega (arith, by (is_zero v), rest (is_zero v), law.zero_noted p q);
-        known = λ g p. law.known g (omega (arith, by (is_known g), rest (is_known g)));
-        born = λ g. omega (arith, by (is_born g), rest (is_born g), law.born g);
-        failed = λ g. omega (arith, by (is_failer g), rest (is_failer g), law.failed g);
-        ended = λ g. omega (arith, by (is_freer g), rest (is_freer g), law.ended g);
-        codes = each_set KeepsCodes l.marks j w law.codes (
-          (λ g. omega (arith, (law.codes j m here).0 g, rest (is_failer g), rest (is_coding g), rest (is_coded g))),
-          (λ g p. let t = (law.codes j m here).1 g (omega (arith, rest (is_coding g))) in let t₀ = t.0 in let t₁ = t.1 in (omega (arith, rest (is_hold g)), omega (arith, rest (is_saw (g + 1))))),
-        );
-        coding_once = omega (arith, by is_any_coding, rest is_any_coding);
-        coding_odd = λ p. odd;
-        code_none = λ p. absurd (omega (arith, by is_any_coding, rest is_any_coding, once));
-        code_is = λ g d p. dite (ℕ_discrete (pair g d h c) 0)
-            (λ e. let q : 0 < tally (is_stored g d) l.marks = omega (arith, by (is_stored g d), rest (is_stored g d)) in let t = law.code_is g d q in
-            (t.0, t.1, λ x. absurd (let same : g ≡ h = omega arith in let no = subst (λ (y : ℕ). tally (is_stored y d) l.marks ≡ 0) (sym same) (not_yet d) in omega arith)))
-            (λ n. let t = pair_is g d h c (omega arith) in let t₀ = t.0 in let t₁ : c ≡ d = t.1 in ((λ x. some_ (t₁ ∙ x)), omega arith, λ x. t₁));
-        code_even = λ g d p. dite (ℕ_discrete (pair g d h c) 0) (λ e. law.code_even g d (omega (arith, by (is_stored g d), rest (is_stored g d)))) (λ n. let t = (pair_is g d h c (omega arith)).0 in omega arith);
-        code_by = λ p q. let e : h ≡ v - 1 = omega arith in omega (arith, by (is_stored (v - 1) c), rest (is_stored (v - 1) c), pair-at (v - 1) c h c e refl);
-        told = λ g d p. dite (ℕ_discrete (pair g d h c) 0)
-            (λ e. omega (arith, by (is_stored g d), rest (is_stored g d), law.told g d (omega (arith, by (is_told g d), rest (is_told g d)))))
-            (λ n. omega (arith, by (is_stored g d), rest (is_stored g d)));
-        staged = λ n k p. absurd (omega (arith, by (is_stage n k), rest (is_stage n k), tally_mono (is_stage n k) is_claimed (stage_le n k) l.marks));
-        link_low = λ g k p. law.link_low g k (omega (arith, by (is_linked g k), rest (is_linked g k)));
-        link_even = λ g k p. law.link_even g k (omega (arith, by (is_linked g k), rest (is_linked g k)));
-        link_begun = λ g k p. law.link_begun g k (omega (arith, by (is_linked g k), rest (is_linked g k)));
-        met = λ g k p. omega (arith, by (is_linked g k), rest (is_linked g k), law.met g k (omega (arith, by (is_met g k), rest (is_met g k))));
-        link_is = λ g k p q. law.link_is g k (omega (arith, by (is_linked g k), rest (is_linked g k))) (omega (arith, by is_recycling, rest is_recycling));
-        link_live = λ p. absurd (omega arith);
-        link_odd = λ p. omega (arith, by (is_linked (v - 1) l.link), rest (is_linked (v - 1) l.link), law.link_odd p);
-        link_last = λ p. absurd (omega (arith, by is_recycling, rest is_recycling));
+        tag = record {
+          tagged = law.tagged;
+          busy_once = omega (arith, by is_busy, rest is_busy, law.busy_once);
+          busy_taken = λ p. law.busy_taken (omega (arith, by is_busy, rest is_busy));
+          busy_even = λ p. law.busy_even (omega (arith, by is_busy, rest is_busy));
+          free_even = law.free_even;
+          free_low = law.free_low;
+          claimed_low = λ p. law.claimed_low (omega (arith, by is_claimed, rest is_claimed));
+          recycled = λ x p. law.recycled x (omega (arith, by (is_recycled x), rest (is_recycled x)));
+          taken_by = λ p. omega (arith, by is_claimed, rest is_claimed, by is_tried, rest is_tried, law.taken_by);
+          staged = λ n k p. absurd (omega (arith, by (is_stage n k), rest (is_stage n k), tally_mono (is_stage n k) is_claimed (stage_le n k) l.marks));
+        };
+        word = record {
+          counted = omega (arith, by is_ref, rest is_ref, law.counted);
+          few = few_with first l law j m here w (let k = law.few j m here in omega (arith, rest is_ref));
+          begun = law.begun;
+          top = law.top;
+          held = λ g p. law.held g (omega (arith, by (is_hold g), rest (is_hold g)));
+          saw = λ x p. law.saw x (omega (arith, by (is_saw x), rest (is_saw x)));
+          zero_noted = λ p q. omega (arith, by (is_zero v), rest (is_zero v), law.zero_noted p q);
+          known = λ g p. law.known g (omega (arith, by (is_known g), rest (is_known g)));
+          born = λ g. omega (arith, by (is_born g), rest (is_born g), law.born g);
+          failed = λ g. omega (arith, by (is_failer g), rest (is_failer g), law.failed g);
+          ended = λ g. omega (arith, by (is_freer g), rest (is_freer g), law.ended g);
+        };
+        code = record {
+          codes = each_set KeepsCodes l.marks j w law.codes (
+            (λ g. omega (arith, (law.codes j m here).0 g, rest (is_failer g), rest (is_coding g), rest (is_coded g))),
+            (λ g p. let t = (law.codes j m here).1 g (omega (arith, rest (is_coding g))) in let t₀ = t.0 in let t₁ = t.1 in (omega (arith, rest (is_hold g)), omega (arith, rest (is_saw (g + 1))))),
+          );
+          coding_once = omega (arith, by is_any_coding, rest is_any_coding);
+          coding_odd = λ p. odd;
+          code_none = λ p. absurd (omega (arith, by is_any_coding, rest is_any_coding, once));
+          code_is = λ g d p. dite (ℕ_discrete (pair g d h c) 0)
+              (λ e. let q : 0 < tally (is_stored g d) l.marks = omega (arith, by (is_stored g d), rest (is_stored g d)) in let t = law.code_is g d q in
+              (t.0, t.1, λ x. absurd (let same : g ≡ h = omega arith in let no = subst (λ (y : ℕ). tally (is_stored y d) l.marks ≡ 0) (sym same) (not_yet d) in omega arith)))
+              (λ n. let t = pair_is g d h c (omega arith) in let t₀ = t.0 in let t₁ : c ≡ d = t.1 in ((λ x. some_ (t₁ ∙ x)), omega arith, λ x. t₁));
+          code_even = λ g d p. dite (ℕ_discrete (pair g d h c) 0) (λ e. law.code_even g d (omega (arith, by (is_stored g d), rest (is_stored g d)))) (λ n. let t = (pair_is g d h c (omega arith)).0 in omega arith);
+          code_by = λ p q. let e : h ≡ v - 1 = omega arith in omega (arith, by (is_stored (v - 1) c), rest (is_stored (v - 1) c), pair-at (v - 1) c h c e refl);
+          told = λ g d p. dite (ℕ_discrete (pair g d h c) 0)
+              (λ e. omega (arith, by (is_stored g d), rest (is_stored g d), law.told g d (omega (arith, by (is_told g d), rest (is_told g d)))))
+              (λ n. omega (arith, by (is_stored g d), rest (is_stored g d)));
+        };
+        link = record {
+          link_low = λ g k p. law.link_low g k (omega (arith, by (is_linked g k), rest (is_linked g k)));
+          link_even = λ g k p. law.link_even g k (omega (arith, by (is_linked g k), rest (is_linked g k)));
+          link_begun = λ g k p. law.link_begun g k (omega (arith, by (is_linked g k), rest (is_linked g k)));
+          met = λ g k p. omega (arith, by (is_linked g k), rest (is_linked g k), law.met g k (omega (arith, by (is_met g k), rest (is_met g k))));
+          link_is = λ g k p q. law.link_is g k (omega (arith, by (is_linked g k), rest (is_linked g k))) (omega (arith, by is_recycling, rest is_recycling));
+          link_live = λ p. absurd (omega arith);
+          link_odd = λ p. omega (arith, by (is_linked (v - 1) l.link), rest (is_linked (v - 1) l.link), law.link_odd p);
+          link_last = λ p. absurd (omega (arith, by is_recycling, rest is_recycling));
+        };
       }
 
   -- a holder finds the code

@@ -30,43 +30,51 @@ only_one P p (suc j) m e = absurd (some-ne-none m (sym e))
 
 fresh_law : (first : ℕ) → first % 2 ≡ 0 → first ≤ 4294967292 → SlotLaw first 0 (start first)
 fresh_law first even low = record {
-  counted = omega arith;
-  few = only_one (λ m. total is_ref m ≤ 65540) (omega arith);
-  tagged = omega arith;
-  busy_once = omega arith;
-  busy_taken = λ p. absurd (omega arith);
-  busy_even = λ p. absurd (omega arith);
-  free_even = λ p. even;
-  free_low = λ p. low;
-  claimed_low = λ p. low;
-  recycled = λ w p. absurd (omega arith);
-  begun = omega arith;
-  top = omega arith;
-  taken_by = λ p. absurd (omega arith);
-  held = λ h p. absurd (omega arith);
-  saw = λ w p. absurd (omega arith);
-  zero_noted = λ p q. absurd (omega arith);
-  known = λ h p. absurd (omega arith);
-  born = λ h. omega (arith, life-none first h (first + 0) (omega arith));
-  failed = λ h. omega (arith, life-none first h first (omega arith));
-  ended = λ h. omega (arith, life-none first h (first - 1) (omega arith));
-  codes = only_one KeepsCodes ((λ h. omega arith), λ h p. absurd (omega arith));
-  coding_once = omega arith;
-  coding_odd = λ p. absurd (omega arith);
-  code_none = λ p. refl;
-  code_is = λ h c p. absurd (omega arith);
-  code_even = λ h c p. absurd (omega arith);
-  code_by = λ p q. absurd (omega arith);
-  told = λ h c p. absurd (omega arith);
-  staged = λ n k p. absurd (omega arith);
-  link_low = λ h k p. absurd (omega arith);
-  link_even = λ h k p. absurd (omega arith);
-  link_begun = λ h k p. absurd (omega arith);
-  met = λ h k p. absurd (omega arith);
-  link_is = λ h k p q. absurd (omega arith);
-  link_live = λ p. absurd (omega arith);
-  link_odd = λ p. absurd (omega arith);
-  link_last = λ p. absurd (omega arith);
+  tag = record {
+    tagged = omega arith;
+    busy_once = omega arith;
+    busy_taken = λ p. absurd (omega arith);
+    busy_even = λ p. absurd (omega arith);
+    free_even = λ p. even;
+    free_low = λ p. low;
+    claimed_low = λ p. low;
+    recycled = λ w p. absurd (omega arith);
+    taken_by = λ p. absurd (omega arith);
+    staged = λ n k p. absurd (omega arith);
+  };
+  word = record {
+    counted = omega arith;
+    few = only_one (λ m. total is_ref m ≤ 65540) (omega arith);
+    begun = omega arith;
+    top = omega arith;
+    held = λ h p. absurd (omega arith);
+    saw = λ w p. absurd (omega arith);
+    zero_noted = λ p q. absurd (omega arith);
+    known = λ h p. absurd (omega arith);
+    born = λ h. omega (arith, life-none first h (first + 0) (omega arith));
+    failed = λ h. omega (arith, life-none first h first (omega arith));
+    ended = λ h. omega (arith, life-none first h (first - 1) (omega arith));
+  };
+  code = record {
+    codes = only_one KeepsCodes ((λ h. omega arith), λ h p. absurd (omega arith));
+    coding_once = omega arith;
+    coding_odd = λ p. absurd (omega arith);
+    code_none = λ p. refl;
+    code_is = λ h c p. absurd (omega arith);
+    code_even = λ h c p. absurd (omega arith);
+    code_by = λ p q. absurd (omega arith);
+    told = λ h c p. absurd (omega arith);
+  };
+  link = record {
+    link_low = λ h k p. absurd (omega arith);
+    link_even = λ h k p. absurd (omega arith);
+    link_begun = λ h k p. absurd (omega arith);
+    met = λ h k p. absurd (omega arith);
+    link_is = λ h k p q. absurd (omega arith);
+    link_live = λ p. absurd (omega arith);
+    link_odd = λ p. absurd (omega arith);
+    link_last = λ p. absurd (omega arith);
+  };
 }
 
 module _ {S : Type 0} where
@@ -97,43 +105,51 @@ about-append i (e ∷ es) b = let ih = about-append i es b in dite (ℕ_discrete
 recounted : (first lives : ℕ) (l : SlotFacts) (ms : List (List Mark)) → ((f : Mark → ℕ) → tally f ms ≡ tally f l.marks) → Each ms (λ m. total is_ref m ≤ 65540) → Each ms KeepsCodes
     → SlotLaw first lives l → SlotLaw first lives record l { marks = ms }
 recounted first lives l ms same few codes law = record {
-  counted = omega (arith, same is_ref, law.counted);
-  few = few;
-  tagged = law.tagged;
-  busy_once = omega (arith, same is_busy, law.busy_once);
-  busy_taken = λ p. law.busy_taken (omega (arith, same is_busy));
-  busy_even = λ p. law.busy_even (omega (arith, same is_busy));
-  free_even = law.free_even;
-  free_low = law.free_low;
-  claimed_low = λ p. law.claimed_low (omega (arith, same is_claimed));
-  recycled = λ v p. law.recycled v (omega (arith, same (is_recycled v)));
-  begun = law.begun;
-  top = law.top;
-  taken_by = λ p. omega (arith, same is_claimed, same is_tried, law.taken_by);
-  held = λ h p. law.held h (omega (arith, same (is_hold h)));
-  saw = λ v p. law.saw v (omega (arith, same (is_saw v)));
-  zero_noted = λ p q. omega (arith, same (is_zero l.version), law.zero_noted p q);
-  known = λ h p. law.known h (omega (arith, same (is_known h)));
-  born = λ h. omega (arith, same (is_born h), law.born h);
-  failed = λ h. omega (arith, same (is_failer h), law.failed h);
-  ended = λ h. omega (arith, same (is_freer h), law.ended h);
-  codes = codes;
-  coding_once = omega (arith, same is_any_coding, law.coding_once);
-  coding_odd = λ p. law.coding_odd (omega (arith, same is_any_coding));
-  code_none = λ p. law.code_none (omega (arith, same is_any_coding));
-  code_is = λ h c p. law.code_is h c (omega (arith, same (is_stored h c)));
-  code_even = λ h c p. law.code_even h c (omega (arith, same (is_stored h c)));
-  code_by = λ p q. omega (arith, same (is_stored (l.version - 1) l.code), law.code_by p q);
-  told = λ h c p. omega (arith, same (is_stored h c), law.told h c (omega (arith, same (is_told h c))));
-  staged = λ n k p. law.staged n k (omega (arith, same (is_stage n k)));
-  link_low = λ h k p. law.link_low h k (omega (arith, same (is_linked h k)));
-  link_even = λ h k p. law.link_even h k (omega (arith, same (is_linked h k)));
-  link_begun = λ h k p. law.link_begun h k (omega (arith, same (is_linked h k)));
-  met = λ h k p. omega (arith, same (is_linked h k), law.met h k (omega (arith, same (is_met h k))));
-  link_is = λ h k p q. law.link_is h k (omega (arith, same (is_linked h k))) (omega (arith, same is_recycling));
-  link_live = λ p. omega (arith, same (is_linked l.version l.link), law.link_live p);
-  link_odd = λ p. omega (arith, same (is_linked (l.version - 1) l.link), law.link_odd p);
-  link_last = λ p. omega (arith, same (is_linked (l.version - 2) l.link), law.link_last (omega (arith, same is_recycling)));
+  tag = record {
+    tagged = law.tagged;
+    busy_once = omega (arith, same is_busy, law.busy_once);
+    busy_taken = λ p. law.busy_taken (omega (arith, same is_busy));
+    busy_even = λ p. law.busy_even (omega (arith, same is_busy));
+    free_even = law.free_even;
+    free_low = law.free_low;
+    claimed_low = λ p. law.claimed_low (omega (arith, same is_claimed));
+    recycled = λ v p. law.recycled v (omega (arith, same (is_recycled v)));
+    taken_by = λ p. omega (arith, same is_claimed, same is_tried, law.taken_by);
+    staged = λ n k p. law.staged n k (omega (arith, same (is_stage n k)));
+  };
+  word = record {
+    counted = omega (arith, same is_ref, law.counted);
+    few = few;
+    begun = law.begun;
+    top = law.top;
+    held = λ h p. law.held h (omega (arith, same (is_hold h)));
+    saw = λ v p. law.saw v (omega (arith, same (is_saw v)));
+    zero_noted = λ p q. omega (arith, same (is_zero l.version), law.zero_noted p q);
+    known = λ h p. law.known h (omega (arith, same (is_known h)));
+    born = λ h. omega (arith, same (is_born h), law.born h);
+    failed = λ h. omega (arith, same (is_failer h), law.failed h);
+    ended = λ h. omega (arith, same (is_freer h), law.ended h);
+  };
+  code = record {
+    codes = codes;
+    coding_once = omega (arith, same is_any_coding, law.coding_once);
+    coding_odd = λ p. law.coding_odd (omega (arith, same is_any_coding));
+    code_none = λ p. law.code_none (omega (arith, same is_any_coding));
+    code_is = λ h c p. law.code_is h c (omega (arith, same (is_stored h c)));
+    code_even = λ h c p. law.code_even h c (omega (arith, same (is_stored h c)));
+    code_by = λ p q. omega (arith, same (is_stored (l.version - 1) l.code), law.code_by p q);
+    told = λ h c p. omega (arith, same (is_stored h c), law.told h c (omega (arith, same (is_told h c))));
+  };
+  link = record {
+    link_low = λ h k p. law.link_low h k (omega (arith, same (is_linked h k)));
+    link_even = λ h k p. law.link_even h k (omega (arith, same (is_linked h k)));
+    link_begun = λ h k p. law.link_begun h k (omega (arith, same (is_linked h k)));
+    met = λ h k p. omega (arith, same (is_linked h k), law.met h k (omega (arith, same (is_met h k))));
+    link_is = λ h k p q. law.link_is h k (omega (arith, same (is_linked h k))) (omega (arith, same is_recycling));
+    link_live = λ p. omega (arith, same (is_linked l.version l.link), law.link_live p);
+    link_odd = λ p. omega (arith, same (is_linked (l.version - 1) l.link), law.link_odd p);
+    link_last = λ p. omega (arith, same (is_linked (l.version - 2) l.link), law.link_last (omega (arith, same is_recycling)));
+  };
 }
 
 module _ {S : Type 0} (p : Plan) (s : State S View) (law : References p s) (vs : List View)

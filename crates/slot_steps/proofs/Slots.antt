@@ -140,43 +140,51 @@ module _ (first : ℕ) (l : SlotFacts) (law : SlotLaw first (live l) l) (j : ℕ
       → ((h c : ℕ) → 0 < tally (is_told h c) (set l.marks j w) → 0 < tally (is_stored h c) l.marks) → ((h k : ℕ) → 0 < tally (is_met h k) (set l.marks j w) → 0 < tally (is_linked h k) l.marks)
       → KeepsCodes w → SlotLaw first (live l) record l { nref = nref'; marks = set l.marks j w }
   keeps_steady nref' w same counted few tried held saw zero_noted known told met codes = record {
-    counted = counted;
-    few = few_with w few;
-    tagged = law.tagged;
-    busy_once = omega (arith, same is_busy (refl, z, z, refl, z, z, zz, zz), law.busy_once);
-    busy_taken = λ p. law.busy_taken (omega (arith, same is_busy (refl, z, z, refl, z, z, zz, zz)));
-    busy_even = λ p. law.busy_even (omega (arith, same is_busy (refl, z, z, refl, z, z, zz, zz)));
-    free_even = law.free_even;
-    free_low = law.free_low;
-    claimed_low = λ p. law.claimed_low (omega (arith, same is_claimed (refl, z, z, refl, z, z, zz, zz)));
-    recycled = λ v p. law.recycled v (omega (arith, same (is_recycled v) (refl, z, z, refl, z, z, zz, zz)));
-    begun = law.begun;
-    top = law.top;
-    taken_by = λ p. omega (arith, same is_claimed (refl, z, z, refl, z, z, zz, zz), law.taken_by (tried p));
-    held = held;
-    saw = saw;
-    zero_noted = zero_noted;
-    known = known;
-    born = λ h. omega (arith, same (is_born h) (refl, z, z, refl, z, z, zz, zz), law.born h);
-    failed = λ h. omega (arith, same (is_failer h) (refl, z, z, refl, z, z, zz, zz), law.failed h);
-    ended = λ h. omega (arith, same (is_freer h) (refl, z, z, refl, z, z, zz, zz), law.ended h);
-    codes = each_set KeepsCodes l.marks j w law.codes codes;
-    coding_once = omega (arith, same is_any_coding (refl, z, z, refl, z, z, zz, zz), law.coding_once);
-    coding_odd = λ p. law.coding_odd (omega (arith, same is_any_coding (refl, z, z, refl, z, z, zz, zz)));
-    code_none = λ p. law.code_none (omega (arith, same is_any_coding (refl, z, z, refl, z, z, zz, zz)));
-    code_is = λ h c p. law.code_is h c (omega (arith, same (is_stored h c) (refl, z, z, refl, z, z, zz, zz)));
-    code_even = λ h c p. law.code_even h c (omega (arith, same (is_stored h c) (refl, z, z, refl, z, z, zz, zz)));
-    code_by = λ p q. omega (arith, same (is_stored (l.version - 1) l.code) (refl, z, z, refl, z, z, zz, zz), law.code_by p q);
-    told = λ h c p. omega (arith, same (is_stored h c) (refl, z, z, refl, z, z, zz, zz), told h c p);
-    staged = λ n k p. law.staged n k (omega (arith, same (is_stage n k) (refl, z, z, refl, z, z, zz, zz)));
-    link_low = λ h k p. law.link_low h k (omega (arith, same (is_linked h k) (refl, z, z, refl, z, z, zz, zz)));
-    link_even = λ h k p. law.link_even h k (omega (arith, same (is_linked h k) (refl, z, z, refl, z, z, zz, zz)));
-    link_begun = λ h k p. law.link_begun h k (omega (arith, same (is_linked h k) (refl, z, z, refl, z, z, zz, zz)));
-    met = λ h k p. omega (arith, same (is_linked h k) (refl, z, z, refl, z, z, zz, zz), met h k p);
-    link_is = λ h k p q. law.link_is h k (omega (arith, same (is_linked h k) (refl, z, z, refl, z, z, zz, zz))) (omega (arith, same is_recycling (refl, z, z, refl, z, z, zz, zz)));
-    link_live = λ p. omega (arith, same (is_linked l.version l.link) (refl, z, z, refl, z, z, zz, zz), law.link_live p);
-    link_odd = λ p. omega (arith, same (is_linked (l.version - 1) l.link) (refl, z, z, refl, z, z, zz, zz), law.link_odd p);
-    link_last = λ p. omega (arith, same (is_linked (l.version - 2) l.link) (refl, z, z, refl, z, z, zz, zz), law.link_last (omega (arith, same is_recycling (refl, z, z, refl, z, z, zz, zz))));
+    tag = record {
+      tagged = law.tagged;
+      busy_once = omega (arith, same is_busy (refl, z, z, refl, z, z, zz, zz), law.busy_once);
+      busy_taken = λ p. law.busy_taken (omega (arith, same is_busy (refl, z, z, refl, z, z, zz, zz)));
+      busy_even = λ p. law.busy_even (omega (arith, same is_busy (refl, z, z, refl, z, z, zz, zz)));
+      free_even = law.free_even;
+      free_low = law.free_low;
+      claimed_low = λ p. law.claimed_low (omega (arith, same is_claimed (refl, z, z, refl, z, z, zz, zz)));
+      recycled = λ v p. law.recycled v (omega (arith, same (is_recycled v) (refl, z, z, refl, z, z, zz, zz)));
+      taken_by = λ p. omega (arith, same is_claimed (refl, z, z, refl, z, z, zz, zz), law.taken_by (tried p));
+      staged = λ n k p. law.staged n k (omega (arith, same (is_stage n k) (refl, z, z, refl, z, z, zz, zz)));
+    };
+    word = record {
+      counted = counted;
+      few = few_with w few;
+      begun = law.begun;
+      top = law.top;
+      held = held;
+      saw = saw;
+      zero_noted = zero_noted;
+      known = known;
+      born = λ h. omega (arith, same (is_born h) (refl, z, z, refl, z, z, zz, zz), law.born h);
+      failed = λ h. omega (arith, same (is_failer h) (refl, z, z, refl, z, z, zz, zz), law.failed h);
+      ended = λ h. omega (arith, same (is_freer h) (refl, z, z, refl, z, z, zz, zz), law.ended h);
+    };
+    code = record {
+      codes = each_set KeepsCodes l.marks j w law.codes codes;
+      coding_once = omega (arith, same is_any_coding (refl, z, z, refl, z, z, zz, zz), law.coding_once);
+      coding_odd = λ p. law.coding_odd (omega (arith, same is_any_coding (refl, z, z, refl, z, z, zz, zz)));
+      code_none = λ p. law.code_none (omega (arith, same is_any_coding (refl, z, z, refl, z, z, zz, zz)));
+      code_is = λ h c p. law.code_is h c (omega (arith, same (is_stored h c) (refl, z, z, refl, z, z, zz, zz)));
+      code_even = λ h c p. law.code_even h c (omega (arith, same (is_stored h c) (refl, z, z, refl, z, z, zz, zz)));
+      code_by = λ p q. omega (arith, same (is_stored (l.version - 1) l.code) (refl, z, z, refl, z, z, zz, zz), law.code_by p q);
+      told = λ h c p. omega (arith, same (is_stored h c) (refl, z, z, refl, z, z, zz, zz), told h c p);
+    };
+    link = record {
+      link_low = λ h k p. law.link_low h k (omega (arith, same (is_linked h k) (refl, z, z, refl, z, z, zz, zz)));
+      link_even = λ h k p. law.link_even h k (omega (arith, same (is_linked h k) (refl, z, z, refl, z, z, zz, zz)));
+      link_begun = λ h k p. law.link_begun h k (omega (arith, same (is_linked h k) (refl, z, z, refl, z, z, zz, zz)));
+      met = λ h k p. omega (arith, same (is_linked h k) (refl, z, z, refl, z, z, zz, zz), met h k p);
+      link_is = λ h k p q. law.link_is h k (omega (arith, same (is_linked h k) (refl, z, z, refl, z, z, zz, zz))) (omega (arith, same is_recycling (refl, z, z, refl, z, z, zz, zz)));
+      link_live = λ p. omega (arith, same (is_linked l.version l.link) (refl, z, z, refl, z, z, zz, zz), law.link_live p);
+      link_odd = λ p. omega (arith, same (is_linked (l.version - 1) l.link) (refl, z, z, refl, z, z, zz, zz), law.link_odd p);
+      link_last = λ p. omega (arith, same (is_linked (l.version - 2) l.link) (refl, z, z, refl, z, z, zz, zz), law.link_last (omega (arith, same is_recycling (refl, z, z, refl, z, z, zz, zz))));
+    };
   }
 
   -- a reference of this seat, to a life or only to the word
@@ -248,47 +256,55 @@ module _ (first : ℕ) (l : SlotFacts) (law : SlotLaw first (live l) l) (j : ℕ
       let b = busy_is in let c = law.counted in let none_coding : tally is_any_coding l.marks ≡ 0 = dite (ℕ_discrete (tally is_any_coding l.marks) 0) (λ e. e) (λ n. absurd (omega (arith, law.coding_odd (omega arith)))) in
       let next : v + lv ≡ v + 1 + 0 = omega arith in
       record {
-        counted = omega (arith, by is_ref);
-        few = few_with w (omega arith);
-        tagged = law.tagged;
-        busy_once = omega (arith, by is_busy);
-        busy_taken = λ p. f₀;
-        busy_even = λ p. absurd (omega (arith, by is_busy));
-        free_even = λ p. absurd (omega arith);
-        free_low = λ p. absurd (omega arith);
-        claimed_low = λ p. absurd (omega (arith, by is_claimed));
-        recycled = λ x p. absurd (omega (arith, by (is_recycled x), tally_mono (is_recycled x) is_recycling (recycled_le x) l.marks));
-        begun = omega (arith, law.begun);
-        top = omega (arith, law.top);
-        taken_by = λ p. omega (arith, law.begun);
-        held = λ g p. dite (ℕ_discrete v g) (λ e. (omega arith, omega arith)) (λ n. let t = law.held g (omega (arith, by (is_hold g), only-else g v n)) in let t₀ = t.0 in (omega arith, t.1));
-        saw = λ x p. dite (ℕ_discrete (v + 1) x) (λ e. omega arith) (λ n. omega (arith, law.saw x (omega (arith, by (is_saw x), only-else x (v + 1) n))));
-        zero_noted = λ p q. absurd (omega arith);
-        known = λ g p. sym (ap (life first g) next) ∙ law.known g (omega (arith, by (is_known g)));
-        born = λ g. omega (arith, by (is_born g), law.born g, ap (life first g) next);
-        failed = λ g. omega (arith, by (is_failer g), law.failed g, life-more first g v law.begun even);
-        ended = λ g. let e : v + 1 - 1 ≡ v = omega arith in omega (arith, by (is_freer g), law.ended g, life-less first g v even, ap (life first g) e);
-        codes = each_set KeepsCodes l.marks j w law.codes (
-          (λ g. omega (arith, (law.codes j m here).0 g)),
-          (λ g p. dite (ℕ_discrete v g) (λ e. (omega (arith, only-at g v e), omega (arith, only-at (g + 1) (v + 1) (ap (λ (x : ℕ). x + 1) e))))
-              (λ n. let t = (law.codes j m here).1 g (omega (arith, only-else g v n)) in let t₀ = t.0 in let t₁ = t.1 in (omega arith, omega arith))),
-        );
-        coding_once = omega (arith, by is_any_coding);
-        coding_odd = λ p. omega arith;
-        code_none = λ p. law.code_none (omega arith);
-        code_is = λ g k p. let t = law.code_is g k (omega (arith, by (is_stored g k))) in let t₁ = t.1 in (t.0, omega arith, λ q. absurd (omega arith));
-        code_even = λ g k p. law.code_even g k (omega (arith, by (is_stored g k)));
-        code_by = λ p q. absurd (omega (arith, law.code_none (omega arith)));
-        told = λ g k p. omega (arith, by (is_stored g k), law.told g k (omega (arith, by (is_told g k))));
-        staged = λ n k p. law.staged n k (omega (arith, by (is_stage n k)));
-        link_low = λ g k p. omega (arith, law.link_low g k (omega (arith, by (is_linked g k))));
-        link_even = λ g k p. law.link_even g k (omega (arith, by (is_linked g k)));
-        link_begun = λ g k p. law.link_begun g k (omega (arith, by (is_linked g k)));
-        met = λ g k p. omega (arith, by (is_linked g k), law.met g k (omega (arith, by (is_met g k))));
-        link_is = λ g k p q. law.link_is g k (omega (arith, by (is_linked g k))) (omega (arith, by is_recycling));
-        link_live = λ p. absurd (omega arith);
-        link_odd = λ p. let e : v ≡ v + 1 - 1 = omega arith in subst (λ (x : ℕ). 0 < tally (is_linked x l.link) (set l.marks j w)) e (omega (arith, by (is_linked v l.link), law.link_live (omega arith)));
-        link_last = λ p. absurd (omega (arith, by is_recycling));
+        tag = record {
+          tagged = law.tagged;
+          busy_once = omega (arith, by is_busy);
+          busy_taken = λ p. f₀;
+          busy_even = λ p. absurd (omega (arith, by is_busy));
+          free_even = λ p. absurd (omega arith);
+          free_low = λ p. absurd (omega arith);
+          claimed_low = λ p. absurd (omega (arith, by is_claimed));
+          recycled = λ x p. absurd (omega (arith, by (is_recycled x), tally_mono (is_recycled x) is_recycling (recycled_le x) l.marks));
+          taken_by = λ p. omega (arith, law.begun);
+          staged = λ n k p. law.staged n k (omega (arith, by (is_stage n k)));
+        };
+        word = record {
+          counted = omega (arith, by is_ref);
+          few = few_with w (omega arith);
+          begun = omega (arith, law.begun);
+          top = omega (arith, law.top);
+          held = λ g p. dite (ℕ_discrete v g) (λ e. (omega arith, omega arith)) (λ n. let t = law.held g (omega (arith, by (is_hold g), only-else g v n)) in let t₀ = t.0 in (omega arith, t.1));
+          saw = λ x p. dite (ℕ_discrete (v + 1) x) (λ e. omega arith) (λ n. omega (arith, law.saw x (omega (arith, by (is_saw x), only-else x (v + 1) n))));
+          zero_noted = λ p q. absurd (omega arith);
+          known = λ g p. sym (ap (life first g) next) ∙ law.known g (omega (arith, by (is_known g)));
+          born = λ g. omega (arith, by (is_born g), law.born g, ap (life first g) next);
+          failed = λ g. omega (arith, by (is_failer g), law.failed g, life-more first g v law.begun even);
+          ended = λ g. let e : v + 1 - 1 ≡ v = omega arith in omega (arith, by (is_freer g), law.ended g, life-less first g v even, ap (life first g) e);
+        };
+        code = record {
+          codes = each_set KeepsCodes l.marks j w law.codes (
+            (λ g. omega (arith, (law.codes j m here).0 g)),
+            (λ g p. dite (ℕ_discrete v g) (λ e. (omega (arith, only-at g v e), omega (arith, only-at (g + 1) (v + 1) (ap (λ (x : ℕ). x + 1) e))))
+                (λ n. let t = (law.codes j m here).1 g (omega (arith, only-else g v n)) in let t₀ = t.0 in let t₁ = t.1 in (omega arith, omega arith))),
+          );
+          coding_once = omega (arith, by is_any_coding);
+          coding_odd = λ p. omega arith;
+          code_none = λ p. law.code_none (omega arith);
+          code_is = λ g k p. let t = law.code_is g k (omega (arith, by (is_stored g k))) in let t₁ = t.1 in (t.0, omega arith, λ q. absurd (omega arith));
+          code_even = λ g k p. law.code_even g k (omega (arith, by (is_stored g k)));
+          code_by = λ p q. absurd (omega (arith, law.code_none (omega arith)));
+          told = λ g k p. omega (arith, by (is_stored g k), law.told g k (omega (arith, by (is_told g k))));
+        };
+        link = record {
+          link_low = λ g k p. omega (arith, law.link_low g k (omega (arith, by (is_linked g k))));
+          link_even = λ g k p. law.link_even g k (omega (arith, by (is_linked g k)));
+          link_begun = λ g k p. law.link_begun g k (omega (arith, by (is_linked g k)));
+          met = λ g k p. omega (arith, by (is_linked g k), law.met g k (omega (arith, by (is_met g k))));
+          link_is = λ g k p q. law.link_is g k (omega (arith, by (is_linked g k))) (omega (arith, by is_recycling));
+          link_live = λ p. absurd (omega arith);
+          link_odd = λ p. let e : v ≡ v + 1 - 1 = omega arith in subst (λ (x : ℕ). 0 < tally (is_linked x l.link) (set l.marks j w)) e (omega (arith, by (is_linked v l.link), law.link_live (omega arith)));
+          link_last = λ p. absurd (omega (arith, by is_recycling));
+        };
       }
 
   -- the exchange of whoever took nref to 0
@@ -302,44 +318,52 @@ module _ (first : ℕ) (l : SlotFacts) (law : SlotLaw first (live l) l) (j : ℕ
       let unheld : (h : ℕ) → tally (is_hold h) l.marks ≡ 0 = λ h. omega (arith, tally_mono (is_hold h) is_ref (hold_ref h) l.marks) in
       let upto : (h : ℕ) → life first h (v + lv) ≡ life first h (v + 1 + 0) = λ h. let e : v + lv ≡ v = omega arith in let e' : v + 1 + 0 ≡ v + 1 = omega arith in ap (life first h) e ∙ (sym (life-odd_more first h v odd) ∙ sym (ap (life first h) e')) in
       record {
-        counted = omega (arith, by is_ref, rest is_ref);
-        few = few_with w (let k = law.few j m here in omega (arith, rest is_ref));
-        tagged = law.tagged;
-        busy_once = omega (arith, by is_busy, rest is_busy);
-        busy_taken = λ p. is_taken;
-        busy_even = λ p. omega arith;
-        free_even = λ p. absurd (omega arith);
-        free_low = λ p. absurd (omega arith);
-        claimed_low = λ p. absurd (omega (arith, by is_claimed, rest is_claimed));
-        recycled = λ x p. dite (ℕ_discrete (v + 1) x) (λ e. sym e) (λ n. absurd (omega (arith, by (is_recycled x), rest (is_recycled x), only-else x (v + 1) n, tally_mono (is_recycled x) is_recycling (recycled_le x) l.marks)));
-        begun = omega (arith, law.begun);
-        top = omega (arith, law.top);
-        taken_by = λ p. omega (arith, law.begun);
-        held = λ g p. absurd (omega (arith, by (is_hold g), rest (is_hold g), unheld g));
-        saw = λ x p. omega (arith, law.saw x (omega (arith, by (is_saw x), rest (is_saw x))));
-        zero_noted = λ p q. absurd (omega arith);
-        known = λ g p. sym (upto g) ∙ law.known g (omega (arith, by (is_known g), rest (is_known g)));
-        born = λ g. omega (arith, by (is_born g), rest (is_born g), law.born g, upto g);
-        failed = λ g. omega (arith, by (is_failer g), rest (is_failer g), law.failed g, life-odd_more first g v odd);
-        ended = λ g. let e : v - 1 + 1 ≡ v = omega arith in let e' : v + 1 - 1 ≡ v = omega arith in
-            omega (arith, by (is_freer g), rest (is_freer g), law.ended g, life-more first g (v - 1) (omega arith) (omega arith), ap (life first g) e, ap (life first g) e');
-        codes = each_set KeepsCodes l.marks j w law.codes (codes_as w (λ h. omega (arith, rest (is_failer h))) (λ h. omega (arith, rest (is_coding h))) (λ h. omega (arith, rest (is_coded h))) (λ h. omega (arith, rest (is_hold h))) (λ x. omega (arith, rest (is_saw x))));
-        coding_once = omega (arith, by is_any_coding, rest is_any_coding, law.coding_once);
-        coding_odd = λ p. absurd (let t = coding_held l law (omega (arith, by is_any_coding, rest is_any_coding)) in omega (arith, t.1, unheld t.0));
-        code_none = λ p. absurd (let t = coding_held l law (omega (arith, by is_any_coding, rest is_any_coding)) in omega (arith, t.1, unheld t.0));
-        code_is = λ g k p. let t = law.code_is g k (omega (arith, by (is_stored g k), rest (is_stored g k))) in let t₁ = t.1 in (t.0, omega arith, λ q. absurd (omega arith));
-        code_even = λ g k p. law.code_even g k (omega (arith, by (is_stored g k), rest (is_stored g k)));
-        code_by = λ p q. absurd (omega arith);
-        told = λ g k p. omega (arith, by (is_stored g k), rest (is_stored g k), law.told g k (omega (arith, by (is_told g k), rest (is_told g k))));
-        staged = λ n k p. law.staged n k (omega (arith, by (is_stage n k), rest (is_stage n k)));
-        link_low = λ g k p. omega (arith, law.link_low g k (omega (arith, by (is_linked g k), rest (is_linked g k))));
-        link_even = λ g k p. law.link_even g k (omega (arith, by (is_linked g k), rest (is_linked g k)));
-        link_begun = λ g k p. law.link_begun g k (omega (arith, by (is_linked g k), rest (is_linked g k)));
-        met = λ g k p. omega (arith, by (is_linked g k), rest (is_linked g k), law.met g k (omega (arith, by (is_met g k), rest (is_met g k))));
-        link_is = λ g k p q. law.link_is g k (omega (arith, by (is_linked g k), rest (is_linked g k))) (omega (arith, by is_recycling, rest is_recycling));
-        link_live = λ p. absurd (omega arith);
-        link_odd = λ p. absurd (omega arith);
-        link_last = λ p. let e : v - 1 ≡ v + 1 - 2 = omega arith in subst (λ (x : ℕ). 0 < tally (is_linked x l.link) (set l.marks j w)) e (omega (arith, by (is_linked (v - 1) l.link), rest (is_linked (v - 1) l.link), law.link_odd odd));
+        tag = record {
+          tagged = law.tagged;
+          busy_once = omega (arith, by is_busy, rest is_busy);
+          busy_taken = λ p. is_taken;
+          busy_even = λ p. omega arith;
+          free_even = λ p. absurd (omega arith);
+          free_low = λ p. absurd (omega arith);
+          claimed_low = λ p. absurd (omega (arith, by is_claimed, rest is_claimed));
+          recycled = λ x p. dite (ℕ_discrete (v + 1) x) (λ e. sym e) (λ n. absurd (omega (arith, by (is_recycled x), rest (is_recycled x), only-else x (v + 1) n, tally_mono (is_recycled x) is_recycling (recycled_le x) l.marks)));
+          taken_by = λ p. omega (arith, law.begun);
+          staged = λ n k p. law.staged n k (omega (arith, by (is_stage n k), rest (is_stage n k)));
+        };
+        word = record {
+          counted = omega (arith, by is_ref, rest is_ref);
+          few = few_with w (let k = law.few j m here in omega (arith, rest is_ref));
+          begun = omega (arith, law.begun);
+          top = omega (arith, law.top);
+          held = λ g p. absurd (omega (arith, by (is_hold g), rest (is_hold g), unheld g));
+          saw = λ x p. omega (arith, law.saw x (omega (arith, by (is_saw x), rest (is_saw x))));
+          zero_noted = λ p q. absurd (omega arith);
+          known = λ g p. sym (upto g) ∙ law.known g (omega (arith, by (is_known g), rest (is_known g)));
+          born = λ g. omega (arith, by (is_born g), rest (is_born g), law.born g, upto g);
+          failed = λ g. omega (arith, by (is_failer g), rest (is_failer g), law.failed g, life-odd_more first g v odd);
+          ended = λ g. let e : v - 1 + 1 ≡ v = omega arith in let e' : v + 1 - 1 ≡ v = omega arith in
+              omega (arith, by (is_freer g), rest (is_freer g), law.ended g, life-more first g (v - 1) (omega arith) (omega arith), ap (life first g) e, ap (life first g) e');
+        };
+        code = record {
+          codes = each_set KeepsCodes l.marks j w law.codes (codes_as w (λ h. omega (arith, rest (is_failer h))) (λ h. omega (arith, rest (is_coding h))) (λ h. omega (arith, rest (is_coded h))) (λ h. omega (arith, rest (is_hold h))) (λ x. omega (arith, rest (is_saw x))));
+          coding_once = omega (arith, by is_any_coding, rest is_any_coding, law.coding_once);
+          coding_odd = λ p. absurd (let t = coding_held l law (omega (arith, by is_any_coding, rest is_any_coding)) in omega (arith, t.1, unheld t.0));
+          code_none = λ p. absurd (let t = coding_held l law (omega (arith, by is_any_coding, rest is_any_coding)) in omega (arith, t.1, unheld t.0));
+          code_is = λ g k p. let t = law.code_is g k (omega (arith, by (is_stored g k), rest (is_stored g k))) in let t₁ = t.1 in (t.0, omega arith, λ q. absurd (omega arith));
+          code_even = λ g k p. law.code_even g k (omega (arith, by (is_stored g k), rest (is_stored g k)));
+          code_by = λ p q. absurd (omega arith);
+          told = λ g k p. omega (arith, by (is_stored g k), rest (is_stored g k), law.told g k (omega (arith, by (is_told g k), rest (is_told g k))));
+        };
+        link = record {
+          link_low = λ g k p. omega (arith, law.link_low g k (omega (arith, by (is_linked g k), rest (is_linked g k))));
+          link_even = λ g k p. law.link_even g k (omega (arith, by (is_linked g k), rest (is_linked g k)));
+          link_begun = λ g k p. law.link_begun g k (omega (arith, by (is_linked g k), rest (is_linked g k)));
+          met = λ g k p. omega (arith, by (is_linked g k), rest (is_linked g k), law.met g k (omega (arith, by (is_met g k), rest (is_met g k))));
+          link_is = λ g k p q. law.link_is g k (omega (arith, by (is_linked g k), rest (is_linked g k))) (omega (arith, by is_recycling, rest is_recycling));
+          link_live = λ p. absurd (omega arith);
+          link_odd = λ p. absurd (omega arith);
+          link_last = λ p. let e : v - 1 ≡ v + 1 - 2 = omega arith in subst (λ (x : ℕ). 0 < tally (is_linked x l.link) (set l.marks j w)) e (omega (arith, by (is_linked (v - 1) l.link), rest (is_linked (v - 1) l.link), law.link_odd odd));
+        };
       }
 
   -- a step of whoever claimed or recycled a slot that isn't live: on its tag, its link or its code
@@ -352,43 +376,51 @@ module _ (first : ℕ) (l : SlotFacts) (law : SlotLaw first (live l) l) (j : ℕ
       let same : (f : Mark → ℕ) → IsIdle f → tally f (set l.marks j w) ≡ tally f l.marks = λ f n. omega (arith, by f, own_same f n) in
       let none_coding : tally is_any_coding l.marks ≡ 0 = dite (ℕ_discrete (tally is_any_coding l.marks) 0) (λ e. e) (λ n. absurd (omega (arith, law.coding_odd (omega arith)))) in
       record {
-        counted = omega (arith, same is_ref (zz, z), law.counted);
-        few = few_with w (let k = law.few j m here in omega (arith, own_same is_ref (zz, z)));
-        tagged = tagged;
-        busy_once = once;
-        busy_taken = taken_;
-        busy_even = λ _. even;
-        free_even = λ _. even;
-        free_low = low;
-        claimed_low = claimed;
-        recycled = recycled;
-        begun = law.begun;
-        top = law.top;
-        taken_by = taken_by;
-        held = λ h p. law.held h (omega (arith, same (is_hold h) (zz, z)));
-        saw = λ x p. law.saw x (omega (arith, same (is_saw x) (zz, z)));
-        zero_noted = λ p q. absurd (omega arith);
-        known = λ h p. law.known h (omega (arith, same (is_known h) (zz, z)));
-        born = λ h. omega (arith, same (is_born h) (zz, z), law.born h);
-        failed = λ h. omega (arith, same (is_failer h) (zz, z), law.failed h);
-        ended = λ h. omega (arith, same (is_freer h) (zz, z), law.ended h);
-        codes = each_set KeepsCodes l.marks j w law.codes (codes_as w (λ h. own_same (is_failer h) (zz, z)) (λ h. own_same (is_coding h) (zz, z)) (λ h. own_same (is_coded h) (zz, z)) (λ h. omega (arith, own_same (is_hold h) (zz, z))) (λ x. omega (arith, own_same (is_saw x) (zz, z))));
-        coding_once = omega (arith, same is_any_coding (zz, z));
-        coding_odd = λ p. absurd (omega (arith, same is_any_coding (zz, z)));
-        code_none = λ p. absurd (omega (arith, same is_any_coding (zz, z)));
-        code_is = λ h c p. let q : 0 < tally (is_stored h c) l.marks = omega (arith, same (is_stored h c) (zz, z)) in let t = law.code_is h c q in (t.0, t.1, λ e. absurd (omega (arith, law.code_even h c q)));
-        code_even = λ h c p. law.code_even h c (omega (arith, same (is_stored h c) (zz, z)));
-        code_by = λ p q. absurd (omega arith);
-        told = λ h c p. omega (arith, same (is_stored h c) (zz, z), law.told h c (omega (arith, same (is_told h c) (zz, z))));
-        staged = staged;
-        link_low = λ h k p. law.link_low h k (omega (arith, same (is_linked h k) (zz, z)));
-        link_even = λ h k p. law.link_even h k (omega (arith, same (is_linked h k) (zz, z)));
-        link_begun = λ h k p. law.link_begun h k (omega (arith, same (is_linked h k) (zz, z)));
-        met = λ h k p. omega (arith, same (is_linked h k) (zz, z), law.met h k (omega (arith, same (is_met h k) (zz, z))));
-        link_is = λ h k p. link_is h k (omega (arith, same (is_linked h k) (zz, z)));
-        link_live = λ p. absurd (omega arith);
-        link_odd = λ p. absurd (omega arith);
-        link_last = λ p. omega (arith, same (is_linked (l.version - 2) link') (zz, z), link_last p);
+        tag = record {
+          tagged = tagged;
+          busy_once = once;
+          busy_taken = taken_;
+          busy_even = λ _. even;
+          free_even = λ _. even;
+          free_low = low;
+          claimed_low = claimed;
+          recycled = recycled;
+          taken_by = taken_by;
+          staged = staged;
+        };
+        word = record {
+          counted = omega (arith, same is_ref (zz, z), law.counted);
+          few = few_with w (let k = law.few j m here in omega (arith, own_same is_ref (zz, z)));
+          begun = law.begun;
+          top = law.top;
+          held = λ h p. law.held h (omega (arith, same (is_hold h) (zz, z)));
+          saw = λ x p. law.saw x (omega (arith, same (is_saw x) (zz, z)));
+          zero_noted = λ p q. absurd (omega arith);
+          known = λ h p. law.known h (omega (arith, same (is_known h) (zz, z)));
+          born = λ h. omega (arith, same (is_born h) (zz, z), law.born h);
+          failed = λ h. omega (arith, same (is_failer h) (zz, z), law.failed h);
+          ended = λ h. omega (arith, same (is_freer h) (zz, z), law.ended h);
+        };
+        code = record {
+          codes = each_set KeepsCodes l.marks j w law.codes (codes_as w (λ h. own_same (is_failer h) (zz, z)) (λ h. own_same (is_coding h) (zz, z)) (λ h. own_same (is_coded h) (zz, z)) (λ h. omega (arith, own_same (is_hold h) (zz, z))) (λ x. omega (arith, own_same (is_saw x) (zz, z))));
+          coding_once = omega (arith, same is_any_coding (zz, z));
+          coding_odd = λ p. absurd (omega (arith, same is_any_coding (zz, z)));
+          code_none = λ p. absurd (omega (arith, same is_any_coding (zz, z)));
+          code_is = λ h c p. let q : 0 < tally (is_stored h c) l.marks = omega (arith, same (is_stored h c) (zz, z)) in let t = law.code_is h c q in (t.0, t.1, λ e. absurd (omega (arith, law.code_even h c q)));
+          code_even = λ h c p. law.code_even h c (omega (arith, same (is_stored h c) (zz, z)));
+          code_by = λ p q. absurd (omega arith);
+          told = λ h c p. omega (arith, same (is_stored h c) (zz, z), law.told h c (omega (arith, same (is_told h c) (zz, z))));
+        };
+        link = record {
+          link_low = λ h k p. law.link_low h k (omega (arith, same (is_linked h k) (zz, z)));
+          link_even = λ h k p. law.link_even h k (omega (arith, same (is_linked h k) (zz, z)));
+          link_begun = λ h k p. law.link_begun h k (omega (arith, same (is_linked h k) (zz, z)));
+          met = λ h k p. omega (arith, same (is_linked h k) (zz, z), law.met h k (omega (arith, same (is_met h k) (zz, z))));
+          link_is = λ h k p. link_is h k (omega (arith, same (is_linked h k) (zz, z)));
+          link_live = λ p. absurd (omega arith);
+          link_odd = λ p. absurd (omega arith);
+          link_last = λ p. omega (arith, same (is_linked (l.version - 2) link') (zz, z), link_last p);
+        };
       }
 
   pub keeps_free : (x : ℕ) → 0 < total (is_recycled x) m → x ≤ 4294967292
@@ -430,44 +462,52 @@ module _ (first : ℕ) (l : SlotFacts) (law : SlotLaw first (live l) l) (j : ℕ
       let stage = law.staged 3 k (omega (arith, own (is_stage 3 k))) in let s₀ : l.link ≡ k = stage.0 (omega arith) in let s₁ : l.code ≡ 0 = stage.1 (omega arith) in
       let begun = law.begun in let before : v + lv ≡ v = omega arith in
       record {
-        counted = omega (arith, by is_ref, rest is_ref, law.counted);
-        few = few_with w (let a = law.few j m here in omega (arith, rest is_ref));
-        tagged = law.tagged;
-        busy_once = omega (arith, by is_busy, rest is_busy);
-        busy_taken = λ p. tag_is;
-        busy_even = λ p. even;
-        free_even = law.free_even;
-        free_low = law.free_low;
-        claimed_low = λ p. low;
-        recycled = λ x p. law.recycled x (omega (arith, by (is_recycled x), rest (is_recycled x)));
-        begun = begun;
-        top = law.top;
-        taken_by = λ p. omega arith;
-        held = λ g p. let t = law.held g (omega (arith, by (is_hold g), rest (is_hold g))) in let t₀ = t.0 in let t₁ = t.1 in absurd (omega arith);
-        saw = λ x p. law.saw x (omega (arith, by (is_saw x), rest (is_saw x)));
-        zero_noted = λ p q. absurd (omega arith);
-        known = λ g p. dite (ℕ_discrete v g) (λ e. life-in first g (v + 1) (omega arith) (omega arith) (omega arith))
-            (λ n. let t = life_is first g (v + lv) (omega (arith, law.known g (omega (arith, by (is_known g), rest (is_known g), only-else g v n)))) in let t₀ = t.0 in let t₁ = t.1 in life-in first g (v + 1) t₀ (omega arith) t.2);
-        born = λ g. omega (arith, by (is_born g), rest (is_born g), law.born g, life-more first g v begun even, ap (life first g) before);
-        failed = λ g. omega (arith, by (is_failer g), rest (is_failer g), law.failed g);
-        ended = λ g. omega (arith, by (is_freer g), rest (is_freer g), law.ended g);
-        codes = each_set KeepsCodes l.marks j w law.codes (codes_as w (λ h. omega (arith, rest (is_failer h))) (λ h. omega (arith, rest (is_coding h))) (λ h. omega (arith, rest (is_coded h))) (λ h. omega (arith, rest (is_hold h))) (λ x. omega (arith, rest (is_saw x))));
-        coding_once = omega (arith, by is_any_coding, rest is_any_coding, law.coding_once);
-        coding_odd = λ p. law.coding_odd (omega (arith, by is_any_coding, rest is_any_coding));
-        code_none = λ p. s₁;
-        code_is = λ g c p. law.code_is g c (omega (arith, by (is_stored g c), rest (is_stored g c)));
-        code_even = λ g c p. law.code_even g c (omega (arith, by (is_stored g c), rest (is_stored g c)));
-        code_by = λ p q. absurd (omega arith);
-        told = λ g c p. omega (arith, by (is_stored g c), rest (is_stored g c), law.told g c (omega (arith, by (is_told g c), rest (is_told g c))));
-        staged = λ n c p. law.staged n c (omega (arith, by (is_stage n c), rest (is_stage n c)));
-        link_low = λ g c p. dite (ℕ_discrete (pair g c v k) 0) (λ e. omega (arith, law.link_low g c (omega (arith, by (is_linked g c), rest (is_linked g c))))) (λ n. omega (arith, (pair_is g c v k (omega arith)).0));
-        link_even = λ g c p. dite (ℕ_discrete (pair g c v k) 0) (λ e. law.link_even g c (omega (arith, by (is_linked g c), rest (is_linked g c)))) (λ n. let t = (pair_is g c v k (omega arith)).0 in omega arith);
-        link_begun = λ g c p. dite (ℕ_discrete (pair g c v k) 0) (λ e. law.link_begun g c (omega (arith, by (is_linked g c), rest (is_linked g c)))) (λ n. let t = (pair_is g c v k (omega arith)).0 in omega arith);
-        met = λ g c p. omega (arith, by (is_linked g c), rest (is_linked g c), law.met g c (omega (arith, by (is_met g c), rest (is_met g c))));
-        link_is = λ g c p q. dite (ℕ_discrete (pair g c v k) 0) (λ e. law.link_is g c (omega (arith, by (is_linked g c), rest (is_linked g c))) (omega (arith, by is_recycling, rest is_recycling))) (λ n. s₀ ∙ (pair_is g c v k (omega arith)).1);
-        link_live = λ p. omega (arith, by (is_linked v l.link), rest (is_linked v l.link), pair-at v l.link v k refl (sym s₀));
-        link_odd = λ p. absurd (omega arith);
-        link_last = λ p. absurd (omega (arith, by is_recycling, rest is_recycling));
+        tag = record {
+          tagged = law.tagged;
+          busy_once = omega (arith, by is_busy, rest is_busy);
+          busy_taken = λ p. tag_is;
+          busy_even = λ p. even;
+          free_even = law.free_even;
+          free_low = law.free_low;
+          claimed_low = λ p. low;
+          recycled = λ x p. law.recycled x (omega (arith, by (is_recycled x), rest (is_recycled x)));
+          taken_by = λ p. omega arith;
+          staged = λ n c p. law.staged n c (omega (arith, by (is_stage n c), rest (is_stage n c)));
+        };
+        word = record {
+          counted = omega (arith, by is_ref, rest is_ref, law.counted);
+          few = few_with w (let a = law.few j m here in omega (arith, rest is_ref));
+          begun = begun;
+          top = law.top;
+          held = λ g p. let t = law.held g (omega (arith, by (is_hold g), rest (is_hold g))) in let t₀ = t.0 in let t₁ = t.1 in absurd (omega arith);
+          saw = λ x p. law.saw x (omega (arith, by (is_saw x), rest (is_saw x)));
+          zero_noted = λ p q. absurd (omega arith);
+          known = λ g p. dite (ℕ_discrete v g) (λ e. life-in first g (v + 1) (omega arith) (omega arith) (omega arith))
+              (λ n. let t = life_is first g (v + lv) (omega (arith, law.known g (omega (arith, by (is_known g), rest (is_known g), only-else g v n)))) in let t₀ = t.0 in let t₁ = t.1 in life-in first g (v + 1) t₀ (omega arith) t.2);
+          born = λ g. omega (arith, by (is_born g), rest (is_born g), law.born g, life-more first g v begun even, ap (life first g) before);
+          failed = λ g. omega (arith, by (is_failer g), rest (is_failer g), law.failed g);
+          ended = λ g. omega (arith, by (is_freer g), rest (is_freer g), law.ended g);
+        };
+        code = record {
+          codes = each_set KeepsCodes l.marks j w law.codes (codes_as w (λ h. omega (arith, rest (is_failer h))) (λ h. omega (arith, rest (is_coding h))) (λ h. omega (arith, rest (is_coded h))) (λ h. omega (arith, rest (is_hold h))) (λ x. omega (arith, rest (is_saw x))));
+          coding_once = omega (arith, by is_any_coding, rest is_any_coding, law.coding_once);
+          coding_odd = λ p. law.coding_odd (omega (arith, by is_any_coding, rest is_any_coding));
+          code_none = λ p. s₁;
+          code_is = λ g c p. law.code_is g c (omega (arith, by (is_stored g c), rest (is_stored g c)));
+          code_even = λ g c p. law.code_even g c (omega (arith, by (is_stored g c), rest (is_stored g c)));
+          code_by = λ p q. absurd (omega arith);
+          told = λ g c p. omega (arith, by (is_stored g c), rest (is_stored g c), law.told g c (omega (arith, by (is_told g c), rest (is_told g c))));
+        };
+        link = record {
+          link_low = λ g c p. dite (ℕ_discrete (pair g c v k) 0) (λ e. omega (arith, law.link_low g c (omega (arith, by (is_linked g c), rest (is_linked g c))))) (λ n. omega (arith, (pair_is g c v k (omega arith)).0));
+          link_even = λ g c p. dite (ℕ_discrete (pair g c v k) 0) (λ e. law.link_even g c (omega (arith, by (is_linked g c), rest (is_linked g c)))) (λ n. let t = (pair_is g c v k (omega arith)).0 in omega arith);
+          link_begun = λ g c p. dite (ℕ_discrete (pair g c v k) 0) (λ e. law.link_begun g c (omega (arith, by (is_linked g c), rest (is_linked g c)))) (λ n. let t = (pair_is g c v k (omega arith)).0 in omega arith);
+          met = λ g c p. omega (arith, by (is_linked g c), rest (is_linked g c), law.met g c (omega (arith, by (is_met g c), rest (is_met g c))));
+          link_is = λ g c p q. dite (ℕ_discrete (pair g c v k) 0) (λ e. law.link_is g c (omega (arith, by (is_linked g c), rest (is_linked g c))) (omega (arith, by is_recycling, rest is_recycling))) (λ n. s₀ ∙ (pair_is g c v k (omega arith)).1);
+          link_live = λ p. omega (arith, by (is_linked v l.link), rest (is_linked v l.link), pair-at v l.link v k refl (sym s₀));
+          link_odd = λ p. absurd (omega arith);
+          link_last = λ p. absurd (omega (arith, by is_recycling, rest is_recycling));
+        };
       }
 
   -- an exchange that lost

@@ -40,12 +40,12 @@ abbrev pub KeepsCodes : List Mark → Type 0
 KeepsCodes m = ((h : ℕ) → total (is_failer h) m ≡ total (is_coding h) m + total (is_coded h) m)
     × ((h : ℕ) → 0 < total (is_coding h) m → (0 < total (is_hold h) m) × (0 < total (is_saw (h + 1)) m))
 
--- Lives begin at the version first. lives is 1 where this slot is live, else 0.
-pub record SlotLaw (first lives : ℕ) (l : SlotFacts) : Type 0 where
-  -- nref counts the references, and one more while the slot is live
-  pub counted : l.nref ≡ lives + count is_ref l
-  -- no seat has so many references that nref could overflow
-  pub few : Each l.marks (λ m. total is_ref m ≤ 65540)
+-- ## The law
+
+-- In what follows lives begin at the version first, and lives is 1 where this slot is live, else 0.
+
+-- its tag, and who claimed or recycled it
+pub record TagLaw (first lives : ℕ) (l : SlotFacts) : Type 0 where
   -- the tag is 0 or 1
   pub tagged : l.tag ≤ 1
   -- one seat at most claimed or recycled the slot
@@ -62,18 +62,27 @@ pub record SlotLaw (first lives : ℕ) (l : SlotFacts) : Type 0 where
   pub claimed_low : 0 < count is_claimed l → l.version ≤ 4294967292
   -- a recycled slot has the version to which it was recycled
   pub recycled : (w : ℕ) → 0 < count (is_recycled w) l → w ≡ l.version
+  -- a slot that is taken, or was found taken, is claimed, or had a life
+  pub taken_by : 0 < l.tag + count is_tried l → 0 < count is_claimed l + lives + (l.version - first)
+  -- a claim's link is stored from stage 1, its code is 0 from stage 3
+  pub staged : (n k : ℕ) → 0 < count (is_stage n k) l → (1 ≤ n → l.link ≡ k) × (3 ≤ n → l.code ≡ 0)
+
+-- its reference word: how many refer to it, its version, and the lives that it had
+pub record WordLaw (first lives : ℕ) (l : SlotFacts) : Type 0 where
+  -- nref counts the references, and one more while the slot is live
+  pub counted : l.nref ≡ lives + count is_ref l
+  -- no seat has so many references that nref could overflow
+  pub few : Each l.marks (λ m. total is_ref m ≤ 65540)
+  -- where nobody refers to a failed slot, some seat has its exchange left
+  pub zero_noted : l.version % 2 ≡ 1 → l.nref ≡ 0 → 0 < count (is_zero l.version) l
   -- versions begin at the first
   pub begun : first ≤ l.version
   -- and end before the last odd one
   pub top : l.version ≤ 4294967294
-  -- a slot that is taken, or was found taken, is claimed, or had a life
-  pub taken_by : 0 < l.tag + count is_tried l → 0 < count is_claimed l + lives + (l.version - first)
   -- a life that is held is the slot's last: live, or failed and not ended
   pub held : (h : ℕ) → 0 < count (is_hold h) l → (h + 1 ≡ l.version + lives) × (h % 2 ≡ 0)
   -- no version was seen that is yet to come
   pub saw : (w : ℕ) → 0 < count (is_saw w) l → w ≤ l.version
-  -- where nobody refers to a failed slot, some seat has its exchange left
-  pub zero_noted : l.version % 2 ≡ 1 → l.nref ≡ 0 → 0 < count (is_zero l.version) l
   -- each life that is known was born
   pub known : (h : ℕ) → 0 < count (is_known h) l → life first h (l.version + lives) ≡ 1
   -- each life that was born stands as Born once
@@ -82,6 +91,9 @@ pub record SlotLaw (first lives : ℕ) (l : SlotFacts) : Type 0 where
   pub failed : (h : ℕ) → count (is_failer h) l ≡ life first h l.version
   -- each that ended stands as Freer once
   pub ended : (h : ℕ) → count (is_freer h) l ≡ life first h (l.version - 1)
+
+-- its code
+pub record CodeLaw (lives : ℕ) (l : SlotFacts) : Type 0 where
   -- what a seat failed it has coded, or is about to
   pub codes : Each l.marks KeepsCodes
   -- one code at most is about to be stored
@@ -98,8 +110,9 @@ pub record SlotLaw (first lives : ℕ) (l : SlotFacts) : Type 0 where
   pub code_by : l.version % 2 ≡ 1 → 0 < l.code → 0 < count (is_stored (l.version - 1) l.code) l
   -- a code that was found was stored
   pub told : (h c : ℕ) → 0 < count (is_told h c) l → 0 < count (is_stored h c) l
-  -- a claim's link is stored from stage 1, its code is 0 from stage 3
-  pub staged : (n k : ℕ) → 0 < count (is_stage n k) l → (1 ≤ n → l.link ≡ k) × (3 ≤ n → l.code ≡ 0)
+
+-- its link
+pub record LinkLaw (first lives : ℕ) (l : SlotFacts) : Type 0 where
   -- a link was given to a life that was born
   pub link_low : (h k : ℕ) → 0 < count (is_linked h k) l → h < l.version + lives
   -- whose version is even
@@ -116,3 +129,14 @@ pub record SlotLaw (first lives : ℕ) (l : SlotFacts) : Type 0 where
   pub link_last : 0 < count is_recycling l → 0 < count (is_linked (l.version - 2) l.link) l
   -- a link that was found was given
   pub met : (h k : ℕ) → 0 < count (is_met h k) l → 0 < count (is_linked h k) l
+
+-- the law of one slot
+pub record SlotLaw (first lives : ℕ) (l : SlotFacts) : Type 0 where
+  pub tag : TagLaw first lives l
+  pub open tag use *
+  pub word : WordLaw first lives l
+  pub open word use *
+  pub code : CodeLaw lives l
+  pub open code use *
+  pub link : LinkLaw first lives l
+  pub open link use *

@@ -36,46 +36,54 @@ module _ (first : ℕ) (l : SlotFacts) (law : SlotLaw first (live l) l) (j : ℕ
 
   pub keeps_light : SlotLaw first (live l) record l { marks = set l.marks j w }
   keeps_light = record {
-    counted = omega (arith, by is_ref (λ h n. refl), law.counted);
-    few = few_with first l law j m here w (let a = law.few j m here in omega (arith, same is_ref (λ h n. refl)));
-    tagged = law.tagged;
-    busy_once = omega (arith, by is_busy (λ h n. refl), law.busy_once);
-    busy_taken = λ p. law.busy_taken (omega (arith, by is_busy (λ h n. refl)));
-    busy_even = λ p. law.busy_even (omega (arith, by is_busy (λ h n. refl)));
-    free_even = law.free_even;
-    free_low = law.free_low;
-    claimed_low = λ p. law.claimed_low (omega (arith, by is_claimed (λ h n. refl)));
-    recycled = λ v p. law.recycled v (omega (arith, by (is_recycled v) (λ h n. refl)));
-    begun = law.begun;
-    top = law.top;
-    taken_by = λ p. omega (arith, by is_claimed (λ h n. refl), by is_tried (λ h n. refl), law.taken_by);
-    held = λ h p. law.held h (omega (arith, by (is_hold h) (λ g n. refl)));
-    saw = λ v p. law.saw v (omega (arith, by (is_saw v) (λ h n. refl)));
-    zero_noted = λ p q. omega (arith, by (is_zero l.version) (λ h n. refl), law.zero_noted p q);
-    known = λ g p. law.known g (omega (arith, by (is_known g) (λ h n. refl)));
-    born = λ h. omega (arith, by (is_born h) (λ g n. refl), law.born h);
-    failed = λ h. omega (arith, by (is_failer h) (λ g n. refl), law.failed h);
-    ended = λ h. omega (arith, by (is_freer h) (λ g n. refl), law.ended h);
-    codes = each_set KeepsCodes l.marks j w law.codes (
-      (λ h. omega (arith, (law.codes j m here).0 h, same (is_failer h) (λ g n. refl), same (is_coding h) (λ g n. refl), same (is_coded h) (λ g n. refl))),
-      (λ h p. let t = (law.codes j m here).1 h (omega (arith, same (is_coding h) (λ g n. refl))) in let a = t.0 in let b = t.1 in (omega (arith, same (is_hold h) (λ g n. refl)), omega (arith, same (is_saw (h + 1)) (λ g n. refl)))),
-    );
-    coding_once = omega (arith, by is_any_coding (λ h n. refl), law.coding_once);
-    coding_odd = λ p. law.coding_odd (omega (arith, by is_any_coding (λ h n. refl)));
-    code_none = λ p. law.code_none (omega (arith, by is_any_coding (λ h n. refl)));
-    code_is = λ h c p. law.code_is h c (omega (arith, by (is_stored h c) (λ g n. refl)));
-    code_even = λ h c p. law.code_even h c (omega (arith, by (is_stored h c) (λ g n. refl)));
-    code_by = λ p q. omega (arith, by (is_stored (l.version - 1) l.code) (λ g n. refl), law.code_by p q);
-    told = λ h c p. omega (arith, by (is_stored h c) (λ g n. refl), law.told h c (omega (arith, by (is_told h c) (λ g n. refl))));
-    staged = λ n k p. law.staged n k (omega (arith, by (is_stage n k) (λ g x. refl)));
-    link_low = λ h k p. law.link_low h k (omega (arith, by (is_linked h k) (λ g x. refl)));
-    link_even = λ h k p. law.link_even h k (omega (arith, by (is_linked h k) (λ g x. refl)));
-    link_begun = λ h k p. law.link_begun h k (omega (arith, by (is_linked h k) (λ g x. refl)));
-    met = λ g c p. omega (arith, by (is_linked g c) (λ h x. refl), law.met g c (omega (arith, by (is_met g c) (λ h x. refl))));
-    link_is = λ h k p q. law.link_is h k (omega (arith, by (is_linked h k) (λ g x. refl))) (omega (arith, by is_recycling (λ g x. refl)));
-    link_live = λ p. omega (arith, by (is_linked l.version l.link) (λ g x. refl), law.link_live p);
-    link_odd = λ p. omega (arith, by (is_linked (l.version - 1) l.link) (λ g x. refl), law.link_odd p);
-    link_last = λ p. omega (arith, by (is_linked (l.version - 2) l.link) (λ g x. refl), law.link_last (omega (arith, by is_recycling (λ g x. refl))));
+    tag = record {
+      tagged = law.tagged;
+      busy_once = omega (arith, by is_busy (λ h n. refl), law.busy_once);
+      busy_taken = λ p. law.busy_taken (omega (arith, by is_busy (λ h n. refl)));
+      busy_even = λ p. law.busy_even (omega (arith, by is_busy (λ h n. refl)));
+      free_even = law.free_even;
+      free_low = law.free_low;
+      claimed_low = λ p. law.claimed_low (omega (arith, by is_claimed (λ h n. refl)));
+      recycled = λ v p. law.recycled v (omega (arith, by (is_recycled v) (λ h n. refl)));
+      taken_by = λ p. omega (arith, by is_claimed (λ h n. refl), by is_tried (λ h n. refl), law.taken_by);
+      staged = λ n k p. law.staged n k (omega (arith, by (is_stage n k) (λ g x. refl)));
+    };
+    word = record {
+      counted = omega (arith, by is_ref (λ h n. refl), law.counted);
+      few = few_with first l law j m here w (let a = law.few j m here in omega (arith, same is_ref (λ h n. refl)));
+      begun = law.begun;
+      top = law.top;
+      held = λ h p. law.held h (omega (arith, by (is_hold h) (λ g n. refl)));
+      saw = λ v p. law.saw v (omega (arith, by (is_saw v) (λ h n. refl)));
+      zero_noted = λ p q. omega (arith, by (is_zero l.version) (λ h n. refl), law.zero_noted p q);
+      known = λ g p. law.known g (omega (arith, by (is_known g) (λ h n. refl)));
+      born = λ h. omega (arith, by (is_born h) (λ g n. refl), law.born h);
+      failed = λ h. omega (arith, by (is_failer h) (λ g n. refl), law.failed h);
+      ended = λ h. omega (arith, by (is_freer h) (λ g n. refl), law.ended h);
+    };
+    code = record {
+      codes = each_set KeepsCodes l.marks j w law.codes (
+        (λ h. omega (arith, (law.codes j m here).0 h, same (is_failer h) (λ g n. refl), same (is_coding h) (λ g n. refl), same (is_coded h) (λ g n. refl))),
+        (λ h p. let t = (law.codes j m here).1 h (omega (arith, same (is_coding h) (λ g n. refl))) in let a = t.0 in let b = t.1 in (omega (arith, same (is_hold h) (λ g n. refl)), omega (arith, same (is_saw (h + 1)) (λ g n. refl)))),
+      );
+      coding_once = omega (arith, by is_any_coding (λ h n. refl), law.coding_once);
+      coding_odd = λ p. law.coding_odd (omega (arith, by is_any_coding (λ h n. refl)));
+      code_none = λ p. law.code_none (omega (arith, by is_any_coding (λ h n. refl)));
+      code_is = λ h c p. law.code_is h c (omega (arith, by (is_stored h c) (λ g n. refl)));
+      code_even = λ h c p. law.code_even h c (omega (arith, by (is_stored h c) (λ g n. refl)));
+      code_by = λ p q. omega (arith, by (is_stored (l.version - 1) l.code) (λ g n. refl), law.code_by p q);
+      told = λ h c p. omega (arith, by (is_stored h c) (λ g n. refl), law.told h c (omega (arith, by (is_told h c) (λ g n. refl))));
+    };
+    link = record {
+      link_low = λ h k p. law.link_low h k (omega (arith, by (is_linked h k) (λ g x. refl)));
+      link_even = λ h k p. law.link_even h k (omega (arith, by (is_linked h k) (λ g x. refl)));
+      link_begun = λ h k p. law.link_begun h k (omega (arith, by (is_linked h k) (λ g x. refl)));
+      met = λ g c p. omega (arith, by (is_linked g c) (λ h x. refl), law.met g c (omega (arith, by (is_met g c) (λ h x. refl))));
+      link_is = λ h k p q. law.link_is h k (omega (arith, by (is_linked h k) (λ g x. refl))) (omega (arith, by is_recycling (λ g x. refl)));
+      link_live = λ p. omega (arith, by (is_linked l.version l.link) (λ g x. refl), law.link_live p);
+      link_odd = λ p. omega (arith, by (is_linked (l.version - 1) l.link) (λ g x. refl), law.link_odd p);
+      link_last = λ p. omega (arith, by (is_linked (l.version - 2) l.link) (λ g x. refl), law.link_last (omega (arith, by is_recycling (λ g x. refl))));
+    };
   }
 
 -- the view w is v but for such notes
