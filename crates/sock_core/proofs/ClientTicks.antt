@@ -1,5 +1,5 @@
 -- A tick of a seat of the code: what was made in hand of it, and its step, or none, or that memory ran out.
-use Rattle.std.proofs.Common.{◌≡◌, ◌≢◌, ℕ, ◌+◌, ◌<◌, false, List, length, Result, Ok, Err, ap, ap₂, sym, ◌∙◌}
+use Rattle.std.proofs.Common.{◌≡◌, ◌≢◌, ℕ, ◌+◌, ◌<◌, false, List, length, Result, Ok, Err, ap, ap₂, sym, subst, ◌∙◌}
 use Rattle.std.specs.Prelude.{IfOk, OnOk, OnErr}
 use Rattle.atomic_table.proofs.Lists.{set_else}
 use lib.ListN.{get_elem?}
@@ -8,19 +8,20 @@ use Rattle.seat_states.specs.declared.point.Step.{Step}
 use Rattle.reader_points.specs.declared.point.ReadStep.{ReadStep}
 use Rattle.sock_core.specs.declared.machine.Tick.{Tick}
 use Rattle.sock_core.specs.declared.machine.Tick.TheVariants.{Idle}
-use Rattle.sock_core.specs.Machines.{MachineState, READERS, IsMachine, table_of, IsSized}
+use Rattle.sock_core.specs.Machines.{MachineState, READERS, IsMachine, HasSizes, table_of, IsSized}
 use Rattle.sock_core.specs.Reading.{NextReadIs, HasNoRead, ReadFits, TickRead, IsCutShort}
 use Rattle.sock_core.specs.Runs.{SameTable, SameLinks, Ticked}
 use Rattle.sock_core.specs.Steps.{NextIs, HasNoStep, StepFits, PreparedAt}
 use Rattle.sock_core.specs.Passing.{HasPassed}
 use Rattle.sock_core.specs.Telling.{TickTold}
-use Rattle.sock_core.specs.Driving.{Leaves, FirstRests}
-use Rattle.sock_core.proofs.Advancing.{told_links, told_table, told_ticks, told_keeps, told_leaves, told_enough, read_links_stay, read_table, read_ticks, read_keeps, read_leaves}
+use Rattle.sock_core.specs.Driving.{Leaves, WentOn, FirstRests}
+use Rattle.sock_core.proofs.Advancing.{told_links, told_table, told_ticks, told_keeps, told_leaves, told_enough, read_links_stay, read_table, read_ticks, read_keeps, read_leaves, read_enough}
 use Rattle.sock_core.proofs.Endings.{both_join}
 use Rattle.sock_core.proofs.Fitting.{step_fits, read_fits}
 use Rattle.sock_core.proofs.Lengths.{is_sized, few_seats, some_seat}
-use Rattle.sock_core.proofs.PlainSteps.{no_step_rests, no_read_rests}
-use Rattle.sock_core.proofs.Preparing.{prepared_ticks, prepared_same, prepared_keeps, prepared_enough, prepared_leaves, prepared_rests, prepared_stands, prepared_inside, cut_keeps, cut_same}
+use Rattle.sock_core.proofs.Joining.{same_table_none, same_links_none}
+use Rattle.sock_core.proofs.PlainSteps.{no_step_rests, no_read_rests, idle_leaves}
+use Rattle.sock_core.proofs.Preparing.{prepared_ticks, prepared_same, prepared_keeps, prepared_enough, prepared_leaves, prepared_idle, prepared_rests, prepared_stands, prepared_inside, cut_keeps, cut_sizes, cut_same}
 use Rattle.sock_core.proofs.Resting.{first_rests, rest_ticks}
 
 -- ## By a result
@@ -37,6 +38,17 @@ pub then_ok : {T E : Type 0} (P : T → Type 0) (R : Type 0) (r : Result T E) �
 then_ok P R (Ok t) h f = f t h
 then_ok P R (Err e) h f = tt
 
+-- a tick in which memory ran out
+pub cut_on : {E : Type 0} (old new : MachineState) (i : ℕ) (r : Result Tick E) (e : E) → r ≡ Err e → IsCutShort old new → ∥ HasSizes old ∥₁ → WentOn old new i r
+cut_on {E} old new i r e is_err w sizes = subst (λ (x : Result Tick E). WentOn old new i x) (sym is_err) (record { tick = tt; left = tt; enough = tt; same = cut_same old new w; sizes = cut_sizes old new w sizes })
+
+-- the machine as it lies in memory
+pub went_along : {E : Type 0} {m n new : MachineState} {i : ℕ} {r : Result Tick E} → m ≡ n → WentOn m new i r → WentOn n new i r
+went_along {E} {m} {n} {new} {i} {r} e h = subst (λ (x : MachineState). WentOn x new i r) e h
+
+pub rests_along : {E : Type 0} {m n : MachineState} {i : ℕ} {r : Result Tick E} → m ≡ n → WentOn m m i r → WentOn n n i r
+rests_along {E} {m} {n} {i} {r} e h = subst (λ (x : MachineState). WentOn x x i r) e h
+
 -- ## Seat 0 at rest
 
 -- a machine whose seat 0 stays
@@ -45,6 +57,10 @@ still_rests a b table same some_ rest = (
   first_rests a b (ap₂ (λ p q. (record { slots = p.slots; requests = p.requests; ids = q.slots })) table.plan table.id_plan) same some_ rest.0,
   λ seat at. rest.1 seat (sym same ∙ at),
 )
+
+-- a seat without a step left leaves all as it was
+rests_on : {E : Type 0} (m : MachineState) (i : ℕ) (r : Result Tick E) → r ≡ Ok Idle → ∥ HasSizes m ∥₁ → m.short ≡ false → Ticked m m i Idle → WentOn m m i r
+rests_on {E} m i r is_idle sizes enough ticks = subst (λ (x : Result Tick E). WentOn m m i x) (sym is_idle) (record { tick = ticks; left = idle_leaves m; enough = enough; same = (same_table_none m, same_links_none m); sizes = sizes })
 
 -- ## A client
 
@@ -62,8 +78,14 @@ module _ (old mid : MachineState) (room i : ℕ) (is : IsMachine old room) (enou
   client_fits step n = step_fits mid room mid_is mid_enough i step (prepared_stands old mid i p) n
 
   -- without a step left
-  pub client_idle : HasNoStep mid i → Ticked old mid i Idle
-  client_idle none_ = prepared_ticks old mid i p mid Idle (rest_ticks mid i (no_step_rests mid i (prepared_inside old mid i p inside) none_))
+  pub client_idle : {E : Type 0} (r : Result Tick E) → r ≡ Ok Idle → HasNoStep mid i → WentOn old mid i r
+  client_idle {E} r is_idle none_ = subst (λ (x : Result Tick E). WentOn old mid i x) (sym is_idle) (record {
+    tick = prepared_ticks old mid i p mid Idle (rest_ticks mid i (no_step_rests mid i (prepared_inside old mid i p inside) none_));
+    left = prepared_idle old mid i p;
+    enough = mid_enough;
+    same = prepared_same old mid i p;
+    sizes = mid_is.sizes;
+  })
 
   pub idle_rests : i ≢ 0 → FirstRests old → FirstRests mid
   idle_rests differ rest = prepared_rests old mid i p (some_seat old is.sizes) differ rest
@@ -101,14 +123,14 @@ module _ (old mid : MachineState) (room i : ℕ) (is : IsMachine old room) (enou
       pub went_keeps : IsMachine new room
       went_keeps = on_both (λ (tick : Tick). TickTold mid new i step tick) (IsCutShort mid new) (IsMachine new room) r ok err client_keeps cut_client
 
-      pub went_same : SameTable old new × SameLinks old new
-      went_same = on_both (λ (tick : Tick). TickTold mid new i step tick) (IsCutShort mid new) (SameTable old new × SameLinks old new) r ok err client_same cut_client_same
-
-      pub went_ticks : IfOk r (λ (tick : Tick). Ticked old new i tick)
-      went_ticks = if_ok (λ (tick : Tick). TickTold mid new i step tick) (λ (tick : Tick). Ticked old new i tick) r ok client_ticks
-
-      pub went_leaves : IfOk r (λ (tick : Tick). Leaves tick old new)
-      went_leaves = if_ok (λ (tick : Tick). TickTold mid new i step tick) (λ (tick : Tick). Leaves tick old new) r ok client_leaves
+      pub went_on : WentOn old new i r
+      went_on = record {
+        tick = if_ok (λ (tick : Tick). TickTold mid new i step tick) (λ (tick : Tick). Ticked old new i tick) r ok client_ticks;
+        left = if_ok (λ (tick : Tick). TickTold mid new i step tick) (λ (tick : Tick). Leaves tick old new) r ok client_leaves;
+        enough = then_ok (λ (tick : Tick). TickTold mid new i step tick) (new.short ≡ false) r ok client_enough;
+        same = on_both (λ (tick : Tick). TickTold mid new i step tick) (IsCutShort mid new) (SameTable old new × SameLinks old new) r ok err client_same cut_client_same;
+        sizes = went_keeps.sizes;
+      }
 
       pub went_rests : OnOk r (i ≢ 0 → FirstRests old → FirstRests new)
       went_rests = then_ok (λ (tick : Tick). TickTold mid new i step tick) (i ≢ 0 → FirstRests old → FirstRests new) r ok client_rests
@@ -116,21 +138,20 @@ module _ (old mid : MachineState) (room i : ℕ) (is : IsMachine old room) (enou
 -- ## A client at rest, and one that passes over what is taken
 
 module _ (old : MachineState) (i : ℕ) (inside : i < length old.seats) where
-  pub rest_client : HasNoStep old i → Ticked old old i Idle
-  rest_client none_ = rest_ticks old i (no_step_rests old i inside none_)
+  pub rest_on : {E : Type 0} (r : Result Tick E) → r ≡ Ok Idle → ∥ HasSizes old ∥₁ → old.short ≡ false → HasNoStep old i → WentOn old old i r
+  rest_on r is_idle sizes enough none_ = rests_on old i r is_idle sizes enough (rest_ticks old i (no_step_rests old i inside none_))
 
   module _ (room : ℕ) (is : IsMachine old room) (enough : old.short ≡ false) (new : MachineState) (tick : Tick) (h : HasPassed old new i tick) where
-    pub passed_ticks : Ticked old new i tick
-    passed_ticks = client_ticks old old room i is enough inside h.prepared new h.step h.next tick h.told
-
     pub passed_keeps : IsMachine new room
     passed_keeps = client_keeps old old room i is enough inside h.prepared new h.step h.next tick h.told
 
-    pub passed_leaves : Leaves tick old new
-    passed_leaves = client_leaves old old room i is enough inside h.prepared new h.step h.next tick h.told
-
     pub passed_same : SameTable old new × SameLinks old new
     passed_same = client_same old old room i is enough inside h.prepared new h.step h.next tick h.told
+
+    pub passed_on : {E : Type 0} (r : Result Tick E) → r ≡ Ok tick → WentOn old new i r
+    passed_on {E} r is_tick = went_on old old room i is enough inside h.prepared new h.step h.next r
+        (subst (λ (x : Result Tick E). IfOk x (λ (t : Tick). TickTold old new i h.step t)) (sym is_tick) h.told)
+        (subst (λ (x : Result Tick E). OnErr x (IsCutShort old new)) (sym is_tick) tt)
 
     pub passed_rests : i ≢ 0 → FirstRests old → FirstRests new
     passed_rests = client_rests old old room i is enough inside h.prepared new h.step h.next tick h.told
@@ -144,8 +165,8 @@ module _ (old : MachineState) (room k : ℕ) (is : IsMachine old room) (enough :
   pub reader_fits : (step : ReadStep) → NextReadIs old k step → ReadFits old k step
   reader_fits step n = read_fits old room is enough k step n
 
-  pub reader_idle : HasNoRead old k → Ticked old old (READERS + k) Idle
-  reader_idle none_ = rest_ticks old (READERS + k) (no_read_rests old k (few_seats old is.sizes) none_)
+  pub reader_idle : {E : Type 0} (r : Result Tick E) → r ≡ Ok Idle → HasNoRead old k → WentOn old old (READERS + k) r
+  reader_idle r is_idle none_ = rests_on old (READERS + k) r is_idle is.sizes enough (rest_ticks old (READERS + k) (no_read_rests old k (few_seats old is.sizes) none_))
 
   module _ (new : MachineState) (step : ReadStep) (n : NextReadIs old k step) where
     reader_rests : (tick : Tick) → TickRead old new (READERS + k) k step tick → FirstRests old → FirstRests new
@@ -159,14 +180,14 @@ module _ (old : MachineState) (room k : ℕ) (is : IsMachine old room) (enough :
       pub read_went_keeps : IsMachine new room
       read_went_keeps = on_both (λ (tick : Tick). TickRead old new (READERS + k) k step tick) (IsCutShort old new) (IsMachine new room) r ok err (λ tick w. read_keeps old new room k step tick is enough n w) (λ w. cut_keeps old new w room is)
 
-      pub read_went_same : SameTable old new × SameLinks old new
-      read_went_same = on_both (λ (tick : Tick). TickRead old new (READERS + k) k step tick) (IsCutShort old new) (SameTable old new × SameLinks old new) r ok err reader_same (cut_same old new)
-
-      pub read_went_ticks : IfOk r (λ (tick : Tick). Ticked old new (READERS + k) tick)
-      read_went_ticks = if_ok (λ (tick : Tick). TickRead old new (READERS + k) k step tick) (λ (tick : Tick). Ticked old new (READERS + k) tick) r ok (λ tick w. read_ticks old new room k step tick is enough n w)
-
-      pub read_went_leaves : IfOk r (λ (tick : Tick). Leaves tick old new)
-      read_went_leaves = if_ok (λ (tick : Tick). TickRead old new (READERS + k) k step tick) (λ (tick : Tick). Leaves tick old new) r ok (λ tick w. read_leaves old new room k step tick is enough n w)
+      pub read_went_on : WentOn old new (READERS + k) r
+      read_went_on = record {
+        tick = if_ok (λ (tick : Tick). TickRead old new (READERS + k) k step tick) (λ (tick : Tick). Ticked old new (READERS + k) tick) r ok (λ tick w. read_ticks old new room k step tick is enough n w);
+        left = if_ok (λ (tick : Tick). TickRead old new (READERS + k) k step tick) (λ (tick : Tick). Leaves tick old new) r ok (λ tick w. read_leaves old new room k step tick is enough n w);
+        enough = then_ok (λ (tick : Tick). TickRead old new (READERS + k) k step tick) (new.short ≡ false) r ok (λ tick w. read_enough old new room k step tick is enough n w);
+        same = on_both (λ (tick : Tick). TickRead old new (READERS + k) k step tick) (IsCutShort old new) (SameTable old new × SameLinks old new) r ok err reader_same (cut_same old new);
+        sizes = read_went_keeps.sizes;
+      }
 
       pub read_went_rests : OnOk r (FirstRests old → FirstRests new)
       read_went_rests = then_ok (λ (tick : Tick). TickRead old new (READERS + k) k step tick) (FirstRests old → FirstRests new) r ok reader_rests

@@ -1,5 +1,5 @@
 -- How many ticks that move are left, seats that ask no link, and where the ending begins.
-use Rattle.std.specs.Prelude.{ℕ, ◌≡◌, ◌≢◌, ◌-◌, ◌<◌, ◌≤◌, true, false, [], slice_set}
+use Rattle.std.specs.Prelude.{ℕ, ◌≡◌, ◌≢◌, ◌-◌, ◌<◌, ◌≤◌, true, false, [], Result, IfOk, OnOk, slice_set}
 use mathlib.Core.Option as core
 use lib.ListN.{get_elem?}
 use Rattle.seat_programs.specs.Calls.{Call, PutMessage}
@@ -14,7 +14,8 @@ use Rattle.sock_core.specs.declared.machine.Tick.{Tick}
 use Rattle.sock_core.specs.declared.machine.Tick.TheVariants.{Moved}
 use Rattle.client_seats.specs.Seats.{SeatData, seat_program}
 use Rattle.sock_core.specs.Links.{Taken, Given, Agrees, AgreesGave}
-use Rattle.sock_core.specs.Machines.{MachineState, IsSoundMachine, machine_sizes, core_with}
+use Rattle.sock_core.specs.Machines.{MachineState, IsSoundMachine, HasSizes, machine_sizes, core_with}
+use Rattle.sock_core.specs.Runs.{SameTable, SameLinks, Ticked}
 
 -- ## Ticks that are left
 
@@ -33,6 +34,14 @@ LeavesAsMany old new = (n : ℕ) → LastsAtMost old n → LastsAtMost new n
 abbrev pub Leaves : Tick → MachineState → MachineState → Type 0
 Leaves (Moved kind) old new = LeavesFewer old new
 Leaves other old new = LeavesAsMany old new
+
+-- the machine went on by a tick of seat i that answered this, or was cut short in it
+pub record WentOn {E : Type 0} (old new : MachineState) (i : ℕ) (answer : Result Tick E) : Type 0 where
+  pub tick : IfOk answer (λ tick. Ticked old new i tick)
+  pub left : IfOk answer (λ tick. Leaves tick old new)
+  pub enough : OnOk answer (new.short ≡ false)
+  pub same : SameTable old new × SameLinks old new
+  pub sizes : ∥ HasSizes new ∥₁
 
 -- a tick that is a step of this kind, or in which nothing moved
 abbrev pub IsLast : Tick → Kind → Type 0

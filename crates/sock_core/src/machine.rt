@@ -11,7 +11,7 @@ ghost use Rattle.sock_core.specs.Linkers.{SaysAsBefore};
 ghost use Rattle.sock_core.specs.Links.{Taken, Given, Agrees, AgreesGave};
 ghost use Rattle.sock_core.specs.Machines.{MOST_LEFT as most_left, HasSizes, core_with, ending_by};
 ghost use Rattle.sock_core.specs.Runs.{SameLinks, SameTable, Ticked, Led, Still, HasMoved, PlayedOn, RanFirst, Settled};
-ghost use Rattle.sock_core.specs.Driving.{LastsAtMost, LeavesFewer, Leaves, IsLast, IsOther, IsPlain, FirstRests, TickedFirst, told_ending};
+ghost use Rattle.sock_core.specs.Driving.{LastsAtMost, LeavesFewer, Leaves, WentOn, IsLast, IsOther, IsPlain, FirstRests, TickedFirst, told_ending};
 
 use crate::finished::{Finished, gather, gather_places};
 use crate::inputs::Wanted;
@@ -113,12 +113,8 @@ impl<O: Out, I: In, P: Peer> Machine<O, I, P> {
     fn step_client(&mut self, seat: u16) -> Result<Tick, NoMemory>
         requires client { seat < length self.old.seats }
         requires enough { self.old.short ≡ false }
-        ensures tick { IfOk result (λ tick. Ticked self.old self.new seat tick) }
-        ensures left { IfOk result (λ tick. Leaves tick self.old self.new) }
-        ensures enough { OnOk result (self.new.short ≡ false) }
-        ensures same { SameTable self.old self.new × SameLinks self.old self.new }
+        ensures went { WentOn self.old self.new seat result }
         ensures rest { OnOk result (seat ≢ 0 → FirstRests self.old → FirstRests self.new) }
-        ensures sizes { ∥ HasSizes self.new ∥₁ }
     {
         self.tables.prepare(seat)?;
         let Some(step) = self.tables.next_step(seat) else {
@@ -132,12 +128,8 @@ impl<O: Out, I: In, P: Peer> Machine<O, I, P> {
     fn advance_client(&mut self, seat: u16) -> Result<Tick, NoMemory>
         requires client { seat < length self.old.seats }
         requires enough { self.old.short ≡ false }
-        ensures tick { IfOk result (λ tick. Ticked self.old self.new seat tick) }
-        ensures left { IfOk result (λ tick. Leaves tick self.old self.new) }
-        ensures enough { OnOk result (self.new.short ≡ false) }
-        ensures same { SameTable self.old self.new × SameLinks self.old self.new }
+        ensures went { WentOn self.old self.new seat result }
         ensures rest { OnOk result (seat ≢ 0 → FirstRests self.old → FirstRests self.new) }
-        ensures sizes { ∥ HasSizes self.new ∥₁ }
     {
         if self.tables.is_at_rest(seat) {
             return Ok(Tick::Idle);
@@ -156,12 +148,8 @@ impl<O: Out, I: In, P: Peer> Machine<O, I, P> {
         link: u16,
     ) -> Result<Tick, NoMemory>
         requires { self.old.short ≡ false }
-        ensures tick { IfOk result (λ tick. Ticked self.old self.new (32 + link) tick) }
-        ensures left { IfOk result (λ tick. Leaves tick self.old self.new) }
-        ensures enough { OnOk result (self.new.short ≡ false) }
-        ensures same { SameTable self.old self.new × SameLinks self.old self.new }
+        ensures went { WentOn self.old self.new (32 + link) result }
         ensures rest { OnOk result (FirstRests self.old → FirstRests self.new) }
-        ensures sizes { ∥ HasSizes self.new ∥₁ }
         ensures says { SaysAsBefore L.asked L.accepted L.back L.done L.faults L.always_ready links.old links.new }
     {
         let Some(step) = self.tables.next_read(link) else {
