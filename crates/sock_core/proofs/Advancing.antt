@@ -1,11 +1,12 @@
 -- A step of a seat is a tick of the machine, which stays one, and has one tick less left if the seat moved.
-use Rattle.std.proofs.Common.{◌≡◌, refl, ℕ, ◌+◌, ◌<◌, ◌≤◌, inl, Bool, true, false, [], ◌∷◌, append-nil, length, Option, Some, None, ap, ap₂, sym, ◌∙◌, arith, subst}
+use Rattle.std.proofs.Common.{◌≡◌, refl, ℕ, ◌+◌, ◌*◌, ◌<◌, ◌≤◌, inl, Bool, true, false, [], ◌∷◌, append-nil, length, Option, Some, None, ap, ap₂, sym, ◌∙◌, arith, subst}
 use Rattle.std.proofs.Props.{props}
 use Rattle.std.proofs.Math.Logic.{∥∥₁_elim}
 use Rattle.std.proofs.lemmas.Option.{none-some}
 use mathlib.Core.Option as core
 use lib.ListN.{get_elem?}
 use Rattle.sock_words.specs.declared.kind.Kind.{Kind}
+use Rattle.sock_words.specs.declared.plain.Plan.{Plan}
 use Rattle.sock_io.specs.declared.link.Ready.TheVariants as asks
 use Rattle.seat_programs.specs.Asides as asides
 use Rattle.seat_programs.specs.Heads.{Head, Exit, Locks}
@@ -112,10 +113,10 @@ module _ (m fresh : MachineState) (room i : ℕ) (program : Program) (answer : A
 
   module _ (keeps : (s : IsSoundMachine m) → Keeps m fresh s (record { seat = i; answer = answer })) where
     -- the machine stays one
-    keeps_by : ∥ HasSizes fresh ∥₁ → AsMany (table_of m) (table_of fresh) → ArePaced (machine_sizes fresh) fresh.links fresh.seats → KeepsClosed fresh → AreCalled fresh.ids → IsMachine fresh room
-    keeps_by sizes many paced closed called = record {
+    keeps_by : ∥ HasSizes fresh ∥₁ → fresh.plan ≡ m.plan → ArePaced (machine_sizes fresh) fresh.links fresh.seats → KeepsClosed fresh → AreCalled fresh.ids → IsMachine fresh room
+    keeps_by sizes same paced closed called = record {
       sizes = sizes;
-      has_room = let e = many.outcomes in let h = is.has_room in omega (arith, e, h);
+      has_room = subst (λ (p : Plan). 8 * p.operations ≤ room) (sym same) is.has_room;
       sound = λ _. ∥∥₁_elim (is.sound enough) (hlevel props) (λ s. ∣ (keeps s).sound ∣₁);
       paced = λ _. ∣ paced ∣₁;
       closed = λ _. closed;
@@ -231,7 +232,7 @@ module _ (m fresh : MachineState) (room i : ℕ) (step : Step) (tick : Tick) (is
 
   -- the machine stays one
   pub told_keeps : IsMachine fresh room
-  told_keeps = keeps_by m fresh room i program answer is enough own_at keeps told_sizes many
+  told_keeps = keeps_by m fresh room i program answer is enough own_at keeps told_sizes base.plan
       (made_paced m (is_sized m is.sizes) paced (is.sound enough) fresh i w.one w.one' w.at w.all step first answer next may made)
       (made_closed m fresh i w.one w.one' step (is.closed enough) (place_inside m.seats i w.one w.at) w.all w.readers first answer made) (called_by step next made)
 
@@ -356,7 +357,7 @@ module _ (m fresh : MachineState) (room k : ℕ) (step : ReadStep) (tick : Tick)
 
   -- the machine stays one
   pub read_keeps : IsMachine fresh room
-  read_keeps = keeps_by m fresh room i reading given_answer is enough read_own read_kept read_has_sizes read_as_many
+  read_keeps = keeps_by m fresh room i reading given_answer is enough read_own read_kept read_has_sizes same.plan
       (readers_paced m read_sized read_paced (is.sound enough) fresh i (let f = read_few in omega (arith, f)) same_sizes w.seats (outs_by begins read_next read_made))
       (read_closed m fresh k w.one w.one' (is.closed enough) w.at w.seats w.all begins given_answer read_made) (read_called step read_next read_made)
 

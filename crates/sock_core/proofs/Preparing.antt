@@ -1,5 +1,5 @@
 -- What is made in hand of a seat before its step changes nothing of a run; and a machine in which memory ran out.
-use Rattle.std.proofs.Common.{◌≡◌, ◌≢◌, refl, ℕ, zero, suc, ◌+◌, ◌-◌, ◌<◌, ⊎_elim, false, List, [], ◌∷◌, ◌++◌, map, length, replicate, slice_set, ap, ap₂, sym, ◌∙◌, arith, subst}
+use Rattle.std.proofs.Common.{◌≡◌, ◌≢◌, refl, ℕ, zero, suc, ◌+◌, ◌-◌, ◌*◌, ◌<◌, ◌≤◌, ⊎_elim, false, List, [], ◌∷◌, ◌++◌, map, length, replicate, slice_set, ap, ap₂, sym, ◌∙◌, arith, subst}
 use Rattle.std.proofs.Props.{props}
 use Rattle.std.proofs.Math.Logic.{∥∥₁_elim}
 use Rattle.std.proofs.Math.ListN.{length-set}
@@ -193,7 +193,7 @@ module _ (old fresh : MachineState) (w : IsCutShort old fresh) where
   pub cut_keeps : (room : ℕ) → IsMachine old room → IsMachine fresh room
   cut_keeps room is = record {
     sizes = cut_sizes is.sizes;
-    has_room = let e = w.many.outcomes in let h = is.has_room in omega (arith, e, h);
+    has_room = subst (λ (p : Plan). 8 * p.operations ≤ room) (sym w.plan) is.has_room;
     sound = λ enough. absurd (true≢false (sym w.short ∙ enough));
     paced = λ enough. absurd (true≢false (sym w.short ∙ enough));
     closed = λ enough. absurd (true≢false (sym w.short ∙ enough));

@@ -1,5 +1,5 @@
 -- All that holds of a machine holds where it begins.
-use Rattle.std.proofs.Common.{◌≡◌, refl, ℕ, zero, suc, ◌+◌, ◌-◌, ◌<◌, ◌≤◌, Bool, false, List, [], ◌∷◌, ◌++◌, map, fold, length, slice_index, slice_index_or, replicate, Option, None, ap, ap₂, sym, ◌∙◌, arith, subst}
+use Rattle.std.proofs.Common.{◌≡◌, refl, ℕ, zero, suc, ◌+◌, ◌-◌, ◌*◌, ◌<◌, ◌≤◌, Bool, false, List, [], ◌∷◌, ◌++◌, map, fold, length, slice_index, slice_index_or, replicate, Option, None, ap, ap₂, sym, ◌∙◌, arith, subst}
 use Rattle.std.proofs.Math.ListN.{length-map, length-replicate}
 use Rattle.std.proofs.lemmas.List.{map-append}
 use Rattle.std.proofs.lemmas.List.Sums.{fold-append}
@@ -229,7 +229,7 @@ module _ (p : Plan) (q : IdPlan) (clients : List (List Task)) (m : MachineState)
       none_there : slice_index m.ids.words (call_index m.ids.plan o) ≡ 0
       none_there = ap (λ (ws : List ℕ). slice_index ws (call_index m.ids.plan o)) (ap (λ (a : Calls). a.words) (ids 0)) ∙ (unused q).rest (call_index m.ids.plan o) (let e = ap (λ (x : IdPlan). x.slots) id_plan in omega (arith, e))
 
-  pub machine_begins : (room : ℕ) → Agrees m.links NOTHING → AgreesGave m.links NOTHING → ClosedAreDone m.links → length m.links.outs ≡ p.links → length m.links.inns ≡ p.links → length m.ends ≡ p.links → length m.opens ≡ p.links → length clients ≡ p.seats → p.operations ≤ room → IsMachine m room
+  pub machine_begins : (room : ℕ) → Agrees m.links NOTHING → AgreesGave m.links NOTHING → ClosedAreDone m.links → length m.links.outs ≡ p.links → length m.links.inns ≡ p.links → length m.ends ≡ p.links → length m.opens ≡ p.links → length clients ≡ p.seats → 8 * p.operations ≤ room → IsMachine m room
   machine_begins room agrees agrees_gave closed outs inns ends opens seats_many has_room =
       let told = ap length outcomes ∙ told_length (replicate p.operations None) own_programs ∙ length-replicate p.operations None in
       let links_same : p.links ≡ m.plan.links = ap (λ (x : Plan). x.links) (sym plan) in record {
@@ -256,7 +256,7 @@ module _ (p : Plan) (q : IdPlan) (clients : List (List Task)) (m : MachineState)
           few_opens = f.few_opens;
           few_outcomes = (let b = f.limits.operations in omega (arith, told, b));
         } ∣₁;
-        has_room = omega (arith, told, has_room);
+        has_room = let e = ap (λ (x : Plan). x.operations) plan in omega (arith, e, has_room);
         sound = λ _. ∣ begins_sound agrees agrees_gave ∣₁;
         paced = λ _. ∣ begins_paced ∣₁;
         called = λ _. begins_called;

@@ -8,5 +8,4 @@ pub mod Telling
 pub mod Reading
 pub mod Driving
 pub mod Beginnings
-pub mod Finish
 pub mod Passing

@@ -186,10 +186,10 @@ pub record KeepsClosed (m : MachineState) : Type 0 where
 abbrev pub AreCalled : SlotState → Type 0
 AreCalled ids = (o : ℕ) → o < ids.plan.operations → id_first (slice_index ids.words (call_index ids.plan o)) < 67108864
 
--- a machine with room for so many outcomes; unless memory ran out in a step of it, both rules hold of it
+-- a machine with room for so many place words; unless memory ran out in a step of it, both rules hold of it
 pub record IsMachine (m : MachineState) (room : ℕ) : Type 0 where
   pub sizes : ∥ HasSizes m ∥₁
-  pub has_room : length m.outcomes ≤ room
+  pub has_room : 8 * m.plan.operations ≤ room
   pub sound : m.short ≡ false → ∥ IsSoundMachine m ∥₁
   pub paced : m.short ≡ false → ∥ ArePaced (machine_sizes m) m.links m.seats ∥₁
   pub closed : m.short ≡ false → KeepsClosed m

@@ -4,7 +4,6 @@ ghost use Rattle.brpc_model.specs.Script.{script_of};
 ghost use Rattle.brpc_model.specs.Operations.{link_names};
 ghost use Rattle.sock_io.specs.Link.{OutState, InState, end_of};
 ghost use Rattle.seat_programs.specs.Scripts.{beginning, programs, readers_from, all_programs, sizes_of, place_words};
-ghost use Rattle.sock_core.specs.Finish.{told_from};
 ghost use Rattle.run_theorems.specs.joint_runs.proofs.Starts.{AreFor};
 ghost use Rattle.sock_core.specs.Beginnings.{AreUnused, IsMade, TellsLinks};
 ghost use Rattle.sock_core.specs.Linkers.{SaysAsBefore};
@@ -13,7 +12,7 @@ ghost use Rattle.sock_core.specs.Machines.{MOST_LEFT as most_left, HasSizes, cor
 ghost use Rattle.sock_core.specs.Runs.{SameLinks, SameTable, Ticked, Led, Still, HasMoved, PlayedOn, RanFirst, Settled};
 ghost use Rattle.sock_core.specs.Driving.{LastsAtMost, LeavesFewer, Leaves, WentOn, IsLast, IsOther, IsPlain, FirstRests, TickedFirst, told_ending};
 
-use crate::finished::{Finished, gather, gather_places};
+use crate::finished::{Finished, gather_places};
 use crate::inputs::Wanted;
 use crate::prepared::Prepared;
 use crate::setup::parts_of;
@@ -22,7 +21,7 @@ use crate::tables::{READERS, Tables};
 use script_items::Script;
 use sock_io::{Ends, In, Linker, NoMemory, Out, Peer};
 use sock_message::BlockPool;
-use sock_words::{Kind, Outcome, PlaceWord};
+use sock_words::{Kind, PlaceWord};
 use std::alloc::Global;
 use std::marker::Model;
 
@@ -90,21 +89,19 @@ impl Tick {
 #[derive(Drop)]
 pub struct Machine<O: Out, I: In, P: Peer> {
     tables: Tables<O, I, P>,
-    /// Room for the outcomes of `finish`.
-    told: Vec<(u16, Outcome)>,
-    /// Room for its place words.
+    /// Room for the place words of `finish`.
     places: Vec<PlaceWord>,
 }
 
 impl<O: Out, I: In, P: Peer> Model for Machine<O, I, P> {
-    ghost use Rattle.std.specs.Prelude.{◌≡◌, ◌≤◌, ◌*◌, [], vec_capacity};
+    ghost use Rattle.std.specs.Prelude.{◌≡◌, [], vec_capacity};
     ghost use Rattle.sock_core.specs.Machines.{MachineState, IsMachine};
 
     ghost Value = { MachineState };
 
     ghost view = { λ m. m.tables };
 
-    ghost invariant = { λ m. IsMachine m.tables (vec_capacity m.told) × (m.told.items ≡ []) × (m.places.items ≡ []) × (8 * m.tables.plan.operations ≤ vec_capacity m.places) };
+    ghost invariant = { λ m. IsMachine m.tables (vec_capacity m.places) × (m.places.items ≡ []) };
 }
 
 impl<O: Out, I: In, P: Peer> Machine<O, I, P> {
@@ -471,14 +468,13 @@ impl<O: Out, I: In, P: Peer> Machine<O, I, P> {
                 opens,
                 short: false,
             },
-            told: parts.told,
             places: parts.places,
         })
     }
 
     /// Takes the machine apart: the outcomes so far, the place words, and the links.
     pub fn finish(self) -> Finished<O, I, P>
-        ensures numbered { result.outcomes.items ≡ told_from 0 self.outcomes }
+        ensures outcomes { result.outcomes.items ≡ self.outcomes }
         ensures places { result.places.items ≡ place_words self.plan self.words }
         ensures ends { map (λ (e : _). end_of (O.state e.out) (I.state e.inn)) result.ends.items ≡ self.ends }
         ensures took { map (λ (o : OutState). o.took) self.links.outs ≡ map (λ (e : LinkEnd). e.took) self.ends }
@@ -486,11 +482,7 @@ impl<O: Out, I: In, P: Peer> Machine<O, I, P> {
         ensures gave { map (λ (i : InState). i.gave_bytes) self.links.inns ≡ map (λ (e : LinkEnd). e.gave) self.ends }
         ensures letters { length self.letters ≡ self.plan.requests }
     {
-        let Machine {
-            tables,
-            mut told,
-            mut places,
-        } = self;
+        let Machine { tables, mut places } = self;
         let Table {
             plan,
             words,
@@ -498,10 +490,9 @@ impl<O: Out, I: In, P: Peer> Machine<O, I, P> {
             outcomes,
             ..
         } = tables.table;
-        gather(&mut told, outcomes);
         gather_places(&mut places, &plan, &words);
         Finished {
-            outcomes: told,
+            outcomes,
             places,
             ends,
         }

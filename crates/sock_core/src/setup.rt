@@ -113,8 +113,6 @@ pub struct Parts {
     pub seats: Vec<Seat>,
     pub readers: Vec<ReaderSeat>,
     pub outcomes: Vec<Option<Outcome>>,
-    /// Room for all outcomes.
-    pub told: Vec<(u16, Outcome)>,
     /// Room for all place words.
     pub places: Vec<PlaceWord>,
     /// Room for what a reader takes at once.
@@ -131,8 +129,6 @@ pub fn parts_of(
 ) -> Result<Parts, NoMemory>
     requires few { length opens.now.items ≤ 65535 }
     ensures parts { IfOk result (λ parts. (calls : List ℕ) → AreParts plan.now id_plan.now (map (λ (tasks : _). tasks.items) clients.items) calls opens.now.items parts.words.items (letters_in parts.letters.items) parts.holders.items parts.nexts.items parts.ids (map seat_data parts.seats.items) parts.readers.items parts.outcomes.items) }
-    ensures told { IfOk result (λ parts. parts.told.items ≡ []) }
-    ensures told_room { IfOk result (λ parts. plan.now.operations ≤ vec_capacity parts.told) }
     ensures places { IfOk result (λ parts. parts.places.items ≡ []) }
     ensures places_room { IfOk result (λ parts. 8 * plan.now.operations ≤ vec_capacity parts.places) }
     ensures room { IfOk result (λ parts. vec_len parts.room ≡ 4096) }
@@ -143,7 +139,6 @@ pub fn parts_of(
     let nexts = no_nexts(alloc, plan.links)?;
     let ids = CallSlots::new(alloc, *id_plan)?;
     let mut outcomes = empty_places(alloc, plan.operations)?;
-    let told = Vec::with_capacity(alloc, usize::from(plan.operations))?;
     let places = Vec::with_capacity(alloc, 8 * usize::from(plan.operations))?;
     let sizes = Sizes {
         slots: plan.slots,
@@ -162,7 +157,6 @@ pub fn parts_of(
         seats,
         readers,
         outcomes,
-        told,
         places,
         room,
     })

@@ -1,24 +1,19 @@
-use Rattle.std.proofs.Common.{◌≢◌, ◌<◌, ◌≤◌, ◌*◌, ◌∙◌, refl, length, ap, sym, subst, vec_capacity}
-use Rattle.sock_words.specs.declared.plain.Plan.{Plan}
+use Rattle.std.proofs.Common.{◌≢◌, ◌<◌, ◌∙◌, refl, length, ap, sym, subst, vec_capacity}
 use Rattle.sock_core.specs.Machines.{MachineState, IsMachine}
 use Rattle.sock_core.specs.Driving.{FirstRests}
-use Rattle.sock_core.proofs.ClientTicks.{went_along, rests_along, rest_on, passed_keeps, passed_same, passed_on, passed_rests}
+use Rattle.sock_core.proofs.ClientTicks.{went_along, rests_along, rest_on, passed_keeps, passed_on, passed_rests}
 use Rattle.sock_core.proofs.machine.Machine.advance_client.Goals as goal
 
 pub invariant_of-self-in_default : goal.invariant_of-self-in_default
 invariant_of-self-in_default g c = (
-  subst (λ (m : MachineState). IsMachine m (vec_capacity c.self.inside.told)) (sym c.in_default.ensures.none) c.self.invariant.0,
+  subst (λ (m : MachineState). IsMachine m (vec_capacity c.self.inside.places)) (sym c.in_default.ensures.none) c.self.invariant.0,
   c.self.invariant.1,
-  c.self.invariant.2,
-  subst (λ (m : MachineState). 8 * m.plan.operations ≤ vec_capacity c.self.inside.places) (sym c.in_default.ensures.none) c.self.invariant.3,
 )
 
 pub invariant_of-self : goal.invariant_of-self
 invariant_of-self g c = (
   passed_keeps c.self.inside.tables c.args.seat (subst (λ (m : MachineState). c.args.seat < length m.seats) (sym c.self.view_is) c.requires.client) _ c.self.invariant.0 (ap (λ (m : MachineState). m.short) c.self.view_is ∙ c.requires.enough) c.pass.new.self c.in-Some.tick c.in-Some.ensures.some,
   c.self.invariant.1,
-  c.self.invariant.2,
-  subst (λ (p : Plan). 8 * p.operations ≤ vec_capacity c.self.inside.places) (sym ((passed_same c.self.inside.tables c.args.seat (subst (λ (m : MachineState). c.args.seat < length m.seats) (sym c.self.view_is) c.requires.client) _ c.self.invariant.0 (ap (λ (m : MachineState). m.short) c.self.view_is ∙ c.requires.enough) c.pass.new.self c.in-Some.tick c.in-Some.ensures.some).0.plan)) c.self.invariant.3,
 )
 
 pub returns-clause-rest : goal.returns-clause-rest

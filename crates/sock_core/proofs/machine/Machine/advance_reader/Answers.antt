@@ -1,6 +1,5 @@
-use Rattle.std.proofs.Common.{◌≤◌, ◌*◌, ◌∙◌, refl, ap, sym, subst, vec_capacity}
+use Rattle.std.proofs.Common.{◌∙◌, refl, ap, subst}
 use Rattle.std.specs.Prelude.{OnOk}
-use Rattle.sock_words.specs.declared.plain.Plan.{Plan}
 use Rattle.sock_core.specs.Machines.{MachineState}
 use Rattle.sock_core.specs.Driving.{FirstRests}
 use Rattle.sock_core.proofs.ClientTicks.{went_along, rests_along, reader_sized, reader_fits, reader_idle, read_went_keeps, read_went_on, read_went_rests}
@@ -16,8 +15,6 @@ pub invariant_of-self : goal.invariant_of-self
 invariant_of-self g c = (
   read_went_keeps c.self.inside.tables _ c.args.link c.self.invariant.0 (ap (λ (m : MachineState). m.short) c.self.view_is ∙ c.requires) c.read.new.self c.in-Some.step c.in-Some.ensures.some c.read.result c.read.ensures.ok c.read.ensures.err,
   c.self.invariant.1,
-  c.self.invariant.2,
-  subst (λ (p : Plan). 8 * p.operations ≤ vec_capacity c.self.inside.places) (sym ((read_went_on c.self.inside.tables _ c.args.link c.self.invariant.0 (ap (λ (m : MachineState). m.short) c.self.view_is ∙ c.requires) c.read.new.self c.in-Some.step c.in-Some.ensures.some c.read.result c.read.ensures.ok c.read.ensures.err).same.0.plan)) c.self.invariant.3,
 )
 
 pub returns-clause-rest : goal.returns-clause-rest

@@ -1,7 +1,6 @@
-use Rattle.std.proofs.Common.{◌≢◌, ◌<◌, ◌≤◌, ◌*◌, ◌∙◌, refl, length, ap, sym, subst, vec_capacity}
+use Rattle.std.proofs.Common.{◌≢◌, ◌<◌, ◌∙◌, refl, length, ap, sym, subst}
 use Rattle.std.proofs.lemmas.Result.{err_from_is_err_and}
 use Rattle.std.specs.Prelude.{OnOk}
-use Rattle.sock_words.specs.declared.plain.Plan.{Plan}
 use Rattle.sock_core.specs.Machines.{MachineState}
 use Rattle.sock_core.specs.Driving.{FirstRests}
 use Rattle.sock_core.proofs.Preparing.{prepared_keeps, prepared_ready, prepared_stands, cut_keeps}
@@ -12,8 +11,6 @@ pub invariant_of-self : goal.invariant_of-self
 invariant_of-self g c = (
   cut_keeps c.self.inside.tables c.prepare.new.self c.in_err-prepare.ensures.err _ c.self.invariant.0,
   c.self.invariant.1,
-  c.self.invariant.2,
-  subst (λ (p : Plan). 8 * p.operations ≤ vec_capacity c.self.inside.places) (sym (c.in_err-prepare.ensures.err.plan)) c.self.invariant.3,
 )
 
 pub next_step-requires-clause-ready : goal.next_step-requires-clause-ready
@@ -26,8 +23,6 @@ pub invariant_of-self-in_default : goal.invariant_of-self-in_default
 invariant_of-self-in_default g c = (
   prepared_keeps c.self.inside.tables c.prepare.new.self c.args.seat c.in_ok-prepare.ensures.ok _ c.self.invariant.0,
   c.self.invariant.1,
-  c.self.invariant.2,
-  subst (λ (p : Plan). 8 * p.operations ≤ vec_capacity c.self.inside.places) (sym (ap (λ (m : MachineState). m.plan) c.in_ok-prepare.ensures.ok.is)) c.self.invariant.3,
 )
 
 pub returns-in_default-clause-rest : goal.returns-in_default-clause-rest
@@ -46,8 +41,6 @@ pub invariant_of-self-2 : goal.invariant_of-self-2
 invariant_of-self-2 g c = (
   went_keeps c.self.inside.tables c.prepare.new.self _ c.args.seat c.self.invariant.0 (ap (λ (m : MachineState). m.short) c.self.view_is ∙ c.requires.enough) (subst (λ (m : MachineState). c.args.seat < length m.seats) (sym c.self.view_is) c.requires.client) c.in_ok-prepare.ensures.ok c.step.new.self c.in-Some.step c.in-Some.ensures.some c.step.result c.step.ensures.ok c.step.ensures.err,
   c.self.invariant.1,
-  c.self.invariant.2,
-  subst (λ (p : Plan). 8 * p.operations ≤ vec_capacity c.self.inside.places) (sym ((went_on c.self.inside.tables c.prepare.new.self _ c.args.seat c.self.invariant.0 (ap (λ (m : MachineState). m.short) c.self.view_is ∙ c.requires.enough) (subst (λ (m : MachineState). c.args.seat < length m.seats) (sym c.self.view_is) c.requires.client) c.in_ok-prepare.ensures.ok c.step.new.self c.in-Some.step c.in-Some.ensures.some c.step.result c.step.ensures.ok c.step.ensures.err).same.0.plan)) c.self.invariant.3,
 )
 
 pub returns-clause-rest : goal.returns-clause-rest
