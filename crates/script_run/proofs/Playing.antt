@@ -9,8 +9,8 @@ use Rattle.brpc_model.specs.Link.{LinkEnd}
 use Rattle.seat_programs.specs.Cores.{Core}
 use Rattle.seat_programs.specs.Ticks.{Moment, seats_of, run}
 use Rattle.seat_programs.specs.Runs.{LeadsUpTo}
-use Rattle.sock_core.specs.declared.machine.Tick.{Tick}
-use Rattle.sock_core.specs.declared.machine.Tick.TheVariants.{Idle}
+use Rattle.sock_core.specs.declared.tick.Tick.{Tick}
+use Rattle.sock_core.specs.declared.tick.Tick.TheVariants.{Idle}
 use Rattle.sock_core.specs.Links.{Taken, Given}
 use Rattle.sock_core.specs.Machines.{MachineState, HasSizes, core_with}
 use Rattle.sock_core.specs.Runs.{SameLink, SameLinks, Ticked, Led}

@@ -30,8 +30,8 @@ use Rattle.reader_points.specs.declared.point.ReadStep.{ReadStep}
 use Rattle.reader_points.specs.declared.point.ReadStep.TheVariants as steps
 use Rattle.reader_points.specs.Steps as reader_steps
 use Rattle.reader_seats.specs.Readers.{reader_program}
-use Rattle.sock_core.specs.declared.machine.Tick.{Tick}
-use Rattle.sock_core.specs.declared.machine.Tick.TheVariants.{Moved, Waits, Idle}
+use Rattle.sock_core.specs.declared.tick.Tick.{Tick}
+use Rattle.sock_core.specs.declared.tick.Tick.TheVariants.{Moved, Waits, Idle}
 use Rattle.sock_core.specs.Links.{LinksData, Taken, Given, Agrees, AgreesGave}
 use Rattle.sock_core.specs.Machines.{MachineState, READERS, IsMachine, IsSoundMachine, HasSizes, KeepsClosed, AreCalled, ArePaced, table_of, machine_sizes, state_of, core_with, IsSized}
 use Rattle.sock_core.specs.Steps.{AsMany, NextIs, FitsSlots, SameBase, MadeFirst}

@@ -6,8 +6,8 @@ use lib.ListN.{get_elem?}
 use Rattle.client_seats.specs.Seats.{SeatData}
 use Rattle.seat_states.specs.declared.point.Step.{Step}
 use Rattle.reader_points.specs.declared.point.ReadStep.{ReadStep}
-use Rattle.sock_core.specs.declared.machine.Tick.{Tick}
-use Rattle.sock_core.specs.declared.machine.Tick.TheVariants.{Idle}
+use Rattle.sock_core.specs.declared.tick.Tick.{Tick}
+use Rattle.sock_core.specs.declared.tick.Tick.TheVariants.{Idle}
 use Rattle.sock_core.specs.Machines.{MachineState, READERS, IsMachine, HasSizes, table_of, IsSized}
 use Rattle.sock_core.specs.Reading.{NextReadIs, HasNoRead, ReadFits, TickRead, IsCutShort}
 use Rattle.sock_core.specs.Runs.{SameTable, SameLinks, Ticked}

@@ -32,8 +32,8 @@ use Rattle.id_runs.proofs.Opening.{ending_ids, told_ids}
 use Rattle.run_theorems.specs.programs_allowed.proofs.Opens.{ending_resolved, ending_sound, told_sound}
 use Rattle.run_theorems.specs.programs_allowed.proofs.Lasting.{ending_lasts, told_lasts}
 use Rattle.client_seats.specs.Seats.{SeatData, seat_program}
-use Rattle.sock_core.specs.declared.machine.Tick.{Tick}
-use Rattle.sock_core.specs.declared.machine.Tick.TheVariants as ticks
+use Rattle.sock_core.specs.declared.tick.Tick.{Tick}
+use Rattle.sock_core.specs.declared.tick.Tick.TheVariants as ticks
 use Rattle.sock_core.specs.Links.{Taken, Given, Agrees, AgreesGave, IsPaced, homes_of, hand_of}
 use Rattle.sock_core.specs.Machines.{MachineState, IsMachine, IsSoundMachine, HasSizes, KeepsClosed, ArePaced, MOST_LEFT, READERS, machine_sizes, core_with, ending_by, table_of}
 use Rattle.sock_core.specs.Steps.{Goes}

@@ -24,7 +24,7 @@ use Rattle.seat_programs.specs.Programs.{Program, Aside, Say, Sent, Rest, Keep, 
 use Rattle.seat_programs.specs.Cores.{Core, SeatState}
 use Rattle.seat_programs.specs.Ticks.{Answer, Unasked, Moment, quiet, seats_of, taken, tick_with, ticked, run, IsAnswer, IsAnswered, AreAnswered, IsAlwaysReady, asked_link, broken_at, broken_in}
 use Rattle.seat_programs.specs.Runs.{kind_in, IsAtRest}
-use Rattle.sock_core.specs.declared.machine.Tick.{Tick}
+use Rattle.sock_core.specs.declared.tick.Tick.{Tick}
 use Rattle.sock_core.specs.Links.{LinksData, Taken, Given, Agrees, AgreesGave}
 use Rattle.seat_programs.specs.declared.task.Sizes.{Sizes}
 use Rattle.client_seats.specs.Seats.{SeatData, seat_program}

@@ -15,8 +15,8 @@ use Rattle.seat_programs.specs.Rounds.{kind_of_round}
 use Rattle.seat_programs.specs.Cores.{Core, SeatState}
 use Rattle.seat_programs.specs.Ticks.{Answer, Moment, ticked, run, waits_at, waits}
 use Rattle.seat_programs.specs.Runs.{head_kind, kind_in, next_kind, IsAtRest, LeadsUpTo}
-use Rattle.sock_core.specs.declared.machine.On.{On}
-use Rattle.sock_core.specs.declared.machine.Tick.TheVariants as ticks
+use Rattle.sock_core.specs.declared.tick.On.{On}
+use Rattle.sock_core.specs.declared.tick.Tick.TheVariants as ticks
 use Rattle.sock_core.specs.Links.{Taken, Given}
 use Rattle.sock_core.specs.Machines.{MachineState, core_with}
 use Rattle.sock_core.specs.Runs.{SameTable, SameLinks, Follows, Made, Ticked, TickedWith, MadeByTicks, LedWith, Led}

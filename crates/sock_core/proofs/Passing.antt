@@ -24,8 +24,8 @@ use Rattle.client_seats.specs.Following.{IsPrepared}
 use Rattle.client_seats.specs.declared.seat.Seat.{Seat}
 use Rattle.client_seats.specs.Seats.{SeatData, seat_data, around, seat_program}
 use Rattle.reader_seats.specs.Readers.{ReaderData}
-use Rattle.sock_core.specs.declared.machine.Tick.{Tick}
-use Rattle.sock_core.specs.declared.machine.Tick.TheVariants.{Moved}
+use Rattle.sock_core.specs.declared.tick.Tick.{Tick}
+use Rattle.sock_core.specs.declared.tick.Tick.TheVariants.{Moved}
 use Rattle.sock_core.specs.Machines.{MachineState, TableState, table_sizes}
 use Rattle.sock_core.specs.Passing.{PassesRequest, PassesSlot, HasPassed}
 use Rattle.sock_core.specs.Steps.{IsNext, NextIs, MayStand, Goes}

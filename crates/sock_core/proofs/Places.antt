@@ -9,7 +9,7 @@ use Rattle.sock_runs.proofs.Along.{place_inside}
 use Rattle.seat_states.specs.declared.point.Step.{Step}
 use Rattle.seat_states.specs.Points.{point_program}
 use Rattle.seat_states.specs.Steps.{step_as, first_in}
-use Rattle.sock_core.specs.declared.machine.Tick.{Tick}
+use Rattle.sock_core.specs.declared.tick.Tick.{Tick}
 use Rattle.client_seats.specs.declared.seat.Seat.{Seat}
 use Rattle.client_seats.specs.Seats.{SeatData, seat_data, seat_program, around}
 use Rattle.reader_seats.specs.Readers.{ReaderData}

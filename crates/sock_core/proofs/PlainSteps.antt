@@ -28,8 +28,8 @@ use Rattle.seat_states.specs.Points.{Context, point_program, heading_by, holder_
 use Rattle.seat_states.specs.Steps.{First, OfCall, step_as, first_in, kind_of_first}
 use Rattle.client_seats.specs.Seats.{SeatData, around, seat_program}
 use Rattle.reader_seats.specs.Readers.{ReaderData, reader_program}
-use Rattle.sock_core.specs.declared.machine.Tick.{Tick}
-use Rattle.sock_core.specs.declared.machine.Tick.TheVariants.{Idle}
+use Rattle.sock_core.specs.declared.tick.Tick.{Tick}
+use Rattle.sock_core.specs.declared.tick.Tick.TheVariants.{Idle}
 use Rattle.sock_core.specs.Links.{Given, AgreesGave}
 use Rattle.sock_core.specs.Machines.{MachineState, READERS, IsMachine, table_of, machine_sizes, core_with}
 use Rattle.sock_core.specs.Steps.{ReadyAt, StandsAt, NextIs, HasNoStep, SameBase, MadeFirst}

@@ -20,8 +20,8 @@ use Rattle.run_theorems.specs.Heard.{heard_in, taken_in}
 use Rattle.call_slots.specs.Slots.{calls_with}
 use Rattle.client_seats.specs.Seats.{SeatData, seat_program}
 use Rattle.reader_seats.specs.Readers.{ReaderData}
-use Rattle.sock_core.specs.declared.machine.Tick.{Tick}
-use Rattle.sock_core.specs.declared.machine.Tick.TheVariants.{Moved, Waits, Idle}
+use Rattle.sock_core.specs.declared.tick.Tick.{Tick}
+use Rattle.sock_core.specs.declared.tick.Tick.TheVariants.{Moved, Waits, Idle}
 use Rattle.sock_core.specs.Links.{LinksData, Taken, Given, IsPaced}
 use Rattle.sock_core.specs.Machines.{MachineState, READERS, IsMachine, IsSoundMachine, HasSizes, KeepsClosed, ArePaced, machine_sizes, table_of, between, resting, clients_with, readers_with, state_of, given_by, core_with}
 use Rattle.sock_core.specs.Reading.{IsCutShort}

@@ -15,7 +15,7 @@ use Rattle.seat_programs.specs.Ticks.{Answer, Moment, quiet, seats_of, ticked, r
 use Rattle.seat_programs.specs.Runs.{kind_in, IsAtRest}
 use Rattle.reader_seats.specs.Readers.{ReaderData, reader_program}
 use Rattle.client_seats.specs.Seats.{SeatData, seat_program}
-use Rattle.sock_core.specs.declared.machine.Tick.TheVariants as ticks
+use Rattle.sock_core.specs.declared.tick.Tick.TheVariants as ticks
 use Rattle.sock_core.specs.Links.{LinksData, Taken, Given}
 use Rattle.sock_core.specs.Machines.{MachineState, READERS, core_with, machine_sizes, between, resting, clients_with, readers_with, seats_with}
 use Rattle.sock_core.specs.Runs.{Follows, Ticked, TickedWith, Ran}

@@ -10,8 +10,8 @@ use Rattle.seat_programs.specs.Cores.{Core}
 use Rattle.seat_programs.specs.Ticks.{Moment, seats_of, ticked, run, quiet}
 use Rattle.seat_programs.specs.Runs.{from_to}
 use Rattle.seat_programs.specs.Scripts.{AreStill}
-use Rattle.sock_core.specs.declared.machine.Tick.{Tick}
-use Rattle.sock_core.specs.declared.machine.Tick.TheVariants.{Moved, Waits, Idle}
+use Rattle.sock_core.specs.declared.tick.Tick.{Tick}
+use Rattle.sock_core.specs.declared.tick.Tick.TheVariants.{Moved, Waits, Idle}
 use Rattle.sock_core.specs.Links.{Taken, Given, Agrees, AgreesGave, StayOffered}
 use Rattle.sock_core.specs.Machines.{MachineState, HasSizes, MOST_LEFT, READERS, core_with}
 use Rattle.sock_core.specs.Runs.{SameTable, SameLinks, Follows, Made, TickIs, TickedWith, Ticked, round_by, MadeByTicks, RoundWith, Still, HasMoved, SettlesAfter, PlayedWith, PlayedOn, RanFirst}

@@ -9,7 +9,7 @@ use Rattle.seat_states.specs.Steps.{first_in}
 use Rattle.reader_points.specs.declared.point.ReadStep.{ReadStep}
 use Rattle.reader_points.specs.Steps.{step_as}
 use Rattle.reader_seats.specs.Readers.{ReaderData, reader_program}
-use Rattle.sock_core.specs.declared.machine.Tick.{Tick}
+use Rattle.sock_core.specs.declared.tick.Tick.{Tick}
 use Rattle.seat_states.specs.declared.point.Step.{Step}
 use Rattle.client_seats.specs.Following.{IsPrepared}
 use Rattle.client_seats.specs.Seats.{SeatData}

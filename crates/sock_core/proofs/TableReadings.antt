@@ -26,10 +26,10 @@ use Rattle.reader_points.specs.Points.{Context, point_program}
 use Rattle.reader_points.specs.Steps.{after_taking}
 use Rattle.reader_seats.specs.Readers.{ReaderData, around, reader_program}
 use Rattle.reader_seats.specs.GoesOn.{GoesOn}
-use Rattle.sock_core.specs.declared.machine.On.{On}
-use Rattle.sock_core.specs.declared.machine.On.TheVariants as on
-use Rattle.sock_core.specs.declared.machine.Tick.{Tick}
-use Rattle.sock_core.specs.declared.machine.Tick.TheVariants.{Moved, Waits}
+use Rattle.sock_core.specs.declared.tick.On.{On}
+use Rattle.sock_core.specs.declared.tick.On.TheVariants as on
+use Rattle.sock_core.specs.declared.tick.Tick.{Tick}
+use Rattle.sock_core.specs.declared.tick.Tick.TheVariants.{Moved, Waits}
 use Rattle.sock_core.specs.Machines.{TableState}
 use Rattle.sock_core.specs.Reading.{IsNextRead, SameTables, TakenFrom, AsideRead, MadeRead, ReadTold}
 use Rattle.sock_core.specs.Runs.{IsWaitingFor}

@@ -22,10 +22,10 @@ use Rattle.call_points.specs.Steps as aside_steps
 use Rattle.seat_states.specs.declared.point.Step.{Step}
 use Rattle.seat_states.specs.declared.point.Step.TheVariants as firsts
 use Rattle.client_seats.specs.Seats.{SeatData, around, seat_program, asked_or_nothing}
-use Rattle.sock_core.specs.declared.machine.On.{On}
-use Rattle.sock_core.specs.declared.machine.On.TheVariants as on
-use Rattle.sock_core.specs.declared.machine.Tick.{Tick}
-use Rattle.sock_core.specs.declared.machine.Tick.TheVariants.{Moved, Waits}
+use Rattle.sock_core.specs.declared.tick.On.{On}
+use Rattle.sock_core.specs.declared.tick.On.TheVariants as on
+use Rattle.sock_core.specs.declared.tick.Tick.{Tick}
+use Rattle.sock_core.specs.declared.tick.Tick.TheVariants.{Moved, Waits}
 use Rattle.sock_core.specs.Machines.{TableState, table_sizes}
 use Rattle.sock_core.specs.Runs.{IsWaitingFor}
 use Rattle.sock_core.specs.Steps.{IsNext, Makes, beside}

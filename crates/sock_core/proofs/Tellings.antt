@@ -35,11 +35,11 @@ use Rattle.seat_states.specs.declared.call.Call.{Call}
 use Rattle.seat_states.specs.declared.point.Step.{Step}
 use Rattle.seat_states.specs.declared.point.Step.TheVariants as firsts
 use Rattle.sock_model.specs.declared.chain.Heading.{Heading}
-use Rattle.sock_core.specs.declared.machine.On.{On}
-use Rattle.sock_core.specs.declared.machine.On.TheVariants as on
+use Rattle.sock_core.specs.declared.tick.On.{On}
+use Rattle.sock_core.specs.declared.tick.On.TheVariants as on
 use Rattle.sock_core.specs.Runs.{IsWaitingFor}
 use Rattle.sock_core.specs.Telling.{is_waiting, waits_by, StepTold}
-use Rattle.sock_core.specs.declared.machine.Tick.TheVariants.{Moved, Waits}
+use Rattle.sock_core.specs.declared.tick.Tick.TheVariants.{Moved, Waits}
 use Rattle.client_seats.specs.Seats.{SeatData, around, seat_program, bytes_of, parts_of, left_of, taken_of, left_parts_of, asked_or_nothing}
 use Rattle.sock_core.specs.Machines.{TableState, table_sizes}
 use Rattle.sock_core.specs.Steps.{IsNext, Makes, FoundBeside, beside}

@@ -10,8 +10,8 @@ use Rattle.seat_programs.specs.Ticks.{quiet, ticked}
 use Rattle.seat_programs.specs.Runs.{IsAtRest}
 use Rattle.sock_words.specs.declared.kind.Kind.{Kind}
 use Rattle.sock_words.specs.declared.outcome.Outcome.TheVariants.{Held}
-use Rattle.sock_core.specs.declared.machine.Tick.{Tick}
-use Rattle.sock_core.specs.declared.machine.Tick.TheVariants.{Moved}
+use Rattle.sock_core.specs.declared.tick.Tick.{Tick}
+use Rattle.sock_core.specs.declared.tick.Tick.TheVariants.{Moved}
 use Rattle.client_seats.specs.Seats.{SeatData, seat_program}
 use Rattle.sock_core.specs.Links.{Taken, Given, Agrees, AgreesGave}
 use Rattle.sock_core.specs.Machines.{MachineState, IsSoundMachine, HasSizes, machine_sizes, core_with}

@@ -5,7 +5,7 @@ use Rattle.sock_model.specs.Layout.{request_index}
 use Rattle.seat_programs.specs.Asides as asides
 use Rattle.call_slots.specs.Steps as slots
 use Rattle.seat_states.specs.declared.point.Step.{Step}
-use Rattle.sock_core.specs.declared.machine.Tick.{Tick}
+use Rattle.sock_core.specs.declared.tick.Tick.{Tick}
 use Rattle.sock_core.specs.Machines.{MachineState, TableState}
 use Rattle.sock_core.specs.Steps.{NextIs, PreparedAt}
 use Rattle.sock_core.specs.Telling.{TickTold}

@@ -27,7 +27,7 @@ use Rattle.reader_points.specs.Points.{IsWithin, MayFind}
 use Rattle.reader_points.specs.Steps.{step_as}
 use Rattle.reader_seats.specs.Readers.{ReaderData, reader_program}
 use Rattle.reader_seats.specs.GoesOn.{GoesOn}
-use Rattle.sock_core.specs.declared.machine.Tick.{Tick}
+use Rattle.sock_core.specs.declared.tick.Tick.{Tick}
 use Rattle.sock_core.specs.Links.{AreAlwaysReady, TellClosing, is_done}
 use Rattle.sock_core.specs.Machines.{MachineState, TableState, SameGivens, table_of}
 use Rattle.sock_core.specs.Runs.{SameLink, ShowsTaking}

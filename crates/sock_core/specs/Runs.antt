@@ -19,10 +19,10 @@ use Rattle.sock_io.specs.Link.{more_told}
 use Rattle.run_theorems.specs.owed_calls.specs.Lives.{ClosesInTime}
 use Rattle.run_theorems.specs.Offered.{AreOffered}
 use Rattle.run_theorems.specs.Heard.{as_told, as_taken, take_answers, heard_in, taken_in}
-use Rattle.sock_core.specs.declared.machine.On.{On}
-use Rattle.sock_core.specs.declared.machine.On.TheVariants as on
-use Rattle.sock_core.specs.declared.machine.Tick.{Tick}
-use Rattle.sock_core.specs.declared.machine.Tick.TheVariants.{Moved, Waits, Idle}
+use Rattle.sock_core.specs.declared.tick.On.{On}
+use Rattle.sock_core.specs.declared.tick.On.TheVariants as on
+use Rattle.sock_core.specs.declared.tick.Tick.{Tick}
+use Rattle.sock_core.specs.declared.tick.Tick.TheVariants.{Moved, Waits, Idle}
 use Rattle.sock_core.specs.Links.{Taken, Given, Agrees, AgreesGave, SoFar, AreAlwaysReady, TellClosing, IsOffering, StayOffered}
 use Rattle.sock_core.specs.Machines.{MachineState, SameGivens, READERS, table_of, core_with, ending_by}
 

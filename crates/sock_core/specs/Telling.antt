@@ -11,8 +11,8 @@ use Rattle.seat_programs.specs.Writings as heads
 use Rattle.seat_programs.specs.Programs.{Program, Write, Round}
 use Rattle.seat_programs.specs.Ticks.{Answer, waits_at}
 use Rattle.seat_programs.specs.Runs.{kind_in}
-use Rattle.sock_core.specs.declared.machine.Tick.{Tick}
-use Rattle.sock_core.specs.declared.machine.Tick.TheVariants.{Moved, Waits, Idle}
+use Rattle.sock_core.specs.declared.tick.Tick.{Tick}
+use Rattle.sock_core.specs.declared.tick.Tick.TheVariants.{Moved, Waits, Idle}
 use Rattle.seat_states.specs.declared.point.Step.{Step}
 use Rattle.client_seats.specs.Seats.{SeatData, seat_program}
 use Rattle.sock_core.specs.Machines.{MachineState, TableState, table_of, table_sizes}

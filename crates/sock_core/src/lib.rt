@@ -13,9 +13,11 @@ mod reading;
 mod setup;
 mod table;
 mod tables;
+mod tick;
 mod waiting;
 mod words;
 
 pub use finished::Finished;
-pub use machine::{Machine, NotMade, On, Tick};
+pub use machine::{Machine, NotMade};
 pub use prepared::Prepared;
+pub use tick::{On, Tick};

@@ -10,7 +10,7 @@ ghost use Rattle.sock_core.specs.Linkers.{SaysAsBefore};
 ghost use Rattle.sock_core.specs.Links.{Taken, Given, Agrees, AgreesGave};
 ghost use Rattle.sock_core.specs.Machines.{MOST_LEFT as most_left, HasSizes, core_with, ending_by};
 ghost use Rattle.sock_core.specs.Runs.{SameLinks, SameTable, Ticked, Led, Still, HasMoved, PlayedOn, RanFirst, Settled};
-ghost use Rattle.sock_core.specs.Driving.{LastsAtMost, LeavesFewer, Leaves, WentOn, IsLast, IsOther, IsPlain, FirstRests, TickedFirst, told_ending};
+ghost use Rattle.sock_core.specs.Driving.{LastsAtMost, LeavesFewer, Leaves, WentOn, IsPlain, FirstRests, TickedFirst, told_ending};
 
 use crate::finished::{Finished, gather_places};
 use crate::inputs::Wanted;
@@ -18,6 +18,7 @@ use crate::prepared::Prepared;
 use crate::setup::parts_of;
 use crate::table::Table;
 use crate::tables::{READERS, Tables};
+use crate::tick::Tick;
 use script_items::Script;
 use sock_io::{Ends, In, Linker, NoMemory, Out, Peer};
 use sock_message::BlockPool;
@@ -32,56 +33,6 @@ const MOST_LEFT: u64 = 1 << 49;
 #[derive(Drop)]
 pub struct NotMade<O: Out, I: In, P: Peer> {
     pub ends: Vec<Ends<O, I, P>>,
-}
-
-/// For what a seat waits.
-#[derive(Clone, Copy)]
-pub enum On {
-    /// The next word of this ticket's request, which isn't connected yet.
-    Next(u64),
-    /// This call id, which another seat has locked, or whose end is waited for.
-    Id(u64),
-    /// The writing half of this link.
-    Out(u16),
-    /// The reading half of this link.
-    In(u16),
-    /// The socket of this `open`.
-    Open(u16),
-}
-
-/// What a tick of a seat did.
-#[derive(Clone, Copy)]
-pub enum Tick {
-    /// The seat made a step of this kind.
-    Moved(Kind),
-    /// The seat waits, and nothing was changed.
-    Waits(On),
-    /// The seat has no step left, and nothing was changed.
-    Idle,
-}
-
-impl Tick {
-    /// Whether the seat made a step.
-    fn is_moved(self) -> bool
-        ensures moved { result ≡ true → (kind : _) × (self ≡ Tick.Moved kind) }
-        ensures still { result ≡ false → (kind : _) → self ≡ Tick.Moved kind → ⊥ }
-    {
-        match self {
-            Tick::Moved(_) => true,
-            Tick::Waits(_) | Tick::Idle => false,
-        }
-    }
-
-    /// Whether the seat made a step of this kind, or none.
-    fn is_last(self, kind: Kind) -> bool
-        ensures last { result ≡ true → IsLast self kind }
-        ensures other { result ≡ false → IsOther self kind }
-    {
-        match self {
-            Tick::Moved(found) => found == kind,
-            Tick::Waits(_) | Tick::Idle => true,
-        }
-    }
 }
 
 /// All seats of a script, and the tables on which they step, on one thread.

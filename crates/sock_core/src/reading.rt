@@ -7,7 +7,7 @@ ghost use Rattle.sock_core.specs.Machines.{IsSized};
 ghost use Rattle.sock_core.specs.Steps.{IsOnWord};
 ghost use Rattle.sock_core.specs.Reading.{IsFitRead, ReadTold, IsCutTable};
 
-use crate::machine::{On, Tick};
+use crate::tick::{On, Tick};
 use crate::table::Table;
 use crate::waiting::awaited_by_reader;
 use crate::words::{end_link, pass_link, step_word};

@@ -15,7 +15,7 @@ ghost use Rattle.sock_core.specs.Reading.{IsCutTable};
 use crate::homes::{put_home, put_message, take_home, take_message};
 use crate::letter::Letter;
 use crate::link_calls::{ask_ready, is_of, put_bytes};
-use crate::machine::{On, Tick};
+use crate::tick::{On, Tick};
 use crate::waiting::awaited;
 use crate::words::{end_link, is_taken, pass_link, step_word};
 use call_points::Aside;

@@ -9,7 +9,7 @@ ghost use Rattle.sock_core.specs.Telling.{TickTold};
 ghost use Rattle.sock_core.specs.Reading.{NextReadIs, HasNoRead, ReadFits, TickRead, IsCutShort};
 ghost use Rattle.sock_core.specs.Driving.{BeganEnding, IsPlain, told_ending};
 
-use crate::machine::Tick;
+use crate::tick::Tick;
 use crate::table::{Table, has_room};
 use crate::waiting::{is_rest, stands};
 use client_seats::Seat;

@@ -7,7 +7,7 @@ ghost use Rattle.reader_points.specs.Points as reading;
 ghost use Rattle.sock_core.specs.Runs.{IsWaitingFor, sought_id};
 ghost use Rattle.sock_core.specs.Telling.{waits_by};
 
-use crate::machine::On;
+use crate::tick::On;
 use call_points::WordStep;
 use call_table::has_version;
 use id_points::{Sought, is_awaited};

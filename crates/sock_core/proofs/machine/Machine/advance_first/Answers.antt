@@ -1,5 +1,5 @@
 use Rattle.std.proofs.Common.{◌∙◌, ap, sym, subst}
-use Rattle.sock_core.specs.declared.machine.Tick.TheVariants.{Idle}
+use Rattle.sock_core.specs.declared.tick.Tick.TheVariants.{Idle}
 use Rattle.sock_core.specs.Machines.{MachineState}
 use Rattle.sock_core.specs.Runs.{Ticked}
 use Rattle.sock_core.specs.Driving.{Leaves, IsPlain, TickedFirst}

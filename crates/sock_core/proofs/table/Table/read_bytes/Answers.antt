@@ -10,8 +10,8 @@ use Rattle.seat_programs.specs.Beside.{at_last}
 use Rattle.seat_programs.specs.Ticks.{OfTake, is_nothing}
 use Rattle.reader_seats.specs.Readers.{around, reader_program}
 use Rattle.reader_seats.specs.GoesOn.{GoesOn, taking_of}
-use Rattle.sock_core.specs.declared.machine.On.TheVariants as on
-use Rattle.sock_core.specs.declared.machine.Tick.TheVariants.{Waits}
+use Rattle.sock_core.specs.declared.tick.On.TheVariants as on
+use Rattle.sock_core.specs.declared.tick.Tick.TheVariants.{Waits}
 use Rattle.sock_core.proofs.Stepping.{written}
 use Rattle.sock_core.proofs.TableCuts.{cut_halves, cut_take, cut_along, on_err}
 use Rattle.sock_core.proofs.TableReads.{reads_bytes, fills, takes_again}
