@@ -14,7 +14,8 @@ use Rattle.sock_core.specs.declared.tick.Tick.TheVariants.{Idle}
 use Rattle.sock_core.specs.Links.{Taken, Given}
 use Rattle.sock_core.specs.Machines.{MachineState, HasSizes, core_with}
 use Rattle.sock_core.specs.Runs.{SameLink, SameLinks, Ticked, Led}
-use Rattle.sock_core.proofs.Joining.{same_table_none, same_links_none, follows_none, follows_join, made_join}
+use Rattle.sock_core.proofs.Joining.{follows_none, follows_join, made_join}
+use Rattle.sock_core.proofs.Same.{same_table_none, same_links_none}
 use Rattle.sock_core.specs.Driving.{FirstRests}
 use Rattle.sock_core.proofs.Resting.{Rests, idle_ran, beyond_rests}
 use Rattle.script_links.specs.Given.{AreUntouched, AreNumbered}

@@ -37,7 +37,8 @@ use Rattle.sock_core.specs.Machines.{MachineState, table_of}
 use Rattle.sock_core.specs.Steps.{OutsAfter, MadeFirst, LinkAsked}
 use Rattle.sock_core.specs.Runs.{SameLink, SameLinks, ShowFaults, LinksTell}
 use Rattle.sock_core.proofs.FirstSteps.{same_some}
-use Rattle.sock_core.proofs.Joining.{same_link_none, show_faults_none, more_none, tells_none}
+use Rattle.sock_core.proofs.Joining.{show_faults_none, more_none, tells_none}
+use Rattle.sock_core.proofs.Same.{same_link_none}
 
 -- a link that is asked isn't finished
 abbrev pub AsksUnfinished : LinksData → First → Type 0

@@ -16,10 +16,9 @@ use Rattle.sock_core.specs.Passing.{HasPassed}
 use Rattle.sock_core.specs.Telling.{TickTold}
 use Rattle.sock_core.specs.Driving.{Leaves, WentOn, FirstRests}
 use Rattle.sock_core.proofs.Advancing.{told_links, told_table, told_ticks, told_keeps, told_leaves, told_enough, read_links_stay, read_table, read_ticks, read_keeps, read_leaves, read_enough}
-use Rattle.sock_core.proofs.Endings.{both_join}
 use Rattle.sock_core.proofs.Fitting.{step_fits, read_fits}
 use Rattle.sock_core.proofs.Lengths.{is_sized, few_seats, some_seat}
-use Rattle.sock_core.proofs.Joining.{same_table_none, same_links_none}
+use Rattle.sock_core.proofs.Same.{same_table_none, same_links_none, both_join}
 use Rattle.sock_core.proofs.PlainSteps.{no_step_rests, no_read_rests, idle_leaves}
 use Rattle.sock_core.proofs.Preparing.{prepared_ticks, prepared_same, prepared_keeps, prepared_enough, prepared_leaves, prepared_idle, prepared_rests, prepared_stands, prepared_inside, cut_keeps, cut_sizes, cut_same}
 use Rattle.sock_core.proofs.Resting.{first_rests, rest_ticks}

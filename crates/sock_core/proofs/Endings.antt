@@ -37,11 +37,10 @@ use Rattle.sock_core.specs.declared.tick.Tick.TheVariants as ticks
 use Rattle.sock_core.specs.Links.{Taken, Given, Agrees, AgreesGave, IsPaced, homes_of, hand_of}
 use Rattle.sock_core.specs.Machines.{MachineState, IsMachine, IsSoundMachine, HasSizes, KeepsClosed, ArePaced, MOST_LEFT, READERS, machine_sizes, core_with, ending_by, table_of}
 use Rattle.sock_core.specs.Steps.{Goes}
-use Rattle.sock_core.specs.Runs.{SameTable, SameLinks, Ticked, Led}
+use Rattle.sock_core.specs.Runs.{Ticked, Led}
 use Rattle.sock_core.specs.Driving.{LastsAtMost, Leaves, IsLast, IsOther, AsksNone, IsPlain, FirstRests, BeganEnding, told_ending}
 use Rattle.sock_core.proofs.Changes.{none_changes}
 use Rattle.sock_core.proofs.Hands.{HasNone, hand_none}
-use Rattle.sock_core.proofs.Joining.{same_table_join, same_links_join}
 use Rattle.sock_core.proofs.Lengths.{many_same, sizes_but, sizes_stay}
 use Rattle.sock_core.proofs.Leading.{Passed, led_none, led_more, led_here, led_waits, led_idle}
 use Rattle.sock_core.proofs.Paces.{calm_paced, ending_calm}
@@ -235,9 +234,6 @@ pub on_ok : {T E P Q : Type 0} (r : Result T E) → (P → Q) → OnOk r P → O
 on_ok (Ok x) f h = f h
 on_ok (Err e) f h = tt
 
-pub both_join : (a b c : MachineState) → SameTable a b × SameLinks a b → SameTable b c × SameLinks b c → SameTable a c × SameLinks a c
-both_join a b c h o = (same_table_join a b c h.0 o.0, same_links_join a b c h.1 o.1)
-
 -- ## Seat 0 doesn't wait
 
 waits_none : (p : Plan) (c : Core) (answer : Answer) (program : Program) → AsksNone program → waits_at p c answer program ≡ false
@@ -285,6 +281,3 @@ module _ (a b c : MachineState) (seat : ℕ) (kind : Kind) (count : ℕ) (so_far
   passed_last (ticks.Moved found) last t = led_here a b c seat kind so_far.passed (subst (λ (k : Kind). Ticked b c seat (ticks.Moved k)) last t)
   passed_last (ticks.Waits what) last t = led_waits a b c seat kind what so_far.passed t
   passed_last ticks.Idle last t = led_idle a b c seat kind so_far.passed t
-
-pub began_along : {m n fresh : MachineState} → m ≡ n → BeganEnding m fresh → BeganEnding n fresh
-began_along {m} {n} {fresh} e w = subst (λ (x : MachineState). BeganEnding x fresh) e w

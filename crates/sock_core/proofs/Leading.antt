@@ -20,7 +20,8 @@ use Rattle.sock_core.specs.declared.tick.Tick.TheVariants as ticks
 use Rattle.sock_core.specs.Links.{Taken, Given}
 use Rattle.sock_core.specs.Machines.{MachineState, core_with}
 use Rattle.sock_core.specs.Runs.{SameTable, SameLinks, Follows, Made, Ticked, TickedWith, MadeByTicks, LedWith, Led}
-use Rattle.sock_core.proofs.Joining.{same_table_none, same_table_join, same_links_none, same_links_join, follows_none, follows_join}
+use Rattle.sock_core.proofs.Joining.{follows_none, follows_join}
+use Rattle.sock_core.proofs.Same.{same_table_none, same_table_join, same_links_none, same_links_join}
 use Rattle.sock_core.proofs.Resting.{follows_idle}
 
 -- ## Ticks of other kinds

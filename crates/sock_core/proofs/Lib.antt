@@ -20,6 +20,7 @@ pub mod Paces
 pub mod Keeping
 pub mod CallWords
 pub mod ReadLengths
+pub mod Same
 pub mod Joining
 pub mod Resting
 pub mod Leading

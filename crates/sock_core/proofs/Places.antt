@@ -16,7 +16,7 @@ use Rattle.reader_seats.specs.Readers.{ReaderData}
 use Rattle.sock_core.specs.Machines.{MachineState, TableState, table_sizes}
 use Rattle.sock_core.specs.Steps.{NextIs, HasNoStep, IsFitStep, ReadyAt, StepFits}
 use Rattle.sock_core.specs.Telling.{StepTold, TickTold}
-use Rattle.sock_core.specs.Driving.{AsksNone, IsPlain}
+use Rattle.sock_core.specs.Driving.{AsksNone, IsPlain, BeganEnding}
 
 length_map : {A B : Type 0} (f : A → B) (xs : List A) → length (map f xs) ≡ length xs
 length_map f [] = refl
@@ -85,3 +85,6 @@ next_in {m} {n} {i} {step} e h = subst (λ (x : MachineState). NextIs x i step) 
 
 pub told_along : {m n fresh : MachineState} {i : ℕ} {step : Step} {tick : Tick} → m ≡ n → TickTold m fresh i step tick → TickTold n fresh i step tick
 told_along {m} {n} {fresh} {i} {step} {tick} e h = subst (λ (x : MachineState). TickTold x fresh i step tick) e h
+
+pub began_along : {m n fresh : MachineState} → m ≡ n → BeganEnding m fresh → BeganEnding n fresh
+began_along {m} {n} {fresh} e w = subst (λ (x : MachineState). BeganEnding x fresh) e w

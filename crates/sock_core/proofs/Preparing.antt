@@ -28,7 +28,7 @@ use Rattle.sock_core.specs.Reading.{IsCutShort}
 use Rattle.sock_core.specs.Runs.{SameTable, SameLinks, LinksShow, TickIs, Follows, Ticked}
 use Rattle.sock_core.specs.Steps.{PreparedAt, IsReady, MayStand, ReadyAt, StandsAt}
 use Rattle.sock_core.specs.Driving.{LastsAtMost, Leaves, FirstRests}
-use Rattle.sock_core.proofs.Joining.{same_table_none, same_links_none}
+use Rattle.sock_core.proofs.Same.{same_table_none, same_links_none}
 use Rattle.sock_core.proofs.Keeping.{remade}
 use Rattle.sock_core.proofs.Lengths.{sizes_kept, sizes_stay}
 use Rattle.sock_core.proofs.Resting.{first_rests}

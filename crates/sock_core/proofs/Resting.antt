@@ -19,7 +19,8 @@ use Rattle.sock_core.specs.declared.tick.Tick.TheVariants as ticks
 use Rattle.sock_core.specs.Links.{LinksData, Taken, Given}
 use Rattle.sock_core.specs.Machines.{MachineState, READERS, core_with, machine_sizes, between, resting, clients_with, readers_with, seats_with}
 use Rattle.sock_core.specs.Runs.{Follows, Ticked, TickedWith, Ran}
-use Rattle.sock_core.proofs.Joining.{same_table_none, same_links_none, rests, rest_answered, rest_heard, rest_taken, rests_on, rests_heard, rests_taken, rests_answered, seats_quiet, quiet_prompt, quiet_closes, quiet_offers, quiet_broken, shows_none, shows_idle}
+use Rattle.sock_core.proofs.Joining.{rests, rest_answered, rest_heard, rest_taken, rests_on, rests_heard, rests_taken, rests_answered, seats_quiet, quiet_prompt, quiet_closes, quiet_offers, quiet_broken, shows_none, shows_idle}
+use Rattle.sock_core.proofs.Same.{same_table_none, same_links_none}
 
 -- the seat has no step left, whatever its links took and gave
 abbrev pub Rests : MachineState → ℕ → Type 0

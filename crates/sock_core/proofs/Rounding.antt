@@ -16,7 +16,8 @@ use Rattle.sock_core.specs.Links.{Taken, Given, Agrees, AgreesGave, StayOffered}
 use Rattle.sock_core.specs.Machines.{MachineState, HasSizes, MOST_LEFT, READERS, core_with}
 use Rattle.sock_core.specs.Runs.{SameTable, SameLinks, Follows, Made, TickIs, TickedWith, Ticked, round_by, MadeByTicks, RoundWith, Still, HasMoved, SettlesAfter, PlayedWith, PlayedOn, RanFirst}
 use Rattle.sock_core.specs.Driving.{LastsAtMost, LeavesFewer, LeavesAsMany, Leaves, IsPlain, FirstRests, TickedFirst}
-use Rattle.sock_core.proofs.Joining.{same_table_none, same_table_join, same_links_none, same_links_join, seats_append, run_append, follows_none, follows_join, made_join}
+use Rattle.sock_core.proofs.Joining.{seats_append, run_append, follows_none, follows_join, made_join}
+use Rattle.sock_core.proofs.Same.{same_table_none, same_table_join, same_links_none, same_links_join}
 use Rattle.sock_core.proofs.Resting.{Rests}
 
 -- ## Ticks in which nothing moved

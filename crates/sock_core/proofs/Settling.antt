@@ -12,7 +12,8 @@ use Rattle.sock_core.specs.Machines.{MachineState, core_with, ending_by}
 use Rattle.sock_core.specs.Runs.{SameLinks, LinksShow, SettlesBy, PlayedWith, PlayedOn, RanFirst, SettledWith, Settled}
 use Rattle.sock_core.specs.Driving.{told_ending}
 use Rattle.sock_core.proofs.Answering.{links_kept}
-use Rattle.sock_core.proofs.Joining.{same_links_join, shows_join, shows_on, prompt_append}
+use Rattle.sock_core.proofs.Joining.{shows_join, shows_on, prompt_append}
+use Rattle.sock_core.proofs.Same.{same_links_join}
 
 -- links that are told of the ending are the same
 told_same : (m : MachineState) → SameLinks m (told_ending m)

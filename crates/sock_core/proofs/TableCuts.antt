@@ -15,7 +15,7 @@ use Rattle.sock_core.specs.Machines.{MachineState, TableState, table_of}
 use Rattle.sock_core.specs.Reading.{IsCutTable, IsCutShort, TakenFrom}
 use Rattle.sock_core.specs.Runs.{SameLink}
 use Rattle.sock_core.specs.Steps.{AsMany, OutsAfter, holders_after}
-use Rattle.sock_core.proofs.Joining.{same_link_none}
+use Rattle.sock_core.proofs.Same.{same_link_none}
 use Rattle.sock_core.proofs.Lengths.{length_holders, length_outs, many_same}
 
 -- a link that is the same

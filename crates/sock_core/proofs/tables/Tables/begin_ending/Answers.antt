@@ -6,8 +6,7 @@ use Rattle.seat_programs.specs.Cores.{next_step}
 use Rattle.seat_programs.specs.Scripts.{sizes_of}
 use Rattle.client_seats.specs.Seats.{SeatData, seat_data, retries}
 use Rattle.sock_core.specs.Machines.{MachineState}
-use Rattle.sock_core.proofs.Places.{view_of, seat_there}
-use Rattle.sock_core.proofs.Endings.{began_along}
+use Rattle.sock_core.proofs.Places.{view_of, seat_there, began_along}
 use Rattle.sock_core.proofs.tables.Tables.begin_ending.Goals as goal
 
 pub returns : goal.returns
