@@ -17,7 +17,7 @@ use Rattle.reader_seats.specs.Readers.{ReaderData, reader_program}
 use Rattle.client_seats.specs.Following.{FollowsOn}
 use Rattle.client_seats.specs.Seats.{SeatData, seat_program, client_of}
 use Rattle.sock_core.specs.declared.letter.Letter.{Letter}
-use Rattle.sock_core.specs.Beginnings.{AreBegun, AreReading, said_first}
+use Rattle.sock_core.specs.Parts.{AreBegun, AreReading, said_first}
 use Rattle.sock_core.specs.Letters.{letters_in}
 use Rattle.sock_core.proofs.Lengths.{length_said}
 use Rattle.sock_core.proofs.Stepping.{written}

@@ -33,7 +33,8 @@ use Rattle.sock_core.specs.Links.{LinksData, Agrees, AgreesGave, AreAlwaysReady,
 use Rattle.sock_core.specs.Machines.{MachineState, core_with}
 use Rattle.sock_core.specs.Runs.{RanFirst}
 use Rattle.sock_core.specs.declared.letter.Letter.{Letter}
-use Rattle.sock_core.specs.Beginnings.{AreBegun, AreParts, IsMade}
+use Rattle.sock_core.specs.Parts.{AreBegun, AreParts}
+use Rattle.sock_core.specs.Beginnings.{IsMade}
 use Rattle.sock_core.specs.Driving.{AsksNone, IsPlain, FirstRests}
 use Rattle.sock_core.proofs.Starting.{AreNew}
 

@@ -34,7 +34,7 @@ use Rattle.call_slots.specs.Slots.{calls_with}
 use Rattle.reader_seats.specs.Readers.{ReaderData, reader_program}
 use Rattle.sock_core.specs.declared.letter.Letter.{Letter}
 use Rattle.client_seats.specs.Seats.{SeatData, seat_program}
-use Rattle.sock_core.specs.Beginnings.{AreBegun, AreReading, said_first}
+use Rattle.sock_core.specs.Parts.{AreBegun, AreReading, said_first}
 use Rattle.sock_core.specs.Links.{LinksData, Taken, Agrees, AgreesGave, ClosedAreDone, IsPaced, holder_of, link_home, homes_of, letter_home}
 use Rattle.sock_core.specs.Machines.{MachineState, IsMachine, IsSoundMachine, ArePaced, AreCalled, READERS, between, resting, clients_with, readers_with, seats_with, waiting_of, given_by, machine_sizes, core_with}
 use Rattle.sock_core.proofs.Hands.{HasNone, hand_none}

@@ -7,5 +7,6 @@ pub mod Steps
 pub mod Telling
 pub mod Reading
 pub mod Driving
+pub mod Parts
 pub mod Beginnings
 pub mod Passing

@@ -128,7 +128,7 @@ impl<O: Out, I: In, P: Peer> Table<O, I, P> {
     }
 
     /// The next step of a reader; what its tick answers.
-    pub fn read<L: Linker<O = O, I = I, P = P>>(
+    pub(crate) fn read<L: Linker<O = O, I = I, P = P>>(
         &mut self,
         links: &mut L,
         reader: &mut ReaderSeat,

@@ -2,7 +2,7 @@ ghost use Rattle.std.specs.Prelude.{◌≡◌, ◌*◌, ◌≤◌, ℕ, List, []
 ghost use Rattle.seat_programs.specs.Scripts.{free_slot, free_slots, opening_words, programs};
 ghost use Rattle.client_seats.specs.Seats.{seat_data};
 ghost use Rattle.sock_core.specs.Letters.{letters_in};
-ghost use Rattle.sock_core.specs.Beginnings.{AreBegun, AreReading, AreParts, said_first};
+ghost use Rattle.sock_core.specs.Parts.{AreBegun, AreReading, AreParts, said_first};
 
 use crate::letter::Letter;
 use call_slots::{CallSlots, push_zeros};

@@ -89,7 +89,7 @@ impl<O: Out, I: In, P: Peer> Model for Table<O, I, P> {
 
 impl<O: Out, I: In, P: Peer> Table<O, I, P> {
     /// How many slots, requests and id slots there are.
-    pub fn sizes(&self) -> Sizes
+    pub(crate) fn sizes(&self) -> Sizes
         ensures { result ≡ table_sizes self.now }
     {
         Sizes {
@@ -101,7 +101,7 @@ impl<O: Out, I: In, P: Peer> Table<O, I, P> {
 
     /// Whether a request is taken, and there is one behind it.
     #[inline(always)]
-    pub fn passes_request(&self, request: u16) -> bool
+    pub(crate) fn passes_request(&self, request: u16) -> bool
         ensures passes { result ≡ true → PassesRequest self.now request }
         ensures fits { result ≡ true → request < 65535 }
     {
@@ -112,7 +112,7 @@ impl<O: Out, I: In, P: Peer> Table<O, I, P> {
 
     /// The same of an id slot.
     #[inline(always)]
-    pub fn passes_slot(&self, slot: u16) -> bool
+    pub(crate) fn passes_slot(&self, slot: u16) -> bool
         ensures passes { result ≡ true → PassesSlot self.now slot }
         ensures fits { result ≡ true → slot < 65535 }
     {
@@ -121,7 +121,7 @@ impl<O: Out, I: In, P: Peer> Table<O, I, P> {
 
     /// A step on a word, or a move that tells nothing; for what its seat waits, if it does. Only a seat that comes to hold a life or to keep a retry
     /// wants room for it.
-    pub fn make_call(&mut self, place: &mut Seat, seat: u16, call: Call) -> Option<On>
+    pub(crate) fn make_call(&mut self, place: &mut Seat, seat: u16, call: Call) -> Option<On>
         requires may { IsFitStep self.old (seat_data place.old) (Step.Call call) }
         requires sized { IsSized self.old }
         requires room { HasRoom place.old ⊎ AsksNone (seat_program (table_sizes self.old) (seat_data place.old)) }
@@ -140,7 +140,7 @@ impl<O: Out, I: In, P: Peer> Table<O, I, P> {
     }
 
     /// A step on the ids that finds a word; for what its seat waits, if it does.
-    pub fn make_aside(&mut self, place: &mut Seat, step: Aside) -> Option<On>
+    pub(crate) fn make_aside(&mut self, place: &mut Seat, step: Aside) -> Option<On>
         requires kind { IsOnWord step }
         requires may { IsFitStep self.old (seat_data place.old) (Step.Aside step) }
         requires room { HasRoom place.old }
@@ -157,7 +157,7 @@ impl<O: Out, I: In, P: Peer> Table<O, I, P> {
     }
 
     /// The call in the seat's hand goes into its home, as an equal one.
-    pub fn put_call(&mut self, place: &mut Seat, slot: u16) -> Result<(), NoMemory>
+    pub(crate) fn put_call(&mut self, place: &mut Seat, slot: u16) -> Result<(), NoMemory>
         requires may { IsFitStep self.old (seat_data place.old) (Step.Aside (Aside.PutCall slot)) }
         requires room { HasRoom place.old }
         ensures ok { OnOk result ((seat : ℕ) → Makes self.old self.new seat (seat_data place.old) (seat_data place.new) (Step.Aside (Aside.PutCall slot)) Unasked) }
@@ -178,7 +178,7 @@ impl<O: Out, I: In, P: Peer> Table<O, I, P> {
     }
 
     /// A call is taken out of its home.
-    pub fn take_call(&mut self, place: &mut Seat, slot: u16) -> Result<(), NoMemory>
+    pub(crate) fn take_call(&mut self, place: &mut Seat, slot: u16) -> Result<(), NoMemory>
         requires may { IsFitStep self.old (seat_data place.old) (Step.Aside (Aside.TakeCall slot)) }
         requires room { HasRoom place.old }
         ensures ok { OnOk result ((seat : ℕ) → Makes self.old self.new seat (seat_data place.old) (seat_data place.new) (Step.Aside (Aside.TakeCall slot)) Unasked) }
@@ -199,7 +199,7 @@ impl<O: Out, I: In, P: Peer> Table<O, I, P> {
     }
 
     /// The message that the seat has goes to its home.
-    pub fn put_message(
+    pub(crate) fn put_message(
         &mut self,
         place: &mut Seat,
         request: u16,
@@ -224,7 +224,7 @@ impl<O: Out, I: In, P: Peer> Table<O, I, P> {
     }
 
     /// A message is taken out of its home.
-    pub fn take_message(&mut self, place: &mut Seat, request: u16)
+    pub(crate) fn take_message(&mut self, place: &mut Seat, request: u16)
         requires next { IsNext self.old (seat_data place.old) (Step.TakeMessage request) }
         requires fits { Fits self.old (seat_data place.old) (Step.TakeMessage request) }
         requires room { HasRoom place.old }
@@ -236,7 +236,7 @@ impl<O: Out, I: In, P: Peer> Table<O, I, P> {
     }
 
     /// A link is taken out of its home.
-    pub fn take_home(&mut self, place: &mut Seat, seat: u16, link: u16)
+    pub(crate) fn take_home(&mut self, place: &mut Seat, seat: u16, link: u16)
         requires next { IsNext self.old (seat_data place.old) (Step.TakeHome link) }
         requires fits { Fits self.old (seat_data place.old) (Step.TakeHome link) }
         requires sized { IsSized self.old }
@@ -249,7 +249,7 @@ impl<O: Out, I: In, P: Peer> Table<O, I, P> {
     }
 
     /// A link goes home.
-    pub fn put_home(&mut self, place: &mut Seat, link: u16, places: u32)
+    pub(crate) fn put_home(&mut self, place: &mut Seat, link: u16, places: u32)
         requires next { IsNext self.old (seat_data place.old) (Step.PutHome link places) }
         requires fits { Fits self.old (seat_data place.old) (Step.PutHome link places) }
         requires sized { IsSized self.old }
@@ -262,7 +262,7 @@ impl<O: Out, I: In, P: Peer> Table<O, I, P> {
     }
 
     /// What is next of the message in hand is put into a link; what the link answered.
-    pub fn put_bytes(
+    pub(crate) fn put_bytes(
         &mut self,
         place: &mut Seat,
         link: u16,
@@ -289,7 +289,7 @@ impl<O: Out, I: In, P: Peer> Table<O, I, P> {
     }
 
     /// A link is asked whether it takes more; what it answered.
-    pub fn ask_ready(&mut self, place: &mut Seat, link: u16) -> Ready
+    pub(crate) fn ask_ready(&mut self, place: &mut Seat, link: u16) -> Ready
         requires next { IsNext self.old (seat_data place.old) (Step.AskReady link) }
         requires fits { Fits self.old (seat_data place.old) (Step.AskReady link) }
         requires sized { IsSized self.old }
@@ -327,7 +327,7 @@ impl<O: Out, I: In, P: Peer> Table<O, I, P> {
     }
 
     /// The next step of a seat; what its tick answers.
-    pub fn step(&mut self, place: &mut Seat, seat: u16, step: &Step) -> Result<Tick, NoMemory>
+    pub(crate) fn step(&mut self, place: &mut Seat, seat: u16, step: &Step) -> Result<Tick, NoMemory>
         requires may { IsFitStep self.old (seat_data place.old) step.now }
         requires sized { IsSized self.old }
         requires room { HasRoom place.old ⊎ AsksNone (seat_program (table_sizes self.old) (seat_data place.old)) }

@@ -1,6 +1,6 @@
 use Rattle.std.proofs.Common.{None, length, map, replicate, ap, ◌∙◌, arith}
 use Rattle.seat_programs.specs.Scripts.{programs, sizes_of}
-use Rattle.sock_core.specs.Beginnings.{said_first}
+use Rattle.sock_core.specs.Parts.{said_first}
 use Rattle.sock_core.specs.Letters.{letters_in}
 use Rattle.sock_core.proofs.Begun.{told_length, written_over, none_in}
 use Rattle.sock_core.proofs.setup.parts_of.Goals as goal

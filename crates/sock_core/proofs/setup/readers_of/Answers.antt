@@ -3,7 +3,7 @@ use Rattle.std.proofs.lemmas.List.{length-map, length-append, length_push}
 use Rattle.std.specs.VecDeque.Iter.{deque_iter_rest}
 use Rattle.reader_seats.specs.Readers.{reader_program}
 use Rattle.seat_programs.specs.Readers.{reader}
-use Rattle.sock_core.specs.Beginnings.{AreReading}
+use Rattle.sock_core.specs.Parts.{AreReading}
 use Rattle.sock_core.proofs.Begun.{map_last, reading_more, item_last, none_left}
 use Rattle.sock_core.proofs.setup.readers_of.Goals as goal
 

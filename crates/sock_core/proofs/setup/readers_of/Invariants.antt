@@ -1,6 +1,6 @@
 use Rattle.std.proofs.Common.{◌≡◌, ◌++◌, ℕ, List, length, map}
 use Rattle.std.specs.VecDeque.Iter.{deque_iter_rest}
-use Rattle.sock_core.specs.Beginnings.{AreReading}
+use Rattle.sock_core.specs.Parts.{AreReading}
 use Rattle.sock_core.proofs.setup.readers_of.Given as goal
 
 -- the readers of the links so far

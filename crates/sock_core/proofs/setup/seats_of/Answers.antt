@@ -4,7 +4,7 @@ use Rattle.seat_programs.specs.Clients.{client_from}
 use Rattle.seat_programs.specs.Cores.{said, resolved}
 use Rattle.seat_programs.specs.Scripts.{programs}
 use Rattle.client_seats.specs.Seats.{seat_data}
-use Rattle.sock_core.specs.Beginnings.{AreBegun, said_first}
+use Rattle.sock_core.specs.Parts.{AreBegun, said_first}
 use Rattle.sock_core.proofs.Begun.{begun_more, goes_first, told_more, map_last}
 use Rattle.sock_core.proofs.setup.seats_of.Goals as goal
 
