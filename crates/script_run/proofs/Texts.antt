@@ -37,9 +37,9 @@ use Rattle.report_fits.proofs.Lists.{within, has_from, all_at}
 use Rattle.report_fits.proofs.Places.{script_places}
 use Rattle.report_fits.proofs.Sizes.{keeps_limits}
 use Rattle.report_fits.proofs.Tasks.{tasks_of_script}
-use Rattle.sock_core.specs.Links.{AreAlwaysReady, TellClosing, IsOffering}
-use Rattle.sock_core.specs.Machines.{MachineState, core_with}
-use Rattle.sock_core.specs.Runs.{SameLink, SameLinks, ShowsTaking}
+use Rattle.sock_core.specs.machine_model.specs.Links.{AreAlwaysReady, TellClosing, IsOffering}
+use Rattle.sock_core.specs.machine_model.specs.Machines.{MachineState, core_with}
+use Rattle.sock_core.specs.machine_model.specs.Runs.{SameLink, SameLinks, ShowsTaking}
 use Rattle.script_run.specs.Causes.{HasCauses, EndedEarly, gave_in}
 use Rattle.script_links.specs.Given.{IsUntouched, AreUntouched, spec_of, specs_of}
 use Rattle.script_links.specs.Offered.{AreAsked}

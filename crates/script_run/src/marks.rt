@@ -3,8 +3,8 @@ ghost use Rattle.brpc_model.specs.Items.{Open, Call};
 ghost use Rattle.script_items.specs.Meaning.{item};
 ghost use Rattle.script_run.specs.Outlines.{outlined, meant, bare_shape, bare_call};
 
-use crate::mark::Mark;
 use script_items::{Bytes, CallLine, Line, Name, Names, OpenLine, SendLine, Shape, Target};
+use sock_core::Mark;
 use std::alloc::{AllocError, Global};
 
 /// What is wanted of a line.

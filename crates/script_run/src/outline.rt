@@ -4,10 +4,9 @@ ghost use Rattle.script_items.specs.Meaning.{item};
 ghost use Rattle.seat_programs.specs.Tasks.{plan_of};
 ghost use Rattle.script_run.specs.Outlines.{outlined, meant};
 
-use crate::mark::Mark;
-use crate::marks::{lines_of, marks_of};
 use ghosts::Ghosts;
 use script_items::{Line, Script};
+use sock_core::{Mark, lines_of, marks_of};
 use sock_words::Plan;
 use std::alloc::{AllocError, Global};
 use std::marker::Model;

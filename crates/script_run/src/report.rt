@@ -6,9 +6,9 @@ ghost use Rattle.sock_io.specs.Link.{end_of};
 ghost use Rattle.report_fits.specs.Ends.{AreTold};
 ghost use Rattle.script_run.specs.Played.{IsPrintOf};
 
-use crate::outline::Outline;
 use script_items::Line;
 use script_report::{Load, print_report, print_summary};
+use sock_core::Outline;
 use sock_io::{Ends, In, Out, Peer};
 use sock_words::{Outcome, PlaceWord};
 use std::alloc::{AllocError, Global};

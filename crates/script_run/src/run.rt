@@ -11,12 +11,9 @@ ghost use Rattle.script_links.specs.Offered.{AreAsked, TellOffers};
 ghost use Rattle.script_run.specs.Played.{IsPrintOf, IsPrinted, TellClosed, turns_of};
 ghost use Rattle.report_fits.specs.Ends.{AreTold};
 
-use crate::outline::Outline;
-use crate::report::{Print, report};
-use crate::schedule::{Schedule, play};
 use script_items::Script;
 use script_links::{give_back, open_links};
-use sock_core::{Finished, Machine, NotMade, Prepared};
+use sock_core::{Finished, Machine, NotMade, Outline, Prepared, Print, Schedule, play, report};
 use sock_io::{Ends, In, Linker, Mode, NoMemory, OpenFault, Out, Peer};
 use sock_words::{Outcome, PlaceWord};
 use std::alloc::Global;
