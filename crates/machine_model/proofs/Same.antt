@@ -1,5 +1,5 @@
 -- The table of a machine and its links stay as they were.
-use Rattle.std.proofs.Common.{◌≡◌, ℕ, inl, inr, Bool, List, length, get_or, refl, sym, ap, ◌∙◌, subst, ⊎_elim, arith}
+use Rattle.std.proofs.Common.{◌≡◌, ℕ, inl, inr, Bool, true, List, length, get_or, refl, sym, ap, ◌∙◌, subst, ⊎_elim, arith}
 use Rattle.std.proofs.lemmas.Option.{same_Some, slice_get_within, slice_get-get_or}
 use Rattle.std.specs.Prelude.{Option, slice_get, Some, None, option_map}
 use Rattle.brpc_model.specs.Link.{LinkEnd}
