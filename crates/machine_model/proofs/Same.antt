@@ -34,7 +34,7 @@ same_link_join x y z h o = record {
 }
 
 -- a link stood there before
-stood_before : (old new : List LinkEnd) (k : ℕ) (e : LinkEnd) → length new ≡ length old → slice_get new k ≡ Some e → (x : LinkEnd) × (slice_get old k ≡ Some x)
+pub stood_before : (old new : List LinkEnd) (k : ℕ) (e : LinkEnd) → length new ≡ length old → slice_get new k ≡ Some e → (x : LinkEnd) × (slice_get old k ≡ Some x)
 stood_before old new k e many at = let inside = slice_get_within new k e at in (get_or old k e, slice_get-get_or old k e (omega (arith, many, inside)))
 
 pub same_links_none : (m : MachineState) → SameLinks m m

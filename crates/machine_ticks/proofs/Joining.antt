@@ -31,7 +31,7 @@ use Rattle.machine_rules.specs.machine_model.specs.client_seats.specs.Seats.{Sea
 use Rattle.machine_rules.specs.machine_model.specs.reader_seats.specs.Readers.{ReaderData, reader_program}
 use Rattle.machine_rules.specs.machine_model.specs.Machines.{MachineState, READERS, machine_sizes, between, resting, clients_with, readers_with, seats_with, core_with}
 use Rattle.machine_rules.specs.machine_model.specs.Runs.{SameLink, SameTable, SameLinks, ShowFaults, LinksTell, TakesTell, ShowsTaking, ShowTakings, LinksShow, Follows, Made, Ticked, Ran, RanWith}
-use Rattle.machine_rules.specs.machine_model.proofs.Same.{same_table_none, same_table_join, same_links_none, same_links_join}
+use Rattle.machine_rules.specs.machine_model.proofs.Same.{stood_before, same_table_none, same_table_join, same_links_none, same_links_join}
 
 -- ## Links that failed
 
