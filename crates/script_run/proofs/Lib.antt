@@ -4,7 +4,6 @@ pub mod Lines
 pub mod Telling
 pub mod Homes
 pub mod Running
-pub mod Saying
 pub mod Callless
 pub mod Idle
 pub mod Told

@@ -19,15 +19,15 @@ use Rattle.seat_programs.specs.Ticks.{Moment, seats_of, run}
 use Rattle.seat_programs.specs.Runs.{IsAtRest, LeadsUpTo, Turns, Scheduled}
 use Rattle.seat_programs.specs.Scripts.{drawn_turns}
 use Rattle.seat_programs.specs.Tasks.{plan_of}
-use Rattle.sock_core.specs.Links.{Taken, Given}
-use Rattle.sock_core.specs.Machines.{MachineState, core_with}
-use Rattle.sock_core.specs.Runs.{Ran}
+use Rattle.sock_core.specs.machine_model.specs.Links.{Taken, Given}
+use Rattle.sock_core.specs.machine_model.specs.Machines.{MachineState, core_with}
+use Rattle.sock_core.specs.machine_model.specs.Runs.{Ran}
 use Rattle.script_run.specs.declared.mark.Mark.{Mark}
 use Rattle.script_run.specs.declared.mark.Mark.TheVariants as marks
 use Rattle.script_run.specs.Outlines.{meant, outlined}
 use Rattle.script_run.specs.Played.{IsPlayable, HasPlayed, HasTurns}
-use Rattle.sock_core.proofs.Joining.{ran_rest, ran_join, run_append}
-use Rattle.sock_core.proofs.Resting.{none_follows}
+use Rattle.sock_core.specs.machine_ticks.proofs.Joining.{ran_rest, ran_join, run_append}
+use Rattle.sock_core.specs.machine_ticks.proofs.Resting.{none_follows}
 use Rattle.script_run.proofs.Outlined.{schedule_same}
 use Rattle.script_run.proofs.Playing.{as_played, then_played, none_played}
 

@@ -9,14 +9,15 @@ use Rattle.brpc_model.specs.Link.{LinkEnd}
 use Rattle.seat_programs.specs.Cores.{Core}
 use Rattle.seat_programs.specs.Ticks.{Moment, seats_of, run}
 use Rattle.seat_programs.specs.Runs.{LeadsUpTo}
-use Rattle.sock_core.specs.declared.machine.Tick.{Tick}
-use Rattle.sock_core.specs.declared.machine.Tick.TheVariants.{Idle}
-use Rattle.sock_core.specs.Links.{Taken, Given}
-use Rattle.sock_core.specs.Machines.{MachineState, HasSizes, core_with}
-use Rattle.sock_core.specs.Runs.{SameLink, SameLinks, Ticked, Led}
-use Rattle.sock_core.proofs.Joining.{same_table_none, same_links_none, follows_none, follows_join, made_join}
-use Rattle.sock_core.specs.Driving.{FirstRests}
-use Rattle.sock_core.proofs.Resting.{Rests, idle_ran, beyond_rests}
+use Rattle.sock_core.specs.machine_model.specs.declared.tick.Tick.{Tick}
+use Rattle.sock_core.specs.machine_model.specs.declared.tick.Tick.TheVariants.{Idle}
+use Rattle.sock_core.specs.machine_model.specs.Links.{Taken, Given}
+use Rattle.sock_core.specs.machine_model.specs.Machines.{MachineState, HasSizes, core_with}
+use Rattle.sock_core.specs.machine_model.specs.Runs.{SameLink, SameLinks, Ticked, Led}
+use Rattle.sock_core.specs.machine_ticks.proofs.Joining.{follows_none, follows_join, made_join}
+use Rattle.sock_core.specs.machine_model.proofs.Same.{same_table_none, same_links_none}
+use Rattle.sock_core.specs.machine_model.specs.Driving.{FirstRests}
+use Rattle.sock_core.specs.machine_ticks.proofs.Resting.{Rests, idle_ran, beyond_rests}
 use Rattle.script_links.specs.Given.{AreUntouched, AreNumbered}
 use Rattle.script_run.specs.Played.{IsPlayable, PlayedWith, HasPlayed}
 use Rattle.script_links.proofs.Numbering.{numbered_of}

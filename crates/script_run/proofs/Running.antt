@@ -22,12 +22,12 @@ use Rattle.calm_runs.specs.send_causes.specs.Below.run_theorems.specs.Offered.{A
 use Rattle.calm_runs.specs.send_causes.specs.Below.run_theorems.specs.OfferedRuns.{OffersInRun}
 use Rattle.calm_runs.specs.send_causes.specs.Below.run_theorems.proofs.HeardRuns.{heard_on, taken_on}
 use Rattle.report_fits.proofs.Sizes.{keeps_limits}
-use Rattle.sock_core.specs.Links.{Taken, Given, AreAlwaysReady, TellClosing, IsOffering}
-use Rattle.sock_core.specs.Machines.{MachineState, core_with, ending_by}
-use Rattle.sock_core.specs.Runs as rounds
-use Rattle.sock_core.specs.Runs.{LinksShow, SettlesBy, SettledWith, Settled, round_by}
-use Rattle.sock_core.proofs.Resting.{rest_anyhow}
-use Rattle.sock_core.proofs.Joining.{run_append, answered_append, closes_append, offers_append, prompt_append, broken_append, shows_join, shows_as}
+use Rattle.sock_core.specs.machine_model.specs.Links.{Taken, Given, AreAlwaysReady, TellClosing, IsOffering}
+use Rattle.sock_core.specs.machine_model.specs.Machines.{MachineState, core_with, ending_by}
+use Rattle.sock_core.specs.machine_model.specs.Runs as rounds
+use Rattle.sock_core.specs.machine_model.specs.Runs.{LinksShow, SettlesBy, SettledWith, Settled, round_by}
+use Rattle.sock_core.specs.machine_ticks.proofs.Resting.{rest_anyhow}
+use Rattle.sock_core.specs.machine_ticks.proofs.Joining.{run_append, answered_append, closes_append, offers_append, prompt_append, broken_append, shows_join, shows_as}
 use Rattle.script_run.specs.Causes.{broken_of}
 use Rattle.sock_core.specs.Beginnings.{IsMade}
 use Rattle.script_run.specs.Played.{IsPlayable, PlayedWith, HasPlayed, HasRun}

@@ -7,10 +7,8 @@ use Rattle.std.specs.Prelude.{Option}
 use Rattle.brpc_model.specs.Items.{Item}
 use Rattle.brpc_model.specs.Link.{LinkEnd}
 use Rattle.brpc_model.specs.PlaceWords.{ArePlaces, HasEachOutcome, outcomes_from, AreTold}
-use Rattle.brpc_model.specs.Operations.{operations}
 use Rattle.script_items.specs.Meaning.{item}
 use Rattle.script_items.specs.declared.line.Line.{Line}
-use Rattle.sock_core.specs.Finish.{told_from}
 use Rattle.script_report.specs.declared.summary.Load.{Load}
 use Rattle.script_report.specs.Sums.{told_of, sums_of, summary_text}
 use Rattle.script_report.proofs.Existing.{report_exists}
@@ -46,22 +44,18 @@ module _ {A T : Type 0} (f : A → LinkEnd) (view : T → List ℕ) (ends : List
 -- what is printed of a script, by what was said, the place words and what the links took
 module _ {A L T E : Type 0} (items : T → List ℕ) (view : A → List ℕ) (ends_of : L → LinkEnd) (Prints : List Item → List (Option Outcome) → List PlaceWord → List (List ℕ) → List ℕ → Type 0) where
   -- the text that was printed is that of what is left, where lines are printed that are reported like those of the script
-  pub reported : (r : Result T E) (lines : List Line) (kept script : List Item) (count : ℕ) (outcomes : List (ℕ × Outcome)) (said shown : List (Option Outcome)) (words : List PlaceWord) (links : List L) (took showing : List A) →
-      map item lines ≡ kept → ((os : List (Option Outcome)) (x : List (List ℕ)) (text : List ℕ) → Prints kept os words x text → Prints script os words x text) → count ≡ length (operations script) → ((os : List (Option Outcome)) → length os ≡ count → outcomes ≡ told_from 0 os → said ≡ os) → shown ≡ said → showing ≡ took → AreTold (map ends_of links) (map view took) →
-      IfOk r (λ t. ArePlaces words → HasEachOutcome words shown → Prints (map item lines) shown words (map view showing) (items t)) →
-      IfOk r (λ t. (os : List (Option Outcome)) → length os ≡ length (operations script) → outcomes ≡ told_from 0 os → ArePlaces words → HasEachOutcome words os → (x : List (List ℕ)) × AreTold (map ends_of links) x × Prints script os words x (items t))
-  reported (Ok t) lines kept script count outcomes said shown words links took showing e alike counted spread f s told h =
-      λ os many are places each.
-      let is : shown ≡ os = f ∙ spread os (many ∙ sym counted) are in (
-        map view took,
-        told,
-        alike os (map view took) (items t)
-            (subst (λ xs. Prints xs os words (map view took) (items t)) e
-            (subst (λ xs. Prints (map item lines) xs words (map view took) (items t)) is
-            (subst (λ xs. Prints (map item lines) shown words (map view xs) (items t)) s
-            (h places (subst (HasEachOutcome words) (sym is) each))))),
-      )
-  reported (Err x) lines kept script count outcomes said shown words links took showing e alike counted spread f s told h = tt
+  pub reported : (r : Result T E) (lines : List Line) (kept script : List Item) (said : List (Option Outcome)) (words : List PlaceWord) (links : List L) (took showing : List A) →
+      map item lines ≡ kept → ((os : List (Option Outcome)) (x : List (List ℕ)) (text : List ℕ) → Prints kept os words x text → Prints script os words x text) → showing ≡ took → AreTold (map ends_of links) (map view took) →
+      IfOk r (λ t. ArePlaces words → HasEachOutcome words said → Prints (map item lines) said words (map view showing) (items t)) →
+      IfOk r (λ t. ArePlaces words → HasEachOutcome words said → (x : List (List ℕ)) × AreTold (map ends_of links) x × Prints script said words x (items t))
+  reported (Ok t) lines kept script said words links took showing e alike s told h = λ places each. (
+    map view took,
+    told,
+    alike said (map view took) (items t)
+        (subst (λ xs. Prints xs said words (map view took) (items t)) e
+        (subst (λ xs. Prints (map item lines) said words (map view xs) (items t)) s (h places each))),
+  )
+  reported (Err x) lines kept script said words links took showing e alike s told h = tt
 
 -- a summary has the numbers of the report that is told
 pub summed : {T E : Type 0} (items : T → List ℕ) (shows : Print) (load : Load) (script : List Item) (said : List (Option Outcome)) (words : List PlaceWord) (took : List (List ℕ)) (r : Result T E) → shows ≡ print.Summary load →

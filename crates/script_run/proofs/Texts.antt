@@ -37,10 +37,9 @@ use Rattle.report_fits.proofs.Lists.{within, has_from, all_at}
 use Rattle.report_fits.proofs.Places.{script_places}
 use Rattle.report_fits.proofs.Sizes.{keeps_limits}
 use Rattle.report_fits.proofs.Tasks.{tasks_of_script}
-use Rattle.sock_core.specs.Finish.{told_from}
-use Rattle.sock_core.specs.Links.{AreAlwaysReady, TellClosing, IsOffering}
-use Rattle.sock_core.specs.Machines.{MachineState, core_with}
-use Rattle.sock_core.specs.Runs.{SameLink, SameLinks, ShowsTaking}
+use Rattle.sock_core.specs.machine_model.specs.Links.{AreAlwaysReady, TellClosing, IsOffering}
+use Rattle.sock_core.specs.machine_model.specs.Machines.{MachineState, core_with}
+use Rattle.sock_core.specs.machine_model.specs.Runs.{SameLink, SameLinks, ShowsTaking}
 use Rattle.script_run.specs.Causes.{HasCauses, EndedEarly, gave_in}
 use Rattle.script_links.specs.Given.{IsUntouched, AreUntouched, spec_of, specs_of}
 use Rattle.script_links.specs.Offered.{AreAsked}
@@ -206,7 +205,7 @@ module _ (bytes : List ℕ) (script : List Item) (turns : List Turn) (start m : 
     tells = λ offering k e at. tells offering k e (ap (λ (es : List LinkEnd). slice_get es k) (sym ends_same) ∙ at);
   }
 
-  module _ (outcomes : List (ℕ × Outcome)) (words : List PlaceWord) (ends : List LinkEnd) (outcomes_are : outcomes ≡ told_from 0 m.outcomes) (words_are : words ≡ place_words m.plan m.words) (ends_same : ends ≡ m.ends) where
+  module _ (outcomes : List (Option Outcome)) (words : List PlaceWord) (ends : List LinkEnd) (outcomes_are : outcomes ≡ m.outcomes) (words_are : words ≡ place_words m.plan m.words) (ends_same : ends ≡ m.ends) where
     words_now : words ≡ place_words (plan_of script) m.words
     words_now = words_are ∙ ap (λ (q : Plan). place_words q m.words) plan
 
@@ -239,24 +238,24 @@ module _ (bytes : List ℕ) (script : List Item) (turns : List Turn) (start m : 
     }
 
     pub printed_is : (shows : Print) (text : List ℕ)
-        → ((os : List (Option Outcome)) → length os ≡ length (operations script) → outcomes ≡ told_from 0 os → ArePlaces words → HasEachOutcome words os → (took : List (List ℕ)) × AreTold ends took × IsPrintOf shows script os words took text)
+        → (ArePlaces words → HasEachOutcome words outcomes → (took : List (List ℕ)) × AreTold ends took × IsPrintOf shows script outcomes words took text)
         → IsPrinted Offering shows script turns text ends
     printed_is shows text prints =
         let long = ended_length bytes script reads turns end_core ran.run in
         let places = script_places bytes script reads end_core causes.fixed (gave_in end_core) causes.orders long causes.tells in
-        let w = prints m.outcomes long outcomes_are
-        (subst ArePlaces (sym words_now) places.0) (subst (λ (ws : List PlaceWord). HasEachOutcome ws m.outcomes) (sym words_now) places.1) in
-        print_is shows w.0 text w.1 w.2
+        let each = subst (HasEachOutcome words) (sym outcomes_are) (subst (λ (ws : List PlaceWord). HasEachOutcome ws m.outcomes) (sym words_now) places.1) in
+        let w = prints (subst ArePlaces (sym words_now) places.0) each in
+        print_is shows w.0 text w.1 (subst (λ (os : List (Option Outcome)). IsPrintOf shows script os words w.0 text) outcomes_are w.2)
 
 -- where it was played to its end
-pub text_answered : {T E F S P C : Type 0} (shows : Print) (items : T → List ℕ) (r : Result T E) (q : Result S F) (bytes : List ℕ) (script : List Item) (turns : List Turn) (start m : MachineState) (outcomes : List (ℕ × Outcome)) (words : List PlaceWord) (ends back : List LinkEnd) →
+pub text_answered : {T E F S P C : Type 0} (shows : Print) (items : T → List ℕ) (r : Result T E) (q : Result S F) (bytes : List ℕ) (script : List Item) (turns : List Turn) (start m : MachineState) (outcomes : List (Option Outcome)) (words : List PlaceWord) (ends back : List LinkEnd) →
     script_of bytes ≡ Ok script → IsMade script start → AreUntouched 0 start.ends → length start.ends ≡ length (link_names script) → SameLinks start m →
     map (λ (o : OutState). o.took) m.links.outs ≡ map (λ (e : LinkEnd). e.took) m.ends → map (λ (i : InState). i.gave) m.links.inns ≡ map (λ (e : LinkEnd). e.gave_count) m.ends →
     map (λ (i : InState). i.gave_bytes) m.links.inns ≡ map (λ (e : LinkEnd). e.gave) m.ends → length m.letters ≡ m.plan.requests →
-    outcomes ≡ told_from 0 m.outcomes → words ≡ place_words m.plan m.words → ends ≡ m.ends → back ≡ ends →
+    outcomes ≡ m.outcomes → words ≡ place_words m.plan m.words → ends ≡ m.ends → back ≡ ends →
     (IsOk r → IsOk q) → (P → AreAlwaysReady start.links) → (C → TellClosing start.links) → (C → AllByRecursion (λ (e : LinkEnd). e.closed ≢ None) start.ends) →
     (Offering : Type 0) → (Offering → AreAsked (specs_of mode.Loop script) start.links.outs start.links.inns) → OnOk q (AreAlwaysReady start.links → HasRun script turns start m) → OnOk q ((m.plan ≡ start.plan) × (m.ids.plan ≡ start.ids.plan)) →
-    IfOk r (λ t. (os : List (Option Outcome)) → length os ≡ length (operations script) → outcomes ≡ told_from 0 os → ArePlaces words → HasEachOutcome words os → (took : List (List ℕ)) × AreTold ends took × IsPrintOf shows script os words took (items t)) →
+    IfOk r (λ t. ArePlaces words → HasEachOutcome words outcomes → (took : List (List ℕ)) × AreTold ends took × IsPrintOf shows script outcomes words took (items t)) →
     IfOk r (λ t. P → C → IsPrinted Offering shows script turns (items t) back)
 text_answered shows items (Err e) q bytes script turns start m outcomes words ends back reads made untouched many same outs counts given letters outcomes_are words_are ends_same back_is played always_ready tell closed Offering asked ran sized told = tt
 text_answered shows items (Ok t) (Err e) bytes script turns start m outcomes words ends back reads made untouched many same outs counts given letters outcomes_are words_are ends_same back_is played always_ready tell closed Offering asked ran sized told = let same = played refl in absurd (cc)

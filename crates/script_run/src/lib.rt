@@ -4,7 +4,6 @@
 
 mod mark;
 mod marks;
-mod outcomes;
 mod outline;
 mod report;
 mod run;

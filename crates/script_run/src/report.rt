@@ -1,14 +1,10 @@
-ghost use Rattle.std.specs.Prelude.{◌≡◌, ℕ, List, Option, Ok, IfOk, IfSome, length, map};
-ghost use Rattle.sock_words.specs.declared.outcome.Outcome.{Outcome};
+ghost use Rattle.std.specs.Prelude.{◌≡◌, ℕ, List, Ok, IfOk, IfSome, map};
 ghost use Rattle.brpc_model.specs.Script.{script_of};
-ghost use Rattle.brpc_model.specs.Operations.{operations};
 ghost use Rattle.brpc_model.specs.PlaceWords.{ArePlaces, HasEachOutcome, AreTold};
 ghost use Rattle.script_items.specs.Meaning.{item};
 ghost use Rattle.sock_io.specs.Link.{end_of};
-ghost use Rattle.sock_core.specs.Finish.{told_from};
 ghost use Rattle.script_run.specs.Played.{IsPrintOf};
 
-use crate::outcomes::said_of;
 use crate::outline::Outline;
 use script_items::Line;
 use script_report::{Load, print_report, print_summary};
@@ -68,17 +64,15 @@ pub fn report<O: Out, I: In, P: Peer>(
     alloc: Global,
     script: Outline,
     print: Print,
-    outcomes: Vec<(u16, Outcome)>,
+    outcomes: &[Option<Outcome>],
     places: &[PlaceWord],
     ends: &[Ends<O, I, P>],
 ) -> Result<Vec<u8>, AllocError>
     requires script { (bytes : List ℕ) × (script_of bytes ≡ Ok script) }
-    ensures { IfOk result (λ text. (os : List (Option Outcome)) → length os ≡ length (operations script) → outcomes.items ≡ told_from 0 os → ArePlaces places.now → HasEachOutcome places.now os →
-        (took : List (List ℕ)) × AreTold (map (λ e. end_of (O.state e.out) (I.state e.inn)) ends.now) took × IsPrintOf print script os places.now took text.items) }
+    ensures { IfOk result (λ text. ArePlaces places.now → HasEachOutcome places.now outcomes.now →
+        (took : List (List ℕ)) × AreTold (map (λ e. end_of (O.state e.out) (I.state e.inn)) ends.now) took × IsPrintOf print script outcomes.now places.now took text.items) }
 {
-    let plan = script.plan();
     let lines = script.into_lines(alloc)?;
-    let said = said_of(alloc, plan.operations, outcomes)?;
     let took = taken_by(alloc, ends)?;
-    printed(alloc, print, &lines, &said, places, &took)
+    printed(alloc, print, &lines, outcomes, places, &took)
 }

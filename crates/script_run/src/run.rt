@@ -1,13 +1,11 @@
-ghost use Rattle.std.specs.Prelude.{◌≡◌, ◌≤◌, ℕ, List, Option, Ok, true, false, [], map, length, IfOk, IfSome, OnOk, IsOk, IsErrOf};
+ghost use Rattle.std.specs.Prelude.{◌≡◌, ◌≤◌, ℕ, List, Ok, true, false, [], map, length, IfOk, IfSome, OnOk, IsOk, IsErrOf};
 ghost use Rattle.std.specs.List.{list_all, AllByRecursion};
 ghost use Rattle.brpc_model.specs.Script.{script_of};
-ghost use Rattle.brpc_model.specs.Operations.{link_names, operations};
+ghost use Rattle.brpc_model.specs.Operations.{link_names};
 ghost use Rattle.brpc_model.specs.PlaceWords.{ArePlaces, HasEachOutcome, AreTold};
 ghost use Rattle.sock_io.specs.declared.link.Ends.{Ends};
 ghost use Rattle.sock_io.specs.Causes.{OpenCause};
 ghost use Rattle.sock_io.specs.Link.{end_of};
-ghost use Rattle.sock_words.specs.declared.outcome.Outcome.{Outcome};
-ghost use Rattle.sock_core.specs.Finish.{told_from};
 ghost use Rattle.script_links.specs.Given.{AreNumbered, AreUntouched, IsBeginning, has_piece, specs_of};
 ghost use Rattle.script_links.specs.Offered.{AreAsked, TellOffers};
 ghost use Rattle.script_run.specs.Played.{IsPrintOf, IsPrinted, TellClosed, turns_of};
@@ -120,7 +118,7 @@ fn run_over<L: Linker>(
         places,
         ends,
     } = machine.finish();
-    let text = report_played(alloc, outline, print, played, outcomes, &places, &ends);
+    let text = report_played(alloc, outline, print, played, &outcomes, &places, &ends);
     give_back(links, ends);
     text
 }
@@ -131,14 +129,14 @@ fn report_played<O: Out, I: In, P: Peer>(
     script: Outline,
     print: Print,
     played: Result<(), NoMemory>,
-    outcomes: Vec<(u16, Outcome)>,
+    outcomes: &[Option<Outcome>],
     places: &[PlaceWord],
     ends: &[Ends<O, I, P>],
 ) -> Result<Vec<u8>, NoMemory>
     requires script { (bytes : List ℕ) × (script_of bytes ≡ Ok script) }
     ensures played { IsOk result → IsOk played }
-    ensures text { IfOk result (λ text. (os : List (Option Outcome)) → length os ≡ length (operations script) → outcomes.items ≡ told_from 0 os → ArePlaces places.now → HasEachOutcome places.now os →
-        (took : List (List ℕ)) × AreTold (map (λ e. end_of (O.state e.out) (I.state e.inn)) ends.now) took × IsPrintOf print script os places.now took text.items) }
+    ensures text { IfOk result (λ text. ArePlaces places.now → HasEachOutcome places.now outcomes.now →
+        (took : List (List ℕ)) × AreTold (map (λ e. end_of (O.state e.out) (I.state e.inn)) ends.now) took × IsPrintOf print script outcomes.now places.now took text.items) }
 {
     if played.is_err() {
         return Err(NoMemory);

@@ -21,34 +21,33 @@ use Rattle.seat_programs.specs.Cores.{Core, SeatState, resolved, said, next_step
 use Rattle.seat_programs.specs.Ticks.{Answer, waits_at, waits}
 use Rattle.seat_programs.specs.Runs.{IsAtRest}
 use Rattle.seat_programs.specs.Scripts.{is_ending}
-use Rattle.sock_runs.specs.GoesOn.{GoesOn}
-use Rattle.sock_runs.specs.Lasts.{Lasts}
-use Rattle.sock_runs.specs.Sound.{Sound, IsAhead}
-use Rattle.sock_runs.proofs.Allowed.{view_there}
-use Rattle.sock_runs.proofs.Along.{place_inside, seat_ahead, seat_rests}
-use Rattle.sock_runs.proofs.Held.{held_in_hand}
-use Rattle.id_runs.specs.Goes.{SoundIds}
-use Rattle.id_runs.proofs.Opening.{ending_ids, told_ids}
-use Rattle.run_theorems.specs.programs_allowed.proofs.Opens.{ending_resolved, ending_sound, told_sound}
-use Rattle.run_theorems.specs.programs_allowed.proofs.Lasting.{ending_lasts, told_lasts}
-use Rattle.client_seats.specs.Seats.{SeatData, seat_program}
-use Rattle.sock_core.specs.declared.machine.Tick.{Tick}
-use Rattle.sock_core.specs.declared.machine.Tick.TheVariants as ticks
-use Rattle.sock_core.specs.Links.{Taken, Given, Agrees, AgreesGave, IsPaced, homes_of, hand_of}
-use Rattle.sock_core.specs.Machines.{MachineState, IsMachine, IsSoundMachine, HasSizes, KeepsClosed, ArePaced, MOST_LEFT, READERS, machine_sizes, core_with, ending_by, table_of}
-use Rattle.sock_core.specs.Steps.{Goes}
-use Rattle.sock_core.specs.Runs.{SameTable, SameLinks, Ticked, Led}
-use Rattle.sock_core.specs.Driving.{LastsAtMost, Leaves, IsLast, IsOther, AsksNone, IsPlain, FirstRests, BeganEnding, told_ending}
-use Rattle.sock_core.proofs.Changes.{none_changes}
-use Rattle.sock_core.proofs.Hands.{HasNone, hand_none}
-use Rattle.sock_core.proofs.Joining.{same_table_join, same_links_join}
-use Rattle.sock_core.proofs.Lengths.{many_same, sizes_but, sizes_stay}
+use Rattle.machine_tables.specs.machine_model.specs.sock_runs.specs.GoesOn.{GoesOn}
+use Rattle.machine_tables.specs.machine_model.specs.sock_runs.specs.Lasts.{Lasts}
+use Rattle.machine_tables.specs.machine_model.specs.sock_runs.specs.Sound.{Sound, IsAhead}
+use Rattle.machine_tables.specs.machine_model.specs.sock_runs.proofs.Allowed.{view_there}
+use Rattle.machine_tables.specs.machine_model.specs.sock_runs.proofs.Along.{place_inside, seat_ahead, seat_rests}
+use Rattle.machine_tables.specs.machine_model.specs.sock_runs.proofs.Held.{held_in_hand}
+use Rattle.machine_tables.specs.machine_model.specs.id_runs.specs.Goes.{SoundIds}
+use Rattle.machine_tables.specs.machine_model.specs.id_runs.proofs.Opening.{ending_ids, told_ids}
+use Rattle.machine_tables.specs.machine_model.specs.run_theorems.specs.programs_allowed.proofs.Opens.{ending_resolved, ending_sound, told_sound}
+use Rattle.machine_tables.specs.machine_model.specs.run_theorems.specs.programs_allowed.proofs.Lasting.{ending_lasts, told_lasts}
+use Rattle.machine_tables.specs.machine_model.specs.client_seats.specs.Seats.{SeatData, seat_program}
+use Rattle.machine_tables.specs.machine_model.specs.declared.tick.Tick.{Tick}
+use Rattle.machine_tables.specs.machine_model.specs.declared.tick.Tick.TheVariants as ticks
+use Rattle.machine_tables.specs.machine_model.specs.Links.{Taken, Given, Agrees, AgreesGave, IsPaced, homes_of, hand_of}
+use Rattle.machine_tables.specs.machine_model.specs.Machines.{MachineState, IsMachine, IsSoundMachine, HasSizes, KeepsClosed, ArePaced, MOST_LEFT, READERS, machine_sizes, core_with, ending_by, table_of}
+use Rattle.machine_tables.specs.machine_model.specs.Steps.{Goes}
+use Rattle.machine_tables.specs.machine_model.specs.Runs.{Ticked, Led}
+use Rattle.machine_tables.specs.machine_model.specs.Driving.{LastsAtMost, Leaves, IsLast, IsOther, AsksNone, IsPlain, FirstRests, BeganEnding, told_ending}
+use Rattle.machine_ticks.specs.machine_rules.proofs.Changes.{none_changes}
+use Rattle.machine_ticks.specs.machine_rules.proofs.Hands.{HasNone, hand_none}
+use Rattle.machine_tables.specs.machine_model.proofs.Lengths.{many_same, sizes_but, sizes_stay}
 use Rattle.sock_core.proofs.Leading.{Passed, led_none, led_more, led_here, led_waits, led_idle}
-use Rattle.sock_core.proofs.Paces.{calm_paced, ending_calm}
-use Rattle.sock_core.proofs.Resting.{Rests, rest_anyhow, idle_core}
+use Rattle.machine_ticks.specs.machine_rules.proofs.Paces.{calm_paced, ending_calm}
+use Rattle.machine_ticks.proofs.Resting.{Rests, rest_anyhow, idle_core}
 use Rattle.sock_core.proofs.Rounding.{IsStill, fewer_left}
-use Rattle.sock_core.proofs.Seatings.{seat_at, client_set}
-use Rattle.sock_core.proofs.Holding.{none_of, nothing_held}
+use Rattle.machine_ticks.specs.machine_rules.proofs.Seatings.{seat_at, client_set}
+use Rattle.machine_ticks.specs.machine_rules.proofs.Holding.{none_of, nothing_held}
 
 -- ## Programs that ask no link
 
@@ -235,9 +234,6 @@ pub on_ok : {T E P Q : Type 0} (r : Result T E) → (P → Q) → OnOk r P → O
 on_ok (Ok x) f h = f h
 on_ok (Err e) f h = tt
 
-pub both_join : (a b c : MachineState) → SameTable a b × SameLinks a b → SameTable b c × SameLinks b c → SameTable a c × SameLinks a c
-both_join a b c h o = (same_table_join a b c h.0 o.0, same_links_join a b c h.1 o.1)
-
 -- ## Seat 0 doesn't wait
 
 waits_none : (p : Plan) (c : Core) (answer : Answer) (program : Program) → AsksNone program → waits_at p c answer program ≡ false
@@ -285,6 +281,3 @@ module _ (a b c : MachineState) (seat : ℕ) (kind : Kind) (count : ℕ) (so_far
   passed_last (ticks.Moved found) last t = led_here a b c seat kind so_far.passed (subst (λ (k : Kind). Ticked b c seat (ticks.Moved k)) last t)
   passed_last (ticks.Waits what) last t = led_waits a b c seat kind what so_far.passed t
   passed_last ticks.Idle last t = led_idle a b c seat kind so_far.passed t
-
-pub began_along : {m n fresh : MachineState} → m ≡ n → BeganEnding m fresh → BeganEnding n fresh
-began_along {m} {n} {fresh} e w = subst (λ (x : MachineState). BeganEnding x fresh) e w

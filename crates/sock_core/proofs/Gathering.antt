@@ -1,20 +1,9 @@
--- One outcome more, and one place word more.
-use Rattle.std.proofs.Common.{append-nil, append_assoc, ◌≡◌, refl, ℕ, zero, suc, ◌+◌, List, [], ◌∷◌, ◌++◌, length, map, slice_index, Option, ap, sym, ◌∙◌, arith}
-use Rattle.sock_words.specs.declared.outcome.Outcome.{Outcome}
+-- One place word more.
+use Rattle.std.proofs.Common.{◌≡◌, ℕ, zero, suc, ◌+◌, List, [], ◌∷◌, ◌++◌, map, slice_index, ap, sym, ◌∙◌, arith}
 use Rattle.sock_words.specs.declared.plain.Plan.{Plan}
 use Rattle.sock_words.specs.declared.place_word.PlaceWord.{PlaceWord}
 use Rattle.sock_model.specs.Layout.{place_index}
 use Rattle.seat_programs.specs.Runs.{from_to}
-use Rattle.sock_core.specs.Finish.{told_at, told_from}
-
-pub length_last : {A : Type 0} (xs : List A) (x : A) → length (xs ++ x ∷ []) ≡ length xs + 1
-length_last [] x = refl
-length_last (y ∷ xs) x = let h = length_last xs x in omega arith
-
-pub told_last : (n m : ℕ) (os : List (Option Outcome)) (o : Option Outcome) → m ≡ n + length os → told_from n (os ++ o ∷ []) ≡ told_from n os ++ told_at m o
-told_last n m [] o e = let h : n ≡ m = omega arith in append-nil (told_at n o) ∙ ap (λ k. told_at k o) h
-told_last n m (p ∷ os) o e =
-    ap (λ (l : List (ℕ × Outcome)). told_at n p ++ l) (told_last (n + 1) m os o (omega arith)) ∙ sym (append_assoc (told_at n p) (told_from (n + 1) os) (told_at m o))
 
 map_one_more : {A : Type 0} (f : ℕ → A) (a n : ℕ) → map f (from_to a (n + 1)) ≡ map f (from_to a n) ++ f (a + n) ∷ []
 map_one_more f a zero = let e : a ≡ a + 0 = omega arith in ap (λ k. f k ∷ []) e

@@ -1,5 +1,5 @@
 -- All that holds of a machine holds where it begins.
-use Rattle.std.proofs.Common.{◌≡◌, refl, ℕ, zero, suc, ◌+◌, ◌-◌, ◌<◌, ◌≤◌, Bool, false, List, [], ◌∷◌, ◌++◌, map, fold, length, slice_index, slice_index_or, replicate, Option, None, ap, ap₂, sym, ◌∙◌, arith, subst}
+use Rattle.std.proofs.Common.{◌≡◌, refl, ℕ, zero, suc, ◌+◌, ◌-◌, ◌*◌, ◌<◌, ◌≤◌, Bool, false, List, [], ◌∷◌, ◌++◌, map, fold, length, slice_index, slice_index_or, replicate, Option, None, ap, ap₂, sym, ◌∙◌, arith, subst}
 use Rattle.std.proofs.Math.ListN.{length-map, length-replicate}
 use Rattle.std.proofs.lemmas.List.{map-append}
 use Rattle.std.proofs.lemmas.List.Sums.{fold-append}
@@ -23,24 +23,24 @@ use Rattle.seat_programs.specs.Clients.{client_from}
 use Rattle.seat_programs.specs.Cores.{Calls, Core, SeatState, said, resolved, next_step}
 use Rattle.seat_programs.specs.Runs.{from_to}
 use Rattle.seat_programs.specs.Scripts.{sizes_of, programs, readers_from, all_programs, beginning, opening_homes, opening_words, opening_calls, new_links}
-use Rattle.sock_runs.specs.Lasts.{Lasts}
-use Rattle.sock_runs.specs.Sound.{IsAhead, Sound}
-use Rattle.run_theorems.specs.programs_allowed.specs.Openings.{opening_views, all_seats}
+use Rattle.machine_tables.specs.machine_model.specs.sock_runs.specs.Lasts.{Lasts}
+use Rattle.machine_tables.specs.machine_model.specs.sock_runs.specs.Sound.{IsAhead, Sound}
+use Rattle.machine_tables.specs.machine_model.specs.run_theorems.specs.programs_allowed.specs.Openings.{opening_views, all_seats}
 use Rattle.id_rule.specs.Lawful.{call_index}
-use Rattle.id_runs.proofs.Opening.{unused}
-use Rattle.id_runs.specs.Goes.{SoundIds}
-use Rattle.run_theorems.specs.joint_runs.proofs.Starts.{AreFor, opens_both, opens_bounded}
-use Rattle.call_slots.specs.Slots.{calls_with}
-use Rattle.reader_seats.specs.Readers.{ReaderData, reader_program}
-use Rattle.sock_core.specs.declared.letter.Letter.{Letter}
-use Rattle.client_seats.specs.Seats.{SeatData, seat_program}
-use Rattle.sock_core.specs.Beginnings.{AreBegun, AreReading, said_first}
-use Rattle.sock_core.specs.Links.{LinksData, Taken, Agrees, AgreesGave, ClosedAreDone, IsPaced, holder_of, link_home, homes_of, letter_home}
-use Rattle.sock_core.specs.Machines.{MachineState, IsMachine, IsSoundMachine, ArePaced, AreCalled, READERS, between, resting, clients_with, readers_with, seats_with, waiting_of, given_by, machine_sizes, core_with}
-use Rattle.sock_core.proofs.Hands.{HasNone, hand_none}
-use Rattle.sock_core.proofs.Begun.{told_length}
-use Rattle.sock_core.proofs.Paces.{calm_paced, client_calm}
-use Rattle.sock_core.proofs.Seatings.{core_is}
+use Rattle.machine_tables.specs.machine_model.specs.id_runs.proofs.Opening.{unused}
+use Rattle.machine_tables.specs.machine_model.specs.id_runs.specs.Goes.{SoundIds}
+use Rattle.machine_tables.specs.machine_model.specs.run_theorems.specs.joint_runs.proofs.Starts.{AreFor, opens_both, opens_bounded}
+use Rattle.machine_tables.specs.machine_model.specs.call_slots.specs.Slots.{calls_with}
+use Rattle.machine_tables.specs.machine_model.specs.reader_seats.specs.Readers.{ReaderData, reader_program}
+use Rattle.machine_tables.specs.machine_model.specs.declared.letter.Letter.{Letter}
+use Rattle.machine_tables.specs.machine_model.specs.client_seats.specs.Seats.{SeatData, seat_program}
+use Rattle.machine_tables.specs.machine_model.specs.Parts.{AreBegun, AreReading, said_first}
+use Rattle.machine_tables.specs.machine_model.specs.Links.{LinksData, Taken, Agrees, AgreesGave, ClosedAreDone, IsPaced, holder_of, link_home, homes_of, letter_home}
+use Rattle.machine_tables.specs.machine_model.specs.Machines.{MachineState, IsMachine, IsSoundMachine, ArePaced, AreCalled, READERS, between, resting, clients_with, readers_with, seats_with, waiting_of, given_by, machine_sizes, core_with}
+use Rattle.machine_ticks.specs.machine_rules.proofs.Hands.{HasNone, hand_none}
+use Rattle.machine_tables.specs.machine_steps.proofs.Begun.{told_length}
+use Rattle.machine_ticks.specs.machine_rules.proofs.Paces.{calm_paced, client_calm}
+use Rattle.machine_ticks.specs.machine_rules.proofs.Seatings.{core_is}
 
 -- nothing was taken, and nothing given
 abbrev pub NOTHING : Taken
@@ -229,7 +229,7 @@ module _ (p : Plan) (q : IdPlan) (clients : List (List Task)) (m : MachineState)
       none_there : slice_index m.ids.words (call_index m.ids.plan o) ≡ 0
       none_there = ap (λ (ws : List ℕ). slice_index ws (call_index m.ids.plan o)) (ap (λ (a : Calls). a.words) (ids 0)) ∙ (unused q).rest (call_index m.ids.plan o) (let e = ap (λ (x : IdPlan). x.slots) id_plan in omega (arith, e))
 
-  pub machine_begins : (room : ℕ) → Agrees m.links NOTHING → AgreesGave m.links NOTHING → ClosedAreDone m.links → length m.links.outs ≡ p.links → length m.links.inns ≡ p.links → length m.ends ≡ p.links → length m.opens ≡ p.links → length clients ≡ p.seats → p.operations ≤ room → IsMachine m room
+  pub machine_begins : (room : ℕ) → Agrees m.links NOTHING → AgreesGave m.links NOTHING → ClosedAreDone m.links → length m.links.outs ≡ p.links → length m.links.inns ≡ p.links → length m.ends ≡ p.links → length m.opens ≡ p.links → length clients ≡ p.seats → 8 * p.operations ≤ room → IsMachine m room
   machine_begins room agrees agrees_gave closed outs inns ends opens seats_many has_room =
       let told = ap length outcomes ∙ told_length (replicate p.operations None) own_programs ∙ length-replicate p.operations None in
       let links_same : p.links ≡ m.plan.links = ap (λ (x : Plan). x.links) (sym plan) in record {
@@ -256,7 +256,7 @@ module _ (p : Plan) (q : IdPlan) (clients : List (List Task)) (m : MachineState)
           few_opens = f.few_opens;
           few_outcomes = (let b = f.limits.operations in omega (arith, told, b));
         } ∣₁;
-        has_room = omega (arith, told, has_room);
+        has_room = let e = ap (λ (x : Plan). x.operations) plan in omega (arith, e, has_room);
         sound = λ _. ∣ begins_sound agrees agrees_gave ∣₁;
         paced = λ _. ∣ begins_paced ∣₁;
         called = λ _. begins_called;

@@ -1,12 +1,3 @@
-pub mod Letters
-pub mod Linkers
-pub mod Links
-pub mod Machines
-pub mod Runs
-pub mod Steps
-pub mod Telling
-pub mod Reading
-pub mod Driving
 pub mod Beginnings
-pub mod Finish
-pub mod Passing
+pub use Rattle.machine_tables.specs.machine_model
+pub use Rattle.machine_ticks

@@ -1,21 +1,13 @@
-//! The whole product on one thread, under any schedule: seats of clients and readers, the words, ids, messages and links on
-//! which they step, and the steps.
+//! The whole product on one thread, under any schedule: a machine of seats, made for a script, ticked by a schedule, played to its
+//! end and taken apart.
 #![tactic(auto)]
 
 mod finished;
-mod homes;
 mod inputs;
-mod letter;
-mod link_calls;
 mod machine;
 mod prepared;
-mod reading;
-mod setup;
-mod table;
-mod tables;
-mod waiting;
-mod words;
 
 pub use finished::Finished;
-pub use machine::{Machine, NotMade, On, Tick};
+pub use machine::{Machine, NotMade};
+pub use machine_tables::{On, Tick};
 pub use prepared::Prepared;

@@ -4,25 +4,22 @@ ghost use Rattle.brpc_model.specs.Script.{script_of};
 ghost use Rattle.brpc_model.specs.Operations.{link_names};
 ghost use Rattle.sock_io.specs.Link.{OutState, InState, end_of};
 ghost use Rattle.seat_programs.specs.Scripts.{beginning, programs, readers_from, all_programs, sizes_of, place_words};
-ghost use Rattle.sock_core.specs.Finish.{told_from};
-ghost use Rattle.run_theorems.specs.joint_runs.proofs.Starts.{AreFor};
+ghost use Rattle.machine_tables.specs.machine_model.specs.run_theorems.specs.joint_runs.proofs.Starts.{AreFor};
 ghost use Rattle.sock_core.specs.Beginnings.{AreUnused, IsMade, TellsLinks};
-ghost use Rattle.sock_core.specs.Linkers.{SaysAsBefore};
-ghost use Rattle.sock_core.specs.Links.{Taken, Given, Agrees, AgreesGave};
-ghost use Rattle.sock_core.specs.Machines.{MOST_LEFT as most_left, HasSizes, core_with, ending_by};
-ghost use Rattle.sock_core.specs.Runs.{SameLinks, SameTable, Ticked, Led, Still, HasMoved, PlayedOn, RanFirst, Settled};
-ghost use Rattle.sock_core.specs.Driving.{LastsAtMost, LeavesFewer, Leaves, IsLast, IsOther, IsPlain, FirstRests, TickedFirst, told_ending};
+ghost use Rattle.machine_tables.specs.machine_model.specs.Linkers.{SaysAsBefore};
+ghost use Rattle.machine_tables.specs.machine_model.specs.Links.{Taken, Given, Agrees, AgreesGave};
+ghost use Rattle.machine_tables.specs.machine_model.specs.Machines.{MOST_LEFT as most_left, HasSizes, core_with, ending_by};
+ghost use Rattle.machine_tables.specs.machine_model.specs.Runs.{SameLinks, SameTable, Ticked, Led, Still, HasMoved, PlayedOn, RanFirst, Settled};
+ghost use Rattle.machine_tables.specs.machine_model.specs.Driving.{LastsAtMost, LeavesFewer, Leaves, WentOn, IsPlain, FirstRests, TickedFirst, told_ending};
 
-use crate::finished::{Finished, gather, gather_places};
+use crate::finished::{Finished, gather_places};
 use crate::inputs::Wanted;
 use crate::prepared::Prepared;
-use crate::setup::parts_of;
-use crate::table::Table;
-use crate::tables::{READERS, Tables};
+use machine_tables::{READERS, Table, Tables, Tick, parts_of};
 use script_items::Script;
 use sock_io::{Ends, In, Linker, NoMemory, Out, Peer};
 use sock_message::BlockPool;
-use sock_words::{Kind, Outcome, PlaceWord};
+use sock_words::{Kind, PlaceWord};
 use std::alloc::Global;
 use std::marker::Model;
 
@@ -35,76 +32,24 @@ pub struct NotMade<O: Out, I: In, P: Peer> {
     pub ends: Vec<Ends<O, I, P>>,
 }
 
-/// For what a seat waits.
-#[derive(Clone, Copy)]
-pub enum On {
-    /// The next word of this ticket's request, which isn't connected yet.
-    Next(u64),
-    /// This call id, which another seat has locked, or whose end is waited for.
-    Id(u64),
-    /// The writing half of this link.
-    Out(u16),
-    /// The reading half of this link.
-    In(u16),
-    /// The socket of this `open`.
-    Open(u16),
-}
-
-/// What a tick of a seat did.
-#[derive(Clone, Copy)]
-pub enum Tick {
-    /// The seat made a step of this kind.
-    Moved(Kind),
-    /// The seat waits, and nothing was changed.
-    Waits(On),
-    /// The seat has no step left, and nothing was changed.
-    Idle,
-}
-
-impl Tick {
-    /// Whether the seat made a step.
-    fn is_moved(self) -> bool
-        ensures moved { result ≡ true → (kind : _) × (self ≡ Tick.Moved kind) }
-        ensures still { result ≡ false → (kind : _) → self ≡ Tick.Moved kind → ⊥ }
-    {
-        match self {
-            Tick::Moved(_) => true,
-            Tick::Waits(_) | Tick::Idle => false,
-        }
-    }
-
-    /// Whether the seat made a step of this kind, or none.
-    fn is_last(self, kind: Kind) -> bool
-        ensures last { result ≡ true → IsLast self kind }
-        ensures other { result ≡ false → IsOther self kind }
-    {
-        match self {
-            Tick::Moved(found) => found == kind,
-            Tick::Waits(_) | Tick::Idle => true,
-        }
-    }
-}
-
 /// All seats of a script, and the tables on which they step, on one thread.
 /// The sockets are those of io.md and memory_management.md, the call ids those of bthread_id.md.
 #[derive(Drop)]
 pub struct Machine<O: Out, I: In, P: Peer> {
     tables: Tables<O, I, P>,
-    /// Room for the outcomes of `finish`.
-    told: Vec<(u16, Outcome)>,
-    /// Room for its place words.
+    /// Room for the place words of `finish`.
     places: Vec<PlaceWord>,
 }
 
 impl<O: Out, I: In, P: Peer> Model for Machine<O, I, P> {
-    ghost use Rattle.std.specs.Prelude.{◌≡◌, ◌≤◌, ◌*◌, [], vec_capacity};
-    ghost use Rattle.sock_core.specs.Machines.{MachineState, IsMachine};
+    ghost use Rattle.std.specs.Prelude.{◌≡◌, [], vec_capacity};
+    ghost use Rattle.machine_tables.specs.machine_model.specs.Machines.{MachineState, IsMachine};
 
     ghost Value = { MachineState };
 
     ghost view = { λ m. m.tables };
 
-    ghost invariant = { λ m. IsMachine m.tables (vec_capacity m.told) × (m.told.items ≡ []) × (m.places.items ≡ []) × (8 * m.tables.plan.operations ≤ vec_capacity m.places) };
+    ghost invariant = { λ m. IsMachine m.tables (vec_capacity m.places) × (m.places.items ≡ []) };
 }
 
 impl<O: Out, I: In, P: Peer> Machine<O, I, P> {
@@ -113,12 +58,8 @@ impl<O: Out, I: In, P: Peer> Machine<O, I, P> {
     fn step_client(&mut self, seat: u16) -> Result<Tick, NoMemory>
         requires client { seat < length self.old.seats }
         requires enough { self.old.short ≡ false }
-        ensures tick { IfOk result (λ tick. Ticked self.old self.new seat tick) }
-        ensures left { IfOk result (λ tick. Leaves tick self.old self.new) }
-        ensures enough { OnOk result (self.new.short ≡ false) }
-        ensures same { SameTable self.old self.new × SameLinks self.old self.new }
+        ensures went { WentOn self.old self.new seat result }
         ensures rest { OnOk result (seat ≢ 0 → FirstRests self.old → FirstRests self.new) }
-        ensures sizes { ∥ HasSizes self.new ∥₁ }
     {
         self.tables.prepare(seat)?;
         let Some(step) = self.tables.next_step(seat) else {
@@ -132,12 +73,8 @@ impl<O: Out, I: In, P: Peer> Machine<O, I, P> {
     fn advance_client(&mut self, seat: u16) -> Result<Tick, NoMemory>
         requires client { seat < length self.old.seats }
         requires enough { self.old.short ≡ false }
-        ensures tick { IfOk result (λ tick. Ticked self.old self.new seat tick) }
-        ensures left { IfOk result (λ tick. Leaves tick self.old self.new) }
-        ensures enough { OnOk result (self.new.short ≡ false) }
-        ensures same { SameTable self.old self.new × SameLinks self.old self.new }
+        ensures went { WentOn self.old self.new seat result }
         ensures rest { OnOk result (seat ≢ 0 → FirstRests self.old → FirstRests self.new) }
-        ensures sizes { ∥ HasSizes self.new ∥₁ }
     {
         if self.tables.is_at_rest(seat) {
             return Ok(Tick::Idle);
@@ -156,12 +93,8 @@ impl<O: Out, I: In, P: Peer> Machine<O, I, P> {
         link: u16,
     ) -> Result<Tick, NoMemory>
         requires { self.old.short ≡ false }
-        ensures tick { IfOk result (λ tick. Ticked self.old self.new (32 + link) tick) }
-        ensures left { IfOk result (λ tick. Leaves tick self.old self.new) }
-        ensures enough { OnOk result (self.new.short ≡ false) }
-        ensures same { SameTable self.old self.new × SameLinks self.old self.new }
+        ensures went { WentOn self.old self.new (32 + link) result }
         ensures rest { OnOk result (FirstRests self.old → FirstRests self.new) }
-        ensures sizes { ∥ HasSizes self.new ∥₁ }
         ensures says { SaysAsBefore L.asked L.accepted L.back L.done L.faults L.always_ready links.old links.new }
     {
         let Some(step) = self.tables.next_read(link) else {
@@ -483,14 +416,13 @@ impl<O: Out, I: In, P: Peer> Machine<O, I, P> {
                 opens,
                 short: false,
             },
-            told: parts.told,
             places: parts.places,
         })
     }
 
     /// Takes the machine apart: the outcomes so far, the place words, and the links.
     pub fn finish(self) -> Finished<O, I, P>
-        ensures numbered { result.outcomes.items ≡ told_from 0 self.outcomes }
+        ensures outcomes { result.outcomes.items ≡ self.outcomes }
         ensures places { result.places.items ≡ place_words self.plan self.words }
         ensures ends { map (λ (e : _). end_of (O.state e.out) (I.state e.inn)) result.ends.items ≡ self.ends }
         ensures took { map (λ (o : OutState). o.took) self.links.outs ≡ map (λ (e : LinkEnd). e.took) self.ends }
@@ -498,11 +430,7 @@ impl<O: Out, I: In, P: Peer> Machine<O, I, P> {
         ensures gave { map (λ (i : InState). i.gave_bytes) self.links.inns ≡ map (λ (e : LinkEnd). e.gave) self.ends }
         ensures letters { length self.letters ≡ self.plan.requests }
     {
-        let Machine {
-            tables,
-            mut told,
-            mut places,
-        } = self;
+        let Machine { tables, mut places } = self;
         let Table {
             plan,
             words,
@@ -510,10 +438,9 @@ impl<O: Out, I: In, P: Peer> Machine<O, I, P> {
             outcomes,
             ..
         } = tables.table;
-        gather(&mut told, outcomes);
         gather_places(&mut places, &plan, &words);
         Finished {
-            outcomes: told,
+            outcomes,
             places,
             ends,
         }

@@ -1,5 +1,4 @@
 use Rattle.std.proofs.Common.{ap, map, ◌∙◌}
-use Rattle.sock_words.specs.declared.plain.Plan.{Plan}
 use Rattle.sock_io.specs.Link.{end_of}
 use Rattle.script_items.specs.Meaning.{item}
 use Rattle.script_run.specs.Outlines.{outlined}
@@ -10,7 +9,6 @@ use Rattle.script_run.proofs.report.report.Goals as goal
 
 pub returns : goal.returns
 returns g c =
-    let count = ap (λ (p : Plan). p.operations) c.plan-plan.ensures in
-    reported (λ text. text.items) (λ bytes. bytes.now) (λ e. end_of (g.O.Out.state e.out) (g.I.In.state e.inn)) (IsPrintOf c.args.print) c.printed.result c.deref.result.now (map outlined c.args.script) c.args.script c.plan-plan.result.operations c.args.outcomes.items c.in_ok-said.said.items
-    c.deref-2.result.now c.args.places.now c.args.ends.now c.in_ok-took.took.items c.deref-3.result.now (ap (map item) c.deref.ensures.value ∙ c.in_ok-lines.ensures) (λ os x text. print_same c.args.print c.args.script os c.args.places.now x text) count c.in_ok-said.ensures
-    c.deref-2.ensures.value c.deref-3.ensures.value c.in_ok-took.ensures c.printed.ensures
+    reported (λ text. text.items) (λ bytes. bytes.now) (λ e. end_of (g.O.Out.state e.out) (g.I.In.state e.inn)) (IsPrintOf c.args.print) c.printed.result c.deref.result.now (map outlined c.args.script) c.args.script c.args.outcomes.now
+    c.args.places.now c.args.ends.now c.in_ok-took.took.items c.deref-2.result.now (ap (map item) c.deref.ensures.value ∙ c.in_ok-lines.ensures) (λ os x text. print_same c.args.print c.args.script os c.args.places.now x text)
+    c.deref-2.ensures.value c.in_ok-took.ensures c.printed.ensures

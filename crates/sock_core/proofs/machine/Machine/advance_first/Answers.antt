@@ -1,14 +1,13 @@
-use Rattle.std.proofs.Common.{◌≤◌, ◌*◌, ◌∙◌, ap, sym, subst, vec_capacity}
-use Rattle.sock_words.specs.declared.plain.Plan.{Plan}
-use Rattle.sock_core.specs.declared.machine.Tick.TheVariants.{Idle}
-use Rattle.sock_core.specs.Machines.{MachineState}
-use Rattle.sock_core.specs.Runs.{Ticked}
-use Rattle.sock_core.specs.Driving.{Leaves, IsPlain, TickedFirst}
-use Rattle.sock_core.proofs.Advancing.{base, told_ticks, told_keeps, told_leaves, told_sizes}
-use Rattle.sock_core.proofs.Fitting.{step_fits}
-use Rattle.sock_core.proofs.Lengths.{is_sized, some_seat}
-use Rattle.sock_core.proofs.PlainSteps.{no_step_rests, plain_ready, plain_at, first_told, idle_first}
-use Rattle.sock_core.proofs.Resting.{rest_ticks}
+use Rattle.std.proofs.Common.{◌∙◌, ap, sym, subst}
+use Rattle.machine_tables.specs.machine_model.specs.declared.tick.Tick.TheVariants.{Idle}
+use Rattle.machine_tables.specs.machine_model.specs.Machines.{MachineState}
+use Rattle.machine_tables.specs.machine_model.specs.Runs.{Ticked}
+use Rattle.machine_tables.specs.machine_model.specs.Driving.{Leaves, IsPlain, TickedFirst}
+use Rattle.machine_ticks.proofs.Advancing.{told_ticks, told_keeps, told_leaves, told_sizes}
+use Rattle.machine_ticks.proofs.Fitting.{step_fits}
+use Rattle.machine_tables.specs.machine_model.proofs.Lengths.{is_sized, some_seat}
+use Rattle.machine_ticks.proofs.PlainSteps.{no_step_rests, plain_ready, plain_at, first_told, idle_first}
+use Rattle.machine_ticks.proofs.Resting.{rest_ticks}
 use Rattle.sock_core.proofs.machine.Machine.advance_first.Goals as goal
 
 pub next_step-requires-clause-ready : goal.next_step-requires-clause-ready
@@ -30,8 +29,6 @@ pub invariant_of-self : goal.invariant_of-self
 invariant_of-self g c = (
   told_keeps c.self.inside.tables c.step_first.new.self _ 0 c.in-Some.step c.step_first.result c.self.invariant.0 (ap (λ (m : MachineState). m.short) c.self.view_is ∙ c.requires.enough) c.in-Some.ensures.some c.step_first.ensures,
   c.self.invariant.1,
-  c.self.invariant.2,
-  subst (λ (p : Plan). 8 * p.operations ≤ vec_capacity c.self.inside.places) (sym ((base c.self.inside.tables c.step_first.new.self _ 0 c.in-Some.step c.step_first.result c.self.invariant.0 (ap (λ (m : MachineState). m.short) c.self.view_is ∙ c.requires.enough) c.in-Some.ensures.some c.step_first.ensures).plan)) c.self.invariant.3,
 )
 
 pub returns-in-Some-clause-tick : goal.returns-in-Some-clause-tick

@@ -1,19 +1,17 @@
-use Rattle.std.proofs.Common.{◌≡◌, ◌≤◌, ◌*◌, ◌∙◌, ap, sym, subst, vec_capacity}
-use Rattle.sock_words.specs.declared.plain.Plan.{Plan}
-use Rattle.sock_core.specs.Links.{Taken, Given}
-use Rattle.sock_core.specs.Machines.{MachineState, core_with, ending_by}
-use Rattle.sock_core.specs.Driving.{FirstRests}
+use Rattle.std.proofs.Common.{◌≡◌, ◌∙◌, ap, sym, subst}
+use Rattle.machine_tables.specs.machine_model.specs.Links.{Taken, Given}
+use Rattle.machine_tables.specs.machine_model.specs.Machines.{MachineState, core_with, ending_by}
+use Rattle.machine_tables.specs.machine_model.specs.Driving.{FirstRests}
 use Rattle.std.proofs.Props.{props}
 use Rattle.std.proofs.Math.Logic.{∥∥₁_elim}
-use Rattle.sock_core.proofs.Endings.{began_along, began_core, began_keeps, began_plain}
+use Rattle.sock_core.proofs.Endings.{began_core, began_keeps, began_plain}
+use Rattle.machine_tables.specs.machine_steps.proofs.Places.{began_along}
 use Rattle.sock_core.proofs.machine.Machine.begin_ending.Goals as goal
 
 pub invariant_of-self : goal.invariant_of-self
 invariant_of-self g c = (
   began_keeps c.self.inside.tables c.begin_ending.new.self _ c.self.invariant.0 (ap (λ (m : MachineState). m.short) c.self.view_is ∙ c.requires.enough) (subst FirstRests (sym c.self.view_is) c.requires.rest) c.begin_ending.ensures,
   c.self.invariant.1,
-  c.self.invariant.2,
-  subst (λ (p : Plan). 8 * p.operations ≤ vec_capacity c.self.inside.places) (ap (λ (m : MachineState). m.plan) (sym c.begin_ending.ensures.is)) c.self.invariant.3,
 )
 
 pub returns-clause-core : goal.returns-clause-core

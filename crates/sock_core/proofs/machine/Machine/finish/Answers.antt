@@ -1,8 +1,9 @@
-use Rattle.std.proofs.Common.{rules, ◌≡◌, refl, length, ap, subst, arith}
+use Rattle.std.proofs.Common.{rules, ◌≡◌, ◌≤◌, ◌*◌, ◌∙◌, refl, length, vec_capacity, ap, subst}
 use Rattle.std.proofs.Props.{props}
 use Rattle.std.proofs.Math.Logic.{∥∥₁_elim}
+use Rattle.sock_words.specs.declared.plain.Plan.{Plan}
 use Rattle.sock_io.specs.Link.{end_of}
-use Rattle.sock_core.specs.Machines.{MachineState}
+use Rattle.machine_tables.specs.machine_model.specs.Machines.{MachineState}
 use Rattle.sock_core.proofs.Making.{told_alike}
 use Rattle.sock_core.proofs.machine.Machine.finish.Goals as goal
 
@@ -15,13 +16,10 @@ returns-clause-gave_count g c = told_alike (λ e. g.I.In.state e.inn) (λ e. end
 pub returns-clause-gave : goal.returns-clause-gave
 returns-clause-gave g c = told_alike (λ e. g.I.In.state e.inn) (λ e. end_of (g.O.Out.state e.out) (g.I.In.state e.inn)) (λ x. x.gave_bytes) (λ e. e.gave) c.tables-inside.inside.0.0.ends.items c.args.self.links.inns c.args.self.ends (search rules) (search rules) refl
 
-pub gather-requires-clause-few : goal.gather-requires-clause-few
-gather-requires-clause-few g c =
-    let outcomes : c.args.self.outcomes ≡ c.tables-inside.inside.0.0.outcomes.items = search rules in
-    let same = ap (λ (m : MachineState). length m.outcomes) c.self.view_is in
-    let as_many = ap length outcomes in
-    let sized = c.tables-inside.inside.0.0.outcomes.ok in
-    ∥∥₁_elim c.self.invariant.0.sizes (hlevel props) (λ h. let few = h.few_outcomes in omega (arith, few, same, as_many, sized))
+pub gather_places-requires-clause-room : goal.gather_places-requires-clause-room
+gather_places-requires-clause-room g c =
+    let plan : c.args.self.plan ≡ c.tables-inside.inside.0.0.plan = search rules in
+    subst (λ (p : Plan). 8 * p.operations ≤ vec_capacity c.self.inside.places) (ap (λ (m : MachineState). m.plan) c.self.view_is ∙ plan) c.self.invariant.0.has_room
 
 pub returns-clause-letters : goal.returns-clause-letters
 returns-clause-letters g c = ∥∥₁_elim c.self.invariant.0.sizes (hlevel props) (λ h. subst (λ (m : MachineState). length m.letters ≡ m.plan.requests) c.self.view_is h.letters_are)

@@ -2,10 +2,10 @@ use Rattle.std.proofs.Common.{◌≡◌, refl, map, length, vec_capacity, ap, sy
 use Rattle.std.proofs.lemmas.List.{length-map}
 use Rattle.sock_io.specs.Link.{end_of}
 use Rattle.seat_programs.specs.Cores.{Calls}
-use Rattle.client_seats.specs.Seats.{seat_data}
-use Rattle.sock_core.specs.Links.{LinksData}
-use Rattle.sock_core.specs.Letters.{letters_in}
-use Rattle.sock_core.specs.Machines.{MachineState}
+use Rattle.machine_tables.specs.machine_model.specs.client_seats.specs.Seats.{seat_data}
+use Rattle.machine_tables.specs.machine_model.specs.Links.{LinksData}
+use Rattle.machine_tables.specs.machine_model.specs.Letters.{letters_in}
+use Rattle.machine_tables.specs.machine_model.specs.Machines.{MachineState}
 use Rattle.sock_core.proofs.Starting.{begins_core, machine_begins}
 use Rattle.sock_core.proofs.Making.{all_open, nothing_taken, nothing_given, none_closing, all_tell, all_prompt, machine_of_parts, parts_new, begins_plain}
 use Rattle.sock_core.proofs.machine.Machine.start.Goals as goal
@@ -29,13 +29,11 @@ invariant_of-result g c =
     let inns = length-map c.args.ends.items (λ e. g.I.In.state e.inn) in
     let ends = length-map c.args.ends.items (λ e. end_of (g.O.Out.state e.out) (g.I.In.state e.inn)) in
     let all : length c.args.ends.items ≡ c.args.wanted.plan.links = omega (arith, c.args.ends.ok, c.requires.links.0) in (
-      machine_begins c.args.wanted.plan c.args.wanted.id_plan clients m c.requires.for_ refl ids new_ parts.words_are parts.seats_are parts.readers_are parts.ids_are refl parts.outcomes_are (vec_capacity c.in-Ok.parts.told)
+      machine_begins c.args.wanted.plan c.args.wanted.id_plan clients m c.requires.for_ refl ids new_ parts.words_are parts.seats_are parts.readers_are parts.ids_are refl parts.outcomes_are (vec_capacity c.in-Ok.parts.places)
           (nothing_taken (λ e. g.O.Out.state e.out) c.args.ends.items l refl c.requires.unused.unused) (nothing_given (λ e. g.I.In.state e.inn) c.args.ends.items l refl c.requires.unused.silent)
           (none_closing (λ e. g.I.In.state e.inn) c.args.ends.items l refl c.requires.unused.unclosed)
-          (outs ∙ all) (inns ∙ all) (ends ∙ all) c.requires.links.1 (omega (arith, many, c.args.wanted.clients.ok, c.requires.seats)) c.in-Ok.ensures.told_room,
-      c.in-Ok.ensures.told,
+          (outs ∙ all) (inns ∙ all) (ends ∙ all) c.requires.links.1 (omega (arith, many, c.args.wanted.clients.ok, c.requires.seats)) c.in-Ok.ensures.places_room,
       c.in-Ok.ensures.places,
-      c.in-Ok.ensures.places_room,
     )
 
 pub returns-clause-core : goal.returns-clause-core

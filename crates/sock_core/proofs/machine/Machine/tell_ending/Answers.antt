@@ -1,8 +1,8 @@
-use Rattle.std.proofs.Common.{◌≡◌, ◌≤◌, ◌*◌, sym, subst, vec_capacity, []}
-use Rattle.sock_core.specs.Machines.{MachineState, IsMachine}
+use Rattle.std.proofs.Common.{◌≡◌, sym, subst, vec_capacity, []}
+use Rattle.machine_tables.specs.machine_model.specs.Machines.{MachineState, IsMachine}
 use Rattle.sock_core.proofs.Endings.{ending_keeps}
 use Rattle.sock_core.proofs.machine.Machine.tell_ending.Goals as goal
 
 pub invariant_of-self : goal.invariant_of-self
-invariant_of-self g c = subst (λ (m : MachineState). IsMachine m (vec_capacity c.self.inside.told) × (c.self.inside.told.items ≡ []) × (c.self.inside.places.items ≡ []) × (8 * m.plan.operations ≤ vec_capacity c.self.inside.places)) (sym c.tell_ending.ensures)
-    (ending_keeps c.self.inside.tables _ c.self.invariant.0, c.self.invariant.1, c.self.invariant.2, c.self.invariant.3)
+invariant_of-self g c = subst (λ (m : MachineState). IsMachine m (vec_capacity c.self.inside.places) × (c.self.inside.places.items ≡ [])) (sym c.tell_ending.ensures)
+    (ending_keeps c.self.inside.tables _ c.self.invariant.0, c.self.invariant.1)

@@ -1,0 +1,14 @@
+pub mod Asking
+pub mod Stepping
+pub mod Begun
+pub mod Places
+pub mod Passing
+pub mod TableAsides
+pub mod TableFlat
+pub mod TableGoes
+pub mod TableReads
+pub mod TableTellings
+pub mod TableReadings
+pub mod TableTakes
+pub mod TableCuts
+pub mod TablePlaces

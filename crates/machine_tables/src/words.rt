@@ -1,0 +1,61 @@
+ghost use Rattle.std.specs.Prelude.{◌≡◌, ◌%◌, ◌<◌, ℕ, true, length, map, slice_index};
+ghost use mathlib.Core.Option.{some};
+ghost use Rattle.sock_io.specs.Link.{end_of};
+ghost use Rattle.sock_model.specs.Layout.{request_index};
+ghost use Rattle.seat_programs.specs.Cores.{word_of, found_at, words_after, word_after};
+ghost use Rattle.machine_steps.specs.machine_model.specs.sock_runs.specs.Sound.{AllowsWord};
+ghost use Rattle.seat_states.specs.Steps.{step_of};
+ghost use Rattle.machine_steps.specs.machine_model.specs.Steps.{IsOfLinks, OutsAfter, holders_after};
+
+use seat_states::{Call, request_place};
+use sock_io::{Ends, In, Out, Peer};
+use sock_words::Plan;
+
+/// Makes a step on its word, and answers the word found; 0 where the step is none on a word.
+pub fn step_word(plan: &Plan, words: &mut [u64], call: Call) -> u64
+    requires there { (x : ℕ) → word_of plan.now (step_of call) ≡ some x → x < length words.old }
+    requires allowed { AllowsWord (step_of call) (found_at words.old (word_of plan.now (step_of call))) }
+    ensures found { result ≡ found_at words.old (word_of plan.now (step_of call)) }
+    ensures words { words.new ≡ words_after words.old (word_of plan.now (step_of call)) (word_after (step_of call) (found_at words.old (word_of plan.now (step_of call)))) }
+{
+    match call.place(plan) {
+        Some(place) => {
+            let found = words[place];
+            words[place] = call.word_after(found);
+            found
+        }
+        None => 0,
+    }
+}
+
+/// Whether the word of a request is there, and says that it is taken.
+pub fn is_taken(plan: &Plan, words: &[u64], request: u16) -> bool
+    ensures { result ≡ true → slice_index words.now (request_index plan.now request) % 2 ≡ 1 }
+{
+    let place = request_place(plan, request);
+    place < words.len() && words[place] % 2 == 1
+}
+
+/// A seat takes a link or puts it back: who has each link in hand.
+pub fn pass_link(holders: &mut [Option<u16>], seat: u16, call: Call)
+    requires { IsOfLinks (length holders.old) (step_of call) }
+    ensures { holders.new ≡ holders_after seat (step_of call) holders.old }
+{
+    match call {
+        Call::TakeLink(link) => holders[usize::from(link)] = Some(seat),
+        Call::PutLink(link) => holders[usize::from(link)] = None,
+        _ => {}
+    }
+}
+
+/// Ends the writing half of a link, if this is the step.
+pub fn end_link<O: Out, I: In, P: Peer>(ends: &mut [Ends<O, I, P>], call: Call)
+    requires { IsOfLinks (length ends.old) (step_of call) }
+    ensures outs { OutsAfter (step_of call) (map (λ (e : _). O.state e.out) ends.old) (map (λ (e : _). O.state e.out) ends.new) }
+    ensures inns { map (λ (e : _). I.state e.inn) ends.new ≡ map (λ (e : _). I.state e.inn) ends.old }
+    ensures ends { map (λ (e : _). end_of (O.state e.out) (I.state e.inn)) ends.new ≡ map (λ (e : _). end_of (O.state e.out) (I.state e.inn)) ends.old }
+{
+    if let Call::FinishLink(link) = call {
+        ends[usize::from(link)].out.finish();
+    }
+}

@@ -1,0 +1,12 @@
+pub mod Joining
+pub mod Answering
+pub mod Takings
+pub mod Closings
+pub mod Offering
+pub mod Resting
+pub mod Fitting
+pub mod ReadLengths
+pub mod Advancing
+pub mod Preparing
+pub mod PlainSteps
+pub mod ClientTicks

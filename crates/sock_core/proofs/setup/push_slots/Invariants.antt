@@ -1,6 +1,0 @@
-use Rattle.std.proofs.Common.{◌≡◌, ◌++◌}
-use Rattle.seat_programs.specs.Scripts.{free_slots}
-use Rattle.sock_core.proofs.setup.push_slots.Given as goal
-
-abbrev pub invariant-loop : goal.invariant-loop
-invariant-loop l = l.words.items ≡ l.fn.words.items ++ free_slots l.first l.counter
