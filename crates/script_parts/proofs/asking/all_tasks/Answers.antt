@@ -2,8 +2,8 @@ use Rattle.std.proofs.Common.{sym, subst}
 use Rattle.std.specs.List.{AllByRecursion}
 use Rattle.report_fits.specs.Limits.{KeepsLimits}
 use Rattle.report_fits.proofs.Sizes.{is_counted, keeps_limits}
-use Rattle.script_tasks.specs.Along.{IsShort}
-use Rattle.script_tasks.proofs.Shorts.{are_short}
+use Rattle.script_lang.specs.TasksByLine.{IsShort}
+use Rattle.script_lang.proofs.Shorts.{are_short}
 use Rattle.script_parts.proofs.asking.all_tasks.Goals as goal
 
 pub tasks_of-requires-clause-limits : goal.tasks_of-requires-clause-limits

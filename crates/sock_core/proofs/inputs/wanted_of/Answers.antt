@@ -4,8 +4,8 @@ use Rattle.brpc_model.specs.Items.{Item}
 use Rattle.brpc_model.specs.Script.{script_of}
 use Rattle.report_fits.specs.Limits.{KeepsLimits}
 use Rattle.report_fits.proofs.Sizes.{keeps_limits, is_counted}
-use Rattle.script_tasks.specs.Along.{IsShort}
-use Rattle.script_tasks.proofs.Shorts.{are_short}
+use Rattle.script_lang.specs.TasksByLine.{IsShort}
+use Rattle.script_lang.proofs.Shorts.{are_short}
 use Rattle.sock_core.proofs.inputs.wanted_of.Goals as goal
 
 limits_of : (script lines : List Item) → lines ≡ script → (bytes : List ℕ) × (script_of bytes ≡ Ok script) → KeepsLimits lines
