@@ -18,5 +18,7 @@ mod uses;
 pub use error::ScriptError;
 pub use read::read_script;
 pub use script::Script;
-pub use script_items::{Bytes, CallLine, Line, Name, Names, OpenLine, Seat, SendLine, Shape, Target};
+pub use script_items::{
+    Bytes, CallLine, Line, Name, Names, OpenLine, Seat, SendLine, Shape, Target,
+};
 pub use sock_message::{BlockPool, NoMemory};

@@ -16,7 +16,7 @@ ghost use Rattle.report_fits.specs.Ends.{AreTold};
 use crate::outline::Outline;
 use crate::report::{Print, report};
 use crate::schedule::{Schedule, play};
-use script_items::Script;
+use script_lang::Script;
 use script_links::{give_back, open_links};
 use sock_core::{Finished, Machine, NotMade, Prepared};
 use sock_io::{Ends, In, Linker, Mode, NoMemory, OpenFault, Out, Peer};

@@ -19,7 +19,7 @@ use crate::prepared::Prepared;
 use crate::setup::parts_of;
 use crate::table::Table;
 use crate::tables::{READERS, Tables};
-use script_items::Script;
+use script_lang::Script;
 use sock_io::{Ends, In, Linker, NoMemory, Out, Peer};
 use sock_message::BlockPool;
 use sock_words::{Kind, Outcome, PlaceWord};
