@@ -50,7 +50,7 @@ fn sizes_of(alloc: Global, lines: &[Line]) -> Result<String, AllocError> {
     let mut said = format!(in alloc;
         "slots {slots} requests {requests} first {first} clients {clients} links"
     )?;
-    'links: for line in lines {
+    for line in lines {
         if let Line::Open(open) = line {
             let name = &open.name;
             said.push_str(format!(in alloc; " {name:?}")?.as_str())?;
