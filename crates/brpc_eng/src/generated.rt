@@ -13,10 +13,10 @@ pub fn print_generated<K: Sink>(alloc: Global, draw: &Draw, out: &mut K) -> Stat
     ensures { Generated draw.now.seed draw.now.clients draw.now.operations (sink_over K.contents K.faults out.old out.new) (number_of result) }
 {
     let seed = u64::from(draw.seed);
-    let Ok(script) = generate(alloc, seed, draw.clients as u16, draw.operations as u16) else {
+    let Ok(lines) = generate(alloc, seed, draw.clients as u16, draw.operations as u16) else {
         return Status::NoMemory;
     };
-    match print_script(alloc, &script, out) {
+    match print_script(alloc, &lines, out) {
         Ok(()) => Status::Done,
         Err(PrintFault::Sink) => Status::SinkFailed,
         Err(PrintFault::NoMemory) => Status::NoMemory,

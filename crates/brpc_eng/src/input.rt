@@ -10,8 +10,7 @@ ghost use Rattle.brpc_eng.specs.Answers.{sink_over};
 use crate::replay::write_fault;
 use crate::status::Status;
 use crate::streams::{InputFault, read_all};
-use script_items::Script;
-use script_lang::{ScriptError, read_script};
+use script_lang::{Script, ScriptError, read_script};
 use sock_io::{Sink, Source};
 use std::alloc::Global;
 

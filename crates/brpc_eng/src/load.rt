@@ -1,4 +1,7 @@
-ghost use Rattle.std.specs.Prelude.{◌≡◌, ◌≢◌};
+ghost use Rattle.std.specs.Prelude.{◌≡◌, ◌≢◌, ◌<◌, ◌^◌, Ok, IfOk};
+ghost use Rattle.brpc_model.specs.Drawn.{generated};
+ghost use Rattle.brpc_model.specs.Script.{script_of};
+ghost use Rattle.brpc_model.specs.ScriptText.{script_text};
 ghost use Rattle.script_links.specs.Offered.{TellOffers};
 ghost use Rattle.script_run.specs.Played.{TellClosed};
 ghost use Rattle.brpc_eng.specs.Status.{number_of};
@@ -7,10 +10,26 @@ ghost use Rattle.brpc_eng.specs.Answers.{OpenedNothing, Loaded, linker_over, sin
 use crate::draw::Draw;
 use crate::run::write_report;
 use crate::status::Status;
+use script_lang::Script;
 use script_print::generate;
 use script_run::{Load, Print, Schedule, run_script};
-use sock_io::{Linker, OpenFault, Sink};
+use sock_io::{Linker, NoMemory, OpenFault, Sink};
 use std::alloc::Global;
+
+/// The script that is drawn from this seed.
+fn drawn_script(alloc: Global, seed: u64, draw: &Draw) -> Result<Script, NoMemory>
+    requires { seed < 2 ^ 32 }
+    ensures exact { IfOk result (λ script. script ≡ generated seed draw.now.clients draw.now.operations) }
+    ensures again { IfOk result (λ script. script_of (script_text script) ≡ Ok script) }
+{
+    let Ok(lines) = generate(alloc, seed, draw.clients as u16, draw.operations as u16) else {
+        return Err(NoMemory);
+    };
+    match Script::of(alloc, lines) {
+        Ok(script) => Ok(script),
+        Err(_) => Err(NoMemory),
+    }
+}
 
 /// Draws a script, runs it by the schedule that its seed draws, and writes the summary of that run.
 pub fn load<K: Sink, L: Linker>(alloc: Global, draw: &Draw, out: &mut K, links: &mut L) -> Status
@@ -19,7 +38,7 @@ pub fn load<K: Sink, L: Linker>(alloc: Global, draw: &Draw, out: &mut K, links: 
     ensures linker { number_of result ≢ 8 → L.faults links.new ≡ L.faults links.old }
 {
     let seed = u64::from(draw.seed);
-    let Ok(script) = generate(alloc, seed, draw.clients as u16, draw.operations as u16) else {
+    let Ok(script) = drawn_script(alloc, seed, draw) else {
         return Status::NoMemory;
     };
     let summary = Print::Summary(Load {

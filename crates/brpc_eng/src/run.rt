@@ -9,7 +9,7 @@ ghost use Rattle.brpc_eng.specs.Status.{number_of};
 ghost use Rattle.brpc_eng.specs.Answers.{OpenedNothing, OpenedBy, Ran, TextWritten, linker_over, sink_over};
 
 use crate::status::Status;
-use script_items::Script;
+use script_lang::Script;
 use script_run::{Print, Schedule, run_script};
 use sock_io::{Failed, Linker, OpenFault, Sink, write_all};
 use std::alloc::Global;

@@ -10,7 +10,7 @@ ghost use Rattle.brpc_eng.specs.Answers.{OpenedNothing, OpenedBy, RanOnThreads, 
 use crate::input::{read_input, tell_fault};
 use crate::run::write_report;
 use crate::status::Status;
-use script_items::Script;
+use script_lang::Script;
 use script_threads::run_on_threads;
 use sock_io::{Gate, Linker, Mode, OpenFault, Sink, Source};
 use std::alloc::Global;

@@ -1,6 +1,6 @@
 //! What is said of whole scripts.
-use script_items::{Script, client_count, first_version, request_count, slot_count};
-use script_lang::{ScriptError, link_names, read_script};
+use script_items::{Line, first_version, is_client, request_count, slot_count};
+use script_lang::{Script, ScriptError, read_script};
 use script_print::{DrawnSeats, generate, print_script};
 use sock_io::MemSink;
 use std::alloc::{AllocError, Global};
@@ -39,24 +39,32 @@ pub fn sizes(alloc: Global, text: &str) -> Result<String, AllocError> {
         Ok(script) => script,
         Err(error) => return fault_said(alloc, error),
     };
-    let lines = script.lines();
+    sizes_of(alloc, script.lines())
+}
+
+/// What these lines give or count, and the names of their links.
+fn sizes_of(alloc: Global, lines: &[Line]) -> Result<String, AllocError> {
     let (slots, requests) = (slot_count(lines), request_count(lines));
-    let (first, clients) = (first_version(lines), client_count(lines));
+    let first = first_version(lines);
+    let clients = lines.iter().filter(|line| is_client(line)).count();
     let mut said = format!(in alloc;
         "slots {slots} requests {requests} first {first} clients {clients} links"
     )?;
-    for name in link_names(alloc, &script)? {
-        said.push_str(format!(in alloc; " {name:?}")?.as_str())?;
+    for line in lines {
+        if let Line::Open(open) = line {
+            let name = &open.name;
+            said.push_str(format!(in alloc; " {name:?}")?.as_str())?;
+        }
     }
     Ok(said)
 }
 
-/// How a script is printed.
-fn text_of(alloc: Global, script: &Script) -> Result<String, AllocError> {
+/// How the script of these lines is printed.
+fn text_of(alloc: Global, lines: &[Line]) -> Result<String, AllocError> {
     let Ok(mut sink) = MemSink::new(alloc, 2_000, Vec::new(alloc)) else {
         return Err(AllocError);
     };
-    if print_script(alloc, script, &mut sink).is_err() {
+    if print_script(alloc, lines, &mut sink).is_err() {
         return String::from_str(alloc, "not printed");
     }
     match str::from_utf8(sink.bytes()) {
@@ -68,7 +76,7 @@ fn text_of(alloc: Global, script: &Script) -> Result<String, AllocError> {
 /// How the script of a text is printed.
 pub fn printed(alloc: Global, text: &str) -> Result<String, AllocError> {
     match script_of(alloc, text) {
-        Ok(script) => text_of(alloc, &script),
+        Ok(script) => text_of(alloc, script.lines()),
         Err(error) => fault_said(alloc, error),
     }
 }
@@ -76,7 +84,7 @@ pub fn printed(alloc: Global, text: &str) -> Result<String, AllocError> {
 /// The script that is generated of the seed 7 for a client with a round.
 pub fn small(alloc: Global) -> Result<String, AllocError> {
     match generate(alloc, 7, 1, 1) {
-        Ok(script) => text_of(alloc, &script),
+        Ok(lines) => text_of(alloc, &lines),
         Err(_) => Err(AllocError),
     }
 }
@@ -84,7 +92,7 @@ pub fn small(alloc: Global) -> Result<String, AllocError> {
 /// For two clients with five.
 pub fn large(alloc: Global) -> Result<String, AllocError> {
     match generate(alloc, 7, 2, 5) {
-        Ok(script) => text_of(alloc, &script),
+        Ok(lines) => text_of(alloc, &lines),
         Err(_) => Err(AllocError),
     }
 }

@@ -11,7 +11,6 @@ mod numbers;
 mod options;
 mod parts;
 mod read;
-mod script;
 mod sizes;
 mod words;
 mod writing;
@@ -22,7 +21,8 @@ pub use line::{CallLine, Line, OpenLine, Seat, SendLine, Target};
 pub use names::Names;
 pub use numbers::number;
 pub use read::read_line;
-pub use script::Script;
-pub use sizes::{client_count, first_version, is_client, is_operation, request_count, slot_count};
+pub use sizes::{
+    first_version, is_call, is_client, is_open, is_operation, request_count, slot_count,
+};
 pub use sock_words::Shape;
 pub use writing::{push_hex, push_hex_word, push_number, push_number_word, push_word};

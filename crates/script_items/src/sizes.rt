@@ -1,6 +1,6 @@
 ghost use Rattle.std.specs.Prelude.{◌≡◌, map};
-ghost use Rattle.brpc_model.specs.Items.{is_client, is_operation};
-ghost use Rattle.brpc_model.specs.Operations.{clients, slots, requests, first_version};
+ghost use Rattle.brpc_model.specs.Items.{is_call, is_client, is_open, is_operation};
+ghost use Rattle.brpc_model.specs.Operations.{slots, requests, first_version};
 ghost use Rattle.script_items.specs.Meaning.{item};
 
 use crate::line::Line;
@@ -48,11 +48,18 @@ pub fn is_client(line: &Line) -> bool
     matches!(line, Line::Client)
 }
 
-/// How many clients there are, the setup not counted.
-pub fn client_count(lines: &[Line]) -> usize
-    ensures { result ≡ clients (map item lines.now) }
+/// Whether the line opens a link.
+pub fn is_open(line: &Line) -> bool
+    ensures { result ≡ is_open (item line.now) }
 {
-    lines.iter().filter(|line| is_client(line)).count()
+    matches!(line, Line::Open(_))
+}
+
+/// Whether the line is a call.
+pub fn is_call(line: &Line) -> bool
+    ensures { result ≡ is_call (item line.now) }
+{
+    matches!(line, Line::Call(_))
 }
 
 /// Whether the line is an operation of a client or of the setup.

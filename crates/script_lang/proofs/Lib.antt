@@ -1,4 +1,5 @@
 pub mod LinesCut
+pub mod LineSteps
 pub mod Holding
 pub mod Judged
 pub mod CallRows
@@ -6,3 +7,8 @@ pub mod LineOf
 pub mod Placed
 pub mod Whole
 pub mod Sofar
+pub mod Counted
+pub mod ByLine
+pub mod Starts
+pub mod Shorts
+pub mod Plans

@@ -1,36 +1,29 @@
 -- What is counted of the lines so far, and what the counts say of the next line.
-use Rattle.std.specs.Prelude.{ℕ, ◌+◌, ◌≤◌, Bool, true, false, ◌&&◌, ◌||◌, not, nat_lt, nat_le, if◌then◌else◌, List, count_by}
+use Rattle.std.specs.Prelude.{ℕ, ◌+◌, ◌≤◌, Bool, false, ◌&&◌, ◌||◌, not, true, nat_lt, nat_le, if◌then◌else◌, is_some, List, count_by, filter_map, slice_get, Option, None}
 use Rattle.std.specs.List.{list_any}
-use Rattle.brpc_model.specs.Items.{Item, Slots, Requests, First, is_client, is_open, is_size, is_sched, is_turn, is_operation}
+use Rattle.std.specs.Option.{option_or}
+use Rattle.brpc_model.specs.Items.{Item, Slots, Requests, First, is_client, is_open, is_call, is_size, is_sched, is_turn, is_operation}
+use Rattle.brpc_model.specs.Operations.{slots_in, requests_in, first_in}
 use Rattle.brpc_model.specs.Script.{is_unserved}
 use Rattle.script_lang.specs.declared.counts.Counts.{Counts}
 
--- ## The sizes by themselves
-
-abbrev pub is_slots : Item → Bool
-is_slots (Slots n) = true
-is_slots other = false
-
-abbrev pub is_requests : Item → Bool
-is_requests (Requests n) = true
-is_requests other = false
-
-abbrev pub is_first : Item → Bool
-is_first (First v) = true
-is_first other = false
-
 -- ## The counts
+
+-- the size that the first of these items gives that gives one
+abbrev pub given : (Item → Option ℕ) → List Item → Option ℕ
+given size items = slice_get (filter_map size items) 0
 
 -- the counts of these items
 abbrev pub counts_of : List Item → Counts
 counts_of items = record {
-  slots = list_any is_slots items;
-  requests = list_any is_requests items;
-  first = list_any is_first items;
+  slots = given slots_in items;
+  requests = given requests_in items;
+  first = given first_in items;
   others = list_any (λ i. not (is_size i)) items;
   clients = count_by is_client items;
   links = count_by is_open items;
   operations = count_by is_operation items;
+  calls = count_by is_call items;
   scheduled = list_any is_sched items;
   turns = count_by is_turn items;
   unserved = list_any is_unserved items;
@@ -38,7 +31,7 @@ counts_of items = record {
 
 -- before the first item
 abbrev pub no_counts : Counts
-no_counts = record { slots = false; requests = false; first = false; others = false; clients = 0; links = 0; operations = 0; scheduled = false; turns = 0; unserved = false }
+no_counts = record { slots = None; requests = None; first = None; others = false; clients = 0; links = 0; operations = 0; calls = 0; scheduled = false; turns = 0; unserved = false }
 
 -- a test that passed before or passes now
 abbrev pub or_now : Bool → Bool → Bool
@@ -51,13 +44,14 @@ and_one is n = if is then n + 1 else n
 -- the counts with one more item
 abbrev pub counted : Counts → Item → Counts
 counted c item = record {
-  slots = or_now (is_slots item) c.slots;
-  requests = or_now (is_requests item) c.requests;
-  first = or_now (is_first item) c.first;
+  slots = option_or c.slots (slots_in item);
+  requests = option_or c.requests (requests_in item);
+  first = option_or c.first (first_in item);
   others = or_now (not (is_size item)) c.others;
   clients = and_one (is_client item) c.clients;
   links = and_one (is_open item) c.links;
   operations = and_one (is_operation item) c.operations;
+  calls = and_one (is_call item) c.calls;
   scheduled = or_now (is_sched item) c.scheduled;
   turns = and_one (is_turn item) c.turns;
   unserved = or_now (is_unserved item) c.unserved;
@@ -68,15 +62,16 @@ pub record IsWithinLimits (c : Counts) : Type 0 where
   pub clients : c.clients ≤ 31
   pub links : c.links ≤ 31
   pub operations : c.operations ≤ 4096
+  pub calls : c.calls ≤ c.operations
   pub turns : c.turns ≤ 4096
 
 -- ## The next line, by the counts
 
 -- this size was given
 abbrev pub is_given : Counts → Item → Bool
-is_given c (Slots n) = c.slots
-is_given c (Requests n) = c.requests
-is_given c (First v) = c.first
+is_given c (Slots n) = is_some c.slots
+is_given c (Requests n) = is_some c.requests
+is_given c (First v) = is_some c.first
 is_given c other = false
 
 -- the line is at a wrong place

@@ -1,6 +1,7 @@
-ghost use Rattle.std.specs.Prelude.{◌≡◌, false};
+ghost use Rattle.std.specs.Prelude.{◌≡◌, ℕ, List, Ok, map};
+ghost use Rattle.brpc_model.specs.Script.{script_of};
 ghost use Rattle.script_items.specs.Meaning.{item};
-ghost use Rattle.script_lang.specs.Counting.{no_counts, counted, stands_wrong, is_one_too_many, IsWithinLimits};
+ghost use Rattle.script_lang.specs.Counting.{no_counts, counts_of, counted, stands_wrong, is_one_too_many, IsWithinLimits};
 
 use script_items::Line;
 
@@ -13,21 +14,24 @@ pub const MAX_OPERATIONS: u32 = 4096;
 /// The most lines of a schedule.
 pub const MAX_TURNS: u32 = 4096;
 
-/// What the lines so far have, as far as it decides where a line may stand.
+/// What the lines so far have, as far as it decides where a line may stand and how large the
+/// tables are.
 #[derive(Clone, Copy, Drop)]
 pub struct Counts {
-    /// Whether a `slots` line came.
-    pub slots: bool,
-    /// Whether a `requests` line came.
-    pub requests: bool,
-    /// Whether a `first` line came.
-    pub first: bool,
+    /// What the first `slots` line gives, where one came.
+    pub slots: Option<u32>,
+    /// What the first `requests` line gives, where one came.
+    pub requests: Option<u32>,
+    /// What the first `first` line gives, where one came.
+    pub first: Option<u32>,
     /// Whether a line came that gives no size.
     pub others: bool,
     pub clients: u32,
     pub links: u32,
     /// The operations, the setup's included.
     pub operations: u32,
+    /// The operations that are calls.
+    pub calls: u32,
     /// Whether `sched` came.
     pub scheduled: bool,
     /// The lines of the schedule.
@@ -42,17 +46,30 @@ impl Counts {
         ensures { result ≡ no_counts }
     {
         Counts {
-            slots: false,
-            requests: false,
-            first: false,
+            slots: None,
+            requests: None,
+            first: None,
             others: false,
             clients: 0,
             links: 0,
             operations: 0,
+            calls: 0,
             scheduled: false,
             turns: 0,
             unserved: false,
         }
+    }
+
+    /// The counts of a script that is read elsewhere.
+    pub fn of(lines: &[Line]) -> Self
+        requires { (bytes : List ℕ) × (script_of bytes ≡ Ok (map item lines.now)) }
+        ensures { result ≡ counts_of (map item lines.now) }
+    {
+        let mut counts = Counts::new();
+        for line in lines {
+            counts = counts.with(line);
+        }
+        counts
     }
 
     /// Whether the line is at a wrong place behind these.
@@ -60,9 +77,9 @@ impl Counts {
         ensures { result ≡ stands_wrong self.now (item line.now) }
     {
         match line {
-            Line::Slots(_) => self.others || self.slots,
-            Line::Requests(_) => self.others || self.requests,
-            Line::First(_) => self.others || self.first,
+            Line::Slots(_) => self.others || self.slots.is_some(),
+            Line::Requests(_) => self.others || self.requests.is_some(),
+            Line::First(_) => self.others || self.first.is_some(),
             Line::Open(_) | Line::Client | Line::Sched => self.scheduled,
             Line::Tick { .. } | Line::To { .. } => !self.scheduled,
             _ => self.clients == 0 || self.scheduled,
@@ -84,21 +101,20 @@ impl Counts {
 
     /// These and one more line.
     pub fn with(self, line: &Line) -> Counts
-        requires limits { IsWithinLimits self }
-        requires room { is_one_too_many self (item line.now) ≡ false }
+        requires { IsWithinLimits self }
         ensures { result ≡ counted self (item line.now) }
     {
         match line {
-            Line::Slots(_) => Counts {
-                slots: true,
+            Line::Slots(count) => Counts {
+                slots: self.slots.or(Some(*count)),
                 ..self
             },
-            Line::Requests(_) => Counts {
-                requests: true,
+            Line::Requests(count) => Counts {
+                requests: self.requests.or(Some(*count)),
                 ..self
             },
-            Line::First(_) => Counts {
-                first: true,
+            Line::First(version) => Counts {
+                first: self.first.or(Some(*version)),
                 ..self
             },
             Line::Open(open) => Counts {
@@ -121,6 +137,12 @@ impl Counts {
             Line::Tick { .. } | Line::To { .. } => Counts {
                 others: true,
                 turns: self.turns + 1,
+                ..self
+            },
+            Line::Call(_) => Counts {
+                others: true,
+                operations: self.operations + 1,
+                calls: self.calls + 1,
                 ..self
             },
             _ => Counts {

@@ -1,4 +1,5 @@
-//! A whole script: its lines read and judged, each at its place, and all together.
+//! A whole script: its lines read and judged, each at its place, and all together; and what a table
+//! is asked to do by it: its sizes, the tasks of each client, the `open`s and the calls.
 #![tactic(auto)]
 
 mod calls;
@@ -6,15 +7,18 @@ mod counts;
 mod error;
 mod held;
 mod names;
+mod places;
 mod read;
 mod reader;
-mod sizes;
+mod script;
+mod tasks;
 mod text;
 mod uses;
 
 pub use error::ScriptError;
 pub use read::read_script;
+pub use script::Script;
 pub use script_items::{
-    Bytes, CallLine, Line, Name, Names, OpenLine, Script, Seat, SendLine, Shape, Target,
+    Bytes, CallLine, Line, Name, Names, OpenLine, Seat, SendLine, Shape, Target,
 };
-pub use sizes::link_names;
+pub use sock_message::{BlockPool, NoMemory};

@@ -1,8 +1,10 @@
-ghost use Rattle.std.specs.Prelude.{◌≡◌, not, [], ◌∷◌, filter, length, bytes_eq, OnOk, OnErr};
+ghost use Rattle.std.specs.Prelude.{◌≡◌, ◌≤◌, not, [], ◌∷◌, filter, length, map, bytes_eq, IfOk, OnOk, OnErr};
 ghost use Rattle.std.specs.List.{list_any};
 ghost use Rattle.brpc_model.specs.Items.{mentioned};
+ghost use Rattle.brpc_model.specs.Places as model;
 ghost use Rattle.brpc_model.specs.Places.{with_names};
 ghost use Rattle.script_items.specs.Meaning.{item};
+ghost use Rattle.seat_programs.specs.Tasks.{name_number};
 
 use script_items::{Line, Name, Names};
 use std::alloc::{AllocError, Global};
@@ -34,6 +36,17 @@ impl NameList {
         }
     }
 
+    /// The names that these lines mention, in the order of first mention.
+    pub fn of(alloc: Global, lines: &[Line]) -> Result<Self, AllocError>
+        ensures { IfOk result (λ known. known ≡ model.names (map item lines.now)) }
+    {
+        let mut names = NameList::new(alloc);
+        for line in lines {
+            names.add_mentioned(line)?;
+        }
+        Ok(names)
+    }
+
     /// How many names there are.
     pub fn len(&self) -> usize
         ensures { result ≡ length self.now }
@@ -48,6 +61,37 @@ impl NameList {
         self.names
             .iter()
             .any(|known| name.as_slice() == known.as_slice())
+    }
+
+    /// The number of a name, by its place among them, from 0; how many there are where it isn't
+    /// among them.
+    pub fn number_of(&self, name: &Name) -> u16
+        requires { length self.now ≤ 64 }
+        ensures { result ≡ name_number self.now name.now }
+    {
+        let names = self.names.as_slice();
+        let mut number = 0u16;
+        for known in names {
+            if known.as_slice() == name.as_slice() {
+                return number;
+            }
+            number += 1;
+        }
+        number
+    }
+
+    /// The numbers of the one or two names of a call.
+    pub fn numbers_of(&self, names: &Names) -> Result<Vec<u16>, AllocError>
+        requires { length self.now ≤ 64 }
+        ensures { IfOk result (λ numbers. numbers.items ≡ map (name_number self.now) names.now) }
+    {
+        let (first, second) = names.parts();
+        let mut numbers = Vec::new(self.alloc);
+        numbers.push(self.number_of(first))?;
+        if let Some(second) = second {
+            numbers.push(self.number_of(second))?;
+        }
+        Ok(numbers)
     }
 
     /// Adds a copy of the name, where it isn't among them yet.

@@ -3,8 +3,8 @@ ghost use Rattle.brpc_model.specs.Script.{script_of};
 
 use crate::error::ScriptError;
 use crate::reader::Reader;
+use crate::script::Script;
 use crate::text::first_line;
-use script_items::Script;
 use std::alloc::Global;
 
 /// The script that these bytes are.

@@ -11,8 +11,9 @@ use crate::counts::Counts;
 use crate::error::ScriptError;
 use crate::held;
 use crate::names::NameList;
+use crate::script::Script;
 use crate::uses::{CallUse, first_hanging, first_lost, note_use};
-use script_items::{Line, LineFault, Script, read_line};
+use script_items::{Line, LineFault, read_line};
 use std::alloc::{AllocError, Global};
 
 /// The most names of a script.
@@ -149,7 +150,6 @@ impl Reader {
     fn keep(&mut self, line: Line) -> Result<(), AllocError>
         requires count { self.old.count + 1 < 2 ^ 32 }
         requires limits { IsWithinLimits self.old.counts }
-        requires room { is_one_too_many self.old.counts (item line) ≡ false }
         ensures { OnOk result (Keeps self.old self.new line) }
     {
         match self.note(&line) {
@@ -167,7 +167,6 @@ impl Reader {
     fn note(&mut self, line: &Line) -> Result<(), AllocError>
         requires count { self.old.count + 1 < 2 ^ 32 }
         requires limits { IsWithinLimits self.old.counts }
-        requires room { is_one_too_many self.old.counts (item line.now) ≡ false }
         ensures { OnOk result (Notes self.old self.new (item line.now)) }
     {
         self.counts = self.counts.with(line);
@@ -180,6 +179,7 @@ impl Reader {
 
     /// The script that the lines are together.
     pub fn finish(self) -> Result<Script, ScriptError>
+        requires { (said : List (Option Item)) × Knows self said }
         ensures { (said : List (Option Item)) → Knows self said → WholeIs (whole (Ok said)) result }
     {
         if let Some(line) = first_lost(&self.uses, &self.calls) {
@@ -199,6 +199,6 @@ impl Reader {
         let mut lines = self.lines;
         // They are kept for a whole run.
         lines.shrink_to_fit();
-        Ok(Script::new(lines))
+        Ok(Script::new(lines, self.names, self.counts))
     }
 }

@@ -12,4 +12,4 @@ pub use asking::{Ready, prepare};
 pub use halves::{Halves, join, part};
 pub use joining::join_all;
 pub use reporting::{or_no_memory, outcomes_of, report};
-pub use script_tasks::NoMemory;
+pub use script_lang::NoMemory;

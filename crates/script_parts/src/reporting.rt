@@ -8,9 +8,8 @@ ghost use Rattle.script_parts.specs.Told.{IsReported, outcomes_of};
 
 use crate::saying::said_of;
 use rpc_client::Told;
-use script_items::Script;
+use script_lang::{NoMemory, Script};
 use script_report::print_report;
-use script_tasks::NoMemory;
 use sock_io::{Ends, In, OpenFault, Out, Peer};
 use sock_words::{Outcome, PlaceWord};
 use std::alloc::{AllocError, Global};

@@ -6,7 +6,7 @@ ghost use Rattle.brpc_model.specs.ScriptText.{script_text};
 ghost use Rattle.script_items.specs.Meaning.{item};
 
 use crate::draws::Draws;
-use script_items::{Bytes, CallLine, Line, Name, Names, OpenLine, Script, SendLine};
+use script_items::{Bytes, CallLine, Line, Name, Names, OpenLine, SendLine};
 use sock_io::NoMemory;
 use sock_words::Shape;
 use std::alloc::{AllocError, Global};
@@ -170,22 +170,22 @@ fn generated_lines(
     Ok(lines)
 }
 
-/// The script that a seed below 2^32 draws: four links, and 1 to 31 clients with at least one
+/// The lines of the script that a seed below 2^32 draws: four links, and 1 to 31 clients with at least one
 /// operation each and at most 4,092 together. The operations of a client go round the four links,
 /// two of them sends and two calls, with 1 to 64 bytes each, which are drawn client by client. The
 /// rule is this project's own. It is read again from what is printed of it, and there is no
 /// error but want of memory.
-pub fn generate(alloc: Global, seed: u64, clients: u16, ops: u16) -> Result<Script, NoMemory>
+pub fn generate(alloc: Global, seed: u64, clients: u16, ops: u16) -> Result<Vec<Line>, NoMemory>
     requires seed_in { seed < 2 ^ 32 }
     requires some_clients { 1 ≤ clients }
     requires clients_in { clients ≤ 31 }
     requires some_ops { 1 ≤ ops }
     requires all_in { clients * ops ≤ 4092 }
-    ensures exact { IfOk result (λ s. s ≡ generated seed clients ops) }
-    ensures again { IfOk result (λ s. script_of (script_text s) ≡ Ok s) }
+    ensures exact { IfOk result (λ lines. map item lines.items ≡ generated seed clients ops) }
+    ensures again { IfOk result (λ lines. script_of (script_text (map item lines.items)) ≡ Ok (map item lines.items)) }
 {
     match generated_lines(alloc, seed, u32::from(clients), u32::from(ops)) {
-        Ok(lines) => Ok(Script::new(lines)),
+        Ok(lines) => Ok(lines),
         Err(_) => Err(NoMemory),
     }
 }

@@ -1,12 +1,13 @@
-ghost use Rattle.std.specs.Prelude.{◌≡◌, IsErrOf, OnOk};
+ghost use Rattle.std.specs.Prelude.{◌≡◌, IsErrOf, OnOk, map};
 ghost use Rattle.std.specs.Io.KnownBytes.{Appends};
 ghost use Rattle.brpc_model.specs.ScriptText.{script_text};
+ghost use Rattle.script_items.specs.Meaning.{item};
 ghost use Rattle.sock_io.specs.Causes.{Rose};
 ghost use Rattle.sock_io.specs.Writing.{WrotePart};
 ghost use Rattle.script_print.specs.ReadBack.{IsScript, IsReadBack};
 
 use crate::script_text::text_of;
-use script_items::Script;
+use script_items::Line;
 use sock_io::{Sink, write_all};
 use std::alloc::Global;
 
@@ -19,7 +20,7 @@ pub enum PrintFault {
     NoMemory,
 }
 
-/// Prints a script, a line for each item: the sizes that differ from their defaults in the order
+/// Prints the script of these lines, a line for each item: the sizes that differ from their defaults in the order
 /// `slots`, `requests`, `first`; then the setup and the clients; then `sched` and the schedule,
 /// where it has lines. Options of an `open` stand in the order piece, again, fail, serve, end, and
 /// `att` before `retry`, each where it isn't the default; hexadecimal is in lower case.
@@ -27,18 +28,18 @@ pub enum PrintFault {
 /// What is printed of a script that was read is read again as the same script. `Sink` comes only
 /// where the sink failed, and `NoMemory` only before anything was written. The rules of the text
 /// are this project's own.
-pub fn print_script<K: Sink>(alloc: Global, script: &Script, out: &mut K) -> Result<(), PrintFault>
+pub fn print_script<K: Sink>(alloc: Global, lines: &[Line], out: &mut K) -> Result<(), PrintFault>
     ensures whole { OnOk result (
-        Appends (K.contents out.old) (K.contents out.new) (script_text script.now)) }
+        Appends (K.contents out.old) (K.contents out.new) (script_text (map item lines.now))) }
     ensures kept { OnOk result (K.faults out.new ≡ K.faults out.old) }
     ensures failed { IsErrOf result PrintFault.Sink →
         Rose (K.faults out.old) (K.faults out.new) }
     ensures front { IsErrOf result PrintFault.Sink →
-        WrotePart (K.contents out.old) (K.contents out.new) (script_text script.now) }
+        WrotePart (K.contents out.old) (K.contents out.new) (script_text (map item lines.now)) }
     ensures untouched { IsErrOf result PrintFault.NoMemory → out.new ≡ out.old }
-    ensures again { IsScript script.now → IsReadBack script.now }
+    ensures again { IsScript (map item lines.now) → IsReadBack (map item lines.now) }
 {
-    let Ok(text) = text_of(alloc, script) else {
+    let Ok(text) = text_of(alloc, lines) else {
         return Err(PrintFault::NoMemory);
     };
     match write_all(out, text.as_slice()) {

@@ -7,7 +7,7 @@ ghost use Rattle.script_items.specs.Meaning.{item};
 ghost use Rattle.script_print.specs.PrintedParts.{is_body, line, line_where, size_line, lines_text, size_items, body_items, schedule_items};
 
 use crate::lines::{push_line, push_size};
-use script_items::{Line, Script, first_version, request_count, slot_count};
+use script_items::{Line, first_version, request_count, slot_count};
 use std::alloc::{AllocError, Global};
 
 /// The number of socket slots where a script gives none.
@@ -131,12 +131,11 @@ fn push_schedule(alloc: Global, text: &mut Vec<u8>, lines: &[Line]) -> Result<()
     push_turns(alloc, text, lines)
 }
 
-/// The text of a script: the sizes that differ from their defaults, the setup and the clients,
-/// and the schedule where it has lines.
-pub fn text_of(alloc: Global, script: &Script) -> Result<Vec<u8>, AllocError>
-    ensures { IfOk result (λ text. text.items ≡ script_text script.now) }
+/// The text of the script of these lines: the sizes that differ from their defaults, the setup and
+/// the clients, and the schedule where it has lines.
+pub fn text_of(alloc: Global, lines: &[Line]) -> Result<Vec<u8>, AllocError>
+    ensures { IfOk result (λ text. text.items ≡ script_text (map item lines.now)) }
 {
-    let lines = script.lines();
     let mut text = Vec::new(alloc);
     push_sizes(&mut text, lines)?;
     push_body(alloc, &mut text, lines)?;

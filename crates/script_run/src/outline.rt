@@ -7,7 +7,7 @@ ghost use Rattle.script_run.specs.Outlines.{outlined, meant};
 use crate::mark::Mark;
 use crate::marks::{lines_of, marks_of};
 use ghosts::Ghosts;
-use script_items::{Line, Script};
+use script_lang::{Line, Script};
 use sock_words::Plan;
 use std::alloc::{AllocError, Global};
 use std::marker::Model;

@@ -13,7 +13,7 @@ ghost use Rattle.script_run.specs.Played.{IsPrintOf, IsPrinted, TellClosed, turn
 use crate::outline::Outline;
 use crate::report::{Print, report};
 use crate::schedule::{Schedule, play};
-use script_items::Script;
+use script_lang::Script;
 use script_links::{give_back, open_links};
 use sock_core::{Finished, Machine, NotMade, Prepared};
 use sock_io::{Ends, In, Linker, Mode, NoMemory, OpenFault, Out, Peer};

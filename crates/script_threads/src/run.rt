@@ -23,7 +23,7 @@ use call_run::{NoneBeside, Ran, RanBeside, meet_all, run_beside};
 use corr_id::{IdSeat, IdTable};
 use prpc_frame::Frame;
 use rpc_client::Told;
-use script_items::Script;
+use script_lang::Script;
 use script_links::{give_back, open_links};
 use script_parts::{
     Halves, NoMemory, Ready, join, or_no_memory, outcomes_of, part, prepare, report,

@@ -4,8 +4,7 @@ ghost use Rattle.seat_programs.specs.Scripts.{all_tasks};
 ghost use Rattle.seat_programs.specs.Tasks.{plan_of, id_plan_of, opens, calls};
 
 use corr_core::Plan as IdPlan;
-use script_items::Script;
-use script_tasks::{BlockPool, NoMemory, calls_of, id_plan_of, opens_of, plan_of, tasks_of};
+use script_lang::{BlockPool, NoMemory, Script};
 use seat_programs::Task;
 use sock_words::Plan;
 use std::alloc::Global;
@@ -34,13 +33,12 @@ pub fn wanted_of(alloc: Global, script: &Script) -> Result<Wanted, NoMemory>
     ensures clients { IfOk result (λ w. map (λ (tasks : _). tasks.items) w.clients.items ≡ all_tasks script.now) }
     ensures opens { IfOk result (λ w. w.opens.items ≡ opens script.now) }
 {
-    let lines = script.lines();
     let mut pool = BlockPool::new(alloc);
     Ok(Wanted {
-        plan: plan_of(alloc, lines)?,
-        id_plan: id_plan_of(lines),
-        calls: calls_of(alloc, lines)?,
-        clients: tasks_of(alloc, &mut pool, lines)?,
-        opens: opens_of(alloc, lines)?,
+        plan: script.plan(),
+        id_plan: script.id_plan(),
+        calls: script.calls(alloc)?,
+        clients: script.tasks(alloc, &mut pool)?,
+        opens: VecDeque::from_vec(script.opens(alloc)?),
     })
 }

@@ -16,7 +16,7 @@ use crate::finished::{Finished, gather_places};
 use crate::inputs::Wanted;
 use crate::prepared::Prepared;
 use machine_tables::{READERS, Table, Tables, Tick, parts_of};
-use script_items::Script;
+use script_lang::Script;
 use sock_io::{Ends, In, Linker, NoMemory, Out, Peer};
 use sock_message::BlockPool;
 use sock_words::{Kind, PlaceWord};

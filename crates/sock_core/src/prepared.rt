@@ -5,8 +5,7 @@ ghost use Rattle.sock_core.specs.Beginnings.{IsWanted};
 
 use crate::inputs::{Wanted, wanted_of};
 use ghosts::Ghosts;
-use script_items::{Line, Script};
-use script_tasks::NoMemory;
+use script_lang::{Line, NoMemory, Script};
 use sock_words::Plan;
 use std::alloc::Global;
 use std::marker::Model;

@@ -11,3 +11,6 @@ pub loop-rest-preserved : goal.loop-rest-preserved
 loop-rest-preserved c =
     let sofar = c.loop-rest.invariant in
     read_more c.args.bytes.now c.loop-rest.rest.now c.first_line.result.0.now c.first_line.result.1.now c.loop-rest.reader c.read.new.self sofar c.first_line.ensures.lines c.first_line.ensures.shorter (c.in_ok-read.ensures sofar.said sofar.knows)
+
+pub finish-requires : goal.finish-requires
+finish-requires c = (c.loop-rest.invariant.said, c.loop-rest.invariant.knows)

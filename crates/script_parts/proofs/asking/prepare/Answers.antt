@@ -1,15 +1,23 @@
-use Rattle.std.proofs.Common.{ap, sym, subst, ◌∙◌, ◌+◌, length, map, arith}
+use Rattle.std.proofs.Common.{ap, sym, ◌∙◌, ◌+◌, length, map, arith}
 use Rattle.std.proofs.lemmas.List.{length-map}
 use Rattle.brpc_model.specs.Operations.{clients}
-use Rattle.seat_programs.specs.Tasks.{plan_of}
-use Rattle.brpc_model.specs.Limits.{KeepsLimits}
+use Rattle.corr_core.specs.declared.marks.Plan.{Plan}
 use Rattle.report_fits.proofs.Sizes.{keeps_limits}
 use Rattle.report_fits.proofs.TaskLemmas.{tasks_length}
 use Rattle.script_parts.proofs.Numbers.{front_of}
 use Rattle.script_parts.proofs.asking.prepare.Goals as goal
 
-pub plan_of-requires : goal.plan_of-requires
-plan_of-requires g c = subst KeepsLimits (sym c.lines.ensures) (keeps_limits c.requires.script.0 c.args.script.now c.requires.script.1)
+pub opens-requires : goal.opens-requires
+opens-requires g c = keeps_limits c.requires.script.0 c.args.script.now c.requires.script.1
+
+pub calls-requires : goal.calls-requires
+calls-requires g c = keeps_limits c.requires.script.0 c.args.script.now c.requires.script.1
+
+pub plan-requires : goal.plan-requires
+plan-requires g c = keeps_limits c.requires.script.0 c.args.script.now c.requires.script.1
+
+pub id_plan-requires : goal.id_plan-requires
+id_plan-requires g c = keeps_limits c.requires.script.0 c.args.script.now c.requires.script.1
 
 pub remove-setup-requires : goal.remove-setup-requires
 remove-setup-requires g c =
@@ -20,8 +28,8 @@ pub returns : goal.returns
 returns g c =
     let n = ap length c.in_ok-clients.ensures ∙ tasks_length c.args.script.now 0 (clients c.args.script.now + 1) in
     let k = length-map c.in_ok-clients.clients.items (λ v. v.items) in record {
-      plan = c.in_ok-plan.ensures ∙ ap plan_of c.lines.ensures;
-      slots = c.call_slots.ensures;
+      plan = c.plan.ensures;
+      slots = ap (λ (p : Plan). p.slots) c.id_plan.ensures;
       tasks = sym (ap (map (λ v. v.items)) (front_of c.in_ok-clients.clients.items c.remove-setup.new.self.items c.remove-setup.result (omega (arith, n, k)) c.remove-setup.ensures.value c.remove-setup.ensures.by_index.2)) ∙ c.in_ok-clients.ensures;
       opens_are = c.in_ok-opens.ensures;
       calls_are = c.in_ok-calls.ensures;

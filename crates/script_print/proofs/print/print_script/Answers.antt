@@ -1,11 +1,13 @@
+use Rattle.std.proofs.Common.{map}
+use Rattle.script_items.specs.Meaning.{item}
 use Rattle.script_print.proofs.Again.{read_back}
 use Rattle.script_print.proofs.print.print_script.Goals as goal
 
 pub returns-in_default-clause-again : goal.returns-in_default-clause-again
-returns-in_default-clause-again g c = read_back c.args.script.now
+returns-in_default-clause-again g c = read_back (map item c.args.lines.now)
 
 pub returns-in-Ok-write_all-clause-again : goal.returns-in-Ok-write_all-clause-again
-returns-in-Ok-write_all-clause-again g c = read_back c.args.script.now
+returns-in-Ok-write_all-clause-again g c = read_back (map item c.args.lines.now)
 
 pub returns-clause-again : goal.returns-clause-again
-returns-clause-again g c = read_back c.args.script.now
+returns-clause-again g c = read_back (map item c.args.lines.now)

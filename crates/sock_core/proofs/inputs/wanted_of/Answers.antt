@@ -1,33 +1,21 @@
-use Rattle.std.proofs.Common.{◌≡◌, ℕ, List, Ok, subst, sym}
-use Rattle.std.specs.List.{AllByRecursion}
-use Rattle.brpc_model.specs.Items.{Item}
-use Rattle.brpc_model.specs.Script.{script_of}
-use Rattle.brpc_model.specs.Limits.{KeepsLimits}
 use Rattle.report_fits.proofs.Sizes.{keeps_limits, is_counted}
-use Rattle.script_tasks.specs.Along.{IsShort}
-use Rattle.script_tasks.proofs.Shorts.{are_short}
+use Rattle.script_lang.proofs.Shorts.{are_short}
 use Rattle.sock_core.proofs.inputs.wanted_of.Goals as goal
 
-limits_of : (script lines : List Item) → lines ≡ script → (bytes : List ℕ) × (script_of bytes ≡ Ok script) → KeepsLimits lines
-limits_of script lines e reads = subst KeepsLimits (sym e) (keeps_limits reads.0 script reads.1)
+pub plan-requires : goal.plan-requires
+plan-requires c = keeps_limits c.requires.0 c.args.script.now c.requires.1
 
-shorts_of : (script lines : List Item) → lines ≡ script → (bytes : List ℕ) × (script_of bytes ≡ Ok script) → AllByRecursion IsShort lines
-shorts_of script lines e reads = subst (AllByRecursion IsShort) (sym e) (are_short script (is_counted reads.0 script reads.1).in_range)
+pub id_plan-requires : goal.id_plan-requires
+id_plan-requires c = keeps_limits c.requires.0 c.args.script.now c.requires.1
 
-pub plan_of-requires : goal.plan_of-requires
-plan_of-requires c = limits_of c.args.script.now _ c.lines-lines.ensures c.requires
+pub calls-requires : goal.calls-requires
+calls-requires c = keeps_limits c.requires.0 c.args.script.now c.requires.1
 
-pub tasks_of-requires-clause-limits : goal.tasks_of-requires-clause-limits
-tasks_of-requires-clause-limits c = limits_of c.args.script.now _ c.lines-lines.ensures c.requires
+pub tasks-requires-clause-limits : goal.tasks-requires-clause-limits
+tasks-requires-clause-limits c = keeps_limits c.requires.0 c.args.script.now c.requires.1
 
-pub tasks_of-requires-clause-calls : goal.tasks_of-requires-clause-calls
-tasks_of-requires-clause-calls c = shorts_of c.args.script.now _ c.lines-lines.ensures c.requires
+pub tasks-requires-clause-calls : goal.tasks-requires-clause-calls
+tasks-requires-clause-calls c = are_short c.args.script.now (is_counted c.requires.0 c.args.script.now c.requires.1).in_range
 
-pub opens_of-requires : goal.opens_of-requires
-opens_of-requires c = limits_of c.args.script.now _ c.lines-lines.ensures c.requires
-
-pub id_plan_of-requires : goal.id_plan_of-requires
-id_plan_of-requires c = limits_of c.args.script.now _ c.lines-lines.ensures c.requires
-
-pub calls_of-requires : goal.calls_of-requires
-calls_of-requires c = limits_of c.args.script.now _ c.lines-lines.ensures c.requires
+pub opens-requires : goal.opens-requires
+opens-requires c = keeps_limits c.requires.0 c.args.script.now c.requires.1

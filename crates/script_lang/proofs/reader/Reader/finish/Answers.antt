@@ -1,7 +1,9 @@
 use Rattle.std.proofs.Common.{rules, ◌≡◌, ℕ, Bool, List, Option, option_map, None, Ok, map, refl, ap, sym, ◌∙◌}
 use Rattle.std.specs.List.{find}
+use Rattle.brpc_model.specs.Places as model
 use Rattle.script_items.specs.Meaning.{item}
 use Rattle.script_lang.specs.declared.uses.CallUse.{CallUse}
+use Rattle.script_lang.specs.Counting.{counts_of}
 use Rattle.script_lang.proofs.Whole.{whole_is, fault_in, is_absent, is_hanging}
 use Rattle.script_lang.proofs.reader.Reader.finish.Goals as goal
 
@@ -36,3 +38,9 @@ returns c = λ said knows.
     ∙ ap (λ l. fault_in l 10 (fault_in c.first_hanging.result 11 (Ok (map item self.lines.items)))) none
     ∙ ap (λ h. fault_in h 11 (Ok (map item self.lines.items))) none-2
     ∙ ap (λ is. Ok is) (sym (c.new.ensures ∙ ap (map item) c.shrink_to_fit.ensures.items))
+
+pub new-requires-clause-names : goal.new-requires-clause-names
+new-requires-clause-names c = let knows = c.requires.1 in knows.names ∙ ap model.names (sym (ap (map item) c.shrink_to_fit.ensures.items ∙ knows.lines))
+
+pub new-requires-clause-counts : goal.new-requires-clause-counts
+new-requires-clause-counts c = let knows = c.requires.1 in knows.counts ∙ ap counts_of (sym (ap (map item) c.shrink_to_fit.ensures.items ∙ knows.lines))

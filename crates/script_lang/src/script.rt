@@ -1,0 +1,131 @@
+ghost use Rattle.std.specs.Prelude.{◌≡◌, ℕ, List, Ok, map, IfOk};
+ghost use Rattle.brpc_model.specs.Places as model;
+ghost use Rattle.brpc_model.specs.Script.{script_of};
+ghost use Rattle.brpc_model.specs.Limits.{KeepsLimits};
+ghost use Rattle.script_items.specs.Meaning.{item};
+ghost use Rattle.script_lang.specs.Counting.{counts_of};
+ghost use Rattle.seat_programs.specs.Tasks.{id_plan_of, plan_of};
+
+use crate::counts::Counts;
+use crate::names::NameList;
+use corr_core::Plan as IdPlan;
+use script_items::Line;
+use sock_words::Plan;
+use std::alloc::{AllocError, Global};
+use std::marker::Model;
+
+/// The slots of the sockets where none are given.
+const SLOTS: u32 = 31;
+/// The room for requests where none is given.
+const REQUESTS: u32 = 4096;
+/// The first version of each slot where none is given.
+const FIRST: u32 = 0;
+/// The seat of the reader of the first link: those before it are the clients'.
+const READERS: u16 = 32;
+
+/// The lines of a script that say something, in their order, with what was found of them as they
+/// were read: their names, and how many there are of each sort. Contracts see the list of what the
+/// lines say.
+#[derive(Drop)]
+pub struct Script {
+    lines: Vec<Line>,
+    /// In the order of first mention.
+    names: NameList,
+    counts: Counts,
+}
+
+impl Model for Script {
+    ghost use Rattle.std.specs.Prelude.{◌≡◌, List, map};
+    ghost use Rattle.brpc_model.specs.Items.{Item};
+    ghost use Rattle.brpc_model.specs.Places as model;
+    ghost use Rattle.script_items.specs.Meaning.{item};
+    ghost use Rattle.script_lang.specs.Counting.{counts_of};
+
+    ghost Value = { List Item };
+
+    ghost view = { λ s. map item s.lines.items };
+
+    ghost invariant = { λ s. (s.names ≡ model.names (map item s.lines.items)) × (s.counts ≡ counts_of (map item s.lines.items)) };
+}
+
+impl Script {
+    /// The script of these lines, which have these names and counts.
+    pub(crate) fn new(lines: Vec<Line>, names: NameList, counts: Counts) -> Self
+        requires names { names ≡ model.names (map item lines.items) }
+        requires counts { counts ≡ counts_of (map item lines.items) }
+        ensures { result ≡ map item lines.items }
+    {
+        Script {
+            lines,
+            names,
+            counts,
+        }
+    }
+
+    /// The script of lines that were made otherwise, and are what is read of some bytes. The
+    /// memory is for their names.
+    pub fn of(alloc: Global, lines: Vec<Line>) -> Result<Self, AllocError>
+        requires { (bytes : List ℕ) × (script_of bytes ≡ Ok (map item lines.items)) }
+        ensures { IfOk result (λ script. script ≡ map item lines.items) }
+    {
+        let counts = Counts::of(&lines);
+        match NameList::of(alloc, &lines) {
+            Ok(names) => Ok(Script::new(lines, names, counts)),
+            Err(fault) => {
+                drop(lines);
+                Err(fault)
+            }
+        }
+    }
+
+    /// Its lines.
+    pub fn lines(&self) -> &[Line]
+        ensures { map item result.now ≡ self.now }
+    {
+        self.lines.as_slice()
+    }
+
+    /// Its lines, as a vector.
+    pub fn into_lines(self) -> Vec<Line>
+        ensures { map item result.items ≡ self }
+    {
+        self.lines
+    }
+
+    /// Its names, in the order of first mention, by which they are numbered.
+    pub fn names(&self) -> &NameList
+        ensures { result.now ≡ model.names self.now }
+    {
+        &self.names
+    }
+
+    /// The sizes of its table: what its lines give or count, and a seat for each client and one
+    /// for the setup.
+    pub fn plan(&self) -> Plan
+        requires { KeepsLimits self.now }
+        ensures { result ≡ plan_of self.now }
+    {
+        Plan {
+            slots: self.counts.slots.unwrap_or(SLOTS) as u16,
+            links: self.counts.links as u16,
+            requests: self.counts.requests.unwrap_or(REQUESTS) as u16,
+            names: self.names.len() as u16,
+            operations: self.counts.operations as u16,
+            seats: self.counts.clients as u16 + 1,
+            first: self.counts.first.unwrap_or(FIRST),
+        }
+    }
+
+    /// The sizes of its table of call ids: a slot for each call, and a seat for each client and
+    /// for the reader of each link.
+    pub fn id_plan(&self) -> IdPlan
+        requires { KeepsLimits self.now }
+        ensures { result ≡ id_plan_of self.now }
+    {
+        IdPlan {
+            slots: self.counts.calls as u16,
+            operations: self.counts.operations as u16,
+            seats: READERS + self.counts.links as u16,
+        }
+    }
+}

@@ -1,5 +1,0 @@
-pub mod NameSteps
-pub mod Alongs
-pub mod Plans
-pub mod Starts
-pub mod Shorts
