@@ -1,15 +1,13 @@
 -- What links gave whose other ends were inside this process and told in the end what they offered.
-use Rattle.std.specs.Prelude.{ℕ, ◌≡◌, ◌⊎◌, if◌then◌else◌, Bool, true, List, [], ◌∷◌, ◌++◌, flat_map, Some}
-use Rattle.brpc_model.specs.Frame.{frame_bytes}
+use Rattle.std.specs.Prelude.{ℕ, ◌≡◌, ◌⊎◌, if◌then◌else◌, Bool, true, List, [], ◌∷◌, ◌++◌, Some}
 use Rattle.brpc_model.specs.Link.{LinkEnd}
-use Rattle.brpc_model.specs.Reply.{reply_frames}
-use Rattle.brpc_model.specs.Served.{first_of}
+use Rattle.brpc_model.specs.Served.{given_for}
 use Rattle.sock_io.specs.declared.link.LinkSpec.{LinkSpec}
 use Rattle.sock_io.specs.declared.link.Mode.{Mode}
 
 -- what the other end that was asked for gives for these bytes: the server the replies, up to the number that is given
 abbrev pub offered_for : LinkSpec → List ℕ → List ℕ
-offered_for spec took = if spec.shape.serve then flat_map frame_bytes (first_of spec.shape.end (reply_frames took)) else []
+offered_for spec took = if spec.shape.serve then given_for spec.shape took else []
 
 -- the reading half answered its end or its closing
 abbrev pub WasReadOut : LinkEnd → Type 0
