@@ -1,11 +1,14 @@
-use Rattle.std.proofs.Common.{◌≡◌, List, Ok, sym, subst}
+use Rattle.std.proofs.Common.{◌≡◌, List, Ok, map, sym, subst}
+use Rattle.brpc_model.specs.Drawn.{generated}
 use Rattle.brpc_model.specs.Items.{Item}
 use Rattle.brpc_model.specs.Script.{script_of}
 use Rattle.brpc_model.specs.ScriptText.{script_text}
+use Rattle.script_items.specs.Meaning.{item}
 use Rattle.script_print.proofs.Generated.{generated_back}
 use Rattle.script_print.proofs.generator.generate.Goals as goal
 
 pub returns-in-Ok-clause-again : goal.returns-in-Ok-clause-again
 returns-in-Ok-clause-again c =
+    let is : map item c.in-Ok.lines.items ≡ generated c.args.seed c.args.clients c.args.ops = cc c.in-Ok.ensures in
     let reads : List Item → Type 0 = λ s. script_of (script_text s) ≡ Ok s in
-    subst reads (sym c.in-Ok.ensures) (generated_back c.args.seed c.args.clients c.args.ops c.requires.clients_in c.requires.all_in)
+    subst reads (sym is) (generated_back c.args.seed c.args.clients c.args.ops c.requires.clients_in c.requires.all_in)
