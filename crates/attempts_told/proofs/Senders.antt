@@ -60,7 +60,7 @@ use Rattle.call_whys.specs.call_told.specs.Below.sock_deeds.specs.Left.{accepted
 use Rattle.call_whys.specs.call_told.specs.Below.sock_deeds.specs.Runs.{IsOperation}
 use Rattle.call_whys.specs.call_told.specs.Below.sock_deeds.proofs.Flats.{flat_from, flat_there, flat-append}
 use Rattle.call_whys.specs.call_told.specs.Below.sock_deeds.proofs.Places.{to_slice, map_back, map_there}
-use Rattle.call_whys.specs.call_told.specs.Below.report_fits.proofs.Lists.{contains_from}
+use Rattle.call_whys.specs.Below.script_facts.proofs.Lists.{contains_from}
 use Rattle.attempts_told.proofs.Bounds.{attempted_grows, acted_grows}
 
 -- ## Frames

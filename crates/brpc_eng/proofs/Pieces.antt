@@ -4,7 +4,7 @@ use Rattle.std.proofs.lemmas.List.Folds.{list_all-append}
 use Rattle.std.specs.List.{list_all}
 use Rattle.brpc_model.specs.Items.{Item, Open}
 use Rattle.brpc_model.specs.Script.{script_of}
-use Rattle.report_fits.proofs.Reading.{InRange, IsPlaced, by_lines}
+use Rattle.script_threads.specs.script_parts.specs.script_facts.proofs.Reading.{InRange, IsPlaced, by_lines}
 use Rattle.script_links.specs.Given.{has_piece}
 
 item_has : (item : Item) → InRange item → has_piece item ≡ true

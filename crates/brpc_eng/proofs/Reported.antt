@@ -21,8 +21,8 @@ use Rattle.seat_programs.specs.Scripts.{drawn_turns, place_words}
 use Rattle.seat_programs.specs.Scripts as scripts
 use Rattle.seat_programs.specs.Tasks.{plan_of}
 use Rattle.seat_programs.specs.ToldCalls.{Fixed}
-use Rattle.report_fits.proofs.Lists.{within, has_from, has_none}
-use Rattle.report_fits.proofs.Places.{lateness}
+use Rattle.script_threads.specs.script_parts.specs.script_facts.proofs.Lists.{within, has_from, has_none}
+use Rattle.script_threads.specs.script_parts.specs.report_fits.proofs.Places.{lateness}
 use Rattle.calls_over.specs.run_theorems.specs.Heard.{as_told, as_taken, take_answers, heard_of, heard_takes}
 use Rattle.calls_over.specs.run_theorems.specs.Unserved.{IsInTime}
 use Rattle.calls_over.specs.run_theorems.proofs.HeardRuns.{one_text_told}

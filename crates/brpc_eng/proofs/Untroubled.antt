@@ -20,17 +20,17 @@ use Rattle.seat_programs.specs.Cores.{Core}
 use Rattle.seat_programs.specs.Tasks.{name_number, numbered, op_of, plan_of}
 use Rattle.seat_programs.specs.Scripts.{Reports, all_tasks, is_callless}
 use Rattle.seat_programs.specs.ToldCalls.{Fixed, Order, ToldCalls}
-use Rattle.report_fits.specs.Ends.{AreEndsOf}
-use Rattle.report_fits.proofs.Lists.{Has, has_later, has_from, contains_from, all_at, some_is}
-use Rattle.report_fits.proofs.Callless.{not_later}
-use Rattle.report_fits.proofs.TaskLemmas.{numbers_at, asks_at, mentions_send}
-use Rattle.report_fits.proofs.Reported.{SaidOrPlaced}
-use Rattle.report_fits.proofs.Known as known
-use Rattle.report_fits.proofs.Lines.{Given}
-use Rattle.report_fits.proofs.Lives as lives
-use Rattle.report_fits.proofs.Causes as causes
-use Rattle.report_fits.proofs.Fitting.{fits_run}
-use Rattle.report_fits.proofs.Places.{lateness, known_of}
+use Rattle.script_threads.specs.script_parts.specs.report_fits.specs.Ends.{AreEndsOf}
+use Rattle.script_threads.specs.script_parts.specs.script_facts.proofs.Lists.{Has, has_later, has_from, contains_from, all_at, some_is}
+use Rattle.script_threads.specs.script_parts.specs.report_fits.proofs.Callless.{not_later}
+use Rattle.script_threads.specs.script_parts.specs.script_facts.proofs.TaskLemmas.{numbers_at, asks_at, mentions_send}
+use Rattle.script_threads.specs.script_parts.specs.report_fits.proofs.Reported.{SaidOrPlaced}
+use Rattle.script_threads.specs.script_parts.specs.script_facts.proofs.Known as known
+use Rattle.script_threads.specs.script_parts.specs.report_fits.proofs.Lines.{Given}
+use Rattle.script_threads.specs.script_parts.specs.report_fits.proofs.Lives as lives
+use Rattle.script_threads.specs.script_parts.specs.report_fits.proofs.Causes as causes
+use Rattle.script_threads.specs.script_parts.specs.report_fits.proofs.Fitting.{fits_run}
+use Rattle.script_threads.specs.script_parts.specs.report_fits.proofs.Places.{lateness, known_of}
 use Rattle.calls_over.specs.run_theorems.specs.Unserved.{IsInTime}
 use Rattle.calls_over.specs.run_theorems.proofs.Runs.{not_early}
 

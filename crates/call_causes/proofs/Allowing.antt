@@ -10,12 +10,12 @@ use Rattle.seat_programs.specs.Sends.{block}
 use Rattle.seat_programs.specs.Rounds.{round}
 use Rattle.seat_programs.specs.Cores.{Core}
 use Rattle.seat_programs.specs.Ticks.{Moment}
-use Rattle.outcome_causes.specs.sock_runs.specs.May.{May}
-use Rattle.outcome_causes.specs.sock_runs.specs.GoesOn.{GoesOn}
-use Rattle.outcome_causes.specs.sock_runs.specs.Sound.{Sound, first_step}
-use Rattle.outcome_causes.specs.sock_runs.proofs.Cases as cases
-use Rattle.outcome_causes.specs.sock_runs.proofs.Rounds.{begins_round}
-use Rattle.outcome_causes.specs.sock_runs.proofs.Passes.{goes_round}
+use Rattle.outcome_stories.specs.program_steps.specs.May.{May}
+use Rattle.outcome_stories.specs.program_steps.specs.GoesOn.{GoesOn}
+use Rattle.outcome_stories.specs.program_steps.specs.Sound.{Sound, first_step}
+use Rattle.outcome_stories.specs.program_steps.proofs.Cases as cases
+use Rattle.outcome_stories.specs.program_steps.proofs.Rounds.{begins_round}
+use Rattle.outcome_stories.specs.program_steps.proofs.Passes.{goes_round}
 use Rattle.id_runs.specs.Goes as goes
 use Rattle.call_causes.proofs.SockWords.{IsInside}
 use Rattle.call_causes.proofs.Ticks.{other_there, AllowsDo}

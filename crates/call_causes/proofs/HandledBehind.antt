@@ -10,7 +10,7 @@ use Rattle.seat_programs.specs.Calls.{LoadOpen}
 use Rattle.seat_programs.specs.Programs.{Program, Do, Aside}
 use Rattle.seat_programs.specs.Cores.{Core, SeatState}
 use Rattle.seat_programs.specs.Ticks.{Moment, ticked, run}
-use Rattle.outcome_causes.specs.sock_runs.specs.Sound.{first_step}
+use Rattle.outcome_stories.specs.program_steps.specs.Sound.{first_step}
 use Rattle.call_causes.specs.Lists.{soon_at, shows_in}
 use Rattle.call_causes.specs.Posts.{Post, posted_at}
 use Rattle.call_causes.specs.Decided.{is_late_step, late_at, late_in, posted_behind}

@@ -17,7 +17,7 @@ use Rattle.seat_programs.specs.Beside.{found_in}
 use Rattle.seat_programs.specs.Readers.{slot_in, version_in, kept_for, reader}
 use Rattle.seat_programs.specs.Cores.{Core, SeatState}
 use Rattle.seat_programs.specs.Ticks.{Moment, taken}
-use Rattle.outcome_causes.specs.sock_runs.specs.Sound.{first_step}
+use Rattle.outcome_stories.specs.program_steps.specs.Sound.{first_step}
 use Rattle.owed_calls.proofs.OwingRuns.{same_first}
 use Rattle.call_causes.specs.Posts.{Post, posts_by, posted_with, posted_at}
 use Rattle.call_causes.specs.Scenes.{In}

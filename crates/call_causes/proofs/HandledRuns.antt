@@ -13,9 +13,9 @@ use Rattle.seat_programs.specs.Programs.{Program, Write, Round}
 use Rattle.seat_programs.specs.Cores.{Core, SeatState}
 use Rattle.seat_programs.specs.Ticks.{Moment, quiet, ticked, run}
 use Rattle.seat_programs.specs.Runs.{IsAtRest}
-use Rattle.outcome_causes.specs.sock_runs.specs.Sound.{IsAhead, first_step, views_after}
-use Rattle.outcome_causes.specs.sock_runs.proofs.Along.{seat_rests, ticked_ahead}
-use Rattle.outcome_causes.specs.sock_runs.proofs.Quiets.{ticked_rests}
+use Rattle.outcome_stories.specs.program_steps.specs.Sound.{IsAhead, first_step, views_after}
+use Rattle.outcome_stories.specs.sock_runs.proofs.Along.{seat_rests, ticked_ahead}
+use Rattle.outcome_stories.specs.sock_runs.proofs.Quiets.{ticked_rests}
 use Rattle.owed_calls.specs.joint_runs.proofs.Both.{BothSound, AreBoth}
 use Rattle.id_runs.specs.Held.{IdView}
 use Rattle.id_runs.specs.Goes.{IdGoesOn, SoundIds}

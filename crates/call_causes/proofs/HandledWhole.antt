@@ -23,15 +23,15 @@ use Rattle.seat_programs.specs.Cores.{Core, SeatState, resolved, waiting_at, nex
 use Rattle.seat_programs.specs.Ticks.{Moment, run}
 use Rattle.seat_programs.specs.Tasks.{opens, calls, plan_of, id_plan_of}
 use Rattle.seat_programs.specs.Scripts.{sizes_of, programs, all_tasks, opened, ending, set_up, played, is_ending, IsRunWithCalls}
-use Rattle.outcome_causes.specs.sock_runs.proofs.OpensStay.{readers_begin}
-use Rattle.outcome_causes.specs.sock_runs.proofs.Whole.{views_played, views_closed, views_ended}
+use Rattle.outcome_stories.specs.program_walks.proofs.OpensStay.{readers_begin}
+use Rattle.outcome_stories.specs.program_walks.proofs.Whole.{views_played, views_closed, views_ended}
 use Rattle.owed_calls.specs.programs_allowed.proofs.Beginning as clients_begin
 use Rattle.id_runs.specs.Held.{IdView}
 use Rattle.id_runs.specs.Goes.{SoundIds}
 use Rattle.owed_calls.specs.joint_runs.proofs.Both.{BothSound}
 use Rattle.owed_calls.specs.joint_runs.proofs.Runs.{AreMade, first_views, joint_runs}
-use Rattle.owed_calls.specs.report_fits.proofs.Reading.{InRange}
-use Rattle.owed_calls.specs.report_fits.proofs.Targets.{AreThere}
+use Rattle.owed_calls.specs.script_facts.proofs.Reading.{InRange}
+use Rattle.owed_calls.specs.script_facts.proofs.Targets.{AreThere}
 use Rattle.call_causes.specs.Lists.{advanced_at, given, soon_at, shows_in, shows_in_run, soon_of_run}
 use Rattle.call_causes.specs.Posts.{Post, posted_at}
 use Rattle.call_causes.specs.Decided.{posted_by, Decision, decided_by, posted_behind, late_in}

@@ -5,7 +5,7 @@ use lib.ListN.{get_elem?}
 use Rattle.sock_words.specs.declared.plain.Plan.{Plan}
 use Rattle.corr_core.specs.declared.marks.Plan.{Plan as IdPlan}
 use Rattle.seat_programs.specs.declared.task.Task.{Task}
-use Rattle.outcome_causes.specs.sock_runs.specs.Sound.{AllRest}
+use Rattle.outcome_stories.specs.program_steps.specs.Sound.{AllRest}
 use Rattle.call_causes.specs.Scenes.{Scene}
 use Rattle.call_causes.specs.Says.{Mark, SaysOn}
 use Rattle.call_causes.specs.Stories.{word_at, CallStory}

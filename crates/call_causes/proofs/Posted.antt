@@ -19,8 +19,8 @@ use Rattle.seat_programs.specs.Told.{TaskFits, OpFits, IsTask, Became}
 use Rattle.seat_programs.specs.ToldCalls.{Fixed, Order, ShowsId}
 use Rattle.seat_programs.specs.Scripts.{all_tasks, IsRunWithCalls}
 use Rattle.owed_calls.specs.joint_runs.proofs.Runs.{AreMade}
-use Rattle.owed_calls.specs.report_fits.proofs.Reading.{InRange}
-use Rattle.owed_calls.specs.report_fits.proofs.Targets.{AreThere}
+use Rattle.owed_calls.specs.script_facts.proofs.Reading.{InRange}
+use Rattle.owed_calls.specs.script_facts.proofs.Targets.{AreThere}
 use Rattle.owed_calls.specs.Lives.{ClosesInRun}
 use Rattle.call_causes.specs.Lists.{given, times, shows_in_run, attempts_of_run}
 use Rattle.call_causes.specs.Posts.{Post, posts_of_run}

@@ -16,10 +16,10 @@ use Rattle.seat_programs.specs.Ticks.{Moment, quiet, ticked, run}
 use Rattle.seat_programs.specs.Runs.{IsAtRest}
 use Rattle.seat_programs.specs.Tasks.{opens, calls, plan_of, id_plan_of}
 use Rattle.seat_programs.specs.Scripts.{sizes_of, programs, readers_from, all_programs, all_tasks, opened, ending, set_up, played, is_ending, IsRunWithCalls}
-use Rattle.outcome_causes.specs.sock_runs.specs.Sound.{IsAhead, views_after, views_along}
-use Rattle.outcome_causes.specs.sock_runs.proofs.Along.{seat_rests, ticked_ahead}
-use Rattle.outcome_causes.specs.sock_runs.proofs.Quiets.{ticked_rests, run_rests}
-use Rattle.outcome_causes.specs.sock_runs.proofs.Whole.{views_played, views_closed}
+use Rattle.outcome_stories.specs.program_steps.specs.Sound.{IsAhead, views_after, views_along}
+use Rattle.outcome_stories.specs.sock_runs.proofs.Along.{seat_rests, ticked_ahead}
+use Rattle.outcome_stories.specs.sock_runs.proofs.Quiets.{ticked_rests, run_rests}
+use Rattle.outcome_stories.specs.program_walks.proofs.Whole.{views_played, views_closed}
 use Rattle.owed_calls.specs.joint_runs.proofs.Both.{BothSound, AreBoth, behind_both}
 use Rattle.owed_calls.specs.joint_runs.proofs.Runs.{AreMade, first_views, IsSoundRun, joint_runs}
 use Rattle.owed_calls.specs.joint_runs.proofs.Starts.{narrow}

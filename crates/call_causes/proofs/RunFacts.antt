@@ -12,9 +12,9 @@ use Rattle.seat_programs.specs.Cores.{Core, resolved, waiting_at, next_step}
 use Rattle.seat_programs.specs.Ticks.{quiet, run}
 use Rattle.seat_programs.specs.Tasks.{opens, calls, plan_of, id_plan_of}
 use Rattle.seat_programs.specs.Scripts.{sizes_of, programs, readers_from, all_programs, all_tasks, opened, ending, set_up, played, is_ending, IsRunWithCalls}
-use Rattle.outcome_causes.specs.sock_runs.specs.Sound.{IsAhead}
-use Rattle.outcome_causes.specs.sock_runs.proofs.Along.{seat_ahead, run_ahead, beginning_ahead}
-use Rattle.outcome_causes.specs.sock_runs.proofs.Quiets.{run_seats}
+use Rattle.outcome_stories.specs.program_steps.specs.Sound.{IsAhead}
+use Rattle.outcome_stories.specs.sock_runs.proofs.Along.{seat_ahead, run_ahead, beginning_ahead}
+use Rattle.outcome_stories.specs.sock_runs.proofs.Quiets.{run_seats}
 use Rattle.owed_calls.specs.programs_allowed.proofs.Lasting.{length_all}
 use Rattle.id_rule.specs.Lawful.{newcomer}
 use Rattle.id_runs.specs.Goes.{IdGoesOn}

@@ -17,12 +17,12 @@ use Rattle.seat_programs.specs.Scripts.{all_tasks}
 use Rattle.seat_programs.specs.Told.{HaveOwnLinks, IsOpen}
 use Rattle.owed_calls.specs.programs_allowed.proofs.Beginning as beginning
 use Rattle.owed_calls.specs.joint_runs.proofs.Runs.{AreMade}
-use Rattle.owed_calls.specs.report_fits.proofs.Lists.{Has, has_later, some_is, has_filter_map, all_at}
-use Rattle.owed_calls.specs.report_fits.proofs.Reading.{InRange}
-use Rattle.owed_calls.specs.report_fits.proofs.Numbering.{link_at, numbered_at, are_from}
-use Rattle.owed_calls.specs.report_fits.proofs.Targets.{IsTarget, AreThere, expired, joined}
-use Rattle.owed_calls.specs.report_fits.proofs.TaskLemmas as lemmas
-use Rattle.owed_calls.specs.report_fits.proofs.TaskLemmas.{of_tasks, has_task, numbers_at, call_asks, expire_asks, join_asks, fail_asks}
+use Rattle.owed_calls.specs.script_facts.proofs.Lists.{Has, has_later, some_is, has_filter_map, all_at}
+use Rattle.owed_calls.specs.script_facts.proofs.Reading.{InRange}
+use Rattle.owed_calls.specs.script_facts.proofs.Numbering.{link_at, numbered_at, are_from}
+use Rattle.owed_calls.specs.script_facts.proofs.Targets.{IsTarget, AreThere, expired, joined}
+use Rattle.owed_calls.specs.script_facts.proofs.TaskLemmas as lemmas
+use Rattle.owed_calls.specs.script_facts.proofs.TaskLemmas.{of_tasks, has_task, numbers_at, call_asks, expire_asks, join_asks, fail_asks}
 use Rattle.call_causes.specs.Scenes.{In, IsTaskOf}
 use Rattle.call_causes.proofs.BirthTicks.{all_in, in_all}
 use Rattle.call_causes.proofs.Numbered.{AllDistinct, AreNumbered}

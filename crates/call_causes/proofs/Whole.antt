@@ -12,11 +12,11 @@ use Rattle.seat_programs.specs.declared.task.Op.TheVariants as ops
 use Rattle.seat_programs.specs.Tasks.{plan_of, id_plan_of}
 use Rattle.seat_programs.specs.Scripts.{all_tasks, IsRunWithCalls}
 use Rattle.seat_programs.specs.ToldCalls.{Fixed, Order}
-use Rattle.outcome_causes.specs.sock_runs.specs.Sound.{AllRest}
-use Rattle.outcome_causes.specs.Facts.{Seeks, CallsFoundNone}
+use Rattle.outcome_stories.specs.program_steps.specs.Sound.{AllRest}
+use Rattle.outcome_stories.specs.Facts.{Seeks, CallsFoundNone}
 use Rattle.owed_calls.specs.joint_runs.proofs.Runs.{AreMade}
-use Rattle.owed_calls.specs.report_fits.proofs.Reading.{InRange}
-use Rattle.owed_calls.specs.report_fits.proofs.Targets.{AreThere}
+use Rattle.owed_calls.specs.script_facts.proofs.Reading.{InRange}
+use Rattle.owed_calls.specs.script_facts.proofs.Targets.{AreThere}
 use Rattle.owed_calls.specs.Lives.{ClosesInRun}
 use Rattle.owed_calls.proofs.Known.{run_all_ended, run_all_rest}
 use Rattle.call_causes.specs.Lists.{given, times, shows_in_run, attempts_of_run}

@@ -10,7 +10,7 @@ use Rattle.seat_programs.specs.Heads.{Decides}
 use Rattle.seat_programs.specs.Programs.{Program, Do, Aside, Round}
 use Rattle.seat_programs.specs.Cores.{Core}
 use Rattle.seat_programs.specs.Ticks.{Moment, ticked}
-use Rattle.outcome_causes.specs.sock_runs.specs.Sound.{first_step}
+use Rattle.outcome_stories.specs.program_steps.specs.Sound.{first_step}
 use Rattle.call_causes.specs.Lists.{shows_in}
 use Rattle.call_causes.specs.Posts.{Post, posted_at}
 

@@ -21,10 +21,10 @@ use Rattle.seat_programs.specs.declared.task.Op.{Op}
 use Rattle.seat_programs.specs.declared.task.Op.TheVariants as ops
 use Rattle.seat_programs.specs.declared.task.Task.{Task}
 use Rattle.seat_programs.specs.Told.{AreTasks, IsTask, Became}
-use Rattle.call_places.specs.Below.outcome_causes.specs.Stories.{In}
-use Rattle.call_places.specs.Below.outcome_causes.proofs.Seats.{Less}
-use Rattle.call_places.specs.Below.outcome_causes.proofs.Tasks.{one_task, sorted_of}
-use Rattle.call_places.specs.Below.report_fits.proofs.Lists.{has_from, contains_from}
+use Rattle.call_places.specs.Below.outcome_stories.specs.Stories.{In}
+use Rattle.call_places.specs.Below.outcome_ticks.proofs.Seats.{Less}
+use Rattle.call_places.specs.Below.outcome_ticks.proofs.Tasks.{one_task, sorted_of}
+use Rattle.call_places.specs.Below.script_facts.proofs.Lists.{has_from, contains_from}
 use Rattle.corr_core.specs.declared.marks.Plan as id_plan
 use Rattle.corr_core.specs.declared.marks.View as id_view
 use Rattle.sock_message.specs.Asked.{Asked}

@@ -14,8 +14,8 @@ use Rattle.chain_steps.proofs.Lists.{old, new, at_snoc}
 use Rattle.seat_programs.specs.declared.task.Op.{Op}
 use Rattle.seat_programs.specs.declared.task.Op.TheVariants as ops
 use Rattle.seat_programs.specs.declared.task.Task.{Task}
-use Rattle.call_places.specs.Below.outcome_causes.proofs.Seats.{Less}
-use Rattle.call_places.specs.Below.report_fits.proofs.Lists.{before_at}
+use Rattle.call_places.specs.Below.outcome_ticks.proofs.Seats.{Less}
+use Rattle.call_places.specs.Below.script_facts.proofs.Lists.{before_at}
 use Rattle.corr_core.specs.declared.marks.Plan as id_plan
 use Rattle.call_places.specs.Below.rpc_client.specs.declared.acting.Told.{Told}
 use Rattle.call_places.specs.Below.rpc_client.specs.Running.{telling}

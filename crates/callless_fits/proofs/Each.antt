@@ -11,8 +11,8 @@ use Rattle.seat_programs.specs.Scripts.{all_tasks, place_words}
 use Rattle.seat_programs.specs.Tasks.{plan_of}
 use Rattle.seat_programs.specs.Told.{IsTask, Became}
 use Rattle.seat_programs.specs.ToldCalls.{Accepted, Order, Fixed, StandsOn, IsSent, OfSend, OfCall}
-use Rattle.report_fits.proofs.Lists.{all_at, within}
-use Rattle.report_fits.proofs.TaskLemmas.{task_is}
+use Rattle.sock_deeds.specs.script_facts.proofs.Lists.{all_at, within}
+use Rattle.sock_deeds.specs.script_facts.proofs.TaskLemmas.{task_is}
 use Rattle.sock_deeds.specs.Told.{IsAttempt, ToldSockets}
 use Rattle.callless_fits.proofs.Words.{HasMessage, accepted_at}
 

@@ -11,12 +11,12 @@ use Rattle.seat_programs.specs.Cores.{Core}
 use Rattle.seat_programs.specs.Scripts.{all_tasks, is_callless, is_later, place_words}
 use Rattle.seat_programs.specs.Tasks.{plan_of}
 use Rattle.seat_programs.specs.ToldCalls.{Fixed, ToldCalls}
-use Rattle.report_fits.specs.Ends.{IsEndOf, AreEndsOf}
-use Rattle.report_fits.proofs.Callless.{not_later}
-use Rattle.report_fits.proofs.Fitting.{fits_run}
-use Rattle.report_fits.proofs.Lines.{Given}
-use Rattle.report_fits.proofs.Numbering.{are_from}
-use Rattle.report_fits.proofs.Places.{known_of}
+use Rattle.sock_deeds.specs.report_fits.specs.Ends.{IsEndOf, AreEndsOf}
+use Rattle.sock_deeds.specs.report_fits.proofs.Callless.{not_later}
+use Rattle.sock_deeds.specs.report_fits.proofs.Fitting.{fits_run}
+use Rattle.sock_deeds.specs.report_fits.proofs.Lines.{Given}
+use Rattle.sock_deeds.specs.script_facts.proofs.Numbering.{are_from}
+use Rattle.sock_deeds.specs.report_fits.proofs.Places.{known_of}
 use Rattle.sock_deeds.specs.Told.{fixed_by}
 use Rattle.callless_fits.specs.Whole.{IsWholeText, AreSilentServed}
 use Rattle.callless_fits.proofs.Sends.{SocketRun, ToldRun, sends_done}

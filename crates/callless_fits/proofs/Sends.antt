@@ -25,16 +25,16 @@ use Rattle.seat_programs.specs.Scripts.{all_tasks, place_words}
 use Rattle.seat_programs.specs.Tasks.{Numbered, name_number, numbered, asked_of, op_of, plan_of}
 use Rattle.seat_programs.specs.Told.{IsTask, Became, Made, OpensNone, IsNoLater, IsFail}
 use Rattle.seat_programs.specs.ToldCalls.{Accepted, Order, Fixed, StandsAt, StandsOn, FoundNone, FailingBy, Seeks, IsSent, OfSend, OfCall, Why, all_accepted, label}
-use Rattle.report_fits.specs.Ends.{AreEndsOf}
-use Rattle.report_fits.proofs.Lists.{Has, has_from, contains_from, within, some_is, all_at}
-use Rattle.report_fits.proofs.Labels as labels
-use Rattle.report_fits.proofs.Lines.{outcome_is}
-use Rattle.report_fits.proofs.Known.{first_number}
-use Rattle.report_fits.proofs.Numbering.{are_from}
-use Rattle.report_fits.proofs.Orders as orders
-use Rattle.report_fits.proofs.Reported.{is_said, SaidOrPlaced, said_or_placed, outcome_told, told_outcome}
-use Rattle.report_fits.proofs.Sizes.{is_counted, keeps_limits}
-use Rattle.report_fits.proofs.TaskLemmas.{numbers_at, asks_at, asked_at, task_is, operation_task, open_asks, send_asks, call_asks, fail_asks, named_at}
+use Rattle.sock_deeds.specs.report_fits.specs.Ends.{AreEndsOf}
+use Rattle.sock_deeds.specs.script_facts.proofs.Lists.{Has, has_from, contains_from, within, some_is, all_at}
+use Rattle.sock_deeds.specs.script_facts.proofs.Labels as labels
+use Rattle.sock_deeds.specs.report_fits.proofs.Lines.{outcome_is}
+use Rattle.sock_deeds.specs.script_facts.proofs.Known.{first_number}
+use Rattle.sock_deeds.specs.script_facts.proofs.Numbering.{are_from}
+use Rattle.sock_deeds.specs.report_fits.proofs.Orders as orders
+use Rattle.sock_deeds.specs.report_fits.proofs.Reported.{is_said, SaidOrPlaced, said_or_placed, outcome_told, told_outcome}
+use Rattle.sock_deeds.specs.script_facts.proofs.Sizes.{is_counted, keeps_limits}
+use Rattle.sock_deeds.specs.script_facts.proofs.TaskLemmas.{numbers_at, asks_at, asked_at, task_is, operation_task, open_asks, send_asks, call_asks, fail_asks, named_at}
 use Rattle.sock_deeds.specs.Told.{fixed_by, IsOfSockets, ToldSockets}
 
 -- what is told of the sockets of a run of a script that was read

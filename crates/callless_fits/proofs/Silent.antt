@@ -6,8 +6,8 @@ use Rattle.brpc_model.specs.Link.{LinkEnd}
 use Rattle.brpc_model.specs.Causes.{HasFault}
 use Rattle.brpc_model.specs.Complete.{IsUntroubled, IsSilentUnserved}
 use Rattle.seat_programs.specs.Cores.{Core}
-use Rattle.report_fits.specs.Ends.{EndsEarly, AreEndsOf}
-use Rattle.report_fits.proofs.Lists.{within, all_at}
+use Rattle.sock_deeds.specs.report_fits.specs.Ends.{EndsEarly, AreEndsOf}
+use Rattle.sock_deeds.specs.script_facts.proofs.Lists.{within, all_at}
 use Rattle.sock_deeds.specs.Told.{fixed_by}
 use Rattle.callless_fits.specs.Whole.{IsSilentServed, AreSilentServed}
 

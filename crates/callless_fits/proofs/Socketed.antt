@@ -10,9 +10,9 @@ use Rattle.seat_programs.specs.declared.task.Task.{Task}
 use Rattle.seat_programs.specs.Scripts.{all_tasks, is_callless, is_later}
 use Rattle.seat_programs.specs.Tasks.{numbered}
 use Rattle.seat_programs.specs.Told.{IsTask}
-use Rattle.report_fits.proofs.Callless.{not_later}
-use Rattle.report_fits.proofs.Numbering.{are_from}
-use Rattle.report_fits.proofs.TaskLemmas.{numbers_at, asks_at, task_is, call_asks, expire_asks, join_asks}
+use Rattle.sock_deeds.specs.report_fits.proofs.Callless.{not_later}
+use Rattle.sock_deeds.specs.script_facts.proofs.Numbering.{are_from}
+use Rattle.sock_deeds.specs.script_facts.proofs.TaskLemmas.{numbers_at, asks_at, task_is, call_asks, expire_asks, join_asks}
 use Rattle.sock_deeds.specs.Told.{IsOfSockets}
 
 module _ (script : List Item) (callless : is_callless script ≡ true) where

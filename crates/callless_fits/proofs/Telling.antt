@@ -14,7 +14,7 @@ use Rattle.seat_programs.specs.Scripts.{all_tasks, is_callless, place_words}
 use Rattle.seat_programs.specs.Tasks.{plan_of}
 use Rattle.seat_programs.specs.Told.{IsTask}
 use Rattle.seat_programs.specs.ToldCalls.{Accepted, Order, Fixed, AreOrders, ToldCalls}
-use Rattle.report_fits.proofs.Lists.{all_map}
+use Rattle.sock_deeds.specs.script_facts.proofs.Lists.{all_map}
 use Rattle.sock_deeds.specs.Told.{IsOfSockets, IsAttempt, ToldSockets}
 use Rattle.callless_fits.proofs.Each.{IsSentHere, none_tried, told_each}
 use Rattle.callless_fits.proofs.Socketed.{of_sockets}

@@ -10,7 +10,7 @@ use Rattle.seat_programs.specs.Cores.{Core}
 use Rattle.seat_programs.specs.Runs.{from_to}
 use Rattle.seat_programs.specs.Scripts.{place_words}
 use Rattle.seat_programs.specs.ToldCalls.{Accepted, Order, AreOrders, StandsAt, label}
-use Rattle.report_fits.proofs.Flat.{map_at, from_to_at}
+use Rattle.sock_deeds.specs.script_facts.proofs.Flat.{map_at, from_to_at}
 
 word_there : (p : Plan) (ws : List ℕ) (n : ℕ) → n < 8 * p.operations → word_at (place_words p ws) n ≡ slice_index ws (place_index p n)
 word_there p ws n low =

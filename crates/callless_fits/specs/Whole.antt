@@ -12,7 +12,7 @@ use Rattle.seat_programs.specs.Cores.{Core}
 use Rattle.seat_programs.specs.Scripts.{all_tasks, place_words}
 use Rattle.seat_programs.specs.Tasks.{plan_of}
 use Rattle.seat_programs.specs.ToldCalls.{Fixed, Order, ToldCalls}
-use Rattle.report_fits.specs.Ends.{AreEndsOf}
+use Rattle.sock_deeds.specs.report_fits.specs.Ends.{AreEndsOf}
 
 -- where the link of this end was opened with `serve`, its other end gave nothing, and no end: so does a server that is asked nothing
 abbrev pub IsSilentServed : List Item → LinkEnd → Type 0

@@ -10,10 +10,10 @@ use Rattle.corr_core.specs.Word.{Parts}
 use Rattle.corr_core.specs.declared.marks.Plan.{Plan as IdPlan}
 use Rattle.id_rule.specs.Lawful.{local}
 use Rattle.id_runs.specs.Held.{id_state}
-use Rattle.report_fits.proofs.Lists.{Has}
-use Rattle.report_fits.proofs.Sizes.{is_counted}
-use Rattle.report_fits.proofs.Targets.{are_there}
-use Rattle.report_fits.proofs.TaskLemmas.{numbers_at, task_is, call_asks}
+use Rattle.served_fits.specs.script_facts.proofs.Lists.{Has}
+use Rattle.served_fits.specs.script_facts.proofs.Sizes.{is_counted}
+use Rattle.served_fits.specs.script_facts.proofs.Targets.{are_there}
+use Rattle.served_fits.specs.script_facts.proofs.TaskLemmas.{numbers_at, task_is, call_asks}
 use Rattle.sock_message.specs.Asked.{Asked, request_of}
 use Rattle.seat_programs.specs.Asides.{id_slot, id_first, call_id}
 use Rattle.seat_programs.specs.Cores.{Core}
@@ -22,16 +22,16 @@ use Rattle.seat_programs.specs.Tasks.{opens, numbered, plan_of, id_plan_of}
 use Rattle.seat_programs.specs.Ticks.{quiet}
 use Rattle.seat_programs.specs.Told.{IsTask}
 use Rattle.seat_programs.specs.ToldCalls.{Fixed}
-use Rattle.sock_runs.proofs.Along.{place_inside}
-use Rattle.sock_runs.proofs.Whole.{closing_of, views_played}
-use Rattle.outcome_causes.proofs.Members.{in_contains}
+use Rattle.served_fits.specs.programs_allowed.specs.sock_runs.proofs.Along.{place_inside}
+use Rattle.served_fits.specs.programs_allowed.specs.program_walks.proofs.Whole.{closing_of, views_played}
+use Rattle.served_fits.specs.outcome_stories.proofs.Members.{in_contains}
 use Rattle.owed_calls.specs.joint_runs.proofs.Runs.{first_views}
 use Rattle.owed_calls.specs.Sound.{id_word_of, at_of, IsOpen}
 use Rattle.owed_calls.proofs.Known.{run_all_rest}
-use Rattle.served_fits.specs.Below.run_theorems.proofs.Lengths.{ended_length}
-use Rattle.served_fits.specs.Below.run_theorems.proofs.Starts.{made}
-use Rattle.served_fits.specs.Below.call_causes.specs.Lists.{given, shows_in, times, advanced_at, attempts_of_run}
-use Rattle.served_fits.specs.Below.call_causes.proofs.Posted.{run_few_attempts}
+use Rattle.served_fits.specs.run_theorems.proofs.Lengths.{ended_length}
+use Rattle.served_fits.specs.run_theorems.proofs.Starts.{made}
+use Rattle.served_fits.specs.call_causes.specs.Lists.{given, shows_in, times, advanced_at, attempts_of_run}
+use Rattle.served_fits.specs.call_causes.proofs.Posted.{run_few_attempts}
 use Rattle.served_fits.specs.send_causes.proofs.Assembled.{fixed_in_run}
 use Rattle.served_fits.specs.send_causes.proofs.AttemptedRuns.{Counted, played_counted, times_append}
 use Rattle.served_fits.specs.send_causes.proofs.DropWhole.{get_same}

@@ -15,18 +15,18 @@ use Rattle.seat_programs.specs.Scripts.{all_tasks, opened, set_up, played, IsRun
 use Rattle.seat_programs.specs.Tasks.{plan_of}
 use Rattle.seat_programs.specs.Ticks.{quiet}
 use Rattle.seat_programs.specs.ToldCalls.{Accepted, Fixed, StandsAt, StandsOn}
-use Rattle.sock_runs.specs.Sound.{state, Sound}
-use Rattle.sock_runs.proofs.Whole.{closing_of, views_played, views_closed, views_ended, end_answered, played_sound, closing_sound, closed_sound, ended_sound}
-use Rattle.outcome_causes.specs.Kept.{IsSpoken}
-use Rattle.outcome_causes.specs.PlainTasks.{told_tasks_of}
-use Rattle.outcome_causes.specs.Stories.{In}
-use Rattle.outcome_causes.proofs.Delivered.{accepted_of, accepted_there}
-use Rattle.outcome_causes.proofs.Final.{at_there, at_within}
-use Rattle.outcome_causes.proofs.Members.{in_contains}
-use Rattle.outcome_causes.proofs.Plain.{in_both, in_left, in_right}
+use Rattle.served_fits.specs.programs_allowed.specs.program_steps.specs.Sound.{state, Sound}
+use Rattle.served_fits.specs.programs_allowed.specs.program_walks.proofs.Whole.{closing_of, views_played, views_closed, views_ended, end_answered, played_sound, closing_sound, closed_sound, ended_sound}
+use Rattle.served_fits.specs.outcome_stories.specs.Kept.{IsSpoken}
+use Rattle.served_fits.specs.outcome_stories.specs.PlainTasks.{told_tasks_of}
+use Rattle.served_fits.specs.outcome_stories.specs.Stories.{In}
+use Rattle.served_fits.specs.outcome_stories.proofs.Delivered.{accepted_of, accepted_there}
+use Rattle.served_fits.specs.outcome_causes.proofs.Final.{at_there, at_within}
+use Rattle.served_fits.specs.outcome_stories.proofs.Members.{in_contains}
+use Rattle.served_fits.specs.outcome_causes.proofs.Plain.{in_both, in_left, in_right}
 use Rattle.owed_calls.specs.joint_runs.proofs.Runs.{AreMade, first_views}
 use Rattle.owed_calls.specs.Lives.{ClosesInRun}
-use Rattle.served_fits.specs.Below.call_causes.specs.Lists.{shows_in}
+use Rattle.served_fits.specs.call_causes.specs.Lists.{shows_in}
 use Rattle.served_fits.specs.send_causes.specs.EndedCalls.{Store, stored_at, stores_of_run}
 use Rattle.served_fits.specs.send_causes.proofs.ClosedLost.{setup_fates, played_fates, early_ended}
 use Rattle.served_fits.specs.send_causes.proofs.ClosedLostTicks.{AreTaken, Ended, word_link, word_attempt}

@@ -12,17 +12,17 @@ use Rattle.seat_programs.specs.Ticks.{Moment, quiet}
 use Rattle.seat_programs.specs.Tasks.{opens, calls, plan_of, id_plan_of}
 use Rattle.seat_programs.specs.Scripts.{sizes_of, programs, readers_from, all_programs, all_tasks, opened, set_up, played, IsRunWithCalls}
 use Rattle.seat_programs.specs.Told.{AreTasks}
-use Rattle.sock_runs.specs.Sound.{views_along}
-use Rattle.sock_runs.proofs.Whole.{set_up_answered, set_up_sound}
-use Rattle.outcome_causes.specs.PlainTasks.{told_tasks_of}
-use Rattle.outcome_causes.specs.Stories.{Event, In}
-use Rattle.outcome_causes.proofs.Begin.{start_story}
-use Rattle.outcome_causes.proofs.Plain.{in_left, in_right}
-use Rattle.outcome_causes.proofs.Openings.{are_seats, all_explained}
-use Rattle.outcome_causes.proofs.Runs.{IsStoried, set_up_over}
-use Rattle.outcome_causes.proofs.Scripts.{own_from}
+use Rattle.served_fits.specs.programs_allowed.specs.program_steps.specs.Sound.{views_along}
+use Rattle.served_fits.specs.programs_allowed.specs.program_walks.proofs.Whole.{set_up_answered, set_up_sound}
+use Rattle.served_fits.specs.outcome_stories.specs.PlainTasks.{told_tasks_of}
+use Rattle.served_fits.specs.outcome_stories.specs.Stories.{Event, In}
+use Rattle.served_fits.specs.outcome_causes.proofs.Begin.{start_story}
+use Rattle.served_fits.specs.outcome_causes.proofs.Plain.{in_left, in_right}
+use Rattle.served_fits.specs.outcome_causes.proofs.Openings.{are_seats, all_explained}
+use Rattle.served_fits.specs.outcome_causes.proofs.Runs.{IsStoried, set_up_over}
+use Rattle.served_fits.specs.outcome_causes.proofs.Scripts.{own_from}
 use Rattle.id_rule.specs.Lawful.{at_index}
-use Rattle.served_fits.specs.Below.call_causes.specs.Lists.{shows_in}
+use Rattle.served_fits.specs.call_causes.specs.Lists.{shows_in}
 use Rattle.served_fits.specs.send_causes.specs.EndedCalls.{Store, stored_at}
 use Rattle.served_fits.specs.send_causes.proofs.Runs.{AreLabelledIn, IsCallOf, asked_by}
 use Rattle.served_fits.specs.send_causes.proofs.EndedTrails.{lost}

@@ -15,8 +15,8 @@ use Rattle.sock_model.specs.Layout.{open_index}
 use Rattle.brpc_model.specs.Items.{Item}
 use Rattle.brpc_model.specs.Frame.{Frame}
 use Rattle.brpc_model.specs.Operations.{Turn, clients}
-use Rattle.report_fits.proofs.Reading.{InRange}
-use Rattle.report_fits.proofs.Targets.{AreThere}
+use Rattle.served_fits.specs.script_facts.proofs.Reading.{InRange}
+use Rattle.served_fits.specs.script_facts.proofs.Targets.{AreThere}
 use Rattle.seat_programs.specs.Asides.{id_slot, id_first}
 use Rattle.seat_programs.specs.Clients.{client_from}
 use Rattle.seat_programs.specs.Heads.{Exit, Reading, Joins, Opens, Reads, Discards}
@@ -26,17 +26,17 @@ use Rattle.seat_programs.specs.Cores.{Core, SeatState}
 use Rattle.seat_programs.specs.Ticks.{Moment, quiet}
 use Rattle.seat_programs.specs.Tasks.{opens, calls, plan_of, id_plan_of}
 use Rattle.seat_programs.specs.Scripts.{sizes_of, programs, readers_from, all_tasks, opened, set_up, played, IsRunWithCalls}
-use Rattle.sock_runs.specs.Sound.{Sound, views_along}
-use Rattle.sock_runs.proofs.Along.{place_inside}
-use Rattle.sock_runs.proofs.LinksRecorded.{Linked, run_linked}
-use Rattle.sock_runs.proofs.LinksStay.{IsGiven}
-use Rattle.sock_runs.proofs.LinksOpening.{OpensLink, others_give, beginning_linked}
-use Rattle.sock_runs.proofs.OpensStay.{readers_begin}
-use Rattle.sock_runs.proofs.Quiets.{run_seats}
-use Rattle.sock_runs.proofs.ReaderSeats.{AtReader, run_reader, waits_own}
-use Rattle.sock_runs.proofs.Records.{next_stores}
-use Rattle.sock_runs.proofs.Whole.{IsListed, views_played, set_up_answered, set_up_sound, played_sound, recorded_opened, recorded_set_up}
-use Rattle.served_fits.specs.Below.programs_allowed.proofs.Beginning as clients_begin
+use Rattle.served_fits.specs.programs_allowed.specs.program_steps.specs.Sound.{Sound, views_along}
+use Rattle.served_fits.specs.programs_allowed.specs.sock_runs.proofs.Along.{place_inside}
+use Rattle.served_fits.specs.programs_allowed.specs.program_walks.proofs.LinksRecorded.{Linked, run_linked}
+use Rattle.served_fits.specs.programs_allowed.specs.sock_runs.proofs.LinksStay.{IsGiven}
+use Rattle.served_fits.specs.programs_allowed.specs.program_walks.proofs.LinksOpening.{OpensLink, others_give, beginning_linked}
+use Rattle.served_fits.specs.programs_allowed.specs.program_walks.proofs.OpensStay.{readers_begin}
+use Rattle.served_fits.specs.programs_allowed.specs.sock_runs.proofs.Quiets.{run_seats}
+use Rattle.served_fits.specs.programs_allowed.specs.program_walks.proofs.ReaderSeats.{AtReader, run_reader, waits_own}
+use Rattle.served_fits.specs.programs_allowed.specs.program_walks.proofs.Records.{next_stores}
+use Rattle.served_fits.specs.programs_allowed.specs.program_walks.proofs.Whole.{IsListed, views_played, set_up_answered, set_up_sound, played_sound, recorded_opened, recorded_set_up}
+use Rattle.served_fits.specs.programs_allowed.proofs.Beginning as clients_begin
 use Rattle.owed_calls.specs.joint_runs.proofs.Runs.{AreMade, first_views, joint_runs}
 use Rattle.owed_calls.specs.Lives.{id_of, life_of, AreSaying, ClosesInRun}
 use Rattle.owed_calls.specs.Owes.{OwesOn}
@@ -50,9 +50,9 @@ use Rattle.owed_calls.proofs.OwingRuns.{Reaches, id_is, run_owing, reach_back}
 use Rattle.owed_calls.proofs.Saying.{says_along}
 use Rattle.owed_calls.proofs.WholeOwing.{links_stand}
 use Rattle.owed_calls.proofs.WordsGiven.{Named, names_others, beginning_named, run_named}
-use Rattle.served_fits.specs.Below.call_causes.proofs.Handled.{Sit}
-use Rattle.served_fits.specs.Below.call_causes.proofs.HandledSteps.{State, waiting, reading, seeking, taking, ending_, freeing, over}
-use Rattle.served_fits.specs.Below.call_causes.proofs.HandledStates.{After}
+use Rattle.served_fits.specs.call_causes.proofs.Handled.{Sit}
+use Rattle.served_fits.specs.call_causes.proofs.HandledSteps.{State, waiting, reading, seeking, taking, ending_, freeing, over}
+use Rattle.served_fits.specs.call_causes.proofs.HandledStates.{After}
 use Rattle.served_fits.specs.send_causes.proofs.Early.{start, go, fitting, known, clients_take_none}
 use Rattle.served_fits.specs.send_causes.proofs.Takeless.{NoTakes}
 use Rattle.calls_over.proofs.Handled.{reads_before}

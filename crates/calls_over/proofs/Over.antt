@@ -8,16 +8,16 @@ use Rattle.brpc_model.specs.Operations.{Turn}
 use Rattle.brpc_model.specs.Report.{Report, report_text}
 use Rattle.brpc_model.specs.Script.{script_of}
 use Rattle.brpc_model.specs.PlaceWords.{AreTold}
-use Rattle.report_fits.specs.Ends.{AreEndsOf}
-use Rattle.report_fits.proofs.Places.{lateness}
+use Rattle.served_fits.specs.report_fits.specs.Ends.{AreEndsOf}
+use Rattle.served_fits.specs.report_fits.proofs.Places.{lateness}
 use Rattle.seat_programs.specs.Cores.{Core}
 use Rattle.seat_programs.specs.Tasks.{plan_of}
 use Rattle.seat_programs.specs.ToldCalls.{Order, Fixed, ToldCalls}
 use Rattle.seat_programs.specs.Scripts.{Reports, all_tasks, IsRunWithCalls}
-use Rattle.outcome_causes.specs.Facts.{broken_of_run}
+use Rattle.served_fits.specs.outcome_stories.specs.Facts.{broken_of_run}
 use Rattle.owed_calls.specs.Lives.{ClosesInRun}
-use Rattle.served_fits.specs.Below.run_theorems.proofs.Starts.{made}
-use Rattle.served_fits.specs.Below.call_causes.specs.Lists.{given}
+use Rattle.served_fits.specs.run_theorems.proofs.Starts.{made}
+use Rattle.served_fits.specs.call_causes.specs.Lists.{given}
 use Rattle.served_fits.specs.served_runs.specs.Offered.{OffersInRun}
 use Rattle.served_fits.specs.served_calls.specs.Quiet.{AreShown}
 use Rattle.served_fits.specs.Shown.{AreSo}

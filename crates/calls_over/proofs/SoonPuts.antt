@@ -22,10 +22,10 @@ use Rattle.sock_steps.proofs.RightSteps.{right_in, right_alone}
 use Rattle.seat_programs.specs.Programs.{Program, Do, TakeMessage, TakeHome, PutHome, PutBytes, AskReady, Aside}
 use Rattle.seat_programs.specs.Cores.{Core, SeatState, with_seat}
 use Rattle.seat_programs.specs.Ticks.{Moment, IsAnswered, fed, onto_first, ticked}
-use Rattle.sock_runs.specs.Writes.{MayPut}
-use Rattle.sock_runs.specs.Sound.{Sound, IsFitting, IsOfRight, AreHeld, first_step}
-use Rattle.sock_runs.proofs.LinkTicks.{RetriesGo}
-use Rattle.outcome_causes.proofs.Cases.{tick_cases}
+use Rattle.served_fits.specs.programs_allowed.specs.program_steps.specs.Writes.{MayPut}
+use Rattle.served_fits.specs.programs_allowed.specs.program_steps.specs.Sound.{Sound, IsFitting, IsOfRight, AreHeld, first_step}
+use Rattle.served_fits.specs.programs_allowed.specs.sock_runs.proofs.LinkTicks.{RetriesGo}
+use Rattle.served_fits.specs.outcome_stories.proofs.Cases.{tick_cases}
 use Rattle.owed_calls.specs.Lives.{InHand}
 use Rattle.served_fits.specs.served_runs.specs.Offered.{Lies, TookSoFar}
 use Rattle.served_fits.specs.served_runs.proofs.Places.{IsPut, all_lay}

@@ -7,7 +7,7 @@ use Rattle.sock_model.specs.declared.chain.Entry.{Entry}
 use Rattle.sock_model.specs.declared.view.View.{View}
 use Rattle.brpc_model.specs.Items.{Item}
 use Rattle.brpc_model.specs.Operations.{Turn}
-use Rattle.report_fits.proofs.Lists.{all_at}
+use Rattle.served_fits.specs.script_facts.proofs.Lists.{all_at}
 use Rattle.seat_programs.specs.declared.task.Op.TheVariants as ops
 use Rattle.seat_programs.specs.declared.task.Task.{Task}
 use Rattle.seat_programs.specs.Cores.{Core}
@@ -16,16 +16,16 @@ use Rattle.seat_programs.specs.Ticks.{quiet}
 use Rattle.seat_programs.specs.Told.{IsTask, Made}
 use Rattle.seat_programs.specs.ToldCalls.{Accepted}
 use Rattle.seat_programs.specs.Scripts.{all_tasks, IsRunWithCalls}
-use Rattle.sock_runs.specs.Sound.{Sound, AllRest}
-use Rattle.sock_runs.proofs.Whole.{IsOwed, closing_of, views_played, views_closed, views_ended, end_answered, closing_sound, closed_sound, ended_sound, end_rests}
-use Rattle.outcome_causes.specs.Kept.{is_of_send, IsSpoken}
-use Rattle.outcome_causes.specs.PlainTasks.{told_tasks_of}
-use Rattle.outcome_causes.specs.TaskCauses as causes
-use Rattle.outcome_causes.proofs.Delivered.{accepted_of}
-use Rattle.outcome_causes.proofs.Lifted.{task_up, made_up}
-use Rattle.outcome_causes.proofs.Messages.{each_made, message_of, number_of}
-use Rattle.outcome_causes.proofs.Scripts.{seats, final_told, story_end, orders, run_told}
-use Rattle.outcome_causes.proofs.Senders.{HasSent, sent_stands}
+use Rattle.served_fits.specs.programs_allowed.specs.program_steps.specs.Sound.{Sound, AllRest}
+use Rattle.served_fits.specs.programs_allowed.specs.program_walks.proofs.Whole.{IsOwed, closing_of, views_played, views_closed, views_ended, end_answered, closing_sound, closed_sound, ended_sound, end_rests}
+use Rattle.served_fits.specs.outcome_stories.specs.Kept.{is_of_send, IsSpoken}
+use Rattle.served_fits.specs.outcome_stories.specs.PlainTasks.{told_tasks_of}
+use Rattle.served_fits.specs.outcome_stories.specs.TaskCauses as causes
+use Rattle.served_fits.specs.outcome_stories.proofs.Delivered.{accepted_of}
+use Rattle.served_fits.specs.outcome_ticks.proofs.Lifted.{task_up, made_up}
+use Rattle.served_fits.specs.outcome_causes.proofs.Messages.{each_made, message_of, number_of}
+use Rattle.served_fits.specs.outcome_causes.proofs.Scripts.{seats, final_told, story_end, orders, run_told}
+use Rattle.served_fits.specs.outcome_stories.proofs.Senders.{HasSent, sent_stands}
 use Rattle.owed_calls.specs.joint_runs.proofs.Runs.{AreMade, first_views}
 use Rattle.owed_calls.specs.Lives.{ClosesInRun}
 use Rattle.owed_calls.proofs.EndsStill as still

@@ -13,7 +13,7 @@ use Rattle.seat_programs.specs.Heads.{Exit, Reading, Reads}
 use Rattle.seat_programs.specs.Programs.{Program, Round}
 use Rattle.seat_programs.specs.Scripts.{played, IsRunWithCalls}
 use Rattle.seat_programs.specs.Tasks.{opens, plan_of, id_plan_of}
-use Rattle.report_fits.proofs.Lists.{Has}
+use Rattle.served_fits.specs.script_facts.proofs.Lists.{Has}
 use Rattle.owed_calls.specs.Sound.{id_word_of}
 use Rattle.served_fits.specs.served_runs.specs.Offered.{TookSoFar}
 

@@ -6,9 +6,9 @@ use lib.ListN.{get_elem?}
 use Rattle.brpc_model.specs.Items.{Item, Join}
 use Rattle.brpc_model.specs.Operations.{Turn}
 use Rattle.brpc_model.specs.Places.{names}
-use Rattle.send_causes.specs.Below.report_fits.proofs.Lists.{Has, contains_from}
-use Rattle.send_causes.specs.Below.report_fits.proofs.Numbering.{are_from}
-use Rattle.send_causes.specs.Below.report_fits.proofs.TaskLemmas.{numbers_at, task_is, join_asks}
+use Rattle.send_causes.specs.script_facts.proofs.Lists.{Has, contains_from}
+use Rattle.send_causes.specs.script_facts.proofs.Numbering.{are_from}
+use Rattle.send_causes.specs.script_facts.proofs.TaskLemmas.{numbers_at, task_is, join_asks}
 use Rattle.seat_programs.specs.declared.task.Op.{Op}
 use Rattle.seat_programs.specs.declared.task.Op.TheVariants as ops
 use Rattle.seat_programs.specs.declared.task.Task.{Task}
@@ -16,10 +16,10 @@ use Rattle.seat_programs.specs.Cores.{Core}
 use Rattle.seat_programs.specs.Scripts.{all_tasks, opened, set_up, played, IsRunWithCalls}
 use Rattle.seat_programs.specs.Tasks.{numbered, plan_of}
 use Rattle.seat_programs.specs.Ticks.{quiet}
-use Rattle.sock_runs.specs.Sound.{views_along}
-use Rattle.sock_runs.proofs.Whole.{set_up_answered, set_up_sound}
-use Rattle.send_causes.specs.Below.joint_runs.proofs.Runs.{AreMade, first_views}
-use Rattle.send_causes.specs.Below.owed_calls.specs.Settled as settled
+use Rattle.send_causes.specs.programs_allowed.specs.program_steps.specs.Sound.{views_along}
+use Rattle.send_causes.specs.programs_allowed.specs.program_walks.proofs.Whole.{set_up_answered, set_up_sound}
+use Rattle.send_causes.specs.joint_runs.proofs.Runs.{AreMade, first_views}
+use Rattle.send_causes.specs.owed_calls.specs.Settled as settled
 use Rattle.send_causes.proofs.DropWhole.{get_same}
 use Rattle.send_causes.proofs.Early.{start, go, fitting, opened_takes}
 use Rattle.send_causes.proofs.Standing.{takeless_rests}

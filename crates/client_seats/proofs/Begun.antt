@@ -23,7 +23,7 @@ use Rattle.seat_programs.specs.declared.task.Sizes.{Sizes}
 use Rattle.seat_programs.specs.Heads.{Retry}
 use Rattle.seat_programs.specs.Programs.{Program, Say, Sent, Keep, Retries}
 use Rattle.seat_programs.specs.Cores.{resolved, still_waiting, said, next_step}
-use Rattle.seat_states.specs.sock_runs.specs.Sound.{is_begun}
+use Rattle.seat_states.specs.program_steps.specs.Sound.{is_begun}
 use Rattle.seat_states.specs.Points.{Context, point_program, look_program}
 use Rattle.client_seats.specs.Seats.{SeatData, seat_program}
 use Rattle.client_seats.specs.Following.{FollowsOn}

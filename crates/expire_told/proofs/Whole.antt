@@ -3,7 +3,7 @@ use Rattle.std.proofs.Common.{◌≡◌, ℕ, List, ◌∷◌, sym, ap, ◌∙�
 use Rattle.std.specs.Prelude.{Option}
 use mathlib.Core.Option.{some}
 use lib.ListN.{get_elem?}
-use Rattle.call_told.specs.Below.report_fits.proofs.Lists.{contains_from}
+use Rattle.call_told.specs.Below.script_facts.proofs.Lists.{contains_from}
 use Rattle.sock_io.specs.declared.link.Out.{Ghosts}
 use Rattle.sock_io.specs.Link.{OutState}
 use Rattle.sock_words.specs.declared.outcome.Outcome.{Outcome}

@@ -55,7 +55,7 @@ use Rattle.attempts_told.specs.call_whys.specs.expire_told.specs.Below.sock_deed
 use Rattle.attempts_told.specs.call_whys.specs.expire_told.specs.Below.sock_deeds.proofs.Fails.{link_is}
 use Rattle.attempts_told.specs.call_whys.specs.expire_told.specs.Below.sock_deeds.proofs.Lives.{MadeHere, linked_made}
 use Rattle.attempts_told.specs.call_whys.specs.expire_told.specs.Below.sock_deeds.proofs.Losses.{lost_by}
-use Rattle.attempts_told.specs.call_whys.specs.expire_told.specs.Below.report_fits.proofs.Lists.{contains_from}
+use Rattle.attempts_told.specs.call_whys.specs.Below.script_facts.proofs.Lists.{contains_from}
 use Rattle.attempts_told.specs.call_whys.specs.expire_told.specs.Below.sock_deeds.proofs.Flats.{flat_there}
 use Rattle.attempts_told.specs.call_whys.specs.expire_told.specs.Below.sock_deeds.proofs.Orders.{orders, accepted_there, entry_on}
 use Rattle.attempts_told.specs.call_whys.specs.expire_told.specs.Below.sock_deeds.proofs.Places.{to_slice}

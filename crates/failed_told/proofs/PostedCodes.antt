@@ -1,7 +1,7 @@
 -- Whatever is queued in a word of an id has a code that is posted to calls; so have both errors of a crowded id, and an `expire` is told with that.
 use Rattle.std.proofs.Common.{◌≡◌, ℕ, ◌<◌, ◌≤◌, inl, inr, List, [], ◌∷◌, length, map, None, refl, sym, ap, ◌∙◌, subst, arith}
 use Rattle.std.specs.Prelude.{Option, Contains}
-use Rattle.attempts_told.specs.call_whys.specs.expire_told.specs.Below.report_fits.proofs.Lists.{contains_from}
+use Rattle.attempts_told.specs.call_whys.specs.Below.script_facts.proofs.Lists.{contains_from}
 use Rattle.sock_io.specs.declared.link.Out.{Ghosts}
 use Rattle.sock_io.specs.Link.{OutState}
 use Rattle.sock_words.specs.Codes.{EEOF, EFAILEDSOCKET, EREQUESTS, ERESPONSE, ERPCTIMEDOUT}

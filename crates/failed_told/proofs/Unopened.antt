@@ -54,8 +54,8 @@ use Rattle.attempts_told.specs.call_whys.specs.expire_told.specs.call_told.proof
 use Rattle.attempts_told.specs.call_whys.specs.expire_told.specs.call_deeds.proofs.Ran.{Result}
 use Rattle.attempts_told.specs.call_whys.specs.expire_told.specs.call_deeds.proofs.Runs.{opened_there, names_there, same_task}
 use Rattle.attempts_told.specs.call_whys.specs.expire_told.specs.call_deeds.proofs.Told.{all_results, told_by, task_at, result_of, said_at, open_said}
-use Rattle.attempts_told.specs.call_whys.specs.expire_told.specs.Below.outcome_causes.proofs.Seats.{Less}
-use Rattle.attempts_told.specs.call_whys.specs.expire_told.specs.Below.outcome_causes.proofs.Tasks.{sorted_of}
+use Rattle.attempts_told.specs.call_whys.specs.Below.outcome_ticks.proofs.Seats.{Less}
+use Rattle.attempts_told.specs.call_whys.specs.Below.outcome_ticks.proofs.Tasks.{sorted_of}
 use Rattle.attempts_told.specs.call_whys.specs.expire_told.specs.Below.sock_deeds.specs.Runs.{IsOperation}
 use Rattle.attempts_told.specs.call_whys.specs.expire_told.specs.Below.sock_deeds.proofs.Names.{SeenBy}
 use Rattle.attempts_told.specs.call_whys.specs.expire_told.specs.Below.sock_deeds.proofs.Places.{place_low, map_back, map_there}

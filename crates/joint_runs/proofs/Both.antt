@@ -5,9 +5,9 @@ use Rattle.sock_model.specs.declared.view.View.{View}
 use Rattle.programs_allowed.specs.corr_core.specs.declared.marks.Plan.{Plan as IdPlan}
 use Rattle.programs_allowed.specs.seat_programs.specs.Cores.{Core}
 use Rattle.programs_allowed.specs.seat_programs.specs.Ticks.{Moment, IsAnswered, AreAnswered, IsAlwaysReady, ticked, run}
-use Rattle.programs_allowed.specs.sock_runs.specs.Sound.{Sound, IsFitting, AreFitting, views_after, views_along}
-use Rattle.programs_allowed.specs.sock_runs.specs.Lasts.{IsCounted, AreCounted, MOST_PAID}
-use Rattle.programs_allowed.specs.sock_runs.proofs.Bounded.{IsBounded, bounded_ticks}
+use Rattle.programs_allowed.specs.program_steps.specs.Sound.{Sound, IsFitting, AreFitting, views_after, views_along}
+use Rattle.programs_allowed.specs.program_steps.specs.Lasts.{IsCounted, AreCounted, MOST_PAID}
+use Rattle.programs_allowed.specs.runs_end.proofs.Bounded.{IsBounded, bounded_ticks}
 use Rattle.std.specs.List.{AllByRecursion}
 use Rattle.programs_allowed.specs.sock_runs.proofs.Ticks.{sound_ticks}
 use Rattle.programs_allowed.proofs.Retrying.{retries_go}

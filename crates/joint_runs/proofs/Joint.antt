@@ -13,15 +13,15 @@ use Rattle.programs_allowed.specs.seat_programs.specs.Beside.{found_in, call_at,
 use Rattle.programs_allowed.specs.seat_programs.specs.Sends.{block}
 use Rattle.programs_allowed.specs.seat_programs.specs.Rounds.{round}
 use Rattle.programs_allowed.specs.seat_programs.specs.Ticks.{Answer, Moment, IsAnswer, IsAnswered, taken}
-use Rattle.programs_allowed.specs.sock_runs.specs.Fits.{FitsFound}
-use Rattle.programs_allowed.specs.sock_runs.specs.May.{May}
-use Rattle.programs_allowed.specs.sock_runs.specs.GoesOn.{GoesOn}
-use Rattle.programs_allowed.specs.sock_runs.specs.Sound.{state, Sound, FitsBeside, IsFitting, first_step}
-use Rattle.programs_allowed.specs.sock_runs.specs.Lasts.{IsSlot, IsCountedStep, IsCountedAt, IsCounted}
-use Rattle.programs_allowed.specs.sock_runs.proofs.Cases as cases
+use Rattle.programs_allowed.specs.program_steps.specs.Fits.{FitsFound}
+use Rattle.programs_allowed.specs.program_steps.specs.May.{May}
+use Rattle.programs_allowed.specs.program_steps.specs.GoesOn.{GoesOn}
+use Rattle.programs_allowed.specs.program_steps.specs.Sound.{state, Sound, FitsBeside, IsFitting, first_step}
+use Rattle.programs_allowed.specs.program_steps.specs.Lasts.{IsSlot, IsCountedStep, IsCountedAt, IsCounted}
+use Rattle.programs_allowed.specs.program_steps.proofs.Cases as cases
 use Rattle.programs_allowed.specs.sock_runs.proofs.Founds.{finds}
-use Rattle.programs_allowed.specs.sock_runs.proofs.Rounds.{begins_round}
-use Rattle.programs_allowed.specs.sock_runs.proofs.Passes.{goes_round}
+use Rattle.programs_allowed.specs.program_steps.proofs.Rounds.{begins_round}
+use Rattle.programs_allowed.specs.program_steps.proofs.Passes.{goes_round}
 use Rattle.programs_allowed.specs.id_runs.specs.Held.{IdView, MayId}
 use Rattle.programs_allowed.specs.id_runs.specs.Goes.{FindsId, IdGoesOn, SoundIds, FitsSock, FitsFirst, IsFittingIds}
 use Rattle.programs_allowed.specs.id_runs.specs.Goes as goes

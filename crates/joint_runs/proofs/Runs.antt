@@ -4,23 +4,23 @@ use Rattle.std.specs.List.{AllByRecursion}
 use Rattle.sock_words.specs.declared.plain.Plan.{Plan}
 use Rattle.sock_model.specs.declared.view.View.{View}
 use Rattle.programs_allowed.specs.corr_core.specs.declared.marks.Plan.{Plan as IdPlan}
-use Rattle.programs_allowed.specs.sock_runs.specs.brpc_model.specs.Items.{Item}
-use Rattle.programs_allowed.specs.sock_runs.specs.brpc_model.specs.Operations.{Turn}
+use Rattle.programs_allowed.specs.seat_programs.specs.brpc_model.specs.Items.{Item}
+use Rattle.programs_allowed.specs.seat_programs.specs.brpc_model.specs.Operations.{Turn}
 use Rattle.programs_allowed.specs.seat_programs.specs.Tasks.{opens, calls, plan_of, id_plan_of}
 use Rattle.programs_allowed.specs.seat_programs.specs.Cores.{Core}
 use Rattle.programs_allowed.specs.seat_programs.specs.Ticks.{Moment, AreAnswered, IsAlwaysReady, quiet, run}
 use Rattle.programs_allowed.specs.seat_programs.specs.Runs.{IsAtRest}
 use Rattle.programs_allowed.specs.seat_programs.specs.Scripts.{sizes_of, programs, readers_from, all_programs, all_tasks, opened, set_up, played, IsRunWithCalls}
-use Rattle.programs_allowed.specs.sock_runs.specs.Sound.{IsAhead, views_along}
+use Rattle.programs_allowed.specs.program_steps.specs.Sound.{IsAhead, views_along}
 use Rattle.programs_allowed.specs.sock_runs.proofs.Along.{run_ahead, beginning_ahead}
 use Rattle.programs_allowed.specs.sock_runs.proofs.Unasked.{quiet_answered}
 use Rattle.programs_allowed.specs.sock_runs.proofs.Quiets.{run_rests}
-use Rattle.programs_allowed.specs.sock_runs.proofs.Whole.{closing_of, views_played, views_closed, views_ended, AreFittingIn, Begins}
+use Rattle.programs_allowed.specs.program_walks.proofs.Whole.{closing_of, views_played, views_closed, views_ended, AreFittingIn, Begins}
 use Rattle.programs_allowed.specs.Openings.{opening_views, all_seats}
 use Rattle.programs_allowed.proofs.Fresh.{opening_blank}
 use Rattle.programs_allowed.proofs.Opens.{ending_sound}
-use Rattle.programs_allowed.specs.sock_runs.specs.Lasts.{MOST_TICKS, MOST_PAID}
-use Rattle.programs_allowed.specs.sock_runs.proofs.Bounded.{IsBounded}
+use Rattle.programs_allowed.specs.program_steps.specs.Lasts.{MOST_TICKS, MOST_PAID}
+use Rattle.programs_allowed.specs.runs_end.proofs.Bounded.{IsBounded}
 use Rattle.programs_allowed.proofs.Lasting.{ending_bounded, told_bounded}
 use Rattle.joint_runs.proofs.Both.{BothSound, AreBoth, AreBounded, joint_along, behind_both, bounded_along, behind_bounded, are_fitting}
 use Rattle.joint_runs.proofs.Starts.{AreFor, narrow, opens_both, opens_bounded, ending_both, told_both}

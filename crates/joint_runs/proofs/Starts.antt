@@ -13,12 +13,12 @@ use Rattle.programs_allowed.specs.seat_programs.specs.Cores.{Core, with_seat}
 use Rattle.programs_allowed.specs.seat_programs.specs.Runs.{IsAtRest}
 use Rattle.programs_allowed.specs.seat_programs.specs.Scripts.{opening_words, opening_homes, sizes_of, programs, readers_from, all_programs, is_ending}
 use Rattle.programs_allowed.specs.seat_programs.specs.Told.{AreTasks}
-use Rattle.programs_allowed.specs.sock_runs.specs.Sound.{IsWithinLimits, IsAhead}
+use Rattle.programs_allowed.specs.program_steps.specs.Sound.{IsWithinLimits, IsAhead}
 use Rattle.programs_allowed.specs.sock_runs.proofs.Along.{seat_rests}
 use Rattle.programs_allowed.specs.Openings.{opening_views, all_seats}
 use Rattle.programs_allowed.proofs.Beginning.{unused, no_message}
-use Rattle.programs_allowed.specs.sock_runs.specs.Lasts.{MOST_TICKS}
-use Rattle.programs_allowed.specs.sock_runs.proofs.Bounded.{IsBounded}
+use Rattle.programs_allowed.specs.program_steps.specs.Lasts.{MOST_TICKS}
+use Rattle.programs_allowed.specs.runs_end.proofs.Bounded.{IsBounded}
 use Rattle.programs_allowed.proofs.Lasting.{length_all, length_seats, opening_bounded}
 use Rattle.programs_allowed.proofs.Opens.{begun_core, opens_sound, ending_sound, told_sound}
 use Rattle.programs_allowed.specs.id_runs.specs.Goes.{FitsOwner, HomesFit, CodesFit}

@@ -23,20 +23,20 @@ use Rattle.seat_programs.specs.Rounds.{round}
 use Rattle.seat_programs.specs.Cores.{Core, SeatState, word_of, found_at}
 use Rattle.seat_programs.specs.Sends.{block}
 use Rattle.seat_programs.specs.Ticks.{Answer, OfPut, Moment, AreAnswered, ticked}
-use Rattle.sock_runs.specs.Rows.{row, hand_at, is_id, found_id, took_message, link_away, link_home_again, took_bytes}
-use Rattle.sock_runs.specs.May.{May}
-use Rattle.sock_runs.specs.GoesOn.{GoesOn}
-use Rattle.sock_runs.specs.Sound.{Sound, state, first_step, views_with_message, views_with_link, views_with_put, views_with, views_of, views_after, views_along, AreFitting}
+use Rattle.sock_runs.specs.program_steps.specs.Rows.{row, hand_at, is_id, found_id, took_message, link_away, link_home_again, took_bytes}
+use Rattle.sock_runs.specs.program_steps.specs.May.{May}
+use Rattle.sock_runs.specs.program_steps.specs.GoesOn.{GoesOn}
+use Rattle.sock_runs.specs.program_steps.specs.Sound.{Sound, state, first_step, views_with_message, views_with_link, views_with_put, views_with, views_of, views_after, views_along, AreFitting}
 use Rattle.sock_steps.proofs.Quiet.{either_way}
 use Rattle.life_events.specs.Events.{event_of, next_event, event_at, events_of}
 use Rattle.sock_model.specs.declared.marks.Mark.TheVariants as mark
 use Rattle.sock_model.specs.Marks.{at}
-use Rattle.sock_runs.proofs.Leaves.{sending_marks}
-use Rattle.sock_runs.proofs.Rounds.{begins_round}
-use Rattle.sock_runs.proofs.Passes.{goes_round}
+use Rattle.sock_runs.specs.program_steps.proofs.Leaves.{sending_marks}
+use Rattle.sock_runs.specs.program_steps.proofs.Rounds.{begins_round}
+use Rattle.sock_runs.specs.program_steps.proofs.Passes.{goes_round}
 use Rattle.sock_runs.proofs.LinkTicks.{RetriesGo}
 use Rattle.sock_runs.proofs.Ticks.{sound_ticks}
-use Rattle.sock_runs.proofs.Cases.{with_rights, right_rights, put_rights}
+use Rattle.sock_runs.specs.program_steps.proofs.Cases.{with_rights, right_rights, put_rights}
 use Rattle.life_events.proofs.Grown.{Same, same_marks, silent_more}
 use Rattle.life_events.proofs.Steps.{nothing, marks_event, claim_event, birth_event, add_event, sub_event, fail_event, recycle_event, free_event, stage_event, code_event, met_event, met_link_event}
 

@@ -17,7 +17,7 @@ use Rattle.slot_steps.proofs.After.{marks-added}
 use Rattle.slot_steps.proofs.Numbers.{life_is}
 use Rattle.seat_programs.specs.Calls.{AddRef}
 use Rattle.seat_programs.specs.Cores.{word_of, found_at}
-use Rattle.sock_runs.specs.Rows.{row}
+use Rattle.sock_runs.specs.program_steps.specs.Rows.{row}
 use Rattle.life_events.specs.Events.{life_of, event_of}
 use Rattle.life_events.proofs.Laws.{ends_are}
 

@@ -30,15 +30,15 @@ use Rattle.seat_programs.specs.Rounds.{round}
 use Rattle.seat_programs.specs.Sends.{block}
 use Rattle.seat_programs.specs.Cores.{Core, SeatState, word_of, word_after, words_after, homes_after, found_at, lies_at, first_of, others_of, link_place, with_seat}
 use Rattle.seat_programs.specs.Ticks.{Answer, OfPut, OfReady, Moment, fed, with_places, onto_first, taken, with_message, with_link, with_put, with_ready, with_found, step_with, tick_with, ticked}
-use Rattle.sock_runs.specs.Rows.{row, hand_at, by_claim, exchanged, took_message, link_away, link_home_again, took_bytes}
-use Rattle.sock_runs.specs.May.{May}
-use Rattle.sock_runs.specs.GoesOn.{GoesOn}
-use Rattle.sock_runs.specs.Sound.{Sound, state, views_with_message, views_with_link, views_with_put, views_with, views_of, views_after}
+use Rattle.sock_runs.specs.program_steps.specs.Rows.{row, hand_at, by_claim, exchanged, took_message, link_away, link_home_again, took_bytes}
+use Rattle.sock_runs.specs.program_steps.specs.May.{May}
+use Rattle.sock_runs.specs.program_steps.specs.GoesOn.{GoesOn}
+use Rattle.sock_runs.specs.program_steps.specs.Sound.{Sound, state, views_with_message, views_with_link, views_with_put, views_with, views_of, views_after}
 use Rattle.sock_steps.proofs.Quiet.{either_way}
-use Rattle.sock_runs.proofs.Leaves.{sending_same}
-use Rattle.sock_runs.proofs.Rounds.{begins_round}
-use Rattle.sock_runs.proofs.Passes.{goes_round}
-use Rattle.sock_runs.proofs.Cases.{beside, with_rights, right_rights, put_rights}
+use Rattle.sock_runs.specs.program_steps.proofs.Leaves.{sending_same}
+use Rattle.sock_runs.specs.program_steps.proofs.Rounds.{begins_round}
+use Rattle.sock_runs.specs.program_steps.proofs.Passes.{goes_round}
+use Rattle.sock_runs.specs.program_steps.proofs.Cases.{beside, with_rights, right_rights, put_rights}
 use Rattle.sock_runs.proofs.Few.{row_same, IsShorter}
 use Rattle.sock_steps.proofs.RuleFrame.{accept_rule, Lasts, lasts_all, lasts_set, lasting_in, still_rule, same_rule}
 

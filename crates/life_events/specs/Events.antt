@@ -12,8 +12,8 @@ use Rattle.seat_programs.specs.Calls.{Call, CreateLife, AddRef, SubRef, SetOdd, 
 use Rattle.seat_programs.specs.Programs.{Program, Do}
 use Rattle.seat_programs.specs.Cores.{Core, word_of, found_at}
 use Rattle.seat_programs.specs.Ticks.{Moment, ticked}
-use Rattle.sock_runs.specs.May.{even_version}
-use Rattle.sock_runs.specs.Sound.{first_step, views_after}
+use Rattle.sock_runs.specs.program_steps.specs.May.{even_version}
+use Rattle.sock_runs.specs.program_steps.specs.Sound.{first_step, views_after}
 
 -- the life that an id names
 abbrev pub life_of : ℕ → Life

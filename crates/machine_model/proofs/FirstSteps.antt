@@ -17,7 +17,7 @@ use Rattle.seat_programs.specs.Writings.{Puts, Waits, Empties, Walks}
 use Rattle.seat_programs.specs.Programs.{Program, Do, TakeMessage, TakeHome, PutHome, PutBytes, AskReady, Write, Aside, Round}
 use Rattle.seat_programs.specs.Cores.{Core, SeatState, word_of, found_at, words_after, word_after, homes_after, hand_after, lies_at, first_of, others_of, link_place, with_seat}
 use Rattle.seat_programs.specs.Ticks.{Answer, OfPut, OfReady, FitsPut, IsAnswer, IsTaken, taken, fed, with_places, onto_first, with_message, with_link, with_found, step_with, tick_with}
-use Rattle.sock_runs.specs.Sound.{first_step}
+use Rattle.seat_states.specs.program_steps.specs.Sound.{first_step}
 use Rattle.sock_io.specs.Link.{OutState}
 use Rattle.call_points.specs.Steps.{after_word, word_behind}
 use Rattle.seat_states.specs.declared.point.Point.{Point}

@@ -13,7 +13,7 @@ use Rattle.seat_programs.specs.Asides.{PutCall, id_slot}
 use Rattle.seat_programs.specs.Heads.{HasEnded, Unlocks}
 use Rattle.seat_programs.specs.Posts.{ends_call, end_id, unlocked, decided}
 use Rattle.seat_programs.specs.Programs.{Program, Aside, Round}
-use Rattle.sock_runs.specs.Sound.{AllowsWord}
+use Rattle.seat_states.specs.program_steps.specs.Sound.{AllowsWord}
 use Rattle.id_runs.specs.Held.{IdView}
 use Rattle.id_runs.specs.Goes.{FitsSock, IsLocked, IsTaken, IdGoesOn}
 use Rattle.id_points.specs.Ids.{id_of}

@@ -17,6 +17,8 @@ pub use Rattle.run_theorems
 pub use Rattle.call_slots
 pub use Rattle.message_parts
 pub use Rattle.id_runs
-pub use Rattle.sock_runs
+pub use Rattle.seat_states.specs.program_steps
+pub use Rattle.run_theorems.specs.programs_allowed.specs.sock_runs
+pub use Rattle.run_theorems.specs.programs_allowed.specs.runs_end
 pub use Rattle.call_points
 pub use Rattle.id_points

@@ -16,8 +16,8 @@ use Rattle.seat_programs.specs.Clients.{ending_of}
 use Rattle.seat_programs.specs.Cores.{Calls, Core, SeatState, with_seat}
 use Rattle.seat_programs.specs.Runs.{from_to}
 use Rattle.seat_programs.specs.Scripts.{sizes_of}
-use Rattle.sock_runs.specs.Sound.{Sound, AreFew, IsAhead}
-use Rattle.sock_runs.specs.Lasts.{Lasts, MOST_PAID}
+use Rattle.seat_states.specs.program_steps.specs.Sound.{Sound, AreFew, IsAhead}
+use Rattle.seat_states.specs.program_steps.specs.Lasts.{Lasts, MOST_PAID}
 use Rattle.id_runs.specs.Held.{IdView}
 use Rattle.id_runs.specs.Goes.{SoundIds}
 use Rattle.call_slots.specs.Slots.{SlotState, calls_with}

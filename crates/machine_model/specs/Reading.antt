@@ -15,7 +15,7 @@ use Rattle.seat_programs.specs.Programs.{Program}
 use Rattle.seat_programs.specs.Programs as programs
 use Rattle.seat_programs.specs.Cores.{word_of, found_at, words_after, word_after}
 use Rattle.seat_programs.specs.Ticks.{Answer, Unasked, OfTake, FitsTake}
-use Rattle.sock_runs.specs.Sound.{AllowsWord, first_step}
+use Rattle.seat_states.specs.program_steps.specs.Sound.{AllowsWord, first_step}
 use Rattle.call_points.specs.Steps.{after_word}
 use Rattle.call_slots.specs.Steps as slots
 use Rattle.call_slots.specs.Steps.{word_found}

@@ -17,7 +17,7 @@ use Rattle.seat_programs.specs.Programs.{Program}
 use Rattle.seat_programs.specs.Programs as programs
 use Rattle.seat_programs.specs.Cores.{Calls, word_of, found_at, words_after, word_after, resolved, still_waiting, next_step, said}
 use Rattle.seat_programs.specs.Ticks.{Answer, Unasked, OfPut, OfReady}
-use Rattle.sock_runs.specs.Sound.{AllowsWord, first_step}
+use Rattle.seat_states.specs.program_steps.specs.Sound.{AllowsWord, first_step}
 use Rattle.call_slots.specs.Slots.{calls_with}
 use Rattle.call_slots.specs.Steps as slots
 use Rattle.call_slots.specs.Steps.{word_found}

@@ -9,7 +9,7 @@ use Rattle.sock_model.specs.declared.home.Home.{Home}
 use Rattle.sock_model.specs.declared.home.Home.TheVariants.{Link}
 use Rattle.sock_model.specs.declared.view.Hand.{Hand}
 use Rattle.seat_programs.specs.Runs.{from_to}
-use Rattle.machine_model.specs.sock_runs.specs.Sound.{AreInHand}
+use Rattle.machine_model.specs.program_steps.specs.Sound.{AreInHand}
 use Rattle.machine_model.specs.Links.{LinksData, Taken, holder_of, link_with, in_hand, hand_of}
 use Rattle.machine_model.proofs.FirstSteps.{same_some}
 use Rattle.machine_rules.proofs.Hands.{HasNone, HasOnly, own_link, no_link}

@@ -22,15 +22,15 @@ use Rattle.seat_programs.specs.Programs.{Program, PutBytes, AskReady, Write}
 use Rattle.seat_programs.specs.Cores.{Core, SeatState, word_of, found_at, next_step, resolved}
 use Rattle.seat_programs.specs.Ticks.{Answer, Unasked, OfPut, OfReady, OfTake, Moment, ticked, waits}
 use Rattle.seat_programs.specs.Runs.{IsAtRest}
-use Rattle.machine_model.specs.sock_runs.specs.GoesOn.{GoesOn}
-use Rattle.machine_model.specs.sock_runs.specs.Lasts.{Lasts}
-use Rattle.machine_model.specs.sock_runs.specs.Sound.{Sound, AreFew, HasLink, IsAhead, views_after}
+use Rattle.machine_model.specs.program_steps.specs.GoesOn.{GoesOn}
+use Rattle.machine_model.specs.program_steps.specs.Lasts.{Lasts}
+use Rattle.machine_model.specs.program_steps.specs.Sound.{Sound, AreFew, HasLink, IsAhead, views_after}
 use Rattle.machine_model.specs.sock_runs.proofs.Allowed.{view_there}
 use Rattle.machine_model.specs.sock_runs.proofs.Along.{place_inside, ticked_ahead}
 use Rattle.machine_model.specs.sock_runs.proofs.LinkTicks.{link_asked_there}
 use Rattle.machine_model.specs.sock_runs.proofs.Few.{few_lasts}
 use Rattle.machine_model.specs.sock_runs.proofs.Waiting.{waits_still}
-use Rattle.machine_model.specs.sock_runs.proofs.HeadMoves.{calls_last}
+use Rattle.machine_model.specs.runs_end.proofs.HeadMoves.{calls_last}
 use Rattle.machine_model.specs.run_theorems.specs.programs_allowed.proofs.Retrying.{retries_go}
 use Rattle.machine_model.specs.id_runs.specs.Held.{IdView}
 use Rattle.machine_model.specs.id_runs.specs.Goes.{SoundIds}

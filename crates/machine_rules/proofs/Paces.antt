@@ -32,7 +32,7 @@ use Rattle.seat_programs.specs.declared.task.Op.TheVariants as ops
 use Rattle.seat_programs.specs.declared.task.Op.{Op}
 use Rattle.seat_programs.specs.declared.task.Sizes.{Sizes}
 use Rattle.seat_programs.specs.declared.task.Task.{Task}
-use Rattle.machine_model.specs.sock_runs.specs.Sound.{first_step}
+use Rattle.machine_model.specs.program_steps.specs.Sound.{first_step}
 use Rattle.machine_model.specs.id_points.specs.Ids.{id_of, number_of}
 use Rattle.machine_model.specs.id_points.specs.Turns.{sought_as}
 use Rattle.machine_model.specs.call_points.specs.Points.{retry_of}

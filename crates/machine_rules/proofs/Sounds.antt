@@ -20,13 +20,13 @@ use Rattle.seat_programs.specs.Rounds.{round}
 use Rattle.seat_programs.specs.Ticks.{quiet}
 use Rattle.seat_programs.specs.Cores.{Core, SeatState, link_place, word_of, found_at}
 use Rattle.seat_programs.specs.Scripts.{sizes_of}
-use Rattle.machine_model.specs.sock_runs.specs.May.{May}
-use Rattle.machine_model.specs.sock_runs.specs.GoesOn.{GoesOn}
-use Rattle.machine_model.specs.sock_runs.specs.Sound.{IsOfRight, AreInHand, AreHeld, Allows, AllowsStep, first_step}
+use Rattle.machine_model.specs.program_steps.specs.May.{May}
+use Rattle.machine_model.specs.program_steps.specs.GoesOn.{GoesOn}
+use Rattle.machine_model.specs.program_steps.specs.Sound.{IsOfRight, AreInHand, AreHeld, Allows, AllowsStep, first_step}
 use Rattle.machine_model.specs.sock_runs.proofs.Held.{held_in_hand}
-use Rattle.machine_model.specs.sock_runs.proofs.Cases.{goes_first}
-use Rattle.machine_model.specs.sock_runs.proofs.Rounds.{begins_round}
-use Rattle.machine_model.specs.sock_runs.proofs.Passes.{goes_round}
+use Rattle.machine_model.specs.program_steps.proofs.Cases.{goes_first}
+use Rattle.machine_model.specs.program_steps.proofs.Rounds.{begins_round}
+use Rattle.machine_model.specs.program_steps.proofs.Passes.{goes_round}
 use Rattle.machine_model.specs.sock_runs.proofs.Allowed.{sound_allows, view_there}
 use Rattle.machine_model.specs.run_theorems.specs.programs_allowed.proofs.Retrying.{retries_go}
 use Rattle.machine_model.specs.id_runs.specs.Held.{IdView, MayId}

@@ -9,7 +9,7 @@ use Rattle.seat_programs.specs.Beside.{calls_after}
 use Rattle.seat_programs.specs.Cores.{Calls}
 use Rattle.seat_programs.specs.Programs.{Program, Aside}
 use Rattle.seat_programs.specs.Ticks.{Unasked}
-use Rattle.machine_model.specs.sock_runs.specs.Sound.{first_step}
+use Rattle.machine_model.specs.program_steps.specs.Sound.{first_step}
 use Rattle.machine_model.specs.call_slots.specs.Slots.{SlotState, calls_with}
 use Rattle.machine_model.specs.call_slots.specs.Steps as slots
 use Rattle.machine_model.specs.call_slots.specs.Steps.{word_found}

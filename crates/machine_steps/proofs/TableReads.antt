@@ -13,7 +13,7 @@ use Rattle.seat_programs.specs.Cores.{resolved, still_waiting, next_step, said}
 use Rattle.seat_programs.specs.Heads.{HasEnded, Unlocks}
 use Rattle.seat_programs.specs.Posts.{ends_call, end_id, unlocked}
 use Rattle.seat_programs.specs.Programs.{Program, Aside, Round}
-use Rattle.machine_model.specs.sock_runs.specs.Sound.{first_step}
+use Rattle.machine_model.specs.program_steps.specs.Sound.{first_step}
 use Rattle.machine_model.specs.call_points.specs.Steps.{after_call}
 use Rattle.machine_model.specs.call_points.specs.declared.word_step.WordStep.TheVariants as id_steps
 use Rattle.machine_model.specs.call_points.specs.declared.ending.EndStep.TheVariants as ends

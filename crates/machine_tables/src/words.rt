@@ -3,7 +3,7 @@ ghost use mathlib.Core.Option.{some};
 ghost use Rattle.sock_io.specs.Link.{end_of};
 ghost use Rattle.sock_model.specs.Layout.{request_index};
 ghost use Rattle.seat_programs.specs.Cores.{word_of, found_at, words_after, word_after};
-ghost use Rattle.machine_steps.specs.machine_model.specs.sock_runs.specs.Sound.{AllowsWord};
+ghost use Rattle.seat_states.specs.program_steps.specs.Sound.{AllowsWord};
 ghost use Rattle.seat_states.specs.Steps.{step_of};
 ghost use Rattle.machine_steps.specs.machine_model.specs.Steps.{IsOfLinks, OutsAfter, holders_after};
 

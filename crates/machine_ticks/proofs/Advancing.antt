@@ -15,7 +15,7 @@ use Rattle.seat_programs.specs.Programs.{Program, Write, Round}
 use Rattle.seat_programs.specs.Cores.{Core, SeatState}
 use Rattle.seat_programs.specs.Ticks.{Answer, Unasked, OfPut, OfReady, OfTake, Moment, waits_at, waits, broken_at}
 use Rattle.seat_programs.specs.Runs.{kind_in, next_kind, IsAtRest}
-use Rattle.machine_rules.specs.machine_model.specs.sock_runs.specs.Sound.{IsAhead}
+use Rattle.machine_rules.specs.machine_model.specs.program_steps.specs.Sound.{IsAhead}
 use Rattle.machine_rules.specs.machine_model.specs.sock_runs.proofs.Along.{place_inside, seat_rests}
 use Rattle.machine_rules.specs.machine_model.specs.run_theorems.specs.Heard.{heard_at}
 use Rattle.machine_rules.specs.machine_model.specs.call_points.specs.declared.aside.Aside.{Aside as AsideStep}

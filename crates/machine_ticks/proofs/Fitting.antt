@@ -19,7 +19,7 @@ use Rattle.seat_programs.specs.Writings as heads
 use Rattle.seat_programs.specs.Programs.{Program, PutBytes, Write}
 use Rattle.seat_programs.specs.Cores.{word_of, found_at}
 use Rattle.seat_programs.specs.declared.task.Sizes.{Sizes}
-use Rattle.machine_rules.specs.machine_model.specs.sock_runs.specs.Sound.{AllowsWord}
+use Rattle.machine_rules.specs.machine_model.specs.program_steps.specs.Sound.{AllowsWord}
 use Rattle.id_rule.specs.Lawful.{call_index}
 use Rattle.machine_rules.specs.machine_model.specs.id_runs.specs.Held.{IdView}
 use Rattle.machine_rules.specs.machine_model.specs.id_runs.specs.Goes.{FitsSock, IdGoesOn}

@@ -25,8 +25,8 @@ use Rattle.chain_steps.proofs.Lists.{filter_at, filter_in}
 use Rattle.atomic_table.proofs.Lists.{at_set}
 use Rattle.sock_steps.proofs.Maps.{set_at, no_members}
 use Rattle.seat_programs.specs.Cores.{Core, first_of}
-use Rattle.sock_runs.specs.May.{HasInHand}
-use Rattle.sock_runs.specs.Sound.{state, AreInHand}
+use Rattle.sock_runs.specs.program_steps.specs.May.{HasInHand}
+use Rattle.sock_runs.specs.program_steps.specs.Sound.{state, AreInHand}
 use Rattle.sock_runs.proofs.HandTicks.{TheOne, the_one}
 use Rattle.message_events.specs.Standing.{Stand, hands_on, of_hand, by_home, stand}
 use Rattle.message_events.proofs.Orders.{In, gathered_in, gathered_of}

@@ -23,8 +23,8 @@ use Rattle.chain_steps.proofs.Grow.{idle_found}
 use Rattle.sock_steps.proofs.Places.{holder_lives}
 use Rattle.seat_programs.specs.Calls.{SwapHead}
 use Rattle.seat_programs.specs.Cores.{Core}
-use Rattle.sock_runs.specs.Rows.{row, hand_at, as_hand, by_claim, exchanged}
-use Rattle.sock_runs.specs.Sound.{state}
+use Rattle.sock_runs.specs.program_steps.specs.Rows.{row, hand_at, as_hand, by_claim, exchanged}
+use Rattle.sock_runs.specs.program_steps.specs.Sound.{state}
 use Rattle.sock_runs.proofs.ChainTicks.{held_link_is}
 use Rattle.message_events.specs.Standing.{hands_on, by_rights, by_home, stand}
 use Rattle.message_events.proofs.Carried.{no_hand}

@@ -12,13 +12,13 @@ use Rattle.seat_programs.specs.declared.task.Task.{Task}
 use Rattle.seat_programs.specs.Calls.{Call, SetOdd}
 use Rattle.seat_programs.specs.Told.{Made}
 use Rattle.seat_programs.specs.ToldCalls.{Order}
-use Rattle.outcome_causes.specs.Stories.{Event, In, trace_of}
-use Rattle.outcome_causes.specs.Explains.{FailsLife, FailsLink, step}
-use Rattle.outcome_causes.specs.Causes.{Asks, Cause, Good}
-use Rattle.outcome_causes.proofs.Members.{all_of, to_trace}
-use Rattle.outcome_causes.proofs.Events.{event}
+use Rattle.outcome_ticks.specs.outcome_stories.specs.Stories.{Event, In, trace_of}
+use Rattle.outcome_ticks.specs.outcome_stories.specs.Explains.{FailsLife, FailsLink, step}
+use Rattle.outcome_ticks.specs.outcome_stories.specs.Causes.{Asks, Cause, Good}
+use Rattle.outcome_ticks.specs.outcome_stories.proofs.Members.{all_of, to_trace}
+use Rattle.outcome_ticks.proofs.Events.{event}
 use Rattle.outcome_causes.proofs.Lives.{World, FailOf, odd_means, link_means, odd_life, given_made, one_life, one_fail}
-use Rattle.outcome_causes.proofs.Tasks.{one_task}
+use Rattle.outcome_ticks.proofs.Tasks.{one_task}
 
 module _ (p : Plan) (clients : List (List Task)) (outcomes : List (Option Outcome)) (broken : List ℕ) (orders : ℕ → Order) (es : List Event) (world : World p clients outcomes broken orders es) where
   abbrev pub Fail : List Event → ℕ × ℕ → Type 0

@@ -20,16 +20,16 @@ use Rattle.seat_programs.specs.declared.task.Task.{Task}
 use Rattle.seat_programs.specs.Programs.{Rest}
 use Rattle.seat_programs.specs.Cores.{Core, SeatState}
 use Rattle.seat_programs.specs.Told.{AreTasks}
-use Rattle.sock_runs.specs.GoesOn.{GoesOn, HasNothing}
-use Rattle.sock_runs.specs.Sound.{state, Sound, AllRest}
-use Rattle.outcome_causes.specs.Stories.{Entry, Event, In, trace_of}
-use Rattle.outcome_causes.specs.Explains.{Way, Done, Explained, Tells, swapped}
-use Rattle.outcome_causes.specs.Causes.{Asks}
-use Rattle.outcome_causes.specs.Kept.{IsOfCall, of_sends, IsSpoken, undo, AreKept, IsOfTask, EndsIn, AreMade, AreMadeNow, SeatAt, Story}
-use Rattle.outcome_causes.proofs.Members.{all_in, all_of, get_within}
-use Rattle.outcome_causes.proofs.Seats.{Less, undo_before, undo_done, from_undo}
-use Rattle.outcome_causes.proofs.Tasks.{sorted_of, same_some}
-use Rattle.outcome_causes.proofs.Ticks.{get_of}
+use Rattle.outcome_ticks.specs.program_steps.specs.GoesOn.{GoesOn, HasNothing}
+use Rattle.outcome_ticks.specs.program_steps.specs.Sound.{state, Sound, AllRest}
+use Rattle.outcome_ticks.specs.outcome_stories.specs.Stories.{Entry, Event, In, trace_of}
+use Rattle.outcome_ticks.specs.outcome_stories.specs.Explains.{Way, Done, Explained, Tells, swapped}
+use Rattle.outcome_ticks.specs.outcome_stories.specs.Causes.{Asks}
+use Rattle.outcome_ticks.specs.outcome_stories.specs.Kept.{IsOfCall, of_sends, IsSpoken, undo, AreKept, IsOfTask, EndsIn, AreMade, AreMadeNow, SeatAt, Story}
+use Rattle.outcome_ticks.specs.outcome_stories.proofs.Members.{all_in, all_of, get_within}
+use Rattle.outcome_ticks.proofs.Seats.{Less, undo_before, undo_done, from_undo}
+use Rattle.outcome_ticks.proofs.Tasks.{sorted_of, same_some}
+use Rattle.outcome_ticks.proofs.Ticks.{get_of}
 
 -- of tasks done, the latest first, each has a higher number than those behind it
 abbrev pub Falls : List Done → Type 0

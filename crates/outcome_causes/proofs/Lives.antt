@@ -12,14 +12,14 @@ use Rattle.seat_programs.specs.Calls.{CreateLife, AddRef, SetOdd, StoreName, Loa
 use Rattle.seat_programs.specs.Programs.{fail_outcome}
 use Rattle.seat_programs.specs.Told.{AreTasks, IsTask, Made, IsFail}
 use Rattle.seat_programs.specs.ToldCalls.{Order, all_accepted}
-use Rattle.outcome_causes.specs.Stories.{Entry, Event, In, trace_of, last_name, added_by, marked}
-use Rattle.outcome_causes.specs.Explains.{Because, Explained, Tells, TellsFail, FailsLife, FailsLink, holds, step}
-use Rattle.outcome_causes.specs.Causes.{Asks, OddAt, WasGiven, Cause, Good}
-use Rattle.outcome_causes.proofs.Members.{all_in, in_contains, contains_in, from_trace, to_trace}
-use Rattle.outcome_causes.proofs.Events.{event, once, birth_adds, fail_adds, marked_given, given_by, BeforeIn, cause_of, last_some}
+use Rattle.outcome_ticks.specs.outcome_stories.specs.Stories.{Entry, Event, In, trace_of, last_name, added_by, marked}
+use Rattle.outcome_ticks.specs.outcome_stories.specs.Explains.{Because, Explained, Tells, TellsFail, FailsLife, FailsLink, holds, step}
+use Rattle.outcome_ticks.specs.outcome_stories.specs.Causes.{Asks, OddAt, WasGiven, Cause, Good}
+use Rattle.outcome_ticks.specs.outcome_stories.proofs.Members.{all_in, in_contains, contains_in, from_trace, to_trace}
+use Rattle.outcome_ticks.proofs.Events.{event, once, birth_adds, fail_adds, marked_given, given_by, BeforeIn, cause_of, last_some}
 use Rattle.outcome_causes.proofs.Final.{Final, one_said}
-use Rattle.outcome_causes.proofs.Writers.{add_holds}
-use Rattle.outcome_causes.proofs.Tasks.{one_link}
+use Rattle.outcome_ticks.proofs.Writers.{add_holds}
+use Rattle.outcome_ticks.proofs.Tasks.{one_link}
 
 -- what is known in the end
 pub record World (p : Plan) (clients : List (List Task)) (outcomes : List (Option Outcome)) (broken : List ℕ) (orders : ℕ → Order) (es : List Event) : Type 0 where

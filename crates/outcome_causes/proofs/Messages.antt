@@ -13,12 +13,12 @@ use Rattle.sock_model.specs.declared.view.View.{View}
 use Rattle.seat_programs.specs.declared.task.Task.{Task}
 use Rattle.seat_programs.specs.Cores.{Core}
 use Rattle.seat_programs.specs.Told.{AreTasks}
-use Rattle.sock_runs.specs.Sound.{Sound, AllRest}
-use Rattle.outcome_causes.specs.Stories.{Event, In}
-use Rattle.outcome_causes.specs.Kept.{is_of_send, of_sends, IsOfCall, IsSpoken, Story}
-use Rattle.outcome_causes.proofs.Members.{all_in}
-use Rattle.outcome_causes.proofs.Senders.{HasSent, sent_in, EachMade}
-use Rattle.outcome_causes.proofs.Lifted.{filtered_in}
+use Rattle.outcome_ticks.specs.program_steps.specs.Sound.{Sound, AllRest}
+use Rattle.outcome_ticks.specs.outcome_stories.specs.Stories.{Event, In}
+use Rattle.outcome_ticks.specs.outcome_stories.specs.Kept.{is_of_send, of_sends, IsOfCall, IsSpoken, Story}
+use Rattle.outcome_ticks.specs.outcome_stories.proofs.Members.{all_in}
+use Rattle.outcome_ticks.specs.outcome_stories.proofs.Senders.{HasSent, sent_in, EachMade}
+use Rattle.outcome_ticks.proofs.Lifted.{filtered_in}
 use Rattle.outcome_causes.proofs.Final.{IsMessage, Sends, sends, Sooner}
 
 -- ## Lists

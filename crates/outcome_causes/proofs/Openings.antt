@@ -6,22 +6,22 @@ use Rattle.std.specs.Prelude.{Some, slice_get}
 use Rattle.std.specs.List.{AllByRecursion, filter}
 use Rattle.brpc_model.specs.Order.{EachBefore}
 use Rattle.sock_words.specs.declared.plain.Plan.{Plan}
-use Rattle.sock_runs.specs.corr_core.specs.declared.marks.Plan.{Plan as IdPlan}
+use Rattle.seat_programs.specs.corr_core.specs.declared.marks.Plan.{Plan as IdPlan}
 use Rattle.seat_programs.specs.declared.task.Op.{Op}
 use Rattle.seat_programs.specs.declared.task.Op.TheVariants as ops
 use Rattle.seat_programs.specs.declared.task.Task.{Task}
 use Rattle.seat_programs.specs.Programs.{Program, Rest}
 use Rattle.seat_programs.specs.Scripts.{sizes_of, programs, readers_from, all_programs}
 use Rattle.seat_programs.specs.Told.{AreTasks, TaskFits, Differ, IsOpen, goes_well, in_hand_behind, alternate}
-use Rattle.outcome_causes.specs.Stories.{In}
-use Rattle.outcome_causes.specs.Explains.{Own, Closing, is_plain, plain_tasks}
-use Rattle.outcome_causes.specs.Causes.{Asks}
-use Rattle.outcome_causes.specs.Kept.{IsSpoken}
-use Rattle.outcome_causes.specs.PlainTasks.{no_tasks, seats_tasks, OwnsCall}
-use Rattle.outcome_causes.proofs.Members.{all_in, all_of}
-use Rattle.outcome_causes.proofs.Tasks.{Apart, InOrder, one_task}
-use Rattle.outcome_causes.proofs.Clients.{SaysOf, client_explains}
-use Rattle.outcome_causes.proofs.Closings.{reader_explains}
+use Rattle.outcome_ticks.specs.outcome_stories.specs.Stories.{In}
+use Rattle.outcome_ticks.specs.outcome_stories.specs.Explains.{Own, Closing, is_plain, plain_tasks}
+use Rattle.outcome_ticks.specs.outcome_stories.specs.Causes.{Asks}
+use Rattle.outcome_ticks.specs.outcome_stories.specs.Kept.{IsSpoken}
+use Rattle.outcome_ticks.specs.outcome_stories.specs.PlainTasks.{no_tasks, seats_tasks, OwnsCall}
+use Rattle.outcome_ticks.specs.outcome_stories.proofs.Members.{all_in, all_of}
+use Rattle.outcome_ticks.proofs.Tasks.{Apart, InOrder, one_task}
+use Rattle.outcome_ticks.proofs.Clients.{SaysOf, client_explains}
+use Rattle.outcome_ticks.proofs.Closings.{reader_explains}
 use Rattle.outcome_causes.proofs.Begin.{IsExplained, AreExplained}
 
 -- ## Parts of lists

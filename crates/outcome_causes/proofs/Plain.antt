@@ -14,17 +14,17 @@ use Rattle.seat_programs.specs.Tasks.{opens, plan_of}
 use Rattle.seat_programs.specs.Scripts.{all_tasks, opened, set_up, IsRunWithCalls}
 use Rattle.seat_programs.specs.Told.{AreTasks, IsTask}
 use Rattle.seat_programs.specs.ToldCalls.{Order, Fixed}
-use Rattle.sock_runs.proofs.LinkTicks.{RetriesGo}
-use Rattle.sock_runs.proofs.Whole.{Begins, AreFittingIn, IsOwed}
-use Rattle.outcome_causes.specs.Explains.{is_plain, plain_tasks}
-use Rattle.outcome_causes.specs.Facts.{shown_in, broken_of_run, closed_before_ending, late_links_of_run, late_of_run, is_said_late, numbers_of, CallsFoundNone, ToldPlain}
-use Rattle.outcome_causes.specs.Losses.{closed_at, lost_in}
-use Rattle.outcome_causes.specs.PlainTasks.{told_tasks_of}
-use Rattle.outcome_causes.specs.Stories.{In}
-use Rattle.outcome_causes.specs.TaskCauses.{ToldTasks}
-use Rattle.outcome_causes.proofs.Members.{in_contains, contains_in}
-pub use Rattle.outcome_causes.proofs.Members.{in_left, in_right, in_both}
-use Rattle.outcome_causes.proofs.Lifted.{filtered_in, why_lifted, told_lifted, are_lifted, lives_lifted}
+use Rattle.outcome_ticks.specs.sock_runs.proofs.LinkTicks.{RetriesGo}
+use Rattle.outcome_ticks.specs.program_walks.proofs.Whole.{Begins, AreFittingIn, IsOwed}
+use Rattle.outcome_ticks.specs.outcome_stories.specs.Explains.{is_plain, plain_tasks}
+use Rattle.outcome_ticks.specs.outcome_stories.specs.Facts.{shown_in, broken_of_run, closed_before_ending, late_links_of_run, late_of_run, is_said_late, numbers_of, CallsFoundNone, ToldPlain}
+use Rattle.outcome_ticks.specs.outcome_stories.specs.Losses.{closed_at, lost_in}
+use Rattle.outcome_ticks.specs.outcome_stories.specs.PlainTasks.{told_tasks_of}
+use Rattle.outcome_ticks.specs.outcome_stories.specs.Stories.{In}
+use Rattle.outcome_ticks.specs.outcome_stories.specs.TaskCauses.{ToldTasks}
+use Rattle.outcome_ticks.specs.outcome_stories.proofs.Members.{in_contains, contains_in}
+pub use Rattle.outcome_ticks.specs.outcome_stories.proofs.Members.{in_left, in_right, in_both}
+use Rattle.outcome_ticks.proofs.Lifted.{filtered_in, why_lifted, told_lifted, are_lifted, lives_lifted}
 use Rattle.outcome_causes.proofs.Scripts.{lost_of_run, late, lost_before, orders, run_told}
 
 -- a link that was lost in some ticks answered that it failed, or its socket was closed

@@ -18,17 +18,17 @@ use Rattle.seat_programs.specs.Runs.{kind_in, IsAtRest}
 use Rattle.seat_programs.specs.Scripts.{is_ending}
 use Rattle.seat_programs.specs.Drops.{MadeIn}
 use Rattle.seat_programs.specs.Told.{AreTasks}
-use Rattle.sock_runs.specs.Sound.{Sound, views_after, views_along, AreFitting}
-use Rattle.sock_runs.proofs.LinkTicks.{RetriesGo}
-use Rattle.sock_runs.proofs.Ticks.{sound_ticks}
-use Rattle.outcome_causes.specs.Stories.{Event, In}
-use Rattle.outcome_causes.specs.Explains.{Closing, ExplainsBy}
-use Rattle.outcome_causes.specs.Losses.{lost_at, lost_in}
-use Rattle.outcome_causes.specs.Kept.{undo, AreMadeNow, of_sends, IsSpoken, SeatAt, SeatStory, Story, IsReady}
-use Rattle.outcome_causes.proofs.Members.{in_left, in_right}
-use Rattle.outcome_causes.proofs.Closings.{ending_explains}
-use Rattle.outcome_causes.proofs.Seats.{no_claims}
-use Rattle.outcome_causes.proofs.Ticks.{tick_story, get_of, moved}
+use Rattle.outcome_ticks.specs.program_steps.specs.Sound.{Sound, views_after, views_along, AreFitting}
+use Rattle.outcome_ticks.specs.sock_runs.proofs.LinkTicks.{RetriesGo}
+use Rattle.outcome_ticks.specs.sock_runs.proofs.Ticks.{sound_ticks}
+use Rattle.outcome_ticks.specs.outcome_stories.specs.Stories.{Event, In}
+use Rattle.outcome_ticks.specs.outcome_stories.specs.Explains.{Closing, ExplainsBy}
+use Rattle.outcome_ticks.specs.outcome_stories.specs.Losses.{lost_at, lost_in}
+use Rattle.outcome_ticks.specs.outcome_stories.specs.Kept.{undo, AreMadeNow, of_sends, IsSpoken, SeatAt, SeatStory, Story, IsReady}
+use Rattle.outcome_ticks.specs.outcome_stories.proofs.Members.{in_left, in_right}
+use Rattle.outcome_ticks.proofs.Closings.{ending_explains}
+use Rattle.outcome_ticks.proofs.Seats.{no_claims}
+use Rattle.outcome_ticks.proofs.Ticks.{tick_story, get_of, moved}
 
 -- a program that has said its outcomes and has no step left
 pub at_end : (program : Program) → IsReady program → kind_in program ≡ None → program ≡ Rest

@@ -18,17 +18,17 @@ use Rattle.seat_programs.specs.Drops.{MadeIn}
 use Rattle.seat_programs.specs.Told.{AreTasks, TaskFits}
 use Rattle.brpc_model.specs.Places.{names}
 use Rattle.brpc_model.specs.Operations.{clients}
-use Rattle.sock_runs.specs.Sound.{Sound, views_along}
-use Rattle.sock_runs.proofs.LinkTicks.{RetriesGo}
-use Rattle.sock_runs.proofs.Along.{seat_rests}
-use Rattle.sock_runs.proofs.Whole.{Begins, AreFittingIn, IsOwed, closing_of, rested_of, views_played, views_closed, views_ended, set_up_answered, end_answered, rested_ahead, rested_idle, closing_sound, closed_sound, ended_sound, end_rests}
+use Rattle.outcome_ticks.specs.program_steps.specs.Sound.{Sound, views_along}
+use Rattle.outcome_ticks.specs.sock_runs.proofs.LinkTicks.{RetriesGo}
+use Rattle.outcome_ticks.specs.sock_runs.proofs.Along.{seat_rests}
+use Rattle.outcome_ticks.specs.program_walks.proofs.Whole.{Begins, AreFittingIn, IsOwed, closing_of, rested_of, views_played, views_closed, views_ended, set_up_answered, end_answered, rested_ahead, rested_idle, closing_sound, closed_sound, ended_sound, end_rests}
 use Rattle.sock_model.specs.Links.{Failed}
-use Rattle.sock_runs.specs.Sound.{state}
-use Rattle.outcome_causes.specs.Stories.{Event, In}
-use Rattle.outcome_causes.specs.Losses.{lost_in}
-use Rattle.outcome_causes.specs.PlainTasks.{told_tasks_of, OwnsCall}
-use Rattle.outcome_causes.specs.TaskCauses.{ToldTasks, DropsMade}
-use Rattle.outcome_causes.specs.Kept.{Story}
+use Rattle.outcome_ticks.specs.program_steps.specs.Sound.{state}
+use Rattle.outcome_ticks.specs.outcome_stories.specs.Stories.{Event, In}
+use Rattle.outcome_ticks.specs.outcome_stories.specs.Losses.{lost_in}
+use Rattle.outcome_ticks.specs.outcome_stories.specs.PlainTasks.{told_tasks_of, OwnsCall}
+use Rattle.outcome_ticks.specs.outcome_stories.specs.TaskCauses.{ToldTasks, DropsMade}
+use Rattle.outcome_ticks.specs.outcome_stories.specs.Kept.{Story}
 use Rattle.outcome_causes.proofs.Begin.{start_story}
 use Rattle.outcome_causes.proofs.Final.{at_there}
 use Rattle.outcome_causes.proofs.Openings.{are_seats, all_explained}
@@ -36,14 +36,14 @@ use Rattle.outcome_causes.proofs.Runs.{IsStoried, Goes, setup_runs, seats_run, s
 use Rattle.sock_words.specs.declared.outcome.Outcome.{Outcome}
 use Rattle.seat_programs.specs.Cores.{resolved, waiting_at}
 use Rattle.seat_programs.specs.Clients.{ending_of}
-use Rattle.outcome_causes.specs.Facts.{before_ending, is_told, is_said_late}
-use Rattle.outcome_causes.proofs.Broken.{good_more}
-use Rattle.outcome_causes.proofs.Events.{event}
-use Rattle.outcome_causes.proofs.Members.{all_in, in_left, in_right, get_there}
-use Rattle.outcome_causes.proofs.Tasks.{fits_of}
-use Rattle.outcome_causes.proofs.Outcomes.{IsSaidOf, said_keeps, run_said, made_unsaid}
+use Rattle.outcome_ticks.specs.outcome_stories.specs.Facts.{before_ending, is_told, is_said_late}
+use Rattle.outcome_ticks.proofs.Broken.{good_more}
+use Rattle.outcome_ticks.proofs.Events.{event}
+use Rattle.outcome_ticks.specs.outcome_stories.proofs.Members.{all_in, in_left, in_right, get_there}
+use Rattle.outcome_ticks.proofs.Tasks.{fits_of}
+use Rattle.outcome_ticks.specs.outcome_stories.proofs.Outcomes.{IsSaidOf, said_keeps, run_said, made_unsaid}
 use Rattle.seat_programs.specs.ToldCalls.{Order}
-use Rattle.outcome_causes.proofs.Delivered.{orders_of}
+use Rattle.outcome_ticks.specs.outcome_stories.proofs.Delivered.{orders_of}
 use Rattle.outcome_causes.proofs.Whys.{Timely}
 use Rattle.outcome_causes.proofs.Told.{Tells, told_so, told_tasks, drops_told}
 

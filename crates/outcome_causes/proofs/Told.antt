@@ -20,25 +20,25 @@ use Rattle.seat_programs.specs.declared.task.Op.{Op}
 use Rattle.seat_programs.specs.declared.task.Op.TheVariants as ops
 use Rattle.seat_programs.specs.Told.{AreTasks, IsOpen, IsTask, Became, Made, IsFail}
 use Rattle.seat_programs.specs.ToldCalls.{Accepted, Order, StandsAt}
-use Rattle.sock_runs.specs.Sound.{state, Sound, AllRest}
-use Rattle.outcome_causes.specs.Stories.{Event, In, trace_of}
-use Rattle.outcome_causes.specs.Explains.{step, Because, Explained, WonRecycling, GaveBackOnly}
-use Rattle.outcome_causes.specs.Causes.{Asks, WasGiven, WasFailed}
-use Rattle.outcome_causes.specs.Kept.{is_of_send, IsSpoken, Story}
-use Rattle.outcome_causes.specs.TaskCauses.{ToldTasks, DropsMade, IsSent, InOwnOrder}
+use Rattle.outcome_ticks.specs.program_steps.specs.Sound.{state, Sound, AllRest}
+use Rattle.outcome_ticks.specs.outcome_stories.specs.Stories.{Event, In, trace_of}
+use Rattle.outcome_ticks.specs.outcome_stories.specs.Explains.{step, Because, Explained, WonRecycling, GaveBackOnly}
+use Rattle.outcome_ticks.specs.outcome_stories.specs.Causes.{Asks, WasGiven, WasFailed}
+use Rattle.outcome_ticks.specs.outcome_stories.specs.Kept.{is_of_send, IsSpoken, Story}
+use Rattle.outcome_ticks.specs.outcome_stories.specs.TaskCauses.{ToldTasks, DropsMade, IsSent, InOwnOrder}
 use Rattle.std.specs.List.{filter}
 use Rattle.std.specs.Prelude.{cond}
 use Rattle.std.proofs.Common.{suc, [], ◌∷◌}
-use Rattle.outcome_causes.proofs.Members.{all_of, in_contains, from_trace, get_within}
-use Rattle.outcome_causes.proofs.Tasks.{one_task, setup_opens, same_some}
-use Rattle.outcome_causes.proofs.Sending.{Within}
-use Rattle.outcome_causes.proofs.Events.{event, BeforeIn, marked_fail, cause_of}
+use Rattle.outcome_ticks.specs.outcome_stories.proofs.Members.{all_of, in_contains, from_trace, get_within}
+use Rattle.outcome_ticks.proofs.Tasks.{one_task, setup_opens, same_some}
+use Rattle.outcome_ticks.proofs.Sending.{Within}
+use Rattle.outcome_ticks.proofs.Events.{event, BeforeIn, marked_fail, cause_of}
 use Rattle.outcome_causes.proofs.Final.{Final, IsMessage, sends, at_there, final}
 use Rattle.outcome_causes.proofs.Lives.{World, task_of, asks_of, named_life, one_life, given_made, given_later, link_means, fail_is}
 use Rattle.outcome_causes.proofs.Fails.{Gathered, IsSender, gather}
 use Rattle.outcome_causes.proofs.Whys.{Timely, why_told}
-use Rattle.outcome_causes.proofs.Delivered.{accepted_of, orders_of, AreQuiet, places_all, dropped_failed}
-use Rattle.outcome_causes.proofs.Senders.{HasSent, all_sent, each_before, sent_stands}
+use Rattle.outcome_ticks.specs.outcome_stories.proofs.Delivered.{accepted_of, orders_of, AreQuiet, places_all, dropped_failed}
+use Rattle.outcome_ticks.specs.outcome_stories.proofs.Senders.{HasSent, all_sent, each_before, sent_stands}
 use Rattle.outcome_causes.proofs.Worlds.{quiet, world_of}
 use Rattle.outcome_causes.proofs.Messages.{number_of, each_made, message_of, call_of, sooner}
 

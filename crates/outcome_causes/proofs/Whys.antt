@@ -16,17 +16,17 @@ use Rattle.seat_programs.specs.Calls.{Call, ClaimSlot, CreateLife, AddRef, SetOd
 use Rattle.seat_programs.specs.Told as Told
 use Rattle.seat_programs.specs.Told.{IsOpen, IsTask, Became, Made, SeeksInVain, OpensNone, FoundNone, AfterHold, HasLife, EachOpened}
 use Rattle.seat_programs.specs.ToldCalls.{Order}
-use Rattle.outcome_causes.specs.Stories.{Entry, Event, In, trace_of, last_name}
-use Rattle.outcome_causes.specs.Explains.{Done, LastHold, Because, Explained, WasGone, WasOdd, IsReadied, FailsLife, swaps, swapped, step}
-use Rattle.outcome_causes.specs.Causes.{Asks, WasFailed, Cause, Good}
-use Rattle.outcome_causes.specs.TaskCauses.{FoundFailed, Why}
-use Rattle.outcome_causes.proofs.Members.{all_in, in_contains, from_trace}
-use Rattle.outcome_causes.proofs.Events.{event, in_marked, try_adds, marked_birth, marked_fail, BeforeIn, cause_of, Comes, compare, last_zero, last_some}
-use Rattle.outcome_causes.proofs.Accepting.{no_swap}
+use Rattle.outcome_ticks.specs.outcome_stories.specs.Stories.{Entry, Event, In, trace_of, last_name}
+use Rattle.outcome_ticks.specs.outcome_stories.specs.Explains.{Done, LastHold, Because, Explained, WasGone, WasOdd, IsReadied, FailsLife, swaps, swapped, step}
+use Rattle.outcome_ticks.specs.outcome_stories.specs.Causes.{Asks, WasFailed, Cause, Good}
+use Rattle.outcome_ticks.specs.outcome_stories.specs.TaskCauses.{FoundFailed, Why}
+use Rattle.outcome_ticks.specs.outcome_stories.proofs.Members.{all_in, in_contains, from_trace}
+use Rattle.outcome_ticks.proofs.Events.{event, in_marked, try_adds, marked_birth, marked_fail, BeforeIn, cause_of, Comes, compare, last_zero, last_some}
+use Rattle.outcome_ticks.proofs.Accepting.{no_swap}
 use Rattle.outcome_causes.proofs.Final.{Falls, one_said}
 use Rattle.outcome_causes.proofs.Lives.{World, task_of, asks_of, birth_made, birth_means, named_life, one_life, given_made, given_later, made_event, odd_means, odd_life, link_means, fail_says}
 use Rattle.outcome_causes.proofs.Fails.{Gathered, IsSender}
-use Rattle.outcome_causes.proofs.Tasks.{one_task, setup_opens}
+use Rattle.outcome_ticks.proofs.Tasks.{one_task, setup_opens}
 
 -- the name that an operation has
 abbrev name_of : Op → ℕ

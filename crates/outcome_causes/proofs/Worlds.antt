@@ -6,23 +6,23 @@ use Rattle.sock_model.specs.declared.view.View.{View}
 use Rattle.sock_model.specs.Layout.{request_index}
 use Rattle.sock_model.specs.Slots.{SlotLaw, live}
 use Rattle.sock_model.specs.References.{slot_facts}
-use Rattle.sock_runs.specs.slot_steps.proofs.Clauses.{taken_for}
-use Rattle.sock_runs.specs.slot_steps.proofs.Numbers.{life_le}
+use Rattle.outcome_ticks.specs.program_steps.specs.slot_steps.proofs.Clauses.{taken_for}
+use Rattle.outcome_ticks.specs.program_steps.specs.slot_steps.proofs.Numbers.{life_le}
 use Rattle.seat_programs.specs.declared.task.Task.{Task}
 use Rattle.seat_programs.specs.Calls.{ClaimRequest}
 use Rattle.seat_programs.specs.Cores.{Core}
 use Rattle.seat_programs.specs.Told.{AreTasks}
-use Rattle.sock_runs.specs.GoesOn.{GoesOn, HasNothing}
-use Rattle.sock_runs.specs.Sound.{state, Sound, AllRest}
-use Rattle.outcome_causes.specs.Stories.{Event, In}
-use Rattle.outcome_causes.specs.Explains.{step}
-use Rattle.outcome_causes.specs.Kept.{StaysUsed, Story}
-use Rattle.outcome_causes.proofs.Sending.{Within}
-use Rattle.outcome_causes.proofs.Broken.{good_more}
-use Rattle.outcome_causes.proofs.Events.{event}
+use Rattle.outcome_ticks.specs.program_steps.specs.GoesOn.{GoesOn, HasNothing}
+use Rattle.outcome_ticks.specs.program_steps.specs.Sound.{state, Sound, AllRest}
+use Rattle.outcome_ticks.specs.outcome_stories.specs.Stories.{Event, In}
+use Rattle.outcome_ticks.specs.outcome_stories.specs.Explains.{step}
+use Rattle.outcome_ticks.specs.outcome_stories.specs.Kept.{StaysUsed, Story}
+use Rattle.outcome_ticks.proofs.Sending.{Within}
+use Rattle.outcome_ticks.proofs.Broken.{good_more}
+use Rattle.outcome_ticks.proofs.Events.{event}
 use Rattle.outcome_causes.proofs.Final.{at_there, at_within, idle, final}
 use Rattle.outcome_causes.proofs.Lives.{World}
-use Rattle.outcome_causes.proofs.Delivered.{orders_of, AreQuiet, requests_used}
+use Rattle.outcome_ticks.specs.outcome_stories.proofs.Delivered.{orders_of, AreQuiet, requests_used}
 
 -- no view has anything to do
 pub quiet : (p : Plan) (c : Core) (vs : List View) → Sound p c vs → AllRest c → AreQuiet vs

@@ -1,9 +1,5 @@
-pub mod Stories
-pub mod Explains
-pub mod Causes
-pub mod Kept
-pub mod Losses
-pub mod TaskCauses
-pub mod PlainTasks
-pub mod Facts
-pub use Rattle.sock_runs
+pub use Rattle.outcome_ticks.specs.program_steps
+pub use Rattle.outcome_ticks.specs.sock_runs
+pub use Rattle.outcome_ticks.specs.program_walks
+pub use Rattle.outcome_ticks.specs.outcome_stories
+pub use Rattle.outcome_ticks

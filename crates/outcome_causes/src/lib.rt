@@ -1,2 +1,2 @@
-//! Why each operation of a run has its outcome: the definitions in `specs/`, the proofs in `proofs/`. There is no code here.
+//! The cause of each outcome, over every order of ticks, by the story of the whole run. The proofs are in `proofs/`. There is no code here.
 #![tactic(auto)]

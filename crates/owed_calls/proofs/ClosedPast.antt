@@ -21,9 +21,9 @@ use Rattle.joint_runs.specs.slot_steps.proofs.Sums.{term_le}
 use Rattle.joint_runs.specs.slot_steps.proofs.Numbers.{only-same, life_is}
 use Rattle.joint_runs.specs.sock_steps.proofs.Maps.{is_none}
 use Rattle.seat_programs.specs.Cores.{Core, SeatState, link_place}
-use Rattle.joint_runs.specs.sock_runs.specs.Sound.{state, Sound, AreInHand, AreHeld, IsOfRight}
-use Rattle.joint_runs.specs.sock_runs.proofs.Bounds.{law}
-use Rattle.joint_runs.specs.sock_runs.proofs.LinksOpening.{OpensLink}
+use Rattle.joint_runs.specs.program_steps.specs.Sound.{state, Sound, AreInHand, AreHeld, IsOfRight}
+use Rattle.joint_runs.specs.program_steps.proofs.Bounds.{law}
+use Rattle.joint_runs.specs.program_walks.proofs.LinksOpening.{OpensLink}
 use Rattle.owed_calls.proofs.EndsStill.{view_of}
 use Rattle.owed_calls.specs.Lives.{InHand, IsFinished}
 use Rattle.owed_calls.proofs.WordsGiven.{Named}

@@ -14,11 +14,11 @@ use Rattle.seat_programs.specs.Cores.{Core}
 use Rattle.seat_programs.specs.Ticks.{Moment, IsAlwaysReady, waits, waits_at}
 use Rattle.seat_programs.specs.Runs.{kind_in, IsSettled}
 use Rattle.seat_programs.specs.Runs as runs
-use Rattle.joint_runs.specs.sock_runs.specs.Sound.{Sound, IsAhead}
+use Rattle.joint_runs.specs.program_steps.specs.Sound.{Sound, IsAhead}
 use Rattle.joint_runs.specs.sock_runs.proofs.Along.{seat_rests, place_inside}
 use Rattle.joint_runs.specs.sock_runs.proofs.Waiting.{StandsAside, still_settles}
-use Rattle.joint_runs.specs.sock_runs.proofs.Rested.{IsPast}
-use Rattle.joint_runs.specs.sock_runs.proofs.ReaderSeats.{AtReader, waits_own}
+use Rattle.joint_runs.specs.program_walks.proofs.Rested.{IsPast}
+use Rattle.joint_runs.specs.program_walks.proofs.ReaderSeats.{AtReader, waits_own}
 use Rattle.joint_runs.specs.id_runs.specs.Held.{IdView}
 use Rattle.joint_runs.specs.id_runs.specs.Goes.{SoundIds}
 use Rattle.owed_calls.specs.Owing.{Owing}

@@ -15,8 +15,8 @@ use Rattle.sock_model.specs.Slots.{count}
 use Rattle.sock_model.specs.References.{slot_facts}
 use Rattle.seat_programs.specs.Calls.{Call, SetOdd}
 use Rattle.seat_programs.specs.Cores.{Core, word_of, word_after, found_at, words_after, first_of}
-use Rattle.joint_runs.specs.sock_runs.specs.May.{May}
-use Rattle.joint_runs.specs.sock_runs.specs.Sound.{state, Sound, AreInHand, AreHeld, IsOfRight}
+use Rattle.joint_runs.specs.program_steps.specs.May.{May}
+use Rattle.joint_runs.specs.program_steps.specs.Sound.{state, Sound, AreInHand, AreHeld, IsOfRight}
 use Rattle.joint_runs.specs.sock_runs.proofs.Versions.{versions_on, odd_past, other_past, look_holds}
 use Rattle.owed_calls.specs.Owing.{Owing, FindsCall}
 use Rattle.owed_calls.specs.Fits.{CallFits, HoldsNoMessage}

@@ -16,21 +16,21 @@ use Rattle.seat_programs.specs.Asides.{Step, Found, StoreAt, TakeBytes}
 use Rattle.seat_programs.specs.Programs.{Program, Do, PutHome, Write, Aside, NO_SOCKET}
 use Rattle.seat_programs.specs.Cores.{Core, SeatState, word_of, found_at}
 use Rattle.seat_programs.specs.Ticks.{Answer, Moment, ticked, run, AreAnswered}
-use Rattle.joint_runs.specs.sock_runs.specs.May.{May}
-use Rattle.joint_runs.specs.sock_runs.specs.GoesOn.{GoesOn}
-use Rattle.joint_runs.specs.sock_runs.specs.Sound.{state, Sound, AreFitting, first_step, views_after, views_along}
+use Rattle.joint_runs.specs.program_steps.specs.May.{May}
+use Rattle.joint_runs.specs.program_steps.specs.GoesOn.{GoesOn}
+use Rattle.joint_runs.specs.program_steps.specs.Sound.{state, Sound, AreFitting, first_step, views_after, views_along}
 use Rattle.joint_runs.specs.sock_runs.proofs.Along.{place_inside}
-use Rattle.joint_runs.specs.sock_runs.proofs.Cases.{goes_first}
-use Rattle.joint_runs.specs.sock_runs.proofs.Rounds.{begins_round}
-use Rattle.joint_runs.specs.sock_runs.proofs.Passes.{goes_round}
+use Rattle.joint_runs.specs.program_steps.proofs.Cases.{goes_first}
+use Rattle.joint_runs.specs.program_steps.proofs.Rounds.{begins_round}
+use Rattle.joint_runs.specs.program_steps.proofs.Passes.{goes_round}
 use Rattle.joint_runs.specs.sock_runs.proofs.LinkTicks.{RetriesGo}
 use Rattle.joint_runs.specs.sock_runs.proofs.Ticks.{sound_ticks}
 use Rattle.joint_runs.specs.sock_runs.proofs.Founds.{finds}
 use Rattle.joint_runs.specs.sock_runs.proofs.Quiets.{run_seats}
-use Rattle.joint_runs.specs.sock_runs.proofs.Records.{loads}
-use Rattle.joint_runs.specs.sock_runs.proofs.Recorded.{Recorded, recorded_ticks}
-use Rattle.joint_runs.specs.sock_runs.proofs.ReaderSeats.{AtReader, run_reader, loads_own, steps_behind}
-use Rattle.joint_runs.specs.sock_runs.proofs.OpensStay.{run_word}
+use Rattle.joint_runs.specs.program_walks.proofs.Records.{loads}
+use Rattle.joint_runs.specs.program_walks.proofs.Recorded.{Recorded, recorded_ticks}
+use Rattle.joint_runs.specs.program_walks.proofs.ReaderSeats.{AtReader, run_reader, loads_own, steps_behind}
+use Rattle.joint_runs.specs.program_walks.proofs.OpensStay.{run_word}
 use Rattle.joint_runs.specs.sock_runs.proofs.LinksStay.{IsGiven, run_given, finds_given}
 use Rattle.joint_runs.specs.id_runs.specs.Goes as goes
 use Rattle.joint_runs.specs.id_runs.specs.Goes.{SoundIds}

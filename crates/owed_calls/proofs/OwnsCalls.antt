@@ -25,7 +25,7 @@ use Rattle.seat_programs.specs.Attempts.{claims_from, heading_for, attempt, begi
 use Rattle.seat_programs.specs.Readers.{LIMIT, kept_for, ends_with, posted_last, post_each, thrown_away, read, reader}
 use Rattle.seat_programs.specs.Clients.{HeldLife, held_under, without_name, give_back, drop_of, operation, client_from, ending_of}
 use Rattle.seat_programs.specs.Told.{HaveOwnLinks}
-use Rattle.joint_runs.specs.sock_runs.proofs.Opening.{or_cases, second_true, or_first, or_second, both_true}
+use Rattle.joint_runs.specs.program_walks.proofs.Opening.{or_cases, second_true, or_first, or_second, both_true}
 use Rattle.joint_runs.specs.id_runs.specs.Goes.{FitsSock}
 use Rattle.owed_calls.specs.Owns.{Other, HasClaimed, HasLock, HasTaken, Grows, IsIdOf, IsOwnAt, but, Owns}
 use Rattle.owed_calls.proofs.Posts.{id_back}

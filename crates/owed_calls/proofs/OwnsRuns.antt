@@ -25,7 +25,7 @@ use Rattle.seat_programs.specs.Told.{HaveOwnLinks}
 use Rattle.seat_programs.specs.Cores.{Core, SeatState, resolved, next_step, with_seat}
 use Rattle.seat_programs.specs.Ticks.{Moment, ticked, run}
 use Rattle.seat_programs.specs.Scripts.{sizes_of, programs, readers_from, all_programs, opened, tasks_from, all_tasks, is_ending}
-use Rattle.joint_runs.specs.sock_runs.proofs.Opening.{mapped, appended, or_cases, second_true}
+use Rattle.joint_runs.specs.program_walks.proofs.Opening.{mapped, appended, or_cases, second_true}
 use Rattle.joint_runs.specs.id_runs.specs.Held.{IdView}
 use Rattle.joint_runs.specs.id_runs.specs.Goes.{IdGoesOn, SoundIds}
 use Rattle.joint_runs.specs.id_runs.specs.Goes as goes
@@ -34,9 +34,9 @@ use Rattle.joint_runs.specs.id_runs.proofs.Programs as idprograms
 use Rattle.joint_runs.specs.id_runs.proofs.Opening.{unused}
 use Rattle.joint_runs.proofs.Both.{AreBoth}
 use Rattle.joint_runs.proofs.Runs.{AreMade}
-use Rattle.report_fits.proofs.Lists.{Has, has_later, some_is, all_from, has_filter_map}
-use Rattle.report_fits.proofs.Numbering.{link_at, numbered_at}
-use Rattle.report_fits.proofs.TaskLemmas.{IsTaskOf, has_task, of_tasks, call_asks, numbers_at}
+use Rattle.report_fits.specs.script_facts.proofs.Lists.{Has, has_later, some_is, all_from, has_filter_map}
+use Rattle.report_fits.specs.script_facts.proofs.Numbering.{link_at, numbered_at}
+use Rattle.report_fits.specs.script_facts.proofs.TaskLemmas.{IsTaskOf, has_task, of_tasks, call_asks, numbers_at}
 use Rattle.owed_calls.proofs.EndsStill.{all_at, view_of}
 use Rattle.owed_calls.specs.Owing.{InList}
 use Rattle.owed_calls.specs.Lives.{KeepsAt, AreKept}

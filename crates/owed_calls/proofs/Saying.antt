@@ -12,14 +12,14 @@ use Rattle.seat_programs.specs.Programs.{Program, Do, Write, Aside, Round}
 use Rattle.seat_programs.specs.Readers.{reader}
 use Rattle.seat_programs.specs.Cores.{Core, SeatState, waiting_at}
 use Rattle.seat_programs.specs.Ticks.{Answer, Moment, ticked, run, AreAnswered}
-use Rattle.joint_runs.specs.sock_runs.specs.Sound.{Sound, AreFitting, first_step, views_after, views_along}
+use Rattle.joint_runs.specs.program_steps.specs.Sound.{Sound, AreFitting, first_step, views_after, views_along}
 use Rattle.joint_runs.specs.sock_runs.proofs.LinkTicks.{RetriesGo}
 use Rattle.joint_runs.specs.sock_runs.proofs.Along.{place_inside}
 use Rattle.joint_runs.specs.sock_runs.proofs.Ticks.{sound_ticks}
 use Rattle.joint_runs.specs.sock_runs.proofs.Quiets.{run_seats}
-use Rattle.joint_runs.specs.sock_runs.proofs.Recorded.{Recorded, recorded_ticks}
-use Rattle.joint_runs.specs.sock_runs.proofs.ReaderSeats.{AtReader, run_reader}
-use Rattle.joint_runs.specs.sock_runs.proofs.LinksOpening.{OpensLink}
+use Rattle.joint_runs.specs.program_walks.proofs.Recorded.{Recorded, recorded_ticks}
+use Rattle.joint_runs.specs.program_walks.proofs.ReaderSeats.{AtReader, run_reader}
+use Rattle.joint_runs.specs.program_walks.proofs.LinksOpening.{OpensLink}
 use Rattle.joint_runs.specs.id_runs.specs.Goes as goes
 use Rattle.joint_runs.proofs.Both.{AreBoth}
 use Rattle.owed_calls.proofs.EndsStill.{view_of}

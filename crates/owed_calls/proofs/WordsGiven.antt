@@ -33,23 +33,23 @@ use Rattle.seat_programs.specs.Cores.{Calls, Core, SeatState, word_of, word_afte
 use Rattle.seat_programs.specs.Ticks.{Moment, ticked, run, IsAnswered, AreAnswered}
 use Rattle.seat_programs.specs.Scripts.{sizes_of, beginning, programs, readers_from, is_ending}
 use Rattle.owed_calls.proofs.EndsStill.{all_at}
-use Rattle.joint_runs.specs.sock_runs.specs.Rows.{row, hand_at}
-use Rattle.joint_runs.specs.sock_runs.specs.May.{May}
-use Rattle.joint_runs.specs.sock_runs.specs.Sound.{state, Sound, first_step, IsFitting, AreFitting, views_after, views_along}
+use Rattle.joint_runs.specs.program_steps.specs.Rows.{row, hand_at}
+use Rattle.joint_runs.specs.program_steps.specs.May.{May}
+use Rattle.joint_runs.specs.program_steps.specs.Sound.{state, Sound, first_step, IsFitting, AreFitting, views_after, views_along}
 use Rattle.joint_runs.specs.sock_runs.proofs.Notes.{bears}
 use Rattle.joint_runs.specs.sock_runs.proofs.LinkNotes.{links_stay}
 use Rattle.joint_runs.specs.sock_runs.proofs.LinksStay.{IsGiven}
-use Rattle.joint_runs.specs.sock_runs.proofs.Records.{stores, opens_same}
-use Rattle.joint_runs.specs.sock_runs.proofs.Opening.{mapped, appended}
-use Rattle.joint_runs.specs.sock_runs.proofs.LinksOpening.{OwnsLink}
-use Rattle.joint_runs.specs.sock_runs.proofs.Through.{Passes, PassesOpens, Follows, any_end, comes_follows, through_any_failed, at_calls_passes, at_calls_follow}
-use Rattle.joint_runs.specs.sock_runs.proofs.AtCalls.{AtCalls, every_exit}
-use Rattle.joint_runs.specs.sock_runs.proofs.ThroughSends.{through_ending}
-use Rattle.joint_runs.specs.sock_runs.proofs.ThroughCalls.{through_reader, through_first, through_next}
-use Rattle.joint_runs.specs.sock_runs.proofs.ThroughClients.{through_back, through_any}
-use Rattle.joint_runs.specs.sock_runs.proofs.Cases.{ComesNext, with_rights, tick_keeps_marks}
-use Rattle.joint_runs.specs.sock_runs.proofs.Rounds.{begins_round}
-use Rattle.joint_runs.specs.sock_runs.proofs.Passes.{goes_round}
+use Rattle.joint_runs.specs.program_walks.proofs.Records.{stores, opens_same}
+use Rattle.joint_runs.specs.program_walks.proofs.Opening.{mapped, appended}
+use Rattle.joint_runs.specs.program_walks.proofs.LinksOpening.{OwnsLink}
+use Rattle.joint_runs.specs.program_walks.proofs.Through.{Passes, PassesOpens, Follows, any_end, comes_follows, through_any_failed, at_calls_passes, at_calls_follow}
+use Rattle.joint_runs.specs.program_steps.proofs.AtCalls.{AtCalls, every_exit}
+use Rattle.joint_runs.specs.program_walks.proofs.ThroughSends.{through_ending}
+use Rattle.joint_runs.specs.program_walks.proofs.ThroughCalls.{through_reader, through_first, through_next}
+use Rattle.joint_runs.specs.program_walks.proofs.ThroughClients.{through_back, through_any}
+use Rattle.joint_runs.specs.program_steps.proofs.Cases.{ComesNext, with_rights, tick_keeps_marks}
+use Rattle.joint_runs.specs.program_steps.proofs.Rounds.{begins_round}
+use Rattle.joint_runs.specs.program_steps.proofs.Passes.{goes_round}
 use Rattle.joint_runs.specs.sock_runs.proofs.LinkTicks.{RetriesGo}
 use Rattle.joint_runs.specs.sock_runs.proofs.Ticks.{sound_ticks}
 

@@ -20,16 +20,16 @@ use Rattle.seat_programs.specs.Calls.{FindLink, LookWord}
 use Rattle.seat_programs.specs.Sends.{accept}
 use Rattle.seat_programs.specs.Clients.{HeldLife}
 use Rattle.seat_programs.specs.Posts.{post}
-use Rattle.sock_runs.specs.brpc_model.specs.Frame.{magic, framed}
-use Rattle.sock_runs.specs.brpc_model.specs.Spelling.{meta_bytes}
+use Rattle.program_walks.specs.brpc_model.specs.Frame.{magic, framed}
+use Rattle.program_walks.specs.brpc_model.specs.Spelling.{meta_bytes}
 use Rattle.std.specs.Int.{w32, to_be_bytes}
 use Rattle.seat_programs.specs.Attempts.{claims_from, heading_for, attempt, begin_call, claim_id, call}
 use Rattle.seat_programs.specs.Told.{AskedFits}
-use Rattle.sock_runs.specs.Rows.{by_right, looked_clean, new_claim}
-use Rattle.sock_runs.specs.May.{Knows}
-use Rattle.sock_runs.specs.GoesOn.{GoesOn}
-use Rattle.sock_runs.proofs.Passes.{post_goes, way}
-use Rattle.sock_runs.specs.Has.{Has}
+use Rattle.program_walks.specs.program_steps.specs.Rows.{by_right, looked_clean, new_claim}
+use Rattle.program_walks.specs.program_steps.specs.May.{Knows}
+use Rattle.program_walks.specs.program_steps.specs.GoesOn.{GoesOn}
+use Rattle.program_walks.specs.program_steps.proofs.Passes.{post_goes, way}
+use Rattle.program_walks.specs.program_steps.specs.Has.{Has}
 use Rattle.programs_allowed.proofs.Has.{about_top, at_slot, tokens}
 use Rattle.programs_allowed.proofs.Steps.{noted, first, loads_name}
 use Rattle.programs_allowed.proofs.Sending.{accept_goes}

@@ -18,7 +18,7 @@ use Rattle.seat_programs.specs.Programs.{Program, Say, Round, release, address, 
 use Rattle.seat_programs.specs.Clients.{HeldLife, held_under, without_name, give_back, drop_of, operation, client_from, ending_of}
 use Rattle.seat_programs.specs.Scripts.{sizes_of}
 use Rattle.seat_programs.specs.Told.{OpFits, TaskFits, in_hand_behind, goes_well, alternate}
-use Rattle.sock_runs.specs.GoesOn.{HasNothing, GoesOn}
+use Rattle.program_walks.specs.program_steps.specs.GoesOn.{HasNothing, GoesOn}
 use Rattle.slot_steps.proofs.Numbers.{only-at, only-else}
 use Rattle.corr_core.specs.Word.{error_of}
 use Rattle.corr_core.specs.declared.marks.Plan.{Plan as IdPlan}
@@ -26,10 +26,10 @@ use Rattle.sock_words.specs.declared.outcome.Outcome.TheVariants.{NotBegun, Join
 use Rattle.seat_programs.specs.Heads.{Joins}
 use Rattle.seat_programs.specs.Posts.{WHOLE, post_with, posted}
 use Rattle.seat_programs.specs.Attempts.{expire, expire_outcome, join}
-use Rattle.sock_runs.proofs.Passes.{way, post_with_goes, posted_goes}
+use Rattle.program_walks.specs.program_steps.proofs.Passes.{way, post_with_goes, posted_goes}
 use Rattle.programs_allowed.proofs.Calling.{call_goes}
 use Rattle.programs_allowed.specs.Openings.{link_of, links_of}
-use Rattle.sock_runs.specs.Has.{Has, holds}
+use Rattle.program_walks.specs.program_steps.specs.Has.{Has, holds}
 use Rattle.programs_allowed.proofs.Has.{about_top, about_cons, at_slot, holding, letting, has_nothing, from_nothing}
 use Rattle.programs_allowed.proofs.Held.{IsInTable, under, more_here, more_else, all_more, length_more, under_more, all_without, length_without, under_without, none_under, without_unheld, held_in_table, fewer_here, fewer_else}
 use Rattle.programs_allowed.proofs.Steps.{loads_open}

@@ -9,8 +9,8 @@ use Rattle.sock_model.specs.declared.view.View.{View}
 use Rattle.sock_model.specs.Rule.{MOST_ACCEPTED}
 use Rattle.sock_model.specs.Seats.{newcomer, below}
 use Rattle.seat_programs.specs.declared.task.Task.{Task}
-use Rattle.sock_runs.specs.Sound.{AreFew}
-use Rattle.sock_runs.proofs.Few.{IsFew}
+use Rattle.program_walks.specs.program_steps.specs.Sound.{AreFew}
+use Rattle.program_walks.specs.sock_runs.proofs.Few.{IsFew}
 use Rattle.programs_allowed.specs.Openings.{links_of_all, without_passes, client_view, opening_views}
 
 -- whoever has no message accepted yet

@@ -17,9 +17,9 @@ use Rattle.sock_model.specs.Marks.{about, at}
 use Rattle.sock_model.specs.SlotRows.{marks_of}
 use Rattle.seat_programs.specs.Programs.{LAST_VERSION}
 use Rattle.seat_programs.specs.Clients.{HeldLife}
-use Rattle.sock_runs.specs.GoesOn.{HasNothing}
-use Rattle.sock_runs.specs.Has.{IsQuiet, OfTokens, holds, Has}
-use Rattle.sock_runs.specs.May.{KeepsRights}
+use Rattle.program_walks.specs.program_steps.specs.GoesOn.{HasNothing}
+use Rattle.program_walks.specs.program_steps.specs.Has.{IsQuiet, OfTokens, holds, Has}
+use Rattle.program_walks.specs.program_steps.specs.May.{KeepsRights}
 use Rattle.slot_steps.proofs.Sums.{total_mono, about-here, about-other}
 use Rattle.slot_steps.proofs.Numbers.{only-else}
 use Rattle.slot_steps.proofs.Slots.{probe_ref}

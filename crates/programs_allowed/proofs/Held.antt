@@ -13,7 +13,7 @@ use Rattle.sock_model.specs.Weights.{total, only}
 use Rattle.sock_model.specs.Marks.{about, at}
 use Rattle.seat_programs.specs.Clients.{HeldLife, held_under, without_name}
 use Rattle.slot_steps.proofs.Numbers.{only-at, only-else}
-use Rattle.sock_runs.specs.Has.{holds}
+use Rattle.program_walks.specs.program_steps.specs.Has.{holds}
 
 -- the life's slot is one of the table
 abbrev pub IsInTable : Plan → HeldLife → Type 0

@@ -24,16 +24,16 @@ use Rattle.seat_programs.specs.Cores.{Core, SeatState, resolved, still_waiting, 
 use Rattle.seat_programs.specs.Scripts.{new_links, opening_homes, sizes_of, programs, readers_from, all_programs, is_ending}
 use Rattle.seat_programs.specs.Told.{OpFits, TaskFits, AreTasks}
 use Rattle.slot_steps.proofs.Sums.{total-append}
-use Rattle.sock_runs.specs.GoesOn.{GoesOn}
-use Rattle.sock_runs.specs.Sound.{IsWithinLimits}
-use Rattle.sock_runs.specs.Lasts.{STALE, attempt_cost, home_weight, accepted, walk_left, entries, expects, arriving, stale_cost, id_left, ids_left, calls_left, LastsFor, Lasts, MOST_TICKS}
-use Rattle.sock_runs.proofs.IdCosts.{lasts_more}
-use Rattle.sock_runs.proofs.Costs.{Lasting, lasting_more}
-use Rattle.sock_runs.proofs.WalksLeft.{set_few}
-use Rattle.sock_runs.proofs.SeatCosts.{waiting_left, waiting_set, settled}
-use Rattle.sock_runs.proofs.IdsLeft.{all_stale}
-use Rattle.sock_runs.proofs.Along.{beginning_ahead, seat_ahead}
-use Rattle.sock_runs.proofs.Bounded.{IsBounded}
+use Rattle.program_walks.specs.program_steps.specs.GoesOn.{GoesOn}
+use Rattle.program_walks.specs.program_steps.specs.Sound.{IsWithinLimits}
+use Rattle.program_walks.specs.program_steps.specs.Lasts.{STALE, attempt_cost, home_weight, accepted, walk_left, entries, expects, arriving, stale_cost, id_left, ids_left, calls_left, LastsFor, Lasts, MOST_TICKS}
+use Rattle.runs_end.proofs.IdCosts.{lasts_more}
+use Rattle.runs_end.proofs.Costs.{Lasting, lasting_more}
+use Rattle.runs_end.proofs.WalksLeft.{set_few}
+use Rattle.runs_end.proofs.SeatCosts.{waiting_left, waiting_set, settled}
+use Rattle.runs_end.proofs.IdsLeft.{all_stale}
+use Rattle.program_walks.specs.sock_runs.proofs.Along.{beginning_ahead, seat_ahead}
+use Rattle.runs_end.proofs.Bounded.{IsBounded}
 use Rattle.programs_allowed.proofs.Few.{opening_few}
 use Rattle.id_runs.proofs.Opening.{unused}
 use Rattle.programs_allowed.specs.Openings.{client_view, opening_views, all_seats}

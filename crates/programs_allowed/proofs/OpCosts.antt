@@ -22,11 +22,11 @@ use Rattle.seat_programs.specs.Attempts.{begin_call, claim_id, call, expire_outc
 use Rattle.seat_programs.specs.Clients.{HeldLife, held_under, without_name, give_back, drop_of, operation, client_from, ending_of}
 use Rattle.seat_programs.specs.Scripts.{sizes_of}
 use Rattle.seat_programs.specs.Told.{AskedFits, OpFits, TaskFits}
-use Rattle.sock_runs.specs.Rows.{row}
-use Rattle.sock_runs.specs.Lasts.{CHANGE, ERROR, POST, ACCEPT, weight, attempt_cost}
-use Rattle.sock_runs.proofs.IdCosts.{lasts_more, judged_lasts, posted_lasts}
-use Rattle.sock_runs.proofs.Costs.{Lasting, lasting_more, either_lasts, does, set_failed_lasts}
-use Rattle.sock_runs.proofs.AttemptCosts.{release_lasts, address_lasts, ends_link, accept_lasts, attempt_lasts}
+use Rattle.program_walks.specs.program_steps.specs.Rows.{row}
+use Rattle.program_walks.specs.program_steps.specs.Lasts.{CHANGE, ERROR, POST, ACCEPT, weight, attempt_cost}
+use Rattle.runs_end.proofs.IdCosts.{lasts_more, judged_lasts, posted_lasts}
+use Rattle.runs_end.proofs.Costs.{Lasting, lasting_more, either_lasts, does, set_failed_lasts}
+use Rattle.runs_end.proofs.AttemptCosts.{release_lasts, address_lasts, ends_link, accept_lasts, attempt_lasts}
 use Rattle.programs_allowed.proofs.Held.{length_without}
 
 -- ## Parts of programs

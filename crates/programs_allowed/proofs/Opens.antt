@@ -23,13 +23,13 @@ use Rattle.seat_programs.specs.Cores.{Core, SeatState, resolved, still_waiting, 
 use Rattle.seat_programs.specs.Scripts.{opening_words, opening_homes, sizes_of, programs, readers_from, all_programs, beginning, is_ending}
 use Rattle.seat_programs.specs.Runs.{IsAtRest}
 use Rattle.seat_programs.specs.Told.{TaskFits, alternate, AreTasks}
-use Rattle.sock_runs.specs.GoesOn.{GoesOn, HasNothing}
-use Rattle.sock_runs.specs.Sound.{AreInHand, AreHeld, SoundSeat, IsWithinLimits, Sound, IsAhead}
-use Rattle.sock_runs.specs.Fits.{FitsRetry}
-use Rattle.sock_runs.proofs.Along.{seat_rests}
-use Rattle.sock_runs.proofs.LinkTicks.{come_goes}
+use Rattle.program_walks.specs.program_steps.specs.GoesOn.{GoesOn, HasNothing}
+use Rattle.program_walks.specs.program_steps.specs.Sound.{AreInHand, AreHeld, SoundSeat, IsWithinLimits, Sound, IsAhead}
+use Rattle.program_walks.specs.program_steps.specs.Fits.{FitsRetry}
+use Rattle.program_walks.specs.sock_runs.proofs.Along.{seat_rests}
+use Rattle.program_walks.specs.sock_runs.proofs.LinkTicks.{come_goes}
 use Rattle.slot_steps.proofs.Sums.{total-append}
-use Rattle.sock_runs.specs.sock_steps.proofs.Reseat.{opening_law, splitting_law}
+use Rattle.program_walks.specs.sock_steps.proofs.Reseat.{opening_law, splitting_law}
 use Rattle.programs_allowed.specs.Openings.{links_of, links_of_all, without_passes, client_view, opening_views, all_seats}
 use Rattle.programs_allowed.proofs.Has.{has_nothing}
 use Rattle.programs_allowed.proofs.Parts.{Ready}

@@ -13,9 +13,9 @@ use Rattle.sock_model.specs.SlotRows.{marks_of}
 use Rattle.seat_programs.specs.Calls.{CreateLife, SubRef, FreeSlot, LoadLink, ResetHead, ClearCode, StoreCode, StoreName, StoreOpen, TakeLink, FinishLink, PutLink}
 use Rattle.seat_programs.specs.Programs.{Program, Do, Say, NO_SOCKET, LAST_VERSION, recycle, release, address, reach, set_failed, no_socket, make_socket, open_from}
 use Rattle.seat_programs.specs.Clients.{HeldLife}
-use Rattle.sock_runs.specs.May.{Knows}
-use Rattle.sock_runs.specs.GoesOn.{GoesOn}
-use Rattle.sock_runs.specs.Has.{Has}
+use Rattle.program_walks.specs.program_steps.specs.May.{Knows}
+use Rattle.program_walks.specs.program_steps.specs.GoesOn.{GoesOn}
+use Rattle.program_walks.specs.program_steps.specs.Has.{Has}
 use Rattle.programs_allowed.proofs.Has.{at_slot, retiring}
 use Rattle.programs_allowed.proofs.Steps.{GoesFirst, claims, stores_link, resets, wipes, bears, adds, subs, sets_odd, stores_code, recycles, loads_link, frees, takes_last, takes_own, finishes, puts, loads_name, stores_open, stores_name}
 

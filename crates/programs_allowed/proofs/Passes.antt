@@ -7,7 +7,7 @@ use Rattle.sock_words.specs.declared.plain.Plan.{Plan}
 use Rattle.sock_model.specs.Weights.{total, only}
 use Rattle.sock_model.specs.Marks.{without_pass}
 use Rattle.sock_model.specs.Seats.{below}
-use Rattle.sock_runs.specs.brpc_model.specs.Order.{EachBefore}
+use Rattle.program_walks.specs.brpc_model.specs.Order.{EachBefore}
 use Rattle.seat_programs.specs.declared.task.Op.{Op}
 use Rattle.seat_programs.specs.declared.task.Op.TheVariants as ops
 use Rattle.seat_programs.specs.declared.task.Task.{Task}

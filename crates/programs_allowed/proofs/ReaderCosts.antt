@@ -4,18 +4,18 @@ use Rattle.sock_words.specs.declared.plain.Plan.{Plan}
 use Rattle.sock_words.specs.Words.{socket_id_slot, at_word_first, at_word_slot, at_word_link, at_word_attempt}
 use Rattle.sock_model.specs.declared.view.View.{View}
 use Rattle.corr_core.specs.Word.{parts, error_of}
-use Rattle.sock_runs.specs.brpc_model.specs.Frame.{Frame}
+use Rattle.program_walks.specs.brpc_model.specs.Frame.{Frame}
 use Rattle.seat_programs.specs.Asides.{LoadAt, call_id, id_first}
 use Rattle.seat_programs.specs.Heads.{Reads, Discards, Posting, HasLocked, Deciding, HasEnded, GoesOn, Ended}
 use Rattle.seat_programs.specs.Programs.{Program, Rest, Aside, Round, NO_SOCKET, address, release, set_failed}
 use Rattle.seat_programs.specs.Posts.{post_with, decided}
 use Rattle.seat_programs.specs.Readers.{LIMIT, kept_for, ends_with, posted_last, post_each, thrown_away, read, reader}
-use Rattle.sock_runs.specs.Fits.{FitsPosting}
-use Rattle.sock_runs.specs.Lasts.{CHANGE, ERROR, POST, FRAME, LastsFor}
-use Rattle.sock_runs.proofs.IdCosts.{lasts_more, judged_lasts, decide_lasts}
-use Rattle.sock_runs.proofs.ReadCosts.{answer_lasts}
-use Rattle.sock_runs.proofs.Costs.{Lasting, lasting_more, either_lasts, set_failed_lasts}
-use Rattle.sock_runs.proofs.AttemptCosts.{release_lasts, address_lasts}
+use Rattle.program_walks.specs.program_steps.specs.Fits.{FitsPosting}
+use Rattle.program_walks.specs.program_steps.specs.Lasts.{CHANGE, ERROR, POST, FRAME, LastsFor}
+use Rattle.runs_end.proofs.IdCosts.{lasts_more, judged_lasts, decide_lasts}
+use Rattle.runs_end.proofs.ReadCosts.{answer_lasts}
+use Rattle.runs_end.proofs.Costs.{Lasting, lasting_more, either_lasts, set_failed_lasts}
+use Rattle.runs_end.proofs.AttemptCosts.{release_lasts, address_lasts}
 
 -- the posts of a reader, over so many calls
 abbrev pub posts_cost : ℕ → ℕ

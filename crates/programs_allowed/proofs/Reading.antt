@@ -5,17 +5,17 @@ use Rattle.sock_words.specs.Words.{socket_id_slot, at_word_first, at_word_slot, 
 use Rattle.sock_model.specs.declared.chain.Entry.{Entry}
 use Rattle.sock_model.specs.declared.view.View.{View}
 use Rattle.corr_core.specs.Word.{parts, error_of}
-use Rattle.sock_runs.specs.brpc_model.specs.Frame.{Frame}
+use Rattle.program_walks.specs.brpc_model.specs.Frame.{Frame}
 use Rattle.seat_programs.specs.Asides.{call_id, id_first}
 use Rattle.seat_programs.specs.Heads.{Reads, Discards, Posting, HasLocked, Ended}
 use Rattle.seat_programs.specs.Programs.{Program, Rest, Round, NO_SOCKET, address, release, set_failed}
 use Rattle.seat_programs.specs.Posts.{post_with, decided}
 use Rattle.seat_programs.specs.Readers.{LIMIT, kept_for, ends_with, posted_last, post_each, thrown_away, read, reader}
-use Rattle.sock_runs.specs.May.{Knows}
-use Rattle.sock_runs.specs.Fits.{FitsPosting, FitsEnded}
-use Rattle.sock_runs.specs.GoesOn.{GoesOn}
-use Rattle.sock_runs.specs.Has.{Has}
-use Rattle.sock_runs.proofs.Passes.{way, decide_goes, decided_goes, post_with_goes, answer_goes}
+use Rattle.program_walks.specs.program_steps.specs.May.{Knows}
+use Rattle.program_walks.specs.program_steps.specs.Fits.{FitsPosting, FitsEnded}
+use Rattle.program_walks.specs.program_steps.specs.GoesOn.{GoesOn}
+use Rattle.program_walks.specs.program_steps.specs.Has.{Has}
+use Rattle.program_walks.specs.program_steps.proofs.Passes.{way, decide_goes, decided_goes, post_with_goes, answer_goes}
 use Rattle.programs_allowed.proofs.Has.{at_slot, has_nothing}
 use Rattle.programs_allowed.proofs.Steps.{ends_branch}
 use Rattle.programs_allowed.proofs.Parts.{Ready, address_goes}
@@ -23,7 +23,7 @@ use Rattle.programs_allowed.proofs.Clients.{fails_held}
 
 module _ (p : Plan) where
   -- a call ends with a kept response, or it is decided on
-  ends_goes : (v : View) (id e word : ℕ) (kept : List Frame) (next : Program) → Rattle.sock_runs.specs.Fits.FitsWord word → GoesOn p v next → GoesOn p v (ends_with id e word kept next)
+  ends_goes : (v : View) (id e word : ℕ) (kept : List Frame) (next : Program) → Rattle.program_walks.specs.program_steps.specs.Fits.FitsWord word → GoesOn p v next → GoesOn p v (ends_with id e word kept next)
   ends_goes v id e word [] next f goes = decide_goes p v id word e (decided id next) f (decided_goes p v id next goes)
   ends_goes v id e word (x ∷ xs) next f goes = answer_goes p v x (id_first id) next goes
 

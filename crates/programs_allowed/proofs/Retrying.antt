@@ -3,7 +3,7 @@ use Rattle.std.proofs.Common.{ℕ, ◌-◌, ◌≤◌, List, [], ◌∷◌, leng
 use Rattle.sock_words.specs.declared.plain.Plan.{Plan}
 use Rattle.sock_model.specs.declared.chain.Entry.{Entry}
 use Rattle.sock_model.specs.declared.view.View.{View}
-use Rattle.sock_runs.specs.brpc_model.specs.Spelling.{meta_bytes}
+use Rattle.program_walks.specs.brpc_model.specs.Spelling.{meta_bytes}
 use Rattle.seat_programs.specs.sock_message.specs.Asked.{Asked, name_of, meta_of}
 use Rattle.seat_programs.specs.Heads.{Retry, Unlocking, IsOpen, HasNext, Locking, NotThere, Has as HasLock}
 use Rattle.seat_programs.specs.Programs.{Program, Retries}
@@ -11,11 +11,11 @@ use Rattle.seat_programs.specs.Clients.{HeldLife}
 use Rattle.seat_programs.specs.Posts.{post, decided}
 use Rattle.seat_programs.specs.Attempts.{attempt, tried_again, retry_locked, retry}
 use Rattle.seat_programs.specs.Told.{AskedFits}
-use Rattle.sock_runs.specs.Has.{Has}
-use Rattle.sock_runs.specs.Fits.{FitsRetry, FitsUnlocking, FitsLocking}
-use Rattle.sock_runs.specs.GoesOn.{GoesOn}
-use Rattle.sock_runs.proofs.Passes.{post_goes, decide_goes, decided_goes}
-use Rattle.sock_runs.proofs.LinkTicks.{RetriesGo}
+use Rattle.program_walks.specs.program_steps.specs.Has.{Has}
+use Rattle.program_walks.specs.program_steps.specs.Fits.{FitsRetry, FitsUnlocking, FitsLocking}
+use Rattle.program_walks.specs.program_steps.specs.GoesOn.{GoesOn}
+use Rattle.program_walks.specs.program_steps.proofs.Passes.{post_goes, decide_goes, decided_goes}
+use Rattle.program_walks.specs.sock_runs.proofs.LinkTicks.{RetriesGo}
 use Rattle.programs_allowed.proofs.Has.{at_slot}
 use Rattle.programs_allowed.proofs.Steps.{loads_name}
 use Rattle.programs_allowed.proofs.Calling.{framed_some, attempt_goes}

@@ -12,8 +12,8 @@ use Rattle.seat_programs.specs.Ticks.{Moment, run, AreAnswered}
 use Rattle.seat_programs.specs.Runs.{IsAtRest}
 use Rattle.seat_programs.specs.Scripts.{sizes_of, programs, readers_from, all_programs, is_ending}
 use Rattle.seat_programs.specs.Told.{AreTasks}
-use Rattle.sock_runs.specs.Sound.{IsWithinLimits, Sound, IsAhead, AreFitting, views_along}
-use Rattle.sock_runs.proofs.Along.{run_sound, run_ahead, seat_ahead, beginning_ahead}
+use Rattle.program_walks.specs.program_steps.specs.Sound.{IsWithinLimits, Sound, IsAhead, AreFitting, views_along}
+use Rattle.program_walks.specs.sock_runs.proofs.Along.{run_sound, run_ahead, seat_ahead, beginning_ahead}
 use Rattle.programs_allowed.specs.Openings.{opening_views, all_seats}
 use Rattle.programs_allowed.proofs.Retrying.{retries_go}
 use Rattle.programs_allowed.proofs.Opens.{begun_core, opens_sound, ending_sound, told_sound}

@@ -32,10 +32,10 @@ use Rattle.seat_programs.specs.ToldCalls.{Accepted, Order, Fixed, ToldCalls, Are
 use Rattle.seat_programs.specs.ToldCalls as told
 use Rattle.report_fits.specs.Calm.{IsCalm}
 use Rattle.report_fits.specs.Ends.{AreEnds, AreEndsOf}
-use Rattle.report_fits.proofs.Lists.{has_from, has_none, all_from, all_at, before_from, before_at}
-use Rattle.report_fits.proofs.Flat.{map_at, at_map, map_length, map_map}
-use Rattle.report_fits.proofs.Numbering.{are_from}
-use Rattle.report_fits.proofs.TaskLemmas.{IsTaskOf, numbers_at, task_is, call_asks, expire_asks}
+use Rattle.script_facts.proofs.Lists.{has_from, has_none, all_from, all_at, before_from, before_at}
+use Rattle.script_facts.proofs.Flat.{map_at, at_map, map_length, map_map}
+use Rattle.script_facts.proofs.Numbering.{are_from}
+use Rattle.script_facts.proofs.TaskLemmas.{IsTaskOf, numbers_at, task_is, call_asks, expire_asks}
 use Rattle.report_fits.proofs.Callless.{not_later}
 use Rattle.report_fits.proofs.Places.{script_fits, script_places}
 

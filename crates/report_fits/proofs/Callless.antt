@@ -3,7 +3,7 @@ use Rattle.std.proofs.Common.{◌≡◌, zero, suc, Bool, true, false, not, List
 use Rattle.std.specs.List.{list_any}
 use Rattle.brpc_model.specs.Items.{Item}
 use Rattle.seat_programs.specs.Scripts.{is_later, is_callless}
-use Rattle.report_fits.proofs.Lists.{or_parts, Has, some_is}
+use Rattle.script_facts.proofs.Lists.{or_parts, Has, some_is}
 
 pub any_none : {A : Type 0} (test : A → Bool) (xs : List A) (x : A) → list_any test xs ≡ false → Has xs x → test x ≡ false
 any_none test [] x e h = absurd (cc)

@@ -25,15 +25,15 @@ use Rattle.seat_programs.specs.Scripts.{all_tasks}
 use Rattle.seat_programs.specs.Told.{IsTask, Made}
 use Rattle.seat_programs.specs.ToldCalls as told
 use Rattle.seat_programs.specs.ToldCalls.{Accepted, all_accepted, label}
-use Rattle.report_fits.proofs.Lists.{Has, some_is, has_from}
-use Rattle.report_fits.proofs.Names.{same_name}
-use Rattle.report_fits.proofs.Numbering.{are_from}
-use Rattle.report_fits.proofs.TaskLemmas.{numbers_at, task_is, tasks_length, fail_asks, expire_asks, mentions_send, mentions_hold, mentions_drop, mentions_fail}
+use Rattle.script_facts.proofs.Lists.{Has, some_is, has_from}
+use Rattle.script_facts.proofs.Names.{same_name}
+use Rattle.script_facts.proofs.Numbering.{are_from}
+use Rattle.script_facts.proofs.TaskLemmas.{numbers_at, task_is, tasks_length, fail_asks, expire_asks, mentions_send, mentions_hold, mentions_drop, mentions_fail}
 use Rattle.report_fits.proofs.Reported.{SaidOrPlaced}
-use Rattle.report_fits.proofs.Targets as targets
+use Rattle.script_facts.proofs.Targets as targets
 use Rattle.report_fits.proofs.Orders.{label_of}
-use Rattle.report_fits.proofs.Known.{first_number, attempt_named}
-use Rattle.report_fits.proofs.Known as known
+use Rattle.script_facts.proofs.Known.{first_number, attempt_named}
+use Rattle.script_facts.proofs.Known as known
 use Rattle.report_fits.proofs.Lines.{Given}
 use Rattle.report_fits.proofs.Lines as lines
 use Rattle.report_fits.proofs.Lives as lives

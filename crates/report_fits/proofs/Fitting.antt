@@ -29,13 +29,13 @@ use Rattle.seat_programs.specs.Told.{Made}
 use Rattle.seat_programs.specs.ToldCalls as told
 use Rattle.seat_programs.specs.ToldCalls.{Accepted, label as number_of_label}
 use Rattle.report_fits.specs.Calm.{IsCalm}
-use Rattle.report_fits.proofs.Lists.{within, some_is, contains_from, has_from, all_from, all_at, all_map, before_from, before_at}
-use Rattle.report_fits.proofs.Flat.{flat_before}
-use Rattle.report_fits.proofs.Counting.{HasPlace, places, passing, passing_length, passing_pass, passing_apart, Passes, passes_at, count_tally}
-use Rattle.report_fits.proofs.TaskLemmas.{numbers_at, asks_at}
+use Rattle.script_facts.proofs.Lists.{within, some_is, contains_from, has_from, all_from, all_at, all_map, before_from, before_at}
+use Rattle.script_facts.proofs.Flat.{flat_before}
+use Rattle.script_facts.proofs.Counting.{HasPlace, places, passing, passing_length, passing_pass, passing_apart, Passes, passes_at, count_tally}
+use Rattle.script_facts.proofs.TaskLemmas.{numbers_at, asks_at}
 use Rattle.report_fits.proofs.Reported.{is_said, outcomes_length, untold_outcome, SaidOrPlaced}
 use Rattle.report_fits.proofs.Orders as orders
-use Rattle.report_fits.proofs.Known as known
+use Rattle.script_facts.proofs.Known as known
 use Rattle.report_fits.proofs.Lines.{Given}
 use Rattle.report_fits.proofs.Lines as lines
 use Rattle.report_fits.proofs.Lives as lives

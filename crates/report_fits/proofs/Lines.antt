@@ -17,12 +17,12 @@ use Rattle.seat_programs.specs.Tasks.{plan_of}
 use Rattle.seat_programs.specs.Scripts.{place_words, took_at_home, Reports}
 use Rattle.seat_programs.specs.ToldCalls.{Accepted, bytes_of, all_accepted, label as number_of}
 use Rattle.report_fits.specs.Ends.{AreEndsOf}
-use Rattle.report_fits.proofs.Lists.{within}
-use Rattle.report_fits.proofs.Flat.{map_at, at_map, map_length, map_same, map_map, flat_of_map, sum_places}
+use Rattle.script_facts.proofs.Lists.{within}
+use Rattle.script_facts.proofs.Flat.{map_at, at_map, map_length, map_same, map_map, flat_of_map, sum_places}
 use Rattle.report_fits.proofs.Reported.{told_outcome}
 use Rattle.report_fits.proofs.Orders as orders
-use Rattle.report_fits.proofs.Known.{Known}
-use Rattle.report_fits.proofs.Known as known
+use Rattle.script_facts.proofs.Known.{Known}
+use Rattle.script_facts.proofs.Known as known
 
 -- the outcome that a place word tells
 pub outcome_is : (word : ℕ) (dropped : Bool) (k i : ℕ) → IsPlaceWord word dropped k i → outcome_by_word word ≡ (if dropped then Dropped k i else Placed k i)

@@ -25,14 +25,14 @@ use Rattle.seat_programs.specs.Told.{IsTask, Made, OpensNone, AfterHold, HasLife
 use Rattle.seat_programs.specs.ToldCalls as told
 use Rattle.seat_programs.specs.ToldCalls.{Accepted, Fixed, all_accepted, label}
 use Rattle.report_fits.specs.Ends.{IsEndOf}
-use Rattle.report_fits.proofs.Lists.{Has, within, some_is, contains_from, has_from, all_at, all_map}
-use Rattle.report_fits.proofs.Counting.{but, but_other, one_less, HasPlace, places, passing, passing_length, passing_pass, passing_apart, Passes, passes_at, tally_all, count_tally}
-use Rattle.report_fits.proofs.Names.{same_name}
-use Rattle.report_fits.proofs.Numbering.{link_at}
-use Rattle.report_fits.proofs.TaskLemmas.{numbers_at, asks_at, asked_at, task_is, operation_task, open_asks, hold_asks, fail_asks, mentions_open, mentions_hold, mentions_fail, named_at}
+use Rattle.script_facts.proofs.Lists.{Has, within, some_is, contains_from, has_from, all_at, all_map}
+use Rattle.script_facts.proofs.Counting.{but, but_other, one_less, HasPlace, places, passing, passing_length, passing_pass, passing_apart, Passes, passes_at, tally_all, count_tally}
+use Rattle.script_facts.proofs.Names.{same_name}
+use Rattle.script_facts.proofs.Numbering.{link_at}
+use Rattle.script_facts.proofs.TaskLemmas.{numbers_at, asks_at, asked_at, task_is, operation_task, open_asks, hold_asks, fail_asks, mentions_open, mentions_hold, mentions_fail, named_at}
 use Rattle.report_fits.proofs.Reported.{is_said, outcome_told, told_outcome, SaidOrPlaced, said_or_placed}
-use Rattle.report_fits.proofs.Known.{first_number, attempt_named}
-use Rattle.report_fits.proofs.Known as known
+use Rattle.script_facts.proofs.Known.{first_number, attempt_named}
+use Rattle.script_facts.proofs.Known as known
 use Rattle.report_fits.proofs.Lines.{Given}
 use Rattle.report_fits.proofs.Lines as lines
 

@@ -14,8 +14,8 @@ use Rattle.seat_programs.specs.Cores.{Core}
 use Rattle.seat_programs.specs.Runs.{from_to}
 use Rattle.seat_programs.specs.Scripts.{place_words}
 use Rattle.seat_programs.specs.ToldCalls.{Accepted, Order, AreOrders, StandsAt, label as number_of}
-use Rattle.report_fits.proofs.Lists.{within, some_is}
-use Rattle.report_fits.proofs.Flat.{same_places, map_at, at_map, map_length, from_to_at, from_to_length, count_first}
+use Rattle.script_facts.proofs.Lists.{within, some_is}
+use Rattle.script_facts.proofs.Flat.{same_places, map_at, at_map, map_length, from_to_at, from_to_length, count_first}
 use Rattle.report_fits.proofs.PlaceValues.{is_place}
 
 -- ## The word of a number

@@ -17,13 +17,13 @@ use Rattle.seat_programs.specs.Scripts.{all_tasks, place_words, Reports}
 use Rattle.seat_programs.specs.ToldCalls.{Fixed, Order, ToldCalls, StandsOn, label}
 use Rattle.report_fits.specs.Calm.{IsCalm}
 use Rattle.report_fits.specs.Ends.{AreEndsOf}
-use Rattle.report_fits.proofs.Lists.{within, some_is}
-use Rattle.report_fits.proofs.TaskLemmas.{asked_at, operation_task}
-use Rattle.report_fits.proofs.Sizes.{is_counted, keeps_limits}
-use Rattle.report_fits.proofs.Targets.{are_there}
+use Rattle.script_facts.proofs.Lists.{within, some_is}
+use Rattle.script_facts.proofs.TaskLemmas.{asked_at, operation_task}
+use Rattle.script_facts.proofs.Sizes.{is_counted, keeps_limits}
+use Rattle.script_facts.proofs.Targets.{are_there}
 use Rattle.report_fits.proofs.Orders as orders
-use Rattle.report_fits.proofs.Known.{Known}
-use Rattle.report_fits.proofs.Known as known
+use Rattle.script_facts.proofs.Known.{Known}
+use Rattle.script_facts.proofs.Known as known
 use Rattle.report_fits.proofs.Fitting.{fits}
 
 module _ (s : Known) where

@@ -5,7 +5,7 @@ use Rattle.sock_words.specs.declared.outcome.Outcome.TheVariants.{Placed, Droppe
 use Rattle.sock_words.specs.declared.place_word.PlaceWord.{PlaceWord}
 use Rattle.sock_words.specs.Words.{place_word_dropped, place_word_link, place_word_position}
 use Rattle.brpc_model.specs.PlaceWords.{word_at, outcome_by_word, outcome_of, outcomes_from}
-use Rattle.report_fits.proofs.Lists.{some_is}
+use Rattle.script_facts.proofs.Lists.{some_is}
 
 pub outcomes_length : (words : List PlaceWord) (n : ℕ) (os : List (Option Outcome)) → length (outcomes_from words n os) ≡ length os
 outcomes_length words n [] = refl

@@ -1,2 +1,3 @@
 pub mod Ends
 pub mod Calm
+pub use Rattle.script_facts

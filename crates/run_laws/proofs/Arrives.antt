@@ -36,14 +36,14 @@ use Rattle.seat_programs.specs.Beside.{calls_after}
 use Rattle.std.specs.Prelude.{if◌then◌else◌, Bool, true, false, ◌+◌, Some, None}
 use Rattle.seat_programs.specs.Cores.{Calls, Core, SeatState, resolved, waiting_at, word_of, word_after, words_after, homes_after, hand_after, found_at, next_step, with_seat, stepped, lies_at, first_of, others_of, link_place}
 use Rattle.seat_programs.specs.Ticks.{Moment, fed, with_places, onto_first, ticked}
-use Rattle.sock_runs.specs.Rows.{row, hand_at, took_message, link_away, link_home_again, took_bytes}
-use Rattle.sock_runs.specs.May.{May}
-use Rattle.sock_runs.specs.GoesOn.{GoesOn}
-use Rattle.sock_runs.specs.Sound.{Sound, first_step, state, views_after}
-use Rattle.sock_runs.proofs.Cases.{with_rights, right_rights, put_rights}
-use Rattle.sock_runs.proofs.Ticks.{sound_ticks}
+use Rattle.programs_allowed.specs.program_steps.specs.Rows.{row, hand_at, took_message, link_away, link_home_again, took_bytes}
+use Rattle.programs_allowed.specs.program_steps.specs.May.{May}
+use Rattle.programs_allowed.specs.program_steps.specs.GoesOn.{GoesOn}
+use Rattle.programs_allowed.specs.program_steps.specs.Sound.{Sound, first_step, state, views_after}
+use Rattle.programs_allowed.specs.program_steps.proofs.Cases.{with_rights, right_rights, put_rights}
+use Rattle.programs_allowed.specs.sock_runs.proofs.Ticks.{sound_ticks}
 use Rattle.sock_model.specs.ChainRows.{taken_right}
-use Rattle.outcome_causes.proofs.Added.{failer_note, linked_note, row_adds}
+use Rattle.outcome_stories.proofs.Added.{failer_note, linked_note, row_adds}
 use Rattle.run_laws.specs.World.{Event, Stop, stopped_after}
 use Rattle.run_laws.specs.Seen.{event_at}
 use Rattle.run_laws.specs.Late.{next_at, PutsInto, LooksLive, Looks, FailsSocket}

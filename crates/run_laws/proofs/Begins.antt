@@ -2,7 +2,7 @@
 use Rattle.std.proofs.Common.{◌≡◌, ℕ, zero, suc, ◌<◌, List, [], ◌∷◌, ◌++◌, map, get_or, refl, sym, ap, ◌∙◌, subst, arith}
 use Rattle.std.proofs.lemmas.Bool.{true≢false}
 use Rattle.std.specs.List.{flat_map, AllByRecursion}
-use Rattle.sock_runs.proofs.LinkTicks.{RetriesGo}
+use Rattle.programs_allowed.specs.sock_runs.proofs.LinkTicks.{RetriesGo}
 use Rattle.std.proofs.Common.{◌+◌, ◌-◌, length, replicate}
 use mathlib.Core.Option.{some, some-injective, some-ne-none}
 use lib.ListN.{get_elem?}
@@ -23,8 +23,8 @@ use Rattle.corr_core.specs.declared.marks.Plan.{Plan as IdPlan}
 use Rattle.seat_programs.specs.Programs.{Program, Rest}
 use Rattle.seat_programs.specs.Cores.{Core, SeatState, resolved, next_step}
 use Rattle.seat_programs.specs.Scripts.{beginning, programs, readers_from, all_programs, opening_homes}
-use Rattle.sock_runs.specs.Sound.{Sound}
-use Rattle.sock_runs.proofs.Opening.{mapped}
+use Rattle.programs_allowed.specs.program_steps.specs.Sound.{Sound}
+use Rattle.programs_allowed.specs.program_walks.proofs.Opening.{mapped}
 use Rattle.programs_allowed.specs.Openings.{client_view, opening_views}
 use Rattle.programs_allowed.proofs.Beginning.{beyond, at_home}
 use Rattle.message_events.specs.Standing.{Stand, accepted_by, hands_on, by_rights, by_home, stand}

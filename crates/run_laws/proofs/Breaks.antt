@@ -20,8 +20,8 @@ use Rattle.seat_programs.specs.Writings.{Puts, Waits, Empties, Walks}
 use Rattle.seat_programs.specs.Programs.{Program, Do, Say, Sent, Rest, TakeMessage, TakeHome, PutHome, PutBytes, AskReady, Write, Aside, Round, Keep, Retries}
 use Rattle.seat_programs.specs.Cores.{Core, SeatState}
 use Rattle.seat_programs.specs.Ticks.{OfPut, OfReady, Moment, ticked, asked_link, is_refusal, broken_at}
-use Rattle.sock_runs.specs.Sound.{first_step, state, views_after}
-use Rattle.sock_runs.specs.GoesOn.{GoesOn}
+use Rattle.programs_allowed.specs.program_steps.specs.Sound.{first_step, state, views_after}
+use Rattle.programs_allowed.specs.program_steps.specs.GoesOn.{GoesOn}
 use Rattle.run_laws.specs.World.{Stop, stopped_after}
 use Rattle.run_laws.specs.Seen.{put_event, ready_event, event_at}
 use Rattle.run_laws.specs.Late.{Looks, LooksLive, Fails, FailsSocket, next_at}

@@ -21,12 +21,12 @@ use Rattle.seat_programs.specs.Posts.{ends_call, end_id, unlocked}
 use Rattle.seat_programs.specs.Beside.{found_in, calls_after}
 use Rattle.seat_programs.specs.Cores.{Core, SeatState, word_of, found_at, lies_at, first_of, others_of, link_place, with_seat, stepped}
 use Rattle.seat_programs.specs.Ticks.{Answer, OfPut, OfReady, Moment, FitsPut, IsAnswer, IsAnswered, fed, with_places, onto_first, with_message, with_link, taken, with_found, step_with, tick_with, ticked}
-use Rattle.sock_runs.specs.Rows.{row, hand_at, took_message, link_away, link_home_again, took_bytes}
-use Rattle.sock_runs.specs.GoesOn.{GoesOn}
-use Rattle.sock_runs.specs.Sound.{Sound, first_step, views_with_message, views_with_link, views_with, views_of, views_after}
-use Rattle.sock_runs.proofs.Cases.{beside, answer_begins, goes_first}
-use Rattle.sock_runs.proofs.Rounds.{begins_round}
-use Rattle.sock_runs.proofs.Passes.{goes_round}
+use Rattle.programs_allowed.specs.program_steps.specs.Rows.{row, hand_at, took_message, link_away, link_home_again, took_bytes}
+use Rattle.programs_allowed.specs.program_steps.specs.GoesOn.{GoesOn}
+use Rattle.programs_allowed.specs.program_steps.specs.Sound.{Sound, first_step, views_with_message, views_with_link, views_with, views_of, views_after}
+use Rattle.programs_allowed.specs.program_steps.proofs.Cases.{beside, answer_begins, goes_first}
+use Rattle.programs_allowed.specs.program_steps.proofs.Rounds.{begins_round}
+use Rattle.programs_allowed.specs.program_steps.proofs.Passes.{goes_round}
 use Rattle.run_laws.specs.World.{Event, Nothing}
 use Rattle.run_laws.specs.Seen.{step_event, put_event, ready_event, next_event, event_at}
 

@@ -31,13 +31,13 @@ use Rattle.seat_programs.specs.Calls.{Call, CreateLife, ClaimSlot, AddRef, SubRe
 use Rattle.seat_programs.specs.Programs.{Program, Do, PutBytes, AskReady}
 use Rattle.seat_programs.specs.Cores.{Core, SeatState, word_of, found_at, with_seat, stepped, lies_at, first_of, others_of, link_place}
 use Rattle.seat_programs.specs.Ticks.{OfPut, OfReady, Moment, FitsPut, fed, with_places, onto_first, ticked, asked_link, is_refusal, broken_at}
-use Rattle.sock_runs.specs.Rows.{row, hand_at, took_message, link_away, link_home_again, took_bytes}
-use Rattle.sock_runs.specs.May.{May, even_version}
-use Rattle.sock_runs.specs.Writes.{MayPut}
-use Rattle.sock_runs.specs.Sound.{first_step, state, views_after}
-use Rattle.sock_runs.proofs.Cases.{with_rights, right_rights, put_rights}
-use Rattle.outcome_causes.specs.Stories.{adds}
-use Rattle.outcome_causes.proofs.Added.{linked_note, row_adds}
+use Rattle.programs_allowed.specs.program_steps.specs.Rows.{row, hand_at, took_message, link_away, link_home_again, took_bytes}
+use Rattle.programs_allowed.specs.program_steps.specs.May.{May, even_version}
+use Rattle.programs_allowed.specs.program_steps.specs.Writes.{MayPut}
+use Rattle.programs_allowed.specs.program_steps.specs.Sound.{first_step, state, views_after}
+use Rattle.programs_allowed.specs.program_steps.proofs.Cases.{with_rights, right_rights, put_rights}
+use Rattle.outcome_stories.specs.Stories.{adds}
+use Rattle.outcome_stories.proofs.Added.{linked_note, row_adds}
 use Rattle.life_events.specs.Events.{life_of}
 use Rattle.life_events.specs.Events as lives_seen
 use Rattle.life_events.proofs.Each.{each_step}

@@ -23,10 +23,10 @@ use Rattle.sock_model.specs.Weights.{total, only}
 use Rattle.seat_programs.specs.Calls.{Call, LoadName, LoadOpen, TakeLink, LookWord, LoadCode, ClaimRequest, PutMessage, Unconnect, SwapHead, EmptyHead, ReadNext, ReverseNext, FreeRequest, StorePlace, DropPlace}
 use Rattle.seat_programs.specs.Cores.{Core, word_of, found_at}
 use Rattle.seat_programs.specs.Ticks.{Moment, IsAnswered}
-use Rattle.sock_runs.specs.Rows.{row, hand_at, is_id, by_right, by_claim, new_claim, exchanged, emptied, read_next, turned_next, freed_next, placed_next, dropped_next}
-use Rattle.sock_runs.specs.May.{May}
-use Rattle.sock_runs.specs.Sound.{Sound, views_after}
-use Rattle.sock_runs.proofs.Cases.{with_rights, right_rights, put_rights}
+use Rattle.programs_allowed.specs.program_steps.specs.Rows.{row, hand_at, is_id, by_right, by_claim, new_claim, exchanged, emptied, read_next, turned_next, freed_next, placed_next, dropped_next}
+use Rattle.programs_allowed.specs.program_steps.specs.May.{May}
+use Rattle.programs_allowed.specs.program_steps.specs.Sound.{Sound, views_after}
+use Rattle.programs_allowed.specs.program_steps.proofs.Cases.{with_rights, right_rights, put_rights}
 use Rattle.run_laws.proofs.Cases.{tick_does}
 
 -- ## Claims

@@ -11,7 +11,7 @@ use Rattle.chain_steps.proofs.Lists.{at_length, at_some}
 use Rattle.seat_programs.specs.Programs.{Program, Rest}
 use Rattle.seat_programs.specs.Cores.{Core, SeatState}
 use Rattle.seat_programs.specs.Ticks.{Moment, ticked, broken_at}
-use Rattle.sock_runs.specs.Sound.{first_step, state, views_after}
+use Rattle.programs_allowed.specs.program_steps.specs.Sound.{first_step, state, views_after}
 use Rattle.run_laws.specs.World.{stopped_after}
 use Rattle.run_laws.specs.Seen.{event_at}
 use Rattle.run_laws.specs.Late.{PutsInto, LooksLive, Puts, Looks, Fails, before, PutAt, FailAt, LookBefore, PutsInTime}

@@ -17,8 +17,8 @@ use Rattle.sock_model.specs.Weights.{is_probe}
 use Rattle.seat_programs.specs.Calls.{Call, AddRef, SubRef, SetOdd, Recycle, LookWord, ClaimRequest, SwapHead}
 use Rattle.seat_programs.specs.Cores.{Core, word_of, found_at}
 use Rattle.seat_programs.specs.Ticks.{Moment, ticked, run}
-use Rattle.sock_runs.specs.May.{May, even_version}
-use Rattle.sock_runs.specs.Sound.{state, views_after, views_along}
+use Rattle.programs_allowed.specs.program_steps.specs.May.{May, even_version}
+use Rattle.programs_allowed.specs.program_steps.specs.Sound.{state, views_after, views_along}
 use Rattle.life_events.specs.Events.{life_of}
 use Rattle.life_events.proofs.Laws.{plain_law}
 use Rattle.message_events.specs.Messages.{Has, IsIn}

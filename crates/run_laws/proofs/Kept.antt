@@ -13,10 +13,10 @@ use Rattle.sock_model.specs.Links.{HoldsLink, Failed}
 use Rattle.seat_programs.specs.Writings.{Writing, Waits}
 use Rattle.seat_programs.specs.Programs.{Program, Write, Round}
 use Rattle.seat_programs.specs.Cores.{Calls, Core, SeatState, resolved, waiting_at, next_step, with_seat}
-use Rattle.sock_runs.specs.GoesOn.{GoesOn}
+use Rattle.programs_allowed.specs.program_steps.specs.GoesOn.{GoesOn}
 use Rattle.seat_programs.specs.Ticks.{Moment, IsAnswered, ticked}
-use Rattle.sock_runs.specs.Sound.{Sound, first_step, state, IsFitting}
-use Rattle.sock_runs.proofs.LinkTicks.{RetriesGo}
+use Rattle.programs_allowed.specs.program_steps.specs.Sound.{Sound, first_step, state, IsFitting}
+use Rattle.programs_allowed.specs.sock_runs.proofs.LinkTicks.{RetriesGo}
 use Rattle.run_laws.proofs.Modes.{Mode, Unknown, Live, Fed, Dead, Asks, Broken, IsWhole, Guarded, first_mode, first_guarded, come_guarded, round_mode}
 
 -- the seat holds a life in slot i whose link is k

@@ -16,10 +16,10 @@ use Rattle.seat_programs.specs.Ticks.{Moment, quiet, AreAnswered, ticked, run}
 use Rattle.seat_programs.specs.Tasks.{plan_of, id_plan_of, opens, calls}
 use Rattle.seat_programs.specs.Told.{AreTasks}
 use Rattle.seat_programs.specs.Scripts.{IsRunWithCalls, all_tasks, opened, set_up, played, is_ending, sizes_of, programs, readers_from, all_programs}
-use Rattle.sock_runs.specs.Sound.{Sound, AreFitting}
-use Rattle.sock_runs.proofs.LinkTicks.{RetriesGo}
-use Rattle.sock_runs.proofs.Along.{seat_rests}
-use Rattle.sock_runs.proofs.Whole.{Begins, AreFittingIn, closing_of, set_up_answered, end_answered, rested_ahead, rested_idle, closing_sound, closed_sound}
+use Rattle.programs_allowed.specs.program_steps.specs.Sound.{Sound, AreFitting}
+use Rattle.programs_allowed.specs.sock_runs.proofs.LinkTicks.{RetriesGo}
+use Rattle.programs_allowed.specs.sock_runs.proofs.Along.{seat_rests}
+use Rattle.programs_allowed.specs.program_walks.proofs.Whole.{Begins, AreFittingIn, closing_of, set_up_answered, end_answered, rested_ahead, rested_idle, closing_sound, closed_sound}
 use Rattle.programs_allowed.specs.Openings.{all_seats}
 use Rattle.run_laws.specs.Seen.{none_stopped}
 use Rattle.run_laws.specs.Laws.{KeepsLaws, opened_views, views_set, views_played, views_closed, stopped_set, stopped_played, stopped_closed}

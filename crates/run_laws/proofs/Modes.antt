@@ -22,7 +22,7 @@ use Rattle.seat_programs.specs.Programs.{Program, Do, Say, Sent, Rest, TakeMessa
 use Rattle.seat_programs.specs.Sends.{freed, one_more, passed_telling, tell_drop, placed, dropped, put_answered, ready_answered, block, first_put, write_link, heading_of, accept, claim_from, start}
 use Rattle.seat_programs.specs.Clients.{HeldLife, held_under, without_name, give_back, drop_of, operation, client_from, ending_of}
 use Rattle.seat_programs.specs.Cores.{next_step, resolved}
-use Rattle.sock_runs.specs.Sound.{first_step}
+use Rattle.programs_allowed.specs.program_steps.specs.Sound.{first_step}
 use Rattle.seat_programs.specs.Parts.{part}
 use Rattle.corr_core.specs.Word.{parts, error_of, code_of, posted_word, unlocked_word}
 use Rattle.corr_core.specs.Law.{LAST}

@@ -25,7 +25,7 @@ use Rattle.sock_model.specs.ChainRows.{with_right, taken_right}
 use Rattle.sock_model.specs.Marks.{about, at}
 use Rattle.sock_model.specs.Plain.{life_at}
 use Rattle.life_events.specs.Events.{life_of}
-use Rattle.sock_runs.specs.May.{even_version}
+use Rattle.programs_allowed.specs.program_steps.specs.May.{even_version}
 use Rattle.sock_model.specs.Links.{HoldsLink, Given, Failed}
 use Rattle.sock_model.specs.Slots.{version_of}
 use Rattle.sock_model.specs.SlotRows.{marks_of, looked, told_code}
@@ -37,14 +37,14 @@ use Rattle.seat_programs.specs.Programs.{Program, Do, TakeMessage, TakeHome, Put
 use Rattle.seat_programs.specs.Beside.{calls_after}
 use Rattle.seat_programs.specs.Cores.{Calls, Core, SeatState, word_of, word_after, words_after, homes_after, hand_after, found_at, lies_at, first_of, others_of, link_place, with_seat, stepped}
 use Rattle.seat_programs.specs.Ticks.{Moment, fed, with_places, onto_first, ticked}
-use Rattle.sock_runs.specs.Rows.{row, hand_at, by_right, looked_clean, took_message, link_away, link_home_again, took_bytes}
-use Rattle.sock_runs.specs.May.{May}
-use Rattle.sock_runs.specs.Writes.{Writes, MayPut}
-use Rattle.sock_runs.specs.Sound.{Sound, first_step, state, views_after}
-use Rattle.sock_runs.proofs.Cases.{with_rights, right_rights, put_rights}
-use Rattle.sock_runs.proofs.Ticks.{sound_ticks}
-use Rattle.outcome_causes.specs.Stories.{adds}
-use Rattle.outcome_causes.proofs.Added.{failer_note, linked_note, row_adds}
+use Rattle.programs_allowed.specs.program_steps.specs.Rows.{row, hand_at, by_right, looked_clean, took_message, link_away, link_home_again, took_bytes}
+use Rattle.programs_allowed.specs.program_steps.specs.May.{May}
+use Rattle.programs_allowed.specs.program_steps.specs.Writes.{Writes, MayPut}
+use Rattle.programs_allowed.specs.program_steps.specs.Sound.{Sound, first_step, state, views_after}
+use Rattle.programs_allowed.specs.program_steps.proofs.Cases.{with_rights, right_rights, put_rights}
+use Rattle.programs_allowed.specs.sock_runs.proofs.Ticks.{sound_ticks}
+use Rattle.outcome_stories.specs.Stories.{adds}
+use Rattle.outcome_stories.proofs.Added.{failer_note, linked_note, row_adds}
 use Rattle.message_events.proofs.Rights.{Keeps, looks_keeps, puts_makes}
 use Rattle.message_events.specs.Standing.{of_right}
 use Rattle.run_laws.specs.World.{Event, Nothing, Hold, Drop, Fail, End, Stop, stopped_after}

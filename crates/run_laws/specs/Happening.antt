@@ -5,7 +5,7 @@ use Rattle.sock_model.specs.Plain.{PlainLaw, plain}
 use Rattle.sock_model.specs.declared.view.View.{View}
 use Rattle.seat_programs.specs.Cores.{Core}
 use Rattle.seat_programs.specs.Ticks.{Moment}
-use Rattle.sock_runs.specs.Sound.{views_along}
+use Rattle.programs_allowed.specs.program_steps.specs.Sound.{views_along}
 use Rattle.run_laws.specs.Seen.{AreEvents}
 
 -- these ticks, one after another: each is its event of the plain model or none, and before and behind each the laws of lives hold

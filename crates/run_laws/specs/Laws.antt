@@ -8,7 +8,7 @@ use Rattle.seat_programs.specs.Cores.{Core}
 use Rattle.seat_programs.specs.Ticks.{quiet}
 use Rattle.seat_programs.specs.Scripts.{IsRunWithCalls, all_tasks, opened, ending, set_up, played}
 use Rattle.seat_programs.specs.Tasks.{opens, plan_of}
-use Rattle.sock_runs.specs.Sound.{views_along}
+use Rattle.programs_allowed.specs.program_steps.specs.Sound.{views_along}
 use Rattle.run_laws.specs.World.{IsNew}
 use Rattle.run_laws.specs.Seen.{none_stopped, stopped_along, world_of}
 use Rattle.run_laws.specs.Happening.{Happen}

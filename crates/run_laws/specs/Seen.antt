@@ -20,8 +20,8 @@ use Rattle.seat_programs.specs.Calls.{Call, CreateLife, AddRef, SubRef, SetOdd, 
 use Rattle.seat_programs.specs.Programs.{Program, Do, PutBytes, AskReady}
 use Rattle.seat_programs.specs.Cores.{Core, word_of, found_at}
 use Rattle.seat_programs.specs.Ticks.{Answer, OfPut, OfReady, Moment, broken_at, ticked}
-use Rattle.sock_runs.specs.May.{even_version}
-use Rattle.sock_runs.specs.Sound.{first_step, views_after}
+use Rattle.programs_allowed.specs.program_steps.specs.May.{even_version}
+use Rattle.programs_allowed.specs.program_steps.specs.Sound.{first_step, views_after}
 use Rattle.message_events.specs.Standing as standing
 use Rattle.life_events.specs.Events.{life_of}
 use Rattle.run_laws.specs.World.{World, Event, Nothing, Birth, Hold, Drop, Fail, End, Accept, Take, Stop, Place, Dropped, Free, Becomes, stopped_after}

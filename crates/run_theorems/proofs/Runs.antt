@@ -14,9 +14,9 @@ use Rattle.seat_programs.specs.Cores.{Core}
 use Rattle.seat_programs.specs.Scripts.{IsRunWithCalls, Reports, all_tasks, place_words}
 use Rattle.seat_programs.specs.ToldCalls.{Fixed, Order, ToldCalls}
 use Rattle.outcome_causes.specs.sock_runs.proofs.LinkTicks.{RetriesGo}
-use Rattle.outcome_causes.specs.sock_runs.proofs.Whole.{IsOwed, end_over, all_homes, end_rests}
-use Rattle.outcome_causes.specs.PlainTasks.{told_tasks_of}
-use Rattle.outcome_causes.specs.TaskCauses.{DropsMade}
+use Rattle.outcome_causes.specs.program_walks.proofs.Whole.{IsOwed, end_over, all_homes, end_rests}
+use Rattle.outcome_causes.specs.outcome_stories.specs.PlainTasks.{told_tasks_of}
+use Rattle.outcome_causes.specs.outcome_stories.specs.TaskCauses.{DropsMade}
 use Rattle.outcome_causes.proofs.Scripts.{MadeInRun, run_drops}
 use Rattle.owed_calls.specs.programs_allowed.specs.Openings.{all_seats}
 use Rattle.owed_calls.specs.programs_allowed.proofs.Fresh.{opening_fresh}
@@ -27,10 +27,10 @@ use Rattle.owed_calls.specs.Sound.{SoundOwing}
 use Rattle.owed_calls.proofs.End.{all_ended}
 use Rattle.owed_calls.specs.report_fits.specs.Calm.{IsCalm}
 use Rattle.owed_calls.specs.report_fits.specs.Ends.{AreEndsOf, EndsEarly}
-use Rattle.owed_calls.specs.report_fits.proofs.Lists.{Has, has_first, has_later, within, all_at, contains_from}
+use Rattle.owed_calls.specs.script_facts.proofs.Lists.{Has, has_first, has_later, within, all_at, contains_from}
 use Rattle.owed_calls.specs.report_fits.proofs.Places.{lateness, script_fits, script_places}
-use Rattle.owed_calls.specs.report_fits.proofs.Sizes.{keeps_limits}
-use Rattle.owed_calls.specs.report_fits.proofs.Tasks.{tasks_of_script}
+use Rattle.owed_calls.specs.script_facts.proofs.Sizes.{keeps_limits}
+use Rattle.owed_calls.specs.script_facts.proofs.Tasks.{tasks_of_script}
 use Rattle.run_theorems.specs.Over.{IsAllOver}
 use Rattle.run_theorems.specs.Unserved.{IsUnserved, IsInTime}
 use Rattle.run_theorems.proofs.Lengths.{ended_length}

@@ -7,13 +7,13 @@ use Rattle.brpc_model.specs.Script.{script_of}
 use Rattle.seat_programs.specs.Tasks.{plan_of}
 use Rattle.seat_programs.specs.Cores.{Core}
 use Rattle.seat_programs.specs.Scripts.{IsRunWithCalls}
-use Rattle.outcome_causes.specs.sock_runs.specs.Sound.{IsWithinLimits}
-use Rattle.outcome_causes.specs.sock_runs.proofs.Whole.{AreFittingIn, Begins}
+use Rattle.outcome_causes.specs.program_steps.specs.Sound.{IsWithinLimits}
+use Rattle.outcome_causes.specs.program_walks.proofs.Whole.{AreFittingIn, Begins}
 use Rattle.owed_calls.specs.joint_runs.proofs.Runs.{AreMade, first_views, begins, are_fitting_in, joint_runs}
 use Rattle.owed_calls.specs.joint_runs.proofs.Made.{are_made}
 use Rattle.brpc_model.specs.Limits.{KeepsLimits}
-use Rattle.owed_calls.specs.report_fits.proofs.Sizes.{keeps_limits, plan_fits, few_seats}
-use Rattle.owed_calls.specs.report_fits.proofs.Tasks.{tasks_of_script}
+use Rattle.owed_calls.specs.script_facts.proofs.Sizes.{keeps_limits, plan_fits, few_seats}
+use Rattle.owed_calls.specs.script_facts.proofs.Tasks.{tasks_of_script}
 
 -- the sizes of a script's table
 pub within_limits : (script : List Item) → KeepsLimits script → IsWithinLimits (plan_of script)

@@ -6,7 +6,7 @@ use Rattle.brpc_model.specs.Items.{Item}
 use Rattle.seat_programs.specs.Cores.{Core}
 use Rattle.seat_programs.specs.Runs.{IsSettled}
 use Rattle.seat_programs.specs.Tasks.{plan_of, id_plan_of}
-use Rattle.outcome_causes.specs.sock_runs.specs.Sound.{IsOver}
+use Rattle.outcome_causes.specs.program_steps.specs.Sound.{IsOver}
 use Rattle.outcome_causes.specs.sock_runs.proofs.HandTicks.{AtHome}
 
 pub record IsAllOver (script : List Item) (core : Core) : Type 0 where

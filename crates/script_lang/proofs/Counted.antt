@@ -5,8 +5,8 @@ use Rattle.std.proofs.lemmas.List.Sums.{sum_by-append}
 use Rattle.brpc_model.specs.Items.{Item, is_client, is_open, is_operation, is_turn, mentioned}
 use Rattle.brpc_model.specs.Places.{names, with_names}
 use Rattle.brpc_model.specs.Script.{script_of}
-use Rattle.report_fits.proofs.Lists.{or_parts}
-use Rattle.report_fits.proofs.Reading.{IsPlaced, by_lines}
+use Rattle.script_facts.proofs.Lists.{or_parts}
+use Rattle.script_facts.proofs.Reading.{IsPlaced, by_lines}
 use Rattle.script_items.specs.declared.line.Line.{Line}
 use Rattle.script_items.specs.Meaning.{item}
 use Rattle.script_lang.specs.declared.counts.Counts.{Counts}

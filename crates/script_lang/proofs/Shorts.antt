@@ -3,8 +3,8 @@ use Rattle.std.proofs.Common.{◌≡◌, ℕ, List, [], ◌∷◌, length, map, 
 use Rattle.std.proofs.lemmas.List.{length-map}
 use Rattle.std.specs.List.{AllByRecursion}
 use Rattle.brpc_model.specs.Items.{Item, Slots, Requests, First, Client, Open, Send, Call, Expire, Join, Fail, Hold, Drop, Sched, Tick, To, CallLine}
-use Rattle.report_fits.proofs.CallLines.{CallInRange}
-use Rattle.report_fits.proofs.Reading.{InRange}
+use Rattle.script_facts.proofs.CallLines.{CallInRange}
+use Rattle.script_facts.proofs.Reading.{InRange}
 use Rattle.sock_message.specs.Inside.{KeepsLimits}
 use Rattle.seat_programs.specs.Tasks.{name_number, asked_of}
 use Rattle.script_lang.specs.TasksByLine.{IsShort}

@@ -5,7 +5,7 @@ use Rattle.std.proofs.lemmas.List.Elements.{filter_map-append}
 use Rattle.std.proofs.lemmas.List.Sums.{sum_by-cons}
 use Rattle.std.proofs.lemmas.List.Folds.{list_all-map}
 use Rattle.brpc_model.specs.Operations.{link_names}
-use Rattle.report_fits.proofs.Sizes.{link_count, keeps_limits}
+use Rattle.script_facts.proofs.Sizes.{link_count, keeps_limits}
 use Rattle.brpc_model.specs.Script.{script_of}
 use Rattle.script_items.specs.Meaning.{item}
 use Rattle.script_items.specs.declared.line.Line.{Line}

@@ -8,6 +8,7 @@ pub use Rattle.calls_done.specs.call_whys
 pub use Rattle.callless_fits
 pub use Rattle.calls_done.specs.failed_told
 pub use Rattle.id_rule
-pub use Rattle.report_fits
+pub use Rattle.calls_done.specs.call_whys.specs.Below.script_facts
+pub use Rattle.calls_done.specs.call_whys.specs.Below.report_fits
 pub use Rattle.calls_done
 pub use Rattle.calls_done.specs.served_told

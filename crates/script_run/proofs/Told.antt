@@ -11,11 +11,11 @@ use Rattle.seat_programs.specs.Cores.{Core}
 use Rattle.seat_programs.specs.Tasks.{opens, plan_of}
 use Rattle.seat_programs.specs.Scripts.{IsRunWithCalls, all_tasks, is_callless}
 use Rattle.seat_programs.specs.ToldCalls.{Fixed, Order}
-use Rattle.outcome_causes.specs.Facts.{closed_before_ending, is_said_late, late_of_run, late_links_of_run, ToldSends}
-use Rattle.outcome_causes.specs.PlainTasks.{told_tasks_of}
-use Rattle.outcome_causes.specs.TaskCauses.{ToldTasks}
-use Rattle.outcome_causes.proofs.Members.{in_contains, contains_in}
-use Rattle.outcome_causes.proofs.Scripts.{lost_of_run, run_told}
+use Rattle.calm_runs.specs.send_causes.specs.outcome_stories.specs.Facts.{closed_before_ending, is_said_late, late_of_run, late_links_of_run, ToldSends}
+use Rattle.calm_runs.specs.send_causes.specs.outcome_stories.specs.PlainTasks.{told_tasks_of}
+use Rattle.calm_runs.specs.send_causes.specs.outcome_stories.specs.TaskCauses.{ToldTasks}
+use Rattle.calm_runs.specs.send_causes.specs.outcome_stories.proofs.Members.{in_contains, contains_in}
+use Rattle.calm_runs.specs.send_causes.specs.outcome_causes.proofs.Scripts.{lost_of_run, run_told}
 use Rattle.calm_runs.specs.send_causes.proofs.Early.{closed_early, start, go, fitting}
 use Rattle.calm_runs.specs.send_causes.proofs.Lists.{early_shown, closed_shown}
 use Rattle.calm_runs.specs.send_causes.proofs.Plain.{broken_shown}
@@ -24,13 +24,13 @@ use Rattle.calm_runs.specs.send_causes.proofs.AllTold.{told_of_run, told_last}
 use Rattle.calm_runs.specs.send_causes.proofs.Assembled.{fixed_in_run}
 use Rattle.run_laws.specs.programs_allowed.specs.Openings.{all_seats}
 use Rattle.run_laws.specs.programs_allowed.proofs.Fresh.{opening_fresh}
-use Rattle.calm_runs.specs.send_causes.specs.Below.joint_runs.proofs.Runs.{first_views}
-use Rattle.calm_runs.specs.send_causes.specs.Below.owed_calls.specs.Lives.{ClosesInRun}
-use Rattle.report_fits.proofs.Lists.{Has, has_from, has_none}
-use Rattle.report_fits.proofs.Reading.{InRange}
-use Rattle.report_fits.proofs.Sizes.{is_counted}
-use Rattle.report_fits.proofs.Targets.{AreThere, are_there}
-use Rattle.calm_runs.specs.send_causes.specs.Below.run_theorems.proofs.Starts.{made}
+use Rattle.calm_runs.specs.send_causes.specs.joint_runs.proofs.Runs.{first_views}
+use Rattle.calm_runs.specs.send_causes.specs.owed_calls.specs.Lives.{ClosesInRun}
+use Rattle.calm_runs.specs.send_causes.specs.script_facts.proofs.Lists.{Has, has_from, has_none}
+use Rattle.calm_runs.specs.send_causes.specs.script_facts.proofs.Reading.{InRange}
+use Rattle.calm_runs.specs.send_causes.specs.script_facts.proofs.Sizes.{is_counted}
+use Rattle.calm_runs.specs.send_causes.specs.script_facts.proofs.Targets.{AreThere, are_there}
+use Rattle.calm_runs.specs.send_causes.specs.run_theorems.proofs.Starts.{made}
 use Rattle.script_run.specs.Causes.{HasCauses, gave_in, lost_before}
 use Rattle.script_run.proofs.Callless.{plain_task, no_call, all_told}
 use Rattle.script_run.proofs.Idle.{no_slot, nothing_late}

@@ -2,7 +2,7 @@
 use Rattle.std.proofs.Common.{◌≡◌, ℕ, zero, suc, ◌+◌, ◌*◌, ◌<◌, ◌⊎◌, inl, inr, true, List, [], ◌∷◌, ◌++◌, replicate, Option, Some, None, Ok, refl, sym, ap, ◌∙◌, subst, arith}
 use mathlib.Core.Option.{some, some-ne-none}
 use lib.ListN.{get_elem?}
-use Rattle.script_parts.specs.call_whys.specs.Below.outcome_causes.specs.sock_runs.specs.chain_steps.proofs.Lists.{old, new, at_snoc}
+use Rattle.script_parts.specs.call_whys.specs.Below.outcome_stories.specs.program_steps.specs.chain_steps.proofs.Lists.{old, new, at_snoc}
 use Rattle.sock_io.specs.declared.link.Out.{Ghosts}
 use Rattle.sock_io.specs.Link.{OutState, InState}
 use Rattle.sock_words.specs.declared.outcome.Outcome.{Outcome}

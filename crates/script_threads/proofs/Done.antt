@@ -33,7 +33,7 @@ use Rattle.script_parts.specs.served_told.proofs.Own.{no_fault, own_request, mad
 use Rattle.script_parts.specs.callless_fits.proofs.Each.{told_each}
 use Rattle.script_parts.specs.callless_fits.proofs.Sends.{ToldRun}
 use Rattle.script_parts.specs.call_whys.specs.Below.sock_deeds.specs.Told.{fixed_by, IsOfSockets}
-use Rattle.script_parts.specs.report_fits.proofs.Lists.{within}
+use Rattle.script_parts.specs.script_facts.proofs.Lists.{within}
 use Rattle.script_threads.specs.Served.{run_of}
 use Rattle.script_threads.specs.Told.{IsThreadsRun, IsThreadsText}
 use Rattle.script_threads.proofs.CallKinds.{text_kinds}

@@ -25,7 +25,7 @@ use Rattle.rpc_reader.specs.Taking.{Took, Takes}
 use Rattle.rpc_reader.specs.declared.reading.How.{How}
 use Rattle.rpc_reader.specs.declared.reading.How.TheVariants as how
 use Rattle.call_run.specs.Readers.{LinkReader, nothing_read, IsReader, AreReaders}
-use Rattle.script_parts.specs.report_fits.proofs.Lists.{has_from}
+use Rattle.script_parts.specs.script_facts.proofs.Lists.{has_from}
 use Rattle.script_parts.specs.call_whys.specs.call_deeds.proofs.Beside.{read_early, early_links}
 use Rattle.script_parts.specs.call_whys.specs.call_deeds.proofs.Readers.{early_if}
 use Rattle.script_parts.specs.failed_told.proofs.Ends.{EndedIf, ReadEnded}

@@ -39,7 +39,7 @@ use Rattle.rpc_client.specs.declared.acting.Told.{Told}
 use Rattle.rpc_reader.specs.Books.{id_of}
 use Rattle.call_run.specs.Readers.{LinkReader, IsReader}
 use Rattle.call_run.specs.Threads.{Thread}
-use Rattle.script_parts.specs.report_fits.proofs.Sizes.{keeps_limits}
+use Rattle.script_parts.specs.script_facts.proofs.Sizes.{keeps_limits}
 use Rattle.script_parts.specs.report_fits.specs.Ends.{EndsEarly}
 use Rattle.script_parts.specs.call_whys.specs.call_deeds.proofs.Runs.{seats_are, read_beside, early_with}
 use Rattle.script_parts.specs.call_whys.specs.call_places.proofs.Ids.{IsIdOf, some_made}

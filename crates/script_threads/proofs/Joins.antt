@@ -13,8 +13,8 @@ use Rattle.seat_programs.specs.declared.task.Task.{Task}
 use Rattle.seat_programs.specs.Scripts.{all_tasks}
 use Rattle.seat_programs.specs.Tasks.{plan_of}
 use Rattle.seat_programs.specs.ToldCalls.{Fixed, Order, WhyJoin}
-use Rattle.script_parts.specs.report_fits.proofs.Targets.{joined, are_there}
-use Rattle.script_parts.specs.report_fits.proofs.TaskLemmas.{join_asks}
+use Rattle.script_parts.specs.script_facts.proofs.Targets.{joined, are_there}
+use Rattle.script_parts.specs.script_facts.proofs.TaskLemmas.{join_asks}
 use Rattle.script_parts.specs.call_whys.specs.expire_told.specs.Joined.{AreJoinsOfCalls}
 use Rattle.script_parts.specs.call_whys.specs.expire_told.proofs.Joins.{joins_why}
 use Rattle.script_parts.proofs.Expiring.{asks_calls}

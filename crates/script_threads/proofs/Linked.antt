@@ -10,8 +10,8 @@ use Rattle.brpc_model.specs.Places.{names}
 use Rattle.seat_programs.specs.declared.task.Op.TheVariants as ops
 use Rattle.seat_programs.specs.Scripts.{all_tasks}
 use Rattle.seat_programs.specs.Tasks.{Numbered, numbered, numbered_from, name_number, op_of, opens}
-use Rattle.script_parts.specs.report_fits.proofs.Numbering.{link_at, is_numbered}
-use Rattle.script_parts.specs.report_fits.proofs.TaskLemmas.{asks_at, operation_task}
+use Rattle.script_parts.specs.script_facts.proofs.Numbering.{link_at, is_numbered}
+use Rattle.script_parts.specs.script_facts.proofs.TaskLemmas.{asks_at, operation_task}
 use Rattle.script_parts.specs.call_whys.specs.call_deeds.proofs.Beside.{OpensLink}
 
 -- ## The numbers of opens

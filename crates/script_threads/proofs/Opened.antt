@@ -5,8 +5,8 @@ use Rattle.std.specs.List.{cons_option}
 use Rattle.brpc_model.specs.Items.{Item, Open, is_client, is_open, is_operation}
 use Rattle.brpc_model.specs.Operations.{Operation, operations, operations_from, link_names}
 use Rattle.seat_programs.specs.Tasks.{Numbered, numbered_from, opens}
-use Rattle.script_parts.specs.report_fits.proofs.Numbering.{behind_item}
-use Rattle.script_parts.specs.report_fits.proofs.Sizes.{link_count}
+use Rattle.script_parts.specs.script_facts.proofs.Numbering.{behind_item}
+use Rattle.script_parts.specs.script_facts.proofs.Sizes.{link_count}
 
 abbrev opens_from : ℕ → ℕ → List Operation → List ℕ
 opens_from number link ops = filter_map (λ (x : Numbered). cond (is_open x.op.item) (Some x.number) None) (numbered_from number link ops)

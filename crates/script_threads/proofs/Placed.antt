@@ -19,7 +19,7 @@ use Rattle.seat_programs.specs.Told.{AreTasks}
 use Rattle.rpc_client.specs.declared.acting.Told.{Told}
 use Rattle.rpc_reader.specs.Books.{Books}
 use Rattle.prpc_frame.specs.declared.frame.Frame.{Frame}
-use Rattle.script_parts.specs.report_fits.proofs.Sizes.{keeps_limits}
+use Rattle.script_parts.specs.script_facts.proofs.Sizes.{keeps_limits}
 use Rattle.call_run.specs.Threads.{MayRunAll}
 use Rattle.script_parts.specs.call_whys.specs.call_places.specs.Counted.{HaveNotesOf}
 use Rattle.script_parts.specs.call_whys.specs.call_places.proofs.Ids.{IdLaws, laws_of}

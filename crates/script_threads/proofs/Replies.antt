@@ -38,8 +38,8 @@ use Rattle.call_run.specs.Readers.{LinkReader, IsReader, AreReaders, nothing_rea
 use Rattle.call_run.specs.sock_rule.specs.Rows.{NOTHING}
 use Rattle.script_links.specs.Given.{spec_of, specs_of}
 use Rattle.script_links.proofs.Offers.{asked_at}
-use Rattle.script_parts.specs.report_fits.proofs.Flat.{at_map}
-use Rattle.script_parts.specs.report_fits.proofs.Lists.{all_at, has_from, within}
+use Rattle.script_parts.specs.script_facts.proofs.Flat.{at_map}
+use Rattle.script_parts.specs.script_facts.proofs.Lists.{all_at, has_from, within}
 use Rattle.script_parts.specs.call_whys.specs.call_told.proofs.Gains.{Gains, gains_none, gains_tell}
 use Rattle.script_parts.specs.call_whys.specs.Below.sock_deeds.specs.Told.{fixed_by, IsAttempt}
 use Rattle.script_parts.specs.call_whys.specs.Below.sock_deeds.specs.Runs.{DeedRun}

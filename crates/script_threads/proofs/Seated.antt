@@ -9,7 +9,7 @@ use Rattle.corr_core.specs.declared.marks.Plan as id_plan
 use Rattle.seat_programs.specs.declared.task.Task.{Task}
 use Rattle.seat_programs.specs.Scripts.{all_tasks}
 use Rattle.seat_programs.specs.Tasks.{plan_of, opens, calls}
-use Rattle.script_parts.specs.report_fits.proofs.Sizes.{keeps_limits}
+use Rattle.script_parts.specs.script_facts.proofs.Sizes.{keeps_limits}
 use Rattle.call_run.specs.sock_open.specs.Opening.{MayBegin}
 use Rattle.call_run.specs.Threads.{MayRunAll, ids_of}
 use Rattle.script_parts.proofs.MayCall.{script_seats, seated_may, seated_begins}

@@ -13,9 +13,9 @@ use Rattle.brpc_model.specs.Operations.{operations}
 use Rattle.brpc_model.specs.Script.{script_of}
 use Rattle.corr_core.specs.Word.{parts}
 use Rattle.seat_programs.specs.Tasks.{Numbered, calls, numbered}
-use Rattle.script_parts.specs.report_fits.proofs.Lists.{filter_map_short}
-use Rattle.script_parts.specs.report_fits.proofs.Numbering.{numbered_length}
-use Rattle.script_parts.specs.report_fits.proofs.Sizes.{keeps_limits}
+use Rattle.script_parts.specs.script_facts.proofs.Lists.{filter_map_short}
+use Rattle.script_parts.specs.script_facts.proofs.Numbering.{numbered_length}
+use Rattle.script_parts.specs.script_facts.proofs.Sizes.{keeps_limits}
 use Rattle.script_parts.specs.call_whys.proofs.Versions.{IsIdFor, shown_end}
 use Rattle.script_threads.specs.Told.{seated_ids, IsThreadsRun}
 use Rattle.script_threads.proofs.Speaking.{parts_of}

@@ -26,7 +26,7 @@ use Rattle.call_run.specs.sock_rule.specs.Closing.{PlacesDiffer}
 use Rattle.call_run.specs.Readers.{LinkReader, AreReaders}
 use Rattle.call_run.specs.Threads.{opens_of, openings, opened_names, MayRunAll}
 use Rattle.script_parts.specs.report_fits.specs.Ends.{EndsEarly, IsEndOf}
-use Rattle.script_parts.specs.report_fits.proofs.Flat.{at_map}
+use Rattle.script_parts.specs.script_facts.proofs.Flat.{at_map}
 use Rattle.script_parts.specs.call_whys.specs.call_places.specs.Counted.{HaveNotesOf}
 use Rattle.script_parts.specs.call_whys.specs.call_places.proofs.Ids.{IdLaws, laws_of}
 use Rattle.script_parts.specs.call_whys.specs.call_places.proofs.Places.{log_differs}

@@ -26,8 +26,8 @@ use Rattle.seat_programs.specs.Told.{IsTask}
 use Rattle.call_run.specs.sock_rule.specs.OnTable.{put_in}
 use Rattle.call_run.specs.sock_rule.specs.Rows.{NOTHING, PutAt}
 use Rattle.rpc_client.specs.Opening.{OpenedBy}
-use Rattle.script_parts.specs.report_fits.proofs.Numbering.{link_at, link_later}
-use Rattle.script_parts.specs.report_fits.proofs.TaskLemmas.{numbers_at, open_asks, task_is}
+use Rattle.script_parts.specs.script_facts.proofs.Numbering.{link_at, link_later}
+use Rattle.script_parts.specs.script_facts.proofs.TaskLemmas.{numbers_at, open_asks, task_is}
 use Rattle.script_parts.specs.call_whys.specs.Below.sock_deeds.specs.Deeds.{Did, opens, DoneBy, Deed, own_number, own_name}
 use Rattle.script_parts.specs.call_whys.specs.Below.sock_deeds.specs.Runs.{DeedRun}
 use Rattle.call_run.specs.sock_open.specs.slot_steps.proofs.Numbers.{pair_is}

@@ -8,7 +8,7 @@ use Rattle.seat_programs.specs.declared.task.Op.TheVariants as ops
 use Rattle.seat_programs.specs.declared.task.Task.{Task}
 use Rattle.seat_programs.specs.Cores.{Core}
 use Rattle.seat_programs.specs.ToldCalls.{Accepted, Order, Fixed, AreOrders, FoundNone, FoundFailed, IsSent, OfSend, OfCall, Why}
-use Rattle.script_parts.specs.report_fits.proofs.Lists.{all_map}
+use Rattle.script_parts.specs.script_facts.proofs.Lists.{all_map}
 use Rattle.script_parts.specs.attempts_told.specs.Attempts.{AreAttemptsTold}
 use Rattle.script_parts.specs.call_whys.specs.Below.sock_deeds.specs.Told.{IsOfSockets, IsAttempt, ToldSockets}
 

@@ -5,7 +5,7 @@ use Rattle.seat_programs.specs.declared.task.Sizes.{Sizes}
 use Rattle.seat_programs.specs.Calls as calls
 use Rattle.seat_programs.specs.Asides as asides
 use Rattle.seat_programs.specs.Cores.{said, next_step}
-use Rattle.sock_runs.specs.Sound.{AllowsWord}
+use Rattle.program_steps.specs.Sound.{AllowsWord}
 use Rattle.seat_states.specs.declared.point.OpenStep.TheVariants as opens
 use Rattle.seat_states.specs.declared.point.SeekStep.TheVariants as seeks
 use Rattle.seat_states.specs.declared.point.Aim.TheVariants as aims

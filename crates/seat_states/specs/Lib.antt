@@ -1,3 +1,3 @@
 pub mod Points
 pub mod Steps
-pub use Rattle.sock_runs
+pub use Rattle.program_steps

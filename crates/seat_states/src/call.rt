@@ -4,7 +4,7 @@ ghost use Rattle.std.specs.Prelude.{◌*◌};
 ghost use Rattle.sock_model.specs.Layout.{request_index, next_index, place_index};
 ghost use Rattle.seat_programs.specs.Calls.{kind_of};
 ghost use Rattle.seat_programs.specs.Cores.{word_of, word_after};
-ghost use Rattle.sock_runs.specs.Sound.{AllowsWord};
+ghost use Rattle.program_steps.specs.Sound.{AllowsWord};
 ghost use Rattle.seat_states.specs.Steps.{step_of};
 
 use chain_core::{

@@ -19,21 +19,21 @@ use Rattle.seat_programs.specs.declared.task.Task.{Task}
 use Rattle.seat_programs.specs.Cores.{Core}
 use Rattle.seat_programs.specs.Told.{AreTasks}
 use Rattle.seat_programs.specs.ToldCalls.{Accepted, AreOrders}
-use Rattle.sock_runs.specs.Sound.{Sound, AllRest}
-use Rattle.sock_runs.proofs.HandTicks.{AtHome}
-use Rattle.outcome_causes.specs.Causes.{Asks}
-use Rattle.outcome_causes.specs.Kept.{is_of_send, IsSpoken, Story}
-use Rattle.outcome_causes.specs.Stories.{Event}
-use Rattle.outcome_causes.proofs.Delivered.{orders_of, AreQuiet}
+use Rattle.outcome_causes.specs.program_steps.specs.Sound.{Sound, AllRest}
+use Rattle.outcome_causes.specs.sock_runs.proofs.HandTicks.{AtHome}
+use Rattle.outcome_causes.specs.outcome_stories.specs.Causes.{Asks}
+use Rattle.outcome_causes.specs.outcome_stories.specs.Kept.{is_of_send, IsSpoken, Story}
+use Rattle.outcome_causes.specs.outcome_stories.specs.Stories.{Event}
+use Rattle.outcome_causes.specs.outcome_stories.proofs.Delivered.{orders_of, AreQuiet}
 use Rattle.outcome_causes.proofs.Final.{IsMessage}
-use Rattle.outcome_causes.proofs.Members.{all_in}
+use Rattle.outcome_causes.specs.outcome_stories.proofs.Members.{all_in}
 use Rattle.outcome_causes.proofs.Messages.{in_of_at, number_of, each_made, message_of, call_of, sooner}
-use Rattle.outcome_causes.proofs.Ordered.{IsLabelled, delivered}
-use Rattle.outcome_causes.proofs.Senders.{HasSent, sent_in, each_of, apart_by, all_sent}
-use Rattle.outcome_causes.proofs.Tasks.{one_task}
+use Rattle.outcome_causes.specs.outcome_stories.proofs.Ordered.{IsLabelled, delivered}
+use Rattle.outcome_causes.specs.outcome_stories.proofs.Senders.{HasSent, sent_in, each_of, apart_by, all_sent}
+use Rattle.outcome_causes.specs.outcome_ticks.proofs.Tasks.{one_task}
 use Rattle.label_runs.specs.Labels.{Trial}
 use Rattle.send_causes.specs.Counts.{pair_of, of_heading, of_entry, of_view, IsOfCall, EntryFits, LabelLaw}
-use Rattle.sock_runs.proofs.Recorded.{either_bool}
+use Rattle.outcome_causes.specs.program_walks.proofs.Recorded.{either_bool}
 
 -- two places of a list count twice
 pub total_two : {A : Type 0} (g : A → ℕ) (l : List A) (m n : ℕ) (a b : A) → get_elem? l m ≡ some a → get_elem? l n ≡ some b → m ≢ n → g a + g b ≤ total g l

@@ -22,14 +22,14 @@ use Rattle.seat_programs.specs.Tasks.{plan_of}
 use Rattle.seat_programs.specs.Scripts.{all_tasks, IsRunWithCalls}
 use Rattle.seat_programs.specs.Told.{IsTask, Became, Made}
 use Rattle.seat_programs.specs.ToldCalls.{Fixed, Order, IsSent, OfSend, OfCall, InOwnOrder, IsDropped, IsFailing, WhyLost, WasFailing, WhyAgain, FailedBy, ByExpiry, ByCompression, ByEnd, EndedWith, Why, WhyCall, ToldCalls}
-use Rattle.outcome_causes.specs.Explains.{is_plain}
-use Rattle.outcome_causes.specs.Facts.{ToldPlain}
-use Rattle.outcome_causes.proofs.Members.{contains_in}
-use Rattle.outcome_causes.proofs.Tasks.{one_task}
+use Rattle.outcome_causes.specs.outcome_stories.specs.Explains.{is_plain}
+use Rattle.outcome_causes.specs.outcome_stories.specs.Facts.{ToldPlain}
+use Rattle.outcome_causes.specs.outcome_stories.proofs.Members.{contains_in}
+use Rattle.outcome_causes.specs.outcome_ticks.proofs.Tasks.{one_task}
 use Rattle.call_causes.specs.joint_runs.proofs.Runs.{AreMade, first_views}
-use Rattle.report_fits.proofs.Reading.{InRange}
-use Rattle.report_fits.proofs.Targets.{AreThere}
-use Rattle.report_fits.proofs.Lists.{all_at}
+use Rattle.call_causes.specs.owed_calls.specs.script_facts.proofs.Reading.{InRange}
+use Rattle.call_causes.specs.owed_calls.specs.script_facts.proofs.Targets.{AreThere}
+use Rattle.call_causes.specs.owed_calls.specs.script_facts.proofs.Lists.{all_at}
 use Rattle.call_causes.specs.owed_calls.specs.Lives.{ClosesInRun}
 use Rattle.call_causes.specs.Lists.{given, attempts_of_run, early_of_run, closed_of_run, silent_of_run, soon_of_run}
 use Rattle.call_causes.specs.Posts.{posts_of_run}

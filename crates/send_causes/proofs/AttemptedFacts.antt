@@ -10,7 +10,7 @@ use Rattle.sock_message.specs.Asked.{Asked}
 use Rattle.seat_programs.specs.Asides.{PutCall, StoreCall, Found, call_id, id_slot}
 use Rattle.seat_programs.specs.Cores.{Core, SeatState}
 use Rattle.seat_programs.specs.Programs.{Program, Aside}
-use Rattle.sock_runs.specs.Sound.{first_step}
+use Rattle.outcome_causes.specs.program_steps.specs.Sound.{first_step}
 use Rattle.seat_programs.specs.declared.task.Task.{Task}
 use Rattle.call_causes.specs.Posts.{Post}
 use Rattle.call_causes.specs.Scenes.{Birth, Scene, In, IsBorn}

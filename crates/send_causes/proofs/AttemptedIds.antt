@@ -9,7 +9,7 @@ use Rattle.seat_programs.specs.Cores.{Core}
 use Rattle.seat_programs.specs.Ticks.{Moment, quiet, ticked}
 use Rattle.seat_programs.specs.Tasks.{plan_of, id_plan_of}
 use Rattle.seat_programs.specs.Scripts.{opened, set_up, IsRunWithCalls}
-use Rattle.sock_runs.proofs.Whole.{closing_of}
+use Rattle.outcome_causes.specs.program_walks.proofs.Whole.{closing_of}
 use Rattle.call_causes.specs.Lists.{advanced_at}
 use Rattle.send_causes.specs.Counts.{word_of_id}
 use Rattle.send_causes.proofs.AttemptedWords.{Rise}

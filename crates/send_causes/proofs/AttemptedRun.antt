@@ -11,16 +11,16 @@ use Rattle.seat_programs.specs.Tasks.{opens, plan_of, id_plan_of}
 use Rattle.seat_programs.specs.Scripts.{all_tasks, IsRunWithCalls}
 use Rattle.seat_programs.specs.Told.{IsTask, Made}
 use Rattle.seat_programs.specs.ToldCalls.{Accepted, Fixed, IsSent}
-use Rattle.sock_runs.proofs.Whole.{views_ended, ended_sound, end_rests}
-use Rattle.outcome_causes.specs.Causes.{Asks}
-use Rattle.outcome_causes.specs.Kept.{IsSpoken}
-use Rattle.outcome_causes.specs.PlainTasks.{told_tasks_of}
-use Rattle.outcome_causes.proofs.Lifted.{made_up}
-use Rattle.outcome_causes.proofs.Members.{contains_in}
-use Rattle.outcome_causes.proofs.Tasks.{one_task}
+use Rattle.outcome_causes.specs.program_walks.proofs.Whole.{views_ended, ended_sound, end_rests}
+use Rattle.outcome_causes.specs.outcome_stories.specs.Causes.{Asks}
+use Rattle.outcome_causes.specs.outcome_stories.specs.Kept.{IsSpoken}
+use Rattle.outcome_causes.specs.outcome_stories.specs.PlainTasks.{told_tasks_of}
+use Rattle.outcome_causes.specs.outcome_ticks.proofs.Lifted.{made_up}
+use Rattle.outcome_causes.specs.outcome_stories.proofs.Members.{contains_in}
+use Rattle.outcome_causes.specs.outcome_ticks.proofs.Tasks.{one_task}
 use Rattle.call_causes.specs.joint_runs.proofs.Runs.{AreMade}
-use Rattle.report_fits.proofs.Reading.{InRange}
-use Rattle.report_fits.proofs.Targets.{AreThere}
+use Rattle.call_causes.specs.owed_calls.specs.script_facts.proofs.Reading.{InRange}
+use Rattle.call_causes.specs.owed_calls.specs.script_facts.proofs.Targets.{AreThere}
 use Rattle.call_causes.specs.owed_calls.specs.Lives.{ClosesInRun}
 use Rattle.call_causes.specs.owed_calls.proofs.Known.{run_all_rest}
 use Rattle.call_causes.specs.Lists.{attempts_of_run}
@@ -36,7 +36,7 @@ use Rattle.send_causes.proofs.EndedNamed.{tasks_are, end_named}
 use Rattle.send_causes.proofs.EndedLives.{all_named}
 use Rattle.send_causes.proofs.AttemptedStored.{ids_at, stored_run, words_stored}
 use Rattle.send_causes.proofs.Grounds.{setting, grounds}
-use Rattle.report_fits.proofs.Lists.{all_map}
+use Rattle.call_causes.specs.owed_calls.specs.script_facts.proofs.Lists.{all_map}
 
 module _ (script : List Item) (made : AreMade script) (there : AreThere script) (range : AllByRecursion InRange script) (turns : List Turn) (core : Core) (is : IsRunWithCalls script turns core) (closes : ClosesInRun script turns core is)
     (ids : ℕ → ℕ) (labelled : AreLabelledIn ids script turns core is) where

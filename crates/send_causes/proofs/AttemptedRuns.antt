@@ -20,14 +20,14 @@ use Rattle.seat_programs.specs.Ticks.{Moment, IsAnswered, AreAnswered, quiet, ti
 use Rattle.seat_programs.specs.Tasks.{opens, calls, plan_of, id_plan_of}
 use Rattle.seat_programs.specs.Scripts.{sizes_of, programs, readers_from, all_programs, all_tasks, opened, set_up, is_ending, IsRunWithCalls}
 use Rattle.seat_programs.specs.Told.{AreTasks}
-use Rattle.sock_runs.specs.Sound.{Sound, AreFitting, views_after, views_along}
-use Rattle.sock_runs.proofs.LinkTicks.{RetriesGo}
-use Rattle.sock_runs.proofs.Ticks.{sound_ticks}
-use Rattle.sock_runs.proofs.Whole.{Begins, AreFittingIn, closing_of, rested_of, views_played, views_closed, views_ended, set_up_answered, end_answered, set_up_sound, closing_sound, closed_sound}
-use Rattle.outcome_causes.specs.PlainTasks.{told_tasks_of}
+use Rattle.outcome_causes.specs.program_steps.specs.Sound.{Sound, AreFitting, views_after, views_along}
+use Rattle.outcome_causes.specs.sock_runs.proofs.LinkTicks.{RetriesGo}
+use Rattle.outcome_causes.specs.sock_runs.proofs.Ticks.{sound_ticks}
+use Rattle.outcome_causes.specs.program_walks.proofs.Whole.{Begins, AreFittingIn, closing_of, rested_of, views_played, views_closed, views_ended, set_up_answered, end_answered, set_up_sound, closing_sound, closed_sound}
+use Rattle.outcome_causes.specs.outcome_stories.specs.PlainTasks.{told_tasks_of}
 use Rattle.outcome_causes.proofs.Final.{at_there}
 use Rattle.outcome_causes.proofs.Scripts.{seats, closing_told}
-use Rattle.outcome_causes.proofs.Ticks.{elem_there}
+use Rattle.outcome_causes.specs.outcome_ticks.proofs.Ticks.{elem_there}
 use Rattle.call_causes.specs.Lists.{times, advanced_at, shows_in, attempts_of_run}
 use Rattle.label_runs.specs.Labels.{Trial}
 use Rattle.label_runs.proofs.Programs.{ending_goes}

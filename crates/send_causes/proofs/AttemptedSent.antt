@@ -18,22 +18,22 @@ use Rattle.seat_programs.specs.Tasks.{opens, plan_of, id_plan_of}
 use Rattle.seat_programs.specs.Scripts.{all_tasks, IsRunWithCalls}
 use Rattle.seat_programs.specs.Told.{AreTasks, IsTask, Made}
 use Rattle.seat_programs.specs.ToldCalls.{Accepted, Fixed, IsSent, OfSend, OfCall}
-use Rattle.sock_runs.specs.Sound.{Sound, AllRest}
-use Rattle.sock_runs.proofs.Whole.{views_ended, ended_sound, end_rests, IsOwed}
-use Rattle.outcome_causes.specs.Causes.{Asks}
-use Rattle.outcome_causes.specs.Kept.{is_of_send, IsSpoken, Story}
-use Rattle.outcome_causes.specs.PlainTasks.{told_tasks_of}
-use Rattle.outcome_causes.specs.Stories.{Event}
-use Rattle.outcome_causes.specs.TaskCauses as causes
-use Rattle.outcome_causes.proofs.Delivered.{orders_of}
-use Rattle.outcome_causes.proofs.Lifted.{task_up, made_up}
-use Rattle.outcome_causes.proofs.Members.{in_contains}
+use Rattle.outcome_causes.specs.program_steps.specs.Sound.{Sound, AllRest}
+use Rattle.outcome_causes.specs.program_walks.proofs.Whole.{views_ended, ended_sound, end_rests, IsOwed}
+use Rattle.outcome_causes.specs.outcome_stories.specs.Causes.{Asks}
+use Rattle.outcome_causes.specs.outcome_stories.specs.Kept.{is_of_send, IsSpoken, Story}
+use Rattle.outcome_causes.specs.outcome_stories.specs.PlainTasks.{told_tasks_of}
+use Rattle.outcome_causes.specs.outcome_stories.specs.Stories.{Event}
+use Rattle.outcome_causes.specs.outcome_stories.specs.TaskCauses as causes
+use Rattle.outcome_causes.specs.outcome_stories.proofs.Delivered.{orders_of}
+use Rattle.outcome_causes.specs.outcome_ticks.proofs.Lifted.{task_up, made_up}
+use Rattle.outcome_causes.specs.outcome_stories.proofs.Members.{in_contains}
 use Rattle.outcome_causes.proofs.Messages.{each_made, message_of, number_of}
 use Rattle.outcome_causes.proofs.Scripts.{seats, final_told, story_end, run_told}
-use Rattle.outcome_causes.proofs.Senders.{HasSent, all_sent}
+use Rattle.outcome_causes.specs.outcome_stories.proofs.Senders.{HasSent, all_sent}
 use Rattle.call_causes.specs.joint_runs.proofs.Runs.{AreMade}
-use Rattle.report_fits.proofs.Reading.{InRange}
-use Rattle.report_fits.proofs.Targets.{AreThere}
+use Rattle.call_causes.specs.owed_calls.specs.script_facts.proofs.Reading.{InRange}
+use Rattle.call_causes.specs.owed_calls.specs.script_facts.proofs.Targets.{AreThere}
 use Rattle.call_causes.specs.owed_calls.specs.Lives.{ClosesInRun}
 use Rattle.call_causes.specs.Lists.{attempts_of_run}
 use Rattle.label_runs.specs.Labels.{Trial}
@@ -48,7 +48,7 @@ use Rattle.send_causes.proofs.AttemptedCalls.{AreStored, single, shows}
 use Rattle.send_causes.proofs.DropWhole.{get_same}
 use Rattle.send_causes.proofs.OwnDecisionsTicks.{pair_self}
 use Rattle.send_causes.proofs.Grounds.{setting, grounds}
-use Rattle.sock_runs.proofs.Recorded.{either_bool}
+use Rattle.outcome_causes.specs.program_walks.proofs.Recorded.{either_bool}
 
 -- ## Accepted messages
 

@@ -24,16 +24,16 @@ use Rattle.seat_programs.specs.Runs.{IsAtRest}
 use Rattle.seat_programs.specs.Ticks.{Moment, AreAnswered, quiet, ticked, run}
 use Rattle.seat_programs.specs.Tasks.{opens, calls, plan_of, id_plan_of}
 use Rattle.seat_programs.specs.Scripts.{sizes_of, programs, readers_from, all_programs, all_tasks, opened, ending, set_up, played, is_ending, IsRunWithCalls}
-use Rattle.sock_runs.specs.Sound.{IsAhead, AllRest, first_step, views_after, views_along}
-use Rattle.sock_runs.proofs.Along.{seat_rests, ticked_ahead}
-use Rattle.sock_runs.proofs.Quiets.{ticked_rests, run_rests}
-use Rattle.sock_runs.proofs.Whole.{views_played, views_closed, set_up_answered, end_answered}
+use Rattle.outcome_causes.specs.program_steps.specs.Sound.{IsAhead, AllRest, first_step, views_after, views_along}
+use Rattle.outcome_causes.specs.sock_runs.proofs.Along.{seat_rests, ticked_ahead}
+use Rattle.outcome_causes.specs.sock_runs.proofs.Quiets.{ticked_rests, run_rests}
+use Rattle.outcome_causes.specs.program_walks.proofs.Whole.{views_played, views_closed, set_up_answered, end_answered}
 use Rattle.outcome_causes.proofs.Final.{at_there}
-use Rattle.outcome_causes.proofs.Ticks.{elem_there}
+use Rattle.outcome_causes.specs.outcome_ticks.proofs.Ticks.{elem_there}
 use Rattle.call_causes.specs.joint_runs.proofs.Both.{BothSound, AreBoth, behind_both}
 use Rattle.call_causes.specs.joint_runs.proofs.Runs.{AreMade, first_views, joint_runs}
-use Rattle.report_fits.proofs.Reading.{InRange}
-use Rattle.report_fits.proofs.Targets.{AreThere}
+use Rattle.call_causes.specs.owed_calls.specs.script_facts.proofs.Reading.{InRange}
+use Rattle.call_causes.specs.owed_calls.specs.script_facts.proofs.Targets.{AreThere}
 use Rattle.call_causes.specs.Lists.{given, advanced_at}
 use Rattle.call_causes.specs.Scenes.{LeadsTo}
 use Rattle.call_causes.specs.Posts.{Post, posted_at}
@@ -62,7 +62,7 @@ use Rattle.send_causes.proofs.EndedNamed.{all_follow, begins_named}
 use Rattle.send_causes.proofs.AttemptedCalls.{AreStored}
 use Rattle.send_causes.proofs.AttemptedFacts.{IsStoring, IsOwn, facts}
 use Rattle.send_causes.proofs.AttemptedOwn.{IsTrueOf, CallLaw, beside, own_ticks}
-use Rattle.sock_runs.proofs.Opening.{mapped}
+use Rattle.outcome_causes.specs.program_walks.proofs.Opening.{mapped}
 use Rattle.call_causes.specs.joint_runs.proofs.Starts.{narrow}
 
 -- the id that an at word names

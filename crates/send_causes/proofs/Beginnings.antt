@@ -5,7 +5,7 @@ use lib.ListN.{get_elem?}
 use Rattle.seat_programs.specs.Programs.{Program, Rest}
 use Rattle.seat_programs.specs.Readers.{reader}
 use Rattle.seat_programs.specs.Scripts.{readers_from, all_programs}
-use Rattle.sock_runs.proofs.Opening.{appended}
+use Rattle.outcome_causes.specs.program_walks.proofs.Opening.{appended}
 
 module _ (G : Program → Type 0) (rests : G Rest) (calls : List ℕ) (reads : (k o : ℕ) → G (reader calls k o)) where
   readers_begin : (os : List ℕ) (k i : ℕ) (x : Program) → get_elem? (readers_from calls k os) i ≡ some x → G x

@@ -9,10 +9,10 @@ use Rattle.seat_programs.specs.Cores.{Core}
 use Rattle.seat_programs.specs.Tasks.{plan_of}
 use Rattle.seat_programs.specs.Scripts.{all_tasks, played, IsRunWithCalls}
 use Rattle.seat_programs.specs.ToldCalls.{Order, Fixed, IsFailing}
-use Rattle.sock_runs.specs.Sound.{state}
-use Rattle.sock_runs.proofs.Whole.{views_played}
-use Rattle.outcome_causes.specs.Facts.{last_attempt, closed_before_ending}
-use Rattle.outcome_causes.specs.Stories.{In}
+use Rattle.outcome_causes.specs.program_steps.specs.Sound.{state}
+use Rattle.outcome_causes.specs.program_walks.proofs.Whole.{views_played}
+use Rattle.outcome_causes.specs.outcome_stories.specs.Facts.{last_attempt, closed_before_ending}
+use Rattle.outcome_causes.specs.outcome_stories.specs.Stories.{In}
 use Rattle.call_causes.specs.joint_runs.proofs.Runs.{AreMade, first_views}
 use Rattle.call_causes.specs.owed_calls.specs.Lives.{ClosesInRun}
 use Rattle.run_theorems.specs.Heard.{heard_takes, given_by}

@@ -23,10 +23,10 @@ use Rattle.seat_programs.specs.Tasks.{opens, plan_of}
 use Rattle.seat_programs.specs.Scripts.{all_tasks, IsRunWithCalls}
 use Rattle.seat_programs.specs.Told.{IsTask, Became}
 use Rattle.seat_programs.specs.ToldCalls.{Gave, IsResponse, IsUnordered, StandsOn, WasFull, IsFailing, MayBeOn, EndedWith}
-use Rattle.outcome_causes.specs.Stories.{In}
+use Rattle.outcome_causes.specs.outcome_stories.specs.Stories.{In}
 use Rattle.call_causes.specs.joint_runs.proofs.Runs.{AreMade}
-use Rattle.report_fits.proofs.Reading.{InRange}
-use Rattle.report_fits.proofs.Targets.{AreThere}
+use Rattle.call_causes.specs.owed_calls.specs.script_facts.proofs.Reading.{InRange}
+use Rattle.call_causes.specs.owed_calls.specs.script_facts.proofs.Targets.{AreThere}
 use Rattle.call_causes.specs.owed_calls.specs.Lives.{ClosesInRun}
 use Rattle.run_theorems.proofs.Gave.{gave_heard}
 use Rattle.call_causes.specs.Decided.{posted_by, decided_by}

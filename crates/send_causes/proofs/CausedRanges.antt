@@ -10,10 +10,10 @@ use Rattle.seat_programs.specs.declared.task.Task.{Task}
 use Rattle.seat_programs.specs.Tasks.{plan_of}
 use Rattle.seat_programs.specs.Scripts.{all_tasks, IsRunWithCalls}
 use Rattle.seat_programs.specs.Told.{AskedFits, OpFits, TaskFits, IsTask}
-use Rattle.outcome_causes.proofs.Members.{all_in, contains_in, get_all}
+use Rattle.outcome_causes.specs.outcome_stories.proofs.Members.{all_in, contains_in, get_all}
 use Rattle.call_causes.specs.joint_runs.proofs.Runs.{AreMade}
-use Rattle.report_fits.proofs.Reading.{InRange}
-use Rattle.report_fits.proofs.Targets.{AreThere}
+use Rattle.call_causes.specs.owed_calls.specs.script_facts.proofs.Reading.{InRange}
+use Rattle.call_causes.specs.owed_calls.specs.script_facts.proofs.Targets.{AreThere}
 use Rattle.call_causes.specs.Lists.{attempts_of_run}
 use Rattle.call_causes.proofs.Posted.{run_few_attempts}
 

@@ -23,21 +23,21 @@ use Rattle.seat_programs.specs.Tasks.{opens, calls, plan_of, id_plan_of}
 use Rattle.seat_programs.specs.Ticks.{Moment, AreAnswered, IsAlwaysReady, quiet, ticked, run, waits, waits_at}
 use Rattle.seat_programs.specs.Scripts.{sizes_of, all_tasks, opened, set_up, played, IsRunWithCalls}
 use Rattle.seat_programs.specs.ToldCalls.{Accepted, StandsOn, IsUnordered, IsFailing, WasFull}
-use Rattle.sock_runs.specs.Sound.{Sound, AreFitting, views_after, views_along}
-use Rattle.sock_runs.proofs.Along.{seat_rests, place_inside}
-use Rattle.sock_runs.proofs.LinkTicks.{RetriesGo}
-use Rattle.sock_runs.proofs.Ticks.{sound_ticks}
-use Rattle.sock_runs.proofs.Whole.{closing_of, views_played, views_closed, set_up_answered, end_answered, rested_ahead, set_up_sound, played_sound, closing_sound, closed_sound, closed_ahead}
-use Rattle.outcome_causes.specs.Facts.{late_links_of_run, born_at, shown_in}
-use Rattle.outcome_causes.specs.PlainTasks.{told_tasks_of}
-use Rattle.outcome_causes.specs.Stories.{In}
-use Rattle.outcome_causes.proofs.Delivered.{accepted_of, requests_used}
+use Rattle.outcome_causes.specs.program_steps.specs.Sound.{Sound, AreFitting, views_after, views_along}
+use Rattle.outcome_causes.specs.sock_runs.proofs.Along.{seat_rests, place_inside}
+use Rattle.outcome_causes.specs.sock_runs.proofs.LinkTicks.{RetriesGo}
+use Rattle.outcome_causes.specs.sock_runs.proofs.Ticks.{sound_ticks}
+use Rattle.outcome_causes.specs.program_walks.proofs.Whole.{closing_of, views_played, views_closed, set_up_answered, end_answered, rested_ahead, set_up_sound, played_sound, closing_sound, closed_sound, closed_ahead}
+use Rattle.outcome_causes.specs.outcome_stories.specs.Facts.{late_links_of_run, born_at, shown_in}
+use Rattle.outcome_causes.specs.outcome_stories.specs.PlainTasks.{told_tasks_of}
+use Rattle.outcome_causes.specs.outcome_stories.specs.Stories.{In}
+use Rattle.outcome_causes.specs.outcome_stories.proofs.Delivered.{accepted_of, requests_used}
 use Rattle.outcome_causes.proofs.Final.{at_there}
-use Rattle.outcome_causes.proofs.Members.{in_contains, contains_in}
+use Rattle.outcome_causes.specs.outcome_stories.proofs.Members.{in_contains, contains_in}
 use Rattle.outcome_causes.proofs.Messages.{each_made}
 use Rattle.outcome_causes.proofs.Plain.{in_both, in_left, in_right}
-use Rattle.outcome_causes.proofs.Senders.{sent_stands}
-use Rattle.outcome_causes.proofs.Ticks.{elem_there}
+use Rattle.outcome_causes.specs.outcome_stories.proofs.Senders.{sent_stands}
+use Rattle.outcome_causes.specs.outcome_ticks.proofs.Ticks.{elem_there}
 use Rattle.call_causes.specs.joint_runs.proofs.Runs.{AreMade, first_views}
 use Rattle.call_causes.specs.owed_calls.specs.Lives.{ClosesInRun}
 use Rattle.call_causes.specs.Lists.{shows_in}

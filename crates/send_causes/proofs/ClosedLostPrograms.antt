@@ -25,15 +25,15 @@ use Rattle.seat_programs.specs.Sends.{accept}
 use Rattle.seat_programs.specs.Attempts.{claims_from, heading_for, attempt, call, retry}
 use Rattle.seat_programs.specs.Rounds.{round}
 use Rattle.seat_programs.specs.Cores.{resolved, next_step}
-use Rattle.sock_runs.specs.AtSteps.{Asks, AtSteps}
-use Rattle.sock_runs.specs.Fits.{FitsHead, FitsRetry}
-use Rattle.sock_runs.specs.GoesOn.{GoesOn}
-use Rattle.sock_runs.specs.Sound.{first_step}
-use Rattle.sock_runs.proofs.Through.{PassesPlain, PassesFails, PassesSends, PassesReads, any_end, is_plain_aside, reads_any, locked, at_steps_plain, at_steps_sends, through_release, through_set_failed, through_fail}
-use Rattle.sock_runs.proofs.ThroughLoops.{through_post, through_unlocks, through_round}
-use Rattle.sock_runs.proofs.ThroughSends.{through_block, through_write_link, through_send}
-use Rattle.sock_runs.proofs.ThroughCalls.{through_call, through_retry, through_join, through_reading}
-use Rattle.sock_runs.proofs.ThroughClients.{through_open, through_back, through_operation}
+use Rattle.outcome_causes.specs.program_steps.specs.AtSteps.{Asks, AtSteps}
+use Rattle.outcome_causes.specs.program_steps.specs.Fits.{FitsHead, FitsRetry}
+use Rattle.outcome_causes.specs.program_steps.specs.GoesOn.{GoesOn}
+use Rattle.outcome_causes.specs.program_steps.specs.Sound.{first_step}
+use Rattle.outcome_causes.specs.program_walks.proofs.Through.{PassesPlain, PassesFails, PassesSends, PassesReads, any_end, is_plain_aside, reads_any, locked, at_steps_plain, at_steps_sends, through_release, through_set_failed, through_fail}
+use Rattle.outcome_causes.specs.program_walks.proofs.ThroughLoops.{through_post, through_unlocks, through_round}
+use Rattle.outcome_causes.specs.program_walks.proofs.ThroughSends.{through_block, through_write_link, through_send}
+use Rattle.outcome_causes.specs.program_walks.proofs.ThroughCalls.{through_call, through_retry, through_join, through_reading}
+use Rattle.outcome_causes.specs.program_walks.proofs.ThroughClients.{through_open, through_back, through_operation}
 use Rattle.label_runs.proofs.Loops.{not_equal}
 
 -- ## Where a seat stands with an attempt

@@ -15,11 +15,11 @@ use Rattle.seat_programs.specs.declared.task.Sizes.{Sizes}
 use Rattle.seat_programs.specs.declared.task.Task.{Task}
 use Rattle.seat_programs.specs.Scripts.{programs, readers_from, all_programs, beginning}
 use Rattle.seat_programs.specs.Ticks.{Answer, Moment, IsAnswered, AreAnswered, quiet, ticked, run, waits_at}
-use Rattle.sock_runs.specs.Sound.{Sound, first_step, IsFitting, AreFitting, views_after, views_along}
-use Rattle.sock_runs.proofs.LinkTicks.{RetriesGo}
-use Rattle.sock_runs.proofs.Opening.{mapped}
-use Rattle.sock_runs.proofs.Ticks.{sound_ticks}
-use Rattle.outcome_causes.specs.Stories.{In}
+use Rattle.outcome_causes.specs.program_steps.specs.Sound.{Sound, first_step, IsFitting, AreFitting, views_after, views_along}
+use Rattle.outcome_causes.specs.sock_runs.proofs.LinkTicks.{RetriesGo}
+use Rattle.outcome_causes.specs.program_walks.proofs.Opening.{mapped}
+use Rattle.outcome_causes.specs.sock_runs.proofs.Ticks.{sound_ticks}
+use Rattle.outcome_causes.specs.outcome_stories.specs.Stories.{In}
 use Rattle.outcome_causes.proofs.Plain.{in_both}
 use Rattle.call_causes.specs.Lists.{shows_in}
 use Rattle.send_causes.specs.EndedCalls.{Store, stores_by, stored_at}

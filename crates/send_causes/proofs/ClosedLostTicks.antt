@@ -27,19 +27,19 @@ use Rattle.seat_programs.specs.Heads.{Retry}
 use Rattle.seat_programs.specs.Programs.{Program, Do, TakeMessage, TakeHome, PutHome, PutBytes, AskReady, Aside}
 use Rattle.seat_programs.specs.Cores.{Core, SeatState, word_of, found_at, resolved, next_step, waiting_at, hand_after, link_place, lies_at, others_of}
 use Rattle.seat_programs.specs.Ticks.{Moment, IsAnswered, fed, onto_first, step_with, tick_with, ticked}
-use Rattle.sock_runs.specs.Fits.{FitsRetry}
-use Rattle.sock_runs.specs.May.{May}
-use Rattle.sock_runs.specs.Rows.{row, hand_at, by_claim, exchanged, filled_claim, ready_claim, took_message, link_away, link_home_again, took_bytes}
-use Rattle.sock_runs.specs.Sound.{Sound, IsFitting, first_step, views_with, views_of, views_after}
-use Rattle.sock_runs.proofs.Cases.{with_rights, right_rights, put_rights}
-use Rattle.sock_runs.proofs.Leaves.{claim_way}
-use Rattle.sock_runs.proofs.LinksStay.{IsGiven, run_given, finds_given}
-use Rattle.sock_runs.proofs.LinkTicks.{RetriesGo}
-use Rattle.outcome_causes.specs.Stories.{In}
-use Rattle.outcome_causes.proofs.Cases.{tick_cases}
+use Rattle.outcome_causes.specs.program_steps.specs.Fits.{FitsRetry}
+use Rattle.outcome_causes.specs.program_steps.specs.May.{May}
+use Rattle.outcome_causes.specs.program_steps.specs.Rows.{row, hand_at, by_claim, exchanged, filled_claim, ready_claim, took_message, link_away, link_home_again, took_bytes}
+use Rattle.outcome_causes.specs.program_steps.specs.Sound.{Sound, IsFitting, first_step, views_with, views_of, views_after}
+use Rattle.outcome_causes.specs.program_steps.proofs.Cases.{with_rights, right_rights, put_rights}
+use Rattle.outcome_causes.specs.program_steps.proofs.Leaves.{claim_way}
+use Rattle.outcome_causes.specs.sock_runs.proofs.LinksStay.{IsGiven, run_given, finds_given}
+use Rattle.outcome_causes.specs.sock_runs.proofs.LinkTicks.{RetriesGo}
+use Rattle.outcome_causes.specs.outcome_stories.specs.Stories.{In}
+use Rattle.outcome_causes.specs.outcome_stories.proofs.Cases.{tick_cases}
 use Rattle.outcome_causes.proofs.Final.{at_within}
 use Rattle.outcome_causes.proofs.Plain.{in_left, in_right}
-use Rattle.outcome_causes.proofs.Ticks.{elem_there}
+use Rattle.outcome_causes.specs.outcome_ticks.proofs.Ticks.{elem_there}
 use Rattle.send_causes.specs.EndedCalls.{Store, stores_by, stored_at}
 use Rattle.send_causes.specs.Refused.{Deed, DidStep, DidAt}
 use Rattle.send_causes.proofs.Readings.{ticks_first, views_first}

@@ -16,13 +16,13 @@ use Rattle.seat_programs.specs.Posts.{ends_call}
 use Rattle.seat_programs.specs.Readers.{LIMIT, last_of, ended_by, read_on, took, discarded, post_each, thrown_away, read}
 use Rattle.seat_programs.specs.Rounds.{round}
 use Rattle.seat_programs.specs.Cores.{resolved, next_step}
-use Rattle.sock_runs.specs.Sound.{first_step}
-use Rattle.outcome_causes.specs.Stories.{In}
+use Rattle.outcome_causes.specs.program_steps.specs.Sound.{first_step}
+use Rattle.outcome_causes.specs.outcome_stories.specs.Stories.{In}
 use Rattle.outcome_causes.proofs.Plain.{in_left, in_right}
 use Rattle.run_theorems.specs.Heard.{bytes_found, given_by}
-use Rattle.sock_runs.proofs.Through.{PassesErrors, is_freeing, is_plain_aside, by_errors, locked, given_release}
-use Rattle.sock_runs.proofs.ThroughLoops.{through_errors, through_end_id, through_advance, through_locks, through_joins, through_answer, through_responses}
-use Rattle.sock_runs.proofs.ThroughCalls.{through_post_each}
+use Rattle.outcome_causes.specs.program_walks.proofs.Through.{PassesErrors, is_freeing, is_plain_aside, by_errors, locked, given_release}
+use Rattle.outcome_causes.specs.program_walks.proofs.ThroughLoops.{through_errors, through_end_id, through_advance, through_locks, through_joins, through_answer, through_responses}
+use Rattle.outcome_causes.specs.program_walks.proofs.ThroughCalls.{through_post_each}
 use Rattle.brpc_model.specs.Causes.{HasFault}
 use Rattle.call_causes.proofs.Streams.{faults_more, faults_follow, tied_more}
 

@@ -18,13 +18,13 @@ use Rattle.seat_programs.specs.Rounds.{round}
 use Rattle.seat_programs.specs.Readers.{reader}
 use Rattle.seat_programs.specs.Clients.{HeldLife, operation, client_from, ending_of}
 use Rattle.seat_programs.specs.Cores.{resolved, next_step}
-use Rattle.sock_runs.specs.AtSteps.{Asks, AtSteps, asks_words}
-use Rattle.sock_runs.specs.Sound.{first_step}
-use Rattle.sock_runs.proofs.Through.{PassesSteps, PassesPlain, PassesFails, PassesSends, PassesReads, is_plain, is_of_message, makes_life, by_errors, at_steps_plain, at_steps_sends, through_release, through_reach}
-use Rattle.sock_runs.proofs.ThroughLoops.{through_round}
-use Rattle.sock_runs.proofs.ThroughSends.{through_block, through_send, through_ending}
-use Rattle.sock_runs.proofs.ThroughCalls.{through_attempt, through_call, through_retry, through_join, through_reading}
-use Rattle.sock_runs.proofs.ThroughClients.{through_open, through_back, through_operation}
+use Rattle.outcome_causes.specs.program_steps.specs.AtSteps.{Asks, AtSteps, asks_words}
+use Rattle.outcome_causes.specs.program_steps.specs.Sound.{first_step}
+use Rattle.outcome_causes.specs.program_walks.proofs.Through.{PassesSteps, PassesPlain, PassesFails, PassesSends, PassesReads, is_plain, is_of_message, makes_life, by_errors, at_steps_plain, at_steps_sends, through_release, through_reach}
+use Rattle.outcome_causes.specs.program_walks.proofs.ThroughLoops.{through_round}
+use Rattle.outcome_causes.specs.program_walks.proofs.ThroughSends.{through_block, through_send, through_ending}
+use Rattle.outcome_causes.specs.program_walks.proofs.ThroughCalls.{through_attempt, through_call, through_retry, through_join, through_reading}
+use Rattle.outcome_causes.specs.program_walks.proofs.ThroughClients.{through_open, through_back, through_operation}
 
 -- a `fail` that is operation o failed a life of this slot, and is to store this code
 pub data Failing : Type 0 where

@@ -19,17 +19,17 @@ use Rattle.seat_programs.specs.Cores.{Calls, Core, SeatState, word_of, word_afte
 use Rattle.seat_programs.specs.Programs.{Program, Do, Rest, TakeMessage, TakeHome, PutHome, PutBytes, AskReady, Aside, NO_SOCKET}
 use Rattle.seat_programs.specs.Readers.{reader}
 use Rattle.seat_programs.specs.Ticks.{Moment, IsAnswered, AreAnswered, fed, with_places, onto_first, ticked, run}
-use Rattle.sock_runs.specs.GoesOn.{GoesOn}
-use Rattle.sock_runs.specs.May.{May}
-use Rattle.sock_runs.specs.Sound.{state, Sound, IsFitting, AreFitting, first_step, views_after, views_along}
-use Rattle.sock_runs.proofs.Cases.{goes_first}
-use Rattle.sock_runs.proofs.LinkTicks.{RetriesGo}
-use Rattle.sock_runs.proofs.OpensStay.{run_word}
-use Rattle.sock_runs.proofs.Passes.{goes_round}
-use Rattle.sock_runs.proofs.Recorded.{Recorded, recorded_ticks}
-use Rattle.sock_runs.proofs.Rounds.{begins_round}
-use Rattle.sock_runs.proofs.Ticks.{sound_ticks}
-use Rattle.outcome_causes.proofs.Cases.{tick_cases}
+use Rattle.outcome_causes.specs.program_steps.specs.GoesOn.{GoesOn}
+use Rattle.outcome_causes.specs.program_steps.specs.May.{May}
+use Rattle.outcome_causes.specs.program_steps.specs.Sound.{state, Sound, IsFitting, AreFitting, first_step, views_after, views_along}
+use Rattle.outcome_causes.specs.program_steps.proofs.Cases.{goes_first}
+use Rattle.outcome_causes.specs.sock_runs.proofs.LinkTicks.{RetriesGo}
+use Rattle.outcome_causes.specs.program_walks.proofs.OpensStay.{run_word}
+use Rattle.outcome_causes.specs.program_steps.proofs.Passes.{goes_round}
+use Rattle.outcome_causes.specs.program_walks.proofs.Recorded.{Recorded, recorded_ticks}
+use Rattle.outcome_causes.specs.program_steps.proofs.Rounds.{begins_round}
+use Rattle.outcome_causes.specs.sock_runs.proofs.Ticks.{sound_ticks}
+use Rattle.outcome_causes.specs.outcome_stories.proofs.Cases.{tick_cases}
 use Rattle.send_causes.specs.Refused.{DidStep, DidAt, DidIn}
 use Rattle.send_causes.proofs.Closers.{Ends, Calm, Codes, codes_more, calm_first, stores_code}
 use Rattle.send_causes.proofs.DropCodes.{Failing, NoFail, Fails, Stores, codes_first, codes_next}

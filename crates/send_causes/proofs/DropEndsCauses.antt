@@ -7,8 +7,8 @@ use lib.ListN.{get_elem?}
 use Rattle.brpc_model.specs.Items.{Item}
 use Rattle.brpc_model.specs.Operations.{Turn}
 use Rattle.brpc_model.specs.Script.{script_of}
-use Rattle.report_fits.proofs.Reading.{InRange}
-use Rattle.report_fits.proofs.Targets.{AreThere}
+use Rattle.call_causes.specs.owed_calls.specs.script_facts.proofs.Reading.{InRange}
+use Rattle.call_causes.specs.owed_calls.specs.script_facts.proofs.Targets.{AreThere}
 use Rattle.sock_words.specs.Words.{socket_id_slot, socket_id_version}
 use Rattle.sock_words.specs.declared.plain.Plan.{Plan}
 use Rattle.sock_model.specs.Layout.{open_index}
@@ -21,13 +21,13 @@ use Rattle.seat_programs.specs.Tasks.{opens, plan_of}
 use Rattle.seat_programs.specs.Ticks.{run, quiet}
 use Rattle.seat_programs.specs.Scripts.{all_tasks, opened, set_up, played, IsRunWithCalls}
 use Rattle.seat_programs.specs.ToldCalls.{Order, Fixed, IsSent, GaveFault}
-use Rattle.sock_runs.specs.Sound.{views_along}
-use Rattle.sock_runs.proofs.Along.{place_inside}
-use Rattle.sock_runs.proofs.LinksOpening.{OpensLink}
-use Rattle.sock_runs.proofs.Whole.{closing_of, views_played, views_closed, views_ended, set_up_sound, closing_sound, closed_sound, end_answered}
-use Rattle.outcome_causes.specs.Causes.{WasGiven}
-use Rattle.outcome_causes.specs.Stories.{In}
-use Rattle.outcome_causes.proofs.Members.{in_contains}
+use Rattle.outcome_causes.specs.program_steps.specs.Sound.{views_along}
+use Rattle.outcome_causes.specs.sock_runs.proofs.Along.{place_inside}
+use Rattle.outcome_causes.specs.program_walks.proofs.LinksOpening.{OpensLink}
+use Rattle.outcome_causes.specs.program_walks.proofs.Whole.{closing_of, views_played, views_closed, views_ended, set_up_sound, closing_sound, closed_sound, end_answered}
+use Rattle.outcome_causes.specs.outcome_stories.specs.Causes.{WasGiven}
+use Rattle.outcome_causes.specs.outcome_stories.specs.Stories.{In}
+use Rattle.outcome_causes.specs.outcome_stories.proofs.Members.{in_contains}
 use Rattle.call_causes.specs.joint_runs.proofs.Runs.{AreMade, first_views}
 use Rattle.call_causes.specs.owed_calls.specs.Lives.{ClosesInRun}
 use Rattle.call_causes.specs.owed_calls.proofs.Known.{opens_apart}

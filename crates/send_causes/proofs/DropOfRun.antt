@@ -35,30 +35,30 @@ use Rattle.seat_programs.specs.Scripts.{all_tasks, IsRunWithCalls}
 use Rattle.seat_programs.specs.Told.{AreTasks, IsTask, Became, Made}
 use Rattle.seat_programs.specs.ToldCalls.{Accepted, Order, IsAt}
 use Rattle.seat_programs.specs.Writings.{Puts}
-use Rattle.sock_runs.specs.Sound.{state, Sound, AllRest, MOST_PLACES}
-use Rattle.sock_runs.specs.GoesOn.{GoesOn, HasNothing}
+use Rattle.outcome_causes.specs.program_steps.specs.Sound.{state, Sound, AllRest, MOST_PLACES}
+use Rattle.outcome_causes.specs.program_steps.specs.GoesOn.{GoesOn, HasNothing}
 use Rattle.sock_model.specs.References.{slot_facts}
 use Rattle.sock_model.specs.Slots.{SlotLaw, live, count}
 use Rattle.sock_model.specs.Weights.{is_born}
 use Rattle.slot_steps.proofs.Clauses.{taken_for}
-use Rattle.sock_runs.proofs.LinksStay.{IsGiven}
-use Rattle.sock_runs.proofs.Bounds.{lives_le}
-use Rattle.sock_runs.proofs.Recorded.{Recorded, Stands, run_recorded}
-use Rattle.sock_runs.proofs.Records.{next_stores}
-use Rattle.sock_runs.proofs.Whole.{IsListed, views_closed, views_ended, closed_sound, recorded_closed, ended_sound, end_rests}
-use Rattle.outcome_causes.specs.Causes.{WasGiven, Cause}
-use Rattle.outcome_causes.specs.Explains.{FailsLife, FailsLink, is_plain, step}
-use Rattle.outcome_causes.specs.Kept.{IsSpoken, StaysUsed, Story}
-use Rattle.outcome_causes.specs.PlainTasks.{told_tasks_of}
-use Rattle.outcome_causes.specs.Stories.{Event, In, trace_of}
-use Rattle.outcome_causes.proofs.Delivered.{accepted_at, AreQuiet, requests_used}
+use Rattle.outcome_causes.specs.sock_runs.proofs.LinksStay.{IsGiven}
+use Rattle.outcome_causes.specs.program_steps.proofs.Bounds.{lives_le}
+use Rattle.outcome_causes.specs.program_walks.proofs.Recorded.{Recorded, Stands, run_recorded}
+use Rattle.outcome_causes.specs.program_walks.proofs.Records.{next_stores}
+use Rattle.outcome_causes.specs.program_walks.proofs.Whole.{IsListed, views_closed, views_ended, closed_sound, recorded_closed, ended_sound, end_rests}
+use Rattle.outcome_causes.specs.outcome_stories.specs.Causes.{WasGiven, Cause}
+use Rattle.outcome_causes.specs.outcome_stories.specs.Explains.{FailsLife, FailsLink, is_plain, step}
+use Rattle.outcome_causes.specs.outcome_stories.specs.Kept.{IsSpoken, StaysUsed, Story}
+use Rattle.outcome_causes.specs.outcome_stories.specs.PlainTasks.{told_tasks_of}
+use Rattle.outcome_causes.specs.outcome_stories.specs.Stories.{Event, In, trace_of}
+use Rattle.outcome_causes.specs.outcome_stories.proofs.Delivered.{accepted_at, AreQuiet, requests_used}
 use Rattle.outcome_causes.proofs.Openings.{are_seats}
-use Rattle.outcome_causes.proofs.Events.{event, BeforeIn, cause_of, in_marked, birth_adds, marked_given}
+use Rattle.outcome_causes.specs.outcome_ticks.proofs.Events.{event, BeforeIn, cause_of, in_marked, birth_adds, marked_given}
 use Rattle.outcome_causes.proofs.Final.{at_within, at_there, idle, final}
-use Rattle.outcome_causes.proofs.Lifted.{up, task_up, made_up, made_down}
+use Rattle.outcome_causes.specs.outcome_ticks.proofs.Lifted.{up, task_up, made_up, made_down}
 use Rattle.outcome_causes.proofs.Lives.{World, birth_means, task_of, given_made, one_life, odd_means, odd_life, fail_says}
-use Rattle.outcome_causes.proofs.Members.{all_in, contains_in, in_contains}
-use Rattle.outcome_causes.proofs.Tasks.{one_task}
+use Rattle.outcome_causes.specs.outcome_stories.proofs.Members.{all_in, contains_in, in_contains}
+use Rattle.outcome_causes.specs.outcome_ticks.proofs.Tasks.{one_task}
 use Rattle.call_causes.specs.programs_allowed.specs.Openings.{all_seats}
 use Rattle.call_causes.specs.programs_allowed.proofs.Fresh.{opening_fresh, opening_claims}
 use Rattle.call_causes.specs.joint_runs.proofs.Runs.{AreMade, first_views, joint_runs, joint_bounded}

@@ -27,22 +27,22 @@ use Rattle.seat_programs.specs.Calls.{Call, ClaimSlot, CreateLife, AddRef, SubRe
 use Rattle.seat_programs.specs.Cores.{Core, SeatState, word_of, word_after, found_at, words_after}
 use Rattle.seat_programs.specs.Sends.{heading_of}
 use Rattle.seat_programs.specs.Ticks.{Moment, IsAnswered, ticked}
-use Rattle.sock_runs.specs.May.{May}
-use Rattle.sock_runs.specs.Sound.{state, Sound, IsFitting}
-use Rattle.sock_runs.proofs.Cases.{tick_keeps_marks}
-use Rattle.sock_runs.proofs.ChainTicks.{turn_inside, free_inside}
-use Rattle.sock_runs.proofs.Passes.{goes_round}
-use Rattle.sock_runs.proofs.Rounds.{begins_round}
-use Rattle.outcome_causes.specs.Causes.{Asks}
-use Rattle.outcome_causes.specs.Explains.{Done, swapped}
-use Rattle.outcome_causes.specs.Kept.{is_of_send, of_sends, undo, IsOfCall as IsOfSpoken, IsOfTask, EndsIn, AreMade, AreMadeNow, IsSpoken, SeatStory, Story}
-use Rattle.outcome_causes.specs.Stories.{Event, In, trace_of}
+use Rattle.outcome_causes.specs.program_steps.specs.May.{May}
+use Rattle.outcome_causes.specs.program_steps.specs.Sound.{state, Sound, IsFitting}
+use Rattle.outcome_causes.specs.program_steps.proofs.Cases.{tick_keeps_marks}
+use Rattle.outcome_causes.specs.sock_runs.proofs.ChainTicks.{turn_inside, free_inside}
+use Rattle.outcome_causes.specs.program_steps.proofs.Passes.{goes_round}
+use Rattle.outcome_causes.specs.program_steps.proofs.Rounds.{begins_round}
+use Rattle.outcome_causes.specs.outcome_stories.specs.Causes.{Asks}
+use Rattle.outcome_causes.specs.outcome_stories.specs.Explains.{Done, swapped}
+use Rattle.outcome_causes.specs.outcome_stories.specs.Kept.{is_of_send, of_sends, undo, IsOfCall as IsOfSpoken, IsOfTask, EndsIn, AreMade, AreMadeNow, IsSpoken, SeatStory, Story}
+use Rattle.outcome_causes.specs.outcome_stories.specs.Stories.{Event, In, trace_of}
 use Rattle.outcome_causes.proofs.Final.{at_there, at_within}
-use Rattle.outcome_causes.proofs.Members.{all_in}
+use Rattle.outcome_causes.specs.outcome_stories.proofs.Members.{all_in}
 use Rattle.outcome_causes.proofs.Messages.{in_of_at, filter_has}
-use Rattle.outcome_causes.proofs.Seats.{undo_done, undo_in}
-use Rattle.outcome_causes.proofs.Senders.{HasSent, sent_in, each_of, apart_by}
-use Rattle.outcome_causes.proofs.Ticks.{get_of}
+use Rattle.outcome_causes.specs.outcome_ticks.proofs.Seats.{undo_done, undo_in}
+use Rattle.outcome_causes.specs.outcome_stories.proofs.Senders.{HasSent, sent_in, each_of, apart_by}
+use Rattle.outcome_causes.specs.outcome_ticks.proofs.Ticks.{get_of}
 use Rattle.label_runs.specs.Labels.{Trial}
 use Rattle.send_causes.specs.Counts.{IsOfCall, EntryFits, LabelLaw}
 use Rattle.send_causes.proofs.Apart.{calls_apart}

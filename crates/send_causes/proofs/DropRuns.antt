@@ -24,20 +24,20 @@ use Rattle.seat_programs.specs.Programs.{Program, Do, Write}
 use Rattle.seat_programs.specs.Ticks.{Moment, IsAnswered, AreAnswered, quiet, step_with, tick_with, ticked, run}
 use Rattle.seat_programs.specs.Told.{AreTasks}
 use Rattle.seat_programs.specs.Writings.{Holder, Puts}
-use Rattle.sock_runs.specs.GoesOn.{GoesOn}
-use Rattle.sock_runs.specs.Sound.{state, Sound, AreFew, IsFitting, AreFitting, first_step, views_after, views_along, MOST_PLACES}
-use Rattle.sock_runs.proofs.Cases.{goes_first}
-use Rattle.sock_runs.proofs.Few.{places_small}
-use Rattle.sock_runs.proofs.LinkTicks.{RetriesGo}
-use Rattle.sock_runs.proofs.Passes.{goes_round}
-use Rattle.sock_runs.proofs.Rounds.{begins_round}
-use Rattle.sock_runs.proofs.Ticks.{sound_ticks}
-use Rattle.outcome_causes.specs.Causes.{WasGiven}
-use Rattle.outcome_causes.specs.Kept.{IsSpoken, Story}
-use Rattle.outcome_causes.specs.Stories.{Event, In}
+use Rattle.outcome_causes.specs.program_steps.specs.GoesOn.{GoesOn}
+use Rattle.outcome_causes.specs.program_steps.specs.Sound.{state, Sound, AreFew, IsFitting, AreFitting, first_step, views_after, views_along, MOST_PLACES}
+use Rattle.outcome_causes.specs.program_steps.proofs.Cases.{goes_first}
+use Rattle.outcome_causes.specs.sock_runs.proofs.Few.{places_small}
+use Rattle.outcome_causes.specs.sock_runs.proofs.LinkTicks.{RetriesGo}
+use Rattle.outcome_causes.specs.program_steps.proofs.Passes.{goes_round}
+use Rattle.outcome_causes.specs.program_steps.proofs.Rounds.{begins_round}
+use Rattle.outcome_causes.specs.sock_runs.proofs.Ticks.{sound_ticks}
+use Rattle.outcome_causes.specs.outcome_stories.specs.Causes.{WasGiven}
+use Rattle.outcome_causes.specs.outcome_stories.specs.Kept.{IsSpoken, Story}
+use Rattle.outcome_causes.specs.outcome_stories.specs.Stories.{Event, In}
 use Rattle.outcome_causes.proofs.Final.{at_there, at_within}
-use Rattle.outcome_causes.proofs.Events.{event, marked_given, given_by}
-use Rattle.outcome_causes.proofs.Ticks.{MayMove, IsNew, tick_story}
+use Rattle.outcome_causes.specs.outcome_ticks.proofs.Events.{event, marked_given, given_by}
+use Rattle.outcome_causes.specs.outcome_ticks.proofs.Ticks.{MayMove, IsNew, tick_story}
 use Rattle.label_runs.specs.Labels.{Trial}
 use Rattle.send_causes.specs.Counts.{LabelLaw, StoresOwn, AreLabelled}
 use Rattle.id_runs.specs.Goes.{SoundIds, IsFittingIds}

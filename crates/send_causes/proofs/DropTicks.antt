@@ -27,21 +27,21 @@ use Rattle.seat_programs.specs.Drops.{call_in}
 use Rattle.seat_programs.specs.Programs.{Program, Do, Rest, TakeMessage, TakeHome, PutHome, PutBytes, AskReady, Aside}
 use Rattle.seat_programs.specs.Ticks.{Moment, IsAnswered, fed, with_places, onto_first, ticked}
 use Rattle.seat_programs.specs.Told.{AreTasks}
-use Rattle.sock_runs.specs.May.{May}
-use Rattle.sock_runs.specs.Rows.{row, hand_at, took_message, link_away, link_home_again, took_bytes}
-use Rattle.sock_runs.specs.Sound.{Sound, first_step, views_after}
+use Rattle.outcome_causes.specs.program_steps.specs.May.{May}
+use Rattle.outcome_causes.specs.program_steps.specs.Rows.{row, hand_at, took_message, link_away, link_home_again, took_bytes}
+use Rattle.outcome_causes.specs.program_steps.specs.Sound.{Sound, first_step, views_after}
 use Rattle.sock_steps.proofs.Maps.{set_at}
-use Rattle.outcome_causes.specs.Causes.{Asks}
-use Rattle.outcome_causes.specs.Explains.{Way, Own, Beside, Closing, Done, ExplainsBy, step}
-use Rattle.outcome_causes.specs.Kept.{IsSpoken, IsTraced, SeatStory, Story}
-use Rattle.outcome_causes.specs.Stories.{Entry, Event, In, trace_of, trace_now}
-use Rattle.outcome_causes.proofs.Cases.{tick_cases}
-use Rattle.outcome_causes.proofs.Events.{event}
+use Rattle.outcome_causes.specs.outcome_stories.specs.Causes.{Asks}
+use Rattle.outcome_causes.specs.outcome_stories.specs.Explains.{Way, Own, Beside, Closing, Done, ExplainsBy, step}
+use Rattle.outcome_causes.specs.outcome_stories.specs.Kept.{IsSpoken, IsTraced, SeatStory, Story}
+use Rattle.outcome_causes.specs.outcome_stories.specs.Stories.{Entry, Event, In, trace_of, trace_now}
+use Rattle.outcome_causes.specs.outcome_stories.proofs.Cases.{tick_cases}
+use Rattle.outcome_causes.specs.outcome_ticks.proofs.Events.{event}
 use Rattle.outcome_causes.proofs.Final.{at_within}
-use Rattle.outcome_causes.proofs.Members.{from_trace, to_trace}
-use Rattle.outcome_causes.proofs.Seats.{undo_in}
-use Rattle.outcome_causes.proofs.Tasks.{one_task}
-use Rattle.outcome_causes.proofs.Ticks.{MayMove, IsNew, get_of}
+use Rattle.outcome_causes.specs.outcome_stories.proofs.Members.{from_trace, to_trace}
+use Rattle.outcome_causes.specs.outcome_ticks.proofs.Seats.{undo_in}
+use Rattle.outcome_causes.specs.outcome_ticks.proofs.Tasks.{one_task}
+use Rattle.outcome_causes.specs.outcome_ticks.proofs.Ticks.{MayMove, IsNew, get_of}
 use Rattle.send_causes.proofs.DropCodes.{Failing, NoFail, Fails, IsOtherCode, SaysFailed, Stores, codes_first, codes_next}
 use Rattle.send_causes.proofs.DropSays.{IsInHand, first_numbered, says, sets_here}
 use Rattle.send_causes.proofs.DropWords.{version_in, code_in, coding_version, code_stays}

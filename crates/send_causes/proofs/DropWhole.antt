@@ -23,17 +23,17 @@ use Rattle.seat_programs.specs.Scripts.{sizes_of, programs, readers_from, all_pr
 use Rattle.seat_programs.specs.Tasks.{opens, calls, plan_of, id_plan_of}
 use Rattle.seat_programs.specs.Ticks.{quiet, run}
 use Rattle.seat_programs.specs.Told.{AreTasks}
-use Rattle.sock_runs.specs.Sound.{state, Sound, views_along}
-use Rattle.sock_runs.proofs.Bounds.{law}
-use Rattle.sock_runs.proofs.LinkTicks.{RetriesGo}
-use Rattle.sock_runs.proofs.Opening.{mapped}
-use Rattle.sock_runs.proofs.Whole.{Begins, AreFittingIn, closing_of, rested_of, views_played, views_closed, views_ended, set_up_answered, end_answered, closing_sound, closed_sound}
-use Rattle.outcome_causes.specs.Explains.{is_plain}
-use Rattle.outcome_causes.specs.Kept.{Story}
-use Rattle.outcome_causes.specs.PlainTasks.{told_tasks_of}
-use Rattle.outcome_causes.specs.Stories.{Event, In}
-use Rattle.outcome_causes.proofs.Lifted.{down}
-use Rattle.outcome_causes.proofs.Members.{all_of}
+use Rattle.outcome_causes.specs.program_steps.specs.Sound.{state, Sound, views_along}
+use Rattle.outcome_causes.specs.program_steps.proofs.Bounds.{law}
+use Rattle.outcome_causes.specs.sock_runs.proofs.LinkTicks.{RetriesGo}
+use Rattle.outcome_causes.specs.program_walks.proofs.Opening.{mapped}
+use Rattle.outcome_causes.specs.program_walks.proofs.Whole.{Begins, AreFittingIn, closing_of, rested_of, views_played, views_closed, views_ended, set_up_answered, end_answered, closing_sound, closed_sound}
+use Rattle.outcome_causes.specs.outcome_stories.specs.Explains.{is_plain}
+use Rattle.outcome_causes.specs.outcome_stories.specs.Kept.{Story}
+use Rattle.outcome_causes.specs.outcome_stories.specs.PlainTasks.{told_tasks_of}
+use Rattle.outcome_causes.specs.outcome_stories.specs.Stories.{Event, In}
+use Rattle.outcome_causes.specs.outcome_ticks.proofs.Lifted.{down}
+use Rattle.outcome_causes.specs.outcome_stories.proofs.Members.{all_of}
 use Rattle.outcome_causes.proofs.Openings.{are_seats}
 use Rattle.outcome_causes.proofs.Runs.{set_up_over}
 use Rattle.outcome_causes.proofs.Scripts.{story_opened, story_closing, story_ended}

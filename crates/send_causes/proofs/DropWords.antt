@@ -22,11 +22,11 @@ use Rattle.slot_steps.proofs.Sums.{total_mono}
 use Rattle.sock_steps.proofs.Places.{own_count}
 use Rattle.seat_programs.specs.Calls.{Call, ClaimSlot, CreateLife, AddRef, SubRef, SetOdd, Recycle, FreeSlot, StoreLink, LoadLink, ResetHead, ClearCode, StoreCode, StoreName, LoadName, StoreOpen, LoadOpen, LookWord, FindLink, LoadCode, ClaimRequest, Unconnect, SwapHead, Connect, EmptyHead, ReadNext, ReverseNext, FreeRequest, StorePlace, DropPlace}
 use Rattle.seat_programs.specs.Cores.{Core, word_of, word_after, found_at, words_after}
-use Rattle.sock_runs.specs.Rows.{hand_at}
-use Rattle.sock_runs.specs.May.{May, Finds}
-use Rattle.sock_runs.specs.Sound.{state, Sound}
-use Rattle.sock_runs.proofs.Bounds.{law, lives_le}
-use Rattle.sock_runs.proofs.Founds.{finds}
+use Rattle.outcome_causes.specs.program_steps.specs.Rows.{hand_at}
+use Rattle.outcome_causes.specs.program_steps.specs.May.{May, Finds}
+use Rattle.outcome_causes.specs.program_steps.specs.Sound.{state, Sound}
+use Rattle.outcome_causes.specs.program_steps.proofs.Bounds.{law, lives_le}
+use Rattle.outcome_causes.specs.sock_runs.proofs.Founds.{finds}
 
 abbrev pub version_in : List ℕ → ℕ → ℕ
 version_in ws j = vref_version (get_or ws (ref_index j) 0)

@@ -19,7 +19,7 @@ use Rattle.chain_steps.proofs.Lists.{at_some}
 use Rattle.slot_steps.proofs.Sums.{total_bound}
 use Rattle.sock_model.specs.Rule.{lists_of}
 use Rattle.std.proofs.lemmas.List.{length-map}
-use Rattle.outcome_causes.proofs.Members.{get_there}
+use Rattle.outcome_causes.specs.outcome_stories.proofs.Members.{get_there}
 use Rattle.seat_programs.specs.Asides.{Taking}
 use Rattle.send_causes.proofs.Closers.{Ends as ReadingEnds}
 use Rattle.send_causes.proofs.ReaderRuns.{Keeps, reader_rights, keeps_along}
@@ -32,20 +32,20 @@ use Rattle.seat_programs.specs.Cores.{Core, SeatState, resolved, next_step}
 use Rattle.seat_programs.specs.Runs.{IsAtRest}
 use Rattle.seat_programs.specs.Ticks.{Moment, AreAnswered, IsAnswered, quiet, ticked, run}
 use Rattle.seat_programs.specs.ToldCalls.{Accepted, label, AreOrders}
-use Rattle.sock_runs.specs.Sound.{state, Sound, IsAhead, IsFitting, AreFitting, AreFew, views_after, first_step}
-use Rattle.sock_runs.specs.GoesOn.{GoesOn, HasNothing}
-use Rattle.sock_runs.proofs.Along.{seat_rests, place_inside, ticked_ahead}
-use Rattle.sock_runs.proofs.Cases.{ComesNext, tick_keeps_marks}
-use Rattle.sock_runs.proofs.LinkTicks.{RetriesGo}
-use Rattle.sock_runs.proofs.Passes.{goes_round}
-use Rattle.sock_runs.proofs.Quiets.{ticked_seats, ticked_rests}
-use Rattle.sock_runs.proofs.Recorded.{Recorded, recorded_ticks}
-use Rattle.sock_runs.proofs.Rounds.{begins_round}
-use Rattle.sock_runs.proofs.Ticks.{sound_ticks}
-use Rattle.outcome_causes.proofs.Delivered.{accepted_of, orders_of}
+use Rattle.outcome_causes.specs.program_steps.specs.Sound.{state, Sound, IsAhead, IsFitting, AreFitting, AreFew, views_after, first_step}
+use Rattle.outcome_causes.specs.program_steps.specs.GoesOn.{GoesOn, HasNothing}
+use Rattle.outcome_causes.specs.sock_runs.proofs.Along.{seat_rests, place_inside, ticked_ahead}
+use Rattle.outcome_causes.specs.program_steps.proofs.Cases.{ComesNext, tick_keeps_marks}
+use Rattle.outcome_causes.specs.sock_runs.proofs.LinkTicks.{RetriesGo}
+use Rattle.outcome_causes.specs.program_steps.proofs.Passes.{goes_round}
+use Rattle.outcome_causes.specs.sock_runs.proofs.Quiets.{ticked_seats, ticked_rests}
+use Rattle.outcome_causes.specs.program_walks.proofs.Recorded.{Recorded, recorded_ticks}
+use Rattle.outcome_causes.specs.program_steps.proofs.Rounds.{begins_round}
+use Rattle.outcome_causes.specs.sock_runs.proofs.Ticks.{sound_ticks}
+use Rattle.outcome_causes.specs.outcome_stories.proofs.Delivered.{accepted_of, orders_of}
 use Rattle.send_causes.proofs.Places.{places_ticks}
 use Rattle.send_causes.proofs.Readings.{rights_none}
-use Rattle.outcome_causes.proofs.Accepting.{IsNoSwap}
+use Rattle.outcome_causes.specs.outcome_ticks.proofs.Accepting.{IsNoSwap}
 
 -- ## The ending exchanges no head
 

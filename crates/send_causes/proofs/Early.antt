@@ -14,7 +14,7 @@ use Rattle.sock_model.specs.Layout.{open_index}
 use Rattle.brpc_model.specs.Causes.{HasFault, reading_limit}
 use Rattle.brpc_model.specs.Items.{Item}
 use Rattle.brpc_model.specs.Operations.{Turn, operations, link_names}
-use Rattle.report_fits.proofs.Lists.{Has}
+use Rattle.call_causes.specs.owed_calls.specs.script_facts.proofs.Lists.{Has}
 use Rattle.seat_programs.specs.declared.task.Op.{Op}
 use Rattle.seat_programs.specs.declared.task.Op.TheVariants as ops
 use Rattle.seat_programs.specs.declared.task.Task.{Task}
@@ -32,18 +32,18 @@ use Rattle.seat_programs.specs.Tasks.{opens, calls, plan_of, id_plan_of}
 use Rattle.seat_programs.specs.Ticks.{Answer, Unasked, Moment, quiet, tick_with, ticked}
 use Rattle.seat_programs.specs.Scripts.{sizes_of, programs, readers_from, all_programs, all_tasks, opened, set_up, played, IsRunWithCalls}
 use Rattle.seat_programs.specs.Told.{IsOpen}
-use Rattle.sock_runs.specs.Sound.{views_along}
-use Rattle.sock_runs.proofs.Along.{run_ahead, beginning_ahead}
-use Rattle.sock_runs.proofs.LinksOpening.{OpensLink}
-use Rattle.sock_runs.proofs.LinkTicks.{RetriesGo}
-use Rattle.sock_runs.proofs.Opening.{mapped}
-use Rattle.sock_runs.proofs.OpensStay.{readers_begin}
-use Rattle.sock_runs.proofs.Whole.{AreFittingIn, Begins, IsListed, closing_of, views_played, views_closed, set_up_answered, end_answered, set_up_sound, closing_sound, recorded_opened, recorded_set_up, recorded_closing}
+use Rattle.outcome_causes.specs.program_steps.specs.Sound.{views_along}
+use Rattle.outcome_causes.specs.sock_runs.proofs.Along.{run_ahead, beginning_ahead}
+use Rattle.outcome_causes.specs.program_walks.proofs.LinksOpening.{OpensLink}
+use Rattle.outcome_causes.specs.sock_runs.proofs.LinkTicks.{RetriesGo}
+use Rattle.outcome_causes.specs.program_walks.proofs.Opening.{mapped}
+use Rattle.outcome_causes.specs.program_walks.proofs.OpensStay.{readers_begin}
+use Rattle.outcome_causes.specs.program_walks.proofs.Whole.{AreFittingIn, Begins, IsListed, closing_of, views_played, views_closed, set_up_answered, end_answered, set_up_sound, closing_sound, recorded_opened, recorded_set_up, recorded_closing}
 use Rattle.sock_steps.proofs.Quiet.{either_way}
-use Rattle.outcome_causes.specs.Facts.{shown_in, closed_before_ending}
-use Rattle.outcome_causes.specs.Losses.{lost_by, closed_at}
-use Rattle.outcome_causes.specs.Stories.{In}
-use Rattle.outcome_causes.proofs.Members.{in_contains}
+use Rattle.outcome_causes.specs.outcome_stories.specs.Facts.{shown_in, closed_before_ending}
+use Rattle.outcome_causes.specs.outcome_stories.specs.Losses.{lost_by, closed_at}
+use Rattle.outcome_causes.specs.outcome_stories.specs.Stories.{In}
+use Rattle.outcome_causes.specs.outcome_stories.proofs.Members.{in_contains}
 use Rattle.outcome_causes.proofs.Plain.{in_left, in_right, in_both}
 use Rattle.call_causes.specs.programs_allowed.proofs.Beginning as clients_begin
 use Rattle.call_causes.specs.programs_allowed.specs.Openings.{all_seats}
@@ -357,6 +357,6 @@ module _ (script : List Item) (made : AreMade script) (turns : List Turn) (core 
   -- a link whose socket was closed before the ending is one of the script's, and its reading ended early
   pub closed_early : (x : ℕ) → In x (closed_before_ending script turns core is) → (x < length (link_names script)) × EndedEarly x
   closed_early x there = let y = closed_so x there in (
-    (let low = Rattle.sock_runs.proofs.Along.place_inside (opens script) x y.0.0 y.0.1 in let many = known.as_many in omega (arith, low, many)),
+    (let low = Rattle.outcome_causes.specs.sock_runs.proofs.Along.place_inside (opens script) x y.0.0 y.0.1 in let many = known.as_many in omega (arith, low, many)),
     ⊎_elim (λ a. inl (in_contains (heard_takes is x) AtEnd a)) (λ b. ⊎_elim (λ f. inr (inl f)) (λ d. ⊎_elim (λ l. inr (inr (inl l))) (λ e. inr (inr (inr (in_contains (heard_takes is x) Broken e)))) d) b) y.1,
   )

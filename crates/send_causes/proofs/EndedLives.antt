@@ -12,20 +12,20 @@ use Rattle.seat_programs.specs.Cores.{Core}
 use Rattle.seat_programs.specs.declared.task.Task.{Task}
 use Rattle.seat_programs.specs.Told.{AreTasks, Made}
 use Rattle.seat_programs.specs.ToldCalls.{Accepted}
-use Rattle.sock_runs.specs.Sound.{Sound, AllRest}
-use Rattle.outcome_causes.specs.Causes.{WasGiven}
-use Rattle.outcome_causes.specs.Kept.{is_of_send, IsSpoken, Story}
-use Rattle.outcome_causes.specs.Stories.{Event, In}
-use Rattle.outcome_causes.proofs.Delivered.{orders_of}
+use Rattle.outcome_causes.specs.program_steps.specs.Sound.{Sound, AllRest}
+use Rattle.outcome_causes.specs.outcome_stories.specs.Causes.{WasGiven}
+use Rattle.outcome_causes.specs.outcome_stories.specs.Kept.{is_of_send, IsSpoken, Story}
+use Rattle.outcome_causes.specs.outcome_stories.specs.Stories.{Event, In}
+use Rattle.outcome_causes.specs.outcome_stories.proofs.Delivered.{orders_of}
 use Rattle.outcome_causes.proofs.Lives.{World, one_life, given_made}
-use Rattle.outcome_causes.proofs.Members.{all_in}
+use Rattle.outcome_causes.specs.outcome_stories.proofs.Members.{all_in}
 use Rattle.outcome_causes.proofs.Messages.{in_of_at, each_made, message_of, number_of}
-use Rattle.outcome_causes.proofs.Senders.{HasSent, all_sent}
+use Rattle.outcome_causes.specs.outcome_stories.proofs.Senders.{HasSent, all_sent}
 use Rattle.send_causes.specs.EndedCalls.{Store}
 use Rattle.send_causes.proofs.EndedTrails.{Trail}
 use Rattle.send_causes.proofs.RefusedNames as lives
 use Rattle.send_causes.proofs.EndedNames.{IsNamed, IsOver, EntryOver, StoredFor, NameLaw}
-use Rattle.sock_runs.proofs.Recorded.{either_bool}
+use Rattle.outcome_causes.specs.program_walks.proofs.Recorded.{either_bool}
 
 module _ (p : Plan) (clients : List (List Task)) (are : AreTasks p clients) (c : Core) (vs : List View) (es : List Event) (lost : List ℕ) (sound : Sound p c vs) (story : Story p clients true c vs es lost) (settled : AllRest c) where
   abbrev world : World p clients c.outcomes lost (orders_of p c vs sound.lawful) es

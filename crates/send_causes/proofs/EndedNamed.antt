@@ -21,20 +21,20 @@ use Rattle.seat_programs.specs.Ticks.{Moment, AreAnswered, quiet, ticked, run}
 use Rattle.seat_programs.specs.Tasks.{opens, calls, plan_of, id_plan_of}
 use Rattle.seat_programs.specs.Scripts.{sizes_of, programs, readers_from, all_programs, all_tasks, beginning, opened, set_up, IsRunWithCalls}
 use Rattle.seat_programs.specs.Told.{AreTasks}
-use Rattle.sock_runs.specs.Sound.{Sound, AreFitting, views_after, views_along}
-use Rattle.sock_runs.proofs.LinkTicks.{RetriesGo}
-use Rattle.sock_runs.proofs.Opening.{mapped}
-use Rattle.sock_runs.proofs.Ticks.{sound_ticks}
-use Rattle.sock_runs.proofs.Whole.{Begins, AreFittingIn, closing_of, rested_of, views_played, views_closed, views_ended, set_up_answered, end_answered, set_up_sound, played_sound, closing_sound, closed_sound}
-use Rattle.outcome_causes.specs.Kept.{Story}
-use Rattle.outcome_causes.specs.PlainTasks.{told_tasks_of}
-use Rattle.outcome_causes.specs.Stories.{Event, In}
+use Rattle.outcome_causes.specs.program_steps.specs.Sound.{Sound, AreFitting, views_after, views_along}
+use Rattle.outcome_causes.specs.sock_runs.proofs.LinkTicks.{RetriesGo}
+use Rattle.outcome_causes.specs.program_walks.proofs.Opening.{mapped}
+use Rattle.outcome_causes.specs.sock_runs.proofs.Ticks.{sound_ticks}
+use Rattle.outcome_causes.specs.program_walks.proofs.Whole.{Begins, AreFittingIn, closing_of, rested_of, views_played, views_closed, views_ended, set_up_answered, end_answered, set_up_sound, played_sound, closing_sound, closed_sound}
+use Rattle.outcome_causes.specs.outcome_stories.specs.Kept.{Story}
+use Rattle.outcome_causes.specs.outcome_stories.specs.PlainTasks.{told_tasks_of}
+use Rattle.outcome_causes.specs.outcome_stories.specs.Stories.{Event, In}
 use Rattle.outcome_causes.proofs.Final.{at_there}
 use Rattle.outcome_causes.proofs.Plain.{in_left, in_right, in_both}
 use Rattle.outcome_causes.proofs.Openings.{are_seats}
 use Rattle.outcome_causes.proofs.Runs.{IsStoried, set_up_over, is_ending_story}
 use Rattle.outcome_causes.proofs.Scripts.{story_opened, story_closing}
-use Rattle.outcome_causes.proofs.Ticks.{elem_there, tick_story}
+use Rattle.outcome_causes.specs.outcome_ticks.proofs.Ticks.{elem_there, tick_story}
 use Rattle.label_runs.proofs.Operations.{OpCalls}
 use Rattle.id_rule.specs.Lawful.{at_index}
 use Rattle.call_causes.specs.Lists.{shows_in}

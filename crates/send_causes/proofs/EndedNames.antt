@@ -34,27 +34,27 @@ use Rattle.seat_programs.specs.Programs.{Program, Do, Say, Sent, Write, Aside, R
 use Rattle.seat_programs.specs.Cores.{Calls, Core, SeatState, word_of, found_at, words_after, word_after, homes_after, hand_after, resolved, waiting_at, next_step, with_seat, stepped}
 use Rattle.seat_programs.specs.declared.task.Task.{Task}
 use Rattle.seat_programs.specs.Ticks.{Moment, IsAnswered, taken, ticked}
-use Rattle.sock_runs.specs.May.{May}
-use Rattle.sock_runs.specs.Rows.{row, hand_at, new_claim, filled_claim, ready_claim, by_claim, exchanged}
-use Rattle.sock_runs.specs.Sound.{Sound, first_step, views_after}
-use Rattle.sock_runs.proofs.Cases.{with_rights}
-use Rattle.outcome_causes.specs.Causes.{WasGiven}
-use Rattle.outcome_causes.specs.Kept.{Story}
-use Rattle.outcome_causes.specs.Stories.{Event, In, last_name}
-use Rattle.outcome_causes.proofs.Events.{event, marked_given, given_by, last_some}
-use Rattle.outcome_causes.proofs.Means.{held_given}
-use Rattle.outcome_causes.proofs.Tests.{split}
+use Rattle.outcome_causes.specs.program_steps.specs.May.{May}
+use Rattle.outcome_causes.specs.program_steps.specs.Rows.{row, hand_at, new_claim, filled_claim, ready_claim, by_claim, exchanged}
+use Rattle.outcome_causes.specs.program_steps.specs.Sound.{Sound, first_step, views_after}
+use Rattle.outcome_causes.specs.program_steps.proofs.Cases.{with_rights}
+use Rattle.outcome_causes.specs.outcome_stories.specs.Causes.{WasGiven}
+use Rattle.outcome_causes.specs.outcome_stories.specs.Kept.{Story}
+use Rattle.outcome_causes.specs.outcome_stories.specs.Stories.{Event, In, last_name}
+use Rattle.outcome_causes.specs.outcome_ticks.proofs.Events.{event, marked_given, given_by, last_some}
+use Rattle.outcome_causes.specs.outcome_ticks.proofs.Means.{held_given}
+use Rattle.outcome_causes.specs.outcome_stories.proofs.Tests.{split}
 use Rattle.label_runs.specs.Labels.{FindsLabel}
 use Rattle.send_causes.specs.EndedCalls.{Load, loads_by, loaded_with, loaded_at, Store, stores_by, stored_at}
 use Rattle.send_causes.proofs.Words.{finds_label, makes_new}
-use Rattle.outcome_causes.proofs.HomeCalls.{AreCalls, PutsAsked, calls_behind}
+use Rattle.outcome_causes.specs.outcome_stories.proofs.HomeCalls.{AreCalls, PutsAsked, calls_behind}
 use Rattle.send_causes.proofs.Ticks.{few_more, few_of, calls_waiting, fits_as, pairs_set}
 use Rattle.call_causes.proofs.Chains.{AreFewTries as AreTries}
 use Rattle.send_causes.proofs.Views.{row_same}
 use Rattle.send_causes.proofs.EndedTrails.{Of, NoCall, Makes, Knows, Trail, lost, Stays, IsAtOf, IsOwnStore, MayAttempt, GoesDo, GoesAside, Follows}
 use Rattle.send_causes.proofs.SeatFacts.{seat_facts, tick_moves}
 use Rattle.send_causes.proofs.EndedPrograms.{follows_round, block_goes, retry_goes}
-use Rattle.report_fits.proofs.Lists.{all_map}
+use Rattle.call_causes.specs.owed_calls.specs.script_facts.proofs.Lists.{all_map}
 
 -- ## First steps
 

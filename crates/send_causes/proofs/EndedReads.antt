@@ -15,13 +15,13 @@ use Rattle.seat_programs.specs.Posts.{packed, is_first, is_stale, is_full, judge
 use Rattle.seat_programs.specs.Readers.{LIMIT, last_of, ended_by, read_on, took, discarded, posted_last, post_each, thrown_away, read, reader}
 use Rattle.seat_programs.specs.Rounds.{round}
 use Rattle.seat_programs.specs.Cores.{resolved, next_step}
-use Rattle.sock_runs.specs.Sound.{first_step}
-use Rattle.outcome_causes.specs.Stories.{In}
+use Rattle.outcome_causes.specs.program_steps.specs.Sound.{first_step}
+use Rattle.outcome_causes.specs.outcome_stories.specs.Stories.{In}
 use Rattle.outcome_causes.proofs.Plain.{in_left}
 use Rattle.run_theorems.specs.Heard.{bytes_found, given_by}
-use Rattle.sock_runs.proofs.Through.{PassesLocked, PassesWords, is_of_id, is_of_lock, through_set_failed}
-use Rattle.sock_runs.proofs.ThroughLoops.{through_unlocks, through_decides, through_locks, through_joins, through_answer, through_responses, through_opens}
-use Rattle.sock_runs.proofs.ThroughCalls.{through_posted_last, through_read_end}
+use Rattle.outcome_causes.specs.program_walks.proofs.Through.{PassesLocked, PassesWords, is_of_id, is_of_lock, through_set_failed}
+use Rattle.outcome_causes.specs.program_walks.proofs.ThroughLoops.{through_unlocks, through_decides, through_locks, through_joins, through_answer, through_responses, through_opens}
+use Rattle.outcome_causes.specs.program_walks.proofs.ThroughCalls.{through_posted_last, through_read_end}
 use Rattle.brpc_model.specs.Causes.{HasFault}
 use Rattle.call_causes.proofs.Streams.{faults_more, faults_follow, tied_more}
 use Rattle.send_causes.proofs.Closers.{gave_more, gave_none, last_in}

@@ -9,12 +9,12 @@ use Rattle.seat_programs.specs.Asides.{Taking, Bytes}
 use Rattle.seat_programs.specs.Beside.{at_last, taking_in}
 use Rattle.seat_programs.specs.Cores.{Core, SeatState}
 use Rattle.seat_programs.specs.Ticks.{Answer, Unasked, OfPut, OfReady, OfTake, Moment, AreAnswered, taken, ticked, run}
-use Rattle.sock_runs.specs.Sound.{Sound, AreFitting, views_after}
-use Rattle.sock_runs.proofs.Along.{place_inside}
-use Rattle.sock_runs.proofs.LinkTicks.{RetriesGo}
-use Rattle.sock_runs.proofs.Recorded.{Recorded, recorded_ticks}
-use Rattle.sock_runs.proofs.Ticks.{sound_ticks}
-use Rattle.outcome_causes.specs.Stories.{In}
+use Rattle.outcome_causes.specs.program_steps.specs.Sound.{Sound, AreFitting, views_after}
+use Rattle.outcome_causes.specs.sock_runs.proofs.Along.{place_inside}
+use Rattle.outcome_causes.specs.sock_runs.proofs.LinkTicks.{RetriesGo}
+use Rattle.outcome_causes.specs.program_walks.proofs.Recorded.{Recorded, recorded_ticks}
+use Rattle.outcome_causes.specs.sock_runs.proofs.Ticks.{sound_ticks}
+use Rattle.outcome_causes.specs.outcome_stories.specs.Stories.{In}
 use Rattle.outcome_causes.proofs.Plain.{in_left, in_right, in_both}
 use Rattle.run_theorems.specs.Heard.{as_taken, bytes_found, taken_link, taken_at, taken_in, given_by}
 use Rattle.run_theorems.proofs.HeardRuns.{taken_append}

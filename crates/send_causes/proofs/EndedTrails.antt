@@ -8,7 +8,7 @@ use Rattle.seat_programs.specs.Asides.{Step, Found, PutCall, MakeId, StoreCall, 
 use Rattle.seat_programs.specs.Calls.{Call, LoadName, FindLink, ClaimRequest, PutMessage}
 use Rattle.seat_programs.specs.Heads.{Head, Exit, Unlocks}
 use Rattle.seat_programs.specs.Programs.{Program, Aside, Round}
-use Rattle.sock_runs.specs.AtSteps.{Asks, AtSteps}
+use Rattle.outcome_causes.specs.program_steps.specs.AtSteps.{Asks, AtSteps}
 use Rattle.label_runs.specs.Labels.{FindsLabel, AtLabel, LeavesLabel}
 
 -- of which call the seat knows the id: none; it made this id, and stores the word of its call next; or that of this operation

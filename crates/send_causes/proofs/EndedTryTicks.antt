@@ -25,15 +25,15 @@ use Rattle.seat_programs.specs.Heads.{Retry}
 use Rattle.seat_programs.specs.Programs.{Program, Do, Say, Sent, Rest, TakeMessage, TakeHome, PutHome, PutBytes, AskReady, Aside, Keep, Retries}
 use Rattle.seat_programs.specs.Cores.{Calls, Core, SeatState, word_of, found_at, words_after, word_after, homes_after, hand_after, lies_at, first_of, others_of, link_place, resolved, still_waiting, waiting_at, next_step, with_seat}
 use Rattle.seat_programs.specs.Ticks.{Moment, IsAnswered, fed, with_places, onto_first, taken, step_with, tick_with, ticked}
-use Rattle.sock_runs.specs.Sound.{Sound, first_step}
-use Rattle.outcome_causes.specs.Stories.{In}
-use Rattle.outcome_causes.proofs.Cases.{tick_cases}
+use Rattle.outcome_causes.specs.program_steps.specs.Sound.{Sound, first_step}
+use Rattle.outcome_causes.specs.outcome_stories.specs.Stories.{In}
+use Rattle.outcome_causes.specs.outcome_stories.proofs.Cases.{tick_cases}
 use Rattle.label_runs.specs.Labels.{Trial, Idle, Tries, put_behind, Kept, Storing, unlocked_trial, Labels}
 use Rattle.send_causes.specs.Counts.{pair_of, of_retry, with_waiting, WasMade, WasNow, StoresOwn}
 use Rattle.send_causes.specs.EndedCalls.{Store, stores_by, stored_at}
 use Rattle.send_causes.proofs.Words.{made_on, finds_label, words_forward, makes_new, advances_new}
 use Rattle.send_causes.proofs.Readings.{ticks_first}
-use Rattle.outcome_causes.proofs.HomeCalls.{AreCalls, PutsAsked, calls_behind}
+use Rattle.outcome_causes.specs.outcome_stories.proofs.HomeCalls.{AreCalls, PutsAsked, calls_behind}
 use Rattle.send_causes.proofs.Ticks.{few_more, few_of, calls_waiting, fits_as, pair_now, untried, waiting_set, once_more, old_or_new, pairs_set, labels_first}
 use Rattle.call_causes.proofs.Chains.{AreFewTries as AreTries}
 use Rattle.label_runs.proofs.Programs.{retry_goes}

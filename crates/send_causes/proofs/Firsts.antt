@@ -10,8 +10,8 @@ use Rattle.sock_model.specs.Memory.{IDLE}
 use Rattle.sock_steps.proofs.Quiet.{either_way}
 use Rattle.sock_message.specs.Asked.{Asked, frame_of}
 use Rattle.brpc_model.specs.Order.{EachBefore}
-use Rattle.outcome_causes.specs.PlainTasks.{OwnsCall}
-use Rattle.outcome_causes.proofs.Seats.{Less}
+use Rattle.outcome_causes.specs.outcome_stories.specs.PlainTasks.{OwnsCall}
+use Rattle.outcome_causes.specs.outcome_ticks.proofs.Seats.{Less}
 use Rattle.seat_programs.specs.declared.task.Op.{Op}
 use Rattle.seat_programs.specs.declared.task.Task.{Task}
 use Rattle.seat_programs.specs.declared.task.Sizes.{Sizes}
@@ -25,14 +25,14 @@ use Rattle.seat_programs.specs.Rounds.{round}
 use Rattle.seat_programs.specs.Readers.{reader}
 use Rattle.seat_programs.specs.Clients.{HeldLife, operation, client_from, ending_of}
 use Rattle.seat_programs.specs.Cores.{resolved, still_waiting, next_step}
-use Rattle.sock_runs.specs.AtSteps.{Asks, AtSteps, asks_words}
-use Rattle.sock_runs.specs.Sound.{first_step}
-use Rattle.sock_runs.proofs.AtCalls.{every_exit}
-use Rattle.sock_runs.proofs.Through.{PassesPlain, PassesFails, PassesLinks, PassesReads, any_end, is_of_message, others_plain, others_failing, others_make, reads_any, at_steps_plain, at_steps_links, through_release, through_address, through_reach, through_set_failed, through_fail}
-use Rattle.sock_runs.proofs.ThroughLoops.{through_post, through_round}
-use Rattle.sock_runs.proofs.ThroughSends.{through_block, through_write_link, through_ending}
-use Rattle.sock_runs.proofs.ThroughCalls.{through_call, through_retry, through_join, through_reading}
-use Rattle.sock_runs.proofs.ThroughClients.{through_open, through_back, through_operation}
+use Rattle.outcome_causes.specs.program_steps.specs.AtSteps.{Asks, AtSteps, asks_words}
+use Rattle.outcome_causes.specs.program_steps.specs.Sound.{first_step}
+use Rattle.outcome_causes.specs.program_steps.proofs.AtCalls.{every_exit}
+use Rattle.outcome_causes.specs.program_walks.proofs.Through.{PassesPlain, PassesFails, PassesLinks, PassesReads, any_end, is_of_message, others_plain, others_failing, others_make, reads_any, at_steps_plain, at_steps_links, through_release, through_address, through_reach, through_set_failed, through_fail}
+use Rattle.outcome_causes.specs.program_walks.proofs.ThroughLoops.{through_post, through_round}
+use Rattle.outcome_causes.specs.program_walks.proofs.ThroughSends.{through_block, through_write_link, through_ending}
+use Rattle.outcome_causes.specs.program_walks.proofs.ThroughCalls.{through_call, through_retry, through_join, through_reading}
+use Rattle.outcome_causes.specs.program_walks.proofs.ThroughClients.{through_open, through_back, through_operation}
 
 -- the number from which on the operations are free behind this message
 abbrev pub behind : Heading → ℕ → ℕ

@@ -13,7 +13,7 @@ use Rattle.seat_programs.specs.Asides.{StoreCall}
 use Rattle.seat_programs.specs.Calls.{Call}
 use Rattle.seat_programs.specs.Cores.{SeatState}
 use Rattle.seat_programs.specs.Programs.{Program, Do, Aside}
-use Rattle.sock_runs.specs.Sound.{first_step}
+use Rattle.outcome_causes.specs.program_steps.specs.Sound.{first_step}
 use Rattle.call_causes.specs.Scenes.{Scene, In, Named, IsTaskOf, HasNoneOf, NoneFound, ToldOf, was_said, was_sent, was_begun, AreTold, Later}
 use Rattle.call_causes.specs.Says.{Mark, NoneOfSetup, SaysOn}
 use Rattle.call_causes.specs.Stories.{At, undo, CallStory}

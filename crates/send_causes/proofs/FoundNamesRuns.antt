@@ -11,8 +11,8 @@ use Rattle.seat_programs.specs.declared.task.Task.{Task}
 use Rattle.seat_programs.specs.Calls.{LoadName}
 use Rattle.seat_programs.specs.Cores.{Core, SeatState}
 use Rattle.seat_programs.specs.Ticks.{Moment, AreAnswered, ticked, run}
-use Rattle.sock_runs.specs.Sound.{first_step, views_after}
-use Rattle.outcome_causes.proofs.Ticks.{elem_there}
+use Rattle.outcome_causes.specs.program_steps.specs.Sound.{first_step, views_after}
+use Rattle.outcome_causes.specs.outcome_ticks.proofs.Ticks.{elem_there}
 use Rattle.call_causes.specs.joint_runs.proofs.Both.{AreBoth}
 use Rattle.call_causes.specs.Lists.{advanced_at}
 use Rattle.call_causes.specs.Posts.{Post, posted_at}

@@ -19,13 +19,13 @@ use Rattle.seat_programs.specs.Tasks.{opens, calls, plan_of, id_plan_of}
 use Rattle.seat_programs.specs.Told.{IsTask, OpensNone}
 use Rattle.seat_programs.specs.ToldCalls.{Fixed, Order, Seeks, FoundNone, WhyLost, WasUnopened}
 use Rattle.seat_programs.specs.Scripts.{sizes_of, readers_from, all_tasks, opened, ending, set_up, played, is_ending, IsRunWithCalls}
-use Rattle.sock_runs.specs.Sound.{AllRest, views_along}
-use Rattle.sock_runs.proofs.Quiets.{run_rests}
-use Rattle.sock_runs.proofs.Whole.{views_played, views_closed}
+use Rattle.outcome_causes.specs.program_steps.specs.Sound.{AllRest, views_along}
+use Rattle.outcome_causes.specs.sock_runs.proofs.Quiets.{run_rests}
+use Rattle.outcome_causes.specs.program_walks.proofs.Whole.{views_played, views_closed}
 use Rattle.call_causes.specs.joint_runs.proofs.Both.{behind_both}
 use Rattle.call_causes.specs.joint_runs.proofs.Runs.{AreMade, first_views, joint_runs}
-use Rattle.report_fits.proofs.Reading.{InRange}
-use Rattle.report_fits.proofs.Targets.{AreThere}
+use Rattle.call_causes.specs.owed_calls.specs.script_facts.proofs.Reading.{InRange}
+use Rattle.call_causes.specs.owed_calls.specs.script_facts.proofs.Targets.{AreThere}
 use Rattle.call_causes.specs.owed_calls.specs.Lives.{ClosesInRun}
 use Rattle.call_causes.specs.owed_calls.proofs.Known.{run_all_ended, run_all_rest}
 use Rattle.call_causes.specs.Lists.{given}

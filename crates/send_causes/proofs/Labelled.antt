@@ -14,9 +14,9 @@ use Rattle.seat_programs.specs.Cores.{Core}
 use Rattle.seat_programs.specs.Ticks.{Moment, quiet, ticked, run}
 use Rattle.seat_programs.specs.Tasks.{opens, calls, plan_of, id_plan_of}
 use Rattle.seat_programs.specs.Scripts.{all_tasks, opened, set_up, played, IsRunWithCalls}
-use Rattle.sock_runs.specs.Sound.{first_step, views_along}
-use Rattle.sock_runs.proofs.Quiets.{run_seats}
-use Rattle.sock_runs.proofs.Whole.{closing_of, views_played, views_closed}
+use Rattle.outcome_causes.specs.program_steps.specs.Sound.{first_step, views_along}
+use Rattle.outcome_causes.specs.sock_runs.proofs.Quiets.{run_seats}
+use Rattle.outcome_causes.specs.program_walks.proofs.Whole.{closing_of, views_played, views_closed}
 use Rattle.call_causes.specs.joint_runs.proofs.Both.{AreBoth, behind_both}
 use Rattle.call_causes.specs.joint_runs.proofs.Runs.{AreMade, first_views, joint_runs}
 use Rattle.call_causes.specs.owed_calls.specs.Owns.{Grows, Behind, Other, IsIdOf, Owns, Owned}

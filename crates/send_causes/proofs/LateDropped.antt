@@ -19,12 +19,12 @@ use Rattle.seat_programs.specs.Tasks.{opens, plan_of}
 use Rattle.seat_programs.specs.Ticks.{Moment, quiet}
 use Rattle.seat_programs.specs.Scripts.{all_tasks, played, IsRunWithCalls}
 use Rattle.seat_programs.specs.ToldCalls.{Accepted, label, IsFailing}
-use Rattle.sock_runs.specs.Sound.{state, Sound, AreFew}
-use Rattle.sock_runs.proofs.Along.{seat_rests, place_inside}
-use Rattle.sock_runs.proofs.Whole.{closing_of, views_played, views_closed, views_ended, end_answered, played_sound, closing_sound, closed_sound, ended_sound, rested_ahead, rested_idle}
-use Rattle.outcome_causes.specs.Facts.{late_links_of_run}
-use Rattle.outcome_causes.specs.Stories.{In}
-use Rattle.outcome_causes.proofs.Members.{get_there, in_contains}
+use Rattle.outcome_causes.specs.program_steps.specs.Sound.{state, Sound, AreFew}
+use Rattle.outcome_causes.specs.sock_runs.proofs.Along.{seat_rests, place_inside}
+use Rattle.outcome_causes.specs.program_walks.proofs.Whole.{closing_of, views_played, views_closed, views_ended, end_answered, played_sound, closing_sound, closed_sound, ended_sound, rested_ahead, rested_idle}
+use Rattle.outcome_causes.specs.outcome_stories.specs.Facts.{late_links_of_run}
+use Rattle.outcome_causes.specs.outcome_stories.specs.Stories.{In}
+use Rattle.outcome_causes.specs.outcome_stories.proofs.Members.{get_there, in_contains}
 use Rattle.call_causes.specs.joint_runs.proofs.Both.{AreBounded}
 use Rattle.call_causes.specs.joint_runs.proofs.Runs.{AreMade, first_views, joint_runs, joint_bounded}
 use Rattle.call_causes.specs.owed_calls.specs.Lives.{ClosesInRun}
@@ -38,7 +38,7 @@ use Rattle.send_causes.proofs.LateRests.{none_stands, ended_idle}
 use Rattle.send_causes.proofs.LateLives.{WasPast}
 use Rattle.send_causes.proofs.Sends.{orders_are}
 use Rattle.sock_steps.proofs.Positions.{on_shorter}
-use Rattle.sock_runs.specs.Lasts.{MOST_TICKS}
+use Rattle.outcome_causes.specs.program_steps.specs.Lasts.{MOST_TICKS}
 
 -- a place word tells that the message at this position of the link was dropped: then the link had failed
 failed_here : (p : Plan) (c : Core) (vs : List View) (sound : Sound p c vs) → AreFew vs → (l k position : ℕ) → l < 8 * p.operations → k < p.links → position < 2147483648 → get_or c.words (place_index p l) 0 ≡ place_value true k position → Failed p (state c vs) k
@@ -135,4 +135,4 @@ module _ (script : List Item) (made : AreMade script) (turns : List Turn) (core 
 
         place_low : (orders_here script made turns core is closes k).placed < 2147483648
         place_low = let b = joint_bounded script turns core is made (joint_runs script turns core is made) in let over_ = b.over in
-            let s = log_small (plan_of script) core (views_ended script turns core is (first_views script)) sound over_.few in let o = on_shorter k sound.lawful.log in let m = length-map (on k sound.lawful.log) Rattle.outcome_causes.proofs.Delivered.accepted_of in omega (arith, s, o, m, less)
+            let s = log_small (plan_of script) core (views_ended script turns core is (first_views script)) sound over_.few in let o = on_shorter k sound.lawful.log in let m = length-map (on k sound.lawful.log) Rattle.outcome_causes.specs.outcome_stories.proofs.Delivered.accepted_of in omega (arith, s, o, m, less)

@@ -8,8 +8,8 @@ use native.Mathlib.Decide.{ℕ_discrete}
 use lib.ListN.{get_elem?}
 use Rattle.brpc_model.specs.Items.{Item}
 use Rattle.brpc_model.specs.Operations.{Turn}
-use Rattle.report_fits.proofs.Reading.{InRange}
-use Rattle.report_fits.proofs.Targets.{AreThere}
+use Rattle.call_causes.specs.owed_calls.specs.script_facts.proofs.Reading.{InRange}
+use Rattle.call_causes.specs.owed_calls.specs.script_facts.proofs.Targets.{AreThere}
 use Rattle.sock_words.specs.Words.{socket_id, socket_id_slot, socket_id_version}
 use Rattle.sock_model.specs.declared.chain.Heading.{Heading}
 use Rattle.sock_model.specs.Layout.{open_index}
@@ -21,10 +21,10 @@ use Rattle.seat_programs.specs.Cores.{Core}
 use Rattle.seat_programs.specs.Tasks.{opens, plan_of, id_plan_of}
 use Rattle.seat_programs.specs.Scripts.{all_tasks, IsRunWithCalls}
 use Rattle.seat_programs.specs.Writings.{Holder, Puts}
-use Rattle.outcome_causes.specs.Causes.{WasGiven}
-use Rattle.outcome_causes.specs.PlainTasks.{told_tasks_of}
-use Rattle.outcome_causes.specs.Stories.{In}
-use Rattle.outcome_causes.proofs.Members.{all_in, in_contains}
+use Rattle.outcome_causes.specs.outcome_stories.specs.Causes.{WasGiven}
+use Rattle.outcome_causes.specs.outcome_stories.specs.PlainTasks.{told_tasks_of}
+use Rattle.outcome_causes.specs.outcome_stories.specs.Stories.{In}
+use Rattle.outcome_causes.specs.outcome_stories.proofs.Members.{all_in, in_contains}
 use Rattle.call_causes.specs.joint_runs.proofs.Runs.{AreMade}
 use Rattle.call_causes.specs.owed_calls.specs.Lives.{ClosesInRun}
 use Rattle.call_causes.specs.Decided.{posted_by}

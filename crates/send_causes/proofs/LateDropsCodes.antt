@@ -17,15 +17,15 @@ use Rattle.seat_programs.specs.Cores.{Core, SeatState, word_of, found_at}
 use Rattle.seat_programs.specs.Programs.{Program, Do, Rest, NO_SOCKET}
 use Rattle.seat_programs.specs.Readers.{reader}
 use Rattle.seat_programs.specs.Ticks.{Moment, IsAnswered, ticked}
-use Rattle.sock_runs.specs.GoesOn.{GoesOn}
-use Rattle.sock_runs.specs.May.{May}
-use Rattle.sock_runs.specs.Sound.{state, Sound, IsFitting, first_step, views_after}
-use Rattle.sock_runs.proofs.Cases.{goes_first}
-use Rattle.sock_runs.proofs.LinkTicks.{RetriesGo}
-use Rattle.sock_runs.proofs.Passes.{goes_round}
-use Rattle.sock_runs.proofs.Recorded.{Recorded}
-use Rattle.sock_runs.proofs.Rounds.{begins_round}
-use Rattle.outcome_causes.proofs.Cases.{tick_cases}
+use Rattle.outcome_causes.specs.program_steps.specs.GoesOn.{GoesOn}
+use Rattle.outcome_causes.specs.program_steps.specs.May.{May}
+use Rattle.outcome_causes.specs.program_steps.specs.Sound.{state, Sound, IsFitting, first_step, views_after}
+use Rattle.outcome_causes.specs.program_steps.proofs.Cases.{goes_first}
+use Rattle.outcome_causes.specs.sock_runs.proofs.LinkTicks.{RetriesGo}
+use Rattle.outcome_causes.specs.program_steps.proofs.Passes.{goes_round}
+use Rattle.outcome_causes.specs.program_walks.proofs.Recorded.{Recorded}
+use Rattle.outcome_causes.specs.program_steps.proofs.Rounds.{begins_round}
+use Rattle.outcome_causes.specs.outcome_stories.proofs.Cases.{tick_cases}
 use Rattle.call_causes.specs.Decided.{is_late_step, late_at}
 use Rattle.send_causes.specs.Refused.{DidStep, DidAt}
 use Rattle.send_causes.proofs.Closers.{Ends, Calm, calm_first, stores_code}

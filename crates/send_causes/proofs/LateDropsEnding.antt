@@ -17,17 +17,17 @@ use Rattle.seat_programs.specs.Programs.{Program, Do}
 use Rattle.seat_programs.specs.Tasks.{plan_of}
 use Rattle.seat_programs.specs.Ticks.{Moment, AreAnswered, ticked, run}
 use Rattle.seat_programs.specs.Scripts.{IsRunWithCalls}
-use Rattle.sock_runs.specs.GoesOn.{GoesOn}
-use Rattle.sock_runs.specs.May.{May}
-use Rattle.sock_runs.specs.Sound.{Sound, AreFitting, first_step, views_after, views_along}
-use Rattle.sock_runs.proofs.Along.{place_inside}
-use Rattle.sock_runs.proofs.Cases.{goes_first}
-use Rattle.sock_runs.proofs.LinksStay.{IsGiven, run_given}
-use Rattle.sock_runs.proofs.LinkTicks.{RetriesGo}
-use Rattle.sock_runs.proofs.Passes.{goes_round}
-use Rattle.sock_runs.proofs.Rounds.{begins_round}
-use Rattle.sock_runs.proofs.Ticks.{sound_ticks}
-use Rattle.sock_runs.proofs.Whole.{views_closed, views_ended, closed_sound}
+use Rattle.outcome_causes.specs.program_steps.specs.GoesOn.{GoesOn}
+use Rattle.outcome_causes.specs.program_steps.specs.May.{May}
+use Rattle.outcome_causes.specs.program_steps.specs.Sound.{Sound, AreFitting, first_step, views_after, views_along}
+use Rattle.outcome_causes.specs.sock_runs.proofs.Along.{place_inside}
+use Rattle.outcome_causes.specs.program_steps.proofs.Cases.{goes_first}
+use Rattle.outcome_causes.specs.sock_runs.proofs.LinksStay.{IsGiven, run_given}
+use Rattle.outcome_causes.specs.sock_runs.proofs.LinkTicks.{RetriesGo}
+use Rattle.outcome_causes.specs.program_steps.proofs.Passes.{goes_round}
+use Rattle.outcome_causes.specs.program_steps.proofs.Rounds.{begins_round}
+use Rattle.outcome_causes.specs.sock_runs.proofs.Ticks.{sound_ticks}
+use Rattle.outcome_causes.specs.program_walks.proofs.Whole.{views_closed, views_ended, closed_sound}
 use Rattle.call_causes.specs.joint_runs.proofs.Runs.{AreMade, first_views}
 use Rattle.send_causes.specs.Refused.{DidStep, DidAt, DidIn}
 use Rattle.send_causes.proofs.Early.{start, go, fitting}

@@ -12,11 +12,11 @@ use Rattle.sock_message.specs.Asked.{Asked}
 use Rattle.seat_programs.specs.Posts.{WHOLE}
 use Rattle.seat_programs.specs.Cores.{Core}
 use Rattle.seat_programs.specs.Ticks.{Moment}
-use Rattle.sock_runs.specs.Sound.{Sound}
-use Rattle.outcome_causes.specs.Stories.{In}
+use Rattle.outcome_causes.specs.program_steps.specs.Sound.{Sound}
+use Rattle.outcome_causes.specs.outcome_stories.specs.Stories.{In}
 use Rattle.call_causes.specs.Posts.{Post, posted_at}
 use Rattle.send_causes.specs.Refused.{Deed, Charge, NoCharge, IsRefused, HasDropped, Doing, IsChargeOf, IsPostOf, IsDrop, ChargeFits, ChargeLaw}
-use Rattle.outcome_causes.proofs.HomeCalls.{AreCalls}
+use Rattle.outcome_causes.specs.outcome_stories.proofs.HomeCalls.{AreCalls}
 use Rattle.send_causes.proofs.RefusedTicks.{Then}
 use Rattle.send_causes.proofs.RefusedPosts.{tick_posts}
 

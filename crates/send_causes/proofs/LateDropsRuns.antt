@@ -15,13 +15,13 @@ use Rattle.seat_programs.specs.Asides.{Taking}
 use Rattle.seat_programs.specs.Calls.{LoadCode}
 use Rattle.seat_programs.specs.Cores.{Core, SeatState}
 use Rattle.seat_programs.specs.Ticks.{Moment, AreAnswered, IsAnswered, quiet, ticked, run}
-use Rattle.sock_runs.specs.Sound.{Sound, AreFitting, IsFitting, first_step, views_after, views_along}
-use Rattle.sock_runs.proofs.LinkTicks.{RetriesGo}
-use Rattle.sock_runs.proofs.OpensStay.{run_word}
-use Rattle.sock_runs.proofs.Recorded.{Recorded, recorded_ticks}
-use Rattle.sock_runs.proofs.Ticks.{sound_ticks}
-use Rattle.outcome_causes.specs.Stories.{In}
-use Rattle.outcome_causes.proofs.Members.{all_in}
+use Rattle.outcome_causes.specs.program_steps.specs.Sound.{Sound, AreFitting, IsFitting, first_step, views_after, views_along}
+use Rattle.outcome_causes.specs.sock_runs.proofs.LinkTicks.{RetriesGo}
+use Rattle.outcome_causes.specs.program_walks.proofs.OpensStay.{run_word}
+use Rattle.outcome_causes.specs.program_walks.proofs.Recorded.{Recorded, recorded_ticks}
+use Rattle.outcome_causes.specs.sock_runs.proofs.Ticks.{sound_ticks}
+use Rattle.outcome_causes.specs.outcome_stories.specs.Stories.{In}
+use Rattle.outcome_causes.specs.outcome_stories.proofs.Members.{all_in}
 use Rattle.outcome_causes.proofs.Plain.{in_left, in_right, in_both}
 use Rattle.call_causes.specs.Decided.{posted_by, is_late_step, late_at, late_in, posted_behind}
 use Rattle.call_causes.specs.Lists.{shows_in}

@@ -19,12 +19,12 @@ use Rattle.seat_programs.specs.Cores.{Core}
 use Rattle.seat_programs.specs.Tasks.{opens, calls, plan_of, id_plan_of}
 use Rattle.seat_programs.specs.Ticks.{Moment, AreAnswered, quiet, ticked, run}
 use Rattle.seat_programs.specs.Scripts.{all_tasks, opened, set_up, played, IsRunWithCalls}
-use Rattle.sock_runs.specs.Sound.{Sound, AreFitting, views_along}
-use Rattle.sock_runs.proofs.Along.{seat_rests}
-use Rattle.sock_runs.proofs.OpensStay.{run_word}
-use Rattle.sock_runs.proofs.Recorded.{Recorded}
-use Rattle.sock_runs.proofs.Whole.{IsListed, closing_of, views_played, views_closed, set_up_answered, end_answered, set_up_sound, closing_sound, closed_sound, closed_ahead, recorded_opened, recorded_set_up, recorded_closing, recorded_closed}
-use Rattle.outcome_causes.specs.Stories.{In}
+use Rattle.outcome_causes.specs.program_steps.specs.Sound.{Sound, AreFitting, views_along}
+use Rattle.outcome_causes.specs.sock_runs.proofs.Along.{seat_rests}
+use Rattle.outcome_causes.specs.program_walks.proofs.OpensStay.{run_word}
+use Rattle.outcome_causes.specs.program_walks.proofs.Recorded.{Recorded}
+use Rattle.outcome_causes.specs.program_walks.proofs.Whole.{IsListed, closing_of, views_played, views_closed, set_up_answered, end_answered, set_up_sound, closing_sound, closed_sound, closed_ahead, recorded_opened, recorded_set_up, recorded_closing, recorded_closed}
+use Rattle.outcome_causes.specs.outcome_stories.specs.Stories.{In}
 use Rattle.outcome_causes.proofs.Plain.{in_left, in_right, in_both}
 use Rattle.call_causes.specs.programs_allowed.proofs.Beginning as clients_begin
 use Rattle.call_causes.specs.joint_runs.proofs.Runs.{AreMade, first_views}

@@ -26,24 +26,24 @@ use Rattle.seat_programs.specs.Cores.{Core, SeatState, word_of, word_after, foun
 use Rattle.seat_programs.specs.Tasks.{opens, plan_of}
 use Rattle.seat_programs.specs.Ticks.{Moment, IsAnswered, AreAnswered, quiet, ticked, run}
 use Rattle.seat_programs.specs.Scripts.{played, IsRunWithCalls}
-use Rattle.sock_runs.specs.Rows.{row, hand_at}
-use Rattle.sock_runs.specs.Sound.{state, Sound, first_step, IsFitting, AreFitting, views_after, views_along}
-use Rattle.sock_runs.proofs.Along.{place_inside, seat_rests}
-use Rattle.sock_runs.proofs.Bounds.{law, lives_le}
-use Rattle.sock_runs.proofs.Cases.{ComesNext, with_rights, tick_keeps_marks}
-use Rattle.sock_runs.proofs.Closing.{Fails, fails_ending, what_fails}
-use Rattle.sock_runs.proofs.LinkNotes.{links_only}
-use Rattle.sock_runs.proofs.LinksStay.{IsGiven, run_given}
-use Rattle.sock_runs.proofs.LinkTicks.{RetriesGo}
-use Rattle.sock_runs.proofs.Notes.{bears}
-use Rattle.sock_runs.proofs.Passes.{goes_round}
-use Rattle.sock_runs.proofs.Quiets.{run_seats}
-use Rattle.sock_runs.proofs.Records.{stores, next_stores, opens_same}
-use Rattle.sock_runs.proofs.Recorded.{Recorded, IsPending}
-use Rattle.sock_runs.proofs.Rounds.{begins_round}
-use Rattle.sock_runs.proofs.Ticks.{sound_ticks}
-use Rattle.sock_runs.proofs.Versions.{versions_on, odd_past}
-use Rattle.sock_runs.proofs.Whole.{closing_of, views_played, views_closed, end_answered, closing_sound, rested_ahead, recorded_closing, closed_ahead}
+use Rattle.outcome_causes.specs.program_steps.specs.Rows.{row, hand_at}
+use Rattle.outcome_causes.specs.program_steps.specs.Sound.{state, Sound, first_step, IsFitting, AreFitting, views_after, views_along}
+use Rattle.outcome_causes.specs.sock_runs.proofs.Along.{place_inside, seat_rests}
+use Rattle.outcome_causes.specs.program_steps.proofs.Bounds.{law, lives_le}
+use Rattle.outcome_causes.specs.program_steps.proofs.Cases.{ComesNext, with_rights, tick_keeps_marks}
+use Rattle.outcome_causes.specs.program_walks.proofs.Closing.{Fails, fails_ending, what_fails}
+use Rattle.outcome_causes.specs.sock_runs.proofs.LinkNotes.{links_only}
+use Rattle.outcome_causes.specs.sock_runs.proofs.LinksStay.{IsGiven, run_given}
+use Rattle.outcome_causes.specs.sock_runs.proofs.LinkTicks.{RetriesGo}
+use Rattle.outcome_causes.specs.sock_runs.proofs.Notes.{bears}
+use Rattle.outcome_causes.specs.program_steps.proofs.Passes.{goes_round}
+use Rattle.outcome_causes.specs.sock_runs.proofs.Quiets.{run_seats}
+use Rattle.outcome_causes.specs.program_walks.proofs.Records.{stores, next_stores, opens_same}
+use Rattle.outcome_causes.specs.program_walks.proofs.Recorded.{Recorded, IsPending}
+use Rattle.outcome_causes.specs.program_steps.proofs.Rounds.{begins_round}
+use Rattle.outcome_causes.specs.sock_runs.proofs.Ticks.{sound_ticks}
+use Rattle.outcome_causes.specs.sock_runs.proofs.Versions.{versions_on, odd_past}
+use Rattle.outcome_causes.specs.program_walks.proofs.Whole.{closing_of, views_played, views_closed, end_answered, closing_sound, rested_ahead, recorded_closing, closed_ahead}
 use Rattle.call_causes.specs.joint_runs.proofs.Runs.{AreMade, first_views}
 use Rattle.send_causes.proofs.Early.{start, go, fitting}
 use Rattle.send_causes.proofs.Rests.{many, aside}
@@ -150,7 +150,7 @@ module _ (p : Plan) (retries : RetriesGo p) where
       makes : MakesEnding c
       fails : (seat : SeatState) → get_elem? c.seats 0 ≡ some seat → IsPast c i h ⊎ Fails o (socket_id h i + 1) seat.program
 
-    passing_step : (c : Core) (vs : List View) (j : ℕ) (v : View) (call : Call) (next : ℕ → Program) → Sound p c vs → get_elem? vs j ≡ some v → Rattle.sock_runs.specs.May.May p v call → IsGiven c vs i h k → get_or c.words (open_index p o) 0 ≡ socket_id h i + 1
+    passing_step : (c : Core) (vs : List View) (j : ℕ) (v : View) (call : Call) (next : ℕ → Program) → Sound p c vs → get_elem? vs j ≡ some v → Rattle.outcome_causes.specs.program_steps.specs.May.May p v call → IsGiven c vs i h k → get_or c.words (open_index p o) 0 ≡ socket_id h i + 1
         → IsPast c i h ⊎ Fails o (socket_id h i + 1) (Do call next)
         → (h < vref_version (get_or (words_after c.words (word_of p call) (word_after call (found_at c.words (word_of p call)))) (ref_index i) 0)) ⊎ Fails o (socket_id h i + 1) (next (found_at c.words (word_of p call)))
     passing_step c vs j v call next sound at may given word x = ⊎_elim (λ past. gone past)
@@ -206,7 +206,7 @@ module _ (script : List Item) (made : AreMade script) (turns : List Turn) (core 
   answered : AreAnswered (plan_of script) (closing_of script turns core is) (replicate is.last (quiet 0))
   answered = end_answered script made.are (first_views script) (start script made turns core is) (go script made turns core is) turns core is (fitting script made turns core is)
 
-  recorded : Recorded (plan_of script) (Rattle.sock_runs.proofs.Whole.IsListed script) (closing_of script turns core is) (views_played script turns core is (first_views script))
+  recorded : Recorded (plan_of script) (Rattle.outcome_causes.specs.program_walks.proofs.Whole.IsListed script) (closing_of script turns core is) (views_played script turns core is (first_views script))
   recorded = recorded_closing script made.are (first_views script) (start script made turns core is) (go script made turns core is) turns core is (fitting script made turns core is)
 
   -- seat 0 as it begins the ending

@@ -23,16 +23,16 @@ use Rattle.seat_programs.specs.Sends.{block}
 use Rattle.seat_programs.specs.Writings.{Writing, Puts}
 use Rattle.seat_programs.specs.Cores.{Core, SeatState, word_of, word_after, found_at, words_after, homes_after}
 use Rattle.seat_programs.specs.Ticks.{Moment, IsAnswered, ticked}
-use Rattle.sock_runs.specs.Rows.{row, hand_at}
-use Rattle.sock_runs.specs.Sound.{state, Sound, first_step, IsFitting, views_after}
-use Rattle.sock_runs.proofs.Cases.{with_rights, tick_keeps_marks}
-use Rattle.sock_runs.proofs.LinkNotes.{links_only, birth_links}
-use Rattle.sock_runs.proofs.LinksStay.{IsGiven, finds_given}
-use Rattle.sock_runs.proofs.Passes.{goes_round}
-use Rattle.sock_runs.proofs.Rounds.{begins_round}
-use Rattle.sock_runs.proofs.Versions.{versions_on, look_holds}
-use Rattle.outcome_causes.specs.Facts.{born_of, born_at}
-use Rattle.outcome_causes.specs.Stories.{In}
+use Rattle.outcome_causes.specs.program_steps.specs.Rows.{row, hand_at}
+use Rattle.outcome_causes.specs.program_steps.specs.Sound.{state, Sound, first_step, IsFitting, views_after}
+use Rattle.outcome_causes.specs.program_steps.proofs.Cases.{with_rights, tick_keeps_marks}
+use Rattle.outcome_causes.specs.sock_runs.proofs.LinkNotes.{links_only, birth_links}
+use Rattle.outcome_causes.specs.sock_runs.proofs.LinksStay.{IsGiven, finds_given}
+use Rattle.outcome_causes.specs.program_steps.proofs.Passes.{goes_round}
+use Rattle.outcome_causes.specs.program_steps.proofs.Rounds.{begins_round}
+use Rattle.outcome_causes.specs.sock_runs.proofs.Versions.{versions_on, look_holds}
+use Rattle.outcome_causes.specs.outcome_stories.specs.Facts.{born_of, born_at}
+use Rattle.outcome_causes.specs.outcome_stories.specs.Stories.{In}
 use Rattle.send_causes.proofs.LateSeats.{Tells}
 
 -- ## Births

@@ -24,15 +24,15 @@ use Rattle.seat_programs.specs.Attempts.{claims_from, heading_for, attempt, retr
 use Rattle.seat_programs.specs.Rounds.{round}
 use Rattle.seat_programs.specs.Clients.{HeldLife, operation, client_from}
 use Rattle.seat_programs.specs.Cores.{resolved, next_step}
-use Rattle.sock_runs.specs.AtSteps.{Asks, AtSteps, asks_words}
-use Rattle.sock_runs.specs.Sound.{first_step}
-use Rattle.sock_runs.proofs.AtCalls.{every_exit}
-use Rattle.sock_runs.proofs.Records.{awaits}
-use Rattle.sock_runs.proofs.Through.{PassesPlain, PassesFails, PassesLinks, PassesReads, any_end, is_of_message, by_errors, others_plain, others_failing, others_make, reads_any, at_steps_plain, at_steps_links, through_release, through_address, through_reach, through_set_failed, through_fail}
-use Rattle.sock_runs.proofs.ThroughLoops.{through_post, through_errors, through_round}
-use Rattle.sock_runs.proofs.ThroughSends.{through_block, through_write_link}
-use Rattle.sock_runs.proofs.ThroughCalls.{through_call, through_retry, through_join, through_reading}
-use Rattle.sock_runs.proofs.ThroughClients.{through_open, through_back, through_operation}
+use Rattle.outcome_causes.specs.program_steps.specs.AtSteps.{Asks, AtSteps, asks_words}
+use Rattle.outcome_causes.specs.program_steps.specs.Sound.{first_step}
+use Rattle.outcome_causes.specs.program_steps.proofs.AtCalls.{every_exit}
+use Rattle.outcome_causes.specs.program_walks.proofs.Records.{awaits}
+use Rattle.outcome_causes.specs.program_walks.proofs.Through.{PassesPlain, PassesFails, PassesLinks, PassesReads, any_end, is_of_message, by_errors, others_plain, others_failing, others_make, reads_any, at_steps_plain, at_steps_links, through_release, through_address, through_reach, through_set_failed, through_fail}
+use Rattle.outcome_causes.specs.program_walks.proofs.ThroughLoops.{through_post, through_errors, through_round}
+use Rattle.outcome_causes.specs.program_walks.proofs.ThroughSends.{through_block, through_write_link}
+use Rattle.outcome_causes.specs.program_walks.proofs.ThroughCalls.{through_call, through_retry, through_join, through_reading}
+use Rattle.outcome_causes.specs.program_walks.proofs.ThroughClients.{through_open, through_back, through_operation}
 
 -- ## What a seat has in hand of a message
 

@@ -14,18 +14,18 @@ use Rattle.sock_model.specs.Layout.{tag_index, ref_index, link_index, head_index
 use Rattle.seat_programs.specs.Calls.{Call, ClaimSlot, CreateLife, AddRef, SubRef, SetOdd, Recycle, FreeSlot, StoreLink, LoadLink, ResetHead, ClearCode, StoreCode, StoreName, LoadName, StoreOpen, LoadOpen, LookWord, FindLink, LoadCode, ClaimRequest, Unconnect, SwapHead, Connect, EmptyHead, ReadNext, ReverseNext, FreeRequest, StorePlace, DropPlace}
 use Rattle.seat_programs.specs.Cores.{Core, word_of, word_after, found_at, words_after}
 use Rattle.seat_programs.specs.Ticks.{Moment, IsAnswered, AreAnswered, ticked, run}
-use Rattle.sock_runs.specs.May.{May}
-use Rattle.sock_runs.specs.Sound.{state, Sound, AreFew, MOST_PLACES, IsFitting, AreFitting, views_after, views_along}
-use Rattle.sock_runs.proofs.Cases.{tick_keeps_marks}
-use Rattle.sock_runs.proofs.ChainTicks.{turn_inside, free_inside}
-use Rattle.sock_runs.proofs.Few.{places_small}
-use Rattle.sock_runs.proofs.LinkTicks.{RetriesGo}
-use Rattle.sock_runs.proofs.Passes.{goes_round}
-use Rattle.sock_runs.proofs.Rounds.{begins_round}
-use Rattle.sock_runs.proofs.Ticks.{sound_ticks}
+use Rattle.outcome_causes.specs.program_steps.specs.May.{May}
+use Rattle.outcome_causes.specs.program_steps.specs.Sound.{state, Sound, AreFew, MOST_PLACES, IsFitting, AreFitting, views_after, views_along}
+use Rattle.outcome_causes.specs.program_steps.proofs.Cases.{tick_keeps_marks}
+use Rattle.outcome_causes.specs.sock_runs.proofs.ChainTicks.{turn_inside, free_inside}
+use Rattle.outcome_causes.specs.sock_runs.proofs.Few.{places_small}
+use Rattle.outcome_causes.specs.sock_runs.proofs.LinkTicks.{RetriesGo}
+use Rattle.outcome_causes.specs.program_steps.proofs.Passes.{goes_round}
+use Rattle.outcome_causes.specs.program_steps.proofs.Rounds.{begins_round}
+use Rattle.outcome_causes.specs.sock_runs.proofs.Ticks.{sound_ticks}
 use Rattle.call_causes.specs.joint_runs.proofs.Both.{AreBounded}
-use Rattle.outcome_causes.specs.Facts.{born_at, shown_in}
-use Rattle.outcome_causes.specs.Stories.{In}
+use Rattle.outcome_causes.specs.outcome_stories.specs.Facts.{born_at, shown_in}
+use Rattle.outcome_causes.specs.outcome_stories.specs.Stories.{In}
 use Rattle.outcome_causes.proofs.Plain.{in_left, in_right}
 use Rattle.send_causes.proofs.LateLooks.{Mode, Writes}
 use Rattle.send_causes.proofs.LateSeats.{Righted, rights_of, Stands, AllStand, stand_ticks}

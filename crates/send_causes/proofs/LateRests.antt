@@ -20,17 +20,17 @@ use Rattle.seat_programs.specs.Runs.{IsAtRest}
 use Rattle.seat_programs.specs.Tasks.{opens, calls, plan_of, id_plan_of}
 use Rattle.seat_programs.specs.Ticks.{Answer, Moment, AreAnswered, IsAnswered, quiet, ticked, run, waits, waits_at}
 use Rattle.seat_programs.specs.Scripts.{sizes_of, programs, readers_from, all_programs, all_tasks, opened, set_up, played, IsRunWithCalls}
-use Rattle.sock_runs.specs.GoesOn.{GoesOn, HasNothing}
-use Rattle.sock_runs.specs.Sound.{Sound, IsFitting, AreFitting, views_after, views_along}
-use Rattle.sock_runs.proofs.Along.{seat_rests}
-use Rattle.sock_runs.proofs.Cases.{tick_keeps_marks}
-use Rattle.sock_runs.proofs.LinkTicks.{RetriesGo}
-use Rattle.sock_runs.proofs.Opening.{mapped}
-use Rattle.sock_runs.proofs.Passes.{goes_round}
-use Rattle.sock_runs.proofs.Rounds.{begins_round}
-use Rattle.sock_runs.proofs.Ticks.{sound_ticks}
-use Rattle.sock_runs.proofs.Waiting.{StandsAside}
-use Rattle.sock_runs.proofs.Whole.{closing_of, views_played, views_closed, set_up_answered, end_answered, set_up_sound, played_sound, closing_sound, closed_sound, rested_ahead, closed_ahead}
+use Rattle.outcome_causes.specs.program_steps.specs.GoesOn.{GoesOn, HasNothing}
+use Rattle.outcome_causes.specs.program_steps.specs.Sound.{Sound, IsFitting, AreFitting, views_after, views_along}
+use Rattle.outcome_causes.specs.sock_runs.proofs.Along.{seat_rests}
+use Rattle.outcome_causes.specs.program_steps.proofs.Cases.{tick_keeps_marks}
+use Rattle.outcome_causes.specs.sock_runs.proofs.LinkTicks.{RetriesGo}
+use Rattle.outcome_causes.specs.program_walks.proofs.Opening.{mapped}
+use Rattle.outcome_causes.specs.program_steps.proofs.Passes.{goes_round}
+use Rattle.outcome_causes.specs.program_steps.proofs.Rounds.{begins_round}
+use Rattle.outcome_causes.specs.sock_runs.proofs.Ticks.{sound_ticks}
+use Rattle.outcome_causes.specs.sock_runs.proofs.Waiting.{StandsAside}
+use Rattle.outcome_causes.specs.program_walks.proofs.Whole.{closing_of, views_played, views_closed, set_up_answered, end_answered, set_up_sound, played_sound, closing_sound, closed_sound, rested_ahead, closed_ahead}
 use Rattle.call_causes.specs.programs_allowed.specs.Openings.{all_seats}
 use Rattle.call_causes.specs.joint_runs.proofs.Runs.{AreMade, first_views}
 use Rattle.call_causes.specs.programs_allowed.proofs.Fresh.{opening_rights, opening_claims}
@@ -131,7 +131,7 @@ module _ (script : List Item) (made : AreMade script) (turns : List Turn) (core 
       (λ w. ⊎_elim (λ rest. resting rest) (λ a. waiting w a) (aside script made turns core is j inside)) (still script made turns core is j inside)
     where
       inside : j < length (played script is.setup (is.scheduled ++ is.later)).seats
-      inside = Rattle.sock_runs.proofs.Along.place_inside (played script is.setup (is.scheduled ++ is.later)).seats j seat at
+      inside = Rattle.outcome_causes.specs.sock_runs.proofs.Along.place_inside (played script is.setup (is.scheduled ++ is.later)).seats j seat at
 
       resting : IsAtRest (played script is.setup (is.scheduled ++ is.later)) j → IsIdle seat.program v
       resting rest = rests_idle (played script is.setup (is.scheduled ++ is.later)) (views_played script turns core is (first_views script)) (played_sound script made.are (first_views script) (start script made turns core is) (go script made turns core is) turns core is (fitting script made turns core is))

@@ -26,15 +26,15 @@ use Rattle.seat_programs.specs.Heads.{Retry}
 use Rattle.seat_programs.specs.Programs.{Program, Do}
 use Rattle.seat_programs.specs.Cores.{Core, SeatState, resolved, next_step, word_of, found_at, waiting_at, hand_after, lies_at, others_of, link_place}
 use Rattle.seat_programs.specs.Ticks.{Moment, IsAnswered, fed, onto_first, ticked}
-use Rattle.sock_runs.specs.Rows.{row, hand_at, link_in, is_id, by_claim, by_right, new_claim, filled_claim, ready_claim, exchanged, looked_clean, emptied, settled, read_next, turned_next, freed_next, freed_stage, placed_next, dropped_next, took_message, link_away, link_home_again, took_bytes}
-use Rattle.sock_runs.specs.May.{May}
-use Rattle.sock_runs.specs.Sound.{Sound, IsFitting, views_after}
-use Rattle.sock_runs.proofs.Leaves.{claim_way, right_way}
-use Rattle.sock_runs.proofs.Cases.{tick_keeps}
-use Rattle.sock_runs.proofs.Rounds.{begins_round}
-use Rattle.sock_runs.proofs.Passes.{goes_round}
+use Rattle.outcome_causes.specs.program_steps.specs.Rows.{row, hand_at, link_in, is_id, by_claim, by_right, new_claim, filled_claim, ready_claim, exchanged, looked_clean, emptied, settled, read_next, turned_next, freed_next, freed_stage, placed_next, dropped_next, took_message, link_away, link_home_again, took_bytes}
+use Rattle.outcome_causes.specs.program_steps.specs.May.{May}
+use Rattle.outcome_causes.specs.program_steps.specs.Sound.{Sound, IsFitting, views_after}
+use Rattle.outcome_causes.specs.program_steps.proofs.Leaves.{claim_way, right_way}
+use Rattle.outcome_causes.specs.program_steps.proofs.Cases.{tick_keeps}
+use Rattle.outcome_causes.specs.program_steps.proofs.Rounds.{begins_round}
+use Rattle.outcome_causes.specs.program_steps.proofs.Passes.{goes_round}
 use Rattle.send_causes.proofs.LateLooks.{Mode, Idle, Saw, Claims, Writes, IsCalm, seen, Looks, looks_first, looks_next}
-use Rattle.outcome_causes.proofs.Accepting.{IsNoSwap}
+use Rattle.outcome_causes.specs.outcome_ticks.proofs.Accepting.{IsNoSwap}
 
 -- ## Claims and rights
 

@@ -12,14 +12,14 @@ use Rattle.seat_programs.specs.Programs.{Program}
 use Rattle.seat_programs.specs.Ticks.{Moment}
 use Rattle.seat_programs.specs.Tasks.{opens, calls, plan_of, id_plan_of}
 use Rattle.seat_programs.specs.Scripts.{sizes_of, programs, readers_from, all_programs, all_tasks, opened, set_up, played, IsRunWithCalls}
-use Rattle.sock_runs.specs.Sound.{views_along}
-use Rattle.sock_runs.proofs.Whole.{closing_of, views_played, views_closed}
+use Rattle.outcome_causes.specs.program_steps.specs.Sound.{views_along}
+use Rattle.outcome_causes.specs.program_walks.proofs.Whole.{closing_of, views_played, views_closed}
 use Rattle.outcome_causes.proofs.Final.{at_there}
-use Rattle.outcome_causes.proofs.Ticks.{elem_there}
+use Rattle.outcome_causes.specs.outcome_ticks.proofs.Ticks.{elem_there}
 use Rattle.call_causes.specs.joint_runs.proofs.Both.{behind_both}
 use Rattle.call_causes.specs.joint_runs.proofs.Runs.{AreMade, first_views, IsSoundRun, joint_runs}
-use Rattle.report_fits.proofs.Reading.{InRange}
-use Rattle.report_fits.proofs.Targets.{AreThere}
+use Rattle.call_causes.specs.owed_calls.specs.script_facts.proofs.Reading.{InRange}
+use Rattle.call_causes.specs.owed_calls.specs.script_facts.proofs.Targets.{AreThere}
 use Rattle.call_causes.specs.owed_calls.specs.Lives.{ClosesInRun}
 use Rattle.call_causes.specs.Decided.{posted_by, Decision, decided_by}
 use Rattle.call_causes.specs.Lists.{advanced_at, given, shows_in, shows_in_run}

@@ -10,7 +10,7 @@ use Rattle.seat_programs.specs.Posts.{WHOLE, packed, advance_of, is_first, is_so
 use Rattle.seat_programs.specs.Programs.{Program, Say, Aside, Round}
 use Rattle.seat_programs.specs.Readers.{answer, took, discarded, slot_in, ending_of}
 use Rattle.seat_programs.specs.Rounds.{round}
-use Rattle.sock_runs.proofs.ThroughLoops.{through_took, through_discarded}
+use Rattle.outcome_causes.specs.program_walks.proofs.ThroughLoops.{through_took, through_discarded}
 use Rattle.label_runs.specs.Labels.{IsSoughtWord}
 use Rattle.label_runs.proofs.Loops.{id_back, not_true, not_equal, and_left, locked_parts, none_left, word_got}
 use Rattle.send_causes.proofs.OwnDecisionsStands.{Stand, Calm, Trying, Past, Posted, Eases, MayPost, MayDecide, IsTryingAt, FindsAside, unlocked_stand, unlocks_stand, posted_stand, locked_stand, LeavesUnlock, LeavesStand, Aims}

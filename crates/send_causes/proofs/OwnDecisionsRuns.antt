@@ -26,10 +26,10 @@ use Rattle.seat_programs.specs.Programs.{Program, Say, Sent, Keep, Retries}
 use Rattle.seat_programs.specs.Runs.{IsAtRest}
 use Rattle.seat_programs.specs.Scripts.{opening_homes, programs, readers_from, all_programs, beginning}
 use Rattle.seat_programs.specs.Ticks.{Moment, quiet, ticked, run}
-use Rattle.sock_runs.specs.Sound.{IsAhead, views_after}
-use Rattle.sock_runs.proofs.Along.{seat_rests, ticked_ahead}
-use Rattle.sock_runs.proofs.Opening.{mapped}
-use Rattle.sock_runs.proofs.Quiets.{ticked_rests}
+use Rattle.outcome_causes.specs.program_steps.specs.Sound.{IsAhead, views_after}
+use Rattle.outcome_causes.specs.sock_runs.proofs.Along.{seat_rests, ticked_ahead}
+use Rattle.outcome_causes.specs.program_walks.proofs.Opening.{mapped}
+use Rattle.outcome_causes.specs.sock_runs.proofs.Quiets.{ticked_rests}
 use Rattle.call_causes.specs.joint_runs.proofs.Both.{BothSound, AreBoth}
 use Rattle.call_causes.specs.Decided.{posted_by, Decision, decided_at, decided_by}
 use Rattle.call_causes.specs.Lists.{times, shows_in, advanced_at}

@@ -34,11 +34,11 @@ use Rattle.seat_programs.specs.Posts.{WHOLE, packed, advance_of, is_stale}
 use Rattle.seat_programs.specs.Programs.{Program, Do, Say, Sent, TakeMessage, TakeHome, PutHome, PutBytes, AskReady, Write, Aside, Round, Keep, Retries}
 use Rattle.seat_programs.specs.Cores.{Calls, Core, SeatState, word_of, found_at, words_after, word_after, homes_after, hand_after, lies_at, first_of, others_of, link_place, resolved, still_waiting, waiting_at, next_step, with_seat}
 use Rattle.seat_programs.specs.Ticks.{Answer, OfPut, OfReady, Moment, fed, with_places, onto_first, taken, with_message, with_link, with_put, with_ready, with_found, step_with, tick_with, ticked}
-use Rattle.sock_runs.specs.Sound.{first_step}
+use Rattle.outcome_causes.specs.program_steps.specs.Sound.{first_step}
 use Rattle.call_causes.specs.Decided.{posted_by, Decision, decision_in, decided_at}
 use Rattle.call_causes.specs.Posts.{Post, posts_by, posted_with, posted_at}
 use Rattle.call_causes.specs.Scenes.{In}
-use Rattle.outcome_causes.proofs.Ticks.{elem_there}
+use Rattle.outcome_causes.specs.outcome_ticks.proofs.Ticks.{elem_there}
 use Rattle.call_causes.specs.owed_calls.proofs.OwingTicks.{message_there}
 use Rattle.send_causes.specs.Counts.{pair_of, of_retry, with_waiting, word_of_id, WasMade, WasNow}
 use Rattle.send_causes.proofs.Words.{made_on, finds_label, words_forward, makes_new, advances_new}

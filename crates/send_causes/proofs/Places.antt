@@ -11,11 +11,11 @@ use Rattle.sock_model.specs.Layout.{tag_index, ref_index, link_index, head_index
 use Rattle.seat_programs.specs.Calls.{Call, ClaimSlot, CreateLife, AddRef, SubRef, SetOdd, Recycle, FreeSlot, StoreLink, LoadLink, ResetHead, ClearCode, StoreCode, StoreName, LoadName, StoreOpen, LoadOpen, LookWord, FindLink, LoadCode, ClaimRequest, Unconnect, SwapHead, Connect, EmptyHead, ReadNext, ReverseNext, FreeRequest, StorePlace, DropPlace}
 use Rattle.seat_programs.specs.Cores.{Core, word_of, word_after, found_at, words_after}
 use Rattle.seat_programs.specs.Ticks.{Moment, IsAnswered, ticked}
-use Rattle.sock_runs.specs.May.{May}
-use Rattle.sock_runs.specs.Sound.{Sound, IsFitting}
-use Rattle.sock_runs.proofs.Cases.{tick_keeps_marks}
-use Rattle.sock_runs.proofs.Rounds.{begins_round}
-use Rattle.sock_runs.proofs.Passes.{goes_round}
+use Rattle.outcome_causes.specs.program_steps.specs.May.{May}
+use Rattle.outcome_causes.specs.program_steps.specs.Sound.{Sound, IsFitting}
+use Rattle.outcome_causes.specs.program_steps.proofs.Cases.{tick_keeps_marks}
+use Rattle.outcome_causes.specs.program_steps.proofs.Rounds.{begins_round}
+use Rattle.outcome_causes.specs.program_steps.proofs.Passes.{goes_round}
 
 no_right : (rs : List Right) (r : Right) → rs ≡ [] → rs ≡ r ∷ [] → ⊥
 no_right rs r a b = let z : [] ≡ r ∷ [] = sym a ∙ b in cc

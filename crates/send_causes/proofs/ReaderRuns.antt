@@ -20,17 +20,17 @@ use Rattle.seat_programs.specs.Programs.{Program, Do, Rest, Write, NO_SOCKET}
 use Rattle.seat_programs.specs.Cores.{Core, SeatState}
 use Rattle.seat_programs.specs.Runs.{IsAtRest}
 use Rattle.seat_programs.specs.Ticks.{Moment, IsAnswered, AreAnswered, ticked, run}
-use Rattle.sock_runs.specs.Sound.{state, Sound, IsAhead, IsFitting, AreFitting, views_after, views_along}
-use Rattle.sock_runs.proofs.Along.{seat_rests, place_inside, ticked_ahead}
-use Rattle.sock_runs.proofs.Bounds.{law, lives_le}
-use Rattle.sock_runs.proofs.LinksOpening.{OpensLink}
-use Rattle.sock_runs.proofs.LinkTicks.{RetriesGo}
-use Rattle.sock_runs.proofs.Quiets.{ticked_seats, ticked_rests}
-use Rattle.sock_runs.proofs.Recorded.{Recorded, recorded_ticks}
-use Rattle.sock_runs.proofs.Ticks.{sound_ticks}
-use Rattle.outcome_causes.specs.Facts.{shown_in}
-use Rattle.outcome_causes.specs.Losses.{lost_by, may_close, closed_at}
-use Rattle.outcome_causes.specs.Stories.{In}
+use Rattle.outcome_causes.specs.program_steps.specs.Sound.{state, Sound, IsAhead, IsFitting, AreFitting, views_after, views_along}
+use Rattle.outcome_causes.specs.sock_runs.proofs.Along.{seat_rests, place_inside, ticked_ahead}
+use Rattle.outcome_causes.specs.program_steps.proofs.Bounds.{law, lives_le}
+use Rattle.outcome_causes.specs.program_walks.proofs.LinksOpening.{OpensLink}
+use Rattle.outcome_causes.specs.sock_runs.proofs.LinkTicks.{RetriesGo}
+use Rattle.outcome_causes.specs.sock_runs.proofs.Quiets.{ticked_seats, ticked_rests}
+use Rattle.outcome_causes.specs.program_walks.proofs.Recorded.{Recorded, recorded_ticks}
+use Rattle.outcome_causes.specs.sock_runs.proofs.Ticks.{sound_ticks}
+use Rattle.outcome_causes.specs.outcome_stories.specs.Facts.{shown_in}
+use Rattle.outcome_causes.specs.outcome_stories.specs.Losses.{lost_by, may_close, closed_at}
+use Rattle.outcome_causes.specs.outcome_stories.specs.Stories.{In}
 use Rattle.outcome_causes.proofs.Plain.{in_both}
 use Rattle.call_causes.specs.owed_calls.proofs.WordsGiven.{Named, run_named}
 use Rattle.run_theorems.specs.Heard.{taken_link}

@@ -27,16 +27,16 @@ use Rattle.seat_programs.specs.Programs.{Program, Do, Say, Sent, Rest, TakeMessa
 use Rattle.seat_programs.specs.Readers.{room_of, took, discarded, read, reader}
 use Rattle.seat_programs.specs.Cores.{Core, SeatState, word_of, found_at, resolved, next_step, waiting_at, with_seat}
 use Rattle.seat_programs.specs.Ticks.{Answer, Moment, IsAnswer, IsAnswered, IsTaken, FitsTake, taken, with_found, step_with, tick_with, ticked}
-use Rattle.sock_runs.specs.Rows.{row, is_id, found_id, by_right, new_claim, filled_claim, ready_claim, looked_clean}
-use Rattle.sock_runs.specs.Sound.{Sound, first_step, IsFitting, views_with, views_of, views_after}
-use Rattle.sock_runs.proofs.Leaves.{claim_way}
-use Rattle.sock_runs.proofs.LinkTicks.{RetriesGo}
-use Rattle.sock_runs.proofs.Recorded.{Recorded}
-use Rattle.sock_runs.proofs.OpensStay.{run_word}
-use Rattle.sock_runs.proofs.Cases.{beside, tick_keeps_marks}
-use Rattle.sock_runs.proofs.Rounds.{begins_round}
-use Rattle.sock_runs.proofs.Passes.{goes_round}
-use Rattle.outcome_causes.proofs.Cases.{tick_cases}
+use Rattle.outcome_causes.specs.program_steps.specs.Rows.{row, is_id, found_id, by_right, new_claim, filled_claim, ready_claim, looked_clean}
+use Rattle.outcome_causes.specs.program_steps.specs.Sound.{Sound, first_step, IsFitting, views_with, views_of, views_after}
+use Rattle.outcome_causes.specs.program_steps.proofs.Leaves.{claim_way}
+use Rattle.outcome_causes.specs.sock_runs.proofs.LinkTicks.{RetriesGo}
+use Rattle.outcome_causes.specs.program_walks.proofs.Recorded.{Recorded}
+use Rattle.outcome_causes.specs.program_walks.proofs.OpensStay.{run_word}
+use Rattle.outcome_causes.specs.program_steps.proofs.Cases.{beside, tick_keeps_marks}
+use Rattle.outcome_causes.specs.program_steps.proofs.Rounds.{begins_round}
+use Rattle.outcome_causes.specs.program_steps.proofs.Passes.{goes_round}
+use Rattle.outcome_causes.specs.outcome_stories.proofs.Cases.{tick_cases}
 use Rattle.run_theorems.specs.Heard.{taken_link, taken_at, as_taken}
 use Rattle.send_causes.proofs.Closers.{Ends, Calm, IsCalmCall, IsNoTake, calm_first, calm_next, begins_calm, calm_step, calm_aside}
 
@@ -53,12 +53,12 @@ rights_none p v found hand (ClaimRequest id q) no_ e = either_way (found % 2 == 
 rights_none p v found hand (PutMessage q heading bytes) no_ e = claim_way (λ (u : View). u.rights ≡ []) v.claims (λ c. with_claim v (filled_claim c heading bytes)) v e (λ c. e)
 rights_none p v found hand (Unconnect q) no_ e = claim_way (λ (u : View). u.rights ≡ []) v.claims (λ c. with_claim v (ready_claim c)) v e (λ c. e)
 rights_none p v found hand (SwapHead i own) no_ e = absurd (no_ i own refl)
-rights_none p v found hand (EmptyHead i last) no_ e = subst (λ l. (by_right l (Rattle.sock_runs.specs.Rows.emptied last found v) v).rights ≡ []) (sym e) e
-rights_none p v found hand (ReadNext q) no_ e = subst (λ l. (by_right l (λ r. Rattle.sock_runs.specs.Rows.read_next found v r r.stage) v).rights ≡ []) (sym e) e
-rights_none p v found hand (ReverseNext q value) no_ e = subst (λ l. (by_right l (λ r. Rattle.sock_runs.specs.Rows.turned_next v r r.stage) v).rights ≡ []) (sym e) e
-rights_none p v found hand (FreeRequest q g) no_ e = subst (λ l. (by_right l (Rattle.sock_runs.specs.Rows.freed_next v) v).rights ≡ []) (sym e) e
-rights_none p v found hand (StorePlace l k n) no_ e = subst (λ xs. (by_right xs (λ r. Rattle.sock_runs.specs.Rows.placed_next v r r.stage) v).rights ≡ []) (sym e) e
-rights_none p v found hand (DropPlace l k n) no_ e = subst (λ xs. (by_right xs (λ r. Rattle.sock_runs.specs.Rows.dropped_next v r r.stage) v).rights ≡ []) (sym e) e
+rights_none p v found hand (EmptyHead i last) no_ e = subst (λ l. (by_right l (Rattle.outcome_causes.specs.program_steps.specs.Rows.emptied last found v) v).rights ≡ []) (sym e) e
+rights_none p v found hand (ReadNext q) no_ e = subst (λ l. (by_right l (λ r. Rattle.outcome_causes.specs.program_steps.specs.Rows.read_next found v r r.stage) v).rights ≡ []) (sym e) e
+rights_none p v found hand (ReverseNext q value) no_ e = subst (λ l. (by_right l (λ r. Rattle.outcome_causes.specs.program_steps.specs.Rows.turned_next v r r.stage) v).rights ≡ []) (sym e) e
+rights_none p v found hand (FreeRequest q g) no_ e = subst (λ l. (by_right l (Rattle.outcome_causes.specs.program_steps.specs.Rows.freed_next v) v).rights ≡ []) (sym e) e
+rights_none p v found hand (StorePlace l k n) no_ e = subst (λ xs. (by_right xs (λ r. Rattle.outcome_causes.specs.program_steps.specs.Rows.placed_next v r r.stage) v).rights ≡ []) (sym e) e
+rights_none p v found hand (DropPlace l k n) no_ e = subst (λ xs. (by_right xs (λ r. Rattle.outcome_causes.specs.program_steps.specs.Rows.dropped_next v r r.stage) v).rights ≡ []) (sym e) e
 rights_none p v found hand _ no_ e = e
 
 -- who gets a reference to a life holds it

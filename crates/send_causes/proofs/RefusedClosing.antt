@@ -10,7 +10,7 @@ use Rattle.seat_programs.specs.Heads.{Retry}
 use Rattle.seat_programs.specs.Programs.{Program, Do, Rest, NO_SOCKET, LAST_VERSION, recycle, release, address, set_failed}
 use Rattle.seat_programs.specs.Cores.{Core, SeatState, resolved, next_step, waiting_at, word_of, found_at}
 use Rattle.seat_programs.specs.Ticks.{quiet, ticked, tick_with}
-use Rattle.outcome_causes.specs.Stories.{In}
+use Rattle.outcome_causes.specs.outcome_stories.specs.Stories.{In}
 use Rattle.outcome_causes.proofs.Plain.{in_both}
 use Rattle.call_causes.specs.Lists.{shows_in}
 use Rattle.call_causes.specs.Posts.{Post, posted_with, posted_at}

@@ -15,15 +15,15 @@ use Rattle.seat_programs.specs.Cores.{Core}
 use Rattle.seat_programs.specs.Tasks.{opens, plan_of, id_plan_of}
 use Rattle.seat_programs.specs.Scripts.{all_tasks, IsRunWithCalls}
 use Rattle.seat_programs.specs.ToldCalls.{Accepted, IsUnordered}
-use Rattle.sock_runs.proofs.Whole.{views_ended}
-use Rattle.outcome_causes.specs.Causes.{Asks}
-use Rattle.outcome_causes.specs.Explains.{is_plain}
-use Rattle.outcome_causes.specs.Kept.{is_of_send}
-use Rattle.outcome_causes.specs.PlainTasks.{told_tasks_of}
-use Rattle.outcome_causes.proofs.Lifted.{up}
+use Rattle.outcome_causes.specs.program_walks.proofs.Whole.{views_ended}
+use Rattle.outcome_causes.specs.outcome_stories.specs.Causes.{Asks}
+use Rattle.outcome_causes.specs.outcome_stories.specs.Explains.{is_plain}
+use Rattle.outcome_causes.specs.outcome_stories.specs.Kept.{is_of_send}
+use Rattle.outcome_causes.specs.outcome_stories.specs.PlainTasks.{told_tasks_of}
+use Rattle.outcome_causes.specs.outcome_ticks.proofs.Lifted.{up}
 use Rattle.outcome_causes.proofs.Messages.{each_made, message_of, number_of}
-use Rattle.outcome_causes.proofs.Senders.{HasSent, all_sent}
-use Rattle.outcome_causes.proofs.Tasks.{one_task}
+use Rattle.outcome_causes.specs.outcome_stories.proofs.Senders.{HasSent, all_sent}
+use Rattle.outcome_causes.specs.outcome_ticks.proofs.Tasks.{one_task}
 use Rattle.call_causes.specs.joint_runs.proofs.Runs.{AreMade, first_views}
 use Rattle.call_causes.specs.owed_calls.specs.Lives.{ClosesInRun}
 use Rattle.send_causes.specs.Counts.{of_entry, of_view}

@@ -11,7 +11,7 @@ use Rattle.seat_programs.specs.Posts.{packed, advance_of, is_first, is_sought, i
 use Rattle.seat_programs.specs.Programs.{Program, Say, Aside, Round}
 use Rattle.seat_programs.specs.Readers.{answer, took, discarded, slot_in, ending_of}
 use Rattle.seat_programs.specs.Rounds.{round}
-use Rattle.sock_runs.proofs.ThroughLoops.{through_took, through_discarded}
+use Rattle.outcome_causes.specs.program_walks.proofs.ThroughLoops.{through_took, through_discarded}
 use Rattle.label_runs.specs.Labels.{Trial, Idle, Tries, Kept, LeavesLabel, LeavesLock, LeavesUnlock, unlocks_trial, unlocked_trial, locked_trial, IsSoughtWord, FindsLabel}
 use Rattle.label_runs.proofs.Programs.{hit_is, miss_is, found_is}
 use Rattle.label_runs.proofs.Loops.{first_as, id_back, not_true, not_equal, and_left, locked_parts, none_left, word_got}

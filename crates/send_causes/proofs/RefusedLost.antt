@@ -23,14 +23,14 @@ use Rattle.seat_programs.specs.Ticks.{Moment, quiet, ticked}
 use Rattle.seat_programs.specs.Scripts.{all_tasks, opened, set_up, IsRunWithCalls}
 use Rattle.seat_programs.specs.Told.{AreTasks}
 use Rattle.seat_programs.specs.ToldCalls.{WhyLost, WasFailing, RunEnding}
-use Rattle.sock_runs.specs.Sound.{Sound, first_step, state}
-use Rattle.sock_runs.proofs.Whole.{closing_of, set_up_answered, end_answered, set_up_sound, played_sound, closing_sound, closed_sound, ended_sound, end_rests}
-use Rattle.outcome_causes.specs.Facts.{put_by, put_at, shown_in, late_of_run}
-use Rattle.outcome_causes.specs.Kept.{Story}
-use Rattle.outcome_causes.specs.PlainTasks.{told_tasks_of}
-use Rattle.outcome_causes.specs.Stories.{In}
-use Rattle.outcome_causes.proofs.Lifted.{made_up}
-use Rattle.outcome_causes.proofs.Members.{in_contains}
+use Rattle.outcome_causes.specs.program_steps.specs.Sound.{Sound, first_step, state}
+use Rattle.outcome_causes.specs.program_walks.proofs.Whole.{closing_of, set_up_answered, end_answered, set_up_sound, played_sound, closing_sound, closed_sound, ended_sound, end_rests}
+use Rattle.outcome_causes.specs.outcome_stories.specs.Facts.{put_by, put_at, shown_in, late_of_run}
+use Rattle.outcome_causes.specs.outcome_stories.specs.Kept.{Story}
+use Rattle.outcome_causes.specs.outcome_stories.specs.PlainTasks.{told_tasks_of}
+use Rattle.outcome_causes.specs.outcome_stories.specs.Stories.{In}
+use Rattle.outcome_causes.specs.outcome_ticks.proofs.Lifted.{made_up}
+use Rattle.outcome_causes.specs.outcome_stories.proofs.Members.{in_contains}
 use Rattle.outcome_causes.proofs.Openings.{are_seats}
 use Rattle.outcome_causes.proofs.Plain.{in_left, in_right}
 use Rattle.outcome_causes.proofs.Runs.{IsStoried, set_up_over}

@@ -22,19 +22,19 @@ use Rattle.seat_programs.specs.Calls.{Call, AddRef, LookWord, ClaimRequest}
 use Rattle.seat_programs.specs.Programs.{Program, Do}
 use Rattle.seat_programs.specs.Cores.{Calls, Core, SeatState, word_of, word_after, words_after, found_at, homes_after, with_seat, stepped, link_place, first_of, others_of, lies_at}
 use Rattle.seat_programs.specs.Ticks.{Moment, AreAnswered, IsAnswered, ticked, run, onto_first, with_places, fed}
-use Rattle.sock_runs.specs.GoesOn.{GoesOn}
-use Rattle.sock_runs.specs.May.{May}
-use Rattle.sock_runs.specs.Rows.{row, hand_at, took_message, link_away, link_home_again, took_bytes}
-use Rattle.sock_runs.specs.Sound.{Sound, AreFitting, state, views_after, views_along}
-use Rattle.sock_runs.proofs.Cases.{goes_first, with_rights, right_rights, put_rights}
-use Rattle.sock_runs.proofs.LinkTicks.{RetriesGo}
-use Rattle.sock_runs.proofs.Passes.{goes_round}
-use Rattle.sock_runs.proofs.Rounds.{begins_round}
-use Rattle.sock_runs.proofs.Ticks.{sound_ticks}
-use Rattle.outcome_causes.proofs.Added.{failer_note, row_adds}
-use Rattle.outcome_causes.proofs.Cases.{tick_cases}
-use Rattle.outcome_causes.proofs.Ticks.{elem_there}
-use Rattle.outcome_causes.proofs.Used.{word_stays}
+use Rattle.outcome_causes.specs.program_steps.specs.GoesOn.{GoesOn}
+use Rattle.outcome_causes.specs.program_steps.specs.May.{May}
+use Rattle.outcome_causes.specs.program_steps.specs.Rows.{row, hand_at, took_message, link_away, link_home_again, took_bytes}
+use Rattle.outcome_causes.specs.program_steps.specs.Sound.{Sound, AreFitting, state, views_after, views_along}
+use Rattle.outcome_causes.specs.program_steps.proofs.Cases.{goes_first, with_rights, right_rights, put_rights}
+use Rattle.outcome_causes.specs.sock_runs.proofs.LinkTicks.{RetriesGo}
+use Rattle.outcome_causes.specs.program_steps.proofs.Passes.{goes_round}
+use Rattle.outcome_causes.specs.program_steps.proofs.Rounds.{begins_round}
+use Rattle.outcome_causes.specs.sock_runs.proofs.Ticks.{sound_ticks}
+use Rattle.outcome_causes.specs.outcome_stories.proofs.Added.{failer_note, row_adds}
+use Rattle.outcome_causes.specs.outcome_stories.proofs.Cases.{tick_cases}
+use Rattle.outcome_causes.specs.outcome_ticks.proofs.Ticks.{elem_there}
+use Rattle.outcome_causes.specs.outcome_stories.proofs.Used.{word_stays}
 use Rattle.send_causes.specs.Refused.{Deed, DidStep, DidAt, DidIn}
 
 module _ (p : Plan) where

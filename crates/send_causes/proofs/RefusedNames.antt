@@ -12,23 +12,23 @@ use Rattle.seat_programs.specs.declared.task.Task.{Task}
 use Rattle.seat_programs.specs.Programs.{Do}
 use Rattle.seat_programs.specs.Ticks.{Moment, AreAnswered, quiet, ticked, run}
 use Rattle.seat_programs.specs.Told.{AreTasks, Made}
-use Rattle.sock_runs.specs.GoesOn.{GoesOn}
-use Rattle.sock_runs.specs.Sound.{Sound, AllRest, AreFitting, state, views_after, views_along}
-use Rattle.sock_runs.proofs.Cases.{goes_first}
-use Rattle.sock_runs.proofs.LinkTicks.{RetriesGo}
-use Rattle.sock_runs.proofs.Passes.{goes_round}
-use Rattle.sock_runs.proofs.Rounds.{begins_round}
-use Rattle.sock_runs.proofs.Ticks.{sound_ticks}
-use Rattle.outcome_causes.specs.Causes.{Asks}
-use Rattle.outcome_causes.specs.Explains.{step}
-use Rattle.outcome_causes.specs.Kept.{Story}
-use Rattle.outcome_causes.specs.Stories.{Event, In, trace_of}
-use Rattle.outcome_causes.proofs.Delivered.{orders_of}
-use Rattle.outcome_causes.proofs.Events.{event, cause_of, given_by, last_some}
+use Rattle.outcome_causes.specs.program_steps.specs.GoesOn.{GoesOn}
+use Rattle.outcome_causes.specs.program_steps.specs.Sound.{Sound, AllRest, AreFitting, state, views_after, views_along}
+use Rattle.outcome_causes.specs.program_steps.proofs.Cases.{goes_first}
+use Rattle.outcome_causes.specs.sock_runs.proofs.LinkTicks.{RetriesGo}
+use Rattle.outcome_causes.specs.program_steps.proofs.Passes.{goes_round}
+use Rattle.outcome_causes.specs.program_steps.proofs.Rounds.{begins_round}
+use Rattle.outcome_causes.specs.sock_runs.proofs.Ticks.{sound_ticks}
+use Rattle.outcome_causes.specs.outcome_stories.specs.Causes.{Asks}
+use Rattle.outcome_causes.specs.outcome_stories.specs.Explains.{step}
+use Rattle.outcome_causes.specs.outcome_stories.specs.Kept.{Story}
+use Rattle.outcome_causes.specs.outcome_stories.specs.Stories.{Event, In, trace_of}
+use Rattle.outcome_causes.specs.outcome_stories.proofs.Delivered.{orders_of}
+use Rattle.outcome_causes.specs.outcome_ticks.proofs.Events.{event, cause_of, given_by, last_some}
 use Rattle.outcome_causes.proofs.Final.{final}
 use Rattle.outcome_causes.proofs.Lives.{World, task_of, tells_of}
-use Rattle.outcome_causes.proofs.Members.{from_trace, to_trace}
-use Rattle.outcome_causes.proofs.Ticks.{elem_there, tick_story}
+use Rattle.outcome_causes.specs.outcome_stories.proofs.Members.{from_trace, to_trace}
+use Rattle.outcome_causes.specs.outcome_ticks.proofs.Ticks.{elem_there, tick_story}
 use Rattle.outcome_causes.proofs.Worlds.{world_of}
 use Rattle.send_causes.specs.Refused.{Deed, DidStep, DidAt, DidIn}
 

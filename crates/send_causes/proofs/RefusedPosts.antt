@@ -16,12 +16,12 @@ use Rattle.seat_programs.specs.Beside.{found_in}
 use Rattle.seat_programs.specs.Programs.{Program, Aside}
 use Rattle.seat_programs.specs.Cores.{Core, SeatState}
 use Rattle.seat_programs.specs.Ticks.{Moment, taken}
-use Rattle.sock_runs.specs.Sound.{Sound, first_step}
-use Rattle.outcome_causes.specs.Stories.{In}
-use Rattle.outcome_causes.proofs.Ticks.{elem_there}
+use Rattle.outcome_causes.specs.program_steps.specs.Sound.{Sound, first_step}
+use Rattle.outcome_causes.specs.outcome_stories.specs.Stories.{In}
+use Rattle.outcome_causes.specs.outcome_ticks.proofs.Ticks.{elem_there}
 use Rattle.call_causes.specs.Posts.{Post, posts_by, posted_with, posted_at}
 use Rattle.send_causes.specs.Refused.{Deed, Charge, NoCharge, IsRefused, HasDropped, Doing, IsChargeOf, IsPostOf, ChargeFits, ChargeLaw, IsSpent, PostKind, ByReader, ByExpiry, ByRefusal, ByDrop}
-use Rattle.outcome_causes.proofs.HomeCalls.{AreCalls}
+use Rattle.outcome_causes.specs.outcome_stories.proofs.HomeCalls.{AreCalls}
 use Rattle.send_causes.proofs.RefusedTicks.{Then, First, first_as}
 use Rattle.call_causes.specs.owed_calls.proofs.OwingRuns.{same_first}
 

@@ -31,11 +31,11 @@ use Rattle.seat_programs.specs.Programs.{Program, Do, Say, Sent, Rest, TakeMessa
 use Rattle.seat_programs.specs.Readers.{kept_for, ends_with, posted_last, post_each, thrown_away, read, reader, LIMIT}
 use Rattle.seat_programs.specs.Sends.{freed as given_back, one_more, passed_telling, tell_drop, placed, dropped, put_answered, ready_answered, block, first_put, accept, write_link, heading_of, claim_from, start, send}
 use Rattle.seat_programs.specs.Writings.{Holder, Writing, Puts, Waits, Empties, Walks}
-use Rattle.outcome_causes.specs.Stories.{In}
-use Rattle.sock_runs.proofs.Through.{PassesWords, PassesFails, is_of_message, others_plain, others_failing, others_make, through_release, through_reach, through_set_failed, through_fail, through_hold}
-use Rattle.sock_runs.proofs.ThroughSends.{through_ended}
-use Rattle.sock_runs.proofs.ThroughCalls.{through_read_end}
-use Rattle.sock_runs.proofs.ThroughClients.{through_open, through_back, through_drop_of}
+use Rattle.outcome_causes.specs.outcome_stories.specs.Stories.{In}
+use Rattle.outcome_causes.specs.program_walks.proofs.Through.{PassesWords, PassesFails, is_of_message, others_plain, others_failing, others_make, through_release, through_reach, through_set_failed, through_fail, through_hold}
+use Rattle.outcome_causes.specs.program_walks.proofs.ThroughSends.{through_ended}
+use Rattle.outcome_causes.specs.program_walks.proofs.ThroughCalls.{through_read_end}
+use Rattle.outcome_causes.specs.program_walks.proofs.ThroughClients.{through_open, through_back, through_drop_of}
 use Rattle.label_runs.proofs.Loops.{not_equal}
 use Rattle.label_runs.proofs.Operations.{OpCalls}
 use Rattle.label_runs.specs.Labels.{Trial, Idle, Tries, Sends, MayPut, Kept, LeavesLabel, LeavesLock, LeavesUnlock, locked_trial}

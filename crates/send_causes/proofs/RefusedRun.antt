@@ -12,7 +12,7 @@ use Rattle.seat_programs.specs.Posts.{WHOLE}
 use Rattle.seat_programs.specs.Tasks.{plan_of}
 use Rattle.seat_programs.specs.Scripts.{all_tasks, IsRunWithCalls}
 use Rattle.seat_programs.specs.ToldCalls.{IsUnordered, WhyLost, WasFull}
-use Rattle.outcome_causes.specs.Stories.{In}
+use Rattle.outcome_causes.specs.outcome_stories.specs.Stories.{In}
 use Rattle.call_causes.specs.joint_runs.proofs.Runs.{AreMade}
 use Rattle.call_causes.specs.owed_calls.specs.Lives.{ClosesInRun}
 use Rattle.call_causes.specs.Decided.{posted_by}

@@ -18,11 +18,11 @@ use Rattle.seat_programs.specs.Cores.{Core, SeatState, resolved, next_step, wait
 use Rattle.seat_programs.specs.Ticks.{Moment, AreAnswered, ticked, run}
 use Rattle.seat_programs.specs.Tasks.{calls}
 use Rattle.seat_programs.specs.Scripts.{programs, readers_from, all_programs, beginning}
-use Rattle.sock_runs.specs.Sound.{Sound, AreFitting, first_step, views_after, views_along}
-use Rattle.sock_runs.proofs.LinkTicks.{RetriesGo}
-use Rattle.sock_runs.proofs.Ticks.{sound_ticks}
-use Rattle.sock_runs.proofs.Opening.{mapped}
-use Rattle.outcome_causes.specs.Stories.{In}
+use Rattle.outcome_causes.specs.program_steps.specs.Sound.{Sound, AreFitting, first_step, views_after, views_along}
+use Rattle.outcome_causes.specs.sock_runs.proofs.LinkTicks.{RetriesGo}
+use Rattle.outcome_causes.specs.sock_runs.proofs.Ticks.{sound_ticks}
+use Rattle.outcome_causes.specs.program_walks.proofs.Opening.{mapped}
+use Rattle.outcome_causes.specs.outcome_stories.specs.Stories.{In}
 use Rattle.outcome_causes.proofs.Plain.{in_both}
 use Rattle.label_runs.specs.Labels.{Trial, Idle}
 use Rattle.label_runs.proofs.Operations.{OpCalls}

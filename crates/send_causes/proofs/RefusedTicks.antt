@@ -29,23 +29,23 @@ use Rattle.seat_programs.specs.Heads.{Retry}
 use Rattle.seat_programs.specs.Programs.{Program, Do, Say, Sent, Rest, TakeMessage, TakeHome, PutHome, PutBytes, AskReady, Write, Aside, Round, Keep, Retries}
 use Rattle.seat_programs.specs.Cores.{Calls, Core, SeatState, word_of, found_at, words_after, word_after, homes_after, hand_after, resolved, still_waiting, waiting_at, next_step, with_seat, stepped}
 use Rattle.seat_programs.specs.Ticks.{Moment, IsAnswered, taken, ticked}
-use Rattle.sock_runs.specs.Rows.{row, hand_at}
-use Rattle.sock_runs.specs.Sound.{Sound, first_step, views_after}
-use Rattle.sock_runs.proofs.Cases.{with_rights}
-use Rattle.outcome_causes.proofs.Ticks.{elem_there}
+use Rattle.outcome_causes.specs.program_steps.specs.Rows.{row, hand_at}
+use Rattle.outcome_causes.specs.program_steps.specs.Sound.{Sound, first_step, views_after}
+use Rattle.outcome_causes.specs.program_steps.proofs.Cases.{with_rights}
+use Rattle.outcome_causes.specs.outcome_ticks.proofs.Ticks.{elem_there}
 use Rattle.call_causes.specs.owed_calls.proofs.EndsStill.{mapped_at}
 use Rattle.label_runs.specs.Labels.{Trial, Idle, Tries, Sends, put_behind, Kept, Storing, unlocked_trial}
 use Rattle.send_causes.specs.Counts.{pair_of, of_trial, of_retry, of_view, times_of, WasMade, WasNow, TrialFits, StoresOwn}
 use Rattle.send_causes.specs.Refused.{Deed, DidStep, DidPut, Charge, NoCharge, IsRefused, HasDropped, Doing, idle, begins, trial_in, FoundTaken, FoundLost, WasOther, WasOdd, WasNone, WhyRefused, WouldStore, WouldOwn, IsTrying, IsLast, Refuses, Moves, Remembers, Charges, did_aside, DidAt, IsRefusal, IsDrop, IsSpent, ChargeFits, ChargeLaw}
 use Rattle.send_causes.proofs.SeatFacts.{ids_first}
-use Rattle.outcome_causes.proofs.HomeCalls.{AreCalls}
+use Rattle.outcome_causes.specs.outcome_stories.proofs.HomeCalls.{AreCalls}
 use Rattle.send_causes.proofs.SeatFacts.{tick_moves}
 use Rattle.send_causes.proofs.Ticks.{put_count, few_more, few_of, calls_waiting, fits_as, kept_count, kept_fits, pair_now, waits_set}
 use Rattle.send_causes.proofs.Views.{row_count, rights_count}
 use Rattle.send_causes.proofs.Words.{made_on, finds_label, words_forward, makes_new, advances_new}
 use Rattle.send_causes.proofs.RefusedLoops.{bare, charges_round}
 use Rattle.send_causes.proofs.RefusedPrograms.{block_goes, retry_goes}
-use Rattle.report_fits.proofs.Lists.{all_map}
+use Rattle.call_causes.specs.owed_calls.specs.script_facts.proofs.Lists.{all_map}
 use Rattle.send_causes.proofs.OwnDecisionsTicks.{pair_self}
 
 -- ## Lists

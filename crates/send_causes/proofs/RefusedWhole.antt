@@ -31,13 +31,13 @@ use Rattle.seat_programs.specs.Cores.{Core, SeatState, waiting_at}
 use Rattle.seat_programs.specs.Ticks.{Answer, OfPut, OfReady, Moment, IsAlwaysReady, waits, waits_at, quiet, ticked, run, taken, with_message, with_link, with_put, with_ready, with_found, step_with, tick_with}
 use Rattle.seat_programs.specs.Tasks.{opens, calls, plan_of, id_plan_of}
 use Rattle.seat_programs.specs.Scripts.{sizes_of, programs, readers_from, all_programs, all_tasks, opened, set_up, played, is_ending, IsRunWithCalls}
-use Rattle.sock_runs.specs.Sound.{views_along}
-use Rattle.sock_runs.proofs.Along.{seat_rests}
-use Rattle.sock_runs.proofs.Whole.{closing_of, views_played, views_closed, views_ended, set_up_answered, end_answered, rested_ahead, rested_idle, set_up_sound, played_sound, closing_sound, closed_sound, closed_ahead}
-use Rattle.outcome_causes.specs.Stories.{In}
+use Rattle.outcome_causes.specs.program_steps.specs.Sound.{views_along}
+use Rattle.outcome_causes.specs.sock_runs.proofs.Along.{seat_rests}
+use Rattle.outcome_causes.specs.program_walks.proofs.Whole.{closing_of, views_played, views_closed, views_ended, set_up_answered, end_answered, rested_ahead, rested_idle, set_up_sound, played_sound, closing_sound, closed_sound, closed_ahead}
+use Rattle.outcome_causes.specs.outcome_stories.specs.Stories.{In}
 use Rattle.outcome_causes.proofs.Final.{at_there}
 use Rattle.outcome_causes.proofs.Plain.{in_both}
-use Rattle.outcome_causes.proofs.Ticks.{elem_there}
+use Rattle.outcome_causes.specs.outcome_ticks.proofs.Ticks.{elem_there}
 use Rattle.call_causes.specs.joint_runs.proofs.Runs.{AreMade, first_views}
 use Rattle.call_causes.specs.owed_calls.specs.Lives.{ClosesInRun}
 use Rattle.call_causes.specs.Decided.{posted_by}

@@ -10,10 +10,10 @@ use Rattle.seat_programs.specs.Tasks.{plan_of}
 use Rattle.seat_programs.specs.Ticks.{quiet, run}
 use Rattle.seat_programs.specs.Scripts.{all_tasks, opened, set_up, is_ending, IsRunWithCalls}
 use Rattle.seat_programs.specs.ToldCalls.{WasFull}
-use Rattle.sock_runs.specs.Sound.{Sound}
-use Rattle.sock_runs.proofs.Whole.{closing_of, set_up_answered, end_answered, set_up_sound, closing_sound, closed_sound, ended_sound, end_rests}
-use Rattle.outcome_causes.specs.Stories.{In}
-use Rattle.outcome_causes.proofs.Delivered.{requests_used}
+use Rattle.outcome_causes.specs.program_steps.specs.Sound.{Sound}
+use Rattle.outcome_causes.specs.program_walks.proofs.Whole.{closing_of, set_up_answered, end_answered, set_up_sound, closing_sound, closed_sound, ended_sound, end_rests}
+use Rattle.outcome_causes.specs.outcome_stories.specs.Stories.{In}
+use Rattle.outcome_causes.specs.outcome_stories.proofs.Delivered.{requests_used}
 use Rattle.call_causes.specs.joint_runs.proofs.Runs.{AreMade, first_views}
 use Rattle.call_causes.specs.owed_calls.specs.Lives.{ClosesInRun}
 use Rattle.send_causes.specs.Refused.{Deed, DidStep, DidEarly, DidLate, FoundTaken}

@@ -10,7 +10,7 @@ use lib.ListN.{get_elem?}
 use Rattle.sock_words.specs.declared.kind.Kind.{Kind}
 use Rattle.brpc_model.specs.Items.{Item}
 use Rattle.brpc_model.specs.Operations.{Turn, clients, link_names}
-use Rattle.report_fits.proofs.TaskLemmas.{tasks_length}
+use Rattle.call_causes.specs.owed_calls.specs.script_facts.proofs.TaskLemmas.{tasks_length}
 use Rattle.seat_programs.specs.Heads.{Head, Exit, Posts, Unlocks, Decides, Locks, Joins, Opens, Reads, Discards}
 use Rattle.seat_programs.specs.Programs.{Program, Rest, Round}
 use Rattle.seat_programs.specs.Clients.{client_from}
@@ -21,9 +21,9 @@ use Rattle.seat_programs.specs.Ticks.{Moment, IsAlwaysReady, quiet, run, waits}
 use Rattle.seat_programs.specs.Scripts.{sizes_of, programs, readers_from, all_programs, all_tasks, opened, set_up, played, ticks_of, IsRunWithCalls}
 use Rattle.id_runs.specs.Held.{IdView}
 use Rattle.id_runs.specs.Goes.{IdGoesOn}
-use Rattle.sock_runs.proofs.Quiets.{run_seats, run_rests}
-use Rattle.sock_runs.proofs.Waiting.{StandsAside, still_settles}
-use Rattle.sock_runs.proofs.Whole.{views_played, rested_ahead, rested_idle, played_sound}
+use Rattle.outcome_causes.specs.sock_runs.proofs.Quiets.{run_seats, run_rests}
+use Rattle.outcome_causes.specs.sock_runs.proofs.Waiting.{StandsAside, still_settles}
+use Rattle.outcome_causes.specs.program_walks.proofs.Whole.{views_played, rested_ahead, rested_idle, played_sound}
 use Rattle.call_causes.specs.joint_runs.proofs.Both.{behind_both}
 use Rattle.call_causes.specs.joint_runs.proofs.Runs.{AreMade, first_views, joint_runs}
 use Rattle.call_causes.specs.owed_calls.proofs.EndsStill.{view_of, all_still, one_of_still, run_parts, second_part, in_round, rest_at, mapped_at}

@@ -15,7 +15,7 @@ use Rattle.seat_programs.specs.Beside.{found_in}
 use Rattle.seat_programs.specs.Cores.{Core, SeatState}
 use Rattle.seat_programs.specs.Programs.{Program, Do, TakeMessage, TakeHome, PutHome, PutBytes, AskReady, Aside}
 use Rattle.seat_programs.specs.Ticks.{Answer, OfPut, OfReady, Moment, taken, ticked, step_with, tick_with, with_message, with_link, with_put, with_ready, with_found}
-use Rattle.sock_runs.specs.Sound.{first_step}
+use Rattle.outcome_causes.specs.program_steps.specs.Sound.{first_step}
 use Rattle.send_causes.proofs.Readings.{ticks_first}
 
 module _ (p : Plan) (i : ℕ) (seat : SeatState) (c : Core) where

@@ -27,18 +27,18 @@ use Rattle.seat_programs.specs.Ticks.{Moment, quiet}
 use Rattle.seat_programs.specs.Scripts.{all_tasks, played, IsRunWithCalls}
 use Rattle.seat_programs.specs.Told.{AreTasks, IsTask}
 use Rattle.seat_programs.specs.ToldCalls.{Accepted, Order, Fixed, AreOrders, IsSent, InOwnOrder, IsFailing}
-use Rattle.sock_runs.specs.Sound.{state}
-use Rattle.sock_runs.proofs.Along.{seat_rests}
-use Rattle.sock_runs.proofs.Bounded.{IsBounded}
-use Rattle.sock_runs.proofs.Quiets.{run_seats, run_rests}
-use Rattle.sock_runs.proofs.Whole.{IsOwed, IsListed, closing_of, views_played, views_closed, views_ended, end_answered, played_sound, closing_sound, closed_sound, ended_sound, rested_ahead, rested_idle, closed_ahead, recorded_closed}
-use Rattle.outcome_causes.specs.Explains.{is_plain}
-use Rattle.outcome_causes.specs.Facts.{broken_of_run, closed_before_ending, late_of_run, CallsFoundNone, ToldPlain, ToldSends}
-use Rattle.outcome_causes.specs.PlainTasks.{told_tasks_of}
-use Rattle.outcome_causes.specs.Stories.{In}
-use Rattle.outcome_causes.specs.TaskCauses as causes
-use Rattle.outcome_causes.specs.TaskCauses.{ToldTasks}
-use Rattle.outcome_causes.proofs.Lifted.{task_down, why_lifted, told_lifted, are_lifted, lives_lifted}
+use Rattle.outcome_causes.specs.program_steps.specs.Sound.{state}
+use Rattle.outcome_causes.specs.sock_runs.proofs.Along.{seat_rests}
+use Rattle.call_causes.specs.programs_allowed.specs.runs_end.proofs.Bounded.{IsBounded}
+use Rattle.outcome_causes.specs.sock_runs.proofs.Quiets.{run_seats, run_rests}
+use Rattle.outcome_causes.specs.program_walks.proofs.Whole.{IsOwed, IsListed, closing_of, views_played, views_closed, views_ended, end_answered, played_sound, closing_sound, closed_sound, ended_sound, rested_ahead, rested_idle, closed_ahead, recorded_closed}
+use Rattle.outcome_causes.specs.outcome_stories.specs.Explains.{is_plain}
+use Rattle.outcome_causes.specs.outcome_stories.specs.Facts.{broken_of_run, closed_before_ending, late_of_run, CallsFoundNone, ToldPlain, ToldSends}
+use Rattle.outcome_causes.specs.outcome_stories.specs.PlainTasks.{told_tasks_of}
+use Rattle.outcome_causes.specs.outcome_stories.specs.Stories.{In}
+use Rattle.outcome_causes.specs.outcome_stories.specs.TaskCauses as causes
+use Rattle.outcome_causes.specs.outcome_stories.specs.TaskCauses.{ToldTasks}
+use Rattle.outcome_causes.specs.outcome_ticks.proofs.Lifted.{task_down, why_lifted, told_lifted, are_lifted, lives_lifted}
 use Rattle.outcome_causes.proofs.Plain as plain_run
 use Rattle.outcome_causes.proofs.Plain.{fixed_with}
 pub use Rattle.outcome_causes.proofs.Plain.{lost_so}
@@ -57,7 +57,7 @@ use Rattle.send_causes.proofs.Rests.{clients_rest}
 use Rattle.send_causes.proofs.Runs.{AreLabelledIn}
 use Rattle.send_causes.proofs.Whole.{run_orders, run_sent}
 use Rattle.send_causes.proofs.Grounds.{setting, grounds}
-use Rattle.report_fits.proofs.Lists.{all_map}
+use Rattle.call_causes.specs.owed_calls.specs.script_facts.proofs.Lists.{all_map}
 
 before_map : {A : Type 0} (P Q : A → A → Type 0) → ((x y : A) → P x y → Q x y) → (xs : List A) → EachBefore P xs → EachBefore Q xs
 before_map P Q f [] a = tt

@@ -17,10 +17,10 @@ use Rattle.seat_programs.specs.Runs.{IsAtRest}
 use Rattle.seat_programs.specs.Scripts.{opened, set_up, played, IsRunWithCalls}
 use Rattle.seat_programs.specs.Tasks.{plan_of, id_plan_of}
 use Rattle.seat_programs.specs.Ticks.{Answer, Moment, IsAlwaysReady, quiet, waits, waits_at, waits_in}
-use Rattle.sock_runs.specs.Sound.{views_along}
-use Rattle.sock_runs.proofs.Along.{seat_rests, place_inside}
-use Rattle.sock_runs.proofs.Waiting.{StandsAside}
-use Rattle.sock_runs.proofs.Whole.{views_played, rested_ahead}
+use Rattle.outcome_causes.specs.program_steps.specs.Sound.{views_along}
+use Rattle.outcome_causes.specs.sock_runs.proofs.Along.{seat_rests, place_inside}
+use Rattle.outcome_causes.specs.sock_runs.proofs.Waiting.{StandsAside}
+use Rattle.outcome_causes.specs.program_walks.proofs.Whole.{views_played, rested_ahead}
 use Rattle.id_runs.specs.Held.{IdView}
 use Rattle.id_runs.specs.Goes.{IdGoesOn}
 use Rattle.call_causes.specs.joint_runs.proofs.Both.{BothSound, behind_both}

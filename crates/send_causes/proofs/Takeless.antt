@@ -7,7 +7,7 @@ use Rattle.atomic_table.proofs.Lists.{at_set}
 use Rattle.sock_words.specs.declared.plain.Plan.{Plan}
 use Rattle.sock_model.specs.declared.view.View.{View}
 use Rattle.sock_message.specs.Asked.{Asked}
-use Rattle.report_fits.proofs.Lists as lists
+use Rattle.call_causes.specs.owed_calls.specs.script_facts.proofs.Lists as lists
 use Rattle.seat_programs.specs.declared.task.Op.{Op}
 use Rattle.seat_programs.specs.declared.task.Op.TheVariants as ops
 use Rattle.seat_programs.specs.declared.task.Task.{Task}
@@ -21,18 +21,18 @@ use Rattle.seat_programs.specs.Rounds.{round}
 use Rattle.seat_programs.specs.Clients.{HeldLife, operation, client_from, ending_of}
 use Rattle.seat_programs.specs.Cores.{Core, SeatState, resolved, next_step}
 use Rattle.seat_programs.specs.Ticks.{Moment, IsAnswered, AreAnswered, ticked, run}
-use Rattle.sock_runs.specs.AtSteps.{Asks, AtSteps, asks_words}
-use Rattle.sock_runs.specs.Sound.{Sound, first_step, IsFitting, AreFitting, views_after}
-use Rattle.sock_runs.proofs.LinkTicks.{RetriesGo}
-use Rattle.sock_runs.proofs.Cases.{ComesNext, tick_keeps_marks}
-use Rattle.sock_runs.proofs.Rounds.{begins_round}
-use Rattle.sock_runs.proofs.Passes.{goes_round}
-use Rattle.sock_runs.proofs.Ticks.{sound_ticks}
-use Rattle.sock_runs.proofs.Through.{PassesPlain, PassesFails, PassesSends, is_plain_aside, by_errors, locked, at_steps_plain, at_steps_sends, through_set_failed, through_fail}
-use Rattle.sock_runs.proofs.ThroughLoops.{through_errors, through_locks, through_joins}
-use Rattle.sock_runs.proofs.ThroughSends.{through_block, through_send, through_ended}
-use Rattle.sock_runs.proofs.ThroughCalls.{through_attempt, through_call, through_retry, through_join}
-use Rattle.sock_runs.proofs.ThroughClients.{through_open, through_back, through_operation}
+use Rattle.outcome_causes.specs.program_steps.specs.AtSteps.{Asks, AtSteps, asks_words}
+use Rattle.outcome_causes.specs.program_steps.specs.Sound.{Sound, first_step, IsFitting, AreFitting, views_after}
+use Rattle.outcome_causes.specs.sock_runs.proofs.LinkTicks.{RetriesGo}
+use Rattle.outcome_causes.specs.program_steps.proofs.Cases.{ComesNext, tick_keeps_marks}
+use Rattle.outcome_causes.specs.program_steps.proofs.Rounds.{begins_round}
+use Rattle.outcome_causes.specs.program_steps.proofs.Passes.{goes_round}
+use Rattle.outcome_causes.specs.sock_runs.proofs.Ticks.{sound_ticks}
+use Rattle.outcome_causes.specs.program_walks.proofs.Through.{PassesPlain, PassesFails, PassesSends, is_plain_aside, by_errors, locked, at_steps_plain, at_steps_sends, through_set_failed, through_fail}
+use Rattle.outcome_causes.specs.program_walks.proofs.ThroughLoops.{through_errors, through_locks, through_joins}
+use Rattle.outcome_causes.specs.program_walks.proofs.ThroughSends.{through_block, through_send, through_ended}
+use Rattle.outcome_causes.specs.program_walks.proofs.ThroughCalls.{through_attempt, through_call, through_retry, through_join}
+use Rattle.outcome_causes.specs.program_walks.proofs.ThroughClients.{through_open, through_back, through_operation}
 use Rattle.run_theorems.specs.Heard.{taken_link}
 
 module _ (J : Type 0) where

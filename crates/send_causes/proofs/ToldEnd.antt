@@ -6,10 +6,10 @@ use Rattle.seat_programs.specs.Cores.{Core}
 use Rattle.seat_programs.specs.Tasks.{plan_of}
 use Rattle.seat_programs.specs.Scripts.{IsRunWithCalls}
 use Rattle.seat_programs.specs.Told.{AreTasks}
-use Rattle.sock_runs.specs.Sound.{Sound, AllRest}
-use Rattle.sock_runs.proofs.Whole.{views_closed, views_ended, ended_sound, end_rests}
-use Rattle.outcome_causes.specs.Kept.{Story}
-use Rattle.outcome_causes.specs.PlainTasks.{told_tasks_of}
+use Rattle.outcome_causes.specs.program_steps.specs.Sound.{Sound, AllRest}
+use Rattle.outcome_causes.specs.program_walks.proofs.Whole.{views_closed, views_ended, ended_sound, end_rests}
+use Rattle.outcome_causes.specs.outcome_stories.specs.Kept.{Story}
+use Rattle.outcome_causes.specs.outcome_stories.specs.PlainTasks.{told_tasks_of}
 use Rattle.outcome_causes.proofs.Runs.{Goes}
 use Rattle.outcome_causes.proofs.Scripts.{seats, ended_told, final_told, story_end}
 use Rattle.call_causes.specs.joint_runs.proofs.Runs.{AreMade, first_views}

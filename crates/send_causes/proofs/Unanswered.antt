@@ -23,8 +23,8 @@ use Rattle.seat_programs.specs.Scripts.{all_tasks, IsRunWithCalls}
 use Rattle.seat_programs.specs.Told.{IsTask, Became}
 use Rattle.seat_programs.specs.ToldCalls.{Gave, IsResponse, IsPlaced}
 use Rattle.call_causes.specs.joint_runs.proofs.Runs.{AreMade}
-use Rattle.report_fits.proofs.Reading.{InRange}
-use Rattle.report_fits.proofs.Targets.{AreThere}
+use Rattle.call_causes.specs.owed_calls.specs.script_facts.proofs.Reading.{InRange}
+use Rattle.call_causes.specs.owed_calls.specs.script_facts.proofs.Targets.{AreThere}
 use Rattle.call_causes.specs.owed_calls.specs.Lives.{ClosesInRun}
 use Rattle.run_theorems.proofs.Gave.{gave_heard}
 use Rattle.call_causes.specs.Lists.{given, shows_in_run, soon_of_run}

@@ -12,19 +12,19 @@ use Rattle.seat_programs.specs.Tasks.{opens, plan_of, id_plan_of}
 use Rattle.seat_programs.specs.Scripts.{all_tasks, IsRunWithCalls}
 use Rattle.seat_programs.specs.Told.{AreTasks}
 use Rattle.seat_programs.specs.ToldCalls.{Accepted, Fixed, AreOrders, IsSent, OfSend}
-use Rattle.sock_runs.specs.GoesOn.{GoesOn, HasNothing}
-use Rattle.sock_runs.specs.Sound.{Sound, AllRest}
-use Rattle.sock_runs.proofs.LinkTicks.{RetriesGo}
-use Rattle.sock_runs.proofs.Whole.{Begins, AreFittingIn, IsOwed, views_ended, ended_sound, end_rests, all_homes}
-use Rattle.outcome_causes.specs.PlainTasks.{told_tasks_of}
-use Rattle.outcome_causes.proofs.Delivered.{AreQuiet}
+use Rattle.outcome_causes.specs.program_steps.specs.GoesOn.{GoesOn, HasNothing}
+use Rattle.outcome_causes.specs.program_steps.specs.Sound.{Sound, AllRest}
+use Rattle.outcome_causes.specs.sock_runs.proofs.LinkTicks.{RetriesGo}
+use Rattle.outcome_causes.specs.program_walks.proofs.Whole.{Begins, AreFittingIn, IsOwed, views_ended, ended_sound, end_rests, all_homes}
+use Rattle.outcome_causes.specs.outcome_stories.specs.PlainTasks.{told_tasks_of}
+use Rattle.outcome_causes.specs.outcome_stories.proofs.Delivered.{AreQuiet}
 use Rattle.outcome_causes.proofs.Final.{at_there, at_within}
 use Rattle.outcome_causes.proofs.Scripts.{seats, final_told, story_end, orders, run_told}
-use Rattle.outcome_causes.specs.Causes.{Asks}
-use Rattle.outcome_causes.specs.Kept.{IsSpoken}
-use Rattle.outcome_causes.specs.TaskCauses as causes
-use Rattle.outcome_causes.proofs.Lifted.{task_up, made_up}
-use Rattle.outcome_causes.proofs.Members.{in_contains}
+use Rattle.outcome_causes.specs.outcome_stories.specs.Causes.{Asks}
+use Rattle.outcome_causes.specs.outcome_stories.specs.Kept.{IsSpoken}
+use Rattle.outcome_causes.specs.outcome_stories.specs.TaskCauses as causes
+use Rattle.outcome_causes.specs.outcome_ticks.proofs.Lifted.{task_up, made_up}
+use Rattle.outcome_causes.specs.outcome_stories.proofs.Members.{in_contains}
 use Rattle.sock_message.specs.Asked.{Asked, frame_of}
 use Rattle.seat_programs.specs.declared.task.Task.{Task}
 use Rattle.send_causes.specs.Sent.{IsAttempt}

@@ -14,7 +14,7 @@ use Rattle.seat_programs.specs.Programs.{Program, Aside}
 use Rattle.seat_programs.specs.Cores.{Calls, Core}
 use Rattle.seat_programs.specs.Ticks.{Moment, taken}
 use Rattle.seat_programs.specs.Scripts.{IsRunWithCalls}
-use Rattle.sock_runs.specs.Sound.{first_step}
+use Rattle.outcome_causes.specs.program_steps.specs.Sound.{first_step}
 use Rattle.call_causes.specs.Lists.{given, shows_in_run, early_of_run, closed_of_run, silent_of_run}
 use Rattle.call_causes.specs.Posts.{Post, posted_at}
 

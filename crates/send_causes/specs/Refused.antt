@@ -21,9 +21,9 @@ use Rattle.seat_programs.specs.Cores.{Core, SeatState, word_of, found_at, waitin
 use Rattle.seat_programs.specs.Ticks.{Moment, quiet, ticked}
 use Rattle.seat_programs.specs.Tasks.{plan_of}
 use Rattle.seat_programs.specs.Scripts.{opened, ending, set_up, played, IsRunWithCalls}
-use Rattle.sock_runs.specs.AtSteps.{Asks, AtSteps}
-use Rattle.sock_runs.specs.Sound.{first_step}
-use Rattle.outcome_causes.specs.Stories.{In}
+use Rattle.outcome_causes.specs.program_steps.specs.AtSteps.{Asks, AtSteps}
+use Rattle.outcome_causes.specs.program_steps.specs.Sound.{first_step}
+use Rattle.outcome_causes.specs.outcome_stories.specs.Stories.{In}
 use Rattle.id_runs.specs.Goes.{FitsSock}
 use Rattle.label_runs.specs.Labels.{Trial, Idle, Tries, Sends, put_behind, Kept, unlocks_trial, locked_trial, LeavesLabel, MayPut, AsideMove, FindsLabel, AtLabel}
 use Rattle.corr_core.specs.declared.marks.Plan.{Plan as IdPlan}

@@ -4,8 +4,8 @@ use Rattle.brpc_model.specs.Items.{Item}
 use Rattle.brpc_model.specs.Operations.{Turn}
 use Rattle.seat_programs.specs.Cores.{Core}
 use Rattle.seat_programs.specs.Scripts.{played, IsRunWithCalls}
-use Rattle.served_calls.specs.Below.joint_runs.proofs.Runs.{AreMade}
-use Rattle.served_calls.specs.Below.owed_calls.specs.Settled as settled
+use Rattle.served_calls.specs.joint_runs.proofs.Runs.{AreMade}
+use Rattle.served_calls.specs.owed_calls.specs.Settled as settled
 use Rattle.calm_runs.specs.send_causes.proofs.Early.{clients_take_none}
 use Rattle.calm_runs.specs.send_causes.proofs.Standing.{takeless_rests}
 use Rattle.served_fits.specs.Shown.{NoneOpen}

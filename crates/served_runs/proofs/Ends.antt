@@ -15,12 +15,12 @@ use Rattle.seat_programs.specs.Programs.{Aside}
 use Rattle.seat_programs.specs.Cores.{Core, SeatState}
 use Rattle.seat_programs.specs.Tasks.{calls, plan_of}
 use Rattle.seat_programs.specs.Ticks.{Answer, OfTake, Moment, IsAnswered, FitsTake, IsTaken, tick_with, ticked}
-use Rattle.sock_runs.specs.Sound.{Sound, IsFitting}
-use Rattle.sock_runs.proofs.LinkTicks.{RetriesGo}
-use Rattle.send_causes.specs.Below.outcome_causes.specs.Stories.{In}
-use Rattle.send_causes.specs.Below.owed_calls.proofs.EndsStill.{run_ending}
-use Rattle.send_causes.specs.Below.run_theorems.specs.Heard.{as_taken, taken_link, taken_at, bytes_found}
-use Rattle.send_causes.specs.Below.call_causes.specs.Lists.{given}
+use Rattle.send_causes.specs.programs_allowed.specs.program_steps.specs.Sound.{Sound, IsFitting}
+use Rattle.send_causes.specs.programs_allowed.specs.sock_runs.proofs.LinkTicks.{RetriesGo}
+use Rattle.send_causes.specs.outcome_stories.specs.Stories.{In}
+use Rattle.send_causes.specs.owed_calls.proofs.EndsStill.{run_ending}
+use Rattle.send_causes.specs.run_theorems.specs.Heard.{as_taken, taken_link, taken_at, bytes_found}
+use Rattle.send_causes.specs.call_causes.specs.Lists.{given}
 use Rattle.send_causes.proofs.EndedTicks.{seats_else}
 use Rattle.send_causes.proofs.Readings.{IsTake, takes_or_not}
 use Rattle.served_runs.specs.Offered.{IsDone, offered_by, GaveAll, GaveLast, IsOfferedSo, OffersAt, IsOffered}

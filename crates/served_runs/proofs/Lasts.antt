@@ -15,17 +15,17 @@ use Rattle.seat_programs.specs.Programs.{Aside}
 use Rattle.seat_programs.specs.Cores.{Core, SeatState}
 use Rattle.seat_programs.specs.Tasks.{opens, calls, plan_of}
 use Rattle.seat_programs.specs.Ticks.{Answer, OfTake, Moment, IsAnswered, AreAnswered, IsTaken, tick_with, ticked, run}
-use Rattle.sock_runs.specs.Sound.{Sound, IsFitting, AreFitting, views_after}
-use Rattle.sock_runs.proofs.LinkTicks.{RetriesGo}
-use Rattle.sock_runs.proofs.OpensStay.{run_word}
-use Rattle.sock_runs.proofs.Recorded.{Recorded, recorded_ticks}
-use Rattle.sock_runs.proofs.Ticks.{sound_ticks}
-use Rattle.send_causes.specs.Below.outcome_causes.specs.Stories.{In}
-use Rattle.send_causes.specs.Below.outcome_causes.proofs.Plain.{in_both}
-use Rattle.send_causes.specs.Below.run_theorems.specs.Heard.{as_taken, taken_link, taken_at, taken_in, bytes_found}
-use Rattle.send_causes.specs.Below.run_theorems.proofs.HeardRuns.{taken_append}
-use Rattle.send_causes.specs.Below.run_theorems.proofs.Lengths.{tick_long}
-use Rattle.send_causes.specs.Below.call_causes.specs.Lists.{given}
+use Rattle.send_causes.specs.programs_allowed.specs.program_steps.specs.Sound.{Sound, IsFitting, AreFitting, views_after}
+use Rattle.send_causes.specs.programs_allowed.specs.sock_runs.proofs.LinkTicks.{RetriesGo}
+use Rattle.send_causes.specs.programs_allowed.specs.program_walks.proofs.OpensStay.{run_word}
+use Rattle.send_causes.specs.programs_allowed.specs.program_walks.proofs.Recorded.{Recorded, recorded_ticks}
+use Rattle.send_causes.specs.programs_allowed.specs.sock_runs.proofs.Ticks.{sound_ticks}
+use Rattle.send_causes.specs.outcome_stories.specs.Stories.{In}
+use Rattle.send_causes.specs.outcome_causes.proofs.Plain.{in_both}
+use Rattle.send_causes.specs.run_theorems.specs.Heard.{as_taken, taken_link, taken_at, taken_in, bytes_found}
+use Rattle.send_causes.specs.run_theorems.proofs.HeardRuns.{taken_append}
+use Rattle.send_causes.specs.run_theorems.proofs.Lengths.{tick_long}
+use Rattle.send_causes.specs.call_causes.specs.Lists.{given}
 use Rattle.send_causes.proofs.Early.{Any, ends_anyhow}
 use Rattle.send_causes.proofs.EndedTicks.{seats_else}
 use Rattle.send_causes.proofs.ReaderRuns.{keeps_ticks}

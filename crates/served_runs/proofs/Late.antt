@@ -7,17 +7,17 @@ use Rattle.seat_programs.specs.Cores.{Core}
 use Rattle.seat_programs.specs.Tasks.{plan_of}
 use Rattle.seat_programs.specs.Ticks.{Moment, IsAnswered, ticked}
 use Rattle.seat_programs.specs.Scripts.{IsRunWithCalls}
-use Rattle.sock_runs.specs.GoesOn.{GoesOn}
-use Rattle.sock_runs.specs.Sound.{Sound, IsFitting, views_after}
-use Rattle.sock_runs.proofs.Cases.{goes_first}
-use Rattle.sock_runs.proofs.Passes.{goes_round}
-use Rattle.sock_runs.proofs.Rounds.{begins_round}
-use Rattle.sock_runs.proofs.Whole.{views_closed}
-use Rattle.send_causes.specs.Below.outcome_causes.specs.Facts.{born_at, shown_in, late_links_of_run}
-use Rattle.send_causes.specs.Below.outcome_causes.specs.Stories.{In}
-use Rattle.send_causes.specs.Below.outcome_causes.proofs.Plain.{in_left, in_right}
-use Rattle.send_causes.specs.Below.joint_runs.proofs.Runs.{AreMade, first_views}
-use Rattle.send_causes.specs.Below.owed_calls.proofs.EndsStill.{view_of}
+use Rattle.send_causes.specs.programs_allowed.specs.program_steps.specs.GoesOn.{GoesOn}
+use Rattle.send_causes.specs.programs_allowed.specs.program_steps.specs.Sound.{Sound, IsFitting, views_after}
+use Rattle.send_causes.specs.programs_allowed.specs.program_steps.proofs.Cases.{goes_first}
+use Rattle.send_causes.specs.programs_allowed.specs.program_steps.proofs.Passes.{goes_round}
+use Rattle.send_causes.specs.programs_allowed.specs.program_steps.proofs.Rounds.{begins_round}
+use Rattle.send_causes.specs.programs_allowed.specs.program_walks.proofs.Whole.{views_closed}
+use Rattle.send_causes.specs.outcome_stories.specs.Facts.{born_at, shown_in, late_links_of_run}
+use Rattle.send_causes.specs.outcome_stories.specs.Stories.{In}
+use Rattle.send_causes.specs.outcome_causes.proofs.Plain.{in_left, in_right}
+use Rattle.send_causes.specs.joint_runs.proofs.Runs.{AreMade, first_views}
+use Rattle.send_causes.specs.owed_calls.proofs.EndsStill.{view_of}
 use Rattle.send_causes.proofs.LateEnding.{ended_past}
 use Rattle.send_causes.proofs.LateLives.{WasPast, Lives, lives_tell, lives_ticks}
 use Rattle.send_causes.proofs.LateLooks.{Mode, Idle, Writes}

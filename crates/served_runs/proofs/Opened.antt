@@ -9,8 +9,8 @@ use Rattle.sock_words.specs.declared.outcome.Outcome.TheVariants.{Opened}
 use Rattle.sock_model.specs.Layout.{open_index}
 use Rattle.brpc_model.specs.Items.{Item}
 use Rattle.brpc_model.specs.Operations.{Turn}
-use Rattle.send_causes.specs.Below.report_fits.proofs.Reading.{InRange}
-use Rattle.send_causes.specs.Below.report_fits.proofs.Targets.{AreThere}
+use Rattle.send_causes.specs.script_facts.proofs.Reading.{InRange}
+use Rattle.send_causes.specs.script_facts.proofs.Targets.{AreThere}
 use Rattle.seat_programs.specs.declared.task.Op.TheVariants as ops
 use Rattle.seat_programs.specs.Calls.{CreateLife}
 use Rattle.seat_programs.specs.Programs.{NO_SOCKET}
@@ -18,19 +18,19 @@ use Rattle.seat_programs.specs.Cores.{Core}
 use Rattle.seat_programs.specs.Tasks.{opens, plan_of}
 use Rattle.seat_programs.specs.Told.{Made}
 use Rattle.seat_programs.specs.Scripts.{all_tasks, IsRunWithCalls}
-use Rattle.sock_runs.proofs.Whole.{views_ended, ended_sound}
-use Rattle.send_causes.specs.Below.outcome_causes.specs.Causes.{Asks, WasGiven}
-use Rattle.send_causes.specs.Below.outcome_causes.specs.Explains.{step, Because, Explained}
-use Rattle.send_causes.specs.Below.outcome_causes.specs.PlainTasks.{told_tasks_of}
-use Rattle.send_causes.specs.Below.outcome_causes.specs.Stories.{trace_of}
-use Rattle.send_causes.specs.Below.outcome_causes.proofs.Events.{given_by}
-use Rattle.send_causes.specs.Below.outcome_causes.proofs.Final.{Final, final}
-use Rattle.send_causes.specs.Below.outcome_causes.proofs.Lifted.{made_down}
-use Rattle.send_causes.specs.Below.outcome_causes.proofs.Members.{contains_in, from_trace}
-use Rattle.send_causes.specs.Below.outcome_causes.proofs.Openings.{are_seats}
-use Rattle.send_causes.specs.Below.joint_runs.proofs.Runs.{AreMade, first_views}
-use Rattle.send_causes.specs.Below.owed_calls.specs.Lives.{ClosesInRun}
-use Rattle.send_causes.specs.Below.owed_calls.proofs.Known.{run_all_rest}
+use Rattle.send_causes.specs.programs_allowed.specs.program_walks.proofs.Whole.{views_ended, ended_sound}
+use Rattle.send_causes.specs.outcome_stories.specs.Causes.{Asks, WasGiven}
+use Rattle.send_causes.specs.outcome_stories.specs.Explains.{step, Because, Explained}
+use Rattle.send_causes.specs.outcome_stories.specs.PlainTasks.{told_tasks_of}
+use Rattle.send_causes.specs.outcome_stories.specs.Stories.{trace_of}
+use Rattle.send_causes.specs.outcome_ticks.proofs.Events.{given_by}
+use Rattle.send_causes.specs.outcome_causes.proofs.Final.{Final, final}
+use Rattle.send_causes.specs.outcome_ticks.proofs.Lifted.{made_down}
+use Rattle.send_causes.specs.outcome_stories.proofs.Members.{contains_in, from_trace}
+use Rattle.send_causes.specs.outcome_causes.proofs.Openings.{are_seats}
+use Rattle.send_causes.specs.joint_runs.proofs.Runs.{AreMade, first_views}
+use Rattle.send_causes.specs.owed_calls.specs.Lives.{ClosesInRun}
+use Rattle.send_causes.specs.owed_calls.proofs.Known.{run_all_rest}
 use Rattle.send_causes.proofs.AttemptedStored.{ids_at}
 use Rattle.send_causes.proofs.DropEndsCauses.{own_link}
 use Rattle.send_causes.proofs.DropOfRun.{EndStory, IsOpened, ends, given_opened}

@@ -14,9 +14,9 @@ use Rattle.seat_programs.specs.Cores.{Core, SeatState, link_place}
 use Rattle.seat_programs.specs.Ticks.{Answer, OfTake, Moment, ticked}
 use Rattle.seat_programs.specs.Tasks.{plan_of}
 use Rattle.seat_programs.specs.Scripts.{set_up, IsRunWithCalls}
-use Rattle.sock_runs.specs.Sound.{first_step}
-use Rattle.send_causes.specs.Below.owed_calls.specs.Lives.{InHand}
-use Rattle.send_causes.specs.Below.call_causes.specs.Lists.{given}
+use Rattle.send_causes.specs.programs_allowed.specs.program_steps.specs.Sound.{first_step}
+use Rattle.send_causes.specs.owed_calls.specs.Lives.{InHand}
+use Rattle.send_causes.specs.call_causes.specs.Lists.{given}
 
 -- ## What a link took
 

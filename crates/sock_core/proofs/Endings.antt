@@ -21,12 +21,12 @@ use Rattle.seat_programs.specs.Cores.{Core, SeatState, resolved, said, next_step
 use Rattle.seat_programs.specs.Ticks.{Answer, waits_at, waits}
 use Rattle.seat_programs.specs.Runs.{IsAtRest}
 use Rattle.seat_programs.specs.Scripts.{is_ending}
-use Rattle.machine_tables.specs.machine_model.specs.sock_runs.specs.GoesOn.{GoesOn}
-use Rattle.machine_tables.specs.machine_model.specs.sock_runs.specs.Lasts.{Lasts}
-use Rattle.machine_tables.specs.machine_model.specs.sock_runs.specs.Sound.{Sound, IsAhead}
-use Rattle.machine_tables.specs.machine_model.specs.sock_runs.proofs.Allowed.{view_there}
-use Rattle.machine_tables.specs.machine_model.specs.sock_runs.proofs.Along.{place_inside, seat_ahead, seat_rests}
-use Rattle.machine_tables.specs.machine_model.specs.sock_runs.proofs.Held.{held_in_hand}
+use Rattle.machine_ticks.specs.machine_model.specs.program_steps.specs.GoesOn.{GoesOn}
+use Rattle.machine_ticks.specs.machine_model.specs.program_steps.specs.Lasts.{Lasts}
+use Rattle.machine_ticks.specs.machine_model.specs.program_steps.specs.Sound.{Sound, IsAhead}
+use Rattle.machine_ticks.specs.machine_model.specs.sock_runs.proofs.Allowed.{view_there}
+use Rattle.machine_ticks.specs.machine_model.specs.sock_runs.proofs.Along.{place_inside, seat_ahead, seat_rests}
+use Rattle.machine_ticks.specs.machine_model.specs.sock_runs.proofs.Held.{held_in_hand}
 use Rattle.machine_tables.specs.machine_model.specs.id_runs.specs.Goes.{SoundIds}
 use Rattle.machine_tables.specs.machine_model.specs.id_runs.proofs.Opening.{ending_ids, told_ids}
 use Rattle.machine_tables.specs.machine_model.specs.run_theorems.specs.programs_allowed.proofs.Opens.{ending_resolved, ending_sound, told_sound}

@@ -23,8 +23,8 @@ use Rattle.seat_programs.specs.Clients.{client_from}
 use Rattle.seat_programs.specs.Cores.{Calls, Core, SeatState, said, resolved, next_step}
 use Rattle.seat_programs.specs.Runs.{from_to}
 use Rattle.seat_programs.specs.Scripts.{sizes_of, programs, readers_from, all_programs, beginning, opening_homes, opening_words, opening_calls, new_links}
-use Rattle.machine_tables.specs.machine_model.specs.sock_runs.specs.Lasts.{Lasts}
-use Rattle.machine_tables.specs.machine_model.specs.sock_runs.specs.Sound.{IsAhead, Sound}
+use Rattle.machine_ticks.specs.machine_model.specs.program_steps.specs.Lasts.{Lasts}
+use Rattle.machine_ticks.specs.machine_model.specs.program_steps.specs.Sound.{IsAhead, Sound}
 use Rattle.machine_tables.specs.machine_model.specs.run_theorems.specs.programs_allowed.specs.Openings.{opening_views, all_seats}
 use Rattle.id_rule.specs.Lawful.{call_index}
 use Rattle.machine_tables.specs.machine_model.specs.id_runs.proofs.Opening.{unused}

@@ -16,7 +16,7 @@ use Rattle.slot_steps.proofs.Numbers.{only-at}
 use Rattle.seat_programs.specs.declared.task.Task.{Task}
 use Rattle.rpc_client.specs.sock_rule.specs.Faults.{is_fault}
 use Rattle.rpc_client.specs.sock_rule.specs.Faults as faults
-use Rattle.report_fits.proofs.Lists.{has_from}
+use Rattle.report_fits.specs.script_facts.proofs.Lists.{has_from}
 use Rattle.rpc_client.specs.write_chain.specs.Noting.{Noted, nothing, finding, failing}
 use Rattle.rpc_client.specs.write_chain.proofs.Faulting.{slot_fault}
 use Rattle.sock_deeds.specs.Broken.{noted_links, faults_by, faults_of}

@@ -23,8 +23,8 @@ use Rattle.seat_programs.specs.declared.task.Op.{Op}
 use Rattle.seat_programs.specs.declared.task.Op.TheVariants as ops
 use Rattle.seat_programs.specs.declared.task.Task.{Task}
 use Rattle.seat_programs.specs.Told.{IsTask, AfterHold, goes_well, in_hand_behind, alternate}
-use Rattle.outcome_causes.proofs.Tests.{split_eq, both_left, both_right, none_of}
-use Rattle.report_fits.proofs.Lists.{all_at, contains_from}
+use Rattle.outcome_ticks.specs.outcome_stories.proofs.Tests.{split_eq, both_left, both_right, none_of}
+use Rattle.report_fits.specs.script_facts.proofs.Lists.{all_at, contains_from}
 use Rattle.rpc_client.specs.declared.holding.Held.{Held}
 use Rattle.rpc_client.specs.Holding.{HeldBy, DroppedBy, place_in}
 use Rattle.sock_deeds.specs.Deeds.{Hand, Did, opens, sends, holds, drops, fails, waits, looks, takes, misses, sets, returns, own_number, DoneBy, Deed, Chain}

@@ -22,7 +22,7 @@ use Rattle.seat_programs.specs.declared.task.Op.TheVariants as ops
 use Rattle.seat_programs.specs.declared.task.Task.{Task}
 use Rattle.seat_programs.specs.Runs.{from_to}
 use Rattle.seat_programs.specs.Told.{Became, IsFail}
-use Rattle.report_fits.proofs.Lists.{Has, contains_from, all_from, has_filter_map, filter_map_has, before_filter_map, before_from}
+use Rattle.report_fits.specs.script_facts.proofs.Lists.{Has, contains_from, all_from, has_filter_map, filter_map_has, before_filter_map, before_from}
 use Rattle.sock_deeds.specs.Deeds.{fails, sets, own_number}
 use Rattle.sock_deeds.specs.Broken.{faults_of}
 use Rattle.sock_deeds.specs.Runs.{IsOperation, IsFor, IsById, IsReaderCode, Seated, ReaderSeat, early_of, DeedRun}

@@ -13,9 +13,9 @@ use Rattle.seat_programs.specs.declared.task.Op.{Op}
 use Rattle.seat_programs.specs.declared.task.Op.TheVariants as ops
 use Rattle.seat_programs.specs.declared.task.Task.{Task}
 use Rattle.seat_programs.specs.Told.{IsTask}
-use Rattle.outcome_causes.proofs.Tasks.{sorted_of}
-use Rattle.outcome_causes.proofs.Seats.{Less}
-use Rattle.report_fits.proofs.Lists.{has_from, before_at}
+use Rattle.outcome_ticks.proofs.Tasks.{sorted_of}
+use Rattle.outcome_ticks.proofs.Seats.{Less}
+use Rattle.report_fits.specs.script_facts.proofs.Lists.{has_from, before_at}
 use Rattle.sock_deeds.specs.Deeds.{own_number, Deed}
 use Rattle.sock_deeds.specs.Runs.{number_at, numbers_at, listed, numbers_of, Seated, DeedRun}
 use Rattle.sock_deeds.proofs.Flats.{flat_from, flat_there, flat_rises, flat_places}

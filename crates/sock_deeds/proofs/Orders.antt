@@ -31,13 +31,13 @@ use Rattle.seat_programs.specs.Runs.{from_to}
 use Rattle.seat_programs.specs.Scripts.{taken_by, took_at_home}
 use Rattle.seat_programs.specs.Told.{IsTask}
 use Rattle.seat_programs.specs.ToldCalls.{Accepted, Order, Fixed, AreOrders, IsTaken, StandsAt, StandsOn, InOwnOrder, label}
-use Rattle.report_fits.proofs.Lists.{before_from}
+use Rattle.report_fits.specs.script_facts.proofs.Lists.{before_from}
 use Rattle.rpc_client.specs.sock_rule.specs.Closing.{LifeFailed, PlacesDiffer}
 use Rattle.rpc_client.specs.sock_rule.specs.declared.homes.Letter.{Letter}
 use Rattle.rpc_client.specs.sock_rule.specs.Faults.{faults_of}
 use Rattle.sock_message.specs.Asked.{Asked, frame_of}
-use Rattle.outcome_causes.proofs.Accepted as accepted
-use Rattle.outcome_causes.proofs.Ordered.{get_range}
+use Rattle.outcome_ticks.specs.outcome_stories.proofs.Accepted as accepted
+use Rattle.outcome_ticks.specs.outcome_stories.proofs.Ordered.{get_range}
 use Rattle.sock_deeds.specs.Deeds.{Did, sends}
 use Rattle.sock_deeds.specs.Left.{accepted_of, orders_of, homes_of}
 use Rattle.sock_deeds.specs.Runs.{IsMessage, of_send, of_call, DeedRun}

@@ -24,7 +24,7 @@ use Rattle.seat_programs.specs.declared.task.Op.TheVariants as ops
 use Rattle.seat_programs.specs.declared.task.Task.{Task}
 use Rattle.seat_programs.specs.Told.{Made}
 use Rattle.seat_programs.specs.ToldCalls.{Accepted, Fixed, IsSent as IsSentBy, OfSend}
-use Rattle.report_fits.proofs.Lists.{all_from}
+use Rattle.report_fits.specs.script_facts.proofs.Lists.{all_from}
 use Rattle.sock_deeds.specs.Deeds.{own_name}
 use Rattle.sock_deeds.specs.Left.{accepted_of}
 use Rattle.sock_deeds.specs.Told.{IsAttempt}

@@ -18,11 +18,11 @@ use Rattle.seat_programs.specs.declared.task.Op.{Op}
 use Rattle.seat_programs.specs.declared.task.Op.TheVariants as ops
 use Rattle.seat_programs.specs.declared.task.Task.{Task}
 use Rattle.seat_programs.specs.Told.{IsTask, Became, TaskFits, OpFits}
-use Rattle.outcome_causes.specs.Stories.{In}
-use Rattle.outcome_causes.specs.Causes.{Asks}
-use Rattle.outcome_causes.proofs.Members.{all_in}
-use Rattle.outcome_causes.proofs.Tasks.{one_task, fits_of}
-use Rattle.report_fits.proofs.Lists.{has_from}
+use Rattle.outcome_ticks.specs.outcome_stories.specs.Stories.{In}
+use Rattle.outcome_ticks.specs.outcome_stories.specs.Causes.{Asks}
+use Rattle.outcome_ticks.specs.outcome_stories.proofs.Members.{all_in}
+use Rattle.outcome_ticks.proofs.Tasks.{one_task, fits_of}
+use Rattle.report_fits.specs.script_facts.proofs.Lists.{has_from}
 use Rattle.sock_deeds.specs.Deeds.{Did, opens, sends, holds, drops, fails, own_number, Deed, own_name}
 use Rattle.sock_deeds.specs.Runs.{IsOperation, IsMessage, of_send, of_call, IsFor, Seated, DeedRun}
 use Rattle.sock_deeds.proofs.Acts.{Act, did_of, same_seat, same_deed}

@@ -25,8 +25,8 @@ use Rattle.seat_programs.specs.declared.task.Task.{Task}
 use Rattle.seat_programs.specs.Cores.{Core}
 use Rattle.seat_programs.specs.Told.{IsTask, Became, IsOpen}
 use Rattle.seat_programs.specs.ToldCalls.{Fixed, Order, StandsOn, FoundNone, FoundFailed, MayFail, IsFailing, Why, all_accepted}
-use Rattle.outcome_causes.proofs.Accepted as accepted
-use Rattle.outcome_causes.proofs.Tasks.{setup_opens}
+use Rattle.outcome_ticks.specs.outcome_stories.proofs.Accepted as accepted
+use Rattle.outcome_ticks.proofs.Tasks.{setup_opens}
 use Rattle.rpc_client.specs.Failing.{FailedBy as FailedAs}
 use Rattle.rpc_client.specs.Holding.{HeldBy}
 use Rattle.sock_deeds.specs.Deeds.{SentOver, MessageBy, OpenedOn, Did, opens, sends, holds, drops, fails, own_number, DoneBy}

@@ -3,6 +3,8 @@ pub mod Broken
 pub mod Runs
 pub mod Left
 pub mod Told
+pub use Rattle.report_fits.specs.script_facts
 pub use Rattle.report_fits
 pub use Rattle.rpc_client
-pub use Rattle.outcome_causes
+pub use Rattle.outcome_ticks.specs.outcome_stories
+pub use Rattle.outcome_ticks

@@ -9,18 +9,18 @@ use Rattle.sock_model.specs.Layout.{tag_index, ref_index, link_index, head_index
 use Rattle.sock_model.specs.Memory.{IDLE}
 use Rattle.seat_programs.specs.Calls.{Call, ClaimSlot, CreateLife, AddRef, SubRef, SetOdd, Recycle, FreeSlot, StoreLink, LoadLink, ResetHead, ClearCode, StoreCode, StoreName, LoadName, StoreOpen, LoadOpen, TakeLink, FinishLink, PutLink, LookWord, FindLink, LoadCode, ClaimRequest, PutMessage, Unconnect, SwapHead, Connect, EmptyHead, ReadNext, ReverseNext, FreeRequest, StorePlace, DropPlace}
 use Rattle.seat_programs.specs.Programs.{Program, Do, TakeMessage, TakeHome, PutHome, PutBytes, AskReady}
-use Rattle.sock_runs.proofs.Passes.{goes_round}
+use Rattle.program_steps.proofs.Passes.{goes_round}
 use Rattle.seat_programs.specs.Cores.{Core, SeatState, word_of, found_at}
-use Rattle.sock_runs.specs.Rows.{hand_at}
-use Rattle.sock_runs.specs.May.{May, Finds}
-use Rattle.sock_runs.specs.GoesOn.{GoesOn}
-use Rattle.sock_runs.specs.Sound.{state, Sound, AllowsWord, AllowsMove, Allows, AllowsStep, AreFew, MOST_PLACES, first_step}
+use Rattle.program_steps.specs.Rows.{hand_at}
+use Rattle.program_steps.specs.May.{May, Finds}
+use Rattle.program_steps.specs.GoesOn.{GoesOn}
+use Rattle.program_steps.specs.Sound.{state, Sound, AllowsWord, AllowsMove, Allows, AllowsStep, AreFew, MOST_PLACES, first_step}
 use Rattle.sock_runs.proofs.HandTicks.{taking}
 use Rattle.sock_runs.proofs.Founds.{finds}
 use Rattle.sock_runs.proofs.ChainTicks.{read_inside, turn_inside, free_inside, free_small}
 use Rattle.sock_runs.proofs.LinkTicks.{RetriesGo, message_there, link_there, has_link, link_put_there, link_asked_there}
-use Rattle.sock_runs.proofs.Rounds.{begins_round}
-use Rattle.sock_runs.proofs.Cases.{beside, goes_first}
+use Rattle.program_steps.proofs.Rounds.{begins_round}
+use Rattle.program_steps.proofs.Cases.{beside, goes_first}
 use Rattle.sock_runs.proofs.Few.{last_small, places_small}
 
 -- a word of a slot is there

@@ -27,7 +27,7 @@ use Rattle.seat_programs.specs.Sends.{block}
 use Rattle.seat_programs.specs.Ticks.{Answer, OfPut, OfReady, Moment, AreAnswered, fed, with_places, onto_first, with_message, with_link, with_put, with_ready, with_found, taken, step_with, tick_with, ticked, run}
 use Rattle.seat_programs.specs.Runs.{kind_in, IsAtRest, IsSettled}
 use Rattle.seat_programs.specs.Scripts.{beginning}
-use Rattle.sock_runs.specs.Sound.{Sound, IsAhead, AllRest, is_begun, AreFitting, views_after, views_along}
+use Rattle.program_steps.specs.Sound.{Sound, IsAhead, AllRest, is_begun, AreFitting, views_after, views_along}
 use Rattle.sock_runs.proofs.LinkTicks.{RetriesGo}
 use Rattle.sock_runs.proofs.Ticks.{sound_ticks}
 

@@ -50,9 +50,9 @@ use Rattle.sock_steps.proofs.RightSteps.{right_in, right_alone}
 use Rattle.seat_programs.specs.Calls.{LookWord, FindLink, LoadCode, ClaimRequest, PutMessage, Unconnect, SwapHead, Connect, EmptyHead, ReadNext, ReverseNext, FreeRequest, StorePlace, DropPlace}
 use Rattle.seat_programs.specs.Cores.{word_after, homes_after}
 use Rattle.seat_programs.specs.Programs.{LAST_GENERATION}
-use Rattle.sock_runs.specs.Rows.{row, hand_at, as_hand, by_claim, by_right, new_claim, filled_claim, ready_claim, exchanged, looked_clean, emptied, settled_stage, settled, read_next, turned_next, freed_stage, freed_next, placed_next, dropped_next}
-use Rattle.sock_runs.specs.May.{May, HoldsLife, FoundFailed}
-use Rattle.sock_runs.proofs.Bounds.{law, lives_le, fits}
+use Rattle.program_steps.specs.Rows.{row, hand_at, as_hand, by_claim, by_right, new_claim, filled_claim, ready_claim, exchanged, looked_clean, emptied, settled_stage, settled, read_next, turned_next, freed_stage, freed_next, placed_next, dropped_next}
+use Rattle.program_steps.specs.May.{May, HoldsLife, FoundFailed}
+use Rattle.program_steps.proofs.Bounds.{law, lives_le, fits}
 use Rattle.sock_runs.proofs.SlotTicks.{KeepsWord}
 
 -- ## The one right of a seat

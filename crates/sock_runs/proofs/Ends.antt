@@ -23,9 +23,9 @@ use Rattle.sock_steps.specs.slot_steps.proofs.Numbers.{only-same, life_is, life-
 use Rattle.sock_steps.proofs.Maps.{took_some, gather_nil}
 use Rattle.sock_steps.proofs.HandSteps.{link_value}
 use Rattle.seat_programs.specs.Cores.{Core}
-use Rattle.sock_runs.specs.GoesOn.{HasNothing, GoesOn}
-use Rattle.sock_runs.specs.Sound.{state, Sound, AllRest, AllFailed, AllEnded, IsOver, IsAlive}
-use Rattle.sock_runs.proofs.Bounds.{law}
+use Rattle.program_steps.specs.GoesOn.{HasNothing, GoesOn}
+use Rattle.program_steps.specs.Sound.{state, Sound, AllRest, AllFailed, AllEnded, IsOver, IsAlive}
+use Rattle.program_steps.proofs.Bounds.{law}
 use Rattle.sock_runs.proofs.HandTicks.{AtHome}
 use Rattle.sock_runs.proofs.Allowed.{view_there}
 

@@ -34,14 +34,14 @@ use Rattle.sock_steps.proofs.Walked.{writes_left}
 use Rattle.seat_programs.specs.Calls.{Call, ClaimSlot, CreateLife, AddRef, SubRef, SetOdd, Recycle, FreeSlot, StoreLink, LoadLink, ResetHead, ClearCode, StoreCode, StoreName, LoadName, StoreOpen, LoadOpen, TakeLink, FinishLink, PutLink, SwapHead}
 use Rattle.seat_programs.specs.Cores.{Core, word_of, found_at}
 use Rattle.seat_programs.specs.Ticks.{Moment, IsAnswered}
-use Rattle.sock_runs.specs.Rows.{row, hand_at, is_id, by_claim, exchanged}
-use Rattle.sock_runs.specs.May.{May}
-use Rattle.sock_runs.specs.Sound.{Sound, AreFew, MOST_PLACES, views_after, IsFitting}
-use Rattle.sock_runs.specs.Lasts.{Lasts, MOST_PAID}
-use Rattle.sock_runs.proofs.Leaves.{sending_same, is_exchange, own_lists}
-use Rattle.sock_runs.proofs.Rounds.{begins_round}
-use Rattle.sock_runs.proofs.Passes.{goes_round}
-use Rattle.sock_runs.proofs.Cases.{tick_keeps_marks}
+use Rattle.program_steps.specs.Rows.{row, hand_at, is_id, by_claim, exchanged}
+use Rattle.program_steps.specs.May.{May}
+use Rattle.program_steps.specs.Sound.{Sound, AreFew, MOST_PLACES, views_after, IsFitting}
+use Rattle.program_steps.specs.Lasts.{Lasts, MOST_PAID}
+use Rattle.program_steps.proofs.Leaves.{sending_same, is_exchange, own_lists}
+use Rattle.program_steps.proofs.Rounds.{begins_round}
+use Rattle.program_steps.proofs.Passes.{goes_round}
+use Rattle.program_steps.proofs.Cases.{tick_keeps_marks}
 
 -- ## What each step leaves
 

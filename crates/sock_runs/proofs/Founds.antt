@@ -27,10 +27,10 @@ use Rattle.sock_steps.proofs.Places.{own_count, given_unwaited}
 use Rattle.seat_programs.specs.Calls.{Call, CreateLife, AddRef, SubRef, SetOdd, FreeSlot, LoadLink, LoadName, LoadOpen, TakeLink, LookWord, FindLink, ClaimRequest}
 use Rattle.seat_programs.specs.Programs.{NO_SOCKET}
 use Rattle.seat_programs.specs.Cores.{word_of, found_at}
-use Rattle.sock_runs.specs.Rows.{hand_at}
-use Rattle.sock_runs.specs.May.{May, Finds, FindsId, IsOfHeld, FindsFailed}
-use Rattle.sock_runs.proofs.Bounds.{law, fits, has_room, next_version}
-use Rattle.sock_runs.proofs.Ids.{id_some, id_socket}
+use Rattle.program_steps.specs.Rows.{hand_at}
+use Rattle.program_steps.specs.May.{May, Finds, FindsId, IsOfHeld, FindsFailed}
+use Rattle.program_steps.proofs.Bounds.{law, fits, has_room, next_version}
+use Rattle.program_steps.proofs.Ids.{id_some, id_socket}
 use Rattle.sock_runs.proofs.HandTicks.{found_hand}
 use Rattle.sock_runs.proofs.ChainTicks.{held_link_in, held_link_is}
 

@@ -19,9 +19,9 @@ use Rattle.sock_model.specs.Lawful.{Lawful}
 use Rattle.sock_steps.proofs.HandSteps.{take_last_law, spend_law, put_hand_law}
 use Rattle.seat_programs.specs.Calls.{Call, TakeLink, FinishLink, PutLink}
 use Rattle.seat_programs.specs.Cores.{homes_after, hand_after, lies_at, first_of, others_of, finished}
-use Rattle.sock_runs.specs.Rows.{row, hand_at, as_hand, taken}
-use Rattle.sock_runs.specs.May.{May, HasInHand}
-use Rattle.sock_runs.specs.Sound.{AreInHand}
+use Rattle.program_steps.specs.Rows.{row, hand_at, as_hand, taken}
+use Rattle.program_steps.specs.May.{May, HasInHand}
+use Rattle.program_steps.specs.Sound.{AreInHand}
 
 -- the rule holds behind a move of seat i, which has this view and these links in hand
 abbrev pub KeepsHome : Plan → State Home View → ℕ → View → List Home → Call → Type 0

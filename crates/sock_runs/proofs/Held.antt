@@ -20,12 +20,12 @@ use Rattle.sock_model.specs.Lawful.{Lawful}
 use Rattle.sock_steps.proofs.Quiet.{either_way}
 use Rattle.seat_programs.specs.Calls.{Call, LoadName, LoadOpen, TakeLink, FinishLink, PutLink, LookWord, LoadCode, ClaimRequest, PutMessage, Unconnect, SwapHead, EmptyHead, ReadNext, ReverseNext, FreeRequest, StorePlace, DropPlace}
 use Rattle.seat_programs.specs.Cores.{Core, word_of, found_at, hand_after}
-use Rattle.sock_runs.specs.Rows.{row, hand_at, is_id, found_id, taken, by_right, new_claim, filled_claim, ready_claim, exchanged, looked_clean, emptied, settled, read_next, turned_next, freed_stage, freed_next, placed_next, dropped_next}
-use Rattle.sock_runs.specs.May.{May}
-use Rattle.sock_runs.specs.Sound.{state, IsOfRight, AreInHand, AreHeld}
+use Rattle.program_steps.specs.Rows.{row, hand_at, is_id, found_id, taken, by_right, new_claim, filled_claim, ready_claim, exchanged, looked_clean, emptied, settled, read_next, turned_next, freed_stage, freed_next, placed_next, dropped_next}
+use Rattle.program_steps.specs.May.{May}
+use Rattle.program_steps.specs.Sound.{state, IsOfRight, AreInHand, AreHeld}
 use Rattle.sock_runs.proofs.HandTicks.{taking, found_hand, take_in_hand, finish_in_hand, put_in_hand}
 use Rattle.sock_runs.proofs.ChainTicks.{stays_one}
-use Rattle.sock_runs.proofs.Leaves.{claim_way, exchanges_way}
+use Rattle.program_steps.proofs.Leaves.{claim_way, exchanges_way}
 
 -- ## Without a right, and with one
 

@@ -30,13 +30,13 @@ use Rattle.seat_programs.specs.Attempts.{retry}
 use Rattle.seat_programs.specs.Asides.{Step, Found, TakeBytes, Taking, Bytes}
 use Rattle.seat_programs.specs.Programs.{Aside}
 use Rattle.seat_programs.specs.Beside.{calls_after, more_given}
-use Rattle.sock_runs.specs.Fits.{FitsFound, FitsRetry}
+use Rattle.program_steps.specs.Fits.{FitsFound, FitsRetry}
 use Rattle.seat_programs.specs.Cores.{Calls, Core, SeatState, lies_at, first_of, others_of, link_place, resolved, still_waiting, waiting_at, next_step, with_seat}
 use Rattle.seat_programs.specs.Ticks.{fed, with_places, onto_first, FitsPut}
-use Rattle.sock_runs.specs.Rows.{by_right, took_message, link_away, link_home_again, took_bytes}
-use Rattle.sock_runs.specs.Writes.{MayTakeMessage, Writes}
-use Rattle.sock_runs.specs.GoesOn.{GoesOn}
-use Rattle.sock_runs.specs.Sound.{state, AreInHand, IsOfRight, AreHeld, AreLabelled, SoundSeat, Sound, HasLink, HasMessageAt, HasLinkAt}
+use Rattle.program_steps.specs.Rows.{by_right, took_message, link_away, link_home_again, took_bytes}
+use Rattle.program_steps.specs.Writes.{MayTakeMessage, Writes}
+use Rattle.program_steps.specs.GoesOn.{GoesOn}
+use Rattle.program_steps.specs.Sound.{state, AreInHand, IsOfRight, AreHeld, AreLabelled, SoundSeat, Sound, HasLink, HasMessageAt, HasLinkAt}
 use Rattle.sock_runs.proofs.HandTicks.{in_hand_nil}
 use Rattle.sock_runs.proofs.ChainTicks.{has_one, stays_one}
 

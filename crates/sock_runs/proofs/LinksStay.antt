@@ -14,14 +14,14 @@ use Rattle.sock_steps.proofs.Places.{counts, own_count}
 use Rattle.seat_programs.specs.Calls.{FindLink}
 use Rattle.seat_programs.specs.Cores.{Core, word_of, word_after, found_at, words_after, homes_after}
 use Rattle.seat_programs.specs.Ticks.{Moment, ticked, run, IsAnswered, AreAnswered}
-use Rattle.sock_runs.specs.Rows.{row, hand_at}
-use Rattle.sock_runs.specs.May.{May}
-use Rattle.sock_runs.specs.Sound.{state, Sound, IsFitting, AreFitting, views_after, views_along}
-use Rattle.sock_runs.proofs.Bounds.{law, lives_le}
+use Rattle.program_steps.specs.Rows.{row, hand_at}
+use Rattle.program_steps.specs.May.{May}
+use Rattle.program_steps.specs.Sound.{state, Sound, IsFitting, AreFitting, views_after, views_along}
+use Rattle.program_steps.proofs.Bounds.{law, lives_le}
 use Rattle.sock_runs.proofs.LinkNotes.{links_stay}
-use Rattle.sock_runs.proofs.Cases.{with_rights, tick_keeps_marks}
-use Rattle.sock_runs.proofs.Rounds.{begins_round}
-use Rattle.sock_runs.proofs.Passes.{goes_round}
+use Rattle.program_steps.proofs.Cases.{with_rights, tick_keeps_marks}
+use Rattle.program_steps.proofs.Rounds.{begins_round}
+use Rattle.program_steps.proofs.Passes.{goes_round}
 use Rattle.sock_runs.proofs.LinkTicks.{RetriesGo}
 use Rattle.sock_runs.proofs.Ticks.{sound_ticks}
 

@@ -23,9 +23,9 @@ use Rattle.sock_steps.proofs.Steady.{wrote_steady}
 use Rattle.sock_steps.proofs.SlotSteps.{slot_law, idle_law, find_law, store_name_law, store_open_law}
 use Rattle.seat_programs.specs.Calls.{StoreName, LoadName, StoreOpen, LoadOpen}
 use Rattle.seat_programs.specs.Programs.{NO_SOCKET}
-use Rattle.sock_runs.specs.Rows.{is_id, found_id}
-use Rattle.sock_runs.specs.May.{May}
-use Rattle.sock_runs.proofs.Ids.{id_some, id_socket}
+use Rattle.program_steps.specs.Rows.{is_id, found_id}
+use Rattle.program_steps.specs.May.{May}
+use Rattle.program_steps.proofs.Ids.{id_some, id_socket}
 use Rattle.sock_runs.proofs.SlotTicks.{KeepsWord}
 
 module _ (p : Plan) (s : State Home View) (o : Lawful (λ home. home) p s) (i : ℕ) (v : View) (at : get_elem? s.views i ≡ some v) where

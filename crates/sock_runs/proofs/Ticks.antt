@@ -14,11 +14,11 @@ use Rattle.seat_programs.specs.Calls.{Call, ClaimSlot, CreateLife, AddRef, SubRe
 use Rattle.seat_programs.specs.Programs.{Program, Do}
 use Rattle.seat_programs.specs.Cores.{Core, SeatState, word_of, word_after, found_at, words_after, homes_after, hand_after, first_of, stepped}
 use Rattle.seat_programs.specs.Ticks.{Moment, IsAnswered, ticked}
-use Rattle.sock_runs.specs.Rows.{row, hand_at}
-use Rattle.sock_runs.specs.May.{May}
-use Rattle.sock_runs.specs.GoesOn.{GoesOn}
-use Rattle.sock_runs.specs.Sound.{state, AreInHand, AreHeld, AreLabelled, Sound, views_after, IsFitting}
-use Rattle.sock_runs.proofs.Passes.{goes_round}
+use Rattle.program_steps.specs.Rows.{row, hand_at}
+use Rattle.program_steps.specs.May.{May}
+use Rattle.program_steps.specs.GoesOn.{GoesOn}
+use Rattle.program_steps.specs.Sound.{state, AreInHand, AreHeld, AreLabelled, Sound, views_after, IsFitting}
+use Rattle.program_steps.proofs.Passes.{goes_round}
 use Rattle.sock_runs.proofs.SlotTicks as slots
 use Rattle.sock_runs.proofs.NameTicks as names
 use Rattle.sock_runs.proofs.ChainTicks as chains
@@ -26,8 +26,8 @@ use Rattle.sock_runs.proofs.LinkTicks.{RetriesGo, reseats, steps_aside, takes_me
 use Rattle.sock_runs.proofs.HandTicks.{takes, finishes, puts}
 use Rattle.sock_runs.proofs.Held.{held_in_hand, keeps_held}
 use Rattle.sock_runs.proofs.Founds.{finds}
-use Rattle.sock_runs.proofs.Rounds.{begins_round}
-use Rattle.sock_runs.proofs.Cases.{tick_keeps}
+use Rattle.program_steps.proofs.Rounds.{begins_round}
+use Rattle.program_steps.proofs.Cases.{tick_keeps}
 
 -- ## The view after a step
 

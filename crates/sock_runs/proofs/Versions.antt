@@ -17,10 +17,10 @@ use Rattle.sock_steps.specs.slot_steps.proofs.Numbers.{life_is, or-even, or-odd}
 use Rattle.sock_steps.proofs.Places.{own_count}
 use Rattle.seat_programs.specs.Calls.{Call, ClaimSlot, CreateLife, AddRef, SubRef, SetOdd, Recycle, FreeSlot, StoreLink, LoadLink, ResetHead, ClearCode, StoreCode, StoreName, LoadName, StoreOpen, LoadOpen, LookWord, FindLink, LoadCode, ClaimRequest, Unconnect, SwapHead, Connect, EmptyHead, ReadNext, ReverseNext, FreeRequest, StorePlace, DropPlace}
 use Rattle.seat_programs.specs.Cores.{Core, word_of, word_after, found_at, words_after}
-use Rattle.sock_runs.specs.Rows.{hand_at}
-use Rattle.sock_runs.specs.May.{May, Finds}
-use Rattle.sock_runs.specs.Sound.{state, Sound}
-use Rattle.sock_runs.proofs.Bounds.{law, lives_le}
+use Rattle.program_steps.specs.Rows.{hand_at}
+use Rattle.program_steps.specs.May.{May, Finds}
+use Rattle.program_steps.specs.Sound.{state, Sound}
+use Rattle.program_steps.proofs.Bounds.{law, lives_le}
 use Rattle.sock_runs.proofs.Founds.{finds}
 
 module _ (p : Plan) (c : Core) (vs : List View) (sound : Sound p c vs) (i : ℕ) (v : View) (at : get_elem? vs i ≡ some v) where

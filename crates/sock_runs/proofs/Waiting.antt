@@ -42,8 +42,8 @@ use Rattle.seat_programs.specs.Calls.{ReverseNext}
 use Rattle.seat_programs.specs.Cores.{Core, SeatState, with_seat}
 use Rattle.seat_programs.specs.Ticks.{Answer, OfReady, OfTake, Moment, tick_with, ticked, IsAnswered, IsAlwaysReady, waits_at, waits_in, waits}
 use Rattle.seat_programs.specs.Runs.{IsAtRest}
-use Rattle.sock_runs.specs.GoesOn.{GoesOn}
-use Rattle.sock_runs.specs.Sound.{Sound, IsAhead, is_begun}
+use Rattle.program_steps.specs.GoesOn.{GoesOn}
+use Rattle.program_steps.specs.Sound.{Sound, IsAhead, is_begun}
 use Rattle.sock_runs.proofs.Allowed.{view_there}
 use Rattle.sock_runs.proofs.Along.{seat_rests, place_inside}
 

@@ -1,14 +1,1 @@
-pub mod AtSteps
-pub mod Rows
-pub mod May
-pub mod Writes
-pub mod Has
-pub mod Fits
-pub mod GoesOn
-pub mod Sound
-pub mod Lasts
-pub use Rattle.seat_programs.specs.brpc_model
-pub use Rattle.sock_steps.specs.chain_steps
-pub use Rattle.seat_programs.specs.corr_core
-pub use Rattle.sock_steps.specs.slot_steps
-pub use Rattle.sock_steps
+pub use Rattle.program_steps

@@ -1,2 +1,2 @@
-//! That every run of the seats keeps the rule of the sockets: the definitions in `specs/`, the proofs in `proofs/`. There is no code here.
+//! That every tick of a seat keeps the rule of the sockets: the proofs in `proofs/`. There is no code here.
 #![tactic(auto)]

@@ -1,6 +1,6 @@
 use Rattle.std.proofs.Common.{◌≡◌, ◌+◌, arith, length, map, unwrap_or, ap, sym, subst, ◌∙◌}
 use Rattle.brpc_model.specs.Limits.{KeepsLimits}
-use Rattle.report_fits.proofs.Sizes.{link_count, operation_count}
+use Rattle.script_facts.proofs.Sizes.{link_count, operation_count}
 use Rattle.script_items.specs.Meaning.{item}
 use Rattle.seat_programs.specs.Tasks.{plan_of}
 use Rattle.script_lang.specs.declared.counts.Counts.{Counts}

@@ -1,0 +1,15 @@
+pub mod Tests
+pub mod Members
+pub mod Names
+pub mod Added
+pub mod Used
+pub mod Errors
+pub mod Pieces
+pub mod Holding
+pub mod Cases
+pub mod HomeCalls
+pub mod Outcomes
+pub mod Accepted
+pub mod Delivered
+pub mod Ordered
+pub mod Senders

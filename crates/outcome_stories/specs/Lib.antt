@@ -1,0 +1,11 @@
+pub mod Stories
+pub mod Explains
+pub mod Causes
+pub mod Kept
+pub mod Losses
+pub mod TaskCauses
+pub mod PlainTasks
+pub mod Facts
+pub use Rattle.program_walks.specs.program_steps
+pub use Rattle.program_walks.specs.sock_runs
+pub use Rattle.program_walks

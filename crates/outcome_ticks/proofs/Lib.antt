@@ -1,0 +1,14 @@
+pub mod Writers
+pub mod Sending
+pub mod Broken
+pub mod Calling
+pub mod Closings
+pub mod Clients
+pub mod Means
+pub mod Accepting
+pub mod Seats
+pub mod Tasks
+pub mod Events
+pub mod AtWork
+pub mod Ticks
+pub mod Lifted

@@ -1,0 +1,136 @@
+-- What the steps of whoever sends or writes leave as it is: all that a view has beside the chains, but for notes.
+use Rattle.std.proofs.Common.{◌≡◌, ℕ, ◌+◌, ◌%◌, ◌==◌, Bool, true, false, cond, nat_lt, List, [], ◌∷◌, refl, sym, ap, ◌∙◌, take, ◌++◌}
+use Rattle.std.proofs.lemmas.Bool.{true≢false}
+use Rattle.sock_words.specs.Words.{socket_id_version, socket_id_slot, vref_version}
+use Rattle.sock_words.specs.declared.plain.Plan.{Plan}
+use Rattle.sock_model.specs.declared.chain.Claim.{Claim}
+use Rattle.sock_model.specs.declared.chain.Right.{Right}
+use Rattle.sock_model.specs.declared.chain.Stage.{Stage}
+use Rattle.sock_model.specs.declared.chain.Stage.TheVariants.{Writes, Placed, Passes, Walks, Turns}
+use Rattle.sock_model.specs.declared.marks.Mark.TheVariants.{Saw, Told, Met}
+use Rattle.sock_model.specs.declared.marks.SlotMark.{SlotMark}
+use Rattle.sock_model.specs.declared.view.View.{View}
+use Rattle.sock_model.specs.declared.view.Hand.{Hand}
+use Rattle.sock_model.specs.Marks.{at}
+use Rattle.sock_model.specs.Memory.{IDLE, UNCONNECTED}
+use Rattle.sock_model.specs.Slots.{version_of}
+use Rattle.sock_model.specs.SlotRows.{looked, told_code, met_link}
+use Rattle.sock_model.specs.ChainRows.{with_claim, queued, righted, with_right, without_right, turned_right, placed_right, dropped_right}
+use Rattle.sock_steps.proofs.Quiet.{either_way}
+use Rattle.seat_programs.specs.Calls.{Call, LookWord, FindLink, LoadCode, ClaimRequest, PutMessage, Unconnect, SwapHead, Connect, EmptyHead, ReadNext, ReverseNext, FreeRequest, StorePlace, DropPlace}
+use Rattle.program_steps.specs.Rows.{row, by_claim, by_right, new_claim, filled_claim, ready_claim, exchanged, looked_clean, emptied, settled, read_next, turned_next, freed_next, placed_next, dropped_next}
+
+-- whether a step is one on whose word the right of whoever writes goes on
+abbrev pub moves_right : Call → Bool
+moves_right (LookWord id) = true
+moves_right (StorePlace l k n) = true
+moves_right (DropPlace l k n) = true
+moves_right (SwapHead i own) = true
+moves_right (ReadNext q) = true
+moves_right (EmptyHead i last) = true
+moves_right (ReverseNext q value) = true
+moves_right (FreeRequest q g) = true
+moves_right other = false
+
+-- whether a step is one of whoever sends or writes
+abbrev pub is_sending : Call → Bool
+is_sending (Unconnect q) = true
+is_sending (PutMessage q heading bytes) = true
+is_sending (ClaimRequest id q) = true
+is_sending (Connect q before) = true
+is_sending (FindLink i h) = true
+is_sending (LoadCode i h) = true
+is_sending other = moves_right other
+
+pub claim_way : (P : View → Type 0) (cs : List Claim) (then_ : Claim → View) (v : View) → P v → ((c : Claim) → P (then_ c)) → P (by_claim cs then_ v)
+claim_way P [] then_ v a b = a
+claim_way P (c ∷ cs) then_ v a b = b c
+
+pub right_way : (P : View → Type 0) (rs : List Right) (then_ : Right → View) (v : View) → P v → ((r : Right) → P (then_ r)) → P (by_right rs then_ v)
+right_way P [] then_ v a b = a
+right_way P (r ∷ rs) then_ v a b = b r
+
+-- what holds of all views that differ from this one on the chains alone holds behind a step of the chains
+module _ (P : View → Type 0) (v : View) (same : P v) where
+  module _ (claims : (c : Claim) → P (with_claim v c)) (rights : (r : Right) → P (with_right v r)) (gone : (k : ℕ) → P (without_right v k)) where
+    pub reads_way : (found : ℕ) (r : Right) (stage : Stage) → P (read_next found v r stage)
+    reads_way found r (Placed now) = rights (settled (record r { stage = Passes now found }))
+    reads_way found r (Walks top at_ after) = either_way (found == UNCONNECTED) v (with_right v (record r { stage = Turns top at_ after found })) P same (rights (record r { stage = Turns top at_ after found }))
+    reads_way found r _ = same
+
+    pub turns_way : (r : Right) (stage : Stage) → P (turned_next v r stage)
+    turns_way r (Turns top at_ after before) = rights (turned_right r top at_ before)
+    turns_way r _ = same
+
+    pub places_way : (r : Right) (stage : Stage) → P (placed_next v r stage)
+    places_way r (Writes now) = rights (settled (placed_right r now))
+    places_way r _ = same
+
+    pub drops_way : (r : Right) (stage : Stage) → P (dropped_next v r stage)
+    drops_way r (Writes now) = rights (settled (dropped_right r now (r.sent ++ take r.put r.bytes)))
+    drops_way r _ = same
+
+    pub emptied_way : (last found : ℕ) (r : Right) → P (emptied last found v r)
+    emptied_way last found r = either_way (found == last) (without_right v r.link) (with_right v (record r { stage = Walks found found 0 })) P (gone r.link) (rights (record r { stage = Walks found found 0 }))
+
+  pub exchanges_way : ((c : Claim) (n : ℕ) → P (queued v c n)) → ((c : Claim) (n : ℕ) (sent : List ℕ) (m : ℕ) → P (righted v c n sent m)) → (found : ℕ) (hand : Hand) (c : Claim) → P (exchanged found hand v c)
+  exchanges_way busy idle found hand c = either_way (nat_lt found IDLE) (queued v c found) (righted v c found hand.took hand.next) P (busy c found) (idle c found hand.took hand.next)
+
+-- what holds of the marks, and with these notes more, holds of the marks behind each such step
+module _ (p : Plan) (v : View) (found : ℕ) (hand : Hand) (Q : List SlotMark → Type 0) (same : Q v.marks) (saw : (i w : ℕ) → Q (at i (Saw w) ∷ v.marks)) (met : (i h k : ℕ) → Q (at i (Met h k) ∷ v.marks))
+    (told : (i h c w : ℕ) → Q (at i (Told h c) ∷ at i (Saw w) ∷ v.marks)) where
+  abbrev P : View → Type 0
+  P w = Q w.marks
+
+  pub sending_marks : (call : Call) → is_sending call ≡ true → Q (row p call found hand v).marks
+  sending_marks (LookWord id) is = right_way P v.rights (looked_clean (socket_id_slot id) found v) (looked (socket_id_slot id) found v) (saw (socket_id_slot id) (version_of found))
+      (λ r. either_way (vref_version found % 2 == 0) (with_right (looked (socket_id_slot id) found v) (record r { clean = true })) (looked (socket_id_slot id) found v) P (saw (socket_id_slot id) (version_of found)) (saw (socket_id_slot id) (version_of found)))
+  sending_marks (FindLink i h) is = met i h found
+  sending_marks (LoadCode i h) is = either_way (found == 0) v (told_code i h found v) P same (told i h found (h + 1))
+  sending_marks (ClaimRequest id q) is = let i : ℕ = socket_id_slot id in let h : ℕ = socket_id_version id in
+      either_way (found % 2 == 0) (with_claim (met_link i h hand.link v) (new_claim hand.link q found)) v P (met i h hand.link) same
+  sending_marks (PutMessage q heading bytes) is = claim_way P v.claims (λ c. with_claim v (filled_claim c heading bytes)) v same (λ c. same)
+  sending_marks (Unconnect q) is = claim_way P v.claims (λ c. with_claim v (ready_claim c)) v same (λ c. same)
+  sending_marks (SwapHead i own) is = claim_way P v.claims (exchanged found hand v) v same (exchanges_way P v same (λ c n. same) (λ c n sent m. same) found hand)
+  sending_marks (Connect q before) is = same
+  sending_marks (EmptyHead i last) is = right_way P v.rights (emptied last found v) v same (emptied_way P v same (λ c. same) (λ r. same) (λ k. same) last found)
+  sending_marks (ReadNext q) is = right_way P v.rights (λ r. read_next found v r r.stage) v same (λ r. reads_way P v same (λ c. same) (λ r. same) (λ k. same) found r r.stage)
+  sending_marks (ReverseNext q value) is = right_way P v.rights (λ r. turned_next v r r.stage) v same (λ r. turns_way P v same (λ c. same) (λ r. same) (λ k. same) r r.stage)
+  sending_marks (FreeRequest q g) is = right_way P v.rights (freed_next v) v same (λ r. same)
+  sending_marks (StorePlace l k n) is = right_way P v.rights (λ r. placed_next v r r.stage) v same (λ r. places_way P v same (λ c. same) (λ r. same) (λ k. same) r r.stage)
+  sending_marks (DropPlace l k n) is = right_way P v.rights (λ r. dropped_next v r r.stage) v same (λ r. drops_way P v same (λ c. same) (λ r. same) (λ k. same) r r.stage)
+  sending_marks _ is = absurd (true≢false (sym is))
+
+-- whether it is the exchange of a head
+abbrev pub is_exchange : Call → Bool
+is_exchange (SwapHead i own) = true
+is_exchange other = false
+
+-- all of a view but its marks and what is on the chains is as it was, and so are the lists of accepted messages where no head was exchanged
+abbrev pub SameSeat : Call → View → View → Type 0
+SameSeat call v w = let u : View = record v { marks = w.marks; claims = w.claims; loose = w.loose; rights = w.rights; drops = w.drops; lists = cond (is_exchange call) w.lists v.lists } in w ≡ u
+
+-- such steps leave it
+module _ (p : Plan) (v : View) (found : ℕ) (hand : Hand) where
+  pub sending_same : (call : Call) → is_sending call ≡ true → SameSeat call v (row p call found hand v)
+  sending_same (LookWord id) is = right_way (SameSeat (LookWord id) v) v.rights (looked_clean (socket_id_slot id) found v) (looked (socket_id_slot id) found v) refl
+      (λ r. either_way (vref_version found % 2 == 0) (with_right (looked (socket_id_slot id) found v) (record r { clean = true })) (looked (socket_id_slot id) found v) (SameSeat (LookWord id) v) refl refl)
+  sending_same (FindLink i h) is = refl
+  sending_same (LoadCode i h) is = either_way (found == 0) v (told_code i h found v) (SameSeat (LoadCode i h) v) refl refl
+  sending_same (ClaimRequest id q) is = let i : ℕ = socket_id_slot id in let h : ℕ = socket_id_version id in
+      either_way (found % 2 == 0) (with_claim (met_link i h hand.link v) (new_claim hand.link q found)) v (SameSeat (ClaimRequest id q) v) refl refl
+  sending_same (PutMessage q heading bytes) is = claim_way (SameSeat (PutMessage q heading bytes) v) v.claims (λ c. with_claim v (filled_claim c heading bytes)) v refl (λ c. refl)
+  sending_same (Unconnect q) is = claim_way (SameSeat (Unconnect q) v) v.claims (λ c. with_claim v (ready_claim c)) v refl (λ c. refl)
+  sending_same (SwapHead i own) is = claim_way (SameSeat (SwapHead i own) v) v.claims (exchanged found hand v) v refl (exchanges_way (SameSeat (SwapHead i own) v) v refl (λ c n. refl) (λ c n sent m. refl) found hand)
+  sending_same (Connect q before) is = refl
+  sending_same (EmptyHead i last) is = right_way (SameSeat (EmptyHead i last) v) v.rights (emptied last found v) v refl (emptied_way (SameSeat (EmptyHead i last) v) v refl (λ c. refl) (λ r. refl) (λ k. refl) last found)
+  sending_same (ReadNext q) is = right_way (SameSeat (ReadNext q) v) v.rights (λ r. read_next found v r r.stage) v refl (λ r. reads_way (SameSeat (ReadNext q) v) v refl (λ c. refl) (λ r. refl) (λ k. refl) found r r.stage)
+  sending_same (ReverseNext q value) is = right_way (SameSeat (ReverseNext q value) v) v.rights (λ r. turned_next v r r.stage) v refl (λ r. turns_way (SameSeat (ReverseNext q value) v) v refl (λ c. refl) (λ r. refl) (λ k. refl) r r.stage)
+  sending_same (FreeRequest q g) is = right_way (SameSeat (FreeRequest q g) v) v.rights (freed_next v) v refl (λ r. refl)
+  sending_same (StorePlace l k n) is = right_way (SameSeat (StorePlace l k n) v) v.rights (λ r. placed_next v r r.stage) v refl (λ r. places_way (SameSeat (StorePlace l k n) v) v refl (λ c. refl) (λ r. refl) (λ k. refl) r r.stage)
+  sending_same (DropPlace l k n) is = right_way (SameSeat (DropPlace l k n) v) v.rights (λ r. dropped_next v r r.stage) v refl (λ r. drops_way (SameSeat (DropPlace l k n) v) v refl (λ c. refl) (λ r. refl) (λ k. refl) r r.stage)
+  sending_same _ is = absurd (true≢false (sym is))
+
+  -- all but the exchange leave the lists of accepted messages
+  pub own_lists : (call : Call) → is_sending call ≡ true → is_exchange call ≡ false → (row p call found hand v).lists ≡ v.lists
+  own_lists call is other_ = ap (λ (w : View). w.lists) (sending_same call is) ∙ ap (λ b. cond b (row p call found hand v).lists v.lists) other_

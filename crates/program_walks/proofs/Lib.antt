@@ -1,0 +1,16 @@
+pub mod Records
+pub mod Through
+pub mod ThroughLoops
+pub mod ThroughSends
+pub mod ThroughCalls
+pub mod ThroughClients
+pub mod Recorded
+pub mod Closing
+pub mod Opening
+pub mod Whole
+pub mod Rested
+pub mod ReaderSeats
+pub mod OpensStay
+pub mod LinksRecorded
+pub mod LinksOpening
+pub mod WillStore

@@ -1,0 +1,12 @@
+pub mod WalksLeft
+pub mod IdCosts
+pub mod Costs
+pub mod AttemptCosts
+pub mod SeatCosts
+pub mod IdsLeft
+pub mod Lasting
+pub mod ReadCosts
+pub mod AsideTicks
+pub mod AsideMoves
+pub mod HeadMoves
+pub mod Bounded

@@ -1,0 +1,17 @@
+pub mod Lists
+pub mod Flat
+pub mod Counting
+pub mod Names
+pub mod Numbering
+pub mod TaskLemmas
+pub mod CallLines
+pub mod Frames
+pub mod Reading
+pub mod Called
+pub mod Sizes
+pub mod Alternating
+pub mod Tasks
+pub mod Targets
+pub mod LabelCounts
+pub mod Labels
+pub mod Known
