@@ -8,5 +8,3 @@ pub mod Decided
 pub use Rattle.owed_calls.specs.programs_allowed
 pub use Rattle.owed_calls.specs.joint_runs
 pub use Rattle.owed_calls
-pub use Rattle.prpc_frame
-pub use Rattle.prpc_frame.specs.rpc_meta

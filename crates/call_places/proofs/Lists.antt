@@ -16,11 +16,11 @@ use Rattle.call_run.specs.sock_table.specs.Named.{Found}
 use Rattle.seat_programs.specs.declared.task.Op.{Op}
 use Rattle.seat_programs.specs.declared.task.Op.TheVariants as ops
 use Rattle.corr_core.specs.declared.marks.Plan as id_plan
-use Rattle.sock_deeds.specs.rpc_client.specs.declared.reaching.Reached.TheVariants as reached
-use Rattle.sock_deeds.specs.rpc_client.specs.declared.holding.Held.{Held}
-use Rattle.sock_deeds.specs.rpc_client.specs.Running.{GaveFirst}
-use Rattle.sock_deeds.specs.rpc_client.proofs.Delivering.{came_lists}
-use Rattle.sock_deeds.specs.rpc_client.proofs.Finding.{set_others}
+use Rattle.call_run.specs.call_client.specs.rpc_client.specs.declared.reaching.Reached.TheVariants as reached
+use Rattle.call_run.specs.call_client.specs.rpc_client.specs.declared.holding.Held.{Held}
+use Rattle.call_run.specs.call_client.specs.rpc_client.specs.Running.{GaveFirst}
+use Rattle.call_run.specs.call_client.specs.rpc_client.proofs.Delivering.{came_lists}
+use Rattle.call_run.specs.call_client.specs.rpc_client.proofs.Finding.{set_others}
 use Rattle.call_run.specs.rpc_reader.specs.Failing as reader
 use Rattle.call_run.specs.call_client.specs.call_errors.specs.declared.retries.Retry.{Retry}
 use Rattle.call_run.specs.call_client.specs.call_errors.specs.Books.{CallStand}

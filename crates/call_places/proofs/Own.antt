@@ -16,8 +16,8 @@ use Rattle.sock_model.specs.declared.view.View.{View}
 use Rattle.sock_model.specs.Seats.{newcomer}
 use Rattle.seat_programs.specs.declared.task.Task.{Task}
 use Rattle.corr_core.specs.declared.marks.Plan as id_plan
-use Rattle.sock_deeds.specs.rpc_client.specs.declared.acting.Told.{Told}
-use Rattle.sock_deeds.specs.rpc_client.specs.Running.{telling}
+use Rattle.call_run.specs.call_client.specs.rpc_client.specs.declared.acting.Told.{Told}
+use Rattle.call_run.specs.call_client.specs.rpc_client.specs.Running.{telling}
 use Rattle.call_run.specs.call_client.specs.call_attempts.specs.Both.{Both}
 use Rattle.call_run.specs.call_client.specs.call_attempts.specs.Retrying.{without_oldest}
 use Rattle.call_run.specs.call_client.specs.Acting.{Stand, stand, both_of, Acted}

@@ -42,7 +42,7 @@ use Rattle.corr_core.proofs.Notes.{only-at}
 use Rattle.id_rule.specs.Lawful.{notes_of}
 use Rattle.sock_message.specs.Asked.{Asked}
 use Rattle.corr_id.specs.Closing.{Closing}
-use Rattle.sock_deeds.specs.rpc_client.specs.declared.acting.Told.{Told}
+use Rattle.call_run.specs.call_client.specs.rpc_client.specs.declared.acting.Told.{Told}
 use Rattle.call_run.specs.call_client.specs.Acting.{Stand, Acted}
 use Rattle.call_run.specs.call_client.specs.Running.{MayMakeAll}
 use Rattle.call_run.specs.Readers.{LinkReader}

@@ -125,7 +125,7 @@ none_advances i p q o = by (eqb p.attempt q.attempt)
 
 -- ## What becomes of errors
 
-pub tells_retries : (x : Rattle.sock_deeds.specs.rpc_client.specs.declared.acting.Told.Told) (b c : Books) → Tells x b c → c.retries ≡ b.retries
+pub tells_retries : (x : Rattle.call_run.specs.call_client.specs.rpc_client.specs.declared.acting.Told.Told) (b c : Books) → Tells x b c → c.retries ≡ b.retries
 tells_retries x b c (told e) = ap (λ (y : Books). y.retries) e
 tells_retries x b c (lost e) = ap (λ (y : Books). y.retries) e
 

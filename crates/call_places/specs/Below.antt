@@ -7,7 +7,7 @@ pub use Rattle.call_run.specs.rpc_reader.specs.call_table
 pub use Rattle.call_run.specs.call_client.specs.call_writes
 pub use Rattle.sock_deeds.specs.script_facts
 pub use Rattle.sock_deeds.specs.report_fits
-pub use Rattle.sock_deeds.specs.rpc_client
+pub use Rattle.call_run.specs.call_client.specs.rpc_client
 pub use Rattle.call_run.specs.rpc_reader
 pub use Rattle.sock_deeds.specs.outcome_stories
 pub use Rattle.sock_deeds.specs.outcome_ticks

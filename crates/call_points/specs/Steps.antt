@@ -1,11 +1,11 @@
 -- The steps aside of the code as those of the programs, and what follows one.
 use Rattle.std.specs.Prelude.{ℕ, Option, Some, None}
-use Rattle.id_points.specs.seat_programs.specs.Asides as asides
-use Rattle.id_points.specs.seat_programs.specs.Asides.{Step, Found}
-use Rattle.id_points.specs.seat_programs.specs.Programs.{Program, Do, Write, Aside, Round, Rest}
-use Rattle.id_points.specs.seat_programs.specs.Sends.{block}
-use Rattle.id_points.specs.seat_programs.specs.Rounds.{round}
-use Rattle.id_points.specs.sock_message.specs.Asked.{Asked}
+use Rattle.seat_programs.specs.Asides as asides
+use Rattle.seat_programs.specs.Asides.{Step, Found}
+use Rattle.seat_programs.specs.Programs.{Program, Do, Write, Aside, Round, Rest}
+use Rattle.seat_programs.specs.Sends.{block}
+use Rattle.seat_programs.specs.Rounds.{round}
+use Rattle.seat_programs.specs.sock_message.specs.Asked.{Asked}
 use Rattle.id_points.specs.Ids.{id_of}
 use Rattle.call_points.specs.declared.aside.Aside as code
 

@@ -1,6 +1,6 @@
 ghost use Rattle.std.specs.Prelude.{◌≡◌};
-ghost use Rattle.id_points.specs.seat_programs.specs.Asides.{kind_aside};
-ghost use Rattle.id_points.specs.sock_message.specs.Asked.{Asked};
+ghost use Rattle.seat_programs.specs.Asides.{kind_aside};
+ghost use Rattle.seat_programs.specs.sock_message.specs.Asked.{Asked};
 ghost use Rattle.call_points.specs.Steps.{step_of};
 
 use id_points::{CallId, IdError};

@@ -1,6 +1,6 @@
 ghost use Rattle.std.specs.Prelude.{◌≡◌, ℕ, Some};
-ghost use Rattle.id_points.specs.seat_programs.specs.Programs.{Program};
-ghost use Rattle.id_points.specs.sock_message.specs.Asked.{Asked};
+ghost use Rattle.seat_programs.specs.Programs.{Program};
+ghost use Rattle.seat_programs.specs.sock_message.specs.Asked.{Asked};
 ghost use Rattle.call_points.specs.Steps.{step_of, aside_in, after_word};
 ghost use Rattle.call_points.specs.Points.{end_program, end_on};
 

@@ -1,7 +1,7 @@
 ghost use Rattle.std.specs.Prelude.{◌≡◌, ℕ, Some};
-ghost use Rattle.id_points.specs.seat_programs.specs.Heads.{Posting};
-ghost use Rattle.id_points.specs.seat_programs.specs.Programs.{Program};
-ghost use Rattle.id_points.specs.sock_message.specs.Asked.{Asked};
+ghost use Rattle.seat_programs.specs.Heads.{Posting};
+ghost use Rattle.seat_programs.specs.Programs.{Program};
+ghost use Rattle.seat_programs.specs.sock_message.specs.Asked.{Asked};
 ghost use Rattle.id_points.specs.Ids.{id_of};
 ghost use Rattle.id_points.specs.Turns.{post_on};
 ghost use Rattle.call_points.specs.Steps.{step_of, aside_in, after_word};

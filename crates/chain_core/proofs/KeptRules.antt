@@ -7,20 +7,20 @@ use lib.ListN.{get_elem?}
 use mathlib.Core.Option.{none, some}
 use Rattle.atomic_table.specs.Table.{State, stepped, keeps}
 use Rattle.sock_words.specs.declared.plain.Plan.{Plan}
-use Rattle.sock_steps.specs.sock_model.specs.declared.chain.Heading.{Heading}
-use Rattle.sock_steps.specs.sock_model.specs.declared.chain.Right.{Right}
-use Rattle.sock_steps.specs.sock_model.specs.declared.chain.Stage.{Stage}
-use Rattle.sock_steps.specs.sock_model.specs.declared.chain.Stage.TheVariants.{Placed, Passes}
-use Rattle.sock_steps.specs.sock_model.specs.declared.home.Home.{Home}
-use Rattle.sock_steps.specs.sock_model.specs.declared.view.View.{View}
-use Rattle.sock_steps.specs.sock_model.specs.Layout.{head_index, next_index, request_index}
-use Rattle.sock_steps.specs.sock_model.specs.Entries.{slot_of}
-use Rattle.sock_steps.specs.sock_model.specs.Memory.{IDLE, UNCONNECTED}
-use Rattle.sock_steps.specs.sock_model.specs.ChainRows.{with_claim, fresh_claim, ready_claim, queued, new_right, righted, without_loose, with_right, without_right, walking_right, passing_right, reading_right, turned_right, freed_right, freed_stage}
-use Rattle.sock_steps.specs.sock_model.specs.Reads.{link_home}
-use Rattle.sock_steps.specs.sock_model.specs.Lawful.{Lawful}
-use Rattle.sock_steps.specs.sock_model.specs.Keeping.{KeepsRule, LawfulAfter}
-use Rattle.sock_steps.specs.sock_model.specs.Rule.{Rule, noting}
+use Rattle.sock_model.specs.declared.chain.Heading.{Heading}
+use Rattle.sock_model.specs.declared.chain.Right.{Right}
+use Rattle.sock_model.specs.declared.chain.Stage.{Stage}
+use Rattle.sock_model.specs.declared.chain.Stage.TheVariants.{Placed, Passes}
+use Rattle.sock_model.specs.declared.home.Home.{Home}
+use Rattle.sock_model.specs.declared.view.View.{View}
+use Rattle.sock_model.specs.Layout.{head_index, next_index, request_index}
+use Rattle.sock_model.specs.Entries.{slot_of}
+use Rattle.sock_model.specs.Memory.{IDLE, UNCONNECTED}
+use Rattle.sock_model.specs.ChainRows.{with_claim, fresh_claim, ready_claim, queued, new_right, righted, without_loose, with_right, without_right, walking_right, passing_right, reading_right, turned_right, freed_right, freed_stage}
+use Rattle.sock_model.specs.Reads.{link_home}
+use Rattle.sock_model.specs.Lawful.{Lawful}
+use Rattle.sock_model.specs.Keeping.{KeepsRule, LawfulAfter}
+use Rattle.sock_model.specs.Rule.{Rule, noting}
 use Rattle.sock_steps.specs.chain_steps.proofs.Lists.{at_length}
 use Rattle.sock_steps.specs.chain_steps.proofs.Grow.{last_small}
 use Rattle.sock_steps.specs.chain_steps.proofs.Heads.{held_of}
@@ -34,7 +34,7 @@ use Rattle.sock_steps.proofs.WalkSteps.{passing_law, reading_law, emptied_law, w
 use Rattle.sock_steps.proofs.WriteSteps.{freeing_law}
 use Rattle.sock_steps.proofs.Retire.{passing_last_law}
 use Rattle.sock_steps.proofs.Noting.{tried_rule}
-use Rattle.sock_steps.specs.sock_model.specs.Conditions.{HasClaim}
+use Rattle.sock_model.specs.Conditions.{HasClaim}
 use Rattle.chain_core.specs.Conditions.{MayLook, MayClaim, MaySwap, MayConnect, MayTry, MayPass, MayRead, MayRetire, MayTurnTo, MayFree}
 use Rattle.chain_core.specs.Rights.{TakesRight}
 use Rattle.chain_core.specs.Taken.{NotesTaken}

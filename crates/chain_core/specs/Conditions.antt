@@ -3,12 +3,12 @@ use Rattle.std.specs.Prelude.{◌≡◌, ◌≢◌, ℕ, ◌+◌, ◌<◌, ◌�
 use mathlib.Core.Option.{some}
 use lib.ListN.{get_elem?}
 use Rattle.sock_words.specs.declared.plain.Plan.{Plan}
-use Rattle.sock_steps.specs.sock_model.specs.declared.chain.Right.{Right}
-use Rattle.sock_steps.specs.sock_model.specs.declared.chain.Stage.TheVariants.{Placed, Passes, Walks}
-use Rattle.sock_steps.specs.sock_model.specs.declared.view.View.{View}
-use Rattle.sock_steps.specs.sock_model.specs.Entries.{slot_of, generation_of}
-use Rattle.sock_steps.specs.sock_model.specs.Memory.{IDLE}
-use Rattle.sock_steps.specs.sock_model.specs.Conditions.{HasRight, MayExchange, MayEmpty, MayTurn}
+use Rattle.sock_model.specs.declared.chain.Right.{Right}
+use Rattle.sock_model.specs.declared.chain.Stage.TheVariants.{Placed, Passes, Walks}
+use Rattle.sock_model.specs.declared.view.View.{View}
+use Rattle.sock_model.specs.Entries.{slot_of, generation_of}
+use Rattle.sock_model.specs.Memory.{IDLE}
+use Rattle.sock_model.specs.Conditions.{HasRight, MayExchange, MayEmpty, MayTurn}
 
 -- nothing: the step tells the seat nothing
 abbrev pub MayLook : Plan → View → Type 0

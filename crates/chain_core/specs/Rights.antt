@@ -1,10 +1,10 @@
 -- What a seat has after its exchange found an idle head.
 use Rattle.std.specs.Prelude.{◌≡◌, ℕ, List}
 use mathlib.Core.Option.{some}
-use Rattle.sock_steps.specs.sock_model.specs.Layout.{head_index}
-use Rattle.sock_steps.specs.sock_model.specs.Reads.{link_home}
-use Rattle.sock_steps.specs.sock_model.specs.ChainRows.{righted}
-use Rattle.sock_steps.specs.sock_model.specs.Keeping.{LawfulAfter, WhereLawful}
+use Rattle.sock_model.specs.Layout.{head_index}
+use Rattle.sock_model.specs.Reads.{link_home}
+use Rattle.sock_model.specs.ChainRows.{righted}
+use Rattle.sock_model.specs.Keeping.{LawfulAfter, WhereLawful}
 use Rattle.chain_core.specs.Conditions.{MaySwap}
 
 -- the link of its claim is at home, and the rule holds with the right of the seat, which knows what the link took and how many of its messages have places

@@ -4,10 +4,10 @@ use mathlib.Core.Option.{some}
 use lib.ListN.{get_elem?}
 use Rattle.atomic_table.specs.Table.{State, stepped, keeps}
 use Rattle.sock_words.specs.declared.plain.Plan.{Plan}
-use Rattle.sock_steps.specs.sock_model.specs.declared.home.Home.{Home}
-use Rattle.sock_steps.specs.sock_model.specs.declared.view.View.{View}
-use Rattle.sock_steps.specs.sock_model.specs.Layout.{request_index}
-use Rattle.sock_steps.specs.sock_model.specs.Rule.{Rule, noting}
+use Rattle.sock_model.specs.declared.home.Home.{Home}
+use Rattle.sock_model.specs.declared.view.View.{View}
+use Rattle.sock_model.specs.Layout.{request_index}
+use Rattle.sock_model.specs.Rule.{Rule, noting}
 
 -- in every state that meets the whole rule, where a seat of this table found this word of request r, the rule still holds with its note
 abbrev pub NotesTaken : (r found next : ℕ) → Type 0

@@ -1,3 +1,2 @@
 pub mod Lawful
 pub mod Plays
-pub use Rattle.corr_core

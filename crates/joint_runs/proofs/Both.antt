@@ -2,9 +2,9 @@
 use Rattle.std.proofs.Common.{ℕ, ◌≡◌, ◌<◌, ◌≤◌, List, [], ◌∷◌}
 use Rattle.sock_words.specs.declared.plain.Plan.{Plan}
 use Rattle.sock_model.specs.declared.view.View.{View}
-use Rattle.programs_allowed.specs.corr_core.specs.declared.marks.Plan.{Plan as IdPlan}
-use Rattle.programs_allowed.specs.seat_programs.specs.Cores.{Core}
-use Rattle.programs_allowed.specs.seat_programs.specs.Ticks.{Moment, IsAnswered, AreAnswered, IsAlwaysReady, ticked, run}
+use Rattle.seat_programs.specs.corr_core.specs.declared.marks.Plan.{Plan as IdPlan}
+use Rattle.seat_programs.specs.Cores.{Core}
+use Rattle.seat_programs.specs.Ticks.{Moment, IsAnswered, AreAnswered, IsAlwaysReady, ticked, run}
 use Rattle.programs_allowed.specs.program_steps.specs.Sound.{Sound, IsFitting, AreFitting, views_after, views_along}
 use Rattle.programs_allowed.specs.program_steps.specs.Lasts.{IsCounted, AreCounted, MOST_PAID}
 use Rattle.programs_allowed.specs.runs_end.proofs.Bounded.{IsBounded, bounded_ticks}

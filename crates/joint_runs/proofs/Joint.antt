@@ -4,15 +4,15 @@ use mathlib.Core.Option.{Option, none, some}
 use lib.ListN.{get_elem?}
 use Rattle.sock_words.specs.declared.plain.Plan.{Plan}
 use Rattle.sock_model.specs.declared.view.View.{View}
-use Rattle.programs_allowed.specs.corr_core.specs.declared.marks.Plan.{Plan as IdPlan}
-use Rattle.programs_allowed.specs.seat_programs.specs.Asides.{Step, Found, MakeId, LoadIdWord, LockId, PostId, UnlockId, EndId, TakeCall, TakeBytes}
-use Rattle.programs_allowed.specs.seat_programs.specs.Calls.{Call, FindLink, LoadCode}
-use Rattle.programs_allowed.specs.seat_programs.specs.Programs.{Program, Do, Write, Aside, Round}
-use Rattle.programs_allowed.specs.seat_programs.specs.Cores.{Core, word_of, found_at}
-use Rattle.programs_allowed.specs.seat_programs.specs.Beside.{found_in, call_at, at_last}
-use Rattle.programs_allowed.specs.seat_programs.specs.Sends.{block}
-use Rattle.programs_allowed.specs.seat_programs.specs.Rounds.{round}
-use Rattle.programs_allowed.specs.seat_programs.specs.Ticks.{Answer, Moment, IsAnswer, IsAnswered, taken}
+use Rattle.seat_programs.specs.corr_core.specs.declared.marks.Plan.{Plan as IdPlan}
+use Rattle.seat_programs.specs.Asides.{Step, Found, MakeId, LoadIdWord, LockId, PostId, UnlockId, EndId, TakeCall, TakeBytes}
+use Rattle.seat_programs.specs.Calls.{Call, FindLink, LoadCode}
+use Rattle.seat_programs.specs.Programs.{Program, Do, Write, Aside, Round}
+use Rattle.seat_programs.specs.Cores.{Core, word_of, found_at}
+use Rattle.seat_programs.specs.Beside.{found_in, call_at, at_last}
+use Rattle.seat_programs.specs.Sends.{block}
+use Rattle.seat_programs.specs.Rounds.{round}
+use Rattle.seat_programs.specs.Ticks.{Answer, Moment, IsAnswer, IsAnswered, taken}
 use Rattle.programs_allowed.specs.program_steps.specs.Fits.{FitsFound}
 use Rattle.programs_allowed.specs.program_steps.specs.May.{May}
 use Rattle.programs_allowed.specs.program_steps.specs.GoesOn.{GoesOn}

@@ -3,11 +3,11 @@ use Rattle.std.proofs.Common.{◌≡◌, ℕ, suc, ◌+◌, ◌<◌, ◌≤◌, 
 use Rattle.std.specs.Prelude.{Option, Some, None, filter_map, unwrap_or}
 use Rattle.std.specs.List.{AllByRecursion, cons_option}
 use Rattle.sock_model.specs.Lawful.{PlanFits}
-use Rattle.programs_allowed.specs.seat_programs.specs.brpc_model.specs.Items.{Item, Slots, Requests, First, Open, Client, Send, Call, Expire, Join, Fail, Hold, Drop, Sched, Tick, To, is_open, is_call, opened_name}
-use Rattle.programs_allowed.specs.seat_programs.specs.brpc_model.specs.Operations.{Operation, operations_from, operations, link_names}
-use Rattle.programs_allowed.specs.seat_programs.specs.Tasks.{Numbered, numbered_from, opens, plan_of}
-use Rattle.programs_allowed.specs.seat_programs.specs.Scripts.{all_tasks}
-use Rattle.programs_allowed.specs.seat_programs.specs.Told.{AreTasks}
+use Rattle.seat_programs.specs.brpc_model.specs.Items.{Item, Slots, Requests, First, Open, Client, Send, Call, Expire, Join, Fail, Hold, Drop, Sched, Tick, To, is_open, is_call, opened_name}
+use Rattle.seat_programs.specs.brpc_model.specs.Operations.{Operation, operations_from, operations, link_names}
+use Rattle.seat_programs.specs.Tasks.{Numbered, numbered_from, opens, plan_of}
+use Rattle.seat_programs.specs.Scripts.{all_tasks}
+use Rattle.seat_programs.specs.Told.{AreTasks}
 use Rattle.programs_allowed.specs.program_steps.specs.Sound.{IsWithinLimits}
 use Rattle.joint_runs.proofs.Runs.{AreMade}
 

@@ -3,14 +3,14 @@ use Rattle.std.proofs.Common.{ℕ, zero, suc, ◌+◌, ◌*◌, ◌<◌, List, [
 use Rattle.std.specs.List.{AllByRecursion}
 use Rattle.sock_words.specs.declared.plain.Plan.{Plan}
 use Rattle.sock_model.specs.declared.view.View.{View}
-use Rattle.programs_allowed.specs.corr_core.specs.declared.marks.Plan.{Plan as IdPlan}
-use Rattle.programs_allowed.specs.seat_programs.specs.brpc_model.specs.Items.{Item}
-use Rattle.programs_allowed.specs.seat_programs.specs.brpc_model.specs.Operations.{Turn}
-use Rattle.programs_allowed.specs.seat_programs.specs.Tasks.{opens, calls, plan_of, id_plan_of}
-use Rattle.programs_allowed.specs.seat_programs.specs.Cores.{Core}
-use Rattle.programs_allowed.specs.seat_programs.specs.Ticks.{Moment, AreAnswered, IsAlwaysReady, quiet, run}
-use Rattle.programs_allowed.specs.seat_programs.specs.Runs.{IsAtRest}
-use Rattle.programs_allowed.specs.seat_programs.specs.Scripts.{sizes_of, programs, readers_from, all_programs, all_tasks, opened, set_up, played, IsRunWithCalls}
+use Rattle.seat_programs.specs.corr_core.specs.declared.marks.Plan.{Plan as IdPlan}
+use Rattle.seat_programs.specs.brpc_model.specs.Items.{Item}
+use Rattle.seat_programs.specs.brpc_model.specs.Operations.{Turn}
+use Rattle.seat_programs.specs.Tasks.{opens, calls, plan_of, id_plan_of}
+use Rattle.seat_programs.specs.Cores.{Core}
+use Rattle.seat_programs.specs.Ticks.{Moment, AreAnswered, IsAlwaysReady, quiet, run}
+use Rattle.seat_programs.specs.Runs.{IsAtRest}
+use Rattle.seat_programs.specs.Scripts.{sizes_of, programs, readers_from, all_programs, all_tasks, opened, set_up, played, IsRunWithCalls}
 use Rattle.programs_allowed.specs.program_steps.specs.Sound.{IsAhead, views_along}
 use Rattle.programs_allowed.specs.sock_runs.proofs.Along.{run_ahead, beginning_ahead}
 use Rattle.programs_allowed.specs.sock_runs.proofs.Unasked.{quiet_answered}

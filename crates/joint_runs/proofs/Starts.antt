@@ -5,14 +5,14 @@ use Rattle.sock_words.specs.declared.plain.Plan.{Plan}
 use Rattle.sock_model.specs.declared.home.Home.TheVariants.{Empty, Link, Message}
 use Rattle.sock_model.specs.declared.view.View.{View}
 use Rattle.sock_model.specs.Lawful.{PlanFits}
-use Rattle.programs_allowed.specs.corr_core.specs.declared.marks.Plan.{Plan as IdPlan}
-use Rattle.programs_allowed.specs.seat_programs.specs.declared.task.Task.{Task}
-use Rattle.programs_allowed.specs.seat_programs.specs.Programs.{Program}
-use Rattle.programs_allowed.specs.seat_programs.specs.Clients.{ending_of}
-use Rattle.programs_allowed.specs.seat_programs.specs.Cores.{Core, with_seat}
-use Rattle.programs_allowed.specs.seat_programs.specs.Runs.{IsAtRest}
-use Rattle.programs_allowed.specs.seat_programs.specs.Scripts.{opening_words, opening_homes, sizes_of, programs, readers_from, all_programs, is_ending}
-use Rattle.programs_allowed.specs.seat_programs.specs.Told.{AreTasks}
+use Rattle.seat_programs.specs.corr_core.specs.declared.marks.Plan.{Plan as IdPlan}
+use Rattle.seat_programs.specs.declared.task.Task.{Task}
+use Rattle.seat_programs.specs.Programs.{Program}
+use Rattle.seat_programs.specs.Clients.{ending_of}
+use Rattle.seat_programs.specs.Cores.{Core, with_seat}
+use Rattle.seat_programs.specs.Runs.{IsAtRest}
+use Rattle.seat_programs.specs.Scripts.{opening_words, opening_homes, sizes_of, programs, readers_from, all_programs, is_ending}
+use Rattle.seat_programs.specs.Told.{AreTasks}
 use Rattle.programs_allowed.specs.program_steps.specs.Sound.{IsWithinLimits, IsAhead}
 use Rattle.programs_allowed.specs.sock_runs.proofs.Along.{seat_rests}
 use Rattle.programs_allowed.specs.Openings.{opening_views, all_seats}

@@ -9,16 +9,8 @@ pub mod Passing
 pub mod Driving
 pub mod Linkers
 pub mod Parts
-pub use Rattle.client_seats
-pub use Rattle.reader_seats
-pub use Rattle.reader_points
-pub use Rattle.seat_states
 pub use Rattle.run_theorems
-pub use Rattle.call_slots
-pub use Rattle.message_parts
 pub use Rattle.id_runs
 pub use Rattle.seat_states.specs.program_steps
 pub use Rattle.run_theorems.specs.programs_allowed.specs.sock_runs
 pub use Rattle.run_theorems.specs.programs_allowed.specs.runs_end
-pub use Rattle.call_points
-pub use Rattle.id_points

@@ -35,16 +35,16 @@ use Rattle.machine_model.specs.run_theorems.specs.programs_allowed.proofs.Retryi
 use Rattle.machine_model.specs.id_runs.specs.Held.{IdView}
 use Rattle.machine_model.specs.id_runs.specs.Goes.{SoundIds}
 use Rattle.machine_model.specs.run_theorems.specs.joint_runs.proofs.Both.{BothSound, FitsBoth, fits_both, joint_ticks}
-use Rattle.machine_model.specs.call_points.specs.Steps.{after_word}
-use Rattle.machine_model.specs.seat_states.specs.Points.{Context, after_put, after_ready}
-use Rattle.machine_model.specs.seat_states.specs.Steps.{First, OfCall, OfAside, OfMessage, OfLink, OfHome, first_in}
-use Rattle.machine_model.specs.seat_states.specs.Steps as kinds
-use Rattle.machine_model.specs.seat_states.proofs.StepFacts as facts
-use Rattle.machine_model.specs.client_seats.specs.Seats.{SeatData, around, seat_program}
+use Rattle.call_points.specs.Steps.{after_word}
+use Rattle.seat_states.specs.Points.{Context, after_put, after_ready}
+use Rattle.seat_states.specs.Steps.{First, OfCall, OfAside, OfMessage, OfLink, OfHome, first_in}
+use Rattle.seat_states.specs.Steps as kinds
+use Rattle.seat_states.proofs.StepFacts as facts
+use Rattle.client_seats.specs.Seats.{SeatData, around, seat_program}
 use Rattle.machine_model.specs.Links.{LinksData, Taken, Given, Agrees, AgreesGave, IsPaced, holder_of}
 use Rattle.machine_model.specs.Machines.{MachineState, IsSoundMachine, ArePaced, MOST_LEFT, table_of, machine_sizes, state_of, core_with, IsSized}
 use Rattle.machine_model.specs.Steps.{OutsAfter, SameBase, Goes, MadeFirst}
-use Rattle.machine_model.specs.seat_states.specs.declared.point.Step.{Step}
+use Rattle.seat_states.specs.declared.point.Step.{Step}
 use Rattle.machine_model.proofs.FirstSteps.{same_some}
 use Rattle.machine_rules.proofs.Holding.{only_of}
 use Rattle.machine_rules.proofs.Paces.{calm_paced, IsCalm, goes_calm, ends_calm, behind_word, behind_aside, behind_message, behind_link, behind_home, behind_put, behind_ready}

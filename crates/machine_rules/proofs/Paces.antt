@@ -33,38 +33,38 @@ use Rattle.seat_programs.specs.declared.task.Op.{Op}
 use Rattle.seat_programs.specs.declared.task.Sizes.{Sizes}
 use Rattle.seat_programs.specs.declared.task.Task.{Task}
 use Rattle.machine_model.specs.program_steps.specs.Sound.{first_step}
-use Rattle.machine_model.specs.id_points.specs.Ids.{id_of, number_of}
-use Rattle.machine_model.specs.id_points.specs.Turns.{sought_as}
-use Rattle.machine_model.specs.call_points.specs.Points.{retry_of}
-use Rattle.machine_model.specs.call_points.specs.Steps.{with_word, word_behind, after_word, after_call}
-use Rattle.machine_model.specs.call_points.specs.declared.deciding.OnCall.{OnCall}
-use Rattle.machine_model.specs.call_points.specs.declared.deciding.DecideStep.TheVariants as decides
-use Rattle.machine_model.specs.call_points.specs.declared.word_step.WordStep.TheVariants as id_steps
-use Rattle.machine_model.specs.seat_states.specs.declared.point.OpenStep.TheVariants as opens
-use Rattle.machine_model.specs.seat_states.specs.declared.point.Aim.{Aim}
-use Rattle.machine_model.specs.seat_states.specs.declared.point.Aim.TheVariants as aims
-use Rattle.machine_model.specs.seat_states.specs.declared.point.SeekStep.TheVariants as seeks
-use Rattle.machine_model.specs.seat_states.specs.declared.point.FailStep.TheVariants as fails
-use Rattle.machine_model.specs.seat_states.specs.declared.point.Continuation.{Continuation}
-use Rattle.machine_model.specs.seat_states.specs.declared.point.Continuation.TheVariants as thens
-use Rattle.machine_model.specs.seat_states.specs.declared.point.ReleaseStep.TheVariants as releases
-use Rattle.machine_model.specs.seat_states.specs.declared.point.SendStep.TheVariants as sends
-use Rattle.machine_model.specs.seat_states.specs.declared.point.Writer.{Writer}
-use Rattle.machine_model.specs.seat_states.specs.declared.point.WriteStep.TheVariants as writes
-use Rattle.machine_model.specs.seat_states.specs.declared.point.Author.{Author}
-use Rattle.machine_model.specs.seat_states.specs.declared.point.Author.TheVariants as authors
-use Rattle.machine_model.specs.seat_states.specs.declared.point.AfterStep.{AfterStep}
-use Rattle.machine_model.specs.seat_states.specs.declared.point.AfterStep.TheVariants as afters
-use Rattle.machine_model.specs.seat_states.specs.declared.point.CallStep.TheVariants as begins
-use Rattle.machine_model.specs.seat_states.specs.declared.point.AttemptStep.TheVariants as attempts
-use Rattle.machine_model.specs.seat_states.specs.declared.point.RetryStep.TheVariants as retries
-use Rattle.machine_model.specs.seat_states.specs.declared.point.JoinStep.TheVariants as joins
-use Rattle.machine_model.specs.seat_states.specs.declared.point.Point.{Point}
-use Rattle.machine_model.specs.seat_states.specs.declared.point.Point.TheVariants as points
-use Rattle.machine_model.specs.seat_states.specs.Points.{Context, heading_by, locker_of, client_on, then_program, point_program, reached_program, full_program, freed_program, after_program, posted_program, look_program, told, tell, GoesByWord, TakesCall, TakesMessage, TakesLink, PutsHome, PutsPiece, Asks, after_message, after_link, after_home, after_put, after_ready}
-use Rattle.machine_model.specs.seat_states.specs.Steps.{OfCall, first_of, first_in}
-use Rattle.machine_model.specs.seat_states.specs.Steps as kinds
-use Rattle.machine_model.specs.client_seats.specs.Seats.{SeatData, around}
+use Rattle.id_points.specs.Ids.{id_of, number_of}
+use Rattle.id_points.specs.Turns.{sought_as}
+use Rattle.call_points.specs.Points.{retry_of}
+use Rattle.call_points.specs.Steps.{with_word, word_behind, after_word, after_call}
+use Rattle.call_points.specs.declared.deciding.OnCall.{OnCall}
+use Rattle.call_points.specs.declared.deciding.DecideStep.TheVariants as decides
+use Rattle.call_points.specs.declared.word_step.WordStep.TheVariants as id_steps
+use Rattle.seat_states.specs.declared.point.OpenStep.TheVariants as opens
+use Rattle.seat_states.specs.declared.point.Aim.{Aim}
+use Rattle.seat_states.specs.declared.point.Aim.TheVariants as aims
+use Rattle.seat_states.specs.declared.point.SeekStep.TheVariants as seeks
+use Rattle.seat_states.specs.declared.point.FailStep.TheVariants as fails
+use Rattle.seat_states.specs.declared.point.Continuation.{Continuation}
+use Rattle.seat_states.specs.declared.point.Continuation.TheVariants as thens
+use Rattle.seat_states.specs.declared.point.ReleaseStep.TheVariants as releases
+use Rattle.seat_states.specs.declared.point.SendStep.TheVariants as sends
+use Rattle.seat_states.specs.declared.point.Writer.{Writer}
+use Rattle.seat_states.specs.declared.point.WriteStep.TheVariants as writes
+use Rattle.seat_states.specs.declared.point.Author.{Author}
+use Rattle.seat_states.specs.declared.point.Author.TheVariants as authors
+use Rattle.seat_states.specs.declared.point.AfterStep.{AfterStep}
+use Rattle.seat_states.specs.declared.point.AfterStep.TheVariants as afters
+use Rattle.seat_states.specs.declared.point.CallStep.TheVariants as begins
+use Rattle.seat_states.specs.declared.point.AttemptStep.TheVariants as attempts
+use Rattle.seat_states.specs.declared.point.RetryStep.TheVariants as retries
+use Rattle.seat_states.specs.declared.point.JoinStep.TheVariants as joins
+use Rattle.seat_states.specs.declared.point.Point.{Point}
+use Rattle.seat_states.specs.declared.point.Point.TheVariants as points
+use Rattle.seat_states.specs.Points.{Context, heading_by, locker_of, client_on, then_program, point_program, reached_program, full_program, freed_program, after_program, posted_program, look_program, told, tell, GoesByWord, TakesCall, TakesMessage, TakesLink, PutsHome, PutsPiece, Asks, after_message, after_link, after_home, after_put, after_ready}
+use Rattle.seat_states.specs.Steps.{OfCall, first_of, first_in}
+use Rattle.seat_states.specs.Steps as kinds
+use Rattle.client_seats.specs.Seats.{SeatData, around}
 use Rattle.machine_model.specs.Links.{IsClear, WasRefused, IsPaced}
 
 -- a program before which no link need have answered anything

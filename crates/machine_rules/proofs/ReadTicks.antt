@@ -14,13 +14,13 @@ use Rattle.seat_programs.specs.Programs.{Program}
 use Rattle.seat_programs.specs.Runs.{from_to}
 use Rattle.seat_programs.specs.Cores.{Calls, Core, SeatState, word_of, found_at, with_seat, hand_after, words_after, word_after, homes_after}
 use Rattle.seat_programs.specs.Ticks.{Answer, Unasked, OfTake, IsAnswer, IsAnswered, tick_with, ticked}
-use Rattle.machine_model.specs.call_points.specs.Steps as aside_steps
-use Rattle.machine_model.specs.call_slots.specs.Slots.{calls_with}
-use Rattle.machine_model.specs.seat_states.specs.Steps.{First, OfCall, OfAside, step_of, first_in}
-use Rattle.machine_model.specs.reader_points.specs.declared.point.ReadStep.{ReadStep}
-use Rattle.machine_model.specs.reader_points.specs.declared.point.ReadStep.TheVariants as steps
-use Rattle.machine_model.specs.reader_points.specs.Steps.{step_as}
-use Rattle.machine_model.specs.reader_seats.specs.Readers.{ReaderData, reader_program}
+use Rattle.call_points.specs.Steps as aside_steps
+use Rattle.call_slots.specs.Slots.{calls_with}
+use Rattle.seat_states.specs.Steps.{First, OfCall, OfAside, step_of, first_in}
+use Rattle.reader_points.specs.declared.point.ReadStep.{ReadStep}
+use Rattle.reader_points.specs.declared.point.ReadStep.TheVariants as steps
+use Rattle.reader_points.specs.Steps.{step_as}
+use Rattle.reader_seats.specs.Readers.{ReaderData, reader_program}
 use Rattle.machine_model.specs.Links.{LinksData, Taken, Given, Agrees, AgreesGave, homes_of, hand_of}
 use Rattle.machine_model.specs.Machines.{MachineState, READERS, table_of, state_of, waiting_of, given_by, calls_of, core_with, IsSized}
 use Rattle.machine_model.specs.Reading.{SameTables, CallRead, AsideRead, TakeRead, MadeRead, given_in}

@@ -12,10 +12,10 @@ use Rattle.seat_programs.specs.declared.task.Sizes.{Sizes}
 use Rattle.seat_programs.specs.Heads.{Retry}
 use Rattle.seat_programs.specs.Programs.{Program}
 use Rattle.seat_programs.specs.Cores.{Calls, Core, SeatState, resolved, still_waiting, said, next_step, waiting_at, with_seat}
-use Rattle.machine_model.specs.call_slots.specs.Slots.{calls_with}
-use Rattle.machine_model.specs.client_seats.specs.Seats.{SeatData, seat_program}
-use Rattle.machine_model.specs.reader_seats.specs.Readers.{ReaderData, reader_program}
-use Rattle.machine_model.specs.reader_seats.specs.GoesOn.{GoesOn}
+use Rattle.call_slots.specs.Slots.{calls_with}
+use Rattle.client_seats.specs.Seats.{SeatData, seat_program}
+use Rattle.reader_seats.specs.Readers.{ReaderData, reader_program}
+use Rattle.reader_seats.specs.GoesOn.{GoesOn}
 use Rattle.machine_model.specs.Links.{LinksData, Taken, Given, homes_of, hand_of}
 use Rattle.machine_model.specs.Machines.{MachineState, SameGivens, READERS, between, state_of, clients_with, readers_with, resting, seats_with, waiting_of, given_by, calls_of, core_with, machine_sizes, table_of}
 use Rattle.machine_model.specs.Steps.{Goes}

@@ -33,11 +33,11 @@ use Rattle.machine_model.specs.id_runs.specs.Held.{IdView, MayId}
 use Rattle.machine_model.specs.id_runs.specs.Goes.{IdGoesOn, FitsSock, FitsFirst}
 use Rattle.machine_model.specs.id_runs.specs.Goes as goes
 use Rattle.machine_model.specs.run_theorems.specs.joint_runs.proofs.Joint.{is_fitting_ids}
-use Rattle.machine_model.specs.call_points.specs.Steps.{aside_of, aside_in}
-use Rattle.machine_model.specs.call_slots.proofs.Fitting.{may_next}
-use Rattle.machine_model.specs.seat_states.specs.Steps.{First, OfCall, OfAside, OfMessage, first_of, first_in}
-use Rattle.machine_model.specs.seat_states.specs.Steps as kinds
-use Rattle.machine_model.specs.seat_states.proofs.StepFacts.{FitsSizes}
+use Rattle.call_points.specs.Steps.{aside_of, aside_in}
+use Rattle.call_slots.proofs.Fitting.{may_next}
+use Rattle.seat_states.specs.Steps.{First, OfCall, OfAside, OfMessage, first_of, first_in}
+use Rattle.seat_states.specs.Steps as kinds
+use Rattle.seat_states.proofs.StepFacts.{FitsSizes}
 use Rattle.machine_model.specs.declared.letter.Letter.{Letter}
 use Rattle.machine_model.specs.Links.{LinksData, Taken, holder_of, is_done, link_home, homes_of, hand_of}
 use Rattle.machine_model.specs.Machines.{MachineState, IsSoundMachine, table_of, machine_sizes, state_of, core_with, IsSized}

@@ -20,21 +20,21 @@ use Rattle.seat_programs.specs.Programs.{Program}
 use Rattle.seat_programs.specs.Cores.{Calls, Core, SeatState, word_of, found_at, homes_after, hand_after, first_of, others_of, link_place, with_seat}
 use Rattle.seat_programs.specs.Ticks.{Answer, Unasked, OfPut, OfReady, FitsPut, IsAnswer, IsAnswered, fed, with_places, onto_first, tick_with, ticked}
 use Rattle.machine_model.specs.sock_runs.proofs.Along.{place_inside}
-use Rattle.machine_model.specs.call_points.specs.Steps.{after_word}
-use Rattle.machine_model.specs.call_points.specs.Steps as aside_steps
-use Rattle.machine_model.specs.call_slots.specs.Slots.{SlotState, calls_with}
-use Rattle.machine_model.specs.message_parts.specs.Parcels.{parcel_of}
-use Rattle.machine_model.specs.seat_states.specs.declared.point.Step.{Step}
-use Rattle.machine_model.specs.seat_states.specs.declared.point.Step.TheVariants as firsts
-use Rattle.machine_model.specs.seat_states.specs.declared.point.Author.{Author}
-use Rattle.machine_model.specs.seat_states.specs.declared.call.Call.{Call}
-use Rattle.machine_model.specs.seat_states.specs.declared.call.Call.TheVariants as steps
-use Rattle.machine_model.specs.seat_states.specs.Points.{heading_by, after_link, after_home, after_put, after_ready}
-use Rattle.machine_model.specs.seat_states.specs.Steps.{First, OfCall, OfAside, OfMessage, OfLink, OfHome, step_of, step_as, first_in}
-use Rattle.machine_model.specs.seat_states.specs.Steps as kinds
+use Rattle.call_points.specs.Steps.{after_word}
+use Rattle.call_points.specs.Steps as aside_steps
+use Rattle.call_slots.specs.Slots.{SlotState, calls_with}
+use Rattle.message_parts.specs.Parcels.{parcel_of}
+use Rattle.seat_states.specs.declared.point.Step.{Step}
+use Rattle.seat_states.specs.declared.point.Step.TheVariants as firsts
+use Rattle.seat_states.specs.declared.point.Author.{Author}
+use Rattle.seat_states.specs.declared.call.Call.{Call}
+use Rattle.seat_states.specs.declared.call.Call.TheVariants as steps
+use Rattle.seat_states.specs.Points.{heading_by, after_link, after_home, after_put, after_ready}
+use Rattle.seat_states.specs.Steps.{First, OfCall, OfAside, OfMessage, OfLink, OfHome, step_of, step_as, first_in}
+use Rattle.seat_states.specs.Steps as kinds
 use Rattle.machine_model.proofs.TableRoom.{IsCall}
-use Rattle.machine_model.specs.seat_states.proofs.StepFacts as facts
-use Rattle.machine_model.specs.client_seats.specs.Seats.{SeatData, around, seat_program, bytes_of, parts_of}
+use Rattle.seat_states.proofs.StepFacts as facts
+use Rattle.client_seats.specs.Seats.{SeatData, around, seat_program, bytes_of, parts_of}
 use Rattle.machine_model.specs.declared.letter.Letter.{Letter}
 use Rattle.machine_model.specs.Links.{LinksData, Taken, Given, Agrees, AgreesGave, SoFar, IsPaced, holder_of, is_done, link_with, homes_of, hand_of, letter_home}
 use Rattle.machine_model.specs.Machines.{MachineState, READERS, table_of, machine_sizes, state_of, waiting_of, given_by, core_with, IsSized}

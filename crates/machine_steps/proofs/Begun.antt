@@ -12,10 +12,10 @@ use Rattle.seat_programs.specs.Readers.{reader}
 use Rattle.seat_programs.specs.Clients.{HeldLife, operation, client_from}
 use Rattle.seat_programs.specs.Cores.{said, resolved, still_waiting, next_step}
 use Rattle.seat_programs.specs.Scripts.{free_slot, free_slots, programs, readers_from}
-use Rattle.machine_model.specs.seat_states.specs.declared.point.Point.TheVariants as point
-use Rattle.machine_model.specs.reader_seats.specs.Readers.{ReaderData, reader_program}
-use Rattle.machine_model.specs.client_seats.specs.Following.{FollowsOn}
-use Rattle.machine_model.specs.client_seats.specs.Seats.{SeatData, seat_program, client_of}
+use Rattle.seat_states.specs.declared.point.Point.TheVariants as point
+use Rattle.reader_seats.specs.Readers.{ReaderData, reader_program}
+use Rattle.client_seats.specs.Following.{FollowsOn}
+use Rattle.client_seats.specs.Seats.{SeatData, seat_program, client_of}
 use Rattle.machine_model.specs.declared.letter.Letter.{Letter}
 use Rattle.machine_model.specs.Parts.{AreBegun, AreReading, said_first}
 use Rattle.machine_model.specs.Letters.{letters_in}

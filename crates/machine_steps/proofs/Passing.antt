@@ -9,21 +9,21 @@ use Rattle.seat_programs.specs.Attempts.{begin_call, claim_id}
 use Rattle.seat_programs.specs.Sends.{accept}
 use Rattle.seat_programs.specs.Cores.{resolved, still_waiting, next_step, said}
 use Rattle.seat_programs.specs.Ticks.{Unasked}
-use Rattle.machine_model.specs.call_points.specs.Steps.{after_word}
-use Rattle.machine_model.specs.call_points.specs.declared.aside.Aside.TheVariants as code
-use Rattle.machine_model.specs.seat_states.specs.declared.call.Call.TheVariants as steps
-use Rattle.machine_model.specs.seat_states.specs.declared.point.Sending.{Sending}
-use Rattle.machine_model.specs.seat_states.specs.declared.point.CallStep.TheVariants as begins
-use Rattle.machine_model.specs.seat_states.specs.declared.point.SendStep.TheVariants as sends
-use Rattle.machine_model.specs.seat_states.specs.declared.point.Point.{Point}
-use Rattle.machine_model.specs.seat_states.specs.declared.point.Point.TheVariants as points
-use Rattle.machine_model.specs.seat_states.specs.declared.point.Step.{Step}
-use Rattle.machine_model.specs.seat_states.specs.declared.point.Step.TheVariants as firsts
-use Rattle.machine_model.specs.seat_states.specs.Points.{Context, client_on, heading_by, sent_program, claims_program}
-use Rattle.machine_model.specs.client_seats.specs.Following.{IsPrepared}
-use Rattle.machine_model.specs.client_seats.specs.declared.seat.Seat.{Seat}
-use Rattle.machine_model.specs.client_seats.specs.Seats.{SeatData, seat_data, around, seat_program}
-use Rattle.machine_model.specs.reader_seats.specs.Readers.{ReaderData}
+use Rattle.call_points.specs.Steps.{after_word}
+use Rattle.call_points.specs.declared.aside.Aside.TheVariants as code
+use Rattle.seat_states.specs.declared.call.Call.TheVariants as steps
+use Rattle.seat_states.specs.declared.point.Sending.{Sending}
+use Rattle.seat_states.specs.declared.point.CallStep.TheVariants as begins
+use Rattle.seat_states.specs.declared.point.SendStep.TheVariants as sends
+use Rattle.seat_states.specs.declared.point.Point.{Point}
+use Rattle.seat_states.specs.declared.point.Point.TheVariants as points
+use Rattle.seat_states.specs.declared.point.Step.{Step}
+use Rattle.seat_states.specs.declared.point.Step.TheVariants as firsts
+use Rattle.seat_states.specs.Points.{Context, client_on, heading_by, sent_program, claims_program}
+use Rattle.client_seats.specs.Following.{IsPrepared}
+use Rattle.client_seats.specs.declared.seat.Seat.{Seat}
+use Rattle.client_seats.specs.Seats.{SeatData, seat_data, around, seat_program}
+use Rattle.reader_seats.specs.Readers.{ReaderData}
 use Rattle.machine_model.specs.declared.tick.Tick.{Tick}
 use Rattle.machine_model.specs.declared.tick.Tick.TheVariants.{Moved}
 use Rattle.machine_model.specs.Machines.{MachineState, TableState, table_sizes}

@@ -6,13 +6,13 @@ use Rattle.atomic_table.proofs.Lists.{at_map, at_index}
 use mathlib.Core.Option as core
 use lib.ListN.{get_elem?}
 use Rattle.machine_model.specs.sock_runs.proofs.Along.{place_inside}
-use Rattle.machine_model.specs.seat_states.specs.declared.point.Step.{Step}
-use Rattle.machine_model.specs.seat_states.specs.Points.{point_program}
-use Rattle.machine_model.specs.seat_states.specs.Steps.{step_as, first_in}
+use Rattle.seat_states.specs.declared.point.Step.{Step}
+use Rattle.seat_states.specs.Points.{point_program}
+use Rattle.seat_states.specs.Steps.{step_as, first_in}
 use Rattle.machine_model.specs.declared.tick.Tick.{Tick}
-use Rattle.machine_model.specs.client_seats.specs.declared.seat.Seat.{Seat}
-use Rattle.machine_model.specs.client_seats.specs.Seats.{SeatData, seat_data, seat_program, around}
-use Rattle.machine_model.specs.reader_seats.specs.Readers.{ReaderData}
+use Rattle.client_seats.specs.declared.seat.Seat.{Seat}
+use Rattle.client_seats.specs.Seats.{SeatData, seat_data, seat_program, around}
+use Rattle.reader_seats.specs.Readers.{ReaderData}
 use Rattle.machine_model.specs.Machines.{MachineState, TableState, table_sizes}
 use Rattle.machine_model.specs.Steps.{NextIs, HasNoStep, IsFitStep, ReadyAt, StepFits}
 use Rattle.machine_model.specs.Telling.{StepTold, TickTold}

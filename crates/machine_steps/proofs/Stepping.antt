@@ -3,42 +3,42 @@ use Rattle.std.proofs.Common.{◌≡◌, refl, ℕ, zero, suc, ◌+◌, Bool, tr
 use Rattle.sock_words.specs.declared.outcome.Outcome.{Outcome}
 use Rattle.sock_io.specs.declared.link.Put.{Put}
 use Rattle.sock_io.specs.declared.link.Put.TheVariants as puts
-use Rattle.machine_model.specs.message_parts.specs.Frames.{OutgoingData, ParcelData}
+use Rattle.message_parts.specs.Frames.{OutgoingData, ParcelData}
 use Rattle.seat_programs.specs.declared.task.Sizes.{Sizes}
 use Rattle.seat_programs.specs.Programs.{Program, Aside, Round}
 use Rattle.corr_core.specs.Word.{parts, code_of}
-use Rattle.machine_model.specs.id_points.specs.Ids.{id_of}
+use Rattle.id_points.specs.Ids.{id_of}
 use Rattle.seat_programs.specs.Asides.{PutCall, id_slot}
 use Rattle.seat_programs.specs.Heads.{Retry, HasEnded, Unlocks}
 use Rattle.seat_programs.specs.Posts.{ends_call, end_id, unlocked, decided}
 use Rattle.seat_programs.specs.Cores.{resolved, still_waiting, next_step, said}
 use Rattle.seat_programs.specs.Calls as calls
 use Rattle.sock_model.specs.declared.chain.Heading.{Heading}
-use Rattle.machine_model.specs.seat_states.specs.declared.point.OpenStep.TheVariants as opens
-use Rattle.machine_model.specs.seat_states.specs.declared.point.SeekStep.TheVariants as seeks
-use Rattle.machine_model.specs.seat_states.specs.declared.point.Aim.TheVariants as aims
-use Rattle.machine_model.specs.seat_states.specs.declared.point.FailStep.TheVariants as fails
-use Rattle.machine_model.specs.seat_states.specs.declared.point.ReleaseStep.TheVariants as releases
-use Rattle.machine_model.specs.seat_states.specs.declared.point.SendStep.TheVariants as sends
-use Rattle.machine_model.specs.seat_states.specs.declared.point.WriteStep.TheVariants as writes
-use Rattle.machine_model.specs.call_points.specs.declared.deciding.DecideStep.TheVariants as decides
-use Rattle.machine_model.specs.call_points.specs.declared.word_step.WordStep.TheVariants as id_steps
-use Rattle.machine_model.specs.call_points.specs.Steps.{after_word}
-use Rattle.machine_model.specs.seat_states.specs.declared.point.Author.{Author}
-use Rattle.machine_model.specs.seat_states.specs.declared.point.Author.TheVariants as authors
-use Rattle.machine_model.specs.seat_states.specs.declared.point.CallStep.TheVariants as begins
-use Rattle.machine_model.specs.seat_states.specs.declared.point.AttemptStep.TheVariants as attempts
-use Rattle.machine_model.specs.seat_states.specs.declared.point.RetryStep.TheVariants as retries
-use Rattle.machine_model.specs.seat_states.specs.declared.point.JoinStep.TheVariants as joins
-use Rattle.machine_model.specs.seat_states.specs.declared.point.Point.{Point}
-use Rattle.machine_model.specs.seat_states.specs.declared.point.Point.TheVariants as points
-use Rattle.machine_model.specs.seat_states.specs.Steps.{First, OfCall, step_as, first_of, first_in}
-use Rattle.machine_model.specs.seat_states.specs.declared.point.Next.{Next}
-use Rattle.machine_model.specs.seat_states.specs.declared.point.Step.{Step}
-use Rattle.machine_model.specs.seat_states.specs.Points.{Context, point_program, look_program, after_program, next_program, with_message, with_put, is_whole, parts_by, after_message, after_put}
+use Rattle.seat_states.specs.declared.point.OpenStep.TheVariants as opens
+use Rattle.seat_states.specs.declared.point.SeekStep.TheVariants as seeks
+use Rattle.seat_states.specs.declared.point.Aim.TheVariants as aims
+use Rattle.seat_states.specs.declared.point.FailStep.TheVariants as fails
+use Rattle.seat_states.specs.declared.point.ReleaseStep.TheVariants as releases
+use Rattle.seat_states.specs.declared.point.SendStep.TheVariants as sends
+use Rattle.seat_states.specs.declared.point.WriteStep.TheVariants as writes
+use Rattle.call_points.specs.declared.deciding.DecideStep.TheVariants as decides
+use Rattle.call_points.specs.declared.word_step.WordStep.TheVariants as id_steps
+use Rattle.call_points.specs.Steps.{after_word}
+use Rattle.seat_states.specs.declared.point.Author.{Author}
+use Rattle.seat_states.specs.declared.point.Author.TheVariants as authors
+use Rattle.seat_states.specs.declared.point.CallStep.TheVariants as begins
+use Rattle.seat_states.specs.declared.point.AttemptStep.TheVariants as attempts
+use Rattle.seat_states.specs.declared.point.RetryStep.TheVariants as retries
+use Rattle.seat_states.specs.declared.point.JoinStep.TheVariants as joins
+use Rattle.seat_states.specs.declared.point.Point.{Point}
+use Rattle.seat_states.specs.declared.point.Point.TheVariants as points
+use Rattle.seat_states.specs.Steps.{First, OfCall, step_as, first_of, first_in}
+use Rattle.seat_states.specs.declared.point.Next.{Next}
+use Rattle.seat_states.specs.declared.point.Step.{Step}
+use Rattle.seat_states.specs.Points.{Context, point_program, look_program, after_program, next_program, with_message, with_put, is_whole, parts_by, after_message, after_put}
 use Rattle.seat_programs.specs.Ticks.{Answer}
-use Rattle.machine_model.specs.client_seats.specs.Seats.{SeatData, around, seat_program, bytes_of, parts_of, left_of, taken_of, left_parts_of}
-use Rattle.machine_model.specs.client_seats.specs.Following.{FollowsOn}
+use Rattle.client_seats.specs.Seats.{SeatData, around, seat_program, bytes_of, parts_of, left_of, taken_of, left_parts_of}
+use Rattle.client_seats.specs.Following.{FollowsOn}
 use Rattle.brpc_model.specs.Link.{LinkEnd}
 use Rattle.sock_io.specs.Link.{OutState, InState, PutStep}
 use Rattle.seat_programs.specs.Parts.{part}

@@ -10,21 +10,21 @@ use Rattle.seat_programs.specs.Cores.{Calls}
 use Rattle.seat_programs.specs.Programs.{Program, Aside}
 use Rattle.seat_programs.specs.Ticks.{Unasked}
 use Rattle.machine_model.specs.program_steps.specs.Sound.{first_step}
-use Rattle.machine_model.specs.call_slots.specs.Slots.{SlotState, calls_with}
-use Rattle.machine_model.specs.call_slots.specs.Steps as slots
-use Rattle.machine_model.specs.call_slots.specs.Steps.{word_found}
-use Rattle.machine_model.specs.call_points.specs.declared.aside.Aside as code
-use Rattle.machine_model.specs.call_points.specs.declared.aside.Aside.TheVariants as steps
-use Rattle.machine_model.specs.call_points.specs.Steps as aside_steps
-use Rattle.machine_model.specs.call_points.specs.Steps.{after_word, after_call, word_behind, with_word}
-use Rattle.machine_model.specs.call_points.specs.declared.deciding.DecideStep.TheVariants as decides
-use Rattle.machine_model.specs.seat_states.specs.declared.point.RetryStep.TheVariants as retries
-use Rattle.machine_model.specs.seat_states.specs.declared.point.Step.TheVariants as firsts
-use Rattle.machine_model.specs.seat_states.specs.declared.point.Point.{Point}
-use Rattle.machine_model.specs.seat_states.specs.declared.point.Point.TheVariants as points
-use Rattle.machine_model.specs.seat_states.specs.Points.{Context, point_program, GoesByWord, TakesCall}
-use Rattle.machine_model.specs.seat_states.specs.Steps.{OfAside, first_in}
-use Rattle.machine_model.specs.client_seats.specs.Seats.{SeatData, seat_program, asked_or_nothing}
+use Rattle.call_slots.specs.Slots.{SlotState, calls_with}
+use Rattle.call_slots.specs.Steps as slots
+use Rattle.call_slots.specs.Steps.{word_found}
+use Rattle.call_points.specs.declared.aside.Aside as code
+use Rattle.call_points.specs.declared.aside.Aside.TheVariants as steps
+use Rattle.call_points.specs.Steps as aside_steps
+use Rattle.call_points.specs.Steps.{after_word, after_call, word_behind, with_word}
+use Rattle.call_points.specs.declared.deciding.DecideStep.TheVariants as decides
+use Rattle.seat_states.specs.declared.point.RetryStep.TheVariants as retries
+use Rattle.seat_states.specs.declared.point.Step.TheVariants as firsts
+use Rattle.seat_states.specs.declared.point.Point.{Point}
+use Rattle.seat_states.specs.declared.point.Point.TheVariants as points
+use Rattle.seat_states.specs.Points.{Context, point_program, GoesByWord, TakesCall}
+use Rattle.seat_states.specs.Steps.{OfAside, first_in}
+use Rattle.client_seats.specs.Seats.{SeatData, seat_program, asked_or_nothing}
 use Rattle.machine_model.specs.Steps.{IsOnWord, FitsSlots, IsNext, Goes, Makes}
 use Rattle.machine_model.specs.Machines.{TableState, table_sizes}
 use Rattle.machine_model.proofs.FirstSteps.{IsBare, bare_first, after_first, step_is}

@@ -9,7 +9,7 @@ use Rattle.sock_message.specs.Asked.{Asked}
 use Rattle.sock_model.specs.Entries.{slot_of, generation_of}
 use Rattle.sock_model.specs.Memory.{IDLE, UNCONNECTED}
 use Rattle.sock_model.specs.declared.chain.Heading.{Heading}
-use Rattle.machine_model.specs.id_points.specs.Ids.{id_of, number_of}
+use Rattle.id_points.specs.Ids.{id_of, number_of}
 use Rattle.seat_programs.specs.Asides.{PutCall, id_slot}
 use Rattle.seat_programs.specs.Heads.{HasEnded, Unlocks}
 use Rattle.seat_programs.specs.Posts.{post, ends_call, end_id, unlocked, decided}
@@ -19,39 +19,39 @@ use Rattle.seat_programs.specs.Clients.{HeldLife}
 use Rattle.seat_programs.specs.Writings as heads
 use Rattle.seat_programs.specs.Programs.{Program, Do, TakeMessage, Say, Rest, Aside, Round, Keep, Write, LAST_VERSION, LAST_GENERATION, recycle, release, make_socket, open_from}
 use Rattle.seat_programs.specs.Sends.{one_more, freed, passed_telling, tell_drop, dropped, write_link, accept, claim_from}
-use Rattle.machine_model.specs.call_points.specs.Steps.{after_word}
-use Rattle.machine_model.specs.call_points.specs.declared.deciding.OnCall.{OnCall}
-use Rattle.machine_model.specs.call_points.specs.declared.deciding.DecideStep.TheVariants as decides
-use Rattle.machine_model.specs.call_points.specs.declared.word_step.WordStep.TheVariants as id_steps
-use Rattle.machine_model.specs.seat_states.specs.declared.point.OpenStep.TheVariants as opens
-use Rattle.machine_model.specs.seat_states.specs.declared.point.SeekStep.TheVariants as seeks
-use Rattle.machine_model.specs.seat_states.specs.declared.point.Aim.TheVariants as aims
-use Rattle.machine_model.specs.seat_states.specs.declared.point.FailStep.TheVariants as fails
-use Rattle.machine_model.specs.seat_states.specs.declared.point.ReleaseStep.TheVariants as releases
-use Rattle.machine_model.specs.seat_states.specs.declared.point.SendStep.TheVariants as sends
-use Rattle.machine_model.specs.seat_states.specs.declared.point.WriteStep.TheVariants as writes
-use Rattle.machine_model.specs.seat_states.specs.declared.point.Author.{Author}
-use Rattle.machine_model.specs.seat_states.specs.declared.point.Author.TheVariants as authors
-use Rattle.machine_model.specs.seat_states.specs.declared.point.CallStep.TheVariants as begins
-use Rattle.machine_model.specs.seat_states.specs.declared.point.AttemptStep.TheVariants as attempts
-use Rattle.machine_model.specs.seat_states.specs.declared.point.RetryStep.TheVariants as retries
-use Rattle.machine_model.specs.seat_states.specs.declared.point.JoinStep.TheVariants as joins
-use Rattle.machine_model.specs.seat_states.specs.declared.point.Point.{Point}
-use Rattle.machine_model.specs.seat_states.specs.declared.point.Point.TheVariants as points
-use Rattle.machine_model.specs.seat_states.specs.declared.point.Continuation.{Continuation}
-use Rattle.machine_model.specs.seat_states.specs.declared.point.Continuation.TheVariants as thens
-use Rattle.machine_model.specs.seat_states.specs.declared.point.ReleaseStep.{ReleaseStep}
-use Rattle.machine_model.specs.seat_states.specs.declared.point.Aim.{Aim}
-use Rattle.machine_model.specs.seat_states.specs.declared.point.Writer.{Writer}
-use Rattle.machine_model.specs.seat_states.specs.declared.point.Next.{Next}
-use Rattle.machine_model.specs.seat_states.specs.declared.point.Next.TheVariants as nexts
+use Rattle.call_points.specs.Steps.{after_word}
+use Rattle.call_points.specs.declared.deciding.OnCall.{OnCall}
+use Rattle.call_points.specs.declared.deciding.DecideStep.TheVariants as decides
+use Rattle.call_points.specs.declared.word_step.WordStep.TheVariants as id_steps
+use Rattle.seat_states.specs.declared.point.OpenStep.TheVariants as opens
+use Rattle.seat_states.specs.declared.point.SeekStep.TheVariants as seeks
+use Rattle.seat_states.specs.declared.point.Aim.TheVariants as aims
+use Rattle.seat_states.specs.declared.point.FailStep.TheVariants as fails
+use Rattle.seat_states.specs.declared.point.ReleaseStep.TheVariants as releases
+use Rattle.seat_states.specs.declared.point.SendStep.TheVariants as sends
+use Rattle.seat_states.specs.declared.point.WriteStep.TheVariants as writes
+use Rattle.seat_states.specs.declared.point.Author.{Author}
+use Rattle.seat_states.specs.declared.point.Author.TheVariants as authors
+use Rattle.seat_states.specs.declared.point.CallStep.TheVariants as begins
+use Rattle.seat_states.specs.declared.point.AttemptStep.TheVariants as attempts
+use Rattle.seat_states.specs.declared.point.RetryStep.TheVariants as retries
+use Rattle.seat_states.specs.declared.point.JoinStep.TheVariants as joins
+use Rattle.seat_states.specs.declared.point.Point.{Point}
+use Rattle.seat_states.specs.declared.point.Point.TheVariants as points
+use Rattle.seat_states.specs.declared.point.Continuation.{Continuation}
+use Rattle.seat_states.specs.declared.point.Continuation.TheVariants as thens
+use Rattle.seat_states.specs.declared.point.ReleaseStep.{ReleaseStep}
+use Rattle.seat_states.specs.declared.point.Aim.{Aim}
+use Rattle.seat_states.specs.declared.point.Writer.{Writer}
+use Rattle.seat_states.specs.declared.point.Next.{Next}
+use Rattle.seat_states.specs.declared.point.Next.TheVariants as nexts
 use Rattle.sock_words.specs.declared.ticket.Ticket.{Ticket}
-use Rattle.machine_model.specs.seat_states.specs.declared.calling.Calling.{Calling}
-use Rattle.machine_model.specs.seat_states.specs.declared.point.Attempt.{Attempt}
-use Rattle.machine_model.specs.seat_states.specs.Points.{Context, IsCalling, HasInHand, IsFramed, framed, point_program, next_program, then_program, gone_then, holder_of, heading_by, has_life, reached_program, unopened_program, seek_program, failed_program, fail_program, release_on, free_on, sent_program, full_program, claims_program, connect_program, look_program, failed_look, write_program, written_program, puts_program, put_piece, next_message, freed_program, told, tell, taken_again, walk_program, first_of_walk, find_program, after_program}
-use Rattle.machine_model.specs.seat_states.specs.Steps.{First, OfCall, first_of, first_in}
-use Rattle.machine_model.specs.seat_states.proofs.Behind.{seeks_life, seeks_none}
-use Rattle.machine_model.specs.client_seats.specs.Following.{IsFlat}
+use Rattle.seat_states.specs.declared.calling.Calling.{Calling}
+use Rattle.seat_states.specs.declared.point.Attempt.{Attempt}
+use Rattle.seat_states.specs.Points.{Context, IsCalling, HasInHand, IsFramed, framed, point_program, next_program, then_program, gone_then, holder_of, heading_by, has_life, reached_program, unopened_program, seek_program, failed_program, fail_program, release_on, free_on, sent_program, full_program, claims_program, connect_program, look_program, failed_look, write_program, written_program, puts_program, put_piece, next_message, freed_program, told, tell, taken_again, walk_program, first_of_walk, find_program, after_program}
+use Rattle.seat_states.specs.Steps.{First, OfCall, first_of, first_in}
+use Rattle.seat_states.proofs.Behind.{seeks_life, seeks_none}
+use Rattle.client_seats.specs.Following.{IsFlat}
 
 -- it doesn't tell that a call ended, and keeps no retry
 abbrev NoEnd : Program → Type 0

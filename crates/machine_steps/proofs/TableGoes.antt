@@ -3,20 +3,20 @@ use Rattle.std.proofs.Common.{◌≡◌, refl, ℕ, List, Option, Some, ap, sym,
 use Rattle.sock_model.specs.declared.chain.Heading.{Heading}
 use Rattle.seat_programs.specs.declared.task.Sizes.{Sizes}
 use Rattle.seat_programs.specs.Calls as calls
-use Rattle.machine_model.specs.call_points.specs.Steps.{after_word}
-use Rattle.machine_model.specs.seat_states.specs.declared.calling.Calling.{Calling}
-use Rattle.machine_model.specs.seat_states.specs.declared.point.CallStep.TheVariants as begins
-use Rattle.machine_model.specs.seat_states.specs.declared.point.RetryStep.TheVariants as retries
-use Rattle.machine_model.specs.seat_states.specs.declared.point.Next.{Next}
-use Rattle.machine_model.specs.seat_states.specs.declared.point.Point.{Point}
-use Rattle.machine_model.specs.seat_states.specs.declared.point.Point.TheVariants as points
-use Rattle.machine_model.specs.seat_states.specs.Points.{Context, point_program, next_program, framed, IsCalling, HasInHand, IsWithin, IsWithinIds, GoesByWord, MayNext}
-use Rattle.machine_model.specs.seat_states.specs.Steps.{OfCall, first_in}
-use Rattle.machine_model.specs.message_parts.specs.Frames.{ParcelData}
-use Rattle.machine_model.specs.client_seats.specs.declared.hand.InHand.{InHand}
-use Rattle.machine_model.specs.client_seats.specs.declared.seat.Seat.{Seat}
-use Rattle.machine_model.specs.client_seats.specs.Seats.{SeatData, seat_data, message_in, call_in, around, seat_program}
-use Rattle.machine_model.specs.client_seats.specs.Following.{IsFlat}
+use Rattle.call_points.specs.Steps.{after_word}
+use Rattle.seat_states.specs.declared.calling.Calling.{Calling}
+use Rattle.seat_states.specs.declared.point.CallStep.TheVariants as begins
+use Rattle.seat_states.specs.declared.point.RetryStep.TheVariants as retries
+use Rattle.seat_states.specs.declared.point.Next.{Next}
+use Rattle.seat_states.specs.declared.point.Point.{Point}
+use Rattle.seat_states.specs.declared.point.Point.TheVariants as points
+use Rattle.seat_states.specs.Points.{Context, point_program, next_program, framed, IsCalling, HasInHand, IsWithin, IsWithinIds, GoesByWord, MayNext}
+use Rattle.seat_states.specs.Steps.{OfCall, first_in}
+use Rattle.message_parts.specs.Frames.{ParcelData}
+use Rattle.client_seats.specs.declared.hand.InHand.{InHand}
+use Rattle.client_seats.specs.declared.seat.Seat.{Seat}
+use Rattle.client_seats.specs.Seats.{SeatData, seat_data, message_in, call_in, around, seat_program}
+use Rattle.client_seats.specs.Following.{IsFlat}
 use Rattle.machine_model.specs.Machines.{TableState, table_sizes}
 use Rattle.machine_model.specs.Steps.{MayGoOn, MayStand, IsReady}
 use Rattle.machine_steps.proofs.Stepping.{message_put}

@@ -5,14 +5,14 @@ use Rattle.atomic_table.proofs.Lists.{at_index}
 use mathlib.Core.Option as core
 use lib.ListN.{get_elem?}
 use Rattle.machine_model.specs.sock_runs.proofs.Along.{place_inside}
-use Rattle.machine_model.specs.seat_states.specs.Steps.{first_in}
-use Rattle.machine_model.specs.reader_points.specs.declared.point.ReadStep.{ReadStep}
-use Rattle.machine_model.specs.reader_points.specs.Steps.{step_as}
-use Rattle.machine_model.specs.reader_seats.specs.Readers.{ReaderData, reader_program}
+use Rattle.seat_states.specs.Steps.{first_in}
+use Rattle.reader_points.specs.declared.point.ReadStep.{ReadStep}
+use Rattle.reader_points.specs.Steps.{step_as}
+use Rattle.reader_seats.specs.Readers.{ReaderData, reader_program}
 use Rattle.machine_model.specs.declared.tick.Tick.{Tick}
-use Rattle.machine_model.specs.seat_states.specs.declared.point.Step.{Step}
-use Rattle.machine_model.specs.client_seats.specs.Following.{IsPrepared}
-use Rattle.machine_model.specs.client_seats.specs.Seats.{SeatData}
+use Rattle.seat_states.specs.declared.point.Step.{Step}
+use Rattle.client_seats.specs.Following.{IsPrepared}
+use Rattle.client_seats.specs.Seats.{SeatData}
 use Rattle.machine_model.specs.Machines.{MachineState, TableState, machine_sizes, table_of}
 use Rattle.machine_model.specs.Steps.{MayStand, PreparedAt}
 use Rattle.machine_model.specs.Telling.{TickTold}

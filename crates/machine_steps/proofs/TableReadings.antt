@@ -11,21 +11,21 @@ use Rattle.seat_programs.specs.Beside.{found_in, at_last}
 use Rattle.seat_programs.specs.Cores.{word_of, found_at, words_after, word_after}
 use Rattle.seat_programs.specs.Programs.{Program}
 use Rattle.seat_programs.specs.Ticks.{Unasked, OfTake, is_nothing}
-use Rattle.machine_model.specs.call_points.specs.declared.aside.Aside as code
-use Rattle.machine_model.specs.call_points.specs.declared.aside.Aside.TheVariants as variants
-use Rattle.machine_model.specs.call_points.specs.Steps as aside_steps
-use Rattle.machine_model.specs.call_points.specs.Steps.{after_word, after_call}
-use Rattle.machine_model.specs.call_slots.specs.Steps as slots
-use Rattle.machine_model.specs.call_slots.specs.Steps.{word_found}
-use Rattle.machine_model.specs.seat_states.specs.declared.call.Call.{Call}
-use Rattle.machine_model.specs.seat_states.specs.Steps.{OfCall, OfAside, step_of, kind_of_first}
-use Rattle.machine_model.specs.reader_points.specs.declared.point.ReadPoint.{ReadPoint}
-use Rattle.machine_model.specs.reader_points.specs.declared.point.ReadStep.{ReadStep}
-use Rattle.machine_model.specs.reader_points.specs.declared.point.ReadStep.TheVariants as steps
-use Rattle.machine_model.specs.reader_points.specs.Points.{Context, point_program}
-use Rattle.machine_model.specs.reader_points.specs.Steps.{after_taking}
-use Rattle.machine_model.specs.reader_seats.specs.Readers.{ReaderData, around, reader_program}
-use Rattle.machine_model.specs.reader_seats.specs.GoesOn.{GoesOn}
+use Rattle.call_points.specs.declared.aside.Aside as code
+use Rattle.call_points.specs.declared.aside.Aside.TheVariants as variants
+use Rattle.call_points.specs.Steps as aside_steps
+use Rattle.call_points.specs.Steps.{after_word, after_call}
+use Rattle.call_slots.specs.Steps as slots
+use Rattle.call_slots.specs.Steps.{word_found}
+use Rattle.seat_states.specs.declared.call.Call.{Call}
+use Rattle.seat_states.specs.Steps.{OfCall, OfAside, step_of, kind_of_first}
+use Rattle.reader_points.specs.declared.point.ReadPoint.{ReadPoint}
+use Rattle.reader_points.specs.declared.point.ReadStep.{ReadStep}
+use Rattle.reader_points.specs.declared.point.ReadStep.TheVariants as steps
+use Rattle.reader_points.specs.Points.{Context, point_program}
+use Rattle.reader_points.specs.Steps.{after_taking}
+use Rattle.reader_seats.specs.Readers.{ReaderData, around, reader_program}
+use Rattle.reader_seats.specs.GoesOn.{GoesOn}
 use Rattle.machine_model.specs.declared.tick.On.{On}
 use Rattle.machine_model.specs.declared.tick.On.TheVariants as on
 use Rattle.machine_model.specs.declared.tick.Tick.{Tick}

@@ -4,7 +4,7 @@ use Rattle.std.proofs.lemmas.List.{length-take}
 use Rattle.sock_words.specs.declared.outcome.Outcome.{Outcome}
 use Rattle.corr_core.specs.Word.{parts, code_of}
 use Rattle.sock_message.specs.Asked.{Asked}
-use Rattle.machine_model.specs.id_points.specs.Ids.{id_of}
+use Rattle.id_points.specs.Ids.{id_of}
 use Rattle.seat_programs.specs.Calls as calls
 use Rattle.seat_programs.specs.Asides as asides
 use Rattle.seat_programs.specs.Asides.{Step, Taking, Nothing, PutCall, id_slot}
@@ -14,20 +14,20 @@ use Rattle.seat_programs.specs.Heads.{HasEnded, Unlocks}
 use Rattle.seat_programs.specs.Posts.{ends_call, end_id, unlocked}
 use Rattle.seat_programs.specs.Programs.{Program, Aside, Round}
 use Rattle.machine_model.specs.program_steps.specs.Sound.{first_step}
-use Rattle.machine_model.specs.call_points.specs.Steps.{after_call}
-use Rattle.machine_model.specs.call_points.specs.declared.word_step.WordStep.TheVariants as id_steps
-use Rattle.machine_model.specs.call_points.specs.declared.ending.EndStep.TheVariants as ends
-use Rattle.machine_model.specs.seat_states.specs.declared.point.ReleaseStep.TheVariants as releases
-use Rattle.machine_model.specs.reader_points.specs.declared.point.AnswerStep.TheVariants as answers
-use Rattle.machine_model.specs.reader_points.specs.declared.point.CloseStep.TheVariants as closes
-use Rattle.machine_model.specs.reader_points.specs.declared.point.FailStep.TheVariants as lost
-use Rattle.machine_model.specs.reader_points.specs.declared.point.ReadPoint.{ReadPoint}
-use Rattle.machine_model.specs.reader_points.specs.declared.point.ReadPoint.TheVariants as points
-use Rattle.machine_model.specs.reader_points.specs.Points.{Context, point_program, error_in, ended_call, room_at, GoesByWord, TakesBytes, TakesCall}
-use Rattle.machine_model.specs.reader_points.specs.Steps.{after_taking, taken_behind}
-use Rattle.machine_model.specs.reader_seats.specs.GoesOn.{GoesOn}
-use Rattle.machine_model.specs.reader_seats.specs.Readers.{ReaderData, around, reader_program}
-use Rattle.machine_model.specs.seat_states.specs.Steps.{First, OfCall, OfAside, first_of, first_in}
+use Rattle.call_points.specs.Steps.{after_call}
+use Rattle.call_points.specs.declared.word_step.WordStep.TheVariants as id_steps
+use Rattle.call_points.specs.declared.ending.EndStep.TheVariants as ends
+use Rattle.seat_states.specs.declared.point.ReleaseStep.TheVariants as releases
+use Rattle.reader_points.specs.declared.point.AnswerStep.TheVariants as answers
+use Rattle.reader_points.specs.declared.point.CloseStep.TheVariants as closes
+use Rattle.reader_points.specs.declared.point.FailStep.TheVariants as lost
+use Rattle.reader_points.specs.declared.point.ReadPoint.{ReadPoint}
+use Rattle.reader_points.specs.declared.point.ReadPoint.TheVariants as points
+use Rattle.reader_points.specs.Points.{Context, point_program, error_in, ended_call, room_at, GoesByWord, TakesBytes, TakesCall}
+use Rattle.reader_points.specs.Steps.{after_taking, taken_behind}
+use Rattle.reader_seats.specs.GoesOn.{GoesOn}
+use Rattle.reader_seats.specs.Readers.{ReaderData, around, reader_program}
+use Rattle.seat_states.specs.Steps.{First, OfCall, OfAside, first_of, first_in}
 use Rattle.machine_model.proofs.FirstSteps.{IsBare, bare_first, step_is}
 use Rattle.machine_steps.proofs.TableAsides.{FindsWord}
 

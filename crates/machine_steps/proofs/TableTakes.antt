@@ -15,7 +15,7 @@ use Rattle.machine_model.specs.run_theorems.specs.Heard.{answer_of}
 use Rattle.machine_model.specs.run_theorems.specs.Offered.{GaveSo}
 use Rattle.seat_programs.specs.Asides.{Closed}
 use Rattle.seat_programs.specs.Ticks.{FitsTake}
-use Rattle.machine_model.specs.reader_seats.specs.GoesOn.{taking_of}
+use Rattle.reader_seats.specs.GoesOn.{taking_of}
 use Rattle.machine_model.specs.Links.{is_done}
 use Rattle.machine_model.specs.Machines.{TableState}
 use Rattle.machine_model.specs.Reading.{OffersOn, TakenFrom, given_in}

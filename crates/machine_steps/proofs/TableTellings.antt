@@ -12,16 +12,16 @@ use Rattle.seat_programs.specs.Heads.{Locks, Joins, Opens}
 use Rattle.seat_programs.specs.Writings as heads
 use Rattle.seat_programs.specs.Programs.{Program, Write, Round}
 use Rattle.seat_programs.specs.Ticks.{Unasked, OfTake, is_nothing}
-use Rattle.machine_model.specs.call_slots.specs.Steps.{word_found}
-use Rattle.machine_model.specs.seat_states.specs.Steps.{First, OfCall, OfAside, first_in, step_as, kind_of_first}
-use Rattle.machine_model.specs.reader_points.specs.declared.point.ReadPoint.{ReadPoint}
-use Rattle.machine_model.specs.reader_points.specs.declared.point.ReadPoint.TheVariants as points
-use Rattle.machine_model.specs.reader_points.specs.Points.{Context, point_program, TakesBytes}
-use Rattle.machine_model.specs.call_points.specs.declared.aside.Aside as code
-use Rattle.machine_model.specs.call_points.specs.Steps as aside_steps
-use Rattle.machine_model.specs.seat_states.specs.declared.point.Step.{Step}
-use Rattle.machine_model.specs.seat_states.specs.declared.point.Step.TheVariants as firsts
-use Rattle.machine_model.specs.client_seats.specs.Seats.{SeatData, around, seat_program, asked_or_nothing}
+use Rattle.call_slots.specs.Steps.{word_found}
+use Rattle.seat_states.specs.Steps.{First, OfCall, OfAside, first_in, step_as, kind_of_first}
+use Rattle.reader_points.specs.declared.point.ReadPoint.{ReadPoint}
+use Rattle.reader_points.specs.declared.point.ReadPoint.TheVariants as points
+use Rattle.reader_points.specs.Points.{Context, point_program, TakesBytes}
+use Rattle.call_points.specs.declared.aside.Aside as code
+use Rattle.call_points.specs.Steps as aside_steps
+use Rattle.seat_states.specs.declared.point.Step.{Step}
+use Rattle.seat_states.specs.declared.point.Step.TheVariants as firsts
+use Rattle.client_seats.specs.Seats.{SeatData, around, seat_program, asked_or_nothing}
 use Rattle.machine_model.specs.declared.tick.On.{On}
 use Rattle.machine_model.specs.declared.tick.On.TheVariants as on
 use Rattle.machine_model.specs.declared.tick.Tick.{Tick}

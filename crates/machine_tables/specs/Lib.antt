@@ -1,2 +1,0 @@
-pub use Rattle.machine_steps.specs.machine_model
-pub use Rattle.machine_steps

@@ -1,10 +1,10 @@
 ghost use Rattle.std.specs.Prelude.{◌≡◌, ◌≢◌, ◌<◌, ℕ, [], Some, None, OnOk, OnErr, option_map, length, slice_set, slice_index_or};
 ghost use mathlib.Core.Option.{some};
 ghost use lib.ListN.{get_elem?};
-ghost use Rattle.machine_steps.specs.machine_model.specs.declared.letter.Letter.{Letter};
+ghost use Rattle.machine_model.specs.declared.letter.Letter.{Letter};
 ghost use Rattle.message_parts.specs.Parcels.{parcel_of, outgoing_of};
 ghost use Rattle.client_seats.specs.Seats.{bytes_of, message_in, call_in};
-ghost use Rattle.machine_steps.specs.machine_model.specs.Letters.{letters_in};
+ghost use Rattle.machine_model.specs.Letters.{letters_in};
 
 use client_seats::InHand;
 use machine_steps::Letter;

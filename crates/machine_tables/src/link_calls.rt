@@ -5,7 +5,7 @@ ghost use Rattle.sock_io.specs.Link.{OutState, PutStep, ReadyStep, end_of};
 ghost use Rattle.seat_programs.specs.Parts.{part};
 ghost use Rattle.seat_states.specs.Points.{is_whole, parts_by};
 ghost use Rattle.message_parts.specs.Parcels.{outgoing_of};
-ghost use Rattle.machine_steps.specs.machine_model.specs.Steps.{AskedAt, left_behind, taken_behind};
+ghost use Rattle.machine_model.specs.Steps.{AskedAt, left_behind, taken_behind};
 
 use message_parts::OutgoingParcel;
 use seat_states::Author;

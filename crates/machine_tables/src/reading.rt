@@ -2,10 +2,10 @@ ghost use Rattle.std.specs.Prelude.{◌≡◌, ◌≤◌, ◌<◌, ℕ, true, fa
 ghost use Rattle.sock_io.specs.Link.{TakeStep};
 ghost use Rattle.seat_programs.specs.Ticks.{OfTake, is_nothing};
 ghost use Rattle.reader_seats.specs.GoesOn.{taking_of};
-ghost use Rattle.machine_steps.specs.machine_model.specs.Linkers.{SaysAsBefore};
-ghost use Rattle.machine_steps.specs.machine_model.specs.Machines.{IsSized};
-ghost use Rattle.machine_steps.specs.machine_model.specs.Steps.{IsOnWord};
-ghost use Rattle.machine_steps.specs.machine_model.specs.Reading.{IsFitRead, ReadTold, IsCutTable};
+ghost use Rattle.machine_model.specs.Linkers.{SaysAsBefore};
+ghost use Rattle.machine_model.specs.Machines.{IsSized};
+ghost use Rattle.machine_model.specs.Steps.{IsOnWord};
+ghost use Rattle.machine_model.specs.Reading.{IsFitRead, ReadTold, IsCutTable};
 
 use crate::table::Table;
 use crate::waiting::awaited_by_reader;

@@ -1,13 +1,13 @@
 ghost use Rattle.std.specs.Prelude.{◌≡◌, ◌+◌, ◌<◌, ℕ, true, Some, None, IfSome, IfNone, IfOk, OnOk, OnErr, length};
-ghost use Rattle.machine_steps.specs.machine_model.specs.Linkers.{SaysAsBefore};
-ghost use Rattle.machine_steps.specs.machine_model.specs.Machines.{MachineState, table_of, IsSized};
+ghost use Rattle.machine_model.specs.Linkers.{SaysAsBefore};
+ghost use Rattle.machine_model.specs.Machines.{MachineState, table_of, IsSized};
 ghost use Rattle.client_seats.specs.Seats.{seat_data};
 ghost use Rattle.client_seats.specs.Following.{IsPrepared};
-ghost use Rattle.machine_steps.specs.machine_model.specs.Steps.{HasNoStep, NextIs, StepFits, PreparedAt, ReadyAt, StandsAt, MayStand};
-ghost use Rattle.machine_steps.specs.machine_model.specs.Passing.{HasPassed};
-ghost use Rattle.machine_steps.specs.machine_model.specs.Telling.{TickTold};
-ghost use Rattle.machine_steps.specs.machine_model.specs.Reading.{NextReadIs, HasNoRead, ReadFits, TickRead, IsCutShort};
-ghost use Rattle.machine_steps.specs.machine_model.specs.Driving.{BeganEnding, IsPlain, told_ending};
+ghost use Rattle.machine_model.specs.Steps.{HasNoStep, NextIs, StepFits, PreparedAt, ReadyAt, StandsAt, MayStand};
+ghost use Rattle.machine_model.specs.Passing.{HasPassed};
+ghost use Rattle.machine_model.specs.Telling.{TickTold};
+ghost use Rattle.machine_model.specs.Reading.{NextReadIs, HasNoRead, ReadFits, TickRead, IsCutShort};
+ghost use Rattle.machine_model.specs.Driving.{BeganEnding, IsPlain, told_ending};
 
 use crate::table::{Table, has_room};
 use crate::waiting::{is_rest, stands};
@@ -43,7 +43,7 @@ pub struct Tables<O: Out, I: In, P: Peer> {
 impl<O: Out, I: In, P: Peer> Model for Tables<O, I, P> {
     ghost use Rattle.std.specs.Prelude.{map};
     ghost use Rattle.client_seats.specs.Seats.{seat_data};
-    ghost use Rattle.machine_steps.specs.machine_model.specs.Machines.{MachineState};
+    ghost use Rattle.machine_model.specs.Machines.{MachineState};
 
     ghost Value = { MachineState };
 

@@ -4,8 +4,8 @@ ghost use Rattle.id_points.specs.Turns.{sought_as};
 ghost use Rattle.seat_programs.specs.Posts.{is_sought};
 ghost use Rattle.seat_states.specs.Points.{Context, point_program, HasLinkAt, TellsCodeAt};
 ghost use Rattle.reader_points.specs.Points as reading;
-ghost use Rattle.machine_steps.specs.machine_model.specs.Runs.{IsWaitingFor, sought_id};
-ghost use Rattle.machine_steps.specs.machine_model.specs.Telling.{waits_by};
+ghost use Rattle.machine_model.specs.Runs.{IsWaitingFor, sought_id};
+ghost use Rattle.machine_model.specs.Telling.{waits_by};
 
 use call_points::WordStep;
 use call_table::has_version;

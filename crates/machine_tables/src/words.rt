@@ -5,7 +5,7 @@ ghost use Rattle.sock_model.specs.Layout.{request_index};
 ghost use Rattle.seat_programs.specs.Cores.{word_of, found_at, words_after, word_after};
 ghost use Rattle.seat_states.specs.program_steps.specs.Sound.{AllowsWord};
 ghost use Rattle.seat_states.specs.Steps.{step_of};
-ghost use Rattle.machine_steps.specs.machine_model.specs.Steps.{IsOfLinks, OutsAfter, holders_after};
+ghost use Rattle.machine_model.specs.Steps.{IsOfLinks, OutsAfter, holders_after};
 
 use seat_states::{Call, request_place};
 use sock_io::{Ends, In, Out, Peer};

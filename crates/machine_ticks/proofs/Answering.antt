@@ -8,7 +8,7 @@ use native.Mathlib.Decide.{ℕ_discrete}
 use mathlib.Core.Logic.{dite}
 use Rattle.std.specs.Prelude.{slice_get}
 use Rattle.atomic_table.proofs.Lists.{at_set}
-use Rattle.machine_rules.specs.machine_model.specs.sock_runs.proofs.Along.{place_inside}
+use Rattle.machine_model.specs.sock_runs.proofs.Along.{place_inside}
 use mathlib.Core.Option as core
 use lib.ListN.{get_elem?}
 use Rattle.brpc_model.specs.Link.{LinkEnd, HalfAnswer}
@@ -17,7 +17,7 @@ use Rattle.sock_io.specs.declared.link.Put.TheVariants as puts
 use Rattle.sock_io.specs.declared.link.Ready.{Ready}
 use Rattle.sock_io.specs.declared.link.Ready.TheVariants as asks
 use Rattle.sock_io.specs.Link.{OutState, InState, PutStep, ReadyStep, of_put, of_ready, more_told}
-use Rattle.machine_rules.specs.machine_model.specs.run_theorems.specs.Heard.{half_of, as_told, heard_at}
+use Rattle.machine_model.specs.run_theorems.specs.Heard.{half_of, as_told, heard_at}
 use Rattle.sock_io.specs.Causes.{Rose}
 use Rattle.seat_programs.specs.Calls as calls
 use Rattle.seat_programs.specs.Writings.{Waits}
@@ -26,19 +26,19 @@ use Rattle.corr_core.specs.Word.{parts, code_of}
 use Rattle.seat_programs.specs.Asides.{id_slot, PutCall}
 use Rattle.seat_programs.specs.Heads.{Unlocks, Decides, Locks, HasEnded}
 use Rattle.seat_programs.specs.Posts.{ends_call, end_id, unlocked}
-use Rattle.machine_rules.specs.machine_model.specs.seat_states.specs.declared.point.Step.{Step}
+use Rattle.seat_states.specs.declared.point.Step.{Step}
 use Rattle.seat_programs.specs.Cores.{Core, SeatState}
 use Rattle.seat_programs.specs.Ticks.{Answer, Unasked, OfPut, OfReady, asked_link, broken_at}
-use Rattle.machine_rules.specs.machine_model.specs.seat_states.specs.Steps.{First, OfCall, OfAside, OfMessage, OfLink, OfHome, first_of, first_in}
-use Rattle.machine_rules.specs.machine_model.specs.seat_states.specs.Steps as kinds
-use Rattle.machine_rules.specs.machine_model.specs.client_seats.specs.Seats.{SeatData}
-use Rattle.machine_rules.specs.machine_model.specs.Links.{LinksData, AreAlwaysReady, TellClosing, is_done}
-use Rattle.machine_rules.specs.machine_model.specs.Machines.{MachineState, table_of}
-use Rattle.machine_rules.specs.machine_model.specs.Steps.{OutsAfter, MadeFirst, LinkAsked}
-use Rattle.machine_rules.specs.machine_model.specs.Runs.{SameLink, SameLinks, ShowFaults, LinksTell}
-use Rattle.machine_rules.specs.machine_model.proofs.FirstSteps.{same_some}
+use Rattle.seat_states.specs.Steps.{First, OfCall, OfAside, OfMessage, OfLink, OfHome, first_of, first_in}
+use Rattle.seat_states.specs.Steps as kinds
+use Rattle.client_seats.specs.Seats.{SeatData}
+use Rattle.machine_model.specs.Links.{LinksData, AreAlwaysReady, TellClosing, is_done}
+use Rattle.machine_model.specs.Machines.{MachineState, table_of}
+use Rattle.machine_model.specs.Steps.{OutsAfter, MadeFirst, LinkAsked}
+use Rattle.machine_model.specs.Runs.{SameLink, SameLinks, ShowFaults, LinksTell}
+use Rattle.machine_model.proofs.FirstSteps.{same_some}
 use Rattle.machine_ticks.proofs.Joining.{show_faults_none, more_none, tells_none}
-use Rattle.machine_rules.specs.machine_model.proofs.Same.{same_link_none}
+use Rattle.machine_model.proofs.Same.{same_link_none}
 
 -- a link that is asked isn't finished
 abbrev pub AsksUnfinished : LinksData → First → Type 0

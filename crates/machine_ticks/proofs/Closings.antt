@@ -13,7 +13,7 @@ use Rattle.sock_words.specs.declared.plain.Plan.{Plan}
 use Rattle.sock_io.specs.Link.{OutState, InState}
 use Rattle.sock_model.specs.declared.home.Home.{Home}
 use Rattle.sock_model.specs.declared.home.Home.TheVariants.{Link}
-use Rattle.machine_rules.specs.machine_model.specs.sock_runs.proofs.Along.{place_inside}
+use Rattle.machine_model.specs.sock_runs.proofs.Along.{place_inside}
 use Rattle.seat_programs.specs.Asides as asides
 use Rattle.seat_programs.specs.Asides.{Taking, Closed}
 use Rattle.seat_programs.specs.Calls as calls
@@ -21,19 +21,19 @@ use Rattle.seat_programs.specs.Programs.{Program}
 use Rattle.seat_programs.specs.Cores.{Core, SeatState, link_place}
 use Rattle.seat_programs.specs.Ticks.{Answer, Unasked, OfPut, OfReady, Moment, taken}
 use Rattle.seat_programs.specs.Runs.{from_to}
-use Rattle.machine_rules.specs.machine_model.specs.id_runs.specs.Goes.{first_of}
-use Rattle.machine_rules.specs.machine_model.specs.run_theorems.specs.Offered.{HasTaken}
-use Rattle.machine_rules.specs.machine_model.specs.run_theorems.specs.owed_calls.specs.Lives.{InHand, IsFinished, ClosesAt, ClosesInTime}
-use Rattle.machine_rules.specs.machine_model.specs.seat_states.specs.declared.point.Step.{Step}
-use Rattle.machine_rules.specs.machine_model.specs.seat_states.specs.Steps.{First, OfCall, OfAside, OfMessage, OfLink, OfHome}
-use Rattle.machine_rules.specs.machine_model.specs.seat_states.specs.Steps as kinds
-use Rattle.machine_rules.specs.machine_model.specs.reader_seats.specs.Readers.{ReaderData, reader_program}
-use Rattle.machine_rules.specs.machine_model.specs.client_seats.specs.Seats.{SeatData, seat_program}
-use Rattle.machine_rules.specs.machine_model.specs.Links.{LinksData, Taken, Given, ClosedAreDone, TellClosing, holder_of, is_done, link_with, in_hand}
-use Rattle.machine_rules.specs.machine_model.specs.Machines.{MachineState, KeepsClosed, READERS, machine_sizes, state_of, table_of, core_with}
-use Rattle.machine_rules.specs.machine_model.specs.Steps.{OutsAfter, MadeFirst, holders_after}
-use Rattle.machine_rules.specs.machine_model.specs.Reading.{TakenFrom, MadeRead}
-use Rattle.machine_rules.specs.machine_model.specs.Runs.{SameLinks}
+use Rattle.machine_model.specs.id_runs.specs.Goes.{first_of}
+use Rattle.machine_model.specs.run_theorems.specs.Offered.{HasTaken}
+use Rattle.machine_model.specs.run_theorems.specs.owed_calls.specs.Lives.{InHand, IsFinished, ClosesAt, ClosesInTime}
+use Rattle.seat_states.specs.declared.point.Step.{Step}
+use Rattle.seat_states.specs.Steps.{First, OfCall, OfAside, OfMessage, OfLink, OfHome}
+use Rattle.seat_states.specs.Steps as kinds
+use Rattle.reader_seats.specs.Readers.{ReaderData, reader_program}
+use Rattle.client_seats.specs.Seats.{SeatData, seat_program}
+use Rattle.machine_model.specs.Links.{LinksData, Taken, Given, ClosedAreDone, TellClosing, holder_of, is_done, link_with, in_hand}
+use Rattle.machine_model.specs.Machines.{MachineState, KeepsClosed, READERS, machine_sizes, state_of, table_of, core_with}
+use Rattle.machine_model.specs.Steps.{OutsAfter, MadeFirst, holders_after}
+use Rattle.machine_model.specs.Reading.{TakenFrom, MadeRead}
+use Rattle.machine_model.specs.Runs.{SameLinks}
 use Rattle.machine_ticks.proofs.Answering.{links_kept, links_set, prompt_same, prompt_call, tell_same}
 use Rattle.machine_rules.proofs.Hands.{lies_home, own_link, home_at}
 use Rattle.machine_ticks.proofs.Joining.{not_closed}

@@ -19,38 +19,38 @@ use Rattle.seat_programs.specs.Writings as heads
 use Rattle.seat_programs.specs.Programs.{Program, PutBytes, Write}
 use Rattle.seat_programs.specs.Cores.{word_of, found_at}
 use Rattle.seat_programs.specs.declared.task.Sizes.{Sizes}
-use Rattle.machine_rules.specs.machine_model.specs.program_steps.specs.Sound.{AllowsWord}
+use Rattle.machine_model.specs.program_steps.specs.Sound.{AllowsWord}
 use Rattle.id_rule.specs.Lawful.{call_index}
-use Rattle.machine_rules.specs.machine_model.specs.id_runs.specs.Held.{IdView}
-use Rattle.machine_rules.specs.machine_model.specs.id_runs.specs.Goes.{FitsSock, IdGoesOn}
-use Rattle.machine_rules.specs.machine_model.specs.id_runs.proofs.Steps.{call_there}
-use Rattle.machine_rules.specs.machine_model.specs.call_points.specs.declared.aside.Aside.{Aside}
-use Rattle.machine_rules.specs.machine_model.specs.call_points.specs.declared.aside.Aside.TheVariants as code
-use Rattle.machine_rules.specs.machine_model.specs.call_points.specs.Steps as aside_steps
-use Rattle.machine_rules.specs.machine_model.specs.call_slots.specs.Steps as slots
-use Rattle.machine_rules.specs.machine_model.specs.call_slots.specs.Steps.{word_found}
-use Rattle.machine_rules.specs.machine_model.specs.call_slots.proofs.Fitting.{IsOnWord, fits_prop, may_fits}
-use Rattle.machine_rules.specs.machine_model.specs.seat_states.specs.declared.point.Step.{Step}
-use Rattle.machine_rules.specs.machine_model.specs.seat_states.specs.declared.point.Step.TheVariants as firsts
-use Rattle.machine_rules.specs.machine_model.specs.seat_states.specs.Points.{Context, MayFindId}
-use Rattle.machine_rules.specs.machine_model.specs.seat_states.specs.Steps.{First, OfCall, OfAside, OfMessage, OfLink, OfHome, step_of, step_as, first_in}
-use Rattle.machine_rules.specs.machine_model.specs.seat_states.specs.Steps as kinds
-use Rattle.machine_rules.specs.machine_model.specs.seat_states.proofs.StepFacts.{FitsSizes, may_find, is_within}
-use Rattle.machine_rules.specs.machine_model.specs.client_seats.specs.Seats.{SeatData, around, seat_program, asked_or_nothing}
-use Rattle.machine_rules.specs.machine_model.specs.reader_points.specs.declared.point.ReadStep.{ReadStep}
-use Rattle.machine_rules.specs.machine_model.specs.reader_points.specs.declared.point.ReadStep.TheVariants as steps
-use Rattle.machine_rules.specs.machine_model.specs.reader_points.specs.Points as reading
-use Rattle.machine_rules.specs.machine_model.specs.reader_points.specs.Steps as reader_steps
-use Rattle.machine_rules.specs.machine_model.specs.reader_seats.specs.Readers.{ReaderData, reader_program}
-use Rattle.machine_rules.specs.machine_model.specs.reader_seats.specs.Readers as readers
-use Rattle.machine_rules.specs.machine_model.specs.declared.letter.Letter.{Letter}
-use Rattle.machine_rules.specs.machine_model.specs.Links.{LinksData, IsPaced, letter_home}
-use Rattle.machine_rules.specs.machine_model.specs.Machines.{MachineState, READERS, IsMachine, IsSoundMachine, ArePaced, table_of, machine_sizes, state_of, waiting_of, given_by, core_with, IsSized}
-use Rattle.machine_rules.specs.machine_model.specs.Steps.{IsOfLinks, NextIs, MayGoOn, StandsAt, FitsSlots, Fits, StepFits, beside}
-use Rattle.machine_rules.specs.machine_model.specs.Reading.{NextReadIs, MayRead, FitsRead, ReadFits}
+use Rattle.machine_model.specs.id_runs.specs.Held.{IdView}
+use Rattle.machine_model.specs.id_runs.specs.Goes.{FitsSock, IdGoesOn}
+use Rattle.machine_model.specs.id_runs.proofs.Steps.{call_there}
+use Rattle.call_points.specs.declared.aside.Aside.{Aside}
+use Rattle.call_points.specs.declared.aside.Aside.TheVariants as code
+use Rattle.call_points.specs.Steps as aside_steps
+use Rattle.call_slots.specs.Steps as slots
+use Rattle.call_slots.specs.Steps.{word_found}
+use Rattle.call_slots.proofs.Fitting.{IsOnWord, fits_prop, may_fits}
+use Rattle.seat_states.specs.declared.point.Step.{Step}
+use Rattle.seat_states.specs.declared.point.Step.TheVariants as firsts
+use Rattle.seat_states.specs.Points.{Context, MayFindId}
+use Rattle.seat_states.specs.Steps.{First, OfCall, OfAside, OfMessage, OfLink, OfHome, step_of, step_as, first_in}
+use Rattle.seat_states.specs.Steps as kinds
+use Rattle.seat_states.proofs.StepFacts.{FitsSizes, may_find, is_within}
+use Rattle.client_seats.specs.Seats.{SeatData, around, seat_program, asked_or_nothing}
+use Rattle.reader_points.specs.declared.point.ReadStep.{ReadStep}
+use Rattle.reader_points.specs.declared.point.ReadStep.TheVariants as steps
+use Rattle.reader_points.specs.Points as reading
+use Rattle.reader_points.specs.Steps as reader_steps
+use Rattle.reader_seats.specs.Readers.{ReaderData, reader_program}
+use Rattle.reader_seats.specs.Readers as readers
+use Rattle.machine_model.specs.declared.letter.Letter.{Letter}
+use Rattle.machine_model.specs.Links.{LinksData, IsPaced, letter_home}
+use Rattle.machine_model.specs.Machines.{MachineState, READERS, IsMachine, IsSoundMachine, ArePaced, table_of, machine_sizes, state_of, waiting_of, given_by, core_with, IsSized}
+use Rattle.machine_model.specs.Steps.{IsOfLinks, NextIs, MayGoOn, StandsAt, FitsSlots, Fits, StepFits, beside}
+use Rattle.machine_model.specs.Reading.{NextReadIs, MayRead, FitsRead, ReadFits}
 use Rattle.machine_ticks.proofs.Answering.{AsksUnfinished}
-use Rattle.machine_rules.specs.machine_model.proofs.Lengths.{is_sized, few_seats, few_slots, few_calls}
-use Rattle.machine_rules.specs.machine_model.proofs.PointFacts.{NoTake, finds_beside, takes_none, within_aside, finds_aside, finds_call, within_ids, reads_within, reads_word, reads_aside}
+use Rattle.machine_model.proofs.Lengths.{is_sized, few_seats, few_slots, few_calls}
+use Rattle.machine_model.proofs.PointFacts.{NoTake, finds_beside, takes_none, within_aside, finds_aside, finds_call, within_ids, reads_within, reads_word, reads_aside}
 use Rattle.machine_rules.proofs.Seatings.{seat_at, read_at}
 use Rattle.machine_rules.proofs.Sounds.{Known, id_view, id_goes, id_may, known_first, finds_word}
 use Rattle.machine_rules.proofs.Ticked.{MayCall, MayMake}

@@ -13,25 +13,25 @@ use Rattle.sock_words.specs.declared.kind.Kind.{Kind}
 use Rattle.sock_words.specs.declared.plain.Plan.{Plan}
 use Rattle.brpc_model.specs.Link.{LinkEnd, HalfAnswer, TakeAnswer}
 use Rattle.sock_io.specs.Link.{OutState, more_told}
-use Rattle.machine_rules.specs.machine_model.specs.run_theorems.specs.Answers.{said_at}
-use Rattle.machine_rules.specs.machine_model.specs.run_theorems.specs.Heard.{as_told, as_taken, answer_of, take_answers, taken_link, heard_at, heard_in, taken_at, taken_in}
-use Rattle.machine_rules.specs.machine_model.specs.run_theorems.proofs.HeardRuns.{told_append, taken_append, heard_on, taken_on}
-use Rattle.machine_rules.specs.machine_model.specs.id_runs.specs.Goes.{first_of}
-use Rattle.machine_rules.specs.machine_model.specs.run_theorems.specs.owed_calls.specs.Lives.{ClosesAt, ClosesInTime}
-use Rattle.machine_rules.specs.machine_model.specs.run_theorems.specs.Offered.{OffersAt, AreOffered}
+use Rattle.machine_model.specs.run_theorems.specs.Answers.{said_at}
+use Rattle.machine_model.specs.run_theorems.specs.Heard.{as_told, as_taken, answer_of, take_answers, taken_link, heard_at, heard_in, taken_at, taken_in}
+use Rattle.machine_model.specs.run_theorems.proofs.HeardRuns.{told_append, taken_append, heard_on, taken_on}
+use Rattle.machine_model.specs.id_runs.specs.Goes.{first_of}
+use Rattle.machine_model.specs.run_theorems.specs.owed_calls.specs.Lives.{ClosesAt, ClosesInTime}
+use Rattle.machine_model.specs.run_theorems.specs.Offered.{OffersAt, AreOffered}
 use Rattle.seat_programs.specs.Asides.{TakeBytes, Taking, Bytes, Nothing, NoMore, AtEnd, Closed, Broken}
 use Rattle.seat_programs.specs.Programs.{Program, Aside, Say, Sent, Rest, Keep, Retries}
 use Rattle.seat_programs.specs.Cores.{Core, SeatState}
 use Rattle.seat_programs.specs.Ticks.{Answer, Unasked, Moment, quiet, seats_of, taken, tick_with, ticked, run, IsAnswer, IsAnswered, AreAnswered, IsAlwaysReady, asked_link, broken_at, broken_in}
 use Rattle.seat_programs.specs.Runs.{kind_in, IsAtRest}
-use Rattle.machine_rules.specs.machine_model.specs.declared.tick.Tick.{Tick}
-use Rattle.machine_rules.specs.machine_model.specs.Links.{LinksData, Taken, Given, Agrees, AgreesGave}
+use Rattle.machine_model.specs.declared.tick.Tick.{Tick}
+use Rattle.machine_model.specs.Links.{LinksData, Taken, Given, Agrees, AgreesGave}
 use Rattle.seat_programs.specs.declared.task.Sizes.{Sizes}
-use Rattle.machine_rules.specs.machine_model.specs.client_seats.specs.Seats.{SeatData, seat_program}
-use Rattle.machine_rules.specs.machine_model.specs.reader_seats.specs.Readers.{ReaderData, reader_program}
-use Rattle.machine_rules.specs.machine_model.specs.Machines.{MachineState, READERS, machine_sizes, between, resting, clients_with, readers_with, seats_with, core_with}
-use Rattle.machine_rules.specs.machine_model.specs.Runs.{SameLink, SameTable, SameLinks, ShowFaults, LinksTell, TakesTell, ShowsTaking, ShowTakings, LinksShow, Follows, Made, Ticked, Ran, RanWith}
-use Rattle.machine_rules.specs.machine_model.proofs.Same.{stood_before, same_table_none, same_table_join, same_links_none, same_links_join}
+use Rattle.client_seats.specs.Seats.{SeatData, seat_program}
+use Rattle.reader_seats.specs.Readers.{ReaderData, reader_program}
+use Rattle.machine_model.specs.Machines.{MachineState, READERS, machine_sizes, between, resting, clients_with, readers_with, seats_with, core_with}
+use Rattle.machine_model.specs.Runs.{SameLink, SameTable, SameLinks, ShowFaults, LinksTell, TakesTell, ShowsTaking, ShowTakings, LinksShow, Follows, Made, Ticked, Ran, RanWith}
+use Rattle.machine_model.proofs.Same.{stood_before, same_table_none, same_table_join, same_links_none, same_links_join}
 
 -- ## Links that failed
 

@@ -11,24 +11,24 @@ use Rattle.sock_io.specs.declared.link.Put.{Put}
 use Rattle.sock_io.specs.declared.link.Ready.{Ready}
 use Rattle.sock_io.specs.Link.{OutState, InState, Offer, IsServed, PutStep, ReadyStep, FinishStep, taken_of}
 use Rattle.sock_io.proofs.Offers.{served_put, served_ready, served_finish}
-use Rattle.machine_rules.specs.machine_model.specs.sock_runs.proofs.Along.{place_inside}
+use Rattle.machine_model.specs.sock_runs.proofs.Along.{place_inside}
 use Rattle.seat_programs.specs.Asides as asides
 use Rattle.seat_programs.specs.Asides.{Taking}
 use Rattle.seat_programs.specs.Calls as calls
 use Rattle.seat_programs.specs.Programs.{Program}
 use Rattle.seat_programs.specs.Cores.{Core, SeatState}
 use Rattle.seat_programs.specs.Ticks.{Answer, Unasked, OfPut, OfReady, Moment, taken}
-use Rattle.machine_rules.specs.machine_model.specs.id_runs.specs.Goes.{first_of}
-use Rattle.machine_rules.specs.machine_model.specs.run_theorems.specs.Offered.{GaveSo, OffersAt, AreOffered}
-use Rattle.machine_rules.specs.machine_model.specs.seat_states.specs.declared.point.Step.{Step}
-use Rattle.machine_rules.specs.machine_model.specs.seat_states.specs.Steps.{First, OfCall, OfAside, OfMessage, OfLink, OfHome}
-use Rattle.machine_rules.specs.machine_model.specs.seat_states.specs.Steps as kinds
-use Rattle.machine_rules.specs.machine_model.specs.reader_seats.specs.Readers.{ReaderData, reader_program}
-use Rattle.machine_rules.specs.machine_model.specs.client_seats.specs.Seats.{SeatData}
-use Rattle.machine_rules.specs.machine_model.specs.Links.{LinksData, Taken, Given, Agrees, AgreesGave, IsOffering}
-use Rattle.machine_rules.specs.machine_model.specs.Machines.{MachineState, KeepsClosed, READERS, table_of, core_with}
-use Rattle.machine_rules.specs.machine_model.specs.Steps.{OutsAfter, MadeFirst}
-use Rattle.machine_rules.specs.machine_model.specs.Reading.{OffersOn, TakenFrom, MadeRead, given_in}
+use Rattle.machine_model.specs.id_runs.specs.Goes.{first_of}
+use Rattle.machine_model.specs.run_theorems.specs.Offered.{GaveSo, OffersAt, AreOffered}
+use Rattle.seat_states.specs.declared.point.Step.{Step}
+use Rattle.seat_states.specs.Steps.{First, OfCall, OfAside, OfMessage, OfLink, OfHome}
+use Rattle.seat_states.specs.Steps as kinds
+use Rattle.reader_seats.specs.Readers.{ReaderData, reader_program}
+use Rattle.client_seats.specs.Seats.{SeatData}
+use Rattle.machine_model.specs.Links.{LinksData, Taken, Given, Agrees, AgreesGave, IsOffering}
+use Rattle.machine_model.specs.Machines.{MachineState, KeepsClosed, READERS, table_of, core_with}
+use Rattle.machine_model.specs.Steps.{OutsAfter, MadeFirst}
+use Rattle.machine_model.specs.Reading.{OffersOn, TakenFrom, MadeRead, given_in}
 use Rattle.machine_ticks.proofs.Closings.{taken_there}
 use Rattle.machine_ticks.proofs.Joining.{not_offered}
 use Rattle.machine_rules.proofs.ReadTicks.{given_at}

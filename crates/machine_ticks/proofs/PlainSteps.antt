@@ -14,36 +14,36 @@ use Rattle.seat_programs.specs.Sends.{freed, tell_drop, one_more, passed_telling
 use Rattle.seat_programs.specs.Cores.{Core, SeatState, word_of, found_at, next_step, resolved, still_waiting}
 use Rattle.seat_programs.specs.Ticks.{quiet}
 use Rattle.seat_programs.specs.Runs.{kind_in, IsAtRest}
-use Rattle.machine_rules.specs.machine_model.specs.sock_runs.proofs.Along.{place_inside}
-use Rattle.machine_rules.specs.machine_model.specs.call_points.specs.Steps.{after_word}
-use Rattle.machine_rules.specs.machine_model.specs.seat_states.specs.declared.point.WriteStep.TheVariants as writes
-use Rattle.machine_rules.specs.machine_model.specs.seat_states.specs.declared.point.CallStep.TheVariants as begins
-use Rattle.machine_rules.specs.machine_model.specs.seat_states.specs.declared.point.AttemptStep.TheVariants as attempts
-use Rattle.machine_rules.specs.machine_model.specs.seat_states.specs.declared.point.RetryStep.TheVariants as retries
-use Rattle.machine_rules.specs.machine_model.specs.seat_states.specs.declared.point.Step.{Step}
-use Rattle.machine_rules.specs.machine_model.specs.seat_states.specs.declared.point.Author.{Author}
-use Rattle.machine_rules.specs.machine_model.specs.seat_states.specs.declared.point.Point.{Point}
-use Rattle.machine_rules.specs.machine_model.specs.seat_states.specs.declared.point.Point.TheVariants as points
-use Rattle.machine_rules.specs.machine_model.specs.seat_states.specs.Points.{Context, point_program, heading_by, holder_of, tell, written_program, HasInHand, HasLinkAt, TellsCodeAt, framed}
-use Rattle.machine_rules.specs.machine_model.specs.seat_states.specs.Steps.{First, OfCall, step_as, first_in, kind_of_first}
-use Rattle.machine_rules.specs.machine_model.specs.client_seats.specs.Seats.{SeatData, around, seat_program}
-use Rattle.machine_rules.specs.machine_model.specs.reader_seats.specs.Readers.{ReaderData, reader_program}
-use Rattle.machine_rules.specs.machine_model.specs.declared.tick.Tick.{Tick}
-use Rattle.machine_rules.specs.machine_model.specs.declared.tick.Tick.TheVariants.{Idle}
-use Rattle.machine_rules.specs.machine_model.specs.Links.{Given, AgreesGave}
-use Rattle.machine_rules.specs.machine_model.specs.Machines.{MachineState, READERS, IsMachine, table_of, machine_sizes, core_with}
-use Rattle.machine_rules.specs.machine_model.specs.Steps.{ReadyAt, StandsAt, NextIs, HasNoStep, SameBase, MadeFirst}
-use Rattle.machine_rules.specs.machine_model.specs.Reading.{HasNoRead}
-use Rattle.machine_rules.specs.machine_model.specs.Telling.{TickTold}
-use Rattle.machine_rules.specs.machine_model.specs.Driving.{AsksNone, IsPlain, TickedFirst, Leaves}
+use Rattle.machine_model.specs.sock_runs.proofs.Along.{place_inside}
+use Rattle.call_points.specs.Steps.{after_word}
+use Rattle.seat_states.specs.declared.point.WriteStep.TheVariants as writes
+use Rattle.seat_states.specs.declared.point.CallStep.TheVariants as begins
+use Rattle.seat_states.specs.declared.point.AttemptStep.TheVariants as attempts
+use Rattle.seat_states.specs.declared.point.RetryStep.TheVariants as retries
+use Rattle.seat_states.specs.declared.point.Step.{Step}
+use Rattle.seat_states.specs.declared.point.Author.{Author}
+use Rattle.seat_states.specs.declared.point.Point.{Point}
+use Rattle.seat_states.specs.declared.point.Point.TheVariants as points
+use Rattle.seat_states.specs.Points.{Context, point_program, heading_by, holder_of, tell, written_program, HasInHand, HasLinkAt, TellsCodeAt, framed}
+use Rattle.seat_states.specs.Steps.{First, OfCall, step_as, first_in, kind_of_first}
+use Rattle.client_seats.specs.Seats.{SeatData, around, seat_program}
+use Rattle.reader_seats.specs.Readers.{ReaderData, reader_program}
+use Rattle.machine_model.specs.declared.tick.Tick.{Tick}
+use Rattle.machine_model.specs.declared.tick.Tick.TheVariants.{Idle}
+use Rattle.machine_model.specs.Links.{Given, AgreesGave}
+use Rattle.machine_model.specs.Machines.{MachineState, READERS, IsMachine, table_of, machine_sizes, core_with}
+use Rattle.machine_model.specs.Steps.{ReadyAt, StandsAt, NextIs, HasNoStep, SameBase, MadeFirst}
+use Rattle.machine_model.specs.Reading.{HasNoRead}
+use Rattle.machine_model.specs.Telling.{TickTold}
+use Rattle.machine_model.specs.Driving.{AsksNone, IsPlain, TickedFirst, Leaves}
 use Rattle.machine_ticks.proofs.Advancing.{is_paced, base}
 use Rattle.machine_ticks.proofs.Fitting.{client_next, client_may}
-use Rattle.machine_rules.specs.machine_model.proofs.Lengths.{is_sized, few_seats}
+use Rattle.machine_model.proofs.Lengths.{is_sized, few_seats}
 use Rattle.machine_ticks.proofs.Joining.{rests}
 use Rattle.machine_ticks.proofs.Resting.{Rests, beyond_rests}
 use Rattle.machine_rules.proofs.Seatings.{seat_at, read_at}
-use Rattle.machine_rules.specs.machine_model.proofs.TableRoom.{IsCall, after_none, only_calls}
-use Rattle.machine_rules.specs.machine_model.proofs.Tellings.{kind_is}
+use Rattle.machine_model.proofs.TableRoom.{IsCall, after_none, only_calls}
+use Rattle.machine_model.proofs.Tellings.{kind_is}
 use Rattle.machine_rules.proofs.Ticked.{gives_same, quiet_by}
 
 -- ## Without a step left

@@ -13,24 +13,24 @@ use Rattle.seat_programs.specs.Heads.{Retry}
 use Rattle.seat_programs.specs.Programs.{Program}
 use Rattle.seat_programs.specs.Cores.{Core, SeatState}
 use Rattle.seat_programs.specs.Ticks.{Answer, Moment, AreAnswered, run, broken_in}
-use Rattle.machine_rules.specs.machine_model.specs.sock_runs.proofs.Along.{place_inside}
-use Rattle.machine_rules.specs.machine_model.specs.run_theorems.specs.owed_calls.specs.Lives.{ClosesInTime}
-use Rattle.machine_rules.specs.machine_model.specs.run_theorems.specs.Offered.{AreOffered}
-use Rattle.machine_rules.specs.machine_model.specs.run_theorems.specs.Heard.{heard_in, taken_in}
-use Rattle.machine_rules.specs.machine_model.specs.call_slots.specs.Slots.{calls_with}
-use Rattle.machine_rules.specs.machine_model.specs.client_seats.specs.Seats.{SeatData, seat_program}
-use Rattle.machine_rules.specs.machine_model.specs.reader_seats.specs.Readers.{ReaderData}
-use Rattle.machine_rules.specs.machine_model.specs.declared.tick.Tick.{Tick}
-use Rattle.machine_rules.specs.machine_model.specs.declared.tick.Tick.TheVariants.{Moved, Waits, Idle}
-use Rattle.machine_rules.specs.machine_model.specs.Links.{LinksData, Taken, Given, IsPaced}
-use Rattle.machine_rules.specs.machine_model.specs.Machines.{MachineState, READERS, IsMachine, IsSoundMachine, HasSizes, KeepsClosed, ArePaced, machine_sizes, table_of, between, resting, clients_with, readers_with, state_of, given_by, core_with}
-use Rattle.machine_rules.specs.machine_model.specs.Reading.{IsCutShort}
-use Rattle.machine_rules.specs.machine_model.specs.Runs.{SameTable, SameLinks, LinksShow, TickIs, Follows, Ticked}
-use Rattle.machine_rules.specs.machine_model.specs.Steps.{PreparedAt, IsReady, MayStand, ReadyAt, StandsAt}
-use Rattle.machine_rules.specs.machine_model.specs.Driving.{LastsAtMost, Leaves, FirstRests}
-use Rattle.machine_rules.specs.machine_model.proofs.Same.{same_table_none, same_links_none}
+use Rattle.machine_model.specs.sock_runs.proofs.Along.{place_inside}
+use Rattle.machine_model.specs.run_theorems.specs.owed_calls.specs.Lives.{ClosesInTime}
+use Rattle.machine_model.specs.run_theorems.specs.Offered.{AreOffered}
+use Rattle.machine_model.specs.run_theorems.specs.Heard.{heard_in, taken_in}
+use Rattle.call_slots.specs.Slots.{calls_with}
+use Rattle.client_seats.specs.Seats.{SeatData, seat_program}
+use Rattle.reader_seats.specs.Readers.{ReaderData}
+use Rattle.machine_model.specs.declared.tick.Tick.{Tick}
+use Rattle.machine_model.specs.declared.tick.Tick.TheVariants.{Moved, Waits, Idle}
+use Rattle.machine_model.specs.Links.{LinksData, Taken, Given, IsPaced}
+use Rattle.machine_model.specs.Machines.{MachineState, READERS, IsMachine, IsSoundMachine, HasSizes, KeepsClosed, ArePaced, machine_sizes, table_of, between, resting, clients_with, readers_with, state_of, given_by, core_with}
+use Rattle.machine_model.specs.Reading.{IsCutShort}
+use Rattle.machine_model.specs.Runs.{SameTable, SameLinks, LinksShow, TickIs, Follows, Ticked}
+use Rattle.machine_model.specs.Steps.{PreparedAt, IsReady, MayStand, ReadyAt, StandsAt}
+use Rattle.machine_model.specs.Driving.{LastsAtMost, Leaves, FirstRests}
+use Rattle.machine_model.proofs.Same.{same_table_none, same_links_none}
 use Rattle.machine_rules.proofs.Keeping.{remade}
-use Rattle.machine_rules.specs.machine_model.proofs.Lengths.{sizes_kept, sizes_stay}
+use Rattle.machine_model.proofs.Lengths.{sizes_kept, sizes_stay}
 use Rattle.machine_ticks.proofs.Resting.{first_rests}
 use Rattle.machine_rules.proofs.Seatings.{core_is}
 

@@ -7,20 +7,20 @@ use mathlib.Core.Option.{some, none, some-injective, some-ne-none}
 use lib.ListN.{get_elem?}
 use Rattle.sock_words.specs.declared.kind.Kind.{Kind}
 use Rattle.sock_words.specs.declared.plain.Plan.{Plan}
-use Rattle.machine_rules.specs.machine_model.specs.run_theorems.specs.Heard.{heard_at, taken_at, heard_in, taken_in}
+use Rattle.machine_model.specs.run_theorems.specs.Heard.{heard_at, taken_at, heard_in, taken_in}
 use Rattle.seat_programs.specs.declared.task.Sizes.{Sizes}
 use Rattle.seat_programs.specs.Programs.{Program}
 use Rattle.seat_programs.specs.Cores.{Core, SeatState}
 use Rattle.seat_programs.specs.Ticks.{Answer, Moment, quiet, seats_of, ticked, run}
 use Rattle.seat_programs.specs.Runs.{kind_in, IsAtRest}
-use Rattle.machine_rules.specs.machine_model.specs.reader_seats.specs.Readers.{ReaderData, reader_program}
-use Rattle.machine_rules.specs.machine_model.specs.client_seats.specs.Seats.{SeatData, seat_program}
-use Rattle.machine_rules.specs.machine_model.specs.declared.tick.Tick.TheVariants as ticks
-use Rattle.machine_rules.specs.machine_model.specs.Links.{LinksData, Taken, Given}
-use Rattle.machine_rules.specs.machine_model.specs.Machines.{MachineState, READERS, core_with, machine_sizes, between, resting, clients_with, readers_with, seats_with}
-use Rattle.machine_rules.specs.machine_model.specs.Runs.{Follows, Ticked, TickedWith, Ran}
+use Rattle.reader_seats.specs.Readers.{ReaderData, reader_program}
+use Rattle.client_seats.specs.Seats.{SeatData, seat_program}
+use Rattle.machine_model.specs.declared.tick.Tick.TheVariants as ticks
+use Rattle.machine_model.specs.Links.{LinksData, Taken, Given}
+use Rattle.machine_model.specs.Machines.{MachineState, READERS, core_with, machine_sizes, between, resting, clients_with, readers_with, seats_with}
+use Rattle.machine_model.specs.Runs.{Follows, Ticked, TickedWith, Ran}
 use Rattle.machine_ticks.proofs.Joining.{rests, rest_answered, rest_heard, rest_taken, rests_on, rests_heard, rests_taken, rests_answered, seats_quiet, quiet_prompt, quiet_closes, quiet_offers, quiet_broken, shows_none, shows_idle}
-use Rattle.machine_rules.specs.machine_model.proofs.Same.{same_table_none, same_links_none}
+use Rattle.machine_model.proofs.Same.{same_table_none, same_links_none}
 
 -- the seat has no step left, whatever its links took and gave
 abbrev pub Rests : MachineState → ℕ → Type 0

@@ -11,8 +11,8 @@ use Rattle.corr_core.specs.Word.{parts, code_of}
 use Rattle.brpc_model.specs.Link.{LinkEnd, TakeAnswer}
 use Rattle.sock_io.specs.Link.{more_told}
 use Rattle.sock_words.specs.declared.plain.Plan.{Plan}
-use Rattle.machine_rules.specs.machine_model.specs.sock_runs.proofs.Along.{place_inside}
-use Rattle.machine_rules.specs.machine_model.specs.run_theorems.specs.Heard.{as_told, as_taken, answer_of, take_answers, taken_link, heard_at, heard_in, taken_at, taken_in}
+use Rattle.machine_model.specs.sock_runs.proofs.Along.{place_inside}
+use Rattle.machine_model.specs.run_theorems.specs.Heard.{as_told, as_taken, answer_of, take_answers, taken_link, heard_at, heard_in, taken_at, taken_in}
 use Rattle.seat_programs.specs.Asides as asides
 use Rattle.seat_programs.specs.Asides.{Taking, TakeBytes, PutCall, id_slot}
 use Rattle.seat_programs.specs.Heads.{Unlocks, Decides, Locks, Reads, Discards, HasEnded}
@@ -21,17 +21,17 @@ use Rattle.seat_programs.specs.Writings as heads
 use Rattle.seat_programs.specs.Programs.{Program, Write, Aside, Round}
 use Rattle.seat_programs.specs.Cores.{Core, SeatState}
 use Rattle.seat_programs.specs.Ticks.{Answer, Unasked, OfPut, OfReady, OfTake, Moment, taken, IsAnswer, IsAnswered, asked_link, is_refusal, broken_at, broken_in}
-use Rattle.machine_rules.specs.machine_model.specs.seat_states.specs.declared.point.Step.{Step}
-use Rattle.machine_rules.specs.machine_model.specs.seat_states.specs.Steps.{First, OfCall, OfAside, first_of, first_in}
-use Rattle.machine_rules.specs.machine_model.specs.seat_states.specs.Steps as kinds
-use Rattle.machine_rules.specs.machine_model.specs.reader_seats.specs.Readers.{ReaderData}
-use Rattle.machine_rules.specs.machine_model.specs.client_seats.specs.Seats.{SeatData}
-use Rattle.machine_rules.specs.machine_model.specs.Machines.{MachineState, table_of}
-use Rattle.machine_rules.specs.machine_model.specs.Steps.{AskedAt, MadeFirst}
-use Rattle.machine_rules.specs.machine_model.specs.Reading.{MadeRead}
-use Rattle.machine_rules.specs.machine_model.specs.Runs.{ShowFaults, LinksTell, TakesTell, ShowsTaking, ShowTakings}
+use Rattle.seat_states.specs.declared.point.Step.{Step}
+use Rattle.seat_states.specs.Steps.{First, OfCall, OfAside, first_of, first_in}
+use Rattle.seat_states.specs.Steps as kinds
+use Rattle.reader_seats.specs.Readers.{ReaderData}
+use Rattle.client_seats.specs.Seats.{SeatData}
+use Rattle.machine_model.specs.Machines.{MachineState, table_of}
+use Rattle.machine_model.specs.Steps.{AskedAt, MadeFirst}
+use Rattle.machine_model.specs.Reading.{MadeRead}
+use Rattle.machine_model.specs.Runs.{ShowFaults, LinksTell, TakesTell, ShowsTaking, ShowTakings}
 use Rattle.machine_ticks.proofs.Answering.{behind_is, first_is, get_set_other, asks_first}
-use Rattle.machine_rules.specs.machine_model.proofs.FirstSteps.{same_some}
+use Rattle.machine_model.proofs.FirstSteps.{same_some}
 use Rattle.machine_ticks.proofs.Joining.{show_faults_none, more_none, tells_none, takes_none, takings_none}
 
 -- ## A link that was written back

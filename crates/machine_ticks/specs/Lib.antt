@@ -1,2 +1,1 @@
-pub use Rattle.machine_rules.specs.machine_model
 pub use Rattle.machine_rules

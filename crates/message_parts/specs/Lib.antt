@@ -1,3 +1,2 @@
 pub mod Frames
 pub mod Parcels
-pub use Rattle.seat_programs

@@ -1,8 +1,6 @@
 pub mod Openings
-pub use Rattle.corr_core
 pub use Rattle.id_runs
 pub use Rattle.slot_steps
-pub use Rattle.seat_programs
 pub use Rattle.program_walks.specs.program_steps
 pub use Rattle.program_walks.specs.sock_runs
 pub use Rattle.runs_end

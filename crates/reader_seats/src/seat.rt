@@ -4,7 +4,7 @@ ghost use Rattle.sock_io.specs.Link.{IsTakeCount};
 ghost use Rattle.seat_programs.specs.Beside.{at_last};
 ghost use Rattle.seat_programs.specs.Readers.{reader, ending_of};
 ghost use Rattle.call_points.specs.Steps.{after_word, after_call};
-ghost use Rattle.reader_points.specs.seat_states.specs.Steps.{first_in};
+ghost use Rattle.seat_states.specs.Steps.{first_in};
 ghost use Rattle.reader_points.specs.Points.{room_at, next_program, behind_program, frames_behind, posts_program, with_taking, HasNext, GoesBy, GoesByWord, TakesBytes, TakesCall, MayFind, IsWithin};
 ghost use Rattle.reader_points.specs.Steps.{step_as, after_taking};
 ghost use Rattle.reader_seats.specs.Readers.{around, reader_program};

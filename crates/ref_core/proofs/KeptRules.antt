@@ -1,9 +1,9 @@
 -- Each step on a slot's words keeps the rule, as the laws of the steps say it of the word that is there.
 use Rattle.std.proofs.Common.{◌≡◌, ◌≢◌, ℕ, ◌+◌, ◌-◌, ◌*◌, ◌%◌, ◌^◌, ◌<◌, Bool, [], sym, ◌∙◌, subst, arith, bit_or}
 use Rattle.sock_words.specs.Words.{vref_version, vref_nref}
-use Rattle.sock_steps.specs.sock_model.specs.Layout.{tag_index, ref_index}
-use Rattle.sock_steps.specs.sock_model.specs.SlotRows.{claimed, gave_birth, added, back, subbed, failed, recycled, freed, looked}
-use Rattle.sock_steps.specs.sock_model.specs.Lawful.{Lawful}
+use Rattle.sock_model.specs.Layout.{tag_index, ref_index}
+use Rattle.sock_model.specs.SlotRows.{claimed, gave_birth, added, back, subbed, failed, recycled, freed, looked}
+use Rattle.sock_model.specs.Lawful.{Lawful}
 use Rattle.atomic_table.specs.Table.{stepped, keeps}
 use Rattle.sock_steps.proofs.SlotSteps.{claim_law, add_law, sub_law, set_odd_law, recycle_lost_law, free_law, look_law}
 use Rattle.sock_steps.proofs.Birth.{birth_law}
@@ -31,7 +31,7 @@ module _ (i found : ℕ) (small : found < 2 ^ 64) where
     pub adds : (is_life : Bool) → KeepsSlotRule (MayAdd i found is_life) (ref_index i) found (found + 1) (added i found is_life)
     adds is_life p s id v o here may is = subst (λ n. Lawful (λ home. home) p (stepped s (ref_index i) n id [] (added i found is_life v) keeps)) next_is
         (subst (λ x. Lawful (λ home. home) p (stepped s (ref_index i) ((x + 1) % 2 ^ 64) id [] (added i x is_life v) keeps)) is
-        (add_law (λ home. home) p s o id v here i may.0 (omega (arith, is, small)) is_life (λ e. subst (λ x. 0 < Rattle.sock_steps.specs.sock_model.specs.SlotRows.marks_of (Rattle.sock_steps.specs.sock_model.specs.Weights.is_known (vref_version x)) i v) (sym is) (may.1 e)) may.2))
+        (add_law (λ home. home) p s o id v here i may.0 (omega (arith, is, small)) is_life (λ e. subst (λ x. 0 < Rattle.sock_model.specs.SlotRows.marks_of (Rattle.sock_model.specs.Weights.is_known (vref_version x)) i v) (sym is) (may.1 e)) may.2))
 
     pub bears : (k : ℕ) → KeepsSlotRule (MayBear i k) (ref_index i) found (found + 1) (gave_birth i found k)
     bears k p s id v o here may is = subst (λ n. Lawful (λ home. home) p (stepped s (ref_index i) n id [] (gave_birth i found k v) keeps)) next_is

@@ -4,11 +4,11 @@ use mathlib.Core.Option.{some}
 use lib.ListN.{get_elem?}
 use Rattle.sock_words.specs.declared.plain.Plan.{Plan}
 use Rattle.sock_words.specs.Words.{vref_version}
-use Rattle.sock_steps.specs.sock_model.specs.declared.chain.Right.{Right}
-use Rattle.sock_steps.specs.sock_model.specs.declared.view.View.{View}
-use Rattle.sock_steps.specs.sock_model.specs.Weights.{is_ref, is_probe, is_any_coding, is_hold, is_known, is_zero, is_stage, is_recycled, is_met}
-use Rattle.sock_steps.specs.sock_model.specs.SlotRows.{marks_of}
-use Rattle.sock_steps.specs.sock_model.specs.Keeping.{KeepsRule}
+use Rattle.sock_model.specs.declared.chain.Right.{Right}
+use Rattle.sock_model.specs.declared.view.View.{View}
+use Rattle.sock_model.specs.Weights.{is_ref, is_probe, is_any_coding, is_hold, is_known, is_zero, is_stage, is_recycled, is_met}
+use Rattle.sock_model.specs.SlotRows.{marks_of}
+use Rattle.sock_model.specs.Keeping.{KeepsRule}
 
 -- the rule is kept by a step on the word at place x, whose row is a function of the view
 abbrev pub KeepsSlotRule : (may : Plan → View → Type 0) → (x found next : ℕ) → (View → View) → Type 0

@@ -12,8 +12,8 @@ use Rattle.sock_model.specs.declared.home.Home.TheVariants.{Link}
 use Rattle.seat_programs.specs.Cores.{lies_at, link_place}
 use Rattle.seat_programs.specs.Runs.{from_to}
 use Rattle.seat_programs.specs.Scripts.{taken_by, took_at_home}
-use Rattle.sock_core.specs.machine_model.specs.declared.letter.Letter.{Letter}
-use Rattle.sock_core.specs.machine_model.specs.Links.{LinksData, Taken, Agrees, letter_home, holder_of, link_with, link_home, homes_of}
+use Rattle.machine_model.specs.declared.letter.Letter.{Letter}
+use Rattle.machine_model.specs.Links.{LinksData, Taken, Agrees, letter_home, holder_of, link_with, link_home, homes_of}
 
 -- ## Places in lists
 

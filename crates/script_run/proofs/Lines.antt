@@ -19,9 +19,9 @@ use Rattle.seat_programs.specs.Ticks.{Moment, seats_of, run}
 use Rattle.seat_programs.specs.Runs.{IsAtRest, LeadsUpTo, Turns, Scheduled}
 use Rattle.seat_programs.specs.Scripts.{drawn_turns}
 use Rattle.seat_programs.specs.Tasks.{plan_of}
-use Rattle.sock_core.specs.machine_model.specs.Links.{Taken, Given}
-use Rattle.sock_core.specs.machine_model.specs.Machines.{MachineState, core_with}
-use Rattle.sock_core.specs.machine_model.specs.Runs.{Ran}
+use Rattle.machine_model.specs.Links.{Taken, Given}
+use Rattle.machine_model.specs.Machines.{MachineState, core_with}
+use Rattle.machine_model.specs.Runs.{Ran}
 use Rattle.script_run.specs.declared.mark.Mark.{Mark}
 use Rattle.script_run.specs.declared.mark.Mark.TheVariants as marks
 use Rattle.script_run.specs.Outlines.{meant, outlined}

@@ -9,14 +9,14 @@ use Rattle.brpc_model.specs.Link.{LinkEnd}
 use Rattle.seat_programs.specs.Cores.{Core}
 use Rattle.seat_programs.specs.Ticks.{Moment, seats_of, run}
 use Rattle.seat_programs.specs.Runs.{LeadsUpTo}
-use Rattle.sock_core.specs.machine_model.specs.declared.tick.Tick.{Tick}
-use Rattle.sock_core.specs.machine_model.specs.declared.tick.Tick.TheVariants.{Idle}
-use Rattle.sock_core.specs.machine_model.specs.Links.{Taken, Given}
-use Rattle.sock_core.specs.machine_model.specs.Machines.{MachineState, HasSizes, core_with}
-use Rattle.sock_core.specs.machine_model.specs.Runs.{SameLink, SameLinks, Ticked, Led}
+use Rattle.machine_model.specs.declared.tick.Tick.{Tick}
+use Rattle.machine_model.specs.declared.tick.Tick.TheVariants.{Idle}
+use Rattle.machine_model.specs.Links.{Taken, Given}
+use Rattle.machine_model.specs.Machines.{MachineState, HasSizes, core_with}
+use Rattle.machine_model.specs.Runs.{SameLink, SameLinks, Ticked, Led}
 use Rattle.sock_core.specs.machine_ticks.proofs.Joining.{follows_none, follows_join, made_join}
-use Rattle.sock_core.specs.machine_model.proofs.Same.{same_table_none, same_links_none}
-use Rattle.sock_core.specs.machine_model.specs.Driving.{FirstRests}
+use Rattle.machine_model.proofs.Same.{same_table_none, same_links_none}
+use Rattle.machine_model.specs.Driving.{FirstRests}
 use Rattle.sock_core.specs.machine_ticks.proofs.Resting.{Rests, idle_ran, beyond_rests}
 use Rattle.script_links.specs.Given.{AreUntouched, AreNumbered}
 use Rattle.script_run.specs.Played.{IsPlayable, PlayedWith, HasPlayed}

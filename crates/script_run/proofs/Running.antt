@@ -22,10 +22,10 @@ use Rattle.calm_runs.specs.send_causes.specs.run_theorems.specs.Offered.{AreOffe
 use Rattle.calm_runs.specs.send_causes.specs.run_theorems.specs.OfferedRuns.{OffersInRun}
 use Rattle.calm_runs.specs.send_causes.specs.run_theorems.proofs.HeardRuns.{heard_on, taken_on}
 use Rattle.calm_runs.specs.send_causes.specs.script_facts.proofs.Sizes.{keeps_limits}
-use Rattle.sock_core.specs.machine_model.specs.Links.{Taken, Given, AreAlwaysReady, TellClosing, IsOffering}
-use Rattle.sock_core.specs.machine_model.specs.Machines.{MachineState, core_with, ending_by}
-use Rattle.sock_core.specs.machine_model.specs.Runs as rounds
-use Rattle.sock_core.specs.machine_model.specs.Runs.{LinksShow, SettlesBy, SettledWith, Settled, round_by}
+use Rattle.machine_model.specs.Links.{Taken, Given, AreAlwaysReady, TellClosing, IsOffering}
+use Rattle.machine_model.specs.Machines.{MachineState, core_with, ending_by}
+use Rattle.machine_model.specs.Runs as rounds
+use Rattle.machine_model.specs.Runs.{LinksShow, SettlesBy, SettledWith, Settled, round_by}
 use Rattle.sock_core.specs.machine_ticks.proofs.Resting.{rest_anyhow}
 use Rattle.sock_core.specs.machine_ticks.proofs.Joining.{run_append, answered_append, closes_append, offers_append, prompt_append, broken_append, shows_join, shows_as}
 use Rattle.script_run.specs.Causes.{broken_of}

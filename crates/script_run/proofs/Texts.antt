@@ -37,9 +37,9 @@ use Rattle.calm_runs.specs.send_causes.specs.script_facts.proofs.Lists.{within, 
 use Rattle.calm_runs.specs.send_causes.specs.report_fits.proofs.Places.{script_places}
 use Rattle.calm_runs.specs.send_causes.specs.script_facts.proofs.Sizes.{keeps_limits}
 use Rattle.calm_runs.specs.send_causes.specs.script_facts.proofs.Tasks.{tasks_of_script}
-use Rattle.sock_core.specs.machine_model.specs.Links.{AreAlwaysReady, TellClosing, IsOffering}
-use Rattle.sock_core.specs.machine_model.specs.Machines.{MachineState, core_with}
-use Rattle.sock_core.specs.machine_model.specs.Runs.{SameLink, SameLinks, ShowsTaking}
+use Rattle.machine_model.specs.Links.{AreAlwaysReady, TellClosing, IsOffering}
+use Rattle.machine_model.specs.Machines.{MachineState, core_with}
+use Rattle.machine_model.specs.Runs.{SameLink, SameLinks, ShowsTaking}
 use Rattle.script_run.specs.Causes.{HasCauses, EndedEarly, gave_in}
 use Rattle.script_links.specs.Given.{IsUntouched, AreUntouched, spec_of, specs_of}
 use Rattle.script_links.specs.Offered.{AreAsked}

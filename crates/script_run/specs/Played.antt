@@ -20,13 +20,13 @@ use Rattle.calm_runs.specs.send_causes.specs.report_fits.specs.Ends.{AreEndsOf}
 use Rattle.run_laws.specs.Laws.{KeepsLaws}
 use Rattle.sock_io.specs.Link.{InState}
 use Rattle.calm_runs.specs.send_causes.specs.owed_calls.specs.Lives.{ClosesInRun}
-use Rattle.sock_core.specs.machine_model.specs.Links.{Taken, Given, SoFar, TellClosing, IsOffering}
-use Rattle.sock_core.specs.machine_model.specs.Machines.{MachineState, core_with}
+use Rattle.machine_model.specs.Links.{Taken, Given, SoFar, TellClosing, IsOffering}
+use Rattle.machine_model.specs.Machines.{MachineState, core_with}
 use Rattle.calm_runs.specs.send_causes.specs.run_theorems.specs.Heard.{as_told, as_taken, take_answers, heard_of, taken_of, heard_takes}
 use Rattle.calm_runs.specs.send_causes.specs.run_theorems.specs.OfferedRuns.{OffersInRun}
 use Rattle.calm_runs.specs.send_causes.specs.run_theorems.specs.Over.{IsAllOver}
-use Rattle.sock_core.specs.machine_model.specs.Runs.{ShowsTaking, LinksShow, MadeByTicks, Made}
-use Rattle.sock_core.specs.machine_model.specs.Driving.{FirstRests}
+use Rattle.machine_model.specs.Runs.{ShowsTaking, LinksShow, MadeByTicks, Made}
+use Rattle.machine_model.specs.Driving.{FirstRests}
 use Rattle.script_run.specs.Causes.{HasCauses, DropsTold, broken_of, gave_in}
 use Rattle.script_run.specs.declared.report.Print.{Print}
 use Rattle.script_run.specs.declared.report.Print.TheVariants as print

@@ -6,9 +6,9 @@ ghost use Rattle.seat_programs.specs.Runs.{Scheduled};
 ghost use Rattle.brpc_model.specs.Operations.{seat_number, turn_of, schedule};
 ghost use Rattle.script_items.specs.Meaning.{seat_of};
 ghost use Rattle.sock_core.specs.Beginnings.{IsMade};
-ghost use Rattle.sock_core.specs.machine_model.specs.Linkers.{SaysAsBefore};
-ghost use Rattle.sock_core.specs.machine_model.specs.Links.{AreAlwaysReady};
-ghost use Rattle.sock_core.specs.machine_model.specs.Runs.{SameLinks};
+ghost use Rattle.machine_model.specs.Linkers.{SaysAsBefore};
+ghost use Rattle.machine_model.specs.Links.{AreAlwaysReady};
+ghost use Rattle.machine_model.specs.Runs.{SameLinks};
 ghost use Rattle.script_run.specs.Outlines.{meant};
 ghost use Rattle.script_run.specs.Played.{IsPlayable, HasPlayed, HasRun, HasTurns, turns_of};
 

@@ -5,7 +5,7 @@ use Rattle.sock_model.specs.sock_words.specs.Codes.{EFAILEDSOCKET, EREQUESTS, ER
 use Rattle.sock_model.specs.sock_words.specs.Words.{socket_id_version, socket_id_slot, vref_version, at_word}
 use Rattle.sock_model.specs.sock_words.specs.declared.outcome.Outcome.{Outcome}
 use Rattle.sock_model.specs.sock_words.specs.declared.outcome.Outcome.TheVariants.{Unopened, Expired, Queued, Late, Crowded, Joined, NotBegun}
-use Rattle.id_rule.specs.corr_core.specs.Word.{parts, error_of}
+use Rattle.corr_core.specs.Word.{parts, error_of}
 use Rattle.sock_model.specs.declared.chain.Heading.{Heading}
 use Rattle.sock_message.specs.Asked.{Asked, name_of, frame_of, parts_of}
 use Rattle.seat_programs.specs.Calls.{LookWord, FindLink, ClaimRequest, LoadName}

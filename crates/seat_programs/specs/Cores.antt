@@ -16,7 +16,7 @@ use Rattle.seat_programs.specs.Programs.{Program, Say, Sent, Keep, Retries}
 use Rattle.seat_programs.specs.Heads.{Retry}
 use Rattle.seat_programs.specs.Attempts.{retry}
 use Rattle.sock_message.specs.Asked.{Asked}
-use Rattle.id_rule.specs.corr_core.specs.declared.marks.Plan.{Plan as IdPlan}
+use Rattle.corr_core.specs.declared.marks.Plan.{Plan as IdPlan}
 
 -- a seat: what it has still to do, and the links that it has in hand, the latest first
 pub record SeatState : Type 0 where

@@ -20,7 +20,7 @@ pub mod Told
 pub mod ToldCalls
 pub mod Drops
 pub use Rattle.sock_message.specs.brpc_model
-pub use Rattle.id_rule.specs.corr_core
+pub use Rattle.corr_core
 pub use Rattle.id_rule
 pub use Rattle.sock_io
 pub use Rattle.sock_message

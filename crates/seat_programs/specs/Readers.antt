@@ -4,7 +4,7 @@ use Rattle.sock_model.specs.sock_words.specs.Codes.{EEOF, ERESPONSE}
 use Rattle.sock_model.specs.sock_words.specs.Words.{socket_id_slot, at_word_first, at_word_slot, at_word_link, at_word_attempt}
 use Rattle.sock_model.specs.sock_words.specs.declared.outcome.Outcome.{Outcome}
 use Rattle.sock_model.specs.sock_words.specs.declared.outcome.Outcome.TheVariants.{Answered, Peer, CallFailed}
-use Rattle.id_rule.specs.corr_core.specs.Word.{parts, error_of}
+use Rattle.corr_core.specs.Word.{parts, error_of}
 use Rattle.sock_message.specs.brpc_model.specs.Meta.{ResponseMeta}
 use Rattle.sock_message.specs.brpc_model.specs.Frame.{Frame}
 use Rattle.sock_message.specs.brpc_model.specs.Stream as streams

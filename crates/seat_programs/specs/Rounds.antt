@@ -3,7 +3,7 @@ use Rattle.std.specs.Prelude.{ℕ}
 use Rattle.sock_model.specs.sock_words.specs.declared.kind.Kind.{Kind}
 use Rattle.sock_model.specs.sock_words.specs.declared.kind.Kind.TheVariants.{I3, I4, I5, I6, I7, K1, S7, R1}
 use Rattle.std.specs.Prelude.{Option, Some, None, if◌then◌else◌}
-use Rattle.id_rule.specs.corr_core.specs.Word.{parts}
+use Rattle.corr_core.specs.Word.{parts}
 use Rattle.seat_programs.specs.Heads.{Head, Exit, Posts, Unlocks, Decides, Locks, Joins, Opens, Reads, Discards}
 use Rattle.seat_programs.specs.Programs.{Program}
 use Rattle.seat_programs.specs.Posts.{posts_round, unlocks_round, decides_round, locks_round, joins_round, ends_call}

@@ -14,7 +14,7 @@ use Rattle.sock_message.specs.brpc_model.specs.Report.{Report}
 use Rattle.sock_message.specs.brpc_model.specs.PlaceWords.{IsReportOf}
 use Rattle.seat_programs.specs.Programs.{Program, Rest}
 use Rattle.seat_programs.specs.Readers.{reader}
-use Rattle.id_rule.specs.corr_core.specs.declared.marks.Plan.{Plan as IdPlan}
+use Rattle.corr_core.specs.declared.marks.Plan.{Plan as IdPlan}
 use Rattle.seat_programs.specs.declared.task.Task.{Task}
 use Rattle.seat_programs.specs.declared.task.Sizes.{Sizes}
 use Rattle.seat_programs.specs.Tasks.{tasks, opens, calls, plan_of, id_plan_of}

@@ -26,7 +26,7 @@ use Rattle.seat_programs.specs.Rounds.{round}
 use Rattle.seat_programs.specs.Beside.{found_in, calls_after}
 use Rattle.sock_model.specs.Layout.{open_index}
 use Rattle.id_rule.specs.Lawful as ids
-use Rattle.id_rule.specs.corr_core.specs.Word.{parts}
+use Rattle.corr_core.specs.Word.{parts}
 use Rattle.seat_programs.specs.Sends.{block}
 use Rattle.seat_programs.specs.Cores.{Calls, Core, SeatState, lies_at, first_of, others_of, link_place, with_seat, stepped}
 

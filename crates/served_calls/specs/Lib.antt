@@ -6,10 +6,8 @@ pub use Rattle.served_runs.specs.id_runs
 pub use Rattle.served_runs.specs.joint_runs
 pub use Rattle.served_runs.specs.label_runs
 pub use Rattle.served_runs.specs.owed_calls
-pub use Rattle.prpc_frame
 pub use Rattle.served_runs.specs.script_facts
 pub use Rattle.served_runs.specs.report_fits
-pub use Rattle.served_runs.specs.rpc_meta
 pub use Rattle.served_runs.specs.outcome_stories
 pub use Rattle.served_runs.specs.outcome_ticks
 pub use Rattle.served_runs.specs.outcome_causes

@@ -9,10 +9,8 @@ pub use Rattle.served_calls.specs.id_runs
 pub use Rattle.served_calls.specs.joint_runs
 pub use Rattle.served_calls.specs.label_runs
 pub use Rattle.served_calls.specs.owed_calls
-pub use Rattle.served_calls.specs.prpc_frame
 pub use Rattle.served_calls.specs.script_facts
 pub use Rattle.served_calls.specs.report_fits
-pub use Rattle.served_calls.specs.rpc_meta
 pub use Rattle.served_calls.specs.outcome_stories
 pub use Rattle.served_calls.specs.outcome_ticks
 pub use Rattle.served_calls.specs.outcome_causes

@@ -12,8 +12,8 @@ use Rattle.brpc_model.specs.Frame.{Frame, IsFrame, magic, framed, frame_bytes}
 use Rattle.brpc_model.specs.Stream.{Stream, Rest, stream_from, goes_on}
 use Rattle.brpc_model.specs.Reply.{Answer, Gives, Refuses, echo, summing, served, response_with, answered_by, reply}
 use Rattle.brpc_model.proofs.Streams.{stream_goes_on}
-use Rattle.send_causes.specs.prpc_frame.proofs.Encoded.{frame_judged}
-use Rattle.send_causes.specs.rpc_meta.proofs.RoundTrip.{round_trip}
+use Rattle.prpc_frame.proofs.Encoded.{frame_judged}
+use Rattle.prpc_frame.specs.rpc_meta.proofs.RoundTrip.{round_trip}
 use Rattle.sock_message.specs.Asked.{Asked, meta_of, request_of, frame_of}
 use Rattle.send_causes.specs.script_facts.proofs.Frames.{number_short, bytes_short, size_short}
 

@@ -7,10 +7,8 @@ pub use Rattle.send_causes.specs.id_runs
 pub use Rattle.send_causes.specs.joint_runs
 pub use Rattle.send_causes.specs.label_runs
 pub use Rattle.send_causes.specs.owed_calls
-pub use Rattle.send_causes.specs.prpc_frame
 pub use Rattle.send_causes.specs.script_facts
 pub use Rattle.send_causes.specs.report_fits
-pub use Rattle.send_causes.specs.rpc_meta
 pub use Rattle.send_causes.specs.outcome_stories
 pub use Rattle.send_causes.specs.outcome_ticks
 pub use Rattle.send_causes.specs.outcome_causes

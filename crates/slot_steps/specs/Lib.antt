@@ -1,2 +1,0 @@
-pub use Rattle.sock_model
-pub use Rattle.sock_model.specs.sock_words

@@ -21,27 +21,27 @@ use Rattle.seat_programs.specs.Cores.{Core, SeatState, resolved, said, next_step
 use Rattle.seat_programs.specs.Ticks.{Answer, waits_at, waits}
 use Rattle.seat_programs.specs.Runs.{IsAtRest}
 use Rattle.seat_programs.specs.Scripts.{is_ending}
-use Rattle.machine_ticks.specs.machine_model.specs.program_steps.specs.GoesOn.{GoesOn}
-use Rattle.machine_ticks.specs.machine_model.specs.program_steps.specs.Lasts.{Lasts}
-use Rattle.machine_ticks.specs.machine_model.specs.program_steps.specs.Sound.{Sound, IsAhead}
-use Rattle.machine_ticks.specs.machine_model.specs.sock_runs.proofs.Allowed.{view_there}
-use Rattle.machine_ticks.specs.machine_model.specs.sock_runs.proofs.Along.{place_inside, seat_ahead, seat_rests}
-use Rattle.machine_ticks.specs.machine_model.specs.sock_runs.proofs.Held.{held_in_hand}
-use Rattle.machine_tables.specs.machine_model.specs.id_runs.specs.Goes.{SoundIds}
-use Rattle.machine_tables.specs.machine_model.specs.id_runs.proofs.Opening.{ending_ids, told_ids}
-use Rattle.machine_tables.specs.machine_model.specs.run_theorems.specs.programs_allowed.proofs.Opens.{ending_resolved, ending_sound, told_sound}
-use Rattle.machine_tables.specs.machine_model.specs.run_theorems.specs.programs_allowed.proofs.Lasting.{ending_lasts, told_lasts}
-use Rattle.machine_tables.specs.machine_model.specs.client_seats.specs.Seats.{SeatData, seat_program}
-use Rattle.machine_tables.specs.machine_model.specs.declared.tick.Tick.{Tick}
-use Rattle.machine_tables.specs.machine_model.specs.declared.tick.Tick.TheVariants as ticks
-use Rattle.machine_tables.specs.machine_model.specs.Links.{Taken, Given, Agrees, AgreesGave, IsPaced, homes_of, hand_of}
-use Rattle.machine_tables.specs.machine_model.specs.Machines.{MachineState, IsMachine, IsSoundMachine, HasSizes, KeepsClosed, ArePaced, MOST_LEFT, READERS, machine_sizes, core_with, ending_by, table_of}
-use Rattle.machine_tables.specs.machine_model.specs.Steps.{Goes}
-use Rattle.machine_tables.specs.machine_model.specs.Runs.{Ticked, Led}
-use Rattle.machine_tables.specs.machine_model.specs.Driving.{LastsAtMost, Leaves, IsLast, IsOther, AsksNone, IsPlain, FirstRests, BeganEnding, told_ending}
+use Rattle.machine_model.specs.program_steps.specs.GoesOn.{GoesOn}
+use Rattle.machine_model.specs.program_steps.specs.Lasts.{Lasts}
+use Rattle.machine_model.specs.program_steps.specs.Sound.{Sound, IsAhead}
+use Rattle.machine_model.specs.sock_runs.proofs.Allowed.{view_there}
+use Rattle.machine_model.specs.sock_runs.proofs.Along.{place_inside, seat_ahead, seat_rests}
+use Rattle.machine_model.specs.sock_runs.proofs.Held.{held_in_hand}
+use Rattle.machine_model.specs.id_runs.specs.Goes.{SoundIds}
+use Rattle.machine_model.specs.id_runs.proofs.Opening.{ending_ids, told_ids}
+use Rattle.machine_model.specs.run_theorems.specs.programs_allowed.proofs.Opens.{ending_resolved, ending_sound, told_sound}
+use Rattle.machine_model.specs.run_theorems.specs.programs_allowed.proofs.Lasting.{ending_lasts, told_lasts}
+use Rattle.client_seats.specs.Seats.{SeatData, seat_program}
+use Rattle.machine_model.specs.declared.tick.Tick.{Tick}
+use Rattle.machine_model.specs.declared.tick.Tick.TheVariants as ticks
+use Rattle.machine_model.specs.Links.{Taken, Given, Agrees, AgreesGave, IsPaced, homes_of, hand_of}
+use Rattle.machine_model.specs.Machines.{MachineState, IsMachine, IsSoundMachine, HasSizes, KeepsClosed, ArePaced, MOST_LEFT, READERS, machine_sizes, core_with, ending_by, table_of}
+use Rattle.machine_model.specs.Steps.{Goes}
+use Rattle.machine_model.specs.Runs.{Ticked, Led}
+use Rattle.machine_model.specs.Driving.{LastsAtMost, Leaves, IsLast, IsOther, AsksNone, IsPlain, FirstRests, BeganEnding, told_ending}
 use Rattle.machine_ticks.specs.machine_rules.proofs.Changes.{none_changes}
 use Rattle.machine_ticks.specs.machine_rules.proofs.Hands.{HasNone, hand_none}
-use Rattle.machine_tables.specs.machine_model.proofs.Lengths.{many_same, sizes_but, sizes_stay}
+use Rattle.machine_model.proofs.Lengths.{many_same, sizes_but, sizes_stay}
 use Rattle.sock_core.proofs.Leading.{Passed, led_none, led_more, led_here, led_waits, led_idle}
 use Rattle.machine_ticks.specs.machine_rules.proofs.Paces.{calm_paced, ending_calm}
 use Rattle.machine_ticks.proofs.Resting.{Rests, rest_anyhow, idle_core}

@@ -15,13 +15,13 @@ use Rattle.seat_programs.specs.Rounds.{kind_of_round}
 use Rattle.seat_programs.specs.Cores.{Core, SeatState}
 use Rattle.seat_programs.specs.Ticks.{Answer, Moment, ticked, run, waits_at, waits}
 use Rattle.seat_programs.specs.Runs.{head_kind, kind_in, next_kind, IsAtRest, LeadsUpTo}
-use Rattle.machine_tables.specs.machine_model.specs.declared.tick.On.{On}
-use Rattle.machine_tables.specs.machine_model.specs.declared.tick.Tick.TheVariants as ticks
-use Rattle.machine_tables.specs.machine_model.specs.Links.{Taken, Given}
-use Rattle.machine_tables.specs.machine_model.specs.Machines.{MachineState, core_with}
-use Rattle.machine_tables.specs.machine_model.specs.Runs.{SameTable, SameLinks, Follows, Made, Ticked, TickedWith, MadeByTicks, LedWith, Led}
+use Rattle.machine_model.specs.declared.tick.On.{On}
+use Rattle.machine_model.specs.declared.tick.Tick.TheVariants as ticks
+use Rattle.machine_model.specs.Links.{Taken, Given}
+use Rattle.machine_model.specs.Machines.{MachineState, core_with}
+use Rattle.machine_model.specs.Runs.{SameTable, SameLinks, Follows, Made, Ticked, TickedWith, MadeByTicks, LedWith, Led}
 use Rattle.machine_ticks.proofs.Joining.{follows_none, follows_join}
-use Rattle.machine_tables.specs.machine_model.proofs.Same.{same_table_none, same_table_join, same_links_none, same_links_join}
+use Rattle.machine_model.proofs.Same.{same_table_none, same_table_join, same_links_none, same_links_join}
 use Rattle.machine_ticks.proofs.Resting.{follows_idle}
 
 -- ## Ticks of other kinds

@@ -1,6 +1,6 @@
 -- What a linker says of itself stays so over one call after another.
 use Rattle.std.proofs.Common.{refl, ◌∙◌}
-use Rattle.machine_tables.specs.machine_model.specs.Linkers.{SaysAsBefore}
+use Rattle.machine_model.specs.Linkers.{SaysAsBefore}
 
 module _ {S A B C D E F : Type 0} {asked_of : S → A} {accepted_of : S → B} {back_of : S → C} {done_of : S → D} {faults_of : S → E} {ready_of : S → F} {before : S} where
   pub says_same : SaysAsBefore asked_of accepted_of back_of done_of faults_of ready_of before before

@@ -23,19 +23,19 @@ use Rattle.seat_programs.specs.Ticks.{quiet, run}
 use Rattle.seat_programs.specs.Scripts.{all_tasks, all_programs, beginning, programs, readers_from, opened, sizes_of}
 use Rattle.seat_programs.specs.Tasks.{calls, opens, plan_of, id_plan_of}
 use Rattle.seat_programs.specs.Told.{AreTasks, IsOpen}
-use Rattle.machine_ticks.specs.machine_model.specs.run_theorems.specs.owed_calls.specs.script_facts.proofs.TaskLemmas.{tasks_length}
-use Rattle.machine_tables.specs.machine_model.specs.run_theorems.proofs.Starts.{made}
-use Rattle.machine_tables.specs.machine_model.specs.run_theorems.specs.joint_runs.proofs.Starts.{AreFor}
-use Rattle.machine_tables.specs.machine_model.specs.call_slots.specs.Slots.{SlotState}
-use Rattle.machine_tables.specs.machine_model.specs.reader_seats.specs.Readers.{ReaderData}
-use Rattle.machine_tables.specs.machine_model.specs.client_seats.specs.Seats.{SeatData, seat_program}
-use Rattle.machine_tables.specs.machine_model.specs.Links.{LinksData, Agrees, AgreesGave, AreAlwaysReady, TellClosing, ClosedAreDone}
-use Rattle.machine_tables.specs.machine_model.specs.Machines.{MachineState, core_with}
-use Rattle.machine_tables.specs.machine_model.specs.Runs.{RanFirst}
-use Rattle.machine_tables.specs.machine_model.specs.declared.letter.Letter.{Letter}
-use Rattle.machine_tables.specs.machine_model.specs.Parts.{AreBegun, AreParts}
+use Rattle.machine_model.specs.run_theorems.specs.owed_calls.specs.script_facts.proofs.TaskLemmas.{tasks_length}
+use Rattle.machine_model.specs.run_theorems.proofs.Starts.{made}
+use Rattle.machine_model.specs.run_theorems.specs.joint_runs.proofs.Starts.{AreFor}
+use Rattle.call_slots.specs.Slots.{SlotState}
+use Rattle.reader_seats.specs.Readers.{ReaderData}
+use Rattle.client_seats.specs.Seats.{SeatData, seat_program}
+use Rattle.machine_model.specs.Links.{LinksData, Agrees, AgreesGave, AreAlwaysReady, TellClosing, ClosedAreDone}
+use Rattle.machine_model.specs.Machines.{MachineState, core_with}
+use Rattle.machine_model.specs.Runs.{RanFirst}
+use Rattle.machine_model.specs.declared.letter.Letter.{Letter}
+use Rattle.machine_model.specs.Parts.{AreBegun, AreParts}
 use Rattle.sock_core.specs.Beginnings.{IsMade}
-use Rattle.machine_tables.specs.machine_model.specs.Driving.{AsksNone, IsPlain, FirstRests}
+use Rattle.machine_model.specs.Driving.{AsksNone, IsPlain, FirstRests}
 use Rattle.sock_core.proofs.Starting.{AreNew}
 
 -- ## What a script that was read asks for

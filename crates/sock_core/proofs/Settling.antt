@@ -4,16 +4,16 @@ use Rattle.sock_words.specs.declared.plain.Plan.{Plan}
 use Rattle.seat_programs.specs.Cores.{Core}
 use Rattle.seat_programs.specs.Ticks.{quiet, run, AreAnswered, broken_in}
 use Rattle.seat_programs.specs.Scripts.{is_ending}
-use Rattle.machine_tables.specs.machine_model.specs.run_theorems.specs.owed_calls.specs.Lives.{ClosesInTime}
-use Rattle.machine_tables.specs.machine_model.specs.run_theorems.specs.Offered.{AreOffered}
-use Rattle.machine_tables.specs.machine_model.specs.run_theorems.specs.Heard.{heard_in, taken_in}
-use Rattle.machine_tables.specs.machine_model.specs.Links.{LinksData, Taken, Given, Agrees, AgreesGave, AreAlwaysReady, TellClosing, IsOffering}
-use Rattle.machine_tables.specs.machine_model.specs.Machines.{MachineState, core_with, ending_by}
-use Rattle.machine_tables.specs.machine_model.specs.Runs.{SameLinks, LinksShow, SettlesBy, PlayedWith, PlayedOn, RanFirst, SettledWith, Settled}
-use Rattle.machine_tables.specs.machine_model.specs.Driving.{told_ending}
+use Rattle.machine_model.specs.run_theorems.specs.owed_calls.specs.Lives.{ClosesInTime}
+use Rattle.machine_model.specs.run_theorems.specs.Offered.{AreOffered}
+use Rattle.machine_model.specs.run_theorems.specs.Heard.{heard_in, taken_in}
+use Rattle.machine_model.specs.Links.{LinksData, Taken, Given, Agrees, AgreesGave, AreAlwaysReady, TellClosing, IsOffering}
+use Rattle.machine_model.specs.Machines.{MachineState, core_with, ending_by}
+use Rattle.machine_model.specs.Runs.{SameLinks, LinksShow, SettlesBy, PlayedWith, PlayedOn, RanFirst, SettledWith, Settled}
+use Rattle.machine_model.specs.Driving.{told_ending}
 use Rattle.machine_ticks.proofs.Answering.{links_kept}
 use Rattle.machine_ticks.proofs.Joining.{shows_join, shows_on, prompt_append}
-use Rattle.machine_tables.specs.machine_model.proofs.Same.{same_links_join}
+use Rattle.machine_model.proofs.Same.{same_links_join}
 
 -- links that are told of the ending are the same
 told_same : (m : MachineState) → SameLinks m (told_ending m)

@@ -23,22 +23,22 @@ use Rattle.seat_programs.specs.Clients.{client_from}
 use Rattle.seat_programs.specs.Cores.{Calls, Core, SeatState, said, resolved, next_step}
 use Rattle.seat_programs.specs.Runs.{from_to}
 use Rattle.seat_programs.specs.Scripts.{sizes_of, programs, readers_from, all_programs, beginning, opening_homes, opening_words, opening_calls, new_links}
-use Rattle.machine_ticks.specs.machine_model.specs.program_steps.specs.Lasts.{Lasts}
-use Rattle.machine_ticks.specs.machine_model.specs.program_steps.specs.Sound.{IsAhead, Sound}
-use Rattle.machine_tables.specs.machine_model.specs.run_theorems.specs.programs_allowed.specs.Openings.{opening_views, all_seats}
+use Rattle.machine_model.specs.program_steps.specs.Lasts.{Lasts}
+use Rattle.machine_model.specs.program_steps.specs.Sound.{IsAhead, Sound}
+use Rattle.machine_model.specs.run_theorems.specs.programs_allowed.specs.Openings.{opening_views, all_seats}
 use Rattle.id_rule.specs.Lawful.{call_index}
-use Rattle.machine_tables.specs.machine_model.specs.id_runs.proofs.Opening.{unused}
-use Rattle.machine_tables.specs.machine_model.specs.id_runs.specs.Goes.{SoundIds}
-use Rattle.machine_tables.specs.machine_model.specs.run_theorems.specs.joint_runs.proofs.Starts.{AreFor, opens_both, opens_bounded}
-use Rattle.machine_tables.specs.machine_model.specs.call_slots.specs.Slots.{calls_with}
-use Rattle.machine_tables.specs.machine_model.specs.reader_seats.specs.Readers.{ReaderData, reader_program}
-use Rattle.machine_tables.specs.machine_model.specs.declared.letter.Letter.{Letter}
-use Rattle.machine_tables.specs.machine_model.specs.client_seats.specs.Seats.{SeatData, seat_program}
-use Rattle.machine_tables.specs.machine_model.specs.Parts.{AreBegun, AreReading, said_first}
-use Rattle.machine_tables.specs.machine_model.specs.Links.{LinksData, Taken, Agrees, AgreesGave, ClosedAreDone, IsPaced, holder_of, link_home, homes_of, letter_home}
-use Rattle.machine_tables.specs.machine_model.specs.Machines.{MachineState, IsMachine, IsSoundMachine, ArePaced, AreCalled, READERS, between, resting, clients_with, readers_with, seats_with, waiting_of, given_by, machine_sizes, core_with}
+use Rattle.machine_model.specs.id_runs.proofs.Opening.{unused}
+use Rattle.machine_model.specs.id_runs.specs.Goes.{SoundIds}
+use Rattle.machine_model.specs.run_theorems.specs.joint_runs.proofs.Starts.{AreFor, opens_both, opens_bounded}
+use Rattle.call_slots.specs.Slots.{calls_with}
+use Rattle.reader_seats.specs.Readers.{ReaderData, reader_program}
+use Rattle.machine_model.specs.declared.letter.Letter.{Letter}
+use Rattle.client_seats.specs.Seats.{SeatData, seat_program}
+use Rattle.machine_model.specs.Parts.{AreBegun, AreReading, said_first}
+use Rattle.machine_model.specs.Links.{LinksData, Taken, Agrees, AgreesGave, ClosedAreDone, IsPaced, holder_of, link_home, homes_of, letter_home}
+use Rattle.machine_model.specs.Machines.{MachineState, IsMachine, IsSoundMachine, ArePaced, AreCalled, READERS, between, resting, clients_with, readers_with, seats_with, waiting_of, given_by, machine_sizes, core_with}
 use Rattle.machine_ticks.specs.machine_rules.proofs.Hands.{HasNone, hand_none}
-use Rattle.machine_tables.specs.machine_steps.proofs.Begun.{told_length}
+use Rattle.machine_steps.proofs.Begun.{told_length}
 use Rattle.machine_ticks.specs.machine_rules.proofs.Paces.{calm_paced, client_calm}
 use Rattle.machine_ticks.specs.machine_rules.proofs.Seatings.{core_is}
 

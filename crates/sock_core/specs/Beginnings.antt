@@ -8,9 +8,9 @@ use Rattle.seat_programs.specs.declared.task.Task.{Task}
 use Rattle.seat_programs.specs.Scripts.{set_up, all_tasks}
 use Rattle.seat_programs.specs.Tasks as wants
 use Rattle.sock_io.specs.Link.{OutState, InState, end_of}
-use Rattle.machine_tables.specs.machine_model.specs.Links.{Agrees, AgreesGave, AreAlwaysReady, TellClosing, StayOffered}
-use Rattle.machine_tables.specs.machine_model.specs.Machines.{MachineState, core_with}
-use Rattle.machine_tables.specs.machine_model.specs.Driving.{FirstRests}
+use Rattle.machine_model.specs.Links.{Agrees, AgreesGave, AreAlwaysReady, TellClosing, StayOffered}
+use Rattle.machine_model.specs.Machines.{MachineState, core_with}
+use Rattle.machine_model.specs.Driving.{FirstRests}
 
 -- what a script wants of a machine: the sizes of its tables, the tasks of each client, and which operations are calls and `open`s
 pub record IsWanted (script : List Item) (p : Plan) (q : IdPlan) (clients : List (List Task)) (calls opens : List ℕ) : Type 0 where

@@ -1,3 +1,2 @@
 pub mod Beginnings
-pub use Rattle.machine_tables.specs.machine_model
 pub use Rattle.machine_ticks

@@ -4,13 +4,13 @@ ghost use Rattle.brpc_model.specs.Script.{script_of};
 ghost use Rattle.brpc_model.specs.Operations.{link_names};
 ghost use Rattle.sock_io.specs.Link.{OutState, InState, end_of};
 ghost use Rattle.seat_programs.specs.Scripts.{beginning, programs, readers_from, all_programs, sizes_of, place_words};
-ghost use Rattle.machine_tables.specs.machine_model.specs.run_theorems.specs.joint_runs.proofs.Starts.{AreFor};
+ghost use Rattle.machine_model.specs.run_theorems.specs.joint_runs.proofs.Starts.{AreFor};
 ghost use Rattle.sock_core.specs.Beginnings.{AreUnused, IsMade, TellsLinks};
-ghost use Rattle.machine_tables.specs.machine_model.specs.Linkers.{SaysAsBefore};
-ghost use Rattle.machine_tables.specs.machine_model.specs.Links.{Taken, Given, Agrees, AgreesGave};
-ghost use Rattle.machine_tables.specs.machine_model.specs.Machines.{MOST_LEFT as most_left, HasSizes, core_with, ending_by};
-ghost use Rattle.machine_tables.specs.machine_model.specs.Runs.{SameLinks, SameTable, Ticked, Led, Still, HasMoved, PlayedOn, RanFirst, Settled};
-ghost use Rattle.machine_tables.specs.machine_model.specs.Driving.{LastsAtMost, LeavesFewer, Leaves, WentOn, IsPlain, FirstRests, TickedFirst, told_ending};
+ghost use Rattle.machine_model.specs.Linkers.{SaysAsBefore};
+ghost use Rattle.machine_model.specs.Links.{Taken, Given, Agrees, AgreesGave};
+ghost use Rattle.machine_model.specs.Machines.{MOST_LEFT as most_left, HasSizes, core_with, ending_by};
+ghost use Rattle.machine_model.specs.Runs.{SameLinks, SameTable, Ticked, Led, Still, HasMoved, PlayedOn, RanFirst, Settled};
+ghost use Rattle.machine_model.specs.Driving.{LastsAtMost, LeavesFewer, Leaves, WentOn, IsPlain, FirstRests, TickedFirst, told_ending};
 
 use crate::finished::{Finished, gather_places};
 use crate::inputs::Wanted;
@@ -43,7 +43,7 @@ pub struct Machine<O: Out, I: In, P: Peer> {
 
 impl<O: Out, I: In, P: Peer> Model for Machine<O, I, P> {
     ghost use Rattle.std.specs.Prelude.{◌≡◌, [], vec_capacity};
-    ghost use Rattle.machine_tables.specs.machine_model.specs.Machines.{MachineState, IsMachine};
+    ghost use Rattle.machine_model.specs.Machines.{MachineState, IsMachine};
 
     ghost Value = { MachineState };
 

@@ -5,6 +5,5 @@ pub mod Left
 pub mod Told
 pub use Rattle.report_fits.specs.script_facts
 pub use Rattle.report_fits
-pub use Rattle.rpc_client
 pub use Rattle.outcome_ticks.specs.outcome_stories
 pub use Rattle.outcome_ticks

@@ -6,24 +6,24 @@ use mathlib.Core.Option.{some, none, some-injective, some-ne-none}
 use native.Mathlib.Decide.{ℕ_discrete}
 use lib.ListN.{get_elem?}
 use Rattle.atomic_table.specs.Table.{State}
-use Rattle.slot_steps.specs.sock_model.specs.declared.chain.Entry.{Entry}
-use Rattle.slot_steps.specs.sock_model.specs.declared.chain.Right.{Right}
-use Rattle.slot_steps.specs.sock_model.specs.declared.chain.Claim.{Claim}
-use Rattle.slot_steps.specs.sock_model.specs.declared.chain.Stage.TheVariants.{Writes}
-use Rattle.slot_steps.specs.sock_model.specs.declared.home.Home.{Home}
-use Rattle.slot_steps.specs.sock_words.specs.declared.plain.Plan.{Plan}
-use Rattle.slot_steps.specs.sock_model.specs.declared.view.View.{View}
-use Rattle.slot_steps.specs.sock_model.specs.Weights.{is_met}
-use Rattle.slot_steps.specs.sock_model.specs.SlotRows.{marks_of}
-use Rattle.slot_steps.specs.sock_model.specs.Layout.{head_index, place_index}
-use Rattle.slot_steps.specs.sock_model.specs.Entries.{ticket, ticket_of, on, nth}
-use Rattle.slot_steps.specs.sock_model.specs.Memory.{IDLE}
-use Rattle.slot_steps.specs.sock_model.specs.Writing.{loose_of}
-use Rattle.slot_steps.specs.sock_model.specs.Reads.{head_at, memory, link_home, rights_on, claims_of, loose_at, tokens}
-use Rattle.slot_steps.specs.sock_model.specs.ChainRows.{entry_of, more, queued, righted}
-use Rattle.slot_steps.specs.sock_model.specs.Conditions.{MayExchange}
-use Rattle.slot_steps.specs.sock_model.specs.Links.{Given, Lives}
-use Rattle.slot_steps.specs.sock_model.specs.Lawful.{Lawful}
+use Rattle.sock_model.specs.declared.chain.Entry.{Entry}
+use Rattle.sock_model.specs.declared.chain.Right.{Right}
+use Rattle.sock_model.specs.declared.chain.Claim.{Claim}
+use Rattle.sock_model.specs.declared.chain.Stage.TheVariants.{Writes}
+use Rattle.sock_model.specs.declared.home.Home.{Home}
+use Rattle.sock_model.specs.sock_words.specs.declared.plain.Plan.{Plan}
+use Rattle.sock_model.specs.declared.view.View.{View}
+use Rattle.sock_model.specs.Weights.{is_met}
+use Rattle.sock_model.specs.SlotRows.{marks_of}
+use Rattle.sock_model.specs.Layout.{head_index, place_index}
+use Rattle.sock_model.specs.Entries.{ticket, ticket_of, on, nth}
+use Rattle.sock_model.specs.Memory.{IDLE}
+use Rattle.sock_model.specs.Writing.{loose_of}
+use Rattle.sock_model.specs.Reads.{head_at, memory, link_home, rights_on, claims_of, loose_at, tokens}
+use Rattle.sock_model.specs.ChainRows.{entry_of, more, queued, righted}
+use Rattle.sock_model.specs.Conditions.{MayExchange}
+use Rattle.sock_model.specs.Links.{Given, Lives}
+use Rattle.sock_model.specs.Lawful.{Lawful}
 use Rattle.chain_steps.proofs.Lists.{on_miss, at_snoc, old, new}
 use Rattle.chain_steps.proofs.Frames.{Same, Changed, one_token, no_token}
 use Rattle.chain_steps.proofs.Claims.{claim_of}

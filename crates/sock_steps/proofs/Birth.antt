@@ -6,25 +6,25 @@ use native.Mathlib.Decide.{ℕ_discrete}
 use lib.ListN.{get_elem?}
 use Rattle.atomic_table.specs.Table.{State, stepped, keeps}
 use Rattle.atomic_table.proofs.Lists.{at_set}
-use Rattle.slot_steps.specs.sock_model.specs.declared.marks.Mark.{Mark}
-use Rattle.slot_steps.specs.sock_model.specs.declared.marks.Mark.TheVariants.{Claimed, Known, Born, Linked}
-use Rattle.slot_steps.specs.sock_model.specs.declared.marks.SlotMark.{SlotMark}
-use Rattle.slot_steps.specs.sock_model.specs.declared.home.Home.{Home}
-use Rattle.slot_steps.specs.sock_model.specs.declared.home.Home.TheVariants.{Link}
-use Rattle.slot_steps.specs.sock_words.specs.declared.plain.Plan.{Plan}
-use Rattle.slot_steps.specs.sock_model.specs.declared.view.View.{View}
-use Rattle.slot_steps.specs.sock_model.specs.Weights.{total, only, pair, is_busy, is_stage, is_reset, is_recycled, is_hold, is_freer, is_failer, is_linked, is_met}
-use Rattle.slot_steps.specs.sock_model.specs.Marks.{about, at, without_at}
-use Rattle.slot_steps.specs.sock_model.specs.Layout.{ref_index, head_index, request_index, next_index, place_index}
-use Rattle.slot_steps.specs.sock_model.specs.Slots.{version_of, count}
-use Rattle.slot_steps.specs.sock_model.specs.References.{slot_facts}
-use Rattle.slot_steps.specs.sock_model.specs.SlotRows.{marks_of, gave_birth, staged}
-use Rattle.slot_steps.specs.sock_model.specs.Entries.{on}
-use Rattle.slot_steps.specs.sock_model.specs.Memory.{IDLE}
-use Rattle.slot_steps.specs.sock_model.specs.Reads.{rights_on, claims_of, loose_at, head_at, memory, tokens, link_at, link_home, took_of, waits_of, hands_of}
-use Rattle.slot_steps.specs.sock_model.specs.Links.{Given, Lives, InSlots}
-use Rattle.slot_steps.specs.sock_model.specs.Homes.{Unborn, Recycles, LinkHomes}
-use Rattle.slot_steps.specs.sock_model.specs.Lawful.{Lawful}
+use Rattle.sock_model.specs.declared.marks.Mark.{Mark}
+use Rattle.sock_model.specs.declared.marks.Mark.TheVariants.{Claimed, Known, Born, Linked}
+use Rattle.sock_model.specs.declared.marks.SlotMark.{SlotMark}
+use Rattle.sock_model.specs.declared.home.Home.{Home}
+use Rattle.sock_model.specs.declared.home.Home.TheVariants.{Link}
+use Rattle.sock_model.specs.sock_words.specs.declared.plain.Plan.{Plan}
+use Rattle.sock_model.specs.declared.view.View.{View}
+use Rattle.sock_model.specs.Weights.{total, only, pair, is_busy, is_stage, is_reset, is_recycled, is_hold, is_freer, is_failer, is_linked, is_met}
+use Rattle.sock_model.specs.Marks.{about, at, without_at}
+use Rattle.sock_model.specs.Layout.{ref_index, head_index, request_index, next_index, place_index}
+use Rattle.sock_model.specs.Slots.{version_of, count}
+use Rattle.sock_model.specs.References.{slot_facts}
+use Rattle.sock_model.specs.SlotRows.{marks_of, gave_birth, staged}
+use Rattle.sock_model.specs.Entries.{on}
+use Rattle.sock_model.specs.Memory.{IDLE}
+use Rattle.sock_model.specs.Reads.{rights_on, claims_of, loose_at, head_at, memory, tokens, link_at, link_home, took_of, waits_of, hands_of}
+use Rattle.sock_model.specs.Links.{Given, Lives, InSlots}
+use Rattle.sock_model.specs.Homes.{Unborn, Recycles, LinkHomes}
+use Rattle.sock_model.specs.Lawful.{Lawful}
 use Rattle.slot_steps.proofs.Sums.{total-set, term_le, total_mono, about-here, about-other}
 use Rattle.slot_steps.proofs.Numbers.{pair_le, only-same, pair-same, pair_is, life-high}
 use Rattle.slot_steps.proofs.Slots.{stage_is}

@@ -6,17 +6,17 @@ use native.Mathlib.Decide.{ℕ_discrete}
 use lib.ListN.{get_elem?}
 use Rattle.atomic_table.specs.Table.{State}
 use Rattle.atomic_table.proofs.Lists.{at_set, at_map, at_snoc}
-use Rattle.slot_steps.specs.sock_words.specs.declared.plain.Plan.{Plan}
-use Rattle.slot_steps.specs.sock_model.specs.declared.chain.Entry.{Entry}
-use Rattle.slot_steps.specs.sock_model.specs.declared.home.Home.{Home}
-use Rattle.slot_steps.specs.sock_model.specs.declared.view.View.{View}
-use Rattle.slot_steps.specs.sock_model.specs.Weights.{total, only}
-use Rattle.slot_steps.specs.sock_model.specs.Layout.{place_index}
-use Rattle.slot_steps.specs.sock_model.specs.Seats.{newcomer, carrier}
-use Rattle.slot_steps.specs.sock_model.specs.Authors.{pick, Authored}
-use Rattle.slot_steps.specs.sock_model.specs.Reads.{rights_on, claims_of, loose_at, tokens, message}
-use Rattle.slot_steps.specs.sock_model.specs.Lawful.{Lawful}
-use Rattle.slot_steps.specs.sock_model.specs.Rule.{FoundWords, AreShort, lists_of, Rule}
+use Rattle.sock_model.specs.sock_words.specs.declared.plain.Plan.{Plan}
+use Rattle.sock_model.specs.declared.chain.Entry.{Entry}
+use Rattle.sock_model.specs.declared.home.Home.{Home}
+use Rattle.sock_model.specs.declared.view.View.{View}
+use Rattle.sock_model.specs.Weights.{total, only}
+use Rattle.sock_model.specs.Layout.{place_index}
+use Rattle.sock_model.specs.Seats.{newcomer, carrier}
+use Rattle.sock_model.specs.Authors.{pick, Authored}
+use Rattle.sock_model.specs.Reads.{rights_on, claims_of, loose_at, tokens, message}
+use Rattle.sock_model.specs.Lawful.{Lawful}
+use Rattle.sock_model.specs.Rule.{FoundWords, AreShort, lists_of, Rule}
 use Rattle.slot_steps.proofs.Sums.{total-set, total-append}
 use Rattle.chain_steps.proofs.Frames.{chains_frame}
 use Rattle.chain_steps.proofs.Gather.{gather_same}

@@ -5,29 +5,29 @@ use lib.ListN.{get_elem?}
 use lib.Seq.{map-set}
 use Rattle.atomic_table.specs.Table.{State}
 use Rattle.atomic_table.proofs.Lists.{at_map, at_set, set_again}
-use Rattle.slot_steps.specs.sock_model.specs.declared.marks.Mark.{Mark}
-use Rattle.slot_steps.specs.sock_model.specs.declared.marks.Mark.TheVariants.{Claimed}
-use Rattle.slot_steps.specs.sock_model.specs.declared.chain.Entry.{Entry}
-use Rattle.slot_steps.specs.sock_model.specs.declared.chain.Right.{Right}
-use Rattle.slot_steps.specs.sock_model.specs.declared.home.Home.{Home}
-use Rattle.slot_steps.specs.sock_words.specs.declared.plain.Plan.{Plan}
-use Rattle.slot_steps.specs.sock_model.specs.declared.view.View.{View}
-use Rattle.slot_steps.specs.sock_model.specs.declared.view.Hand.{Hand}
-use Rattle.slot_steps.specs.sock_model.specs.Entries.{on}
-use Rattle.slot_steps.specs.sock_model.specs.Weights.{total, only, is_linked, is_freer, is_failer, is_born, is_busy, is_reset, is_recycled, is_met}
-use Rattle.slot_steps.specs.sock_model.specs.Marks.{about, says}
-use Rattle.slot_steps.specs.sock_model.specs.Layout.{name_index, open_index, place_index}
-use Rattle.slot_steps.specs.sock_model.specs.Slots.{SlotFacts, version_of, nref_of, live, count, SlotLaw}
-use Rattle.slot_steps.specs.sock_model.specs.References.{uses_of, uses_link, sayers, spare, slot_facts, Names, Stores, References}
-use Rattle.slot_steps.specs.sock_model.specs.SlotRows.{marks_of}
-use Rattle.slot_steps.specs.sock_model.specs.Chains.{Chains}
-use Rattle.slot_steps.specs.sock_model.specs.Authors.{Authored}
-use Rattle.slot_steps.specs.sock_model.specs.Messages.{Messages}
-use Rattle.slot_steps.specs.sock_model.specs.Deliveries.{HasTaken, Delivered}
-use Rattle.slot_steps.specs.sock_model.specs.Reads.{carries, memory, tokens, message, link_at, link_home, waits_link, waits_of, hands_of}
-use Rattle.slot_steps.specs.sock_model.specs.Links.{HoldsRights, Given, Failed, InSlots}
-use Rattle.slot_steps.specs.sock_model.specs.Homes.{IsOwn, Unborn, Recycles, LinkHomes}
-use Rattle.slot_steps.specs.sock_model.specs.Lawful.{Lawful}
+use Rattle.sock_model.specs.declared.marks.Mark.{Mark}
+use Rattle.sock_model.specs.declared.marks.Mark.TheVariants.{Claimed}
+use Rattle.sock_model.specs.declared.chain.Entry.{Entry}
+use Rattle.sock_model.specs.declared.chain.Right.{Right}
+use Rattle.sock_model.specs.declared.home.Home.{Home}
+use Rattle.sock_model.specs.sock_words.specs.declared.plain.Plan.{Plan}
+use Rattle.sock_model.specs.declared.view.View.{View}
+use Rattle.sock_model.specs.declared.view.Hand.{Hand}
+use Rattle.sock_model.specs.Entries.{on}
+use Rattle.sock_model.specs.Weights.{total, only, is_linked, is_freer, is_failer, is_born, is_busy, is_reset, is_recycled, is_met}
+use Rattle.sock_model.specs.Marks.{about, says}
+use Rattle.sock_model.specs.Layout.{name_index, open_index, place_index}
+use Rattle.sock_model.specs.Slots.{SlotFacts, version_of, nref_of, live, count, SlotLaw}
+use Rattle.sock_model.specs.References.{uses_of, uses_link, sayers, spare, slot_facts, Names, Stores, References}
+use Rattle.sock_model.specs.SlotRows.{marks_of}
+use Rattle.sock_model.specs.Chains.{Chains}
+use Rattle.sock_model.specs.Authors.{Authored}
+use Rattle.sock_model.specs.Messages.{Messages}
+use Rattle.sock_model.specs.Deliveries.{HasTaken, Delivered}
+use Rattle.sock_model.specs.Reads.{carries, memory, tokens, message, link_at, link_home, waits_link, waits_of, hands_of}
+use Rattle.sock_model.specs.Links.{HoldsRights, Given, Failed, InSlots}
+use Rattle.sock_model.specs.Homes.{IsOwn, Unborn, Recycles, LinkHomes}
+use Rattle.sock_model.specs.Lawful.{Lawful}
 use Rattle.slot_steps.proofs.Sums.{total-set, term_le, tally_mono}
 use Rattle.slot_steps.proofs.Numbers.{only-same}
 use Rattle.chain_steps.proofs.Delivers.{delivers_failed}

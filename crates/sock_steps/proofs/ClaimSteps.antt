@@ -4,23 +4,23 @@ use Rattle.std.specs.List.{filter, flat_map}
 use mathlib.Core.Option.{Option, some}
 use lib.ListN.{get_elem?}
 use Rattle.atomic_table.specs.Table.{State}
-use Rattle.slot_steps.specs.sock_model.specs.declared.chain.Right.{Right}
-use Rattle.slot_steps.specs.sock_model.specs.declared.chain.Claim.{Claim}
-use Rattle.slot_steps.specs.sock_model.specs.declared.chain.Loose.{Loose}
-use Rattle.slot_steps.specs.sock_model.specs.declared.home.Home.{Home}
-use Rattle.slot_steps.specs.sock_model.specs.declared.home.Home.TheVariants.{Message}
-use Rattle.slot_steps.specs.sock_words.specs.declared.plain.Plan.{Plan}
-use Rattle.slot_steps.specs.sock_model.specs.declared.view.View.{View}
-use Rattle.slot_steps.specs.sock_model.specs.declared.marks.SlotMark.{SlotMark}
-use Rattle.slot_steps.specs.sock_model.specs.Weights.{total, is_hold, is_met}
-use Rattle.slot_steps.specs.sock_model.specs.Marks.{about}
-use Rattle.slot_steps.specs.sock_model.specs.Layout.{next_index, request_index, place_index}
-use Rattle.slot_steps.specs.sock_model.specs.Memory.{UNCONNECTED}
-use Rattle.slot_steps.specs.sock_model.specs.Chains.{Chains}
-use Rattle.slot_steps.specs.sock_model.specs.Messages.{Messages}
-use Rattle.slot_steps.specs.sock_model.specs.Reads.{as_link, link_home, took_of, memory, letter_of, shown, message, link_at, rights_on, claims_of, loose_at, tokens}
-use Rattle.slot_steps.specs.sock_model.specs.ChainRows.{with_claim, without_loose}
-use Rattle.slot_steps.specs.sock_model.specs.Lawful.{Lawful}
+use Rattle.sock_model.specs.declared.chain.Right.{Right}
+use Rattle.sock_model.specs.declared.chain.Claim.{Claim}
+use Rattle.sock_model.specs.declared.chain.Loose.{Loose}
+use Rattle.sock_model.specs.declared.home.Home.{Home}
+use Rattle.sock_model.specs.declared.home.Home.TheVariants.{Message}
+use Rattle.sock_model.specs.sock_words.specs.declared.plain.Plan.{Plan}
+use Rattle.sock_model.specs.declared.view.View.{View}
+use Rattle.sock_model.specs.declared.marks.SlotMark.{SlotMark}
+use Rattle.sock_model.specs.Weights.{total, is_hold, is_met}
+use Rattle.sock_model.specs.Marks.{about}
+use Rattle.sock_model.specs.Layout.{next_index, request_index, place_index}
+use Rattle.sock_model.specs.Memory.{UNCONNECTED}
+use Rattle.sock_model.specs.Chains.{Chains}
+use Rattle.sock_model.specs.Messages.{Messages}
+use Rattle.sock_model.specs.Reads.{as_link, link_home, took_of, memory, letter_of, shown, message, link_at, rights_on, claims_of, loose_at, tokens}
+use Rattle.sock_model.specs.ChainRows.{with_claim, without_loose}
+use Rattle.sock_model.specs.Lawful.{Lawful}
 use Rattle.chain_steps.proofs.Lists.{at_length, filter_in}
 use Rattle.chain_steps.proofs.Frames.{Same, Changed}
 use Rattle.chain_steps.proofs.Claims.{claims, free_of, reclaims, readies}

@@ -5,15 +5,15 @@ use mathlib.Core.Option.{Option, some, none, some-ne-none}
 use native.Mathlib.Decide.{ℕ_discrete}
 use lib.ListN.{get_elem?}
 use Rattle.atomic_table.specs.Table.{State}
-use Rattle.slot_steps.specs.sock_model.specs.declared.home.Home.{Home}
-use Rattle.slot_steps.specs.sock_words.specs.declared.plain.Plan.{Plan}
-use Rattle.slot_steps.specs.sock_model.specs.declared.view.View.{View}
-use Rattle.slot_steps.specs.sock_model.specs.declared.chain.Right.{Right}
-use Rattle.slot_steps.specs.sock_model.specs.Weights.{is_busy, is_freer, is_failer}
-use Rattle.slot_steps.specs.sock_model.specs.Slots.{live, count}
-use Rattle.slot_steps.specs.sock_model.specs.References.{slot_facts}
-use Rattle.slot_steps.specs.sock_model.specs.Links.{HoldsLink, Given, Lives, Failed}
-use Rattle.slot_steps.specs.sock_model.specs.Lawful.{Lawful}
+use Rattle.sock_model.specs.declared.home.Home.{Home}
+use Rattle.sock_model.specs.sock_words.specs.declared.plain.Plan.{Plan}
+use Rattle.sock_model.specs.declared.view.View.{View}
+use Rattle.sock_model.specs.declared.chain.Right.{Right}
+use Rattle.sock_model.specs.Weights.{is_busy, is_freer, is_failer}
+use Rattle.sock_model.specs.Slots.{live, count}
+use Rattle.sock_model.specs.References.{slot_facts}
+use Rattle.sock_model.specs.Links.{HoldsLink, Given, Lives, Failed}
+use Rattle.sock_model.specs.Lawful.{Lawful}
 use Rattle.slot_steps.proofs.Numbers.{life-in, life-high, life_is, live_le, live_is}
 use Rattle.sock_steps.proofs.Places.{last_life, link_there, given_once, holder_lives}
 

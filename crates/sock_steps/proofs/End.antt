@@ -6,23 +6,23 @@ use native.Mathlib.Decide.{ℕ_discrete}
 use lib.ListN.{get_elem?}
 use Rattle.atomic_table.specs.Table.{State, stepped, keeps}
 use Rattle.atomic_table.proofs.Lists.{at_set}
-use Rattle.slot_steps.specs.sock_model.specs.declared.marks.Mark.{Mark}
-use Rattle.slot_steps.specs.sock_model.specs.declared.marks.Mark.TheVariants.{Recycling, Zero, Freer}
-use Rattle.slot_steps.specs.sock_model.specs.declared.marks.SlotMark.{SlotMark}
-use Rattle.slot_steps.specs.sock_model.specs.declared.chain.Right.{Right}
-use Rattle.slot_steps.specs.sock_model.specs.declared.home.Home.{Home}
-use Rattle.slot_steps.specs.sock_words.specs.declared.plain.Plan.{Plan}
-use Rattle.slot_steps.specs.sock_model.specs.declared.view.View.{View}
-use Rattle.slot_steps.specs.sock_model.specs.Weights.{total, only, is_busy, is_zero, is_reset, is_recycled, is_hold, is_freer, is_failer, is_linked, is_met}
-use Rattle.slot_steps.specs.sock_model.specs.Marks.{about, at, without_at}
-use Rattle.slot_steps.specs.sock_model.specs.Layout.{ref_index, head_index}
-use Rattle.slot_steps.specs.sock_model.specs.Slots.{version_of, nref_of, count}
-use Rattle.slot_steps.specs.sock_model.specs.References.{slot_facts, References}
-use Rattle.slot_steps.specs.sock_model.specs.SlotRows.{marks_of, recycled}
-use Rattle.slot_steps.specs.sock_model.specs.Reads.{rights_on, claims_of, loose_at, head_at, memory, tokens, link_at, waits_of, hands_of}
-use Rattle.slot_steps.specs.sock_model.specs.Links.{Given, Lives, InSlots}
-use Rattle.slot_steps.specs.sock_model.specs.Homes.{Unborn, Recycles, LinkHomes}
-use Rattle.slot_steps.specs.sock_model.specs.Lawful.{Lawful}
+use Rattle.sock_model.specs.declared.marks.Mark.{Mark}
+use Rattle.sock_model.specs.declared.marks.Mark.TheVariants.{Recycling, Zero, Freer}
+use Rattle.sock_model.specs.declared.marks.SlotMark.{SlotMark}
+use Rattle.sock_model.specs.declared.chain.Right.{Right}
+use Rattle.sock_model.specs.declared.home.Home.{Home}
+use Rattle.sock_model.specs.sock_words.specs.declared.plain.Plan.{Plan}
+use Rattle.sock_model.specs.declared.view.View.{View}
+use Rattle.sock_model.specs.Weights.{total, only, is_busy, is_zero, is_reset, is_recycled, is_hold, is_freer, is_failer, is_linked, is_met}
+use Rattle.sock_model.specs.Marks.{about, at, without_at}
+use Rattle.sock_model.specs.Layout.{ref_index, head_index}
+use Rattle.sock_model.specs.Slots.{version_of, nref_of, count}
+use Rattle.sock_model.specs.References.{slot_facts, References}
+use Rattle.sock_model.specs.SlotRows.{marks_of, recycled}
+use Rattle.sock_model.specs.Reads.{rights_on, claims_of, loose_at, head_at, memory, tokens, link_at, waits_of, hands_of}
+use Rattle.sock_model.specs.Links.{Given, Lives, InSlots}
+use Rattle.sock_model.specs.Homes.{Unborn, Recycles, LinkHomes}
+use Rattle.sock_model.specs.Lawful.{Lawful}
 use Rattle.slot_steps.proofs.Sums.{total-set, about-here, about-other}
 use Rattle.slot_steps.proofs.Numbers.{only-same, life-high, live-odd}
 use Rattle.slot_steps.proofs.Slots.{zero_is}

@@ -7,27 +7,27 @@ use native.Mathlib.Decide.{ℕ_discrete}
 use lib.ListN.{get_elem?}
 use Rattle.atomic_table.specs.Table.{State}
 use Rattle.atomic_table.proofs.Lists.{at_set, at_map, set_else}
-use Rattle.slot_steps.specs.sock_model.specs.declared.marks.Mark.{Mark}
-use Rattle.slot_steps.specs.sock_model.specs.declared.marks.Mark.TheVariants.{Recycling}
-use Rattle.slot_steps.specs.sock_model.specs.declared.chain.Right.{Right}
-use Rattle.slot_steps.specs.sock_model.specs.declared.chain.Claim.{Claim}
-use Rattle.slot_steps.specs.sock_model.specs.declared.chain.Loose.{Loose}
-use Rattle.slot_steps.specs.sock_model.specs.declared.home.Home.{Home}
-use Rattle.slot_steps.specs.sock_model.specs.declared.home.Home.TheVariants.{Empty, Link, Message}
-use Rattle.slot_steps.specs.sock_words.specs.declared.plain.Plan.{Plan}
-use Rattle.slot_steps.specs.sock_model.specs.declared.view.View.{View}
-use Rattle.slot_steps.specs.sock_model.specs.declared.view.Hand.{Hand}
-use Rattle.slot_steps.specs.sock_model.specs.Weights.{total, only, is_hold, is_busy, is_recycling, is_recycled, is_met}
-use Rattle.slot_steps.specs.sock_model.specs.Marks.{about}
-use Rattle.slot_steps.specs.sock_model.specs.Layout.{place_index}
-use Rattle.slot_steps.specs.sock_model.specs.SlotRows.{marks_of}
-use Rattle.slot_steps.specs.sock_model.specs.Entries.{on}
-use Rattle.slot_steps.specs.sock_model.specs.Deliveries.{HasTaken}
-use Rattle.slot_steps.specs.sock_model.specs.Reads.{letter_of, took_of, as_link, shown, message, link_at, link_home, rights_on, claims_of, loose_at, tokens, waits_of, carries, hands_of}
-use Rattle.slot_steps.specs.sock_model.specs.ChainRows.{with_hand, without_hand, spent_hand}
-use Rattle.slot_steps.specs.sock_model.specs.Links.{Given, Lives}
-use Rattle.slot_steps.specs.sock_model.specs.Homes.{IsOwn, Unborn, Recycles}
-use Rattle.slot_steps.specs.sock_model.specs.Lawful.{Lawful}
+use Rattle.sock_model.specs.declared.marks.Mark.{Mark}
+use Rattle.sock_model.specs.declared.marks.Mark.TheVariants.{Recycling}
+use Rattle.sock_model.specs.declared.chain.Right.{Right}
+use Rattle.sock_model.specs.declared.chain.Claim.{Claim}
+use Rattle.sock_model.specs.declared.chain.Loose.{Loose}
+use Rattle.sock_model.specs.declared.home.Home.{Home}
+use Rattle.sock_model.specs.declared.home.Home.TheVariants.{Empty, Link, Message}
+use Rattle.sock_model.specs.sock_words.specs.declared.plain.Plan.{Plan}
+use Rattle.sock_model.specs.declared.view.View.{View}
+use Rattle.sock_model.specs.declared.view.Hand.{Hand}
+use Rattle.sock_model.specs.Weights.{total, only, is_hold, is_busy, is_recycling, is_recycled, is_met}
+use Rattle.sock_model.specs.Marks.{about}
+use Rattle.sock_model.specs.Layout.{place_index}
+use Rattle.sock_model.specs.SlotRows.{marks_of}
+use Rattle.sock_model.specs.Entries.{on}
+use Rattle.sock_model.specs.Deliveries.{HasTaken}
+use Rattle.sock_model.specs.Reads.{letter_of, took_of, as_link, shown, message, link_at, link_home, rights_on, claims_of, loose_at, tokens, waits_of, carries, hands_of}
+use Rattle.sock_model.specs.ChainRows.{with_hand, without_hand, spent_hand}
+use Rattle.sock_model.specs.Links.{Given, Lives}
+use Rattle.sock_model.specs.Homes.{IsOwn, Unborn, Recycles}
+use Rattle.sock_model.specs.Lawful.{Lawful}
 use Rattle.slot_steps.proofs.Sums.{total-set, term_le, total_mono, total_some}
 use Rattle.slot_steps.proofs.Numbers.{only-same, only-else}
 use Rattle.slot_steps.proofs.Slots.{recycled_le}

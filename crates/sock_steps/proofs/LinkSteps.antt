@@ -7,27 +7,27 @@ use lib.ListN.{get_elem?}
 use lib.Seq.{set-get_or}
 use Rattle.atomic_table.specs.Table.{State, stepped, keeps}
 use Rattle.atomic_table.proofs.Lists.{set_else}
-use Rattle.slot_steps.specs.sock_model.specs.declared.chain.Right.{Right}
-use Rattle.slot_steps.specs.sock_model.specs.declared.home.Home.{Home}
-use Rattle.slot_steps.specs.sock_model.specs.declared.home.Home.TheVariants.{Empty, Link, Message}
-use Rattle.slot_steps.specs.sock_words.specs.declared.plain.Plan.{Plan}
-use Rattle.slot_steps.specs.sock_model.specs.declared.view.View.{View}
-use Rattle.slot_steps.specs.sock_model.specs.Layout.{place_index, ref_index}
-use Rattle.slot_steps.specs.sock_model.specs.Slots.{version_of, count}
-use Rattle.slot_steps.specs.sock_model.specs.References.{slot_facts}
-use Rattle.slot_steps.specs.sock_model.specs.SlotRows.{looked}
-use Rattle.slot_steps.specs.sock_model.specs.Weights.{is_busy, is_hold, is_failer}
-use Rattle.slot_steps.specs.sock_model.specs.Entries.{on}
-use Rattle.slot_steps.specs.sock_model.specs.Chains.{Chains}
-use Rattle.slot_steps.specs.sock_model.specs.Writing.{InStage}
-use Rattle.slot_steps.specs.sock_model.specs.Tokens.{Tokens}
-use Rattle.slot_steps.specs.sock_model.specs.Messages.{Messages}
-use Rattle.slot_steps.specs.sock_model.specs.Reads.{letter_of, took_of, as_link, shown, memory, message, link_at, link_home, tokens}
-use Rattle.slot_steps.specs.sock_model.specs.ChainRows.{with_right, put_right}
-use Rattle.slot_steps.specs.sock_model.specs.Conditions.{HasRight}
-use Rattle.slot_steps.specs.sock_model.specs.Links.{HoldsLink, Failed}
-use Rattle.slot_steps.specs.sock_model.specs.Homes.{IsOwn}
-use Rattle.slot_steps.specs.sock_model.specs.Lawful.{Lawful}
+use Rattle.sock_model.specs.declared.chain.Right.{Right}
+use Rattle.sock_model.specs.declared.home.Home.{Home}
+use Rattle.sock_model.specs.declared.home.Home.TheVariants.{Empty, Link, Message}
+use Rattle.sock_model.specs.sock_words.specs.declared.plain.Plan.{Plan}
+use Rattle.sock_model.specs.declared.view.View.{View}
+use Rattle.sock_model.specs.Layout.{place_index, ref_index}
+use Rattle.sock_model.specs.Slots.{version_of, count}
+use Rattle.sock_model.specs.References.{slot_facts}
+use Rattle.sock_model.specs.SlotRows.{looked}
+use Rattle.sock_model.specs.Weights.{is_busy, is_hold, is_failer}
+use Rattle.sock_model.specs.Entries.{on}
+use Rattle.sock_model.specs.Chains.{Chains}
+use Rattle.sock_model.specs.Writing.{InStage}
+use Rattle.sock_model.specs.Tokens.{Tokens}
+use Rattle.sock_model.specs.Messages.{Messages}
+use Rattle.sock_model.specs.Reads.{letter_of, took_of, as_link, shown, memory, message, link_at, link_home, tokens}
+use Rattle.sock_model.specs.ChainRows.{with_right, put_right}
+use Rattle.sock_model.specs.Conditions.{HasRight}
+use Rattle.sock_model.specs.Links.{HoldsLink, Failed}
+use Rattle.sock_model.specs.Homes.{IsOwn}
+use Rattle.sock_model.specs.Lawful.{Lawful}
 use Rattle.slot_steps.proofs.Numbers.{life_is, live_le}
 use Rattle.chain_steps.proofs.Lists.{at_length}
 use Rattle.chain_steps.proofs.Frames.{Changed, Same, one_token, from_same}

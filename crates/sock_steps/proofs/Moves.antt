@@ -3,15 +3,15 @@ use Rattle.std.proofs.Common.{◌≡◌, ℕ, ◌+◌, ◌<◌, true, false, Lis
 use mathlib.Core.Option.{none, some}
 use lib.ListN.{get_elem?}
 use Rattle.atomic_table.specs.Table.{State}
-use Rattle.slot_steps.specs.sock_words.specs.declared.plain.Plan.{Plan}
-use Rattle.slot_steps.specs.sock_model.specs.declared.chain.Heading.{Heading}
-use Rattle.slot_steps.specs.sock_model.specs.declared.home.Home.{Home}
-use Rattle.slot_steps.specs.sock_model.specs.declared.home.Home.TheVariants.{Link, Message}
-use Rattle.slot_steps.specs.sock_model.specs.declared.view.View.{View}
-use Rattle.slot_steps.specs.sock_model.specs.Entries.{slot_of}
-use Rattle.slot_steps.specs.sock_model.specs.ChainRows.{with_claim, filled_claim, with_right, taken_right}
-use Rattle.slot_steps.specs.sock_model.specs.Conditions.{HasClaim, HasRight, MayTake}
-use Rattle.slot_steps.specs.sock_model.specs.Lawful.{Lawful}
+use Rattle.sock_model.specs.sock_words.specs.declared.plain.Plan.{Plan}
+use Rattle.sock_model.specs.declared.chain.Heading.{Heading}
+use Rattle.sock_model.specs.declared.home.Home.{Home}
+use Rattle.sock_model.specs.declared.home.Home.TheVariants.{Link, Message}
+use Rattle.sock_model.specs.declared.view.View.{View}
+use Rattle.sock_model.specs.Entries.{slot_of}
+use Rattle.sock_model.specs.ChainRows.{with_claim, filled_claim, with_right, taken_right}
+use Rattle.sock_model.specs.Conditions.{HasClaim, HasRight, MayTake}
+use Rattle.sock_model.specs.Lawful.{Lawful}
 use Rattle.chain_steps.proofs.Lists.{at_length}
 use Rattle.sock_steps.proofs.ClaimSteps.{filling_law}
 use Rattle.sock_steps.proofs.WriteSteps.{taking_law}

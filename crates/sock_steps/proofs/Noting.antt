@@ -4,13 +4,13 @@ use mathlib.Core.Option.{Option, some, some-injective}
 use lib.ListN.{get_elem?}
 use lib.Seq.{set-get_or}
 use Rattle.atomic_table.specs.Table.{State, stepped, keeps}
-use Rattle.slot_steps.specs.sock_words.specs.declared.plain.Plan.{Plan}
-use Rattle.slot_steps.specs.sock_model.specs.declared.home.Home.{Home}
-use Rattle.slot_steps.specs.sock_model.specs.declared.view.View.{View}
-use Rattle.slot_steps.specs.sock_model.specs.Layout.{request_index}
-use Rattle.slot_steps.specs.sock_model.specs.Reads.{claims_of, loose_at, tokens, message}
-use Rattle.slot_steps.specs.sock_model.specs.Lawful.{Lawful}
-use Rattle.slot_steps.specs.sock_model.specs.Rule.{Lasting, of_request, FoundWords, noting, Rule}
+use Rattle.sock_model.specs.sock_words.specs.declared.plain.Plan.{Plan}
+use Rattle.sock_model.specs.declared.home.Home.{Home}
+use Rattle.sock_model.specs.declared.view.View.{View}
+use Rattle.sock_model.specs.Layout.{request_index}
+use Rattle.sock_model.specs.Reads.{claims_of, loose_at, tokens, message}
+use Rattle.sock_model.specs.Lawful.{Lawful}
+use Rattle.sock_model.specs.Rule.{Lasting, of_request, FoundWords, noting, Rule}
 use Rattle.chain_steps.proofs.Bits.{or_one_odd}
 use Rattle.chain_steps.proofs.Frames.{chains_frame}
 use Rattle.chain_steps.proofs.Gather.{gather_same}

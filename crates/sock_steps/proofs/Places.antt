@@ -7,18 +7,18 @@ use lib.ListN.{get_elem?}
 use lib.Seq.{map-set}
 use Rattle.atomic_table.specs.Table.{State}
 use Rattle.atomic_table.proofs.Lists.{at_map}
-use Rattle.slot_steps.specs.sock_model.specs.declared.marks.Mark.{Mark}
-use Rattle.slot_steps.specs.sock_model.specs.declared.marks.Mark.TheVariants.{Claimed, Linked}
-use Rattle.slot_steps.specs.sock_model.specs.declared.marks.SlotMark.{SlotMark}
-use Rattle.slot_steps.specs.sock_words.specs.declared.plain.Plan.{Plan}
-use Rattle.slot_steps.specs.sock_model.specs.declared.view.View.{View}
-use Rattle.slot_steps.specs.sock_model.specs.Weights.{total, tally, is_waiting, only, pair, uses, is_stage, is_busy, is_ref, is_hold, is_failer, is_freer, is_linked, is_met}
-use Rattle.slot_steps.specs.sock_model.specs.Marks.{about}
-use Rattle.slot_steps.specs.sock_model.specs.Slots.{SlotFacts, count}
-use Rattle.slot_steps.specs.sock_model.specs.References.{uses_of, uses_link, slot_facts, References}
-use Rattle.slot_steps.specs.sock_model.specs.SlotRows.{marks_of}
-use Rattle.slot_steps.specs.sock_model.specs.Reads.{waits_link, waits_of}
-use Rattle.slot_steps.specs.sock_model.specs.Links.{HoldsLink, Given, Lives, Failed}
+use Rattle.sock_model.specs.declared.marks.Mark.{Mark}
+use Rattle.sock_model.specs.declared.marks.Mark.TheVariants.{Claimed, Linked}
+use Rattle.sock_model.specs.declared.marks.SlotMark.{SlotMark}
+use Rattle.sock_model.specs.sock_words.specs.declared.plain.Plan.{Plan}
+use Rattle.sock_model.specs.declared.view.View.{View}
+use Rattle.sock_model.specs.Weights.{total, tally, is_waiting, only, pair, uses, is_stage, is_busy, is_ref, is_hold, is_failer, is_freer, is_linked, is_met}
+use Rattle.sock_model.specs.Marks.{about}
+use Rattle.sock_model.specs.Slots.{SlotFacts, count}
+use Rattle.sock_model.specs.References.{uses_of, uses_link, slot_facts, References}
+use Rattle.sock_model.specs.SlotRows.{marks_of}
+use Rattle.sock_model.specs.Reads.{waits_link, waits_of}
+use Rattle.sock_model.specs.Links.{HoldsLink, Given, Lives, Failed}
 use Rattle.slot_steps.proofs.Sums.{total-set, term_le, total_mono}
 use Rattle.slot_steps.proofs.Slots.{hold_ref}
 use Rattle.slot_steps.proofs.Numbers.{only-at, pair_is, pair_le, life-in, life-high, live-busy, live_le}

@@ -5,17 +5,17 @@ use mathlib.Core.Option.{some, some-injective, some-ne-none}
 use native.Mathlib.Decide.{ℕ_discrete}
 use lib.ListN.{get_elem?}
 use Rattle.atomic_table.specs.Table.{State}
-use Rattle.slot_steps.specs.sock_words.specs.declared.plain.Plan.{Plan}
-use Rattle.slot_steps.specs.sock_model.specs.declared.chain.Entry.{Entry}
-use Rattle.slot_steps.specs.sock_model.specs.declared.home.Home.{Home}
-use Rattle.slot_steps.specs.sock_model.specs.declared.view.View.{View}
-use Rattle.slot_steps.specs.sock_model.specs.Weights.{total, only}
-use Rattle.slot_steps.specs.sock_model.specs.Entries.{on, uses, count_up}
-use Rattle.slot_steps.specs.sock_model.specs.Layout.{request_index}
-use Rattle.slot_steps.specs.sock_model.specs.Reads.{tokens}
-use Rattle.slot_steps.specs.sock_model.specs.Requests.{free_phase, claimed_phase, used_phase, retired_phase}
-use Rattle.slot_steps.specs.sock_model.specs.Authors.{pick, Authored}
-use Rattle.slot_steps.specs.sock_model.specs.Rule.{MOST_ACCEPTED, AreShort, lists_of, Rule}
+use Rattle.sock_model.specs.sock_words.specs.declared.plain.Plan.{Plan}
+use Rattle.sock_model.specs.declared.chain.Entry.{Entry}
+use Rattle.sock_model.specs.declared.home.Home.{Home}
+use Rattle.sock_model.specs.declared.view.View.{View}
+use Rattle.sock_model.specs.Weights.{total, only}
+use Rattle.sock_model.specs.Entries.{on, uses, count_up}
+use Rattle.sock_model.specs.Layout.{request_index}
+use Rattle.sock_model.specs.Reads.{tokens}
+use Rattle.sock_model.specs.Requests.{free_phase, claimed_phase, used_phase, retired_phase}
+use Rattle.sock_model.specs.Authors.{pick, Authored}
+use Rattle.sock_model.specs.Rule.{MOST_ACCEPTED, AreShort, lists_of, Rule}
 use Rattle.slot_steps.proofs.Sums.{term_le, total_bound, total_parts}
 use Rattle.slot_steps.proofs.Numbers.{only-at, only-else}
 use Rattle.std.proofs.lemmas.List.{length-map}

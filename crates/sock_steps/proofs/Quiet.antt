@@ -2,12 +2,12 @@
 use Rattle.std.proofs.Common.{◌≡◌, ℕ, ◌<◌, ◌≤◌, Bool, true, false, List, [], ◌∷◌, refl, sym, ap, ◌∙◌, arith, cond, eq-eqb, ne_eqb}
 use mathlib.Core.Logic.{dite}
 use native.Mathlib.Decide.{ℕ_discrete}
-use Rattle.slot_steps.specs.sock_model.specs.declared.marks.Mark.{Mark}
-use Rattle.slot_steps.specs.sock_model.specs.declared.marks.Mark.TheVariants.{Recycling, Hold, Probe, Zero, Coding, Tried, Known, Saw, Stored, Told, Met}
-use Rattle.slot_steps.specs.sock_model.specs.declared.marks.SlotMark.{SlotMark}
-use Rattle.slot_steps.specs.sock_model.specs.Weights.{total, is_failer, is_freer, is_linked, is_reset}
-use Rattle.slot_steps.specs.sock_model.specs.Marks.{about, at, without, without_at}
-use Rattle.slot_steps.specs.sock_model.specs.Reads.{waits_link}
+use Rattle.sock_model.specs.declared.marks.Mark.{Mark}
+use Rattle.sock_model.specs.declared.marks.Mark.TheVariants.{Recycling, Hold, Probe, Zero, Coding, Tried, Known, Saw, Stored, Told, Met}
+use Rattle.sock_model.specs.declared.marks.SlotMark.{SlotMark}
+use Rattle.sock_model.specs.Weights.{total, is_failer, is_freer, is_linked, is_reset}
+use Rattle.sock_model.specs.Marks.{about, at, without, without_at}
+use Rattle.sock_model.specs.Reads.{waits_link}
 use Rattle.slot_steps.proofs.Sums.{about-here, about-other}
 use Rattle.slot_steps.proofs.Frame.{about-without, about-without_else}
 

@@ -9,30 +9,30 @@ use lib.ListN.{get_elem?}
 use lib.Seq.{map-set}
 use Rattle.atomic_table.specs.Table.{State}
 use Rattle.atomic_table.proofs.Lists.{at_set, at_map, at_snoc, set_again}
-use Rattle.slot_steps.specs.sock_model.specs.declared.marks.Mark.{Mark}
-use Rattle.slot_steps.specs.sock_model.specs.declared.chain.Entry.{Entry}
-use Rattle.slot_steps.specs.sock_model.specs.declared.chain.Right.{Right}
-use Rattle.slot_steps.specs.sock_model.specs.declared.chain.Claim.{Claim}
-use Rattle.slot_steps.specs.sock_model.specs.declared.chain.Loose.{Loose}
-use Rattle.slot_steps.specs.sock_model.specs.declared.home.Home.{Home}
-use Rattle.slot_steps.specs.sock_model.specs.declared.home.Home.TheVariants.{Link}
-use Rattle.slot_steps.specs.sock_words.specs.declared.plain.Plan.{Plan}
-use Rattle.slot_steps.specs.sock_model.specs.declared.view.View.{View}
-use Rattle.slot_steps.specs.sock_model.specs.declared.view.Hand.{Hand}
-use Rattle.slot_steps.specs.sock_model.specs.Weights.{total, tally, only, is_ref, is_reset, is_linked, is_freer, is_failer, is_hold, is_met, is_recycled}
-use Rattle.slot_steps.specs.sock_model.specs.Marks.{about}
-use Rattle.slot_steps.specs.sock_model.specs.Layout.{request_index, place_index}
-use Rattle.slot_steps.specs.sock_model.specs.References.{References}
-use Rattle.slot_steps.specs.sock_model.specs.Seats.{newcomer, spent, joined, IsBare, Unused, below, first_view}
-use Rattle.slot_steps.specs.sock_model.specs.SlotRows.{marks_of}
-use Rattle.slot_steps.specs.sock_model.specs.Entries.{on}
-use Rattle.slot_steps.specs.sock_model.specs.Authors.{Authored}
-use Rattle.slot_steps.specs.sock_model.specs.Deliveries.{HasTaken, no_place}
-use Rattle.slot_steps.specs.sock_model.specs.Fifo.{IsFifo}
-use Rattle.slot_steps.specs.sock_model.specs.Reads.{took_of, memory, message, link_at, link_home, rights_on, claims_of, loose_at, tokens, waits_link, waits_of, carries, hands_of}
-use Rattle.slot_steps.specs.sock_model.specs.Links.{HoldsRights, Given, Failed}
-use Rattle.slot_steps.specs.sock_model.specs.Homes.{Unborn, Recycles}
-use Rattle.slot_steps.specs.sock_model.specs.Lawful.{PlanFits, Lawful}
+use Rattle.sock_model.specs.declared.marks.Mark.{Mark}
+use Rattle.sock_model.specs.declared.chain.Entry.{Entry}
+use Rattle.sock_model.specs.declared.chain.Right.{Right}
+use Rattle.sock_model.specs.declared.chain.Claim.{Claim}
+use Rattle.sock_model.specs.declared.chain.Loose.{Loose}
+use Rattle.sock_model.specs.declared.home.Home.{Home}
+use Rattle.sock_model.specs.declared.home.Home.TheVariants.{Link}
+use Rattle.sock_model.specs.sock_words.specs.declared.plain.Plan.{Plan}
+use Rattle.sock_model.specs.declared.view.View.{View}
+use Rattle.sock_model.specs.declared.view.Hand.{Hand}
+use Rattle.sock_model.specs.Weights.{total, tally, only, is_ref, is_reset, is_linked, is_freer, is_failer, is_hold, is_met, is_recycled}
+use Rattle.sock_model.specs.Marks.{about}
+use Rattle.sock_model.specs.Layout.{request_index, place_index}
+use Rattle.sock_model.specs.References.{References}
+use Rattle.sock_model.specs.Seats.{newcomer, spent, joined, IsBare, Unused, below, first_view}
+use Rattle.sock_model.specs.SlotRows.{marks_of}
+use Rattle.sock_model.specs.Entries.{on}
+use Rattle.sock_model.specs.Authors.{Authored}
+use Rattle.sock_model.specs.Deliveries.{HasTaken, no_place}
+use Rattle.sock_model.specs.Fifo.{IsFifo}
+use Rattle.sock_model.specs.Reads.{took_of, memory, message, link_at, link_home, rights_on, claims_of, loose_at, tokens, waits_link, waits_of, carries, hands_of}
+use Rattle.sock_model.specs.Links.{HoldsRights, Given, Failed}
+use Rattle.sock_model.specs.Homes.{Unborn, Recycles}
+use Rattle.sock_model.specs.Lawful.{PlanFits, Lawful}
 use Rattle.slot_steps.proofs.Sums.{total-append, total-set}
 use Rattle.slot_steps.proofs.Seats.{about-append, opening_keeps, split_keeps, join_keeps, below-once}
 use Rattle.chain_steps.proofs.Lists.{Distinct}

@@ -4,18 +4,18 @@ use Rattle.std.specs.List.{filter}
 use mathlib.Core.Option.{some}
 use lib.ListN.{get_elem?}
 use Rattle.atomic_table.specs.Table.{State}
-use Rattle.slot_steps.specs.sock_words.specs.declared.plain.Plan.{Plan}
-use Rattle.slot_steps.specs.sock_model.specs.declared.chain.Right.{Right}
-use Rattle.slot_steps.specs.sock_model.specs.declared.chain.Stage.TheVariants.{Placed}
-use Rattle.slot_steps.specs.sock_model.specs.declared.home.Home.{Home}
-use Rattle.slot_steps.specs.sock_model.specs.declared.view.View.{View}
-use Rattle.slot_steps.specs.sock_model.specs.Layout.{next_index, place_index}
-use Rattle.slot_steps.specs.sock_model.specs.Entries.{slot_of, generation_of}
-use Rattle.slot_steps.specs.sock_model.specs.Deliveries.{place_value}
-use Rattle.slot_steps.specs.sock_model.specs.Links.{Failed}
-use Rattle.slot_steps.specs.sock_model.specs.ChainRows.{with_right, passing_right, placed_right, dropped_right, freed_right}
-use Rattle.slot_steps.specs.sock_model.specs.Conditions.{HasRight, MayPlace, MayDrop}
-use Rattle.slot_steps.specs.sock_model.specs.Lawful.{Lawful}
+use Rattle.sock_model.specs.sock_words.specs.declared.plain.Plan.{Plan}
+use Rattle.sock_model.specs.declared.chain.Right.{Right}
+use Rattle.sock_model.specs.declared.chain.Stage.TheVariants.{Placed}
+use Rattle.sock_model.specs.declared.home.Home.{Home}
+use Rattle.sock_model.specs.declared.view.View.{View}
+use Rattle.sock_model.specs.Layout.{next_index, place_index}
+use Rattle.sock_model.specs.Entries.{slot_of, generation_of}
+use Rattle.sock_model.specs.Deliveries.{place_value}
+use Rattle.sock_model.specs.Links.{Failed}
+use Rattle.sock_model.specs.ChainRows.{with_right, passing_right, placed_right, dropped_right, freed_right}
+use Rattle.sock_model.specs.Conditions.{HasRight, MayPlace, MayDrop}
+use Rattle.sock_model.specs.Lawful.{Lawful}
 use Rattle.chain_steps.proofs.Lists.{at_length}
 use Rattle.chain_steps.proofs.Frees.{Leads, to_end, to_next}
 use Rattle.sock_steps.proofs.Maps.{set_at, set_twice}

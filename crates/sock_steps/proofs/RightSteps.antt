@@ -6,22 +6,22 @@ use mathlib.Core.Option.{Option, none, some, some-injective, some-ne-none}
 use native.Mathlib.Decide.{ℕ_discrete}
 use lib.ListN.{get_elem?}
 use Rattle.atomic_table.specs.Table.{State}
-use Rattle.slot_steps.specs.sock_model.specs.declared.chain.Right.{Right}
-use Rattle.slot_steps.specs.sock_model.specs.declared.chain.Stage.TheVariants.{Writes}
-use Rattle.slot_steps.specs.sock_words.specs.declared.plain.Plan.{Plan}
-use Rattle.slot_steps.specs.sock_model.specs.declared.view.View.{View}
-use Rattle.slot_steps.specs.sock_model.specs.declared.home.Home.{Home}
-use Rattle.slot_steps.specs.sock_model.specs.Weights.{total}
-use Rattle.slot_steps.specs.sock_model.specs.Entries.{ticket}
-use Rattle.slot_steps.specs.sock_model.specs.Layout.{place_index}
-use Rattle.slot_steps.specs.sock_model.specs.Chains.{Chains}
-use Rattle.slot_steps.specs.sock_model.specs.Messages.{Messages}
-use Rattle.slot_steps.specs.sock_model.specs.Deliveries.{Delivered}
-use Rattle.slot_steps.specs.sock_model.specs.ChainRows.{with_right, without_right}
-use Rattle.slot_steps.specs.sock_model.specs.Reads.{took_of, waits_of, memory, message, link_at, link_home, rights_on, claims_of, loose_at, tokens}
-use Rattle.slot_steps.specs.sock_model.specs.Links.{HoldsLink, HoldsRights, Failed}
-use Rattle.slot_steps.specs.sock_model.specs.Homes.{IsOwn}
-use Rattle.slot_steps.specs.sock_model.specs.Lawful.{Lawful}
+use Rattle.sock_model.specs.declared.chain.Right.{Right}
+use Rattle.sock_model.specs.declared.chain.Stage.TheVariants.{Writes}
+use Rattle.sock_model.specs.sock_words.specs.declared.plain.Plan.{Plan}
+use Rattle.sock_model.specs.declared.view.View.{View}
+use Rattle.sock_model.specs.declared.home.Home.{Home}
+use Rattle.sock_model.specs.Weights.{total}
+use Rattle.sock_model.specs.Entries.{ticket}
+use Rattle.sock_model.specs.Layout.{place_index}
+use Rattle.sock_model.specs.Chains.{Chains}
+use Rattle.sock_model.specs.Messages.{Messages}
+use Rattle.sock_model.specs.Deliveries.{Delivered}
+use Rattle.sock_model.specs.ChainRows.{with_right, without_right}
+use Rattle.sock_model.specs.Reads.{took_of, waits_of, memory, message, link_at, link_home, rights_on, claims_of, loose_at, tokens}
+use Rattle.sock_model.specs.Links.{HoldsLink, HoldsRights, Failed}
+use Rattle.sock_model.specs.Homes.{IsOwn}
+use Rattle.sock_model.specs.Lawful.{Lawful}
 use Rattle.chain_steps.proofs.Lists.{at_length, filter_in, filter_at}
 use Rattle.chain_steps.proofs.Frames.{Same, Changed, one_token, no_token}
 use Rattle.chain_steps.proofs.Gather.{gather_all, gather_own, gather_same, nil_of}

@@ -3,20 +3,20 @@ use Rattle.std.proofs.Common.{◌≡◌, ℕ, ◌+◌, ◌-◌, ◌*◌, ◌<◌
 use mathlib.Core.Option.{Option, some}
 use lib.ListN.{get_elem?}
 use Rattle.atomic_table.specs.Table.{State}
-use Rattle.slot_steps.specs.sock_words.specs.declared.plain.Plan.{Plan}
-use Rattle.slot_steps.specs.sock_model.specs.declared.chain.Claim.{Claim}
-use Rattle.slot_steps.specs.sock_model.specs.declared.chain.Loose.{Loose}
-use Rattle.slot_steps.specs.sock_model.specs.declared.chain.Right.{Right}
-use Rattle.slot_steps.specs.sock_model.specs.declared.chain.Stage.{Stage}
-use Rattle.slot_steps.specs.sock_model.specs.declared.home.Home.{Home}
-use Rattle.slot_steps.specs.sock_model.specs.declared.view.View.{View}
-use Rattle.slot_steps.specs.sock_model.specs.Layout.{head_index, request_index, next_index, place_index}
-use Rattle.slot_steps.specs.sock_model.specs.Entries.{slot_of, generation_of}
-use Rattle.slot_steps.specs.sock_model.specs.Memory.{IDLE}
-use Rattle.slot_steps.specs.sock_model.specs.ChainRows.{with_claim, without_loose, with_right, without_right, turned_right, entry_of, queued, righted}
-use Rattle.slot_steps.specs.sock_model.specs.Conditions.{MayExchange, MayEmpty, MayTurn}
-use Rattle.slot_steps.specs.sock_model.specs.Lawful.{Lawful}
-use Rattle.slot_steps.specs.sock_model.specs.Rule.{MOST_ACCEPTED, Lasting, Rule}
+use Rattle.sock_model.specs.sock_words.specs.declared.plain.Plan.{Plan}
+use Rattle.sock_model.specs.declared.chain.Claim.{Claim}
+use Rattle.sock_model.specs.declared.chain.Loose.{Loose}
+use Rattle.sock_model.specs.declared.chain.Right.{Right}
+use Rattle.sock_model.specs.declared.chain.Stage.{Stage}
+use Rattle.sock_model.specs.declared.home.Home.{Home}
+use Rattle.sock_model.specs.declared.view.View.{View}
+use Rattle.sock_model.specs.Layout.{head_index, request_index, next_index, place_index}
+use Rattle.sock_model.specs.Entries.{slot_of, generation_of}
+use Rattle.sock_model.specs.Memory.{IDLE}
+use Rattle.sock_model.specs.ChainRows.{with_claim, without_loose, with_right, without_right, turned_right, entry_of, queued, righted}
+use Rattle.sock_model.specs.Conditions.{MayExchange, MayEmpty, MayTurn}
+use Rattle.sock_model.specs.Lawful.{Lawful}
+use Rattle.sock_model.specs.Rule.{MOST_ACCEPTED, Lasting, Rule}
 use Rattle.chain_steps.proofs.Frees.{Leads}
 use Rattle.sock_steps.proofs.AcceptSteps.{queued_law, righted_law}
 use Rattle.sock_steps.proofs.ClaimSteps.{claiming_law, connecting_law}

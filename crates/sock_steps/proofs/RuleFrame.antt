@@ -6,15 +6,15 @@ use native.Mathlib.Decide.{ℕ_discrete}
 use lib.ListN.{get_elem?}
 use Rattle.atomic_table.specs.Table.{State}
 use Rattle.atomic_table.proofs.Lists.{at_set}
-use Rattle.slot_steps.specs.sock_words.specs.declared.plain.Plan.{Plan}
-use Rattle.slot_steps.specs.sock_model.specs.declared.chain.Entry.{Entry}
-use Rattle.slot_steps.specs.sock_model.specs.declared.home.Home.{Home}
-use Rattle.slot_steps.specs.sock_model.specs.declared.view.View.{View}
-use Rattle.slot_steps.specs.sock_model.specs.Layout.{all_words}
-use Rattle.slot_steps.specs.sock_model.specs.ChainRows.{more}
-use Rattle.slot_steps.specs.sock_model.specs.Seats.{spent}
-use Rattle.slot_steps.specs.sock_model.specs.Lawful.{Lawful}
-use Rattle.slot_steps.specs.sock_model.specs.Rule.{Lasting, of_name, of_open, of_request, FoundWords, MOST_ACCEPTED, AreShort, lists_of, Rule}
+use Rattle.sock_model.specs.sock_words.specs.declared.plain.Plan.{Plan}
+use Rattle.sock_model.specs.declared.chain.Entry.{Entry}
+use Rattle.sock_model.specs.declared.home.Home.{Home}
+use Rattle.sock_model.specs.declared.view.View.{View}
+use Rattle.sock_model.specs.Layout.{all_words}
+use Rattle.sock_model.specs.ChainRows.{more}
+use Rattle.sock_model.specs.Seats.{spent}
+use Rattle.sock_model.specs.Lawful.{Lawful}
+use Rattle.sock_model.specs.Rule.{Lasting, of_name, of_open, of_request, FoundWords, MOST_ACCEPTED, AreShort, lists_of, Rule}
 use Rattle.slot_steps.proofs.Sums.{total-set}
 
 -- where the words stand that last

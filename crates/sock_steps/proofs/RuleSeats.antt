@@ -4,15 +4,15 @@ use mathlib.Core.Option.{Option, some, some-injective, some-ne-none}
 use lib.ListN.{get_elem?}
 use Rattle.atomic_table.specs.Table.{State}
 use Rattle.atomic_table.proofs.Lists.{at_set, at_snoc}
-use Rattle.slot_steps.specs.sock_words.specs.declared.plain.Plan.{Plan}
-use Rattle.slot_steps.specs.sock_model.specs.declared.chain.Entry.{Entry}
-use Rattle.slot_steps.specs.sock_model.specs.declared.home.Home.{Home}
-use Rattle.slot_steps.specs.sock_model.specs.declared.view.View.{View}
-use Rattle.slot_steps.specs.sock_model.specs.Weights.{total, only, is_ref}
-use Rattle.slot_steps.specs.sock_model.specs.Marks.{about}
-use Rattle.slot_steps.specs.sock_model.specs.Seats.{newcomer, spent, joined, IsBare, first_view}
-use Rattle.slot_steps.specs.sock_model.specs.Lawful.{Lawful}
-use Rattle.slot_steps.specs.sock_model.specs.Rule.{FoundWords, MOST_ACCEPTED, AreShort, lists_of, Rule}
+use Rattle.sock_model.specs.sock_words.specs.declared.plain.Plan.{Plan}
+use Rattle.sock_model.specs.declared.chain.Entry.{Entry}
+use Rattle.sock_model.specs.declared.home.Home.{Home}
+use Rattle.sock_model.specs.declared.view.View.{View}
+use Rattle.sock_model.specs.Weights.{total, only, is_ref}
+use Rattle.sock_model.specs.Marks.{about}
+use Rattle.sock_model.specs.Seats.{newcomer, spent, joined, IsBare, first_view}
+use Rattle.sock_model.specs.Lawful.{Lawful}
+use Rattle.sock_model.specs.Rule.{FoundWords, MOST_ACCEPTED, AreShort, lists_of, Rule}
 use Rattle.slot_steps.proofs.Sums.{total-set, total-append, total_bound}
 use Rattle.sock_steps.proofs.Reseat.{splitting_law, joining_law}
 

@@ -4,19 +4,19 @@ use mathlib.Core.Option.{Option, some}
 use lib.ListN.{get_elem?}
 use lib.Seq.{set-get_or}
 use Rattle.atomic_table.specs.Table.{State, stepped, keeps}
-use Rattle.slot_steps.specs.sock_words.specs.declared.plain.Plan.{Plan}
-use Rattle.slot_steps.specs.sock_model.specs.declared.home.Home.{Home}
-use Rattle.slot_steps.specs.sock_model.specs.declared.view.View.{View}
-use Rattle.slot_steps.specs.sock_model.specs.declared.view.Hand.{Hand}
-use Rattle.slot_steps.specs.sock_model.specs.Weights.{total, only, is_ref, is_any_coding, is_stage, is_recycled, is_hold, is_known, is_zero, is_coding, is_born}
-use Rattle.slot_steps.specs.sock_model.specs.Layout.{tag_index, ref_index, link_index, head_index, code_index, name_index, open_index}
-use Rattle.slot_steps.specs.sock_model.specs.Slots.{version_of, nref_of, count}
-use Rattle.slot_steps.specs.sock_model.specs.References.{slot_facts}
-use Rattle.slot_steps.specs.sock_model.specs.SlotRows.{marks_of, claimed, gave_birth, added, back, subbed, failed, recycled, freed, looked, linked, staged, coded, told_code, met, wrote, met_link}
-use Rattle.slot_steps.specs.sock_model.specs.ChainRows.{with_hand, without_hand, spent_hand}
-use Rattle.slot_steps.specs.sock_model.specs.Memory.{IDLE}
-use Rattle.slot_steps.specs.sock_model.specs.Lawful.{Lawful}
-use Rattle.slot_steps.specs.sock_model.specs.Rule.{Lasting, of_name, of_open, noting, Rule}
+use Rattle.sock_model.specs.sock_words.specs.declared.plain.Plan.{Plan}
+use Rattle.sock_model.specs.declared.home.Home.{Home}
+use Rattle.sock_model.specs.declared.view.View.{View}
+use Rattle.sock_model.specs.declared.view.Hand.{Hand}
+use Rattle.sock_model.specs.Weights.{total, only, is_ref, is_any_coding, is_stage, is_recycled, is_hold, is_known, is_zero, is_coding, is_born}
+use Rattle.sock_model.specs.Layout.{tag_index, ref_index, link_index, head_index, code_index, name_index, open_index}
+use Rattle.sock_model.specs.Slots.{version_of, nref_of, count}
+use Rattle.sock_model.specs.References.{slot_facts}
+use Rattle.sock_model.specs.SlotRows.{marks_of, claimed, gave_birth, added, back, subbed, failed, recycled, freed, looked, linked, staged, coded, told_code, met, wrote, met_link}
+use Rattle.sock_model.specs.ChainRows.{with_hand, without_hand, spent_hand}
+use Rattle.sock_model.specs.Memory.{IDLE}
+use Rattle.sock_model.specs.Lawful.{Lawful}
+use Rattle.sock_model.specs.Rule.{Lasting, of_name, of_open, noting, Rule}
 use Rattle.sock_steps.proofs.SlotSteps.{KeepsRights, claim_law, add_law, sub_law, set_odd_law, recycle_lost_law, look_law, free_law, link_law, meet_law, meet_last_law, wipe_law, code_law, found_code_law, find_law, store_name_law, store_open_law}
 use Rattle.sock_steps.proofs.Birth.{reset_law, birth_law}
 use Rattle.sock_steps.proofs.End.{recycle_law}

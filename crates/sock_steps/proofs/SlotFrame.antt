@@ -4,25 +4,25 @@ use mathlib.Core.Option.{Option, some, none}
 use lib.ListN.{get_elem?}
 use Rattle.atomic_table.specs.Table.{State}
 use Rattle.atomic_table.proofs.Lists.{at_set}
-use Rattle.slot_steps.specs.sock_model.specs.declared.home.Home.{Home}
-use Rattle.slot_steps.specs.sock_words.specs.declared.plain.Plan.{Plan}
-use Rattle.slot_steps.specs.sock_model.specs.declared.view.View.{View}
-use Rattle.slot_steps.specs.sock_model.specs.Weights.{total, is_reset, is_recycled, is_hold, is_met}
-use Rattle.slot_steps.specs.sock_model.specs.Layout.{head_index, request_index, next_index, place_index}
-use Rattle.slot_steps.specs.sock_model.specs.Slots.{count}
-use Rattle.slot_steps.specs.sock_model.specs.References.{slot_facts, References}
-use Rattle.slot_steps.specs.sock_model.specs.SlotRows.{marks_of}
-use Rattle.slot_steps.specs.sock_model.specs.Memory.{IDLE}
-use Rattle.slot_steps.specs.sock_model.specs.Reads.{head_at, memory, rights_on, claims_of, loose_at, tokens, link_home, message, waits_of, hands_of}
-use Rattle.slot_steps.specs.sock_model.specs.declared.view.Hand.{Hand}
-use Rattle.slot_steps.specs.sock_model.specs.Entries.{on}
-use Rattle.slot_steps.specs.sock_model.specs.Chains.{Chains}
-use Rattle.slot_steps.specs.sock_model.specs.Authors.{Authored}
-use Rattle.slot_steps.specs.sock_model.specs.Messages.{Messages}
-use Rattle.slot_steps.specs.sock_model.specs.Deliveries.{HasTaken, Delivered}
-use Rattle.slot_steps.specs.sock_model.specs.Links.{HoldsRights, Failed, InSlots}
-use Rattle.slot_steps.specs.sock_model.specs.Homes.{Unborn, Recycles, LinkHomes}
-use Rattle.slot_steps.specs.sock_model.specs.Lawful.{Lawful}
+use Rattle.sock_model.specs.declared.home.Home.{Home}
+use Rattle.sock_model.specs.sock_words.specs.declared.plain.Plan.{Plan}
+use Rattle.sock_model.specs.declared.view.View.{View}
+use Rattle.sock_model.specs.Weights.{total, is_reset, is_recycled, is_hold, is_met}
+use Rattle.sock_model.specs.Layout.{head_index, request_index, next_index, place_index}
+use Rattle.sock_model.specs.Slots.{count}
+use Rattle.sock_model.specs.References.{slot_facts, References}
+use Rattle.sock_model.specs.SlotRows.{marks_of}
+use Rattle.sock_model.specs.Memory.{IDLE}
+use Rattle.sock_model.specs.Reads.{head_at, memory, rights_on, claims_of, loose_at, tokens, link_home, message, waits_of, hands_of}
+use Rattle.sock_model.specs.declared.view.Hand.{Hand}
+use Rattle.sock_model.specs.Entries.{on}
+use Rattle.sock_model.specs.Chains.{Chains}
+use Rattle.sock_model.specs.Authors.{Authored}
+use Rattle.sock_model.specs.Messages.{Messages}
+use Rattle.sock_model.specs.Deliveries.{HasTaken, Delivered}
+use Rattle.sock_model.specs.Links.{HoldsRights, Failed, InSlots}
+use Rattle.sock_model.specs.Homes.{Unborn, Recycles, LinkHomes}
+use Rattle.sock_model.specs.Lawful.{Lawful}
 use Rattle.slot_steps.proofs.Sums.{total-set}
 use Rattle.chain_steps.proofs.Frames.{chains_frame}
 use Rattle.chain_steps.proofs.Gather.{gather_same}

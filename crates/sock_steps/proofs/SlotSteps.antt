@@ -7,23 +7,23 @@ use lib.ListN.{get_elem?}
 use lib.Seq.{set-get_or}
 use Rattle.atomic_table.proofs.Lists.{set_again}
 use Rattle.atomic_table.specs.Table.{State, stepped, keeps}
-use Rattle.slot_steps.specs.sock_model.specs.declared.marks.Mark.{Mark}
-use Rattle.slot_steps.specs.sock_model.specs.declared.marks.Mark.TheVariants.{Hold, Zero}
-use Rattle.slot_steps.specs.sock_model.specs.declared.marks.SlotMark.{SlotMark}
-use Rattle.slot_steps.specs.sock_model.specs.declared.chain.Right.{Right}
-use Rattle.slot_steps.specs.sock_model.specs.declared.home.Home.{Home}
-use Rattle.slot_steps.specs.sock_words.specs.declared.plain.Plan.{Plan}
-use Rattle.slot_steps.specs.sock_model.specs.declared.view.View.{View}
-use Rattle.slot_steps.specs.sock_model.specs.Weights.{total, only, is_ref, is_probe, is_any_coding, is_stage, is_reset, is_recycled, is_hold, is_known, is_zero, is_coding, is_met, is_born}
-use Rattle.slot_steps.specs.sock_model.specs.Marks.{about, at, without, without_at}
-use Rattle.slot_steps.specs.sock_model.specs.Layout.{tag_index, ref_index, link_index, head_index, code_index, request_index, next_index, place_index, name_index, open_index}
-use Rattle.slot_steps.specs.sock_model.specs.Slots.{version_of, nref_of, count}
-use Rattle.slot_steps.specs.sock_model.specs.References.{slot_facts, References}
-use Rattle.slot_steps.specs.sock_model.specs.SlotRows.{marks_of, claimed, added, back, subbed, failed, recycled, freed, looked, linked, staged, coded, told_code, met, wrote, met_link}
-use Rattle.slot_steps.specs.sock_model.specs.Memory.{IDLE}
-use Rattle.slot_steps.specs.sock_model.specs.Reads.{carries}
-use Rattle.slot_steps.specs.sock_model.specs.Links.{HoldsRights}
-use Rattle.slot_steps.specs.sock_model.specs.Lawful.{Lawful}
+use Rattle.sock_model.specs.declared.marks.Mark.{Mark}
+use Rattle.sock_model.specs.declared.marks.Mark.TheVariants.{Hold, Zero}
+use Rattle.sock_model.specs.declared.marks.SlotMark.{SlotMark}
+use Rattle.sock_model.specs.declared.chain.Right.{Right}
+use Rattle.sock_model.specs.declared.home.Home.{Home}
+use Rattle.sock_model.specs.sock_words.specs.declared.plain.Plan.{Plan}
+use Rattle.sock_model.specs.declared.view.View.{View}
+use Rattle.sock_model.specs.Weights.{total, only, is_ref, is_probe, is_any_coding, is_stage, is_reset, is_recycled, is_hold, is_known, is_zero, is_coding, is_met, is_born}
+use Rattle.sock_model.specs.Marks.{about, at, without, without_at}
+use Rattle.sock_model.specs.Layout.{tag_index, ref_index, link_index, head_index, code_index, request_index, next_index, place_index, name_index, open_index}
+use Rattle.sock_model.specs.Slots.{version_of, nref_of, count}
+use Rattle.sock_model.specs.References.{slot_facts, References}
+use Rattle.sock_model.specs.SlotRows.{marks_of, claimed, added, back, subbed, failed, recycled, freed, looked, linked, staged, coded, told_code, met, wrote, met_link}
+use Rattle.sock_model.specs.Memory.{IDLE}
+use Rattle.sock_model.specs.Reads.{carries}
+use Rattle.sock_model.specs.Links.{HoldsRights}
+use Rattle.sock_model.specs.Lawful.{Lawful}
 use Rattle.slot_steps.proofs.Sums.{taken, about-here}
 use Rattle.slot_steps.proofs.Frame.{about-without}
 use Rattle.slot_steps.proofs.Numbers.{only_le}

@@ -5,20 +5,20 @@ use mathlib.Core.Option.{some}
 use native.Mathlib.Decide.{ℕ_discrete}
 use lib.ListN.{get_elem?}
 use Rattle.atomic_table.specs.Table.{State}
-use Rattle.slot_steps.specs.sock_model.specs.declared.chain.Right.{Right}
-use Rattle.slot_steps.specs.sock_model.specs.declared.chain.Stage.{Stage}
-use Rattle.slot_steps.specs.sock_model.specs.declared.chain.Stage.TheVariants.{Writes, Placed, Passes, Empties, Walks, Turns}
-use Rattle.slot_steps.specs.sock_model.specs.declared.home.Home.{Home}
-use Rattle.slot_steps.specs.sock_words.specs.declared.plain.Plan.{Plan}
-use Rattle.slot_steps.specs.sock_model.specs.declared.view.View.{View}
-use Rattle.slot_steps.specs.sock_model.specs.Layout.{head_index, next_index}
-use Rattle.slot_steps.specs.sock_model.specs.Entries.{slot_of}
-use Rattle.slot_steps.specs.sock_model.specs.Memory.{UNCONNECTED, IDLE, Memory}
-use Rattle.slot_steps.specs.sock_model.specs.Chains.{Chains}
-use Rattle.slot_steps.specs.sock_model.specs.Reads.{head_at, memory, tokens}
-use Rattle.slot_steps.specs.sock_model.specs.ChainRows.{with_right, without_right, turned_right}
-use Rattle.slot_steps.specs.sock_model.specs.Conditions.{HasRight, MayEmpty, MayTurn}
-use Rattle.slot_steps.specs.sock_model.specs.Lawful.{Lawful}
+use Rattle.sock_model.specs.declared.chain.Right.{Right}
+use Rattle.sock_model.specs.declared.chain.Stage.{Stage}
+use Rattle.sock_model.specs.declared.chain.Stage.TheVariants.{Writes, Placed, Passes, Empties, Walks, Turns}
+use Rattle.sock_model.specs.declared.home.Home.{Home}
+use Rattle.sock_model.specs.sock_words.specs.declared.plain.Plan.{Plan}
+use Rattle.sock_model.specs.declared.view.View.{View}
+use Rattle.sock_model.specs.Layout.{head_index, next_index}
+use Rattle.sock_model.specs.Entries.{slot_of}
+use Rattle.sock_model.specs.Memory.{UNCONNECTED, IDLE, Memory}
+use Rattle.sock_model.specs.Chains.{Chains}
+use Rattle.sock_model.specs.Reads.{head_at, memory, tokens}
+use Rattle.sock_model.specs.ChainRows.{with_right, without_right, turned_right}
+use Rattle.sock_model.specs.Conditions.{HasRight, MayEmpty, MayTurn}
+use Rattle.sock_model.specs.Lawful.{Lawful}
 use Rattle.chain_steps.proofs.Frames.{Changed}
 use Rattle.chain_steps.proofs.Heads.{empties_head, begins_walk, passes_on, reads_back}
 use Rattle.chain_steps.proofs.Nexts.{turn_slot, turns_on, turns_last}

@@ -5,21 +5,21 @@ use mathlib.Core.Option.{some, some-injective, some-ne-none}
 use native.Mathlib.Decide.{ℕ_discrete}
 use lib.ListN.{get_elem?}
 use Rattle.atomic_table.specs.Table.{State}
-use Rattle.slot_steps.specs.sock_words.specs.declared.plain.Plan.{Plan}
-use Rattle.slot_steps.specs.sock_model.specs.declared.chain.Entry.{Entry}
-use Rattle.slot_steps.specs.sock_model.specs.declared.chain.Right.{Right}
-use Rattle.slot_steps.specs.sock_model.specs.declared.chain.Stage.{Stage}
-use Rattle.slot_steps.specs.sock_model.specs.declared.chain.Stage.TheVariants.{Writes, Placed, Passes, Empties, Walks, Turns}
-use Rattle.slot_steps.specs.sock_model.specs.declared.home.Home.{Home}
-use Rattle.slot_steps.specs.sock_model.specs.declared.view.View.{View}
-use Rattle.slot_steps.specs.sock_model.specs.Weights.{total, only}
-use Rattle.slot_steps.specs.sock_model.specs.Entries.{on}
-use Rattle.slot_steps.specs.sock_model.specs.Tokens.{Tokens}
-use Rattle.slot_steps.specs.sock_model.specs.Memory.{Memory}
-use Rattle.slot_steps.specs.sock_model.specs.Writing.{Counts, OnWalk, InStage, Held}
-use Rattle.slot_steps.specs.sock_model.specs.Reads.{memory, tokens}
-use Rattle.slot_steps.specs.sock_model.specs.Authors.{pick, Authored}
-use Rattle.slot_steps.specs.sock_model.specs.Lawful.{Lawful}
+use Rattle.sock_model.specs.sock_words.specs.declared.plain.Plan.{Plan}
+use Rattle.sock_model.specs.declared.chain.Entry.{Entry}
+use Rattle.sock_model.specs.declared.chain.Right.{Right}
+use Rattle.sock_model.specs.declared.chain.Stage.{Stage}
+use Rattle.sock_model.specs.declared.chain.Stage.TheVariants.{Writes, Placed, Passes, Empties, Walks, Turns}
+use Rattle.sock_model.specs.declared.home.Home.{Home}
+use Rattle.sock_model.specs.declared.view.View.{View}
+use Rattle.sock_model.specs.Weights.{total, only}
+use Rattle.sock_model.specs.Entries.{on}
+use Rattle.sock_model.specs.Tokens.{Tokens}
+use Rattle.sock_model.specs.Memory.{Memory}
+use Rattle.sock_model.specs.Writing.{Counts, OnWalk, InStage, Held}
+use Rattle.sock_model.specs.Reads.{memory, tokens}
+use Rattle.sock_model.specs.Authors.{pick, Authored}
+use Rattle.sock_model.specs.Lawful.{Lawful}
 use Rattle.slot_steps.proofs.Numbers.{only-at, only-else}
 use Rattle.chain_steps.proofs.Heads.{held_of}
 use Rattle.chain_steps.proofs.Letters.{writes_room}

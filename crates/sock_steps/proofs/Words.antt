@@ -1,9 +1,9 @@
 -- What a word of the chains leaves, when it changes.
 use Rattle.std.proofs.Common.{◌≡◌, ◌≢◌, ℕ, suc, ◌+◌, ◌*◌, ◌<◌, List, length, get_or, set, length-set, get_or-set_same, get_or-set_other, refl, ap, ◌∙◌, arith}
 use mathlib.Core.Option.{Option, none, some}
-use Rattle.slot_steps.specs.sock_words.specs.declared.plain.Plan.{Plan}
-use Rattle.slot_steps.specs.sock_model.specs.Layout.{tag_index, ref_index, link_index, head_index, code_index, name_index, open_index, request_index, next_index, place_index, all_words}
-use Rattle.slot_steps.specs.sock_model.specs.Reads.{head_at, memory}
+use Rattle.sock_model.specs.sock_words.specs.declared.plain.Plan.{Plan}
+use Rattle.sock_model.specs.Layout.{tag_index, ref_index, link_index, head_index, code_index, name_index, open_index, request_index, next_index, place_index, all_words}
+use Rattle.sock_model.specs.Reads.{head_at, memory}
 use Rattle.chain_steps.proofs.Frames.{Same, Changed}
 
 -- what the law of the slots reads, and the heads of slots that no link is in

@@ -4,26 +4,26 @@ use mathlib.Core.Option.{Option, some, none, some-injective, some-ne-none}
 use lib.ListN.{get_elem?}
 use Rattle.atomic_table.specs.Table.{State}
 use Rattle.atomic_table.proofs.Lists.{set_else}
-use Rattle.slot_steps.specs.sock_model.specs.declared.chain.Heading.{Heading}
-use Rattle.slot_steps.specs.sock_model.specs.declared.chain.Entry.{Entry}
-use Rattle.slot_steps.specs.sock_model.specs.declared.chain.Right.{Right}
-use Rattle.slot_steps.specs.sock_model.specs.declared.chain.Stage.{Stage}
-use Rattle.slot_steps.specs.sock_model.specs.declared.chain.Stage.TheVariants.{Writes, Placed, Passes}
-use Rattle.slot_steps.specs.sock_model.specs.declared.home.Home.{Home}
-use Rattle.slot_steps.specs.sock_model.specs.declared.home.Home.TheVariants.{Empty, Link, Message}
-use Rattle.slot_steps.specs.sock_words.specs.declared.plain.Plan.{Plan}
-use Rattle.slot_steps.specs.sock_model.specs.declared.view.View.{View}
-use Rattle.slot_steps.specs.sock_model.specs.Layout.{request_index, place_index}
-use Rattle.slot_steps.specs.sock_model.specs.Entries.{ticket, slot_of, generation_of, on, nth}
-use Rattle.slot_steps.specs.sock_model.specs.Tokens.{Tokens}
-use Rattle.slot_steps.specs.sock_model.specs.Writing.{InStage}
-use Rattle.slot_steps.specs.sock_model.specs.Messages.{InHand}
-use Rattle.slot_steps.specs.sock_model.specs.Deliveries.{place_value}
-use Rattle.slot_steps.specs.sock_model.specs.Reads.{letter_of, took_of, as_link, shown, memory, message, link_home, tokens}
-use Rattle.slot_steps.specs.sock_model.specs.ChainRows.{with_right, placed_right, dropped_right, taken_right}
-use Rattle.slot_steps.specs.sock_model.specs.Conditions.{MayPlace, MayDrop, MayTake}
-use Rattle.slot_steps.specs.sock_model.specs.Links.{Failed}
-use Rattle.slot_steps.specs.sock_model.specs.Lawful.{Lawful}
+use Rattle.sock_model.specs.declared.chain.Heading.{Heading}
+use Rattle.sock_model.specs.declared.chain.Entry.{Entry}
+use Rattle.sock_model.specs.declared.chain.Right.{Right}
+use Rattle.sock_model.specs.declared.chain.Stage.{Stage}
+use Rattle.sock_model.specs.declared.chain.Stage.TheVariants.{Writes, Placed, Passes}
+use Rattle.sock_model.specs.declared.home.Home.{Home}
+use Rattle.sock_model.specs.declared.home.Home.TheVariants.{Empty, Link, Message}
+use Rattle.sock_model.specs.sock_words.specs.declared.plain.Plan.{Plan}
+use Rattle.sock_model.specs.declared.view.View.{View}
+use Rattle.sock_model.specs.Layout.{request_index, place_index}
+use Rattle.sock_model.specs.Entries.{ticket, slot_of, generation_of, on, nth}
+use Rattle.sock_model.specs.Tokens.{Tokens}
+use Rattle.sock_model.specs.Writing.{InStage}
+use Rattle.sock_model.specs.Messages.{InHand}
+use Rattle.sock_model.specs.Deliveries.{place_value}
+use Rattle.sock_model.specs.Reads.{letter_of, took_of, as_link, shown, memory, message, link_home, tokens}
+use Rattle.sock_model.specs.ChainRows.{with_right, placed_right, dropped_right, taken_right}
+use Rattle.sock_model.specs.Conditions.{MayPlace, MayDrop, MayTake}
+use Rattle.sock_model.specs.Links.{Failed}
+use Rattle.sock_model.specs.Lawful.{Lawful}
 use Rattle.chain_steps.proofs.Lists.{at_some, at_length, ticket_at_is}
 use Rattle.chain_steps.proofs.Frames.{Changed, one_token, in_size, from_same}
 use Rattle.chain_steps.proofs.Heads.{held_of, places_one, restages, slot_is}

@@ -1,3 +1,2 @@
 pub use Rattle.chain_steps
 pub use Rattle.slot_steps
-pub use Rattle.slot_steps.specs.sock_model

@@ -1,8 +1,8 @@
 use Rattle.std.proofs.Common.{ℕ, sym, ap, subst, ◌∙◌}
 use Rattle.std.specs.Prelude.{bit_or}
-use Rattle.sock_steps.specs.sock_model.specs.Layout.{head_index}
-use Rattle.sock_steps.specs.sock_model.specs.ChainRows.{with_right, without_right, walking_right}
-use Rattle.sock_steps.specs.sock_model.specs.Keeping.{KeepsRule}
+use Rattle.sock_model.specs.Layout.{head_index}
+use Rattle.sock_model.specs.ChainRows.{with_right, without_right, walking_right}
+use Rattle.sock_model.specs.Keeping.{KeepsRule}
 use Rattle.chain_core.specs.Conditions.{MayTry}
 use Rattle.chain_core.proofs.KeptRules.{empties, walks}
 use Rattle.chain_core.proofs.steps.empty_head.Goals as goal

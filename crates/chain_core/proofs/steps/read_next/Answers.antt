@@ -1,4 +1,4 @@
-use Rattle.sock_steps.specs.sock_model.specs.Layout.{next_index}
+use Rattle.sock_model.specs.Layout.{next_index}
 use Rattle.chain_core.proofs.KeptRules.{passes, retires, reads, looks}
 use Rattle.chain_core.proofs.steps.read_next.Goals as goal
 

@@ -1,8 +1,8 @@
 use Rattle.std.proofs.Common.{Some, slice_set, ap, ◌∙◌}
 use Rattle.std.proofs.lemmas.List.{map-set}
 use Rattle.message_parts.specs.Parcels.{parcel_of}
-use Rattle.machine_steps.specs.machine_model.specs.declared.letter.Letter.{Letter}
-use Rattle.machine_steps.specs.machine_model.specs.Letters.{lying_in, letters_in}
+use Rattle.machine_model.specs.declared.letter.Letter.{Letter}
+use Rattle.machine_model.specs.Letters.{lying_in, letters_in}
 use Rattle.machine_tables.proofs.homes.put_message.Goals as goal
 
 pub returns-in-Ok-clause-letters : goal.returns-in-Ok-clause-letters

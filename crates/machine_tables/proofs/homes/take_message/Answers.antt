@@ -1,7 +1,7 @@
 use Rattle.std.proofs.Common.{◌≡◌, refl, sym, ◌∙◌, Some, None, slice_set, ap, arith}
 use Rattle.std.proofs.lemmas.List.{length-map, map-set}
 use mathlib.Core.Option.{some}
-use Rattle.machine_steps.specs.machine_model.specs.Letters.{lying_in, letters_in}
+use Rattle.machine_model.specs.Letters.{lying_in, letters_in}
 use Rattle.machine_steps.proofs.Asking.{there_in, inside_list}
 use Rattle.machine_tables.proofs.homes.take_message.Goals as goal
 

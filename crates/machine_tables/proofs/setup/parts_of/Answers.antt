@@ -1,7 +1,7 @@
 use Rattle.std.proofs.Common.{None, length, map, replicate, ap, ◌∙◌, arith}
 use Rattle.seat_programs.specs.Scripts.{programs, sizes_of}
-use Rattle.machine_steps.specs.machine_model.specs.Parts.{said_first}
-use Rattle.machine_steps.specs.machine_model.specs.Letters.{letters_in}
+use Rattle.machine_model.specs.Parts.{said_first}
+use Rattle.machine_model.specs.Letters.{letters_in}
 use Rattle.machine_steps.proofs.Begun.{told_length, written_over, none_in}
 use Rattle.machine_tables.proofs.setup.parts_of.Goals as goal
 

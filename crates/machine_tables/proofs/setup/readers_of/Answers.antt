@@ -3,7 +3,7 @@ use Rattle.std.proofs.lemmas.List.{length-map, length-append, length_push}
 use Rattle.std.specs.VecDeque.Iter.{deque_iter_rest}
 use Rattle.reader_seats.specs.Readers.{reader_program}
 use Rattle.seat_programs.specs.Readers.{reader}
-use Rattle.machine_steps.specs.machine_model.specs.Parts.{AreReading}
+use Rattle.machine_model.specs.Parts.{AreReading}
 use Rattle.machine_steps.proofs.Begun.{map_last, reading_more, item_last, none_left}
 use Rattle.machine_tables.proofs.setup.readers_of.Goals as goal
 

@@ -4,7 +4,7 @@ use Rattle.seat_programs.specs.Clients.{client_from}
 use Rattle.seat_programs.specs.Cores.{said, resolved}
 use Rattle.seat_programs.specs.Scripts.{programs}
 use Rattle.client_seats.specs.Seats.{seat_data}
-use Rattle.machine_steps.specs.machine_model.specs.Parts.{AreBegun, said_first}
+use Rattle.machine_model.specs.Parts.{AreBegun, said_first}
 use Rattle.machine_steps.proofs.Begun.{begun_more, goes_first, told_more, map_last}
 use Rattle.machine_tables.proofs.setup.seats_of.Goals as goal
 

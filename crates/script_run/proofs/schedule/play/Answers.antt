@@ -4,9 +4,9 @@ use Rattle.calm_runs.specs.send_causes.specs.script_facts.proofs.Sizes.{keeps_li
 use Rattle.script_print.specs.Seats.{SeatDraws}
 use Rattle.seat_programs.specs.Scripts.{drawn_turns}
 use Rattle.sock_words.specs.declared.plain.Plan.{Plan}
-use Rattle.sock_core.specs.machine_model.specs.Driving.{FirstRests}
+use Rattle.machine_model.specs.Driving.{FirstRests}
 use Rattle.sock_core.proofs.Linkers.{says_same, says_still}
-use Rattle.sock_core.specs.machine_model.proofs.Same.{same_links_none, same_links_join}
+use Rattle.machine_model.proofs.Same.{same_links_none, same_links_join}
 use Rattle.script_run.specs.Played.{turns_of}
 use Rattle.script_run.proofs.Lines.{seats_in, none_drawn, begins_drawing, count_is, seats_there, draws_on, seat_drawn, drawn_more, drawn_played, by_marks, by_draws}
 use Rattle.script_run.proofs.Running.{playable_of, run_answered, plan_answered}

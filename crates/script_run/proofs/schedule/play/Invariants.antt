@@ -2,8 +2,8 @@ use Rattle.std.proofs.Common.{◌≡◌, length}
 use Rattle.brpc_model.specs.Operations.{clients, operations}
 use Rattle.script_print.specs.Seats.{seat_count}
 use Rattle.seat_programs.specs.Runs.{Scheduled}
-use Rattle.sock_core.specs.machine_model.specs.Runs.{SameLinks}
-use Rattle.sock_core.specs.machine_model.specs.Linkers.{SaysAsBefore}
+use Rattle.machine_model.specs.Runs.{SameLinks}
+use Rattle.machine_model.specs.Linkers.{SaysAsBefore}
 use Rattle.script_run.specs.Played.{IsPlayable, HasPlayed}
 use Rattle.script_run.proofs.Lines.{drawn_so_far, draws_of, seats_in}
 use Rattle.script_run.proofs.schedule.play.Given as goal

@@ -1,5 +1,5 @@
 use Rattle.sock_core.proofs.Linkers.{says_same}
-use Rattle.sock_core.specs.machine_model.proofs.Same.{same_links_none}
+use Rattle.machine_model.proofs.Same.{same_links_none}
 use Rattle.sock_core.proofs.Endings.{on_ok}
 use Rattle.script_run.proofs.Playing.{playable_by, led_played}
 use Rattle.script_run.proofs.Lines.{tick_mark, to_mark, unscheduled_mark}

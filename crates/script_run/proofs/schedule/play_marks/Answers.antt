@@ -3,7 +3,7 @@ use Rattle.brpc_model.specs.Operations.{schedule}
 use Rattle.script_run.specs.Outlines.{meant}
 use Rattle.seat_programs.specs.Runs.{Scheduled}
 use Rattle.sock_core.proofs.Linkers.{says_same, says_still}
-use Rattle.sock_core.specs.machine_model.proofs.Same.{same_links_none, same_links_join}
+use Rattle.machine_model.proofs.Same.{same_links_none, same_links_join}
 use Rattle.script_run.proofs.Playing.{none_played}
 use Rattle.script_run.proofs.Lines.{mark_played, whole_played}
 use Rattle.script_run.proofs.schedule.play_marks.Goals as goal

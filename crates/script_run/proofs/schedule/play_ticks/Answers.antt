@@ -2,7 +2,7 @@ use Rattle.std.proofs.Common.{◌≡◌, replicate, subst, refl, ◌∙◌, arit
 use Rattle.seat_programs.specs.Ticks.{seats_of}
 use Rattle.sock_core.proofs.Linkers.{says_same, says_still}
 use Rattle.script_run.specs.Played.{HasPlayed}
-use Rattle.sock_core.specs.machine_model.proofs.Same.{same_links_none, same_links_join}
+use Rattle.machine_model.proofs.Same.{same_links_none, same_links_join}
 use Rattle.script_run.proofs.Playing.{none_played}
 use Rattle.script_run.proofs.Lines.{one_more_tick, ticks_left}
 use Rattle.script_run.proofs.schedule.play_ticks.Goals as goal

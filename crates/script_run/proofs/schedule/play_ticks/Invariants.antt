@@ -1,7 +1,7 @@
 use Rattle.std.proofs.Common.{◌≡◌, replicate}
 use Rattle.seat_programs.specs.Ticks.{seats_of}
-use Rattle.sock_core.specs.machine_model.specs.Runs.{SameLinks}
-use Rattle.sock_core.specs.machine_model.specs.Linkers.{SaysAsBefore}
+use Rattle.machine_model.specs.Runs.{SameLinks}
+use Rattle.machine_model.specs.Linkers.{SaysAsBefore}
 use Rattle.script_run.specs.Played.{IsPlayable, HasPlayed}
 use Rattle.script_run.proofs.schedule.play_ticks.Given as goal
 

@@ -6,7 +6,7 @@ use Rattle.seat_states.specs.Points.{after_ready}
 use Rattle.sock_io.specs.Link.{end_of}
 use Rattle.machine_steps.proofs.Stepping.{written, makes_along, goes, link_asked, same_sizes, asked_in}
 use Rattle.seat_states.proofs.StepFacts.{asks}
-use Rattle.machine_steps.specs.machine_model.specs.Machines.{table_sizes}
+use Rattle.machine_model.specs.Machines.{table_sizes}
 use Rattle.machine_tables.proofs.table.Table.ask_ready.Goals as goal
 
 pub ready_answered-next-requires : goal.ready_answered-next-requires

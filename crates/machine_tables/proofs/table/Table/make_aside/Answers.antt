@@ -6,8 +6,8 @@ use Rattle.call_points.specs.Steps as aside_steps
 use Rattle.call_slots.specs.Steps as slots
 use Rattle.seat_states.specs.Points.{next_program}
 use Rattle.client_seats.specs.Seats.{seat_data, around, asked_or_nothing}
-use Rattle.machine_steps.specs.machine_model.specs.Machines.{TableState, table_sizes}
-use Rattle.machine_steps.specs.machine_model.specs.Steps.{IsReady, FoundBeside}
+use Rattle.machine_model.specs.Machines.{TableState, table_sizes}
+use Rattle.machine_model.specs.Steps.{IsReady, FoundBeside}
 use Rattle.machine_steps.proofs.Stepping.{written, goes}
 use Rattle.machine_steps.proofs.TableAsides.{finds_word, slots_fit, goes_by_word, same_ids, slots_kept, made_aside}
 use Rattle.machine_steps.proofs.TableGoes.{may_next, next_is}

@@ -7,11 +7,11 @@ use Rattle.seat_states.specs.Steps.{step_of}
 use Rattle.seat_states.proofs.StepFacts.{goes_by_word}
 use Rattle.client_seats.specs.Seats.{seat_data, around, seat_program}
 use Rattle.seat_programs.specs.Scripts.{sizes_of}
-use Rattle.machine_steps.specs.machine_model.specs.Machines.{TableState, table_sizes}
-use Rattle.machine_steps.specs.machine_model.specs.Steps.{IsReady, MayGoOn}
-use Rattle.machine_steps.specs.machine_model.specs.Telling.{waits_by}
+use Rattle.machine_model.specs.Machines.{TableState, table_sizes}
+use Rattle.machine_model.specs.Steps.{IsReady, MayGoOn}
+use Rattle.machine_model.specs.Telling.{waits_by}
 use Rattle.machine_steps.proofs.Stepping.{written, makes_along, goes, halves_in}
-use Rattle.machine_steps.specs.machine_model.proofs.TableRoom.{room_for}
+use Rattle.machine_model.proofs.TableRoom.{room_for}
 use Rattle.machine_steps.proofs.TableGoes.{may_next, next_is, flat_next}
 use Rattle.machine_tables.proofs.table.Table.make_call.Goals as goal
 

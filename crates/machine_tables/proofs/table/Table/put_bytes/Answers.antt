@@ -6,8 +6,8 @@ use Rattle.message_parts.specs.Parcels.{outgoing_of}
 use Rattle.seat_states.specs.Points.{next_program, parts_by, is_whole}
 use Rattle.seat_states.proofs.StepFacts.{puts_piece}
 use Rattle.client_seats.specs.Seats.{seat_data, around, left_of, taken_of, left_parts_of}
-use Rattle.machine_steps.specs.machine_model.specs.Machines.{table_sizes}
-use Rattle.machine_steps.specs.machine_model.specs.Steps.{left_behind, taken_behind}
+use Rattle.machine_model.specs.Machines.{table_sizes}
+use Rattle.machine_model.specs.Steps.{left_behind, taken_behind}
 use Rattle.machine_steps.proofs.Stepping.{written, makes_along, goes, link_asked, put_is, put_part, asked_bytes, asked_in}
 use Rattle.machine_tables.proofs.table.Table.put_bytes.Goals as goal
 

@@ -5,7 +5,7 @@ use Rattle.client_seats.specs.Seats.{seat_data, around}
 use Rattle.seat_states.specs.Points.{after_home}
 use Rattle.machine_steps.proofs.Stepping.{written, makes_along, goes, same_sizes, links_are}
 use Rattle.seat_states.proofs.StepFacts.{puts_home}
-use Rattle.machine_steps.specs.machine_model.specs.Machines.{table_sizes}
+use Rattle.machine_model.specs.Machines.{table_sizes}
 use Rattle.machine_tables.proofs.table.Table.put_home.Goals as goal
 
 pub link_home-next-requires : goal.link_home-next-requires

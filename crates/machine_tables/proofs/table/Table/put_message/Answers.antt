@@ -5,11 +5,11 @@ use Rattle.seat_states.specs.declared.point.Step.TheVariants as firsts
 use Rattle.seat_states.specs.Points.{next_program, heading_by}
 use Rattle.seat_states.proofs.StepFacts.{goes_by_word}
 use Rattle.client_seats.specs.Seats.{seat_data, around, bytes_of, parts_of, message_in}
-use Rattle.machine_steps.specs.machine_model.specs.Letters.{letters_in}
-use Rattle.machine_steps.specs.machine_model.specs.Machines.{TableState, table_sizes}
+use Rattle.machine_model.specs.Letters.{letters_in}
+use Rattle.machine_model.specs.Machines.{TableState, table_sizes}
 use Rattle.machine_steps.proofs.Stepping.{written, makes_along, goes, next_along}
 use Rattle.machine_steps.proofs.TableCuts.{on_err, cut_along, cut_ids}
-use Rattle.machine_steps.specs.machine_model.proofs.TableRoom.{room_for}
+use Rattle.machine_model.proofs.TableRoom.{room_for}
 use Rattle.machine_steps.proofs.TableGoes.{may_next, hand_put, put_next, put_flat}
 use Rattle.machine_tables.proofs.table.Table.put_message.Goals as goal
 

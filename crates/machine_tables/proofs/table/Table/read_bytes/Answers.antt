@@ -10,8 +10,8 @@ use Rattle.seat_programs.specs.Beside.{at_last}
 use Rattle.seat_programs.specs.Ticks.{OfTake, is_nothing}
 use Rattle.reader_seats.specs.Readers.{around, reader_program}
 use Rattle.reader_seats.specs.GoesOn.{GoesOn, taking_of}
-use Rattle.machine_steps.specs.machine_model.specs.declared.tick.On.TheVariants as on
-use Rattle.machine_steps.specs.machine_model.specs.declared.tick.Tick.TheVariants.{Waits}
+use Rattle.machine_model.specs.declared.tick.On.TheVariants as on
+use Rattle.machine_model.specs.declared.tick.Tick.TheVariants.{Waits}
 use Rattle.machine_steps.proofs.Stepping.{written}
 use Rattle.machine_steps.proofs.TableCuts.{cut_halves, cut_take, cut_along, on_err}
 use Rattle.machine_steps.proofs.TableReads.{reads_bytes, fills, takes_again}

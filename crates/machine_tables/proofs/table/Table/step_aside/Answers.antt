@@ -3,9 +3,9 @@ use Rattle.call_points.specs.declared.aside.Aside.TheVariants as steps
 use Rattle.call_points.specs.declared.aside.Aside as code
 use Rattle.seat_states.specs.declared.point.Step.TheVariants as firsts
 use Rattle.client_seats.specs.Seats.{seat_data, around, asked_or_nothing}
-use Rattle.machine_steps.specs.machine_model.specs.Machines.{table_sizes}
-use Rattle.machine_steps.specs.machine_model.specs.Steps.{IsNext, IsFitStep, IsOnWord}
-use Rattle.machine_steps.specs.machine_model.proofs.Tellings.{aside_moved, aside_waited}
+use Rattle.machine_model.specs.Machines.{table_sizes}
+use Rattle.machine_model.specs.Steps.{IsNext, IsFitStep, IsOnWord}
+use Rattle.machine_model.proofs.Tellings.{aside_moved, aside_waited}
 use Rattle.machine_steps.proofs.TableAsides.{takes_none}
 use Rattle.machine_steps.proofs.TableTellings.{moved_aside}
 use Rattle.machine_tables.proofs.table.Table.step_aside.Goals as goal

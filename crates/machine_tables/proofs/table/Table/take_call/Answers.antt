@@ -7,7 +7,7 @@ use Rattle.call_points.specs.Steps.{after_call}
 use Rattle.seat_states.specs.declared.point.Step.TheVariants as firsts
 use Rattle.seat_states.specs.Points.{next_program}
 use Rattle.client_seats.specs.Seats.{SeatData, seat_data, around}
-use Rattle.machine_steps.specs.machine_model.specs.Machines.{TableState, table_sizes}
+use Rattle.machine_model.specs.Machines.{TableState, table_sizes}
 use Rattle.machine_steps.proofs.Stepping.{written, makes_along, goes, next_along, same_sizes}
 use Rattle.machine_steps.proofs.TableAsides.{behind_call, takes_call, same_ids, slots_kept}
 use Rattle.machine_steps.proofs.TableCuts.{cut_ids, cut_along}

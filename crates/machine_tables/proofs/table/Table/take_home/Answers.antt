@@ -6,7 +6,7 @@ use Rattle.seat_states.specs.Points.{after_link}
 use Rattle.client_seats.specs.Seats.{seat_program}
 use Rattle.machine_steps.proofs.Stepping.{written, makes_along, goes, same_sizes, links_are}
 use Rattle.seat_states.proofs.StepFacts.{takes_link}
-use Rattle.machine_steps.specs.machine_model.specs.Machines.{table_sizes}
+use Rattle.machine_model.specs.Machines.{table_sizes}
 use Rattle.machine_tables.proofs.table.Table.take_home.Goals as goal
 
 pub with_link-next-requires : goal.with_link-next-requires

@@ -6,8 +6,8 @@ use Rattle.message_parts.specs.Parcels.{parcel_of, outgoing_of}
 use Rattle.seat_states.specs.Points.{next_program}
 use Rattle.seat_states.proofs.StepFacts.{takes_message}
 use Rattle.client_seats.specs.Seats.{seat_data, around}
-use Rattle.machine_steps.specs.machine_model.specs.Letters.{letters_in}
-use Rattle.machine_steps.specs.machine_model.specs.Machines.{TableState, table_sizes}
+use Rattle.machine_model.specs.Letters.{letters_in}
+use Rattle.machine_model.specs.Machines.{TableState, table_sizes}
 use Rattle.machine_steps.proofs.Stepping.{written, makes_along, goes, message_is}
 use Rattle.machine_tables.proofs.table.Table.take_message.Goals as goal
 

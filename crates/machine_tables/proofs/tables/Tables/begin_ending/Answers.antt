@@ -5,7 +5,7 @@ use Rattle.seat_programs.specs.Clients.{ending_of}
 use Rattle.seat_programs.specs.Cores.{next_step}
 use Rattle.seat_programs.specs.Scripts.{sizes_of}
 use Rattle.client_seats.specs.Seats.{SeatData, seat_data, retries}
-use Rattle.machine_steps.specs.machine_model.specs.Machines.{MachineState}
+use Rattle.machine_model.specs.Machines.{MachineState}
 use Rattle.machine_steps.proofs.Places.{view_of, seat_there, began_along}
 use Rattle.machine_tables.proofs.tables.Tables.begin_ending.Goals as goal
 

@@ -1,6 +1,6 @@
 use Rattle.std.proofs.Common.{refl, arith, subst, sym, inl}
-use Rattle.machine_steps.specs.machine_model.specs.Machines.{MachineState, table_of, IsSized}
-use Rattle.machine_steps.specs.machine_model.specs.Steps.{ReadyAt, StepFits}
+use Rattle.machine_model.specs.Machines.{MachineState, table_of, IsSized}
+use Rattle.machine_model.specs.Steps.{ReadyAt, StepFits}
 use Rattle.client_seats.specs.Seats.{seat_data}
 use Rattle.machine_steps.proofs.Places.{seat_within, fit_here, told_here, next_in, told_along}
 use Rattle.machine_steps.proofs.TablePlaces.{same_many}

@@ -1,6 +1,6 @@
 use Rattle.std.proofs.Common.{◌≢◌, ◌<◌, ◌∙◌, refl, length, ap, sym, subst, vec_capacity}
-use Rattle.machine_tables.specs.machine_model.specs.Machines.{MachineState, IsMachine}
-use Rattle.machine_tables.specs.machine_model.specs.Driving.{FirstRests}
+use Rattle.machine_model.specs.Machines.{MachineState, IsMachine}
+use Rattle.machine_model.specs.Driving.{FirstRests}
 use Rattle.machine_ticks.proofs.ClientTicks.{went_along, rests_along, rest_on, passed_keeps, passed_on, passed_rests}
 use Rattle.sock_core.proofs.machine.Machine.advance_client.Goals as goal
 

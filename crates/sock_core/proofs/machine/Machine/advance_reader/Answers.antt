@@ -1,7 +1,7 @@
 use Rattle.std.proofs.Common.{◌∙◌, refl, ap, subst}
 use Rattle.std.specs.Prelude.{OnOk}
-use Rattle.machine_tables.specs.machine_model.specs.Machines.{MachineState}
-use Rattle.machine_tables.specs.machine_model.specs.Driving.{FirstRests}
+use Rattle.machine_model.specs.Machines.{MachineState}
+use Rattle.machine_model.specs.Driving.{FirstRests}
 use Rattle.machine_ticks.proofs.ClientTicks.{went_along, rests_along, reader_sized, reader_fits, reader_idle, read_went_keeps, read_went_on, read_went_rests}
 use Rattle.sock_core.proofs.machine.Machine.advance_reader.Goals as goal
 

@@ -1,7 +1,7 @@
 use Rattle.std.proofs.Common.{length, ap, sym, ◌∙◌, arith}
 use Rattle.std.proofs.Props.{props}
 use Rattle.std.proofs.Math.Logic.{∥∥₁_elim}
-use Rattle.machine_tables.specs.machine_model.specs.Machines.{MachineState}
+use Rattle.machine_model.specs.Machines.{MachineState}
 use Rattle.sock_core.proofs.machine.Machine.clients.Goals as goal
 
 pub returns-clause-seats : goal.returns-clause-seats

@@ -1,6 +1,6 @@
 use Rattle.std.proofs.Common.{rules, ◌≡◌, ◌-◌, false, subst}
-use Rattle.machine_tables.specs.machine_model.specs.Machines.{MachineState, MOST_LEFT}
-use Rattle.machine_tables.specs.machine_model.specs.Driving.{LastsAtMost}
+use Rattle.machine_model.specs.Machines.{MachineState, MOST_LEFT}
+use Rattle.machine_model.specs.Driving.{LastsAtMost}
 use Rattle.sock_core.proofs.Endings.{lasts_most}
 use Rattle.sock_core.proofs.machine.Machine.most_left.Goals as goal
 

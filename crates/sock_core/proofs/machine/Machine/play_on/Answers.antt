@@ -1,6 +1,6 @@
 use Rattle.std.proofs.Common.{Ok, ap}
 use Rattle.sock_core.proofs.Linkers.{says_same, says_still}
-use Rattle.machine_tables.specs.machine_model.proofs.Same.{both_join}
+use Rattle.machine_model.proofs.Same.{both_join}
 use Rattle.sock_core.proofs.Rounding.{played_none, played_more, played_last}
 use Rattle.sock_core.proofs.machine.Machine.play_on.Goals as goal
 

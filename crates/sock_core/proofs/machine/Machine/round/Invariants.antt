@@ -1,7 +1,7 @@
 use Rattle.std.proofs.Common.{◌≤◌, ◌-◌, ◌++◌}
 use Rattle.seat_programs.specs.Runs.{from_to}
-use Rattle.machine_tables.specs.machine_model.specs.Machines.{READERS}
-use Rattle.machine_tables.specs.machine_model.specs.Linkers.{SaysAsBefore}
+use Rattle.machine_model.specs.Machines.{READERS}
+use Rattle.machine_model.specs.Linkers.{SaysAsBefore}
 use Rattle.sock_core.proofs.Rounding.{RoundSoFar}
 use Rattle.sock_core.proofs.machine.Machine.round.Given as goal
 

@@ -1,6 +1,6 @@
 use Rattle.std.proofs.Common.{subst}
-use Rattle.machine_tables.specs.machine_model.specs.Machines.{MachineState}
-use Rattle.machine_tables.specs.machine_model.specs.Runs.{SameLinks, PlayedOn}
+use Rattle.machine_model.specs.Machines.{MachineState}
+use Rattle.machine_model.specs.Runs.{SameLinks, PlayedOn}
 use Rattle.sock_core.proofs.Linkers.{says_still}
 use Rattle.sock_core.proofs.Endings.{on_ok}
 use Rattle.sock_core.proofs.Settling.{settles, settled_links}

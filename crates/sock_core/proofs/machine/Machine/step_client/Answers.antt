@@ -1,8 +1,8 @@
 use Rattle.std.proofs.Common.{◌≢◌, ◌<◌, ◌∙◌, refl, length, ap, sym, subst}
 use Rattle.std.proofs.lemmas.Result.{err_from_is_err_and}
 use Rattle.std.specs.Prelude.{OnOk}
-use Rattle.machine_tables.specs.machine_model.specs.Machines.{MachineState}
-use Rattle.machine_tables.specs.machine_model.specs.Driving.{FirstRests}
+use Rattle.machine_model.specs.Machines.{MachineState}
+use Rattle.machine_model.specs.Driving.{FirstRests}
 use Rattle.machine_ticks.proofs.Preparing.{prepared_keeps, prepared_ready, prepared_stands, cut_keeps}
 use Rattle.machine_ticks.proofs.ClientTicks.{went_along, cut_on, client_sized, client_fits, client_idle, idle_rests, went_keeps, went_on, went_rests}
 use Rattle.sock_core.proofs.machine.Machine.step_client.Goals as goal

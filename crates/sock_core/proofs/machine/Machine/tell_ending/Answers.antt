@@ -1,5 +1,5 @@
 use Rattle.std.proofs.Common.{◌≡◌, sym, subst, vec_capacity, []}
-use Rattle.machine_tables.specs.machine_model.specs.Machines.{MachineState, IsMachine}
+use Rattle.machine_model.specs.Machines.{MachineState, IsMachine}
 use Rattle.sock_core.proofs.Endings.{ending_keeps}
 use Rattle.sock_core.proofs.machine.Machine.tell_ending.Goals as goal
 

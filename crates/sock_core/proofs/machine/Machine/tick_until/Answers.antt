@@ -1,6 +1,6 @@
 use Rattle.sock_core.proofs.Linkers.{says_same, says_still}
 use Rattle.sock_core.proofs.Endings.{passed_none, passed_more, passed_last}
-use Rattle.machine_tables.specs.machine_model.proofs.Same.{both_join}
+use Rattle.machine_model.proofs.Same.{both_join}
 use Rattle.sock_core.proofs.machine.Machine.tick_until.Goals as goal
 
 pub loop-init : goal.loop-init

@@ -1,4 +1,4 @@
-use Rattle.machine_tables.specs.machine_model.specs.Linkers.{SaysAsBefore}
+use Rattle.machine_model.specs.Linkers.{SaysAsBefore}
 use Rattle.sock_core.proofs.Endings.{PassedSoFar}
 use Rattle.sock_core.proofs.machine.Machine.tick_until.Given as goal
 
