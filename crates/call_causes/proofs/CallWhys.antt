@@ -4,8 +4,8 @@ use Rattle.std.specs.Prelude.{pos}
 use Rattle.sock_words.specs.declared.plain.Plan.{Plan}
 use Rattle.sock_words.specs.declared.outcome.Outcome.{Outcome}
 use Rattle.sock_words.specs.declared.outcome.Outcome.TheVariants as outcomes
-use Rattle.brpc_model.specs.Frame.{Frame}
-use Rattle.brpc_model.specs.Causes.{HasFault}
+use Rattle.seat_programs.specs.brpc_model.specs.Frame.{Frame}
+use Rattle.seat_programs.specs.brpc_model.specs.Causes.{HasFault}
 use Rattle.corr_core.specs.declared.marks.Plan.{Plan as IdPlan}
 use Rattle.sock_message.specs.Asked.{Asked, name_of}
 use Rattle.seat_programs.specs.declared.task.Op.{Op}
@@ -14,13 +14,13 @@ use Rattle.seat_programs.specs.declared.task.Task.{Task}
 use Rattle.seat_programs.specs.Posts.{is_final}
 use Rattle.seat_programs.specs.Told.{IsTask, Became, OpensNone}
 use Rattle.seat_programs.specs.ToldCalls.{Fixed, Order, FoundNone, Seeks, HasCode, IsExpiredWith}
-use Rattle.call_causes.specs.Lists.{given, times}
-use Rattle.call_causes.specs.Target.{IsOnCalls, FailedInPart, ByExpiry, ByCompression, ByFrameFault, ByFail, ByReading, BySocketOrRequests, WhyCallInPart, WhyInPart}
-use Rattle.call_causes.specs.Scenes.{Scene, In, IsOther, IsOpened, SeeksName, IsTaskOf, HasNoneOf, NoneFound, FailedIn, by_expiry, by_compression, by_other, WhyEnded, WhyOwn, ToldOf, was_said, was_sent, was_begun}
-use Rattle.call_causes.specs.Says.{Mark}
-use Rattle.call_causes.proofs.Posts.{or_cases}
-use Rattle.call_causes.proofs.End.{HasEnded, ended_call, one_outcome, call_of, answered, contains_in}
-use Rattle.call_causes.proofs.Whys.{AreAscending, IsDone, is_done, in_contains, why_expire, why_join}
+use Rattle.story_ticks.specs.call_stories.specs.Lists.{given, times}
+use Rattle.story_ticks.specs.call_stories.specs.Target.{IsOnCalls, FailedInPart, ByExpiry, ByCompression, ByFrameFault, ByFail, ByReading, BySocketOrRequests, WhyCallInPart, WhyInPart}
+use Rattle.story_ticks.specs.call_stories.specs.Scenes.{Scene, In, IsOther, IsOpened, SeeksName, IsTaskOf, HasNoneOf, NoneFound, FailedIn, by_expiry, by_compression, by_other, WhyEnded, WhyOwn, ToldOf, was_said, was_sent, was_begun}
+use Rattle.story_ticks.specs.call_stories.specs.Says.{Mark}
+use Rattle.story_ticks.specs.call_stories.proofs.Posts.{or_cases}
+use Rattle.story_ticks.specs.story_steps.proofs.End.{HasEnded, ended_call, one_outcome, call_of, answered, contains_in}
+use Rattle.story_ticks.specs.story_steps.proofs.Whys.{AreAscending, IsDone, is_done, in_contains, why_expire, why_join}
 
 module _ (p : Plan) (q : IdPlan) (clients : List (List Task)) (gives : ℕ → List ℕ) (ascending : (c : ℕ) → AreAscending (get_or clients c [])) (w : Scene) (ms : List Mark) (e : HasEnded p q clients gives w ms) where
   -- where an operation found a name without a socket, those of its client before it found so too
@@ -123,7 +123,7 @@ module _ (p : Plan) (q : IdPlan) (clients : List (List Task)) (gives : ℕ → L
           own_call before why = by_outcome x why has
             where
               ends : (y : Outcome) × Became clients w.core.outcomes a.operation y × WhyEnded p q clients gives w (record { id = id; asked = a }) y
-              ends = Rattle.call_causes.proofs.End.ended_call p q clients gives w ms e (record { id = id; asked = a }) born
+              ends = Rattle.story_ticks.specs.story_steps.proofs.End.ended_call p q clients gives w ms e (record { id = id; asked = a }) born
 
               by_outcome : (y : Outcome) → WhyOwn p q clients gives w c before (ops.Call asked) y → Became clients w.core.outcomes t.number y → WhyCallInPart p clients w.core.outcomes fixed (given w.core) orders last c t.number asked x
               by_outcome outcomes.Unopened why has = absurd (subst (WhyEnded p q clients gives w (record { id = id; asked = a })) (one_outcome p q clients gives w ms e a.operation ends.0 outcomes.Unopened ends.1 (subst (λ o. Became clients w.core.outcomes o outcomes.Unopened) own has)) ends.2)

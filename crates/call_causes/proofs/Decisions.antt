@@ -3,9 +3,9 @@ use Rattle.std.proofs.Common.{◌≡◌, ◌≢◌, ℕ, ◌+◌, inl, inr, ⊎_
 use Rattle.std.specs.List.{AllByRecursion}
 use Rattle.sock_words.specs.declared.plain.Plan.{Plan}
 use Rattle.sock_words.specs.declared.outcome.Outcome.TheVariants as outcomes
-use Rattle.brpc_model.specs.Frame.{Frame}
-use Rattle.brpc_model.specs.Items.{Item}
-use Rattle.brpc_model.specs.Operations.{Turn}
+use Rattle.seat_programs.specs.brpc_model.specs.Frame.{Frame}
+use Rattle.seat_programs.specs.brpc_model.specs.Items.{Item}
+use Rattle.seat_programs.specs.brpc_model.specs.Operations.{Turn}
 use Rattle.corr_core.specs.Word.{error_of}
 use Rattle.corr_core.specs.declared.marks.Plan.{Plan as IdPlan}
 use Rattle.sock_message.specs.Asked.{Asked}
@@ -17,21 +17,21 @@ use Rattle.seat_programs.specs.Tasks.{plan_of, id_plan_of}
 use Rattle.seat_programs.specs.Told.{IsTask, Became}
 use Rattle.seat_programs.specs.ToldCalls.{Fixed, Order}
 use Rattle.seat_programs.specs.Scripts.{all_tasks, opened, ending, set_up, played, IsRunWithCalls}
-use Rattle.owed_calls.specs.joint_runs.proofs.Runs.{AreMade}
-use Rattle.owed_calls.specs.script_facts.proofs.Reading.{InRange}
-use Rattle.owed_calls.specs.script_facts.proofs.Targets.{AreThere}
-use Rattle.owed_calls.specs.Lives.{ClosesInRun}
-use Rattle.call_causes.specs.Lists.{given, times, shows_in, shows_in_run, attempts_of_run}
-use Rattle.call_causes.specs.Posts.{Post, posts_of_run}
-use Rattle.call_causes.specs.Decided.{Decision, decided_at, decided_by}
-use Rattle.call_causes.specs.Target.{FailedByDecision}
-use Rattle.call_causes.specs.Scenes.{Scene, In, WasPosted, FailedIn, by_expiry, by_compression, by_other}
-use Rattle.call_causes.specs.Says.{Mark}
-use Rattle.call_causes.proofs.Attempts.{in_behind, in_front}
-use Rattle.call_causes.proofs.End.{HasEnded, call_of, answered}
-use Rattle.call_causes.proofs.Whys.{AreAscending, in_contains}
+use Rattle.story_ticks.specs.joint_runs.proofs.Runs.{AreMade}
+use Rattle.story_ticks.specs.call_owing.specs.script_facts.proofs.Reading.{InRange}
+use Rattle.story_ticks.specs.call_owing.specs.script_facts.proofs.Targets.{AreThere}
+use Rattle.story_ticks.specs.call_owing.specs.Lives.{ClosesInRun}
+use Rattle.story_ticks.specs.call_stories.specs.Lists.{given, times, shows_in, shows_in_run, attempts_of_run}
+use Rattle.story_ticks.specs.call_stories.specs.Posts.{Post, posts_of_run}
+use Rattle.story_ticks.specs.call_stories.specs.Decided.{Decision, decided_at, decided_by}
+use Rattle.story_ticks.specs.call_stories.specs.Target.{FailedByDecision}
+use Rattle.story_ticks.specs.call_stories.specs.Scenes.{Scene, In, WasPosted, FailedIn, by_expiry, by_compression, by_other}
+use Rattle.story_ticks.specs.call_stories.specs.Says.{Mark}
+use Rattle.story_ticks.specs.story_steps.proofs.Attempts.{in_behind, in_front}
+use Rattle.story_ticks.specs.story_steps.proofs.End.{HasEnded, call_of, answered}
+use Rattle.story_ticks.specs.story_steps.proofs.Whys.{AreAscending, in_contains}
 use Rattle.call_causes.proofs.CallWhys.{expired_with}
-use Rattle.call_causes.proofs.Scripts.{are_ascending}
+use Rattle.story_ticks.proofs.Scripts.{are_ascending}
 use Rattle.call_causes.proofs.Run.{in_either}
 use Rattle.call_causes.proofs.Whole.{run_has_story, run_attempts, run_posted, run_decided, run_has_ended}
 
@@ -48,7 +48,7 @@ module _ (p : Plan) (q : IdPlan) (clients : List (List Task)) (gives : ℕ → L
             (λ s. inl (expired_with p q clients gives ascending w ms e fixed orders as_given last counts asked t.number outcomes.Expired x.0 x.1 own x.2 x.3 s))
             (λ s. inr (expired_with p q clients gives ascending w ms e fixed orders as_given last counts asked t.number outcomes.Queued x.0 x.1 own x.2 x.3 s)) x.4,
       )
-      by_cause i same own (by_compression is x) = inr (inl (is, answered p q clients gives w ms e fixed orders id asked (λ (frame : Frame). frame.meta.compress_type ≢ Rattle.std.specs.Prelude.pos 0) (subst (λ k. Rattle.call_causes.specs.Scenes.IsAnsweredIn p q clients gives w k asked (λ (frame : Frame). frame.meta.compress_type ≢ Rattle.std.specs.Prelude.pos 0)) (sym same) x)))
+      by_cause i same own (by_compression is x) = inr (inl (is, answered p q clients gives w ms e fixed orders id asked (λ (frame : Frame). frame.meta.compress_type ≢ Rattle.std.specs.Prelude.pos 0) (subst (λ k. Rattle.story_ticks.specs.call_stories.specs.Scenes.IsAnsweredIn p q clients gives w k asked (λ (frame : Frame). frame.meta.compress_type ≢ Rattle.std.specs.Prelude.pos 0)) (sym same) x)))
       by_cause i same own (by_other n x there ended by_last on) =
           let n_is : n ≡ last t.number = sym ended.2 ∙ (counts asked.operation ∙ ap last (sym own)) in
           let s = by_seat (record { id = i; asked = asked; error = error_of code n }) on in

@@ -1,15 +1,15 @@
 -- Where the reader of a link stands with the frames that the link gave: each response that it handled is of a range that has begun or passed, or stands among the soon ones and is kept.
 use Rattle.std.proofs.Common.{◌≡◌, ℕ, zero, suc, ◌+◌, ◌<◌, ◌≤◌, ◌⊎◌, inl, inr, ⊎_elim, ◌&&◌, not, Bool, true, false, cond, eqb, nat_le, nat_lt, ltb-true, ltb-false, leb-true, leb-false, List, [], ◌∷◌, ◌++◌, length, length-append, append_assoc, append-nil, slice_get, None, Some, refl, sym, ap, ◌∙◌, subst, arith}
 use Rattle.std.specs.Prelude.{slice_index}
-use Rattle.brpc_model.specs.Frame.{Frame}
-use Rattle.brpc_model.specs.Stream as streams
-use Rattle.brpc_model.specs.Causes.{HasFault}
+use Rattle.seat_programs.specs.brpc_model.specs.Frame.{Frame}
+use Rattle.seat_programs.specs.brpc_model.specs.Stream as streams
+use Rattle.seat_programs.specs.brpc_model.specs.Causes.{HasFault}
 use Rattle.corr_core.specs.Word.{Parts, parts}
-use Rattle.id_rule.specs.Lawful.{id_index}
+use Rattle.seat_programs.specs.id_rule.specs.Lawful.{id_index}
 use Rattle.seat_programs.specs.Heads.{Reading}
 use Rattle.seat_programs.specs.Posts.{has_version}
 use Rattle.seat_programs.specs.Readers.{has_response, slot_in, version_in, is_early}
-use Rattle.call_causes.specs.Scenes.{In}
+use Rattle.story_ticks.specs.call_stories.specs.Scenes.{In}
 
 -- ## Words of id slots
 

@@ -10,11 +10,11 @@ use Rattle.seat_programs.specs.Calls.{LoadOpen}
 use Rattle.seat_programs.specs.Programs.{Program, Do, Aside}
 use Rattle.seat_programs.specs.Cores.{Core, SeatState}
 use Rattle.seat_programs.specs.Ticks.{Moment, ticked, run}
-use Rattle.outcome_stories.specs.program_steps.specs.Sound.{first_step}
-use Rattle.call_causes.specs.Lists.{soon_at, shows_in}
-use Rattle.call_causes.specs.Posts.{Post, posted_at}
-use Rattle.call_causes.specs.Decided.{is_late_step, late_at, late_in, posted_behind}
-use Rattle.call_causes.specs.Scenes.{In}
+use Rattle.story_ticks.specs.programs_allowed.specs.program_steps.specs.Sound.{first_step}
+use Rattle.story_ticks.specs.call_stories.specs.Lists.{soon_at, shows_in}
+use Rattle.story_ticks.specs.call_stories.specs.Posts.{Post, posted_at}
+use Rattle.story_ticks.specs.call_stories.specs.Decided.{is_late_step, late_at, late_in, posted_behind}
+use Rattle.story_ticks.specs.call_stories.specs.Scenes.{In}
 use Rattle.call_causes.proofs.Handled.{Sit}
 use Rattle.call_causes.proofs.HandledSteps.{State, state_on, onward}
 use Rattle.call_causes.proofs.HandledTicks.{sit, Known, HasReader, reader_ticks}

@@ -5,9 +5,9 @@ use Rattle.std.proofs.lemmas.Bool.{true≢false}
 use mathlib.Core.Option.{Option, none, some, some-injective}
 use lib.ListN.{get_elem?}
 use Rattle.sock_words.specs.declared.plain.Plan.{Plan}
-use Rattle.brpc_model.specs.Frame.{Frame}
+use Rattle.seat_programs.specs.brpc_model.specs.Frame.{Frame}
 use Rattle.corr_core.specs.Word.{Parts, parts}
-use Rattle.id_rule.specs.Lawful.{id_index}
+use Rattle.seat_programs.specs.id_rule.specs.Lawful.{id_index}
 use Rattle.corr_core.specs.declared.marks.Plan.{Plan as IdPlan}
 use Rattle.seat_programs.specs.Calls.{LoadOpen}
 use Rattle.seat_programs.specs.Asides.{Step, Found, PostId, Taking, call_id, id_slot, id_first}
@@ -17,10 +17,10 @@ use Rattle.seat_programs.specs.Beside.{found_in}
 use Rattle.seat_programs.specs.Readers.{slot_in, version_in, kept_for, reader}
 use Rattle.seat_programs.specs.Cores.{Core, SeatState}
 use Rattle.seat_programs.specs.Ticks.{Moment, taken}
-use Rattle.outcome_stories.specs.program_steps.specs.Sound.{first_step}
-use Rattle.owed_calls.proofs.OwingRuns.{same_first}
-use Rattle.call_causes.specs.Posts.{Post, posts_by, posted_with, posted_at}
-use Rattle.call_causes.specs.Scenes.{In}
+use Rattle.story_ticks.specs.programs_allowed.specs.program_steps.specs.Sound.{first_step}
+use Rattle.story_ticks.specs.owing_ticks.proofs.OwingRuns.{same_first}
+use Rattle.story_ticks.specs.call_stories.specs.Posts.{Post, posts_by, posted_with, posted_at}
+use Rattle.story_ticks.specs.call_stories.specs.Scenes.{In}
 use Rattle.call_causes.proofs.Handled.{Sit, word_of, frames_in, IsResp, Done, Later, Over, Frozen, all_at, over_on, frozen_on}
 use Rattle.call_causes.proofs.HandledStates.{after_first, after_map}
 use Rattle.call_causes.proofs.HandledSteps.{IsOver, over_onward, Onward, State, waiting, reading, seeking, taking, ending_, freeing, over, state_on, onward}
@@ -189,7 +189,7 @@ module _ (p : Plan) (q : IdPlan) (k : ℕ) where
     by_whom : (seat : SeatState) × (get_elem? c.seats m.seat ≡ some seat) × PostedBy q (taken m.answer) c (first_step seat.program) x
     by_whom = by_seat (get_elem? c.seats m.seat) refl there
       where
-        by_seat : (y : Option SeatState) → get_elem? c.seats m.seat ≡ y → In x (elim y as (λ o. List Post) [ none ↦ [] | some seat ↦ posted_with c.calls (taken m.answer) (Rattle.id_runs.specs.Goes.first_of seat.program) ])
+        by_seat : (y : Option SeatState) → get_elem? c.seats m.seat ≡ y → In x (elim y as (λ o. List Post) [ none ↦ [] | some seat ↦ posted_with c.calls (taken m.answer) (Rattle.story_ticks.specs.id_runs.specs.Goes.first_of seat.program) ])
             → (seat : SeatState) × (get_elem? c.seats m.seat ≡ some seat) × PostedBy q (taken m.answer) c (first_step seat.program) x
         by_seat none e z = absurd z
         by_seat (some seat) e z = (seat, e, posted_is q (taken m.answer) c (first_step seat.program) x (subst (λ y. In x (posted_with c.calls (taken m.answer) y)) (same_first seat.program) z))

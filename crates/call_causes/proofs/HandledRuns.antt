@@ -13,25 +13,25 @@ use Rattle.seat_programs.specs.Programs.{Program, Write, Round}
 use Rattle.seat_programs.specs.Cores.{Core, SeatState}
 use Rattle.seat_programs.specs.Ticks.{Moment, quiet, ticked, run}
 use Rattle.seat_programs.specs.Runs.{IsAtRest}
-use Rattle.outcome_stories.specs.program_steps.specs.Sound.{IsAhead, first_step, views_after}
-use Rattle.outcome_stories.specs.sock_runs.proofs.Along.{seat_rests, ticked_ahead}
-use Rattle.outcome_stories.specs.sock_runs.proofs.Quiets.{ticked_rests}
-use Rattle.owed_calls.specs.joint_runs.proofs.Both.{BothSound, AreBoth}
-use Rattle.id_runs.specs.Held.{IdView}
-use Rattle.id_runs.specs.Goes.{IdGoesOn, SoundIds}
-use Rattle.id_runs.proofs.Loops.{ids_round}
-use Rattle.id_runs.proofs.Programs.{block_goes}
-use Rattle.call_causes.specs.Lists.{soon_at, shows_in, advanced_at}
-use Rattle.call_causes.specs.Posts.{Post, posted_at}
-use Rattle.call_causes.specs.Decided.{posted_by, Decision, decision_in, decided_at, decided_by}
-use Rattle.call_causes.specs.Scenes.{Scene, In, LeadsTo}
-use Rattle.call_causes.specs.Says.{Mark, SaysOn}
-use Rattle.call_causes.specs.Stories.{SlotFits, CallStory}
-use Rattle.call_causes.proofs.Leading.{run_leads}
-use Rattle.call_causes.proofs.Numbered.{AreNumbered}
-use Rattle.call_causes.proofs.Claiming.{HaveSlots}
-use Rattle.call_causes.proofs.Firsts.{MayFirst, may_first}
-use Rattle.call_causes.proofs.Ticks.{other_there}
+use Rattle.story_ticks.specs.programs_allowed.specs.program_steps.specs.Sound.{IsAhead, first_step, views_after}
+use Rattle.story_ticks.specs.programs_allowed.specs.sock_runs.proofs.Along.{seat_rests, ticked_ahead}
+use Rattle.story_ticks.specs.programs_allowed.specs.sock_runs.proofs.Quiets.{ticked_rests}
+use Rattle.story_ticks.specs.joint_runs.proofs.Both.{BothSound, AreBoth}
+use Rattle.story_ticks.specs.id_runs.specs.Held.{IdView}
+use Rattle.story_ticks.specs.id_runs.specs.Goes.{IdGoesOn, SoundIds}
+use Rattle.story_ticks.specs.id_runs.proofs.Loops.{ids_round}
+use Rattle.story_ticks.specs.id_runs.proofs.Programs.{block_goes}
+use Rattle.story_ticks.specs.call_stories.specs.Lists.{soon_at, shows_in, advanced_at}
+use Rattle.story_ticks.specs.call_stories.specs.Posts.{Post, posted_at}
+use Rattle.story_ticks.specs.call_stories.specs.Decided.{posted_by, Decision, decision_in, decided_at, decided_by}
+use Rattle.story_ticks.specs.call_stories.specs.Scenes.{Scene, In, LeadsTo}
+use Rattle.story_ticks.specs.call_stories.specs.Says.{Mark, SaysOn}
+use Rattle.story_ticks.specs.call_stories.specs.Stories.{SlotFits, CallStory}
+use Rattle.story_ticks.specs.call_stories.proofs.Leading.{run_leads}
+use Rattle.story_ticks.specs.story_steps.proofs.Numbered.{AreNumbered}
+use Rattle.story_ticks.proofs.Claiming.{HaveSlots}
+use Rattle.story_ticks.specs.story_steps.proofs.Firsts.{MayFirst, may_first}
+use Rattle.story_ticks.proofs.Ticks.{other_there}
 use Rattle.call_causes.proofs.Run.{Story, one_tick, in_either}
 use Rattle.call_causes.proofs.Handled.{Sit, Later}
 use Rattle.call_causes.proofs.HandledFacts.{facts}

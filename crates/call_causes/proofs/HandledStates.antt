@@ -4,7 +4,7 @@ use Rattle.std.proofs.lemmas.Bool.{true≢false}
 use Rattle.sock_words.specs.Words.{socket_id_version, socket_id_slot, vref_version, vref_nref, at_word_first, at_word_slot, at_word_link, at_word_attempt}
 use Rattle.corr_core.specs.Word.{Parts, parts, posted_word, unlocked_word, code_of, attempt_of, error_of}
 use Rattle.corr_core.specs.Law.{LAST}
-use Rattle.brpc_model.specs.Frame.{Frame}
+use Rattle.seat_programs.specs.brpc_model.specs.Frame.{Frame}
 use Rattle.sock_message.specs.Asked.{Asked}
 use Rattle.seat_programs.specs.Asides.{Step, Found, PostId, FreeId, TakeBytes, Taking, Bytes, Nothing, call_id, id_slot, id_first}
 use Rattle.seat_programs.specs.Heads.{Head, Exit, Retry, Sought, Posts, Unlocks, Decides, Locks, Joins, Opens, Reads, Discards, Posting, WasGone, WasStale, WasCrowded, WasQueued, HasLocked, Unlocking, IsOpen, HasNext, Deciding, HasEnded, GoesOn, Locking, NotThere, Has, Ended}
@@ -13,7 +13,7 @@ use Rattle.seat_programs.specs.Posts.{WHOLE, packed, advance_of, is_final, is_fi
 use Rattle.seat_programs.specs.Readers.{LIMIT, ending_of, slot_in, answer, discarded, kept_for, ends_with, posted_last, post_each, thrown_away, read}
 use Rattle.seat_programs.specs.Rounds.{round}
 use Rattle.seat_programs.specs.Cores.{resolved, next_step}
-use Rattle.outcome_stories.specs.program_steps.specs.Sound.{first_step}
+use Rattle.story_ticks.specs.programs_allowed.specs.program_steps.specs.Sound.{first_step}
 
 -- ## Behind the end of a reading
 

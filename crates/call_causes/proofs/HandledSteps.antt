@@ -4,18 +4,18 @@ use Rattle.std.proofs.lemmas.Bool.{true≢false}
 use Rattle.sock_words.specs.declared.outcome.Outcome.{Outcome}
 use Rattle.corr_core.specs.Word.{parts, posted_word}
 use Rattle.corr_core.specs.Law.{LAST}
-use Rattle.brpc_model.specs.Frame.{Frame}
-use Rattle.brpc_model.specs.Stream as streams
-use Rattle.brpc_model.specs.Causes.{HasFault}
+use Rattle.seat_programs.specs.brpc_model.specs.Frame.{Frame}
+use Rattle.seat_programs.specs.brpc_model.specs.Stream as streams
+use Rattle.seat_programs.specs.brpc_model.specs.Causes.{HasFault}
 use Rattle.seat_programs.specs.Asides.{Step, Found, LoadIdWord, LockId, PostId, EndId, FreeId, TakeBytes, Taking, Bytes, Nothing, NoMore, AtEnd, Closed, Broken, call_id}
 use Rattle.seat_programs.specs.Heads.{Retry, Version, Reading, Locks, Reads, Locking, NotThere, Has, Ended}
 use Rattle.seat_programs.specs.Programs.{Program, Do, Say, Rest, TakeMessage, TakeHome, PutHome, PutBytes, AskReady, Aside, Round, NO_SOCKET}
 use Rattle.seat_programs.specs.Posts.{packed, is_final, end_id, locking, has_version}
 use Rattle.seat_programs.specs.Readers.{LIMIT, ending_of, slot_in, version_in, has_response, is_early, answer, answered, responses, last_of, ended_by, read_on, took, read, reader}
 use Rattle.seat_programs.specs.Cores.{resolved, next_step}
-use Rattle.outcome_stories.specs.program_steps.specs.Sound.{first_step}
-use Rattle.call_causes.specs.Scenes.{In}
-use Rattle.call_causes.proofs.Streams.{frames_behind_rest, frames_before_fault, faults_follow}
+use Rattle.story_ticks.specs.programs_allowed.specs.program_steps.specs.Sound.{first_step}
+use Rattle.story_ticks.specs.call_stories.specs.Scenes.{In}
+use Rattle.story_ticks.specs.call_stories.proofs.Streams.{frames_behind_rest, frames_before_fault, faults_follow}
 use Rattle.call_causes.proofs.Handled.{Goes, AllFrom, all_on, Sit, word_of, frames_in, IsResp, Bounded, Done, Waits, Later, Over, Frozen, IsAt, Mid, mid_on, at_on, over_on, frozen_on, mid_next, mid_same, mid_over, early_done, done_on, gone_by, bounded_by, gone_behind, bounded_on}
 use Rattle.call_causes.proofs.HandledStates.{After, after_read, after_first, after_next, after_map}
 

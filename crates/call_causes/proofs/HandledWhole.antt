@@ -5,16 +5,16 @@ use Rattle.std.proofs.lemmas.List.{length-map}
 use mathlib.Core.Option.{some, some-injective, some-ne-none}
 use lib.ListN.{get_elem?}
 use Rattle.atomic_table.proofs.Lists.{at_set}
-use Rattle.brpc_model.specs.Items.{Item}
-use Rattle.brpc_model.specs.Operations.{Turn}
-use Rattle.brpc_model.specs.Frame.{Frame}
-use Rattle.owed_calls.specs.chain_steps.proofs.Lists.{at_some}
+use Rattle.seat_programs.specs.brpc_model.specs.Items.{Item}
+use Rattle.seat_programs.specs.brpc_model.specs.Operations.{Turn}
+use Rattle.seat_programs.specs.brpc_model.specs.Frame.{Frame}
+use Rattle.story_ticks.specs.joint_runs.specs.chain_steps.proofs.Lists.{at_some}
 use Rattle.sock_words.specs.declared.outcome.Outcome.TheVariants as outcomes
 use Rattle.sock_message.specs.Asked.{Asked}
 use Rattle.seat_programs.specs.declared.task.Op.TheVariants as ops
 use Rattle.seat_programs.specs.declared.task.Task.{Task}
 use Rattle.seat_programs.specs.Told.{IsTask, Became}
-use Rattle.owed_calls.specs.Lives.{ClosesInRun}
+use Rattle.story_ticks.specs.call_owing.specs.Lives.{ClosesInRun}
 use Rattle.seat_programs.specs.Asides.{id_slot, id_first}
 use Rattle.seat_programs.specs.Clients.{ending_of, client_from}
 use Rattle.seat_programs.specs.Programs.{Program}
@@ -23,29 +23,29 @@ use Rattle.seat_programs.specs.Cores.{Core, SeatState, resolved, waiting_at, nex
 use Rattle.seat_programs.specs.Ticks.{Moment, run}
 use Rattle.seat_programs.specs.Tasks.{opens, calls, plan_of, id_plan_of}
 use Rattle.seat_programs.specs.Scripts.{sizes_of, programs, all_tasks, opened, ending, set_up, played, is_ending, IsRunWithCalls}
-use Rattle.outcome_stories.specs.program_walks.proofs.OpensStay.{readers_begin}
-use Rattle.outcome_stories.specs.program_walks.proofs.Whole.{views_played, views_closed, views_ended}
-use Rattle.owed_calls.specs.programs_allowed.proofs.Beginning as clients_begin
-use Rattle.id_runs.specs.Held.{IdView}
-use Rattle.id_runs.specs.Goes.{SoundIds}
-use Rattle.owed_calls.specs.joint_runs.proofs.Both.{BothSound}
-use Rattle.owed_calls.specs.joint_runs.proofs.Runs.{AreMade, first_views, joint_runs}
-use Rattle.owed_calls.specs.script_facts.proofs.Reading.{InRange}
-use Rattle.owed_calls.specs.script_facts.proofs.Targets.{AreThere}
-use Rattle.call_causes.specs.Lists.{advanced_at, given, soon_at, shows_in, shows_in_run, soon_of_run}
-use Rattle.call_causes.specs.Posts.{Post, posted_at}
-use Rattle.call_causes.specs.Decided.{posted_by, Decision, decided_by, posted_behind, late_in}
-use Rattle.call_causes.specs.Scenes.{Scene, In, LeadsTo}
-use Rattle.call_causes.specs.Says.{Mark}
-use Rattle.call_causes.proofs.Numbered.{AreNumbered}
-use Rattle.call_causes.proofs.Claiming.{HaveSlots}
-use Rattle.call_causes.proofs.Scripts.{are_numbered, have_slots, begins}
-use Rattle.call_causes.proofs.End.{HasEnded, call_of}
-use Rattle.call_causes.proofs.Knowing.{are_low}
+use Rattle.story_ticks.specs.programs_allowed.specs.program_walks.proofs.OpensStay.{readers_begin}
+use Rattle.story_ticks.specs.programs_allowed.specs.program_walks.proofs.Whole.{views_played, views_closed, views_ended}
+use Rattle.story_ticks.specs.programs_allowed.proofs.Beginning as clients_begin
+use Rattle.story_ticks.specs.id_runs.specs.Held.{IdView}
+use Rattle.story_ticks.specs.id_runs.specs.Goes.{SoundIds}
+use Rattle.story_ticks.specs.joint_runs.proofs.Both.{BothSound}
+use Rattle.story_ticks.specs.joint_runs.proofs.Runs.{AreMade, first_views, joint_runs}
+use Rattle.story_ticks.specs.call_owing.specs.script_facts.proofs.Reading.{InRange}
+use Rattle.story_ticks.specs.call_owing.specs.script_facts.proofs.Targets.{AreThere}
+use Rattle.story_ticks.specs.call_stories.specs.Lists.{advanced_at, given, soon_at, shows_in, shows_in_run, soon_of_run}
+use Rattle.story_ticks.specs.call_stories.specs.Posts.{Post, posted_at}
+use Rattle.story_ticks.specs.call_stories.specs.Decided.{posted_by, Decision, decided_by, posted_behind, late_in}
+use Rattle.story_ticks.specs.call_stories.specs.Scenes.{Scene, In, LeadsTo}
+use Rattle.story_ticks.specs.call_stories.specs.Says.{Mark}
+use Rattle.story_ticks.specs.story_steps.proofs.Numbered.{AreNumbered}
+use Rattle.story_ticks.proofs.Claiming.{HaveSlots}
+use Rattle.story_ticks.proofs.Scripts.{are_numbered, have_slots, begins}
+use Rattle.story_ticks.specs.story_steps.proofs.End.{HasEnded, call_of}
+use Rattle.story_ticks.specs.call_stories.proofs.Knowing.{are_low}
 use Rattle.call_causes.proofs.Whole.{run_has_story, run_has_ended}
 use Rattle.call_causes.proofs.Run as runs
-use Rattle.call_causes.proofs.RunFacts.{own_leads, run_facts, leadings}
-use Rattle.call_causes.proofs.RunTicks.{in_setup, in_clients, in_closing, parts}
+use Rattle.story_ticks.proofs.RunFacts.{own_leads, run_facts, leadings}
+use Rattle.story_ticks.specs.call_stories.proofs.RunTicks.{in_setup, in_clients, in_closing, parts}
 use Rattle.call_causes.proofs.Handled.{Sit, frames_in, IsResp}
 use Rattle.call_causes.proofs.HandledSteps.{State, waiting}
 use Rattle.call_causes.proofs.HandledTicks.{sit}

@@ -6,8 +6,8 @@ use Rattle.std.specs.List.{AllByRecursion}
 use Rattle.sock_words.specs.declared.plain.Plan.{Plan}
 use Rattle.sock_words.specs.declared.outcome.Outcome.{Outcome}
 use Rattle.sock_words.specs.declared.outcome.Outcome.TheVariants as outcomes
-use Rattle.brpc_model.specs.Items.{Item}
-use Rattle.brpc_model.specs.Operations.{Turn}
+use Rattle.seat_programs.specs.brpc_model.specs.Items.{Item}
+use Rattle.seat_programs.specs.brpc_model.specs.Operations.{Turn}
 use Rattle.corr_core.specs.Word.{error_of}
 use Rattle.corr_core.specs.declared.marks.Plan.{Plan as IdPlan}
 use Rattle.sock_message.specs.Asked.{Asked}
@@ -18,23 +18,23 @@ use Rattle.seat_programs.specs.Tasks.{plan_of, id_plan_of}
 use Rattle.seat_programs.specs.Told.{TaskFits, OpFits, IsTask, Became}
 use Rattle.seat_programs.specs.ToldCalls.{Fixed, Order, ShowsId}
 use Rattle.seat_programs.specs.Scripts.{all_tasks, IsRunWithCalls}
-use Rattle.owed_calls.specs.joint_runs.proofs.Runs.{AreMade}
-use Rattle.owed_calls.specs.script_facts.proofs.Reading.{InRange}
-use Rattle.owed_calls.specs.script_facts.proofs.Targets.{AreThere}
-use Rattle.owed_calls.specs.Lives.{ClosesInRun}
-use Rattle.call_causes.specs.Lists.{given, times, shows_in_run, attempts_of_run}
-use Rattle.call_causes.specs.Posts.{Post, posts_of_run}
-use Rattle.call_causes.specs.Decided.{Decision, decided_by}
-use Rattle.call_causes.specs.Target.{FailedByPost, FailedByDecision, AdvancedByPost}
-use Rattle.call_causes.specs.Scenes.{Birth, Scene, In, WasPosted, IsTaskOf, WhyEnded}
-use Rattle.call_causes.specs.Says.{Mark}
-use Rattle.call_causes.specs.Stories.{BirthsLaw, TasksLaw}
-use Rattle.call_causes.proofs.Moving.{in_todo, in_done, listed}
-use Rattle.call_causes.proofs.Numbered.{AreNumbered, one_task, listed_or}
-use Rattle.call_causes.proofs.BirthTicks.{in_all}
-use Rattle.call_causes.proofs.End.{HasEnded, one_outcome, ended_call, shows_own, contains_in}
-use Rattle.call_causes.proofs.Whys.{in_contains}
-use Rattle.call_causes.proofs.Scripts.{are_numbered}
+use Rattle.story_ticks.specs.joint_runs.proofs.Runs.{AreMade}
+use Rattle.story_ticks.specs.call_owing.specs.script_facts.proofs.Reading.{InRange}
+use Rattle.story_ticks.specs.call_owing.specs.script_facts.proofs.Targets.{AreThere}
+use Rattle.story_ticks.specs.call_owing.specs.Lives.{ClosesInRun}
+use Rattle.story_ticks.specs.call_stories.specs.Lists.{given, times, shows_in_run, attempts_of_run}
+use Rattle.story_ticks.specs.call_stories.specs.Posts.{Post, posts_of_run}
+use Rattle.story_ticks.specs.call_stories.specs.Decided.{Decision, decided_by}
+use Rattle.story_ticks.specs.call_stories.specs.Target.{FailedByPost, FailedByDecision, AdvancedByPost}
+use Rattle.story_ticks.specs.call_stories.specs.Scenes.{Birth, Scene, In, WasPosted, IsTaskOf, WhyEnded}
+use Rattle.story_ticks.specs.call_stories.specs.Says.{Mark}
+use Rattle.story_ticks.specs.call_stories.specs.Stories.{BirthsLaw, TasksLaw}
+use Rattle.story_ticks.specs.story_steps.proofs.Moving.{in_todo, in_done, listed}
+use Rattle.story_ticks.specs.story_steps.proofs.Numbered.{AreNumbered, one_task, listed_or}
+use Rattle.story_ticks.specs.story_steps.proofs.BirthTicks.{in_all}
+use Rattle.story_ticks.specs.story_steps.proofs.End.{HasEnded, one_outcome, ended_call, shows_own, contains_in}
+use Rattle.story_ticks.specs.story_steps.proofs.Whys.{in_contains}
+use Rattle.story_ticks.proofs.Scripts.{are_numbered}
 use Rattle.call_causes.proofs.Whole.{run_has_story, run_attempts, run_posted, run_has_ended}
 use Rattle.call_causes.proofs.Decisions.{run_failed_decided}
 

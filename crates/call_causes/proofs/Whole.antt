@@ -2,36 +2,36 @@
 use Rattle.std.proofs.Common.{◌≡◌, ℕ, List, [], length, get_or, sym, ap, ◌∙◌, subst, arith}
 use Rattle.std.proofs.lemmas.List.{append-nil}
 use Rattle.std.specs.List.{AllByRecursion}
-use Rattle.brpc_model.specs.Items.{Item}
-use Rattle.brpc_model.specs.Operations.{Turn}
+use Rattle.seat_programs.specs.brpc_model.specs.Items.{Item}
+use Rattle.seat_programs.specs.brpc_model.specs.Operations.{Turn}
 use Rattle.corr_core.specs.Word.{parts}
-use Rattle.id_rule.specs.Lawful.{id_index}
+use Rattle.seat_programs.specs.id_rule.specs.Lawful.{id_index}
 use Rattle.seat_programs.specs.Cores.{Core}
 use Rattle.seat_programs.specs.declared.task.Op.{Op}
 use Rattle.seat_programs.specs.declared.task.Op.TheVariants as ops
 use Rattle.seat_programs.specs.Tasks.{plan_of, id_plan_of}
 use Rattle.seat_programs.specs.Scripts.{all_tasks, IsRunWithCalls}
 use Rattle.seat_programs.specs.ToldCalls.{Fixed, Order}
-use Rattle.outcome_stories.specs.program_steps.specs.Sound.{AllRest}
-use Rattle.outcome_stories.specs.Facts.{Seeks, CallsFoundNone}
-use Rattle.owed_calls.specs.joint_runs.proofs.Runs.{AreMade}
-use Rattle.owed_calls.specs.script_facts.proofs.Reading.{InRange}
-use Rattle.owed_calls.specs.script_facts.proofs.Targets.{AreThere}
-use Rattle.owed_calls.specs.Lives.{ClosesInRun}
-use Rattle.owed_calls.proofs.Known.{run_all_ended, run_all_rest}
-use Rattle.call_causes.specs.Lists.{given, times, shows_in_run, attempts_of_run}
-use Rattle.call_causes.specs.Target.{ToldOnCallsInPart}
-use Rattle.call_causes.specs.Posts.{Post, posts_of_run}
-use Rattle.call_causes.specs.Decided.{Decision, decided_at}
-use Rattle.call_causes.specs.Scenes.{In, WasPosted, SeeksName, LeadsTo}
-use Rattle.call_causes.specs.Stories.{HasStory}
-use Rattle.call_causes.proofs.End.{HasEnded, told, versions}
+use Rattle.story_ticks.specs.programs_allowed.specs.program_steps.specs.Sound.{AllRest}
+use Rattle.story_ticks.specs.outcome_stories.specs.Facts.{Seeks, CallsFoundNone}
+use Rattle.story_ticks.specs.joint_runs.proofs.Runs.{AreMade}
+use Rattle.story_ticks.specs.call_owing.specs.script_facts.proofs.Reading.{InRange}
+use Rattle.story_ticks.specs.call_owing.specs.script_facts.proofs.Targets.{AreThere}
+use Rattle.story_ticks.specs.call_owing.specs.Lives.{ClosesInRun}
+use Rattle.story_ticks.specs.owed_calls.proofs.Known.{run_all_ended, run_all_rest}
+use Rattle.story_ticks.specs.call_stories.specs.Lists.{given, times, shows_in_run, attempts_of_run}
+use Rattle.story_ticks.specs.call_stories.specs.Target.{ToldOnCallsInPart}
+use Rattle.story_ticks.specs.call_stories.specs.Posts.{Post, posts_of_run}
+use Rattle.story_ticks.specs.call_stories.specs.Decided.{Decision, decided_at}
+use Rattle.story_ticks.specs.call_stories.specs.Scenes.{In, WasPosted, SeeksName, LeadsTo}
+use Rattle.story_ticks.specs.call_stories.specs.Stories.{HasStory}
+use Rattle.story_ticks.specs.story_steps.proofs.End.{HasEnded, told, versions}
 use Rattle.call_causes.proofs.CallWhys.{names_found_none, why}
 use Rattle.call_causes.proofs.Once.{expired_once}
-use Rattle.call_causes.proofs.Scripts.{are_numbered, are_ascending, have_slots, begins}
+use Rattle.story_ticks.proofs.Scripts.{are_numbered, are_ascending, have_slots, begins}
 use Rattle.call_causes.proofs.Run.{run_told}
-use Rattle.call_causes.proofs.RunFacts.{run_facts}
-use Rattle.call_causes.proofs.Over.{has_ended}
+use Rattle.story_ticks.proofs.RunFacts.{run_facts}
+use Rattle.story_ticks.proofs.Over.{has_ended}
 
 seeks_name : (n : ℕ) (op : Op) → Seeks n op → SeeksName n op
 seeks_name n (ops.Open m k) s = absurd s

@@ -1,2 +1,2 @@
-//! Why each `call`, `expire` and `join` of a run has its outcome: what each seat may say of calls, and a story of a run that each tick keeps.
+//! With calls: why each ended, by the story of the whole run, and which response ended it. The proofs are in `proofs/`. There is no code here.
 #![tactic(auto)]

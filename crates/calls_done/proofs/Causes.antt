@@ -29,7 +29,7 @@ use Rattle.seat_programs.specs.ToldCalls as told
 use Rattle.seat_programs.specs.ToldCalls.{Accepted, OfSend, OfCall}
 use Rattle.callless_fits.specs.sock_deeds.specs.Told.{fixed_by}
 use Rattle.failed_told.specs.call_whys.specs.call_told.specs.Answers.{HasAnswer}
-use Rattle.failed_told.specs.Ends.{EndedByReading}
+use Rattle.failed_told.specs.failed_reasons.specs.Ends.{EndedByReading}
 use Rattle.calls_done.proofs.Known.{Known, IsOfCall}
 use Rattle.calls_done.specs.Owed.{GivesWell}
 use Rattle.callless_fits.proofs.Sends.{run_of, Names, Words, links, task_at, said_or_placed_at, find_none, life_low}

@@ -19,7 +19,7 @@ use Rattle.seat_programs.specs.ToldCalls.{Accepted, StandsAt, StandsOn, MayBeOn,
 use Rattle.sock_message.specs.Asked.{Asked, name_of}
 use Rattle.callless_fits.proofs.Sends.{run_of, links, inside, unfailed, life_low}
 use Rattle.callless_fits.specs.sock_deeds.specs.Told.{fixed_by}
-use Rattle.failed_told.specs.Ends.{AtFault, AtEnd, AtFaultDrop, AtEndDrop, LeftOver}
+use Rattle.failed_told.specs.failed_reasons.specs.Ends.{AtFault, AtEnd, AtFaultDrop, AtEndDrop, LeftOver}
 use Rattle.calls_done.proofs.Calm.{WasFull_, no_drop, unfull}
 use Rattle.calls_done.proofs.Causes.{asked, task, Ended_}
 use Rattle.calls_done.proofs.Known.{Known}

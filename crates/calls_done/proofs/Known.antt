@@ -10,7 +10,7 @@ use Rattle.seat_programs.specs.Scripts.{all_tasks}
 use Rattle.seat_programs.specs.Tasks.{plan_of}
 use Rattle.seat_programs.specs.Told.{IsTask, Became}
 use Rattle.seat_programs.specs.ToldCalls.{StandsOn, FailedBy, WhyAgain}
-use Rattle.failed_told.specs.Ends.{EndedByReading}
+use Rattle.failed_told.specs.failed_reasons.specs.Ends.{EndedByReading}
 use Rattle.calls_done.specs.Begun.{FirstAttempt}
 use Rattle.callless_fits.proofs.Sends.{ToldRun}
 use Rattle.callless_fits.specs.sock_deeds.specs.Told.{fixed_by}

@@ -25,22 +25,22 @@ use Rattle.seat_programs.specs.ToldCalls.{Fixed}
 use Rattle.served_fits.specs.programs_allowed.specs.sock_runs.proofs.Along.{place_inside}
 use Rattle.served_fits.specs.programs_allowed.specs.program_walks.proofs.Whole.{closing_of, views_played}
 use Rattle.served_fits.specs.outcome_stories.proofs.Members.{in_contains}
-use Rattle.owed_calls.specs.joint_runs.proofs.Runs.{first_views}
-use Rattle.owed_calls.specs.Sound.{id_word_of, at_of, IsOpen}
-use Rattle.owed_calls.proofs.Known.{run_all_rest}
+use Rattle.served_fits.specs.joint_runs.proofs.Runs.{first_views}
+use Rattle.served_fits.specs.call_owing.specs.Sound.{id_word_of, at_of, IsOpen}
+use Rattle.served_fits.specs.owed_calls.proofs.Known.{run_all_rest}
 use Rattle.served_fits.specs.run_theorems.proofs.Lengths.{ended_length}
 use Rattle.served_fits.specs.run_theorems.proofs.Starts.{made}
-use Rattle.served_fits.specs.call_causes.specs.Lists.{given, shows_in, times, advanced_at, attempts_of_run}
+use Rattle.served_fits.specs.call_stories.specs.Lists.{given, shows_in, times, advanced_at, attempts_of_run}
 use Rattle.served_fits.specs.call_causes.proofs.Posted.{run_few_attempts}
 use Rattle.served_fits.specs.send_causes.proofs.Assembled.{fixed_in_run}
-use Rattle.served_fits.specs.send_causes.proofs.AttemptedRuns.{Counted, played_counted, times_append}
-use Rattle.served_fits.specs.send_causes.proofs.DropWhole.{get_same}
-use Rattle.served_fits.specs.send_causes.proofs.AttemptedStored.{ids_at, stored_run}
+use Rattle.served_fits.specs.attempted_calls.proofs.AttemptedRuns.{Counted, played_counted, times_append}
+use Rattle.served_fits.specs.sent_once.proofs.DropWhole.{get_same}
+use Rattle.served_fits.specs.attempted_calls.proofs.AttemptedStored.{ids_at, stored_run}
 use Rattle.served_fits.specs.send_causes.proofs.ClosedLostTicks.{word_link, word_attempt}
-use Rattle.served_fits.specs.send_causes.proofs.Early.{start, go, fitting, known}
+use Rattle.served_fits.specs.accept_counts.proofs.Early.{start, go, fitting, known}
 use Rattle.served_fits.specs.send_causes.proofs.OwnIds.{labelled_at, single_at}
-use Rattle.served_fits.specs.send_causes.proofs.Runs.{AreLabelledIn, IsCallOf}
-use Rattle.served_fits.specs.send_causes.proofs.Sends.{narrow, opening_bare}
+use Rattle.served_fits.specs.accept_counts.proofs.Runs.{AreLabelledIn, IsCallOf}
+use Rattle.served_fits.specs.sent_once.proofs.Sends.{narrow, opening_bare}
 use Rattle.served_fits.specs.served_calls.specs.Quiet.{HasServer}
 use Rattle.calls_over.specs.Open.{OpenCall}
 use Rattle.calls_over.proofs.OpensEntered.{early_log, IsAccepted, AllTaken, own_early, accepted_so, accepted_or}
@@ -50,7 +50,7 @@ use Rattle.calls_over.proofs.OpensOwed.{IsRead, open_read}
 use Rattle.calls_over.proofs.OpensGiven.{CalmRun, are_made, targets, range}
 use Rattle.calls_over.proofs.OpensQuiet.{has_server, unfailed, none_thrown}
 use Rattle.calls_over.proofs.OpensRequest.{own_told, IsAttempt, attempt_of, taken, taken_so, request_there}
-use Rattle.served_fits.specs.send_causes.proofs.Standing.{both, unlocked}
+use Rattle.served_fits.specs.accept_counts.proofs.Standing.{both, unlocked}
 use Rattle.id_runs.proofs.Steps.{live_room}
 
 -- ## At words

@@ -24,18 +24,18 @@ use Rattle.served_fits.specs.outcome_stories.proofs.Delivered.{accepted_of, acce
 use Rattle.served_fits.specs.outcome_causes.proofs.Final.{at_there, at_within}
 use Rattle.served_fits.specs.outcome_stories.proofs.Members.{in_contains}
 use Rattle.served_fits.specs.outcome_causes.proofs.Plain.{in_both, in_left, in_right}
-use Rattle.owed_calls.specs.joint_runs.proofs.Runs.{AreMade, first_views}
-use Rattle.owed_calls.specs.Lives.{ClosesInRun}
-use Rattle.served_fits.specs.call_causes.specs.Lists.{shows_in}
-use Rattle.served_fits.specs.send_causes.specs.EndedCalls.{Store, stored_at, stores_of_run}
+use Rattle.served_fits.specs.joint_runs.proofs.Runs.{AreMade, first_views}
+use Rattle.served_fits.specs.call_owing.specs.Lives.{ClosesInRun}
+use Rattle.served_fits.specs.call_stories.specs.Lists.{shows_in}
+use Rattle.served_fits.specs.accept_counts.specs.EndedCalls.{Store, stored_at, stores_of_run}
 use Rattle.served_fits.specs.send_causes.proofs.ClosedLost.{setup_fates, played_fates, early_ended}
 use Rattle.served_fits.specs.send_causes.proofs.ClosedLostTicks.{AreTaken, Ended, word_link, word_attempt}
-use Rattle.served_fits.specs.send_causes.proofs.Early.{start, go, fitting}
-use Rattle.served_fits.specs.send_causes.proofs.EndedAttempts.{all_stored, at_place, spoken_call, own_store}
-use Rattle.served_fits.specs.send_causes.proofs.EndedOnce.{run_stored_once}
-use Rattle.served_fits.specs.send_causes.proofs.LateRests.{HasNone, played_idle, NoOld}
-use Rattle.served_fits.specs.send_causes.proofs.Runs.{AreLabelledIn}
-use Rattle.served_fits.specs.send_causes.proofs.Sends.{orders_of_run}
+use Rattle.served_fits.specs.accept_counts.proofs.Early.{start, go, fitting}
+use Rattle.served_fits.specs.ended_calls.proofs.EndedAttempts.{all_stored, at_place, spoken_call, own_store}
+use Rattle.served_fits.specs.ended_calls.proofs.EndedOnce.{run_stored_once}
+use Rattle.served_fits.specs.dropped_calls.proofs.LateRests.{HasNone, played_idle, NoOld}
+use Rattle.served_fits.specs.accept_counts.proofs.Runs.{AreLabelledIn}
+use Rattle.served_fits.specs.sent_once.proofs.Sends.{orders_of_run}
 use Rattle.calls_over.proofs.OpensHeld.{IsHeld, run_held}
 use Rattle.calls_over.proofs.OpensLog.{log, held_logged, logged_held, logged_on}
 use Rattle.calls_over.proofs.OpensNamed.{IsEarly}

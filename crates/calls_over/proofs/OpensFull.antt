@@ -29,12 +29,12 @@ use Rattle.seat_programs.specs.Tasks.{plan_of}
 use Rattle.seat_programs.specs.ToldCalls.{Accepted, Fixed, ToldCalls, label}
 use Rattle.served_fits.specs.programs_allowed.specs.program_walks.proofs.Whole.{views_played}
 use Rattle.served_fits.specs.outcome_stories.proofs.Delivered.{accepted_of, accepted_at, used_once}
-use Rattle.owed_calls.specs.joint_runs.proofs.Runs.{AreMade, first_views}
-use Rattle.owed_calls.specs.Lives.{ClosesInRun}
+use Rattle.served_fits.specs.joint_runs.proofs.Runs.{AreMade, first_views}
+use Rattle.served_fits.specs.call_owing.specs.Lives.{ClosesInRun}
 use Rattle.served_fits.specs.send_causes.proofs.ClosedLostTicks.{AreTaken}
-use Rattle.served_fits.specs.send_causes.proofs.Sends.{orders_of_run}
+use Rattle.served_fits.specs.sent_once.proofs.Sends.{orders_of_run}
 use Rattle.calls_over.proofs.OpensEntered.{early_log, late_log, rested_sound, idle_there, StandsLater, stands_later}
-use Rattle.served_fits.specs.send_causes.proofs.LateRests.{NoOld}
+use Rattle.served_fits.specs.dropped_calls.proofs.LateRests.{NoOld}
 
 -- a message of the attempt is in the list, or none is
 module _ (o n : ℕ) where

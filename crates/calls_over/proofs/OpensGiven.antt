@@ -18,10 +18,10 @@ use Rattle.seat_programs.specs.Scripts.{Reports, all_tasks, IsRunWithCalls}
 use Rattle.seat_programs.specs.Tasks.{plan_of}
 use Rattle.seat_programs.specs.ToldCalls.{Order, Fixed, ToldCalls}
 use Rattle.served_fits.specs.outcome_stories.specs.Facts.{broken_of_run}
-use Rattle.owed_calls.specs.joint_runs.proofs.Runs.{AreMade}
-use Rattle.owed_calls.specs.Lives.{ClosesInRun}
+use Rattle.served_fits.specs.joint_runs.proofs.Runs.{AreMade}
+use Rattle.served_fits.specs.call_owing.specs.Lives.{ClosesInRun}
 use Rattle.served_fits.specs.run_theorems.proofs.Starts.{made}
-use Rattle.served_fits.specs.call_causes.specs.Lists.{given}
+use Rattle.served_fits.specs.call_stories.specs.Lists.{given}
 use Rattle.served_fits.specs.served_runs.specs.Offered.{OffersInRun}
 use Rattle.served_fits.specs.served_calls.specs.Quiet.{AreShown}
 

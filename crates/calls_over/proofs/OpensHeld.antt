@@ -26,7 +26,7 @@ use Rattle.served_fits.specs.outcome_stories.specs.Stories.{In}
 use Rattle.served_fits.specs.outcome_stories.proofs.Cases.{tick_cases}
 use Rattle.served_fits.specs.outcome_causes.proofs.Final.{at_within}
 use Rattle.served_fits.specs.outcome_causes.proofs.Plain.{in_left}
-use Rattle.served_fits.specs.send_causes.proofs.Views.{row_same}
+use Rattle.served_fits.specs.accept_counts.proofs.Views.{row_same}
 
 module _ (e : Entry) where
   abbrev pub IsThere : List (List Entry) → Type 0

@@ -22,21 +22,21 @@ use Rattle.served_fits.specs.outcome_causes.proofs.Openings.{are_seats, all_expl
 use Rattle.served_fits.specs.outcome_causes.proofs.Runs.{IsStoried, set_up_over}
 use Rattle.served_fits.specs.outcome_causes.proofs.Scripts.{own_from}
 use Rattle.id_rule.specs.Lawful.{at_index}
-use Rattle.served_fits.specs.call_causes.specs.Lists.{shows_in}
-use Rattle.served_fits.specs.send_causes.specs.EndedCalls.{Store, stored_at}
-use Rattle.served_fits.specs.send_causes.proofs.Runs.{AreLabelledIn, IsCallOf, asked_by}
-use Rattle.served_fits.specs.send_causes.proofs.EndedTrails.{lost}
-use Rattle.served_fits.specs.send_causes.proofs.EndedNamed.{all_follow, begins_named, Named, Behind, seats_named, setup_named}
-use Rattle.served_fits.specs.send_causes.proofs.EndedNames.{NameLaw, StoredFor}
+use Rattle.served_fits.specs.call_stories.specs.Lists.{shows_in}
+use Rattle.served_fits.specs.accept_counts.specs.EndedCalls.{Store, stored_at}
+use Rattle.served_fits.specs.accept_counts.proofs.Runs.{AreLabelledIn, IsCallOf, asked_by}
+use Rattle.served_fits.specs.attempted_calls.proofs.EndedTrails.{lost}
+use Rattle.served_fits.specs.attempted_calls.proofs.EndedNamed.{all_follow, begins_named, Named, Behind, seats_named, setup_named}
+use Rattle.served_fits.specs.attempted_calls.proofs.EndedNames.{NameLaw, StoredFor}
 use Rattle.sock_words.specs.Words as sockets
 use Rattle.seat_programs.specs.Asides.{id_slot, id_first}
-use Rattle.owed_calls.specs.joint_runs.proofs.Runs.{AreMade}
-use Rattle.owed_calls.specs.Lives.{ClosesInRun}
-use Rattle.owed_calls.specs.Sound.{at_of}
-use Rattle.served_fits.specs.send_causes.proofs.Early.{start, go, fitting, first_fresh}
-use Rattle.served_fits.specs.send_causes.proofs.Sends.{narrow, opening_bare}
-use Rattle.served_fits.specs.send_causes.proofs.Standing.{both}
-use Rattle.served_fits.specs.send_causes.proofs.Grounds.{setting}
+use Rattle.served_fits.specs.joint_runs.proofs.Runs.{AreMade}
+use Rattle.served_fits.specs.call_owing.specs.Lives.{ClosesInRun}
+use Rattle.served_fits.specs.call_owing.specs.Sound.{at_of}
+use Rattle.served_fits.specs.accept_counts.proofs.Early.{start, go, fitting, first_fresh}
+use Rattle.served_fits.specs.sent_once.proofs.Sends.{narrow, opening_bare}
+use Rattle.served_fits.specs.accept_counts.proofs.Standing.{both}
+use Rattle.served_fits.specs.accept_counts.proofs.Grounds.{setting}
 
 -- what is known of an at word that was stored before the ending
 pub record IsEarly (script : List Item) (turns : List Turn) (core : Core) (is : IsRunWithCalls script turns core) (o w : ℕ) : Type 0 where

@@ -37,28 +37,28 @@ use Rattle.served_fits.specs.programs_allowed.specs.program_walks.proofs.ReaderS
 use Rattle.served_fits.specs.programs_allowed.specs.program_walks.proofs.Records.{next_stores}
 use Rattle.served_fits.specs.programs_allowed.specs.program_walks.proofs.Whole.{IsListed, views_played, set_up_answered, set_up_sound, played_sound, recorded_opened, recorded_set_up}
 use Rattle.served_fits.specs.programs_allowed.proofs.Beginning as clients_begin
-use Rattle.owed_calls.specs.joint_runs.proofs.Runs.{AreMade, first_views, joint_runs}
-use Rattle.owed_calls.specs.Lives.{id_of, life_of, AreSaying, ClosesInRun}
-use Rattle.owed_calls.specs.Owes.{OwesOn}
-use Rattle.owed_calls.specs.Owing.{Free, Owing, InList, Among, DutyTo, with_dead}
-use Rattle.owed_calls.specs.Sound.{at_of, IsOpen, Owed, by_seat, by_retry, by_reader, retry_tokens, SoundOwing}
-use Rattle.owed_calls.proofs.Beginning.{owing_begins}
-use Rattle.owed_calls.proofs.EndsStill.{view_of}
-use Rattle.owed_calls.proofs.Known.{run_keeps, opens_apart, quiet_closes}
-use Rattle.owed_calls.proofs.Owed.{tasks_own, opened_seats}
-use Rattle.owed_calls.proofs.OwingRuns.{Reaches, id_is, run_owing, reach_back}
-use Rattle.owed_calls.proofs.Saying.{says_along}
-use Rattle.owed_calls.proofs.WholeOwing.{links_stand}
-use Rattle.owed_calls.proofs.WordsGiven.{Named, names_others, beginning_named, run_named}
+use Rattle.served_fits.specs.joint_runs.proofs.Runs.{AreMade, first_views, joint_runs}
+use Rattle.served_fits.specs.call_owing.specs.Lives.{id_of, life_of, AreSaying, ClosesInRun}
+use Rattle.served_fits.specs.call_owing.specs.Owes.{OwesOn}
+use Rattle.served_fits.specs.call_owing.specs.Owing.{Free, Owing, InList, Among, DutyTo, with_dead}
+use Rattle.served_fits.specs.call_owing.specs.Sound.{at_of, IsOpen, Owed, by_seat, by_retry, by_reader, retry_tokens, SoundOwing}
+use Rattle.served_fits.specs.owing_ticks.proofs.Beginning.{owing_begins}
+use Rattle.served_fits.specs.call_owing.proofs.EndsStill.{view_of}
+use Rattle.served_fits.specs.owed_calls.proofs.Known.{run_keeps, opens_apart, quiet_closes}
+use Rattle.served_fits.specs.owed_calls.proofs.Owed.{tasks_own, opened_seats}
+use Rattle.served_fits.specs.owing_ticks.proofs.OwingRuns.{Reaches, id_is, run_owing, reach_back}
+use Rattle.served_fits.specs.owed_calls.proofs.Saying.{says_along}
+use Rattle.served_fits.specs.owed_calls.proofs.WholeOwing.{links_stand}
+use Rattle.served_fits.specs.owned_ids.proofs.WordsGiven.{Named, names_others, beginning_named, run_named}
 use Rattle.served_fits.specs.call_causes.proofs.Handled.{Sit}
 use Rattle.served_fits.specs.call_causes.proofs.HandledSteps.{State, waiting, reading, seeking, taking, ending_, freeing, over}
 use Rattle.served_fits.specs.call_causes.proofs.HandledStates.{After}
-use Rattle.served_fits.specs.send_causes.proofs.Early.{start, go, fitting, known, clients_take_none}
-use Rattle.served_fits.specs.send_causes.proofs.Takeless.{NoTakes}
+use Rattle.served_fits.specs.accept_counts.proofs.Early.{start, go, fitting, known, clients_take_none}
+use Rattle.served_fits.specs.accept_counts.proofs.Takeless.{NoTakes}
 use Rattle.calls_over.proofs.Handled.{reads_before}
-use Rattle.served_fits.specs.send_causes.proofs.Standing.{Stands, resting, joining, opening, discarding, stands}
-use Rattle.served_fits.specs.send_causes.proofs.Standing as still
-use Rattle.served_fits.specs.send_causes.proofs.Grounds.{setting, stages}
+use Rattle.served_fits.specs.accept_counts.proofs.Standing.{Stands, resting, joining, opening, discarding, stands}
+use Rattle.served_fits.specs.accept_counts.proofs.Standing as still
+use Rattle.served_fits.specs.accept_counts.proofs.Grounds.{setting, stages}
 
 -- ## A reader keeps no retry
 

@@ -34,16 +34,16 @@ use Rattle.served_fits.specs.outcome_stories.specs.Stories.{In}
 use Rattle.served_fits.specs.outcome_ticks.proofs.Lifted.{task_up}
 use Rattle.served_fits.specs.outcome_stories.proofs.Members.{in_contains, contains_in}
 use Rattle.served_fits.specs.outcome_causes.proofs.Plain.{in_left, in_right, in_both}
-use Rattle.owed_calls.specs.joint_runs.proofs.Runs.{first_views}
+use Rattle.served_fits.specs.joint_runs.proofs.Runs.{first_views}
 use Rattle.served_fits.specs.run_theorems.specs.Heard.{heard_takes, given_by}
 use Rattle.served_fits.specs.run_theorems.proofs.Gave.{gave_heard}
 use Rattle.served_fits.specs.run_theorems.proofs.Lengths.{ended_length}
-use Rattle.served_fits.specs.call_causes.specs.Lists.{given}
-use Rattle.served_fits.specs.call_causes.specs.Scenes.{LeadsTo}
-use Rattle.served_fits.specs.call_causes.proofs.RunFacts.{own_leads, leadings}
-use Rattle.served_fits.specs.send_causes.proofs.Early.{start, go, fitting, closed_early, first_fresh}
-use Rattle.served_fits.specs.call_causes.proofs.Streams.{faults_more}
-use Rattle.served_fits.specs.send_causes.proofs.Sends.{owed, lost_so}
+use Rattle.served_fits.specs.call_stories.specs.Lists.{given}
+use Rattle.served_fits.specs.call_stories.specs.Scenes.{LeadsTo}
+use Rattle.served_fits.specs.story_ticks.proofs.RunFacts.{own_leads, leadings}
+use Rattle.served_fits.specs.accept_counts.proofs.Early.{start, go, fitting, closed_early, first_fresh}
+use Rattle.served_fits.specs.call_stories.proofs.Streams.{faults_more}
+use Rattle.served_fits.specs.sent_once.proofs.Sends.{owed, lost_so}
 use Rattle.served_fits.specs.outcome_causes.proofs.Scripts.{run_tells, failed_early}
 use Rattle.served_fits.specs.served_runs.specs.Served.{IsForCalls}
 use Rattle.served_fits.specs.served_runs.proofs.Ends.{Holds}
@@ -159,7 +159,7 @@ module _ (calm : CalmRun) where
       (held.reader seat there)
     where
       low : k < length (link_names script)
-      low = let i = place_inside (opens script) k o at in let many = (let x = Rattle.served_fits.specs.send_causes.proofs.Early.known script (are_made calm) turns core is in x.as_many) in omega (arith, i, many)
+      low = let i = place_inside (opens script) k o at in let many = (let x = Rattle.served_fits.specs.accept_counts.proofs.Early.known script (are_made calm) turns core is in x.as_many) in omega (arith, i, many)
 
       server : HasServer script turns core is k
       server = has_server k low

@@ -21,16 +21,16 @@ use Rattle.seat_programs.specs.ToldCalls.{Order, Fixed, ToldCalls, IsSent, OfSen
 use Rattle.served_fits.specs.programs_allowed.specs.program_steps.specs.Sound.{state}
 use Rattle.served_fits.specs.programs_allowed.specs.program_walks.proofs.Whole.{views_played}
 use Rattle.served_fits.specs.outcome_stories.proofs.Delivered.{accepted_of}
-use Rattle.owed_calls.specs.joint_runs.proofs.Runs.{first_views}
-use Rattle.owed_calls.proofs.OpensStored.{at_place}
+use Rattle.served_fits.specs.joint_runs.proofs.Runs.{first_views}
+use Rattle.served_fits.specs.owned_ids.proofs.OpensStored.{at_place}
 use Rattle.served_fits.specs.run_theorems.proofs.Starts.{made}
-use Rattle.served_fits.specs.call_causes.specs.Lists.{given}
+use Rattle.served_fits.specs.call_stories.specs.Lists.{given}
 use Rattle.served_fits.specs.send_causes.proofs.AllTold.{told_of_run}
 use Rattle.served_fits.specs.send_causes.proofs.Assembled.{fixed_in_run}
-use Rattle.served_fits.specs.send_causes.proofs.DropWhole.{get_same}
-use Rattle.served_fits.specs.send_causes.proofs.AttemptedStored.{ids_at}
+use Rattle.served_fits.specs.sent_once.proofs.DropWhole.{get_same}
+use Rattle.served_fits.specs.attempted_calls.proofs.AttemptedStored.{ids_at}
 use Rattle.served_fits.specs.send_causes.proofs.OwnIds.{own_id}
-use Rattle.served_fits.specs.send_causes.proofs.Sends.{orders_of_run}
+use Rattle.served_fits.specs.sent_once.proofs.Sends.{orders_of_run}
 use Rattle.served_fits.specs.served_runs.specs.Offered.{TookSoFar}
 use Rattle.served_fits.specs.served_runs.proofs.Frames.{IsPiece, IsSmall, request_is}
 use Rattle.served_fits.specs.served_runs.proofs.Own.{id_small}

@@ -15,16 +15,16 @@ use Rattle.seat_programs.specs.Tasks.{plan_of}
 use Rattle.seat_programs.specs.ToldCalls.{Order, Fixed, ToldCalls}
 use Rattle.seat_programs.specs.Scripts.{Reports, all_tasks, IsRunWithCalls}
 use Rattle.served_fits.specs.outcome_stories.specs.Facts.{broken_of_run}
-use Rattle.owed_calls.specs.Lives.{ClosesInRun}
+use Rattle.served_fits.specs.call_owing.specs.Lives.{ClosesInRun}
 use Rattle.served_fits.specs.run_theorems.proofs.Starts.{made}
-use Rattle.served_fits.specs.call_causes.specs.Lists.{given}
+use Rattle.served_fits.specs.call_stories.specs.Lists.{given}
 use Rattle.served_fits.specs.served_runs.specs.Offered.{OffersInRun}
 use Rattle.served_fits.specs.served_calls.specs.Quiet.{AreShown}
 use Rattle.served_fits.specs.Shown.{AreSo}
 use Rattle.served_fits.proofs.Whole as fits
 use Rattle.calls_over.proofs.OpensGiven.{CalmRun}
 use Rattle.calls_over.proofs.Opens.{open_call}
-use Rattle.served_fits.specs.send_causes.proofs.Standing.{unlocked}
+use Rattle.served_fits.specs.accept_counts.proofs.Standing.{unlocked}
 use Rattle.calls_over.proofs.Soon.{no_open_call}
 
 module _ (bytes : List ℕ) (script : List Item) (reads : script_of bytes ≡ Ok script) (short : length bytes ≤ 1048576) (turns : List Turn) (core : Core) (is : IsRunWithCalls script turns core) (closes : ClosesInRun script turns core is) (offers : OffersInRun script turns core is) (fixed : Fixed)

@@ -37,11 +37,11 @@ use Rattle.seat_programs.specs.Tasks.{numbered, plan_of, id_plan_of}
 use Rattle.seat_programs.specs.Told.{IsTask, Made}
 use Rattle.seat_programs.specs.ToldCalls.{Order, Fixed, ToldCalls}
 use Rattle.seat_programs.specs.Scripts.{Reports, all_tasks, IsRunWithCalls}
-use Rattle.owed_calls.specs.Lives.{ClosesInRun}
-use Rattle.owed_calls.specs.Sound.{id_word_of}
+use Rattle.served_fits.specs.call_owing.specs.Lives.{ClosesInRun}
+use Rattle.served_fits.specs.call_owing.specs.Sound.{id_word_of}
 use Rattle.served_fits.specs.run_theorems.proofs.Lengths.{ended_length}
 use Rattle.served_fits.specs.run_theorems.proofs.Starts.{made}
-use Rattle.served_fits.specs.call_causes.specs.Lists.{given}
+use Rattle.served_fits.specs.call_stories.specs.Lists.{given}
 use Rattle.served_fits.specs.call_causes.proofs.Handled.{IsResp}
 use Rattle.served_fits.specs.served_runs.specs.Offered.{OffersInRun}
 use Rattle.served_fits.specs.served_runs.proofs.Frames.{IsPiece, reply_is}

@@ -23,15 +23,15 @@ use Rattle.served_fits.specs.programs_allowed.specs.program_steps.specs.Sound.{S
 use Rattle.id_runs.specs.Held.{IdView}
 use Rattle.id_runs.specs.Goes.{SoundIds}
 use Rattle.served_fits.specs.label_runs.specs.Labels.{Trial}
-use Rattle.owed_calls.specs.Sound.{id_word_of}
-use Rattle.owed_calls.proofs.EndsStill as still
+use Rattle.served_fits.specs.call_owing.specs.Sound.{id_word_of}
+use Rattle.served_fits.specs.call_owing.proofs.EndsStill as still
 use Rattle.served_fits.specs.call_causes.proofs.Handled.{bound}
-use Rattle.served_fits.specs.call_causes.proofs.Streams.{frames_stay}
-use Rattle.served_fits.specs.send_causes.specs.Counts.{pair_of, of_heading, of_entry, of_view, times_of, IsOfCall, EntryFits, LabelLaw}
+use Rattle.served_fits.specs.call_stories.proofs.Streams.{frames_stay}
+use Rattle.served_fits.specs.accept_counts.specs.Counts.{pair_of, of_heading, of_entry, of_view, times_of, IsOfCall, EntryFits, LabelLaw}
 use Rattle.served_fits.specs.served_runs.proofs.Frames.{IsPiece, piece_frames, IsSmall, request_is}
 use Rattle.calls_over.proofs.SoonLists.{Stood, log_stood}
 use Rattle.calls_over.proofs.SoonWords.{bound_low}
-use Rattle.served_fits.specs.send_causes.proofs.OwnDecisionsTicks.{pair_self}
+use Rattle.served_fits.specs.own_decisions.proofs.OwnDecisionsTicks.{pair_self}
 
 -- ## Requests of ranges that have begun
 

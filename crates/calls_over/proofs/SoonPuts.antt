@@ -26,7 +26,7 @@ use Rattle.served_fits.specs.programs_allowed.specs.program_steps.specs.Writes.{
 use Rattle.served_fits.specs.programs_allowed.specs.program_steps.specs.Sound.{Sound, IsFitting, IsOfRight, AreHeld, first_step}
 use Rattle.served_fits.specs.programs_allowed.specs.sock_runs.proofs.LinkTicks.{RetriesGo}
 use Rattle.served_fits.specs.outcome_stories.proofs.Cases.{tick_cases}
-use Rattle.owed_calls.specs.Lives.{InHand}
+use Rattle.served_fits.specs.call_owing.specs.Lives.{InHand}
 use Rattle.served_fits.specs.served_runs.specs.Offered.{Lies, TookSoFar}
 use Rattle.served_fits.specs.served_runs.proofs.Places.{IsPut, all_lay}
 

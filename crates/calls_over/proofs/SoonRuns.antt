@@ -27,14 +27,14 @@ use Rattle.served_fits.specs.programs_allowed.specs.program_walks.proofs.Opening
 use Rattle.served_fits.specs.programs_allowed.specs.program_walks.proofs.Whole.{views_played, set_up_answered}
 use Rattle.served_fits.specs.outcome_stories.proofs.Members.{all_in}
 use Rattle.served_fits.specs.outcome_ticks.proofs.Tasks.{fits_of}
-use Rattle.owed_calls.specs.joint_runs.proofs.Runs.{AreMade, first_views, joint_runs}
-use Rattle.owed_calls.specs.Lives.{ClosesInRun, InHand}
-use Rattle.served_fits.specs.call_causes.specs.Scenes.{In}
-use Rattle.served_fits.specs.send_causes.proofs.Early.{start, go, fitting}
-use Rattle.served_fits.specs.send_causes.proofs.Labelled.{ids_of_run}
-use Rattle.served_fits.specs.send_causes.proofs.Runs.{IsCallOf, programs_go, begins_labels, asked_by}
-use Rattle.served_fits.specs.send_causes.proofs.Sends.{narrow, few_clients, labelled, opening_bare}
-use Rattle.served_fits.specs.send_causes.proofs.DropWhole.{get_same}
+use Rattle.served_fits.specs.joint_runs.proofs.Runs.{AreMade, first_views, joint_runs}
+use Rattle.served_fits.specs.call_owing.specs.Lives.{ClosesInRun, InHand}
+use Rattle.served_fits.specs.call_stories.specs.Scenes.{In}
+use Rattle.served_fits.specs.accept_counts.proofs.Early.{start, go, fitting}
+use Rattle.served_fits.specs.sent_once.proofs.Labelled.{ids_of_run}
+use Rattle.served_fits.specs.accept_counts.proofs.Runs.{IsCallOf, programs_go, begins_labels, asked_by}
+use Rattle.served_fits.specs.sent_once.proofs.Sends.{narrow, few_clients, labelled, opening_bare}
+use Rattle.served_fits.specs.sent_once.proofs.DropWhole.{get_same}
 use Rattle.served_fits.specs.served_runs.specs.Offered.{TookSoFar, offered_by, OffersInRun}
 use Rattle.served_fits.specs.served_runs.proofs.Parts.{IsPart, part_along}
 use Rattle.served_fits.specs.served_runs.proofs.Runs.{quiet_offered}

@@ -18,17 +18,17 @@ use Rattle.seat_programs.specs.Tasks.{plan_of, id_plan_of}
 use Rattle.seat_programs.specs.Ticks.{Moment, IsAnswered, AreAnswered, quiet, ticked, run}
 use Rattle.served_fits.specs.programs_allowed.specs.program_steps.specs.Sound.{views_after, views_along}
 use Rattle.served_fits.specs.programs_allowed.specs.sock_runs.proofs.LinkTicks.{RetriesGo}
-use Rattle.owed_calls.specs.joint_runs.proofs.Both.{BothSound, FitsBoth, AreBoth, are_fitting}
+use Rattle.served_fits.specs.joint_runs.proofs.Both.{BothSound, FitsBoth, AreBoth, are_fitting}
 use Rattle.served_fits.specs.label_runs.specs.Labels.{Trial}
-use Rattle.owed_calls.specs.Sound.{id_word_of}
+use Rattle.served_fits.specs.call_owing.specs.Sound.{id_word_of}
 use Rattle.served_fits.specs.run_theorems.proofs.Lengths.{tick_long}
-use Rattle.served_fits.specs.call_causes.specs.Lists.{Take, taken_link, takes_by, takes_at, given, soon_by, soon_at, shows_in}
-use Rattle.served_fits.specs.call_causes.specs.Scenes.{In}
+use Rattle.served_fits.specs.call_stories.specs.Lists.{Take, taken_link, takes_by, takes_at, given, soon_by, soon_at, shows_in}
+use Rattle.served_fits.specs.call_stories.specs.Scenes.{In}
 use Rattle.served_fits.specs.call_causes.proofs.Handled.{bound}
 use Rattle.served_fits.specs.call_causes.proofs.HandledTicks.{Known}
 use Rattle.served_fits.specs.call_causes.proofs.HandledRuns.{AreKnown}
-use Rattle.served_fits.specs.send_causes.specs.Counts.{times_of, LabelLaw, StoresOwn, AreLabelled}
-use Rattle.served_fits.specs.send_causes.proofs.Ticks.{label_ticks}
+use Rattle.served_fits.specs.accept_counts.specs.Counts.{times_of, LabelLaw, StoresOwn, AreLabelled}
+use Rattle.served_fits.specs.accept_counts.proofs.Ticks.{label_ticks}
 use Rattle.served_fits.specs.served_runs.specs.Offered.{TookSoFar, AreOffered}
 use Rattle.served_fits.specs.served_runs.proofs.Parts.{IsPart, part_along}
 use Rattle.calls_over.proofs.SoonLists.{run_stay}

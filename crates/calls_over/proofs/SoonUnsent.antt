@@ -26,15 +26,15 @@ use Rattle.served_fits.specs.outcome_ticks.proofs.Lifted.{task_up, made_up}
 use Rattle.served_fits.specs.outcome_causes.proofs.Messages.{each_made, message_of, number_of}
 use Rattle.served_fits.specs.outcome_causes.proofs.Scripts.{seats, final_told, story_end, orders, run_told}
 use Rattle.served_fits.specs.outcome_stories.proofs.Senders.{HasSent, sent_stands}
-use Rattle.owed_calls.specs.joint_runs.proofs.Runs.{AreMade, first_views}
-use Rattle.owed_calls.specs.Lives.{ClosesInRun}
-use Rattle.owed_calls.proofs.EndsStill as still
-use Rattle.served_fits.specs.send_causes.specs.Counts.{EntryFits}
-use Rattle.served_fits.specs.send_causes.proofs.Early.{first_fresh}
-use Rattle.served_fits.specs.send_causes.proofs.Runs.{IsCallOf, end_law}
-use Rattle.served_fits.specs.send_causes.proofs.Sends.{owed, narrow, few_clients, labelled, opening_bare}
-use Rattle.served_fits.specs.send_causes.proofs.Labelled.{ids_of_run}
-use Rattle.served_fits.specs.send_causes.proofs.Grounds.{setting, grounds}
+use Rattle.served_fits.specs.joint_runs.proofs.Runs.{AreMade, first_views}
+use Rattle.served_fits.specs.call_owing.specs.Lives.{ClosesInRun}
+use Rattle.served_fits.specs.call_owing.proofs.EndsStill as still
+use Rattle.served_fits.specs.accept_counts.specs.Counts.{EntryFits}
+use Rattle.served_fits.specs.accept_counts.proofs.Early.{first_fresh}
+use Rattle.served_fits.specs.accept_counts.proofs.Runs.{IsCallOf, end_law}
+use Rattle.served_fits.specs.sent_once.proofs.Sends.{owed, narrow, few_clients, labelled, opening_bare}
+use Rattle.served_fits.specs.sent_once.proofs.Labelled.{ids_of_run}
+use Rattle.served_fits.specs.accept_counts.proofs.Grounds.{setting, grounds}
 use Rattle.calls_over.proofs.SoonLists.{Stood, run_stay}
 use Rattle.calls_over.proofs.SoonPieces.{NonePlain}
 

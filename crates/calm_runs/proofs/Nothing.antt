@@ -27,11 +27,11 @@ use Rattle.send_causes.specs.outcome_stories.specs.PlainTasks.{told_tasks_of}
 use Rattle.send_causes.specs.outcome_stories.specs.Stories.{In}
 use Rattle.send_causes.specs.outcome_causes.proofs.Plain.{in_both}
 use Rattle.send_causes.specs.joint_runs.proofs.Runs.{AreMade, first_views}
-use Rattle.send_causes.proofs.Beginnings.{others_begin}
-use Rattle.send_causes.proofs.Early.{start, go, fitting, known, first_fresh}
-use Rattle.send_causes.proofs.SeatTicks.{never_later}
+use Rattle.send_causes.specs.accept_counts.proofs.Beginnings.{others_begin}
+use Rattle.send_causes.specs.accept_counts.proofs.Early.{start, go, fitting, known, first_fresh}
+use Rattle.send_causes.specs.accept_counts.proofs.SeatTicks.{never_later}
 use Rattle.send_causes.specs.outcome_causes.proofs.Scripts as stories
-use Rattle.send_causes.specs.owed_calls.specs.Settled.{IsAtRest}
+use Rattle.send_causes.specs.call_owing.specs.Settled.{IsAtRest}
 use Rattle.calm_runs.specs.Calm.{IsCalm}
 use Rattle.calm_runs.proofs.Along.{calm_setup, calm_along, StaysQuiet, quiet_along}
 use Rattle.calm_runs.proofs.Programs.{ending_calm, reader_calm}

@@ -19,11 +19,11 @@ use Rattle.seat_programs.specs.Ticks.{quiet}
 use Rattle.send_causes.specs.programs_allowed.specs.program_steps.specs.Sound.{views_along}
 use Rattle.send_causes.specs.programs_allowed.specs.program_walks.proofs.Whole.{set_up_answered, set_up_sound}
 use Rattle.send_causes.specs.joint_runs.proofs.Runs.{AreMade, first_views}
-use Rattle.send_causes.specs.owed_calls.specs.Settled as settled
-use Rattle.send_causes.proofs.DropWhole.{get_same}
-use Rattle.send_causes.proofs.Early.{start, go, fitting, opened_takes}
-use Rattle.send_causes.proofs.Standing.{takeless_rests}
-use Rattle.send_causes.proofs.Takeless.{TakesNone, run_takes}
+use Rattle.send_causes.specs.call_owing.specs.Settled as settled
+use Rattle.send_causes.specs.sent_once.proofs.DropWhole.{get_same}
+use Rattle.send_causes.specs.accept_counts.proofs.Early.{start, go, fitting, opened_takes}
+use Rattle.send_causes.specs.accept_counts.proofs.Standing.{takeless_rests}
+use Rattle.send_causes.specs.accept_counts.proofs.Takeless.{TakesNone, run_takes}
 
 module _ (script : List Item) (made : AreMade script) (turns : List Turn) (core : Core) (is : IsRunWithCalls script turns core) (no_join : (client number : ℕ) → Contains script (Join client number) → ⊥) where
   joinless : (c : ℕ) (ts : List Task) → get_elem? (all_tasks script) c ≡ some ts → (t : Task) → Has ts t → (o : ℕ) → t.op ≡ ops.Join o → ⊥

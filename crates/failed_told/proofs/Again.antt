@@ -11,7 +11,7 @@ use Rattle.sock_words.specs.declared.outcome.Outcome.{Outcome}
 use Rattle.sock_words.specs.declared.plain.Plan.{Plan}
 use Rattle.sock_words.specs.declared.place_word.PlaceWord.{PlaceWord}
 use Rattle.sock_words.specs.declared.vref.Vref.{Vref}
-use Rattle.attempts_told.specs.call_whys.specs.expire_told.specs.Below.sock_rule.specs.Closing.{PlacesDiffer}
+use Rattle.failed_ends.specs.call_whys.specs.Below.sock_rule.specs.Closing.{PlacesDiffer}
 use Rattle.seat_programs.specs.declared.task.Op.{Op}
 use Rattle.seat_programs.specs.declared.task.Op.TheVariants as ops
 use Rattle.seat_programs.specs.declared.task.Task.{Task}
@@ -23,37 +23,37 @@ use Rattle.corr_core.specs.declared.marks.Note.TheVariants.{Made}
 use Rattle.corr_core.specs.declared.marks.Noted.{Noted}
 use Rattle.corr_core.specs.declared.marks.View.{View}
 use Rattle.corr_core.proofs.Notes.{total_some}
-use Rattle.id_rule.specs.Lawful.{notes_of}
+use Rattle.corr_id.specs.id_rule.specs.Lawful.{notes_of}
 use Rattle.sock_message.specs.Asked.{Asked, name_of}
 use Rattle.corr_id.specs.Closing.{Closing}
-use Rattle.attempts_told.specs.call_whys.specs.expire_told.specs.Below.rpc_client.specs.declared.acting.Told.{Told}
-use Rattle.attempts_told.specs.call_whys.specs.expire_told.specs.Below.call_run.specs.Readers.{LinkReader}
-use Rattle.attempts_told.specs.call_whys.specs.expire_told.specs.Below.call_run.specs.Threads.{Thread, RanWith, MayRunAll, ids_of}
-use Rattle.attempts_told.specs.call_whys.specs.expire_told.specs.call_places.specs.Counted.{HaveNotesOf}
-use Rattle.attempts_told.specs.call_whys.specs.expire_told.specs.call_places.proofs.Clients.{Client, total_map, view_of}
-use Rattle.attempts_told.specs.call_whys.specs.expire_told.specs.call_places.proofs.Places.{all as all_clients, views_are, crew_of}
-use Rattle.attempts_told.specs.call_whys.specs.expire_told.specs.call_told.specs.Least.{is_made_for}
-use Rattle.attempts_told.specs.call_whys.specs.expire_told.specs.call_deeds.specs.Retried.{all_asked}
-use Rattle.attempts_told.specs.call_whys.specs.expire_told.specs.call_deeds.proofs.Ran.{AreLater}
-use Rattle.attempts_told.specs.call_whys.specs.expire_told.specs.Said.{AreSaid}
-use Rattle.attempts_told.specs.call_whys.specs.expire_told.specs.Below.sock_deeds.specs.Runs.{IsOperation, seat_of, DeedRun}
-use Rattle.attempts_told.specs.call_whys.specs.expire_told.specs.Below.sock_deeds.proofs.Accepting.{log}
-use Rattle.attempts_told.specs.call_whys.specs.expire_told.specs.Below.sock_deeds.proofs.Orders.{orders}
-use Rattle.attempts_told.specs.call_whys.specs.expire_told.specs.Below.sock_deeds.proofs.Tasks.{same_task}
-use Rattle.attempts_told.specs.call_whys.specs.expire_told.specs.Below.sock_deeds.proofs.Whole.{fixed, log_accepted, laws_of}
-use Rattle.attempts_told.specs.Attempts.{last_attempt}
-use Rattle.attempts_told.proofs.Last.{IsReached, one_reached}
-use Rattle.attempts_told.proofs.Senders.{made_for_there}
-use Rattle.attempts_told.proofs.Told.{same_asked}
-use Rattle.failed_told.specs.Missed.{id_of, attempt_of}
-use Rattle.failed_told.proofs.Advances.{WhyAdvanced, by_miss, by_drop, IsAdvanced, advance_why}
+use Rattle.failed_ends.specs.call_whys.specs.Below.rpc_client.specs.declared.acting.Told.{Told}
+use Rattle.failed_ends.specs.call_whys.specs.Below.call_run.specs.Readers.{LinkReader}
+use Rattle.failed_ends.specs.call_whys.specs.Below.call_run.specs.Threads.{Thread, RanWith, MayRunAll, ids_of}
+use Rattle.failed_ends.specs.call_whys.specs.call_places.specs.Counted.{HaveNotesOf}
+use Rattle.failed_ends.specs.call_whys.specs.call_places.proofs.Clients.{Client, total_map, view_of}
+use Rattle.failed_ends.specs.call_whys.specs.call_places.proofs.Places.{all as all_clients, views_are, crew_of}
+use Rattle.failed_ends.specs.call_whys.specs.call_told.specs.Least.{is_made_for}
+use Rattle.failed_ends.specs.call_whys.specs.call_deeds.specs.Retried.{all_asked}
+use Rattle.failed_ends.specs.call_whys.specs.call_deeds.proofs.Ran.{AreLater}
+use Rattle.failed_ends.specs.call_whys.specs.expire_told.specs.Said.{AreSaid}
+use Rattle.failed_ends.specs.call_whys.specs.Below.sock_deeds.specs.Runs.{IsOperation, seat_of, DeedRun}
+use Rattle.failed_ends.specs.call_whys.specs.Below.sock_deeds.proofs.Accepting.{log}
+use Rattle.failed_ends.specs.call_whys.specs.Below.sock_deeds.proofs.Orders.{orders}
+use Rattle.failed_ends.specs.call_whys.specs.Below.sock_deeds.proofs.Tasks.{same_task}
+use Rattle.failed_ends.specs.call_whys.specs.Below.sock_deeds.proofs.Whole.{fixed, log_accepted, laws_of}
+use Rattle.failed_ends.specs.attempts_told.specs.Attempts.{last_attempt}
+use Rattle.failed_ends.specs.attempts_told.proofs.Last.{IsReached, one_reached}
+use Rattle.failed_ends.specs.attempts_told.proofs.Senders.{made_for_there}
+use Rattle.failed_ends.specs.attempts_told.proofs.Told.{same_asked}
+use Rattle.failed_ends.specs.failed_reasons.specs.Missed.{id_of, attempt_of}
+use Rattle.failed_ends.proofs.Advances.{WhyAdvanced, by_miss, by_drop, IsAdvanced, advance_why}
 use Rattle.failed_told.proofs.Ended.{TellsDrops}
-use Rattle.failed_told.proofs.Fallen.{one_operation, unordered, WhyNothing, had_failed, were_full, had_none, why_nothing}
-use Rattle.failed_told.proofs.Losses.{IsAskedIn, deed_why}
-use Rattle.failed_told.proofs.Premises.{asked_so as asked_here}
+use Rattle.failed_ends.proofs.Fallen.{one_operation, unordered, WhyNothing, had_failed, were_full, had_none, why_nothing}
+use Rattle.failed_ends.specs.failed_reasons.proofs.Losses.{IsAskedIn, deed_why}
+use Rattle.failed_ends.specs.failed_reasons.proofs.Premises.{asked_so as asked_here}
 use Rattle.failed_told.proofs.Unopened.{unopened_why}
-use Rattle.failed_told.proofs.Views.{advanced_in}
-use Rattle.failed_told.proofs.Taken.{OthersRead, AskTasks, MissedBy, DroppedBy}
+use Rattle.failed_ends.specs.failed_reasons.proofs.Views.{advanced_in}
+use Rattle.failed_ends.specs.failed_reasons.proofs.Taken.{OthersRead, AskTasks, MissedBy, DroppedBy}
 
 module _ {O : Type 0} {g : Ghosts O} {state : O → OutState} {readers : List (LinkReader g)} {p : Plan} {slots : ℕ} {setup : List Task} {clients : List (List Task)} {opens : List ℕ} {told ended : List (List Told)} {places : List PlaceWord} {vrefs : List Vref} {outs : List O} {ids : List (View Asked)}
     (run : RanWith g state readers p slots setup clients opens told ended places vrefs outs ids) (tasks : AreTasks p (setup ∷ clients)) (may : MayRunAll p (ids_of p slots) setup clients)

@@ -14,13 +14,13 @@ use Rattle.sock_words.specs.declared.plain.Plan.{Plan}
 use Rattle.sock_words.specs.declared.place_word.PlaceWord.{PlaceWord}
 use Rattle.sock_words.specs.declared.vref.Vref.{Vref}
 use Rattle.sock_message.specs.brpc_model.specs.Frame.{Frame}
-use Rattle.attempts_told.specs.call_whys.specs.expire_told.specs.Below.sock_rule.specs.Closing.{PlacesDiffer}
+use Rattle.failed_ends.specs.call_whys.specs.Below.sock_rule.specs.Closing.{PlacesDiffer}
 use Rattle.seat_programs.specs.declared.task.Op.TheVariants as ops
 use Rattle.seat_programs.specs.declared.task.Task.{Task}
 use Rattle.seat_programs.specs.Told.{AreTasks, IsTask}
 use Rattle.seat_programs.specs.ToldCalls.{IsAnsweredBy, MayBeOn, FailedBy, ByCompression, all_accepted}
 use Rattle.corr_core.specs.Law.{total, is_ended, is_ended_at}
-use Rattle.attempts_told.specs.call_whys.specs.expire_told.specs.call_places.proofs.Ids.{IsIdOf}
+use Rattle.failed_ends.specs.call_whys.specs.call_places.proofs.Ids.{IsIdOf}
 use Rattle.corr_core.specs.Word.{Parts, parts, code_of}
 use Rattle.corr_core.specs.declared.marks.Kept.{Kept}
 use Rattle.corr_core.specs.declared.marks.Note.{Note}
@@ -28,47 +28,47 @@ use Rattle.corr_core.specs.declared.marks.Note.TheVariants.{Made, Locker}
 use Rattle.corr_core.specs.declared.marks.Noted.{Noted}
 use Rattle.corr_core.specs.declared.marks.View.{View}
 use Rattle.corr_core.proofs.Notes.{total_some}
-use Rattle.id_rule.specs.Lawful.{at_index, notes_of}
+use Rattle.corr_id.specs.id_rule.specs.Lawful.{at_index, notes_of}
 use Rattle.sock_message.specs.Asked.{Asked, name_of}
 use Rattle.corr_id.specs.Calls.{is_saw, slot_of, version_of, error_in}
 use Rattle.corr_id.specs.Closing.{Closing}
 use Rattle.corr_id.specs.Posts.{IsTimely}
 use Rattle.corr_id.proofs.Ranges.{lock_range}
-use Rattle.attempts_told.specs.call_whys.specs.expire_told.specs.Below.rpc_client.specs.declared.acting.Told.{Told}
-use Rattle.attempts_told.specs.call_whys.specs.expire_told.specs.Below.call_errors.specs.Locking.{id_in}
-use Rattle.attempts_told.specs.call_whys.specs.expire_told.specs.call_deeds.specs.Below.rpc_reader.specs.Books.{id_of}
-use Rattle.attempts_told.specs.call_whys.specs.expire_told.specs.call_deeds.specs.Below.rpc_reader.specs.Posting.{call_at, attempt_at}
-use Rattle.attempts_told.specs.call_whys.specs.expire_told.specs.Below.call_run.specs.Readers.{LinkReader}
-use Rattle.attempts_told.specs.call_whys.specs.expire_told.specs.Below.call_run.specs.Threads.{Thread, RanWith, MayRunAll, ids_of}
-use Rattle.attempts_told.specs.call_whys.specs.expire_told.specs.call_places.specs.Counted.{HaveNotesOf}
-use Rattle.attempts_told.specs.call_whys.specs.expire_told.specs.call_places.proofs.Clients.{Client, view_of, tasks_of, deeds_of}
-use Rattle.attempts_told.specs.call_whys.specs.expire_told.specs.call_places.proofs.Places.{all as all_clients, noted_among, made_once, crew_of}
-use Rattle.attempts_told.specs.call_whys.specs.expire_told.specs.call_told.specs.Least.{is_locked_for}
-use Rattle.attempts_told.specs.call_whys.specs.expire_told.specs.call_told.proofs.Least.{lock_of}
-use Rattle.attempts_told.specs.call_whys.specs.expire_told.specs.call_told.proofs.Resting.{is_word}
-use Rattle.attempts_told.specs.call_whys.specs.expire_told.specs.Said.{AreSaid, HaveKeptOf}
-use Rattle.attempts_told.specs.call_whys.specs.expire_told.specs.Below.sock_deeds.specs.Runs.{IsOperation, seat_of, DeedRun}
-use Rattle.attempts_told.specs.call_whys.specs.expire_told.specs.Below.sock_deeds.proofs.Accepting.{log}
-use Rattle.attempts_told.specs.call_whys.specs.expire_told.specs.Below.sock_deeds.proofs.Orders.{orders}
-use Rattle.attempts_told.specs.call_whys.specs.expire_told.specs.Below.sock_deeds.proofs.Tasks.{same_task}
-use Rattle.attempts_told.specs.call_whys.specs.expire_told.specs.Below.sock_deeds.proofs.Whole.{laws_of}
-use Rattle.attempts_told.specs.Attempts.{last_attempt}
-use Rattle.attempts_told.proofs.Told.{same_asked}
-use Rattle.failed_told.specs.Ends.{LostOn}
-use Rattle.failed_told.specs.Reasons.{WasDropped, Reason, timed_out, missed, dropped, Origin, posted_so, handed_out, IsCaused}
-use Rattle.failed_told.proofs.Behind.{unread}
-use Rattle.failed_told.proofs.Clients.{Says}
-use Rattle.failed_told.proofs.Codes.{IsReadCode, IsMissCode, deed_code}
-use Rattle.failed_told.proofs.Fallen.{one_operation}
-use Rattle.failed_told.proofs.Lasts.{ended_last}
+use Rattle.failed_ends.specs.call_whys.specs.Below.rpc_client.specs.declared.acting.Told.{Told}
+use Rattle.failed_ends.specs.call_whys.specs.Below.call_errors.specs.Locking.{id_in}
+use Rattle.failed_ends.specs.call_whys.specs.Below.rpc_reader.specs.Books.{id_of}
+use Rattle.failed_ends.specs.call_whys.specs.Below.rpc_reader.specs.Posting.{call_at, attempt_at}
+use Rattle.failed_ends.specs.call_whys.specs.Below.call_run.specs.Readers.{LinkReader}
+use Rattle.failed_ends.specs.call_whys.specs.Below.call_run.specs.Threads.{Thread, RanWith, MayRunAll, ids_of}
+use Rattle.failed_ends.specs.call_whys.specs.call_places.specs.Counted.{HaveNotesOf}
+use Rattle.failed_ends.specs.call_whys.specs.call_places.proofs.Clients.{Client, view_of, tasks_of, deeds_of}
+use Rattle.failed_ends.specs.call_whys.specs.call_places.proofs.Places.{all as all_clients, noted_among, made_once, crew_of}
+use Rattle.failed_ends.specs.call_whys.specs.call_told.specs.Least.{is_locked_for}
+use Rattle.failed_ends.specs.call_whys.specs.call_told.proofs.Least.{lock_of}
+use Rattle.failed_ends.specs.call_whys.specs.call_told.proofs.Resting.{is_word}
+use Rattle.failed_ends.specs.call_whys.specs.expire_told.specs.Said.{AreSaid, HaveKeptOf}
+use Rattle.failed_ends.specs.call_whys.specs.Below.sock_deeds.specs.Runs.{IsOperation, seat_of, DeedRun}
+use Rattle.failed_ends.specs.call_whys.specs.Below.sock_deeds.proofs.Accepting.{log}
+use Rattle.failed_ends.specs.call_whys.specs.Below.sock_deeds.proofs.Orders.{orders}
+use Rattle.failed_ends.specs.call_whys.specs.Below.sock_deeds.proofs.Tasks.{same_task}
+use Rattle.failed_ends.specs.call_whys.specs.Below.sock_deeds.proofs.Whole.{laws_of}
+use Rattle.failed_ends.specs.attempts_told.specs.Attempts.{last_attempt}
+use Rattle.failed_ends.specs.attempts_told.proofs.Told.{same_asked}
+use Rattle.failed_ends.specs.failed_reasons.specs.Ends.{LostOn}
+use Rattle.failed_ends.specs.failed_reasons.specs.Reasons.{WasDropped, Reason, timed_out, missed, dropped, Origin, posted_so, handed_out, IsCaused}
+use Rattle.failed_ends.specs.failed_reasons.proofs.Behind.{unread}
+use Rattle.failed_ends.proofs.Clients.{Says}
+use Rattle.failed_ends.specs.failed_reasons.proofs.Codes.{IsReadCode, IsMissCode, deed_code}
+use Rattle.failed_ends.proofs.Fallen.{one_operation}
+use Rattle.failed_ends.proofs.Lasts.{ended_last}
 use Rattle.failed_told.proofs.Named.{named}
-use Rattle.failed_told.proofs.Posts.{IsPost}
-use Rattle.failed_told.proofs.Posters.{IsLow, one_error, timely_low, by_clients}
-use Rattle.failed_told.proofs.Reading.{code_at}
-use Rattle.failed_told.proofs.Tells.{HadLock, EndsBy, on_response, on_code, ToldEnd, IsPostFor}
-use Rattle.failed_told.proofs.Verdicts.{made_so}
-use Rattle.failed_told.proofs.Views.{queued_in}
-use Rattle.failed_told.proofs.Taken.{AskTasks}
+use Rattle.failed_ends.specs.failed_reasons.proofs.Posts.{IsPost}
+use Rattle.failed_ends.proofs.Posters.{IsLow, one_error, timely_low, by_clients}
+use Rattle.failed_ends.specs.failed_reasons.proofs.Reading.{code_at}
+use Rattle.failed_ends.specs.failed_reasons.proofs.Tells.{HadLock, EndsBy, on_response, on_code, ToldEnd, IsPostFor}
+use Rattle.failed_ends.proofs.Verdicts.{made_so}
+use Rattle.failed_ends.specs.failed_reasons.proofs.Views.{queued_in}
+use Rattle.failed_ends.specs.failed_reasons.proofs.Taken.{AskTasks}
 
 -- ## Codes
 

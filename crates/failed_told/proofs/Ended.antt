@@ -12,7 +12,7 @@ use Rattle.sock_words.specs.declared.plain.Plan.{Plan}
 use Rattle.sock_words.specs.declared.place_word.PlaceWord.{PlaceWord}
 use Rattle.sock_words.specs.declared.vref.Vref.{Vref}
 use Rattle.sock_model.specs.declared.chain.Entry.{Entry}
-use Rattle.attempts_told.specs.call_whys.specs.expire_told.specs.Below.sock_rule.specs.Closing.{PlacesDiffer}
+use Rattle.failed_ends.specs.call_whys.specs.Below.sock_rule.specs.Closing.{PlacesDiffer}
 use Rattle.seat_programs.specs.declared.task.Op.TheVariants as ops
 use Rattle.seat_programs.specs.declared.task.Task.{Task}
 use Rattle.seat_programs.specs.Told.{AreTasks, IsTask}
@@ -23,44 +23,44 @@ use Rattle.corr_core.specs.declared.marks.Kept.{Kept}
 use Rattle.corr_core.specs.declared.marks.Note.TheVariants.{Made}
 use Rattle.corr_core.specs.declared.marks.Noted.{Noted}
 use Rattle.corr_core.specs.declared.marks.View.{View}
-use Rattle.id_rule.specs.Lawful.{notes_of}
+use Rattle.corr_id.specs.id_rule.specs.Lawful.{notes_of}
 use Rattle.sock_message.specs.Asked.{Asked, name_of}
 use Rattle.corr_id.specs.Closing.{Closing}
 use Rattle.call_table.specs.Errors.{is_final}
 use Rattle.call_table.specs.declared.errors.Decision.TheVariants as decisions
-use Rattle.attempts_told.specs.call_whys.specs.expire_told.specs.Below.rpc_client.specs.declared.acting.Told.{Told}
-use Rattle.attempts_told.specs.call_whys.specs.expire_told.specs.Below.call_errors.specs.Locking.{id_in}
-use Rattle.attempts_told.specs.call_whys.specs.expire_told.specs.Below.call_errors.specs.Handling.{decision}
-use Rattle.attempts_told.specs.call_whys.specs.expire_told.specs.Below.call_run.specs.Readers.{LinkReader}
-use Rattle.attempts_told.specs.call_whys.specs.expire_told.specs.Below.call_run.specs.Threads.{Thread, RanWith, MayRunAll, ids_of}
-use Rattle.attempts_told.specs.call_whys.specs.expire_told.specs.call_places.specs.Counted.{HaveNotesOf}
-use Rattle.attempts_told.specs.call_whys.specs.expire_told.specs.call_places.proofs.Still.{advances}
-use Rattle.attempts_told.specs.call_whys.specs.expire_told.specs.call_places.proofs.Ids.{IsIdOf}
-use Rattle.attempts_told.specs.call_whys.specs.expire_told.specs.call_places.proofs.Clients.{Client, view_of, tasks_of, deeds_of}
-use Rattle.attempts_told.specs.call_whys.specs.expire_told.specs.call_places.proofs.Places.{all as all_clients, all_are, crew_of}
-use Rattle.attempts_told.specs.call_whys.specs.expire_told.specs.call_told.proofs.Lists.{all_at}
-use Rattle.attempts_told.specs.call_whys.specs.expire_told.specs.call_deeds.specs.Retried.{all_asked}
-use Rattle.attempts_told.specs.call_whys.specs.expire_told.specs.call_deeds.proofs.Ran.{AreLater}
-use Rattle.attempts_told.specs.call_whys.specs.expire_told.specs.Said.{AreSaid, HaveKeptOf}
-use Rattle.attempts_told.specs.call_whys.specs.expire_told.specs.Below.sock_deeds.specs.Runs.{IsOperation, seat_of, DeedRun}
-use Rattle.attempts_told.specs.call_whys.specs.expire_told.specs.Below.sock_deeds.proofs.Accepting.{log}
-use Rattle.attempts_told.specs.call_whys.specs.expire_told.specs.Below.sock_deeds.proofs.Orders.{orders, entry_on}
-use Rattle.attempts_told.specs.call_whys.specs.expire_told.specs.Below.sock_deeds.proofs.Tasks.{same_task}
-use Rattle.attempts_told.specs.call_whys.specs.expire_told.specs.Below.sock_deeds.proofs.Whole.{fixed, log_accepted, laws_of}
-use Rattle.attempts_told.specs.Attempts.{last_attempt}
-use Rattle.attempts_told.proofs.Told.{same_asked}
-use Rattle.failed_told.specs.Missed.{id_of, attempt_of}
-use Rattle.failed_told.specs.Reasons.{WasDropped, IsCaused}
-use Rattle.failed_told.proofs.Clients.{Says, ended_caused}
-use Rattle.failed_told.proofs.Codes.{IsReadCode}
-use Rattle.failed_told.proofs.Fallen.{Fallen, fell, none_opened}
-use Rattle.failed_told.proofs.Premises.{asked_so as asked_here, few as few_here}
-use Rattle.failed_told.proofs.Single.{sender, made_low}
+use Rattle.failed_ends.specs.call_whys.specs.Below.rpc_client.specs.declared.acting.Told.{Told}
+use Rattle.failed_ends.specs.call_whys.specs.Below.call_errors.specs.Locking.{id_in}
+use Rattle.failed_ends.specs.call_whys.specs.Below.call_errors.specs.Handling.{decision}
+use Rattle.failed_ends.specs.call_whys.specs.Below.call_run.specs.Readers.{LinkReader}
+use Rattle.failed_ends.specs.call_whys.specs.Below.call_run.specs.Threads.{Thread, RanWith, MayRunAll, ids_of}
+use Rattle.failed_ends.specs.call_whys.specs.call_places.specs.Counted.{HaveNotesOf}
+use Rattle.failed_ends.specs.call_whys.specs.call_places.proofs.Still.{advances}
+use Rattle.failed_ends.specs.call_whys.specs.call_places.proofs.Ids.{IsIdOf}
+use Rattle.failed_ends.specs.call_whys.specs.call_places.proofs.Clients.{Client, view_of, tasks_of, deeds_of}
+use Rattle.failed_ends.specs.call_whys.specs.call_places.proofs.Places.{all as all_clients, all_are, crew_of}
+use Rattle.failed_ends.specs.call_whys.specs.call_told.proofs.Lists.{all_at}
+use Rattle.failed_ends.specs.call_whys.specs.call_deeds.specs.Retried.{all_asked}
+use Rattle.failed_ends.specs.call_whys.specs.call_deeds.proofs.Ran.{AreLater}
+use Rattle.failed_ends.specs.call_whys.specs.expire_told.specs.Said.{AreSaid, HaveKeptOf}
+use Rattle.failed_ends.specs.call_whys.specs.Below.sock_deeds.specs.Runs.{IsOperation, seat_of, DeedRun}
+use Rattle.failed_ends.specs.call_whys.specs.Below.sock_deeds.proofs.Accepting.{log}
+use Rattle.failed_ends.specs.call_whys.specs.Below.sock_deeds.proofs.Orders.{orders, entry_on}
+use Rattle.failed_ends.specs.call_whys.specs.Below.sock_deeds.proofs.Tasks.{same_task}
+use Rattle.failed_ends.specs.call_whys.specs.Below.sock_deeds.proofs.Whole.{fixed, log_accepted, laws_of}
+use Rattle.failed_ends.specs.attempts_told.specs.Attempts.{last_attempt}
+use Rattle.failed_ends.specs.attempts_told.proofs.Told.{same_asked}
+use Rattle.failed_ends.specs.failed_reasons.specs.Missed.{id_of, attempt_of}
+use Rattle.failed_ends.specs.failed_reasons.specs.Reasons.{WasDropped, IsCaused}
+use Rattle.failed_ends.proofs.Clients.{Says, ended_caused}
+use Rattle.failed_ends.specs.failed_reasons.proofs.Codes.{IsReadCode}
+use Rattle.failed_ends.proofs.Fallen.{Fallen, fell, none_opened}
+use Rattle.failed_ends.specs.failed_reasons.proofs.Premises.{asked_so as asked_here, few as few_here}
+use Rattle.failed_ends.proofs.Single.{sender, made_low}
 use Rattle.failed_told.proofs.Unopened.{unopened_why}
-use Rattle.failed_told.proofs.Verdicts.{last_one, made_so, MissedLast, DroppedLast, timed, lost, fell as dropped_last, behind, verdict, by_expiry, IsAskedSo}
+use Rattle.failed_ends.proofs.Verdicts.{last_one, made_so, MissedLast, DroppedLast, timed, lost, fell as dropped_last, behind, verdict, by_expiry, IsAskedSo}
 use Rattle.failed_told.proofs.Whole.{IsFallen, missed_why}
-use Rattle.attempts_told.specs.call_whys.specs.expire_told.specs.Below.sock_deeds.proofs.Places.{map_back}
-use Rattle.failed_told.proofs.Taken.{OthersRead, AskTasks}
+use Rattle.failed_ends.specs.call_whys.specs.Below.sock_deeds.proofs.Places.{map_back}
+use Rattle.failed_ends.specs.failed_reasons.proofs.Taken.{OthersRead, AskTasks}
 
 -- ## A `fail`'s code leaves retries
 

@@ -13,8 +13,8 @@ use Rattle.sock_words.specs.declared.plain.Plan.{Plan}
 use Rattle.sock_words.specs.declared.place_word.PlaceWord.{PlaceWord}
 use Rattle.sock_words.specs.declared.socket_id.SocketId.{SocketId}
 use Rattle.sock_words.specs.declared.vref.Vref.{Vref}
-use Rattle.attempts_told.specs.call_whys.specs.expire_told.specs.Below.sock_rule.specs.Closing.{PlacesDiffer}
-use Rattle.attempts_told.specs.call_whys.specs.expire_told.specs.Below.sock_rule.specs.declared.homes.Letter.{Letter}
+use Rattle.failed_ends.specs.call_whys.specs.Below.sock_rule.specs.Closing.{PlacesDiffer}
+use Rattle.failed_ends.specs.call_whys.specs.Below.sock_rule.specs.declared.homes.Letter.{Letter}
 use Rattle.seat_programs.specs.declared.task.Op.{Op}
 use Rattle.seat_programs.specs.declared.task.Op.TheVariants as ops
 use Rattle.seat_programs.specs.declared.task.Task.{Task}
@@ -27,54 +27,54 @@ use Rattle.corr_core.specs.declared.marks.Noted.{Noted}
 use Rattle.corr_core.specs.declared.marks.Plan as id_plan
 use Rattle.corr_core.specs.declared.marks.View.{View}
 use Rattle.corr_core.proofs.Notes.{only-at, total_some}
-use Rattle.id_rule.specs.Lawful.{notes_of}
+use Rattle.corr_id.specs.id_rule.specs.Lawful.{notes_of}
 use Rattle.sock_message.specs.Asked.{Asked, name_of}
 use Rattle.corr_id.specs.Calls.{FoundUpTo, slot_of, version_of}
 use Rattle.corr_id.specs.Closing.{Closing}
-use Rattle.attempts_told.specs.call_whys.specs.expire_told.specs.Below.rpc_client.specs.declared.acting.Told.{Told}
-use Rattle.attempts_told.specs.call_whys.specs.expire_told.specs.Below.call_attempts.specs.Both.{Both}
-use Rattle.attempts_told.specs.call_whys.specs.expire_told.specs.Below.call_attempts.specs.Attempting.{AttemptedBy, nowhere, over_link}
-use Rattle.attempts_told.specs.call_whys.specs.expire_told.specs.Below.call_attempts.specs.Retrying.{WentTo, stray, unopened, to_socket, had_ended, overtaken, went_again}
-use Rattle.attempts_told.specs.call_whys.specs.expire_told.specs.Below.call_client.specs.Acting.{Stand, both_of, Acted}
-use Rattle.attempts_told.specs.call_whys.specs.expire_told.specs.Below.call_run.specs.Readers.{LinkReader}
-use Rattle.attempts_told.specs.call_whys.specs.expire_told.specs.Below.call_run.specs.Threads.{Thread, RanWith, MayRunAll, ids_of}
-use Rattle.attempts_told.specs.call_whys.specs.expire_told.specs.call_places.specs.Counted.{makes, HaveNotesOf}
-use Rattle.attempts_told.specs.call_whys.specs.expire_told.specs.call_places.specs.Deeds.{Deed, operates, retries}
-use Rattle.attempts_told.specs.call_whys.specs.expire_told.specs.call_places.proofs.Still.{advances}
-use Rattle.attempts_told.specs.call_whys.specs.expire_told.specs.call_places.proofs.Own.{deed_of}
-use Rattle.attempts_told.specs.call_whys.specs.expire_told.specs.call_places.proofs.Ids.{IsIdOf}
-use Rattle.attempts_told.specs.call_whys.specs.expire_told.specs.call_places.proofs.Clients.{Client, total_map, view_of, tasks_of, deeds_of}
-use Rattle.attempts_told.specs.call_whys.specs.expire_told.specs.call_places.proofs.Places.{all as all_clients, views_are, noted_among, may_make, crew_of}
-use Rattle.attempts_told.specs.call_whys.specs.expire_told.specs.call_told.specs.Least.{is_made_for}
-use Rattle.attempts_told.specs.call_whys.specs.expire_told.specs.call_told.proofs.Lists.{all_at}
-use Rattle.attempts_told.specs.call_whys.specs.expire_told.specs.call_deeds.specs.Retried.{all_asked}
-use Rattle.attempts_told.specs.call_whys.specs.expire_told.specs.call_deeds.proofs.Ran.{AreLater}
-use Rattle.attempts_told.specs.call_whys.specs.expire_told.specs.call_deeds.proofs.Told.{task_at}
-use Rattle.attempts_told.specs.call_whys.specs.Below.script_facts.proofs.Lists.{has_from, has_none}
-use Rattle.attempts_told.specs.call_whys.specs.expire_told.specs.Said.{AreSaid}
-use Rattle.attempts_told.specs.call_whys.specs.expire_told.specs.Below.sock_deeds.specs.Runs.{IsOperation, seat_of, DeedRun}
-use Rattle.attempts_told.specs.call_whys.specs.expire_told.specs.Below.sock_deeds.proofs.Accepting.{log}
-use Rattle.attempts_told.specs.call_whys.specs.expire_told.specs.Below.sock_deeds.proofs.Tasks.{same_task}
-use Rattle.attempts_told.specs.call_whys.specs.expire_told.specs.Below.sock_deeds.proofs.Whole.{log_accepted, laws_of}
-use Rattle.attempts_told.specs.Attempts.{last_attempt}
-use Rattle.attempts_told.proofs.Last.{IsReached, one_reached, none_further}
-use Rattle.attempts_told.proofs.RetriedLast.{WentFor, last_went}
-use Rattle.attempts_told.proofs.Senders.{IsNoted, all_noted, made_for_there}
-use Rattle.attempts_told.proofs.Told.{same_asked}
-use Rattle.failed_told.specs.Ends.{LeftAt, OnLink, NoneOpened}
-use Rattle.failed_told.specs.Missed.{attempt_missed, went_missed, acted_missed, missed_in, id_of, IsBacked, attempt_of, socks_behind}
-use Rattle.failed_told.specs.Reasons.{AdvancedFor}
-use Rattle.failed_told.proofs.AtWords.{attempt_link, went_link, acted_link, link_in}
-use Rattle.failed_told.proofs.Clients.{Says, says_own, advanced_caused}
-use Rattle.failed_told.proofs.Crew.{is_task, own_call}
-use Rattle.failed_told.proofs.Fallen.{one_operation, unordered, WhyNothing, had_failed, were_full, had_none, why_nothing}
-use Rattle.failed_told.proofs.Losses.{WhyMissed, IsAskedIn, deed_why}
-use Rattle.failed_told.proofs.Makers.{made_begun}
-use Rattle.failed_told.proofs.Premises.{asked_so as asked_here}
-use Rattle.failed_told.proofs.Single.{laws, IsAttemptOf, at_first, again_id, again_attempt, first_id}
+use Rattle.failed_ends.specs.call_whys.specs.Below.rpc_client.specs.declared.acting.Told.{Told}
+use Rattle.failed_ends.specs.call_whys.specs.Below.call_attempts.specs.Both.{Both}
+use Rattle.failed_ends.specs.call_whys.specs.Below.call_attempts.specs.Attempting.{AttemptedBy, nowhere, over_link}
+use Rattle.failed_ends.specs.call_whys.specs.Below.call_attempts.specs.Retrying.{WentTo, stray, unopened, to_socket, had_ended, overtaken, went_again}
+use Rattle.failed_ends.specs.call_whys.specs.Below.call_client.specs.Acting.{Stand, both_of, Acted}
+use Rattle.failed_ends.specs.call_whys.specs.Below.call_run.specs.Readers.{LinkReader}
+use Rattle.failed_ends.specs.call_whys.specs.Below.call_run.specs.Threads.{Thread, RanWith, MayRunAll, ids_of}
+use Rattle.failed_ends.specs.call_whys.specs.call_places.specs.Counted.{makes, HaveNotesOf}
+use Rattle.failed_ends.specs.call_whys.specs.call_places.specs.Deeds.{Deed, operates, retries}
+use Rattle.failed_ends.specs.call_whys.specs.call_places.proofs.Still.{advances}
+use Rattle.failed_ends.specs.call_whys.specs.call_places.proofs.Own.{deed_of}
+use Rattle.failed_ends.specs.call_whys.specs.call_places.proofs.Ids.{IsIdOf}
+use Rattle.failed_ends.specs.call_whys.specs.call_places.proofs.Clients.{Client, total_map, view_of, tasks_of, deeds_of}
+use Rattle.failed_ends.specs.call_whys.specs.call_places.proofs.Places.{all as all_clients, views_are, noted_among, may_make, crew_of}
+use Rattle.failed_ends.specs.call_whys.specs.call_told.specs.Least.{is_made_for}
+use Rattle.failed_ends.specs.call_whys.specs.call_told.proofs.Lists.{all_at}
+use Rattle.failed_ends.specs.call_whys.specs.call_deeds.specs.Retried.{all_asked}
+use Rattle.failed_ends.specs.call_whys.specs.call_deeds.proofs.Ran.{AreLater}
+use Rattle.failed_ends.specs.call_whys.specs.call_deeds.proofs.Told.{task_at}
+use Rattle.failed_ends.specs.call_whys.specs.Below.script_facts.proofs.Lists.{has_from, has_none}
+use Rattle.failed_ends.specs.call_whys.specs.expire_told.specs.Said.{AreSaid}
+use Rattle.failed_ends.specs.call_whys.specs.Below.sock_deeds.specs.Runs.{IsOperation, seat_of, DeedRun}
+use Rattle.failed_ends.specs.call_whys.specs.Below.sock_deeds.proofs.Accepting.{log}
+use Rattle.failed_ends.specs.call_whys.specs.Below.sock_deeds.proofs.Tasks.{same_task}
+use Rattle.failed_ends.specs.call_whys.specs.Below.sock_deeds.proofs.Whole.{log_accepted, laws_of}
+use Rattle.failed_ends.specs.attempts_told.specs.Attempts.{last_attempt}
+use Rattle.failed_ends.specs.attempts_told.proofs.Last.{IsReached, one_reached, none_further}
+use Rattle.failed_ends.specs.attempts_told.proofs.RetriedLast.{WentFor, last_went}
+use Rattle.failed_ends.specs.attempts_told.proofs.Senders.{IsNoted, all_noted, made_for_there}
+use Rattle.failed_ends.specs.attempts_told.proofs.Told.{same_asked}
+use Rattle.failed_ends.specs.failed_reasons.specs.Ends.{LeftAt, OnLink, NoneOpened}
+use Rattle.failed_ends.specs.failed_reasons.specs.Missed.{attempt_missed, went_missed, acted_missed, missed_in, id_of, IsBacked, attempt_of, socks_behind}
+use Rattle.failed_ends.specs.failed_reasons.specs.Reasons.{AdvancedFor}
+use Rattle.failed_ends.specs.failed_reasons.proofs.AtWords.{attempt_link, went_link, acted_link, link_in}
+use Rattle.failed_ends.proofs.Clients.{Says, says_own, advanced_caused}
+use Rattle.failed_ends.specs.failed_reasons.proofs.Crew.{is_task, own_call}
+use Rattle.failed_ends.proofs.Fallen.{one_operation, unordered, WhyNothing, had_failed, were_full, had_none, why_nothing}
+use Rattle.failed_ends.specs.failed_reasons.proofs.Losses.{WhyMissed, IsAskedIn, deed_why}
+use Rattle.failed_ends.specs.failed_reasons.proofs.Makers.{made_begun}
+use Rattle.failed_ends.specs.failed_reasons.proofs.Premises.{asked_so as asked_here}
+use Rattle.failed_ends.proofs.Single.{laws, IsAttemptOf, at_first, again_id, again_attempt, first_id}
 use Rattle.failed_told.proofs.Standing.{may_be_on, lost_on}
 use Rattle.failed_told.proofs.Unopened.{unopened_why}
-use Rattle.attempts_told.specs.call_whys.specs.expire_told.specs.Below.sock_deeds.proofs.Places.{map_back}
+use Rattle.failed_ends.specs.call_whys.specs.Below.sock_deeds.proofs.Places.{map_back}
 
 -- ## Of deeds
 

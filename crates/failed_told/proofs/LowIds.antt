@@ -20,25 +20,25 @@ use Rattle.corr_core.specs.declared.marks.Noted.{Noted}
 use Rattle.corr_core.specs.declared.marks.Plan as id_plan
 use Rattle.corr_core.specs.declared.marks.View.{View}
 use Rattle.corr_core.proofs.Notes.{only-at, total_some}
-use Rattle.id_rule.specs.Lawful.{notes_of}
+use Rattle.corr_id.specs.id_rule.specs.Lawful.{notes_of}
 use Rattle.sock_message.specs.Asked.{Asked}
 use Rattle.corr_id.specs.Calls.{slot_of, version_of}
 use Rattle.corr_id.specs.Closing.{Closing}
-use Rattle.attempts_told.specs.call_whys.specs.expire_told.specs.Below.rpc_client.specs.declared.acting.Told.{Told}
-use Rattle.attempts_told.specs.call_whys.specs.expire_told.specs.Below.call_client.specs.Acting.{Stand, both_of, Acted}
-use Rattle.attempts_told.specs.call_whys.specs.expire_told.specs.Below.call_run.specs.Readers.{LinkReader}
-use Rattle.attempts_told.specs.call_whys.specs.expire_told.specs.Below.call_run.specs.Threads.{Thread, IsThread, RanWith, MayRunAll, ids_of}
-use Rattle.attempts_told.specs.call_whys.specs.expire_told.specs.call_places.specs.Counted.{makes, HaveNotesOf}
-use Rattle.attempts_told.specs.call_whys.specs.expire_told.specs.call_places.proofs.Clients.{Client, total_map, view_of}
-use Rattle.attempts_told.specs.call_whys.specs.expire_told.specs.call_places.proofs.Ids.{IsIdOf}
-use Rattle.attempts_told.specs.call_whys.specs.expire_told.specs.call_places.proofs.Places.{all as all_clients, views_are, noted_among, made_once}
-use Rattle.attempts_told.specs.call_whys.specs.expire_told.specs.call_places.proofs.Weights.{term, noted_at}
-use Rattle.attempts_told.specs.call_whys.specs.expire_told.specs.call_told.specs.Least.{is_made_for}
-use Rattle.attempts_told.specs.call_whys.specs.expire_told.specs.call_deeds.proofs.Ran.{Result}
-use Rattle.attempts_told.specs.call_whys.specs.expire_told.specs.call_told.proofs.Coming.{made_begun as begun_behind}
-use Rattle.failed_told.proofs.Before.{operation_made, noted_last}
-use Rattle.failed_told.proofs.Lasts.{one_made}
-use Rattle.failed_told.proofs.Makers.{made_begun}
+use Rattle.failed_ends.specs.call_whys.specs.Below.rpc_client.specs.declared.acting.Told.{Told}
+use Rattle.failed_ends.specs.call_whys.specs.Below.call_client.specs.Acting.{Stand, both_of, Acted}
+use Rattle.failed_ends.specs.call_whys.specs.Below.call_run.specs.Readers.{LinkReader}
+use Rattle.failed_ends.specs.call_whys.specs.Below.call_run.specs.Threads.{Thread, IsThread, RanWith, MayRunAll, ids_of}
+use Rattle.failed_ends.specs.call_whys.specs.call_places.specs.Counted.{makes, HaveNotesOf}
+use Rattle.failed_ends.specs.call_whys.specs.call_places.proofs.Clients.{Client, total_map, view_of}
+use Rattle.failed_ends.specs.call_whys.specs.call_places.proofs.Ids.{IsIdOf}
+use Rattle.failed_ends.specs.call_whys.specs.call_places.proofs.Places.{all as all_clients, views_are, noted_among, made_once}
+use Rattle.failed_ends.specs.call_whys.specs.call_places.proofs.Weights.{term, noted_at}
+use Rattle.failed_ends.specs.call_whys.specs.call_told.specs.Least.{is_made_for}
+use Rattle.failed_ends.specs.call_whys.specs.call_deeds.proofs.Ran.{Result}
+use Rattle.failed_ends.specs.call_whys.specs.call_told.proofs.Coming.{made_begun as begun_behind}
+use Rattle.failed_ends.specs.failed_reasons.proofs.Before.{operation_made, noted_last}
+use Rattle.failed_ends.proofs.Lasts.{one_made}
+use Rattle.failed_ends.specs.failed_reasons.proofs.Makers.{made_begun}
 
 -- an id with room was made for the operation
 pub record MadeLow (slots o : ℕ) (v : View Asked) : Type 0 where

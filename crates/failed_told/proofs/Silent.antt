@@ -17,15 +17,15 @@ use Rattle.corr_core.specs.declared.marks.Kept.{Kept}
 use Rattle.corr_core.specs.declared.marks.Noted.{Noted}
 use Rattle.corr_core.specs.declared.marks.View.{View}
 use Rattle.corr_id.specs.Closing.{Closing}
-use Rattle.attempts_told.specs.call_whys.specs.expire_told.specs.Below.rpc_client.specs.declared.acting.Told.{Told}
-use Rattle.attempts_told.specs.call_whys.specs.expire_told.specs.Below.call_run.specs.Readers.{LinkReader}
-use Rattle.attempts_told.specs.call_whys.specs.expire_told.specs.Below.call_run.specs.Threads.{RanWith, MayRunAll, ids_of}
-use Rattle.attempts_told.specs.call_whys.specs.expire_told.specs.call_places.specs.Counted.{HaveNotesOf}
-use Rattle.attempts_told.specs.call_whys.specs.expire_told.specs.call_places.proofs.Ids.{IsIdOf}
-use Rattle.attempts_told.specs.call_whys.specs.expire_told.specs.Below.sock_deeds.specs.Runs.{IsOperation}
-use Rattle.attempts_told.specs.call_whys.proofs.Versions.{AreIds}
-use Rattle.attempts_told.proofs.Told.{same_asked}
-use Rattle.failed_told.proofs.Alone.{NoResponse}
+use Rattle.failed_ends.specs.call_whys.specs.Below.rpc_client.specs.declared.acting.Told.{Told}
+use Rattle.failed_ends.specs.call_whys.specs.Below.call_run.specs.Readers.{LinkReader}
+use Rattle.failed_ends.specs.call_whys.specs.Below.call_run.specs.Threads.{RanWith, MayRunAll, ids_of}
+use Rattle.failed_ends.specs.call_whys.specs.call_places.specs.Counted.{HaveNotesOf}
+use Rattle.failed_ends.specs.call_whys.specs.call_places.proofs.Ids.{IsIdOf}
+use Rattle.failed_ends.specs.call_whys.specs.Below.sock_deeds.specs.Runs.{IsOperation}
+use Rattle.failed_ends.specs.call_whys.proofs.Versions.{AreIds}
+use Rattle.failed_ends.specs.attempts_told.proofs.Told.{same_asked}
+use Rattle.failed_ends.proofs.Alone.{NoResponse}
 use Rattle.failed_told.proofs.LowIds.{low_id}
 
 module _ {O : Type 0} {g : Ghosts O} {state : O → OutState} {readers : List (LinkReader g)} {p : Plan} {slots : ℕ} {setup : List Task} {clients : List (List Task)} {opens : List ℕ} {told ended : List (List Told)} {places : List PlaceWord} {vrefs : List Vref} {outs : List O} {ids : List (View Asked)}

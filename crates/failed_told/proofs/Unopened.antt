@@ -16,7 +16,7 @@ use Rattle.sock_words.specs.declared.place_word.PlaceWord.{PlaceWord}
 use Rattle.sock_words.specs.declared.vref.Vref.{Vref}
 use Rattle.sock_model.specs.declared.view.View as sock_view
 use Rattle.sock_model.specs.Layout.{name_index}
-use Rattle.attempts_told.specs.call_whys.specs.expire_told.specs.Below.sock_table.specs.Named.{Found}
+use Rattle.failed_ends.specs.call_whys.specs.Below.sock_table.specs.Named.{Found}
 use Rattle.seat_programs.specs.declared.task.Op.{Op}
 use Rattle.seat_programs.specs.declared.task.Op.TheVariants as ops
 use Rattle.seat_programs.specs.declared.task.Task.{Task}
@@ -29,47 +29,47 @@ use Rattle.corr_core.specs.declared.marks.Note.{Note}
 use Rattle.corr_core.specs.declared.marks.Noted.{Noted}
 use Rattle.corr_core.specs.declared.marks.View.{View}
 use Rattle.corr_core.proofs.Notes.{total_some}
-use Rattle.id_rule.specs.Lawful.{notes_of}
+use Rattle.corr_id.specs.id_rule.specs.Lawful.{notes_of}
 use Rattle.sock_message.specs.Asked.{Asked, name_of}
 use Rattle.corr_id.specs.declared.calls.IdLock.{IdLock}
 use Rattle.corr_id.specs.Calls.{is_saw, slot_of, version_of}
 use Rattle.corr_id.specs.Closing.{Closing}
-use Rattle.attempts_told.specs.call_whys.specs.expire_told.specs.Below.rpc_client.specs.declared.acting.Told.{Told}
-use Rattle.attempts_told.specs.call_whys.specs.expire_told.specs.Below.call_errors.specs.declared.retries.Retry.{Retry}
-use Rattle.attempts_told.specs.call_whys.specs.expire_told.specs.Below.call_attempts.specs.Both.{Both}
-use Rattle.attempts_told.specs.call_whys.specs.expire_told.specs.Below.call_attempts.specs.Calling.{BegunAs}
-use Rattle.attempts_told.specs.call_whys.specs.expire_told.specs.Below.call_attempts.specs.Retrying.{Locked, WentAgain, had_ended, overtaken, went_again}
-use Rattle.attempts_told.specs.call_whys.specs.expire_told.specs.Below.call_client.specs.Acting.{Stand, both_of, Acted}
-use Rattle.attempts_told.specs.call_whys.specs.expire_told.specs.Below.call_run.specs.Readers.{LinkReader}
-use Rattle.attempts_told.specs.call_whys.specs.expire_told.specs.Below.call_run.specs.Threads.{Thread, RanWith, MayRunAll, ids_of, opens_of, opened_names, openings}
-use Rattle.attempts_told.specs.call_whys.specs.expire_told.specs.call_places.specs.Counted.{makes, HaveNotesOf}
-use Rattle.attempts_told.specs.call_whys.specs.expire_told.specs.call_places.specs.Deeds.{Deed, operates, retries}
-use Rattle.attempts_told.specs.call_whys.specs.expire_told.specs.call_places.proofs.Still.{again_still}
-use Rattle.attempts_told.specs.call_whys.specs.expire_told.specs.call_places.proofs.Counts.{locks_for, KnowsLock, Grows, lock_stays, lock_known}
-use Rattle.attempts_told.specs.call_whys.specs.expire_told.specs.call_places.proofs.Ids.{IsIdOf, some_made, version_low, locker_there, one_id}
-use Rattle.attempts_told.specs.call_whys.specs.expire_told.specs.call_places.proofs.Clients.{Client, view_of, tasks_of, deeds_of}
-use Rattle.attempts_told.specs.call_whys.specs.expire_told.specs.call_places.proofs.Places.{all_are, views_are, noted_among, may_make, made_once, crew_of}
-use Rattle.attempts_told.specs.call_whys.specs.expire_told.specs.call_told.specs.Least.{is_made_for}
-use Rattle.attempts_told.specs.call_whys.specs.expire_told.specs.call_told.proofs.Lists.{all_at}
-use Rattle.attempts_told.specs.call_whys.specs.expire_told.specs.call_deeds.proofs.Ran.{Result}
-use Rattle.attempts_told.specs.call_whys.specs.expire_told.specs.call_deeds.proofs.Runs.{opened_there, names_there, same_task}
-use Rattle.attempts_told.specs.call_whys.specs.expire_told.specs.call_deeds.proofs.Told.{all_results, told_by, task_at, result_of, said_at, open_said}
-use Rattle.attempts_told.specs.call_whys.specs.Below.outcome_ticks.proofs.Seats.{Less}
-use Rattle.attempts_told.specs.call_whys.specs.Below.outcome_ticks.proofs.Tasks.{sorted_of}
-use Rattle.attempts_told.specs.call_whys.specs.expire_told.specs.Below.sock_deeds.specs.Runs.{IsOperation}
-use Rattle.attempts_told.specs.call_whys.specs.expire_told.specs.Below.sock_deeds.proofs.Names.{SeenBy}
-use Rattle.attempts_told.specs.call_whys.specs.expire_told.specs.Below.sock_deeds.proofs.Places.{place_low, map_back, map_there}
-use Rattle.attempts_told.specs.call_whys.specs.expire_told.specs.Said.{AreSaid}
-use Rattle.attempts_told.specs.call_whys.specs.expire_told.specs.call_told.proofs.Coming.{made_begun as begun_made}
-use Rattle.failed_told.specs.Missed.{missed_in, attempt_of, socks_behind}
-use Rattle.failed_told.proofs.Losses.{IsAskedIn}
-use Rattle.failed_told.proofs.Reaching.{retry_grew}
-use Rattle.failed_told.proofs.Single.{first_id, again_later}
-use Rattle.failed_told.proofs.Clients.{says_own}
-use Rattle.failed_told.proofs.Makers.{IsBegun, made_begun}
-use Rattle.failed_told.proofs.Crew.{tasks_there, its_tasks, place_of, is_task, own_call}
-use Rattle.failed_told.proofs.Before.{stands_before, IsRetry, MadeBefore, PlacedHere, all_placed, noted_last}
-use Rattle.failed_told.proofs.Seeking.{sought_seen, opens_seen, missed_seen, waited_seen, names_are, none_again}
+use Rattle.failed_ends.specs.call_whys.specs.Below.rpc_client.specs.declared.acting.Told.{Told}
+use Rattle.failed_ends.specs.call_whys.specs.Below.call_errors.specs.declared.retries.Retry.{Retry}
+use Rattle.failed_ends.specs.call_whys.specs.Below.call_attempts.specs.Both.{Both}
+use Rattle.failed_ends.specs.call_whys.specs.Below.call_attempts.specs.Calling.{BegunAs}
+use Rattle.failed_ends.specs.call_whys.specs.Below.call_attempts.specs.Retrying.{Locked, WentAgain, had_ended, overtaken, went_again}
+use Rattle.failed_ends.specs.call_whys.specs.Below.call_client.specs.Acting.{Stand, both_of, Acted}
+use Rattle.failed_ends.specs.call_whys.specs.Below.call_run.specs.Readers.{LinkReader}
+use Rattle.failed_ends.specs.call_whys.specs.Below.call_run.specs.Threads.{Thread, RanWith, MayRunAll, ids_of, opens_of, opened_names, openings}
+use Rattle.failed_ends.specs.call_whys.specs.call_places.specs.Counted.{makes, HaveNotesOf}
+use Rattle.failed_ends.specs.call_whys.specs.call_places.specs.Deeds.{Deed, operates, retries}
+use Rattle.failed_ends.specs.call_whys.specs.call_places.proofs.Still.{again_still}
+use Rattle.failed_ends.specs.call_whys.specs.call_places.proofs.Counts.{locks_for, KnowsLock, Grows, lock_stays, lock_known}
+use Rattle.failed_ends.specs.call_whys.specs.call_places.proofs.Ids.{IsIdOf, some_made, version_low, locker_there, one_id}
+use Rattle.failed_ends.specs.call_whys.specs.call_places.proofs.Clients.{Client, view_of, tasks_of, deeds_of}
+use Rattle.failed_ends.specs.call_whys.specs.call_places.proofs.Places.{all_are, views_are, noted_among, may_make, made_once, crew_of}
+use Rattle.failed_ends.specs.call_whys.specs.call_told.specs.Least.{is_made_for}
+use Rattle.failed_ends.specs.call_whys.specs.call_told.proofs.Lists.{all_at}
+use Rattle.failed_ends.specs.call_whys.specs.call_deeds.proofs.Ran.{Result}
+use Rattle.failed_ends.specs.call_whys.specs.call_deeds.proofs.Runs.{opened_there, names_there, same_task}
+use Rattle.failed_ends.specs.call_whys.specs.call_deeds.proofs.Told.{all_results, told_by, task_at, result_of, said_at, open_said}
+use Rattle.failed_ends.specs.call_whys.specs.Below.outcome_ticks.proofs.Seats.{Less}
+use Rattle.failed_ends.specs.call_whys.specs.Below.outcome_ticks.proofs.Tasks.{sorted_of}
+use Rattle.failed_ends.specs.call_whys.specs.Below.sock_deeds.specs.Runs.{IsOperation}
+use Rattle.failed_ends.specs.call_whys.specs.Below.sock_deeds.proofs.Names.{SeenBy}
+use Rattle.failed_ends.specs.call_whys.specs.Below.sock_deeds.proofs.Places.{place_low, map_back, map_there}
+use Rattle.failed_ends.specs.call_whys.specs.expire_told.specs.Said.{AreSaid}
+use Rattle.failed_ends.specs.call_whys.specs.call_told.proofs.Coming.{made_begun as begun_made}
+use Rattle.failed_ends.specs.failed_reasons.specs.Missed.{missed_in, attempt_of, socks_behind}
+use Rattle.failed_ends.specs.failed_reasons.proofs.Losses.{IsAskedIn}
+use Rattle.failed_ends.specs.failed_reasons.proofs.Reaching.{retry_grew}
+use Rattle.failed_ends.proofs.Single.{first_id, again_later}
+use Rattle.failed_ends.proofs.Clients.{says_own}
+use Rattle.failed_ends.specs.failed_reasons.proofs.Makers.{IsBegun, made_begun}
+use Rattle.failed_ends.specs.failed_reasons.proofs.Crew.{tasks_there, its_tasks, place_of, is_task, own_call}
+use Rattle.failed_ends.specs.failed_reasons.proofs.Before.{stands_before, IsRetry, MadeBefore, PlacedHere, all_placed, noted_last}
+use Rattle.failed_ends.specs.failed_reasons.proofs.Seeking.{sought_seen, opens_seen, missed_seen, waited_seen, names_are, none_again}
 
 -- ## Tasks in their order
 

@@ -1,5 +1,4 @@
-pub mod Missed
-pub mod Reasons
-pub mod Ends
-pub use Rattle.attempts_told
-pub use Rattle.attempts_told.specs.call_whys
+pub use Rattle.failed_ends.specs.attempts_told
+pub use Rattle.failed_ends.specs.call_whys
+pub use Rattle.failed_ends.specs.failed_reasons
+pub use Rattle.failed_ends

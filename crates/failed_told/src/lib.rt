@@ -1,2 +1,2 @@
-//! Why calls of a run on threads failed: each end that a client told goes back to an error that was posted. The definitions are in `specs/`, the proofs in `proofs/`. There is no code here.
+//! Of runs on threads: why calls failed, each by what is told of its last attempt. The proofs are in `proofs/`. There is no code here.
 #![tactic(auto)]

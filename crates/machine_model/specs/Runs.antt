@@ -16,7 +16,7 @@ use Rattle.seat_programs.specs.Ticks.{Answer, Moment, quiet, seats_of, run, wait
 use Rattle.seat_programs.specs.Runs.{IsAtRest, LeadsUpTo, next_kind, from_to}
 use Rattle.seat_programs.specs.Scripts.{AreStill, is_ending}
 use Rattle.sock_io.specs.Link.{more_told}
-use Rattle.run_theorems.specs.owed_calls.specs.Lives.{ClosesInTime}
+use Rattle.run_theorems.specs.call_owing.specs.Lives.{ClosesInTime}
 use Rattle.run_theorems.specs.Offered.{AreOffered}
 use Rattle.run_theorems.specs.Heard.{as_told, as_taken, take_answers, heard_in, taken_in}
 use Rattle.machine_model.specs.declared.tick.On.{On}

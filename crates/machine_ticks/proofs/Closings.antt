@@ -23,7 +23,7 @@ use Rattle.seat_programs.specs.Ticks.{Answer, Unasked, OfPut, OfReady, Moment, t
 use Rattle.seat_programs.specs.Runs.{from_to}
 use Rattle.machine_model.specs.id_runs.specs.Goes.{first_of}
 use Rattle.machine_model.specs.run_theorems.specs.Offered.{HasTaken}
-use Rattle.machine_model.specs.run_theorems.specs.owed_calls.specs.Lives.{InHand, IsFinished, ClosesAt, ClosesInTime}
+use Rattle.machine_model.specs.run_theorems.specs.call_owing.specs.Lives.{InHand, IsFinished, ClosesAt, ClosesInTime}
 use Rattle.seat_states.specs.declared.point.Step.{Step}
 use Rattle.seat_states.specs.Steps.{First, OfCall, OfAside, OfMessage, OfLink, OfHome}
 use Rattle.seat_states.specs.Steps as kinds

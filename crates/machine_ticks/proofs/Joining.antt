@@ -17,7 +17,7 @@ use Rattle.machine_model.specs.run_theorems.specs.Answers.{said_at}
 use Rattle.machine_model.specs.run_theorems.specs.Heard.{as_told, as_taken, answer_of, take_answers, taken_link, heard_at, heard_in, taken_at, taken_in}
 use Rattle.machine_model.specs.run_theorems.proofs.HeardRuns.{told_append, taken_append, heard_on, taken_on}
 use Rattle.machine_model.specs.id_runs.specs.Goes.{first_of}
-use Rattle.machine_model.specs.run_theorems.specs.owed_calls.specs.Lives.{ClosesAt, ClosesInTime}
+use Rattle.machine_model.specs.run_theorems.specs.call_owing.specs.Lives.{ClosesAt, ClosesInTime}
 use Rattle.machine_model.specs.run_theorems.specs.Offered.{OffersAt, AreOffered}
 use Rattle.seat_programs.specs.Asides.{TakeBytes, Taking, Bytes, Nothing, NoMore, AtEnd, Closed, Broken}
 use Rattle.seat_programs.specs.Programs.{Program, Aside, Say, Sent, Rest, Keep, Retries}

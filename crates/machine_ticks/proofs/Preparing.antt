@@ -14,7 +14,7 @@ use Rattle.seat_programs.specs.Programs.{Program}
 use Rattle.seat_programs.specs.Cores.{Core, SeatState}
 use Rattle.seat_programs.specs.Ticks.{Answer, Moment, AreAnswered, run, broken_in}
 use Rattle.machine_model.specs.sock_runs.proofs.Along.{place_inside}
-use Rattle.machine_model.specs.run_theorems.specs.owed_calls.specs.Lives.{ClosesInTime}
+use Rattle.machine_model.specs.run_theorems.specs.call_owing.specs.Lives.{ClosesInTime}
 use Rattle.machine_model.specs.run_theorems.specs.Offered.{AreOffered}
 use Rattle.machine_model.specs.run_theorems.specs.Heard.{heard_in, taken_in}
 use Rattle.call_slots.specs.Slots.{calls_with}

@@ -31,7 +31,7 @@ use Rattle.served_runs.specs.programs_allowed.specs.sock_runs.proofs.LinkTicks.{
 use Rattle.served_runs.specs.programs_allowed.specs.program_steps.proofs.Passes.{goes_round}
 use Rattle.served_runs.specs.programs_allowed.specs.program_steps.proofs.Rounds.{begins_round}
 use Rattle.served_runs.specs.programs_allowed.specs.sock_runs.proofs.Ticks.{sound_ticks}
-use Rattle.served_runs.specs.owed_calls.specs.Lives.{InHand}
+use Rattle.served_runs.specs.call_owing.specs.Lives.{InHand}
 use Rattle.served_runs.specs.Offered.{Lies}
 
 -- ## How many

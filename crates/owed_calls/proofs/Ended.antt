@@ -14,20 +14,20 @@ use Rattle.seat_programs.specs.Cores.{Core}
 use Rattle.seat_programs.specs.Ticks.{Moment, IsAlwaysReady, waits, waits_at}
 use Rattle.seat_programs.specs.Runs.{kind_in, IsSettled}
 use Rattle.seat_programs.specs.Runs as runs
-use Rattle.joint_runs.specs.program_steps.specs.Sound.{Sound, IsAhead}
-use Rattle.joint_runs.specs.sock_runs.proofs.Along.{seat_rests, place_inside}
-use Rattle.joint_runs.specs.sock_runs.proofs.Waiting.{StandsAside, still_settles}
-use Rattle.joint_runs.specs.program_walks.proofs.Rested.{IsPast}
-use Rattle.joint_runs.specs.program_walks.proofs.ReaderSeats.{AtReader, waits_own}
-use Rattle.joint_runs.specs.id_runs.specs.Held.{IdView}
-use Rattle.joint_runs.specs.id_runs.specs.Goes.{SoundIds}
-use Rattle.owed_calls.specs.Owing.{Owing}
-use Rattle.owed_calls.specs.Owes.{OwesOn}
-use Rattle.owed_calls.specs.Sound.{id_word_of, SoundOwing, AllRest}
-use Rattle.owed_calls.specs.Settled.{IsAtRest, WaitsAside, WaitsForOpen, OpensKnown}
-use Rattle.owed_calls.specs.Lives.{id_of, life_of}
-use Rattle.owed_calls.proofs.AllSettled.{ranges_ended, waits_for_opens, lives_failed}
-use Rattle.owed_calls.proofs.OwingRuns.{id_is, id_by}
+use Rattle.owned_ids.specs.programs_allowed.specs.program_steps.specs.Sound.{Sound, IsAhead}
+use Rattle.owned_ids.specs.programs_allowed.specs.sock_runs.proofs.Along.{seat_rests, place_inside}
+use Rattle.owned_ids.specs.programs_allowed.specs.sock_runs.proofs.Waiting.{StandsAside, still_settles}
+use Rattle.owned_ids.specs.programs_allowed.specs.program_walks.proofs.Rested.{IsPast}
+use Rattle.owned_ids.specs.programs_allowed.specs.program_walks.proofs.ReaderSeats.{AtReader, waits_own}
+use Rattle.owned_ids.specs.id_runs.specs.Held.{IdView}
+use Rattle.owned_ids.specs.id_runs.specs.Goes.{SoundIds}
+use Rattle.owned_ids.specs.call_owing.specs.Owing.{Owing}
+use Rattle.owned_ids.specs.call_owing.specs.Owes.{OwesOn}
+use Rattle.owned_ids.specs.call_owing.specs.Sound.{id_word_of, SoundOwing, AllRest}
+use Rattle.owned_ids.specs.call_owing.specs.Settled.{IsAtRest, WaitsAside, WaitsForOpen, OpensKnown}
+use Rattle.owned_ids.specs.call_owing.specs.Lives.{id_of, life_of}
+use Rattle.owing_ticks.proofs.AllSettled.{ranges_ended, waits_for_opens, lives_failed}
+use Rattle.owing_ticks.proofs.OwingRuns.{id_is, id_by}
 
 beside : {A B : Type 0} (l : List A) (m : List B) (j : ℕ) (a : A) → length m ≡ length l → get_elem? l j ≡ some a → (b : B) × (get_elem? m j ≡ some b)
 beside [] m j a e at = absurd (some-ne-none a (sym at))

@@ -11,8 +11,8 @@ use Rattle.atomic_table.proofs.Lists.{at_set, set_else}
 use Rattle.sock_words.specs.declared.kind.Kind.{Kind}
 use Rattle.sock_words.specs.Words.{socket_id_slot}
 use Rattle.sock_words.specs.declared.plain.Plan.{Plan}
-use Rattle.brpc_model.specs.Items.{Item, is_open}
-use Rattle.brpc_model.specs.Operations.{Turn, operations, clients, link_names}
+use Rattle.seat_programs.specs.brpc_model.specs.Items.{Item, is_open}
+use Rattle.seat_programs.specs.brpc_model.specs.Operations.{Turn, operations, clients, link_names}
 use Rattle.sock_model.specs.declared.view.View.{View}
 use Rattle.corr_core.specs.declared.marks.Plan.{Plan as IdPlan}
 use Rattle.seat_programs.specs.Asides.{TakeBytes, Closed}
@@ -24,38 +24,38 @@ use Rattle.seat_programs.specs.Ticks.{Unasked, Moment, quiet, ticked, run, IsAlw
 use Rattle.seat_programs.specs.Runs as runs
 use Rattle.seat_programs.specs.Runs.{kind_in}
 use Rattle.seat_programs.specs.Scripts.{ticks_of, sizes_of, programs, readers_from, all_programs, all_tasks, opened, ending, is_ending, set_up, played, IsRunWithCalls}
-use Rattle.joint_runs.specs.program_steps.specs.Sound.{AllRest, views_along}
-use Rattle.joint_runs.specs.sock_runs.proofs.LinkTicks.{RetriesGo}
-use Rattle.joint_runs.specs.sock_runs.proofs.Along.{seat_rests, place_inside}
-use Rattle.joint_runs.specs.sock_runs.proofs.Quiets.{run_seats, run_rests}
-use Rattle.joint_runs.specs.program_walks.proofs.ThroughCalls.{through_next}
-use Rattle.joint_runs.specs.id_runs.specs.Goes as goes
-use Rattle.joint_runs.specs.program_walks.proofs.WillStore.{WillStore, IsToStore, will_passes, will_follow, will_client, run_stores, rested_stored}
-use Rattle.joint_runs.specs.program_walks.proofs.LinksOpening.{OpensLink}
-use Rattle.joint_runs.specs.program_walks.proofs.Whole.{AreFittingIn, Begins, IsOwed, IsListed, views_closed, set_up_answered, end_answered, set_up_sound, closing_sound, closed_sound, views_played, rested_ahead, rested_idle, ended_idle, end_rests}
-use Rattle.joint_runs.specs.id_runs.proofs.Opening.{unused}
-use Rattle.joint_runs.specs.programs_allowed.proofs.Beginning as clients_begin
-use Rattle.joint_runs.specs.programs_allowed.proofs.Retrying.{retries_go}
-use Rattle.joint_runs.proofs.Both.{AreBoth, behind_both}
-use Rattle.joint_runs.proofs.Runs.{AreMade, first_views, begins, IsSoundRun, are_fitting_in, joint_runs}
-use Rattle.report_fits.specs.script_facts.proofs.Lists.{some_is, before_from, before_at, before_filter_map}
-use Rattle.report_fits.specs.script_facts.proofs.Numbering.{is_numbered}
-use Rattle.report_fits.specs.script_facts.proofs.TaskLemmas.{tasks_length}
-use Rattle.joint_runs.specs.chain_steps.proofs.Lists.{at_some}
-use Rattle.owed_calls.specs.Owing.{Owing}
-use Rattle.owed_calls.specs.Sound.{id_word_of, SoundOwing}
-use Rattle.owed_calls.specs.Owns.{Owned}
-use Rattle.owed_calls.proofs.OwnsRuns.{first_left, none_yet, owned_begins, kept_along, owned_ending, owned_on}
-use Rattle.owed_calls.specs.Lives.{life_of, AreSaying, ClosesAt, ClosesInTime, ClosesInRun, AreKept}
-use Rattle.owed_calls.proofs.EndsStill.{all_at, run_ending, all_still, one_of_still, run_parts, second_part, in_first, in_round, rest_at, mapped_at}
-use Rattle.owed_calls.proofs.OpensStored.{opener_of, place_at}
-use Rattle.owed_calls.proofs.WordsGiven.{Named, names_others, beginning_named, named_ending, named_on, run_named}
-use Rattle.owed_calls.proofs.OwingRuns.{Reaches}
+use Rattle.owned_ids.specs.programs_allowed.specs.program_steps.specs.Sound.{AllRest, views_along}
+use Rattle.owned_ids.specs.programs_allowed.specs.sock_runs.proofs.LinkTicks.{RetriesGo}
+use Rattle.owned_ids.specs.programs_allowed.specs.sock_runs.proofs.Along.{seat_rests, place_inside}
+use Rattle.owned_ids.specs.programs_allowed.specs.sock_runs.proofs.Quiets.{run_seats, run_rests}
+use Rattle.owned_ids.specs.programs_allowed.specs.program_walks.proofs.ThroughCalls.{through_next}
+use Rattle.owned_ids.specs.id_runs.specs.Goes as goes
+use Rattle.owned_ids.specs.programs_allowed.specs.program_walks.proofs.WillStore.{WillStore, IsToStore, will_passes, will_follow, will_client, run_stores, rested_stored}
+use Rattle.owned_ids.specs.programs_allowed.specs.program_walks.proofs.LinksOpening.{OpensLink}
+use Rattle.owned_ids.specs.programs_allowed.specs.program_walks.proofs.Whole.{AreFittingIn, Begins, IsOwed, IsListed, views_closed, set_up_answered, end_answered, set_up_sound, closing_sound, closed_sound, views_played, rested_ahead, rested_idle, ended_idle, end_rests}
+use Rattle.owned_ids.specs.id_runs.proofs.Opening.{unused}
+use Rattle.owned_ids.specs.programs_allowed.proofs.Beginning as clients_begin
+use Rattle.owned_ids.specs.programs_allowed.proofs.Retrying.{retries_go}
+use Rattle.owned_ids.specs.joint_runs.proofs.Both.{AreBoth, behind_both}
+use Rattle.owned_ids.specs.joint_runs.proofs.Runs.{AreMade, first_views, begins, IsSoundRun, are_fitting_in, joint_runs}
+use Rattle.owned_ids.specs.script_facts.proofs.Lists.{some_is, before_from, before_at, before_filter_map}
+use Rattle.owned_ids.specs.script_facts.proofs.Numbering.{is_numbered}
+use Rattle.owned_ids.specs.script_facts.proofs.TaskLemmas.{tasks_length}
+use Rattle.owned_ids.specs.chain_steps.proofs.Lists.{at_some}
+use Rattle.owned_ids.specs.call_owing.specs.Owing.{Owing}
+use Rattle.owned_ids.specs.call_owing.specs.Sound.{id_word_of, SoundOwing}
+use Rattle.owned_ids.specs.call_owing.specs.Owns.{Owned}
+use Rattle.owned_ids.proofs.OwnsRuns.{first_left, none_yet, owned_begins, kept_along, owned_ending, owned_on}
+use Rattle.owned_ids.specs.call_owing.specs.Lives.{life_of, AreSaying, ClosesAt, ClosesInTime, ClosesInRun, AreKept}
+use Rattle.owned_ids.specs.call_owing.proofs.EndsStill.{all_at, run_ending, all_still, one_of_still, run_parts, second_part, in_first, in_round, rest_at, mapped_at}
+use Rattle.owned_ids.proofs.OpensStored.{opener_of, place_at}
+use Rattle.owned_ids.proofs.WordsGiven.{Named, names_others, beginning_named, named_ending, named_on, run_named}
+use Rattle.owing_ticks.proofs.OwingRuns.{Reaches}
 use Rattle.owed_calls.proofs.WholeOwing as whole
 use Rattle.owed_calls.proofs.Saying.{says_along}
 use Rattle.owed_calls.proofs.Owed.{IsKnown, IsAtEnd, tasks_own, opened_seats}
 use Rattle.owed_calls.proofs.Owed as owed
-use Rattle.brpc_model.specs.Order.{EachBefore}
+use Rattle.seat_programs.specs.brpc_model.specs.Order.{EachBefore}
 
 -- ## Scripts
 

@@ -7,12 +7,12 @@ use mathlib.Core.Option.{none, some, some-injective}
 use lib.ListN.{get_elem?}
 use Rattle.sock_words.specs.Words.{socket_id_slot}
 use Rattle.sock_words.specs.declared.plain.Plan.{Plan}
-use Rattle.brpc_model.specs.Items.{Item}
-use Rattle.brpc_model.specs.Operations.{Turn, clients, link_names}
+use Rattle.seat_programs.specs.brpc_model.specs.Items.{Item}
+use Rattle.seat_programs.specs.brpc_model.specs.Operations.{Turn, clients, link_names}
 use Rattle.sock_model.specs.declared.view.View.{View}
 use Rattle.sock_model.specs.Layout.{open_index}
 use Rattle.corr_core.specs.declared.marks.Plan.{Plan as IdPlan}
-use Rattle.id_rule.specs.Lawful as ids
+use Rattle.seat_programs.specs.id_rule.specs.Lawful as ids
 use Rattle.seat_programs.specs.declared.task.Task.{Task}
 use Rattle.seat_programs.specs.Programs.{Program, Rest}
 use Rattle.seat_programs.specs.Tasks.{opens, calls, plan_of, id_plan_of}
@@ -22,27 +22,27 @@ use Rattle.seat_programs.specs.Ticks.{Moment, quiet, run, AreAnswered, IsAlwaysR
 use Rattle.seat_programs.specs.Runs as runs
 use Rattle.seat_programs.specs.Scripts.{sizes_of, programs, readers_from, all_programs, tasks_from, all_tasks, opening_calls, opened, ending, is_ending, set_up, played, IsRunWithCalls}
 use Rattle.seat_programs.specs.Told.{AreTasks}
-use Rattle.joint_runs.specs.program_steps.specs.Sound.{Sound, IsAhead, AreFitting, views_along}
-use Rattle.joint_runs.specs.sock_runs.proofs.LinkTicks.{RetriesGo}
-use Rattle.joint_runs.specs.sock_runs.proofs.Along.{run_sound, seat_rests, place_inside}
-use Rattle.joint_runs.specs.program_walks.proofs.Records.{next_stores}
-use Rattle.joint_runs.specs.program_walks.proofs.Recorded.{Recorded}
-use Rattle.joint_runs.specs.program_walks.proofs.Rested.{IsPast}
-use Rattle.joint_runs.specs.sock_runs.proofs.Waiting.{still_settles}
-use Rattle.joint_runs.specs.program_walks.proofs.ReaderSeats.{AtReader}
-use Rattle.joint_runs.specs.program_walks.proofs.OpensStay.{readers_begin}
-use Rattle.joint_runs.specs.program_walks.proofs.LinksRecorded.{Linked}
-use Rattle.joint_runs.specs.program_walks.proofs.LinksOpening.{OpensLink, OwnsLink, script_owns, others_give, beginning_linked}
-use Rattle.joint_runs.specs.program_walks.proofs.Whole.{AreFittingIn, Begins, IsOwed, IsListed, views_closed, set_up_answered, end_answered, set_up_sound, rested_ahead, rested_idle, closing_sound, closed_sound, ended_ahead, recorded_opened, recorded_set_up, recorded_closing, recorded_closed}
-use Rattle.joint_runs.specs.id_runs.specs.Held.{IdView}
-use Rattle.joint_runs.specs.id_runs.specs.Goes.{SoundIds}
-use Rattle.owed_calls.specs.Owing.{Owing}
-use Rattle.owed_calls.specs.Sound.{id_word_of, SoundOwing}
-use Rattle.owed_calls.specs.Lives.{id_of, life_of, AreSaying}
-use Rattle.owed_calls.specs.Settled as settled
-use Rattle.owed_calls.proofs.OwingRuns.{Reaches, id_is}
+use Rattle.owned_ids.specs.programs_allowed.specs.program_steps.specs.Sound.{Sound, IsAhead, AreFitting, views_along}
+use Rattle.owned_ids.specs.programs_allowed.specs.sock_runs.proofs.LinkTicks.{RetriesGo}
+use Rattle.owned_ids.specs.programs_allowed.specs.sock_runs.proofs.Along.{run_sound, seat_rests, place_inside}
+use Rattle.owned_ids.specs.programs_allowed.specs.program_walks.proofs.Records.{next_stores}
+use Rattle.owned_ids.specs.programs_allowed.specs.program_walks.proofs.Recorded.{Recorded}
+use Rattle.owned_ids.specs.programs_allowed.specs.program_walks.proofs.Rested.{IsPast}
+use Rattle.owned_ids.specs.programs_allowed.specs.sock_runs.proofs.Waiting.{still_settles}
+use Rattle.owned_ids.specs.programs_allowed.specs.program_walks.proofs.ReaderSeats.{AtReader}
+use Rattle.owned_ids.specs.programs_allowed.specs.program_walks.proofs.OpensStay.{readers_begin}
+use Rattle.owned_ids.specs.programs_allowed.specs.program_walks.proofs.LinksRecorded.{Linked}
+use Rattle.owned_ids.specs.programs_allowed.specs.program_walks.proofs.LinksOpening.{OpensLink, OwnsLink, script_owns, others_give, beginning_linked}
+use Rattle.owned_ids.specs.programs_allowed.specs.program_walks.proofs.Whole.{AreFittingIn, Begins, IsOwed, IsListed, views_closed, set_up_answered, end_answered, set_up_sound, rested_ahead, rested_idle, closing_sound, closed_sound, ended_ahead, recorded_opened, recorded_set_up, recorded_closing, recorded_closed}
+use Rattle.owned_ids.specs.id_runs.specs.Held.{IdView}
+use Rattle.owned_ids.specs.id_runs.specs.Goes.{SoundIds}
+use Rattle.owned_ids.specs.call_owing.specs.Owing.{Owing}
+use Rattle.owned_ids.specs.call_owing.specs.Sound.{id_word_of, SoundOwing}
+use Rattle.owned_ids.specs.call_owing.specs.Lives.{id_of, life_of, AreSaying}
+use Rattle.owned_ids.specs.call_owing.specs.Settled as settled
+use Rattle.owing_ticks.proofs.OwingRuns.{Reaches, id_is}
 use Rattle.owed_calls.proofs.WholeOwing.{Parts, readers₆, many₂, many₆, linked_at_end, links_stand, owed_at_end}
-use Rattle.owed_calls.proofs.Beginning.{owing_begins}
+use Rattle.owing_ticks.proofs.Beginning.{owing_begins}
 use Rattle.owed_calls.proofs.Ended.{is_settled, lives_past, all_ranges_ended}
 
 -- what a script is known to be: it has few clients and calls, and an operation for each `open` of a link; and its ids begin unused

@@ -12,28 +12,28 @@ use Rattle.seat_programs.specs.Programs.{Program, Do, Write, Aside, Round}
 use Rattle.seat_programs.specs.Readers.{reader}
 use Rattle.seat_programs.specs.Cores.{Core, SeatState, waiting_at}
 use Rattle.seat_programs.specs.Ticks.{Answer, Moment, ticked, run, AreAnswered}
-use Rattle.joint_runs.specs.program_steps.specs.Sound.{Sound, AreFitting, first_step, views_after, views_along}
-use Rattle.joint_runs.specs.sock_runs.proofs.LinkTicks.{RetriesGo}
-use Rattle.joint_runs.specs.sock_runs.proofs.Along.{place_inside}
-use Rattle.joint_runs.specs.sock_runs.proofs.Ticks.{sound_ticks}
-use Rattle.joint_runs.specs.sock_runs.proofs.Quiets.{run_seats}
-use Rattle.joint_runs.specs.program_walks.proofs.Recorded.{Recorded, recorded_ticks}
-use Rattle.joint_runs.specs.program_walks.proofs.ReaderSeats.{AtReader, run_reader}
-use Rattle.joint_runs.specs.program_walks.proofs.LinksOpening.{OpensLink}
-use Rattle.joint_runs.specs.id_runs.specs.Goes as goes
-use Rattle.joint_runs.proofs.Both.{AreBoth}
-use Rattle.owed_calls.proofs.EndsStill.{view_of}
-use Rattle.owed_calls.specs.Owing.{Duty, Linked, Owing, Among, duty_tokens}
-use Rattle.owed_calls.specs.Owes.{OwesOn}
-use Rattle.owed_calls.specs.Sound.{retry_tokens, FailedIn, SoundOwing}
-use Rattle.owed_calls.specs.Lives.{life_of, OthersFit, AreSaying, IsFinished, ClosesAt, ClosesInTime, KeepsAt, AreKept}
-use Rattle.owed_calls.proofs.Changes.{among_left}
-use Rattle.owed_calls.proofs.Stores.{id_of_at}
-use Rattle.owed_calls.proofs.Rounds.{owes_round}
-use Rattle.owed_calls.proofs.Programs.{block_goes}
-use Rattle.owed_calls.proofs.WordsGiven.{Named, run_named}
+use Rattle.owned_ids.specs.programs_allowed.specs.program_steps.specs.Sound.{Sound, AreFitting, first_step, views_after, views_along}
+use Rattle.owned_ids.specs.programs_allowed.specs.sock_runs.proofs.LinkTicks.{RetriesGo}
+use Rattle.owned_ids.specs.programs_allowed.specs.sock_runs.proofs.Along.{place_inside}
+use Rattle.owned_ids.specs.programs_allowed.specs.sock_runs.proofs.Ticks.{sound_ticks}
+use Rattle.owned_ids.specs.programs_allowed.specs.sock_runs.proofs.Quiets.{run_seats}
+use Rattle.owned_ids.specs.programs_allowed.specs.program_walks.proofs.Recorded.{Recorded, recorded_ticks}
+use Rattle.owned_ids.specs.programs_allowed.specs.program_walks.proofs.ReaderSeats.{AtReader, run_reader}
+use Rattle.owned_ids.specs.programs_allowed.specs.program_walks.proofs.LinksOpening.{OpensLink}
+use Rattle.owned_ids.specs.id_runs.specs.Goes as goes
+use Rattle.owned_ids.specs.joint_runs.proofs.Both.{AreBoth}
+use Rattle.owned_ids.specs.call_owing.proofs.EndsStill.{view_of}
+use Rattle.owned_ids.specs.call_owing.specs.Owing.{Duty, Linked, Owing, Among, duty_tokens}
+use Rattle.owned_ids.specs.call_owing.specs.Owes.{OwesOn}
+use Rattle.owned_ids.specs.call_owing.specs.Sound.{retry_tokens, FailedIn, SoundOwing}
+use Rattle.owned_ids.specs.call_owing.specs.Lives.{life_of, OthersFit, AreSaying, IsFinished, ClosesAt, ClosesInTime, KeepsAt, AreKept}
+use Rattle.owned_ids.specs.call_owing.proofs.Changes.{among_left}
+use Rattle.owing_ticks.proofs.Stores.{id_of_at}
+use Rattle.owned_ids.specs.call_owing.proofs.Rounds.{owes_round}
+use Rattle.owned_ids.specs.call_owing.proofs.Programs.{block_goes}
+use Rattle.owned_ids.proofs.WordsGiven.{Named, run_named}
 use Rattle.owed_calls.proofs.ClosedPast.{closed_past}
-use Rattle.owed_calls.proofs.OwingRuns.{Reaches, id_is, life_is, own_open, same_first, reach_back}
+use Rattle.owing_ticks.proofs.OwingRuns.{Reaches, id_is, life_is, own_open, same_first, reach_back}
 
 -- the first step of a round is one that the marks allow
 owes_first : (life : ℕ → Option ℕ) (u : Owing) (program : Program) → OwesOn life u program → OwesOn life u (goes.first_of program)

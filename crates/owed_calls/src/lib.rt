@@ -1,2 +1,2 @@
-//! Who owes a call its end: what each seat that tries an attempt, and each reader of a link, is still to do for it.
+//! That in a run each call is ended by whoever owes it its end. The proofs are in `proofs/`. There is no code here.
 #![tactic(auto)]

@@ -6,7 +6,7 @@ use Rattle.brpc_model.specs.Script.{script_of}
 use Rattle.seat_programs.specs.Tasks.{opens, plan_of}
 use Rattle.seat_programs.specs.Cores.{Core}
 use Rattle.seat_programs.specs.Scripts.{IsRunWithCalls}
-use Rattle.owed_calls.specs.Lives.{life_of, ClosesInRun}
+use Rattle.owed_calls.specs.call_owing.specs.Lives.{life_of, ClosesInRun}
 use Rattle.owed_calls.proofs.Known.{run_owed_of, run_owing_end}
 use Rattle.run_theorems.specs.Over.{IsAllOver}
 use Rattle.run_theorems.proofs.Starts.{made}

@@ -22,9 +22,9 @@ use Rattle.owed_calls.specs.programs_allowed.specs.Openings.{all_seats}
 use Rattle.owed_calls.specs.programs_allowed.proofs.Fresh.{opening_fresh}
 use Rattle.owed_calls.specs.programs_allowed.proofs.Retrying.{retries_go}
 use Rattle.owed_calls.specs.joint_runs.proofs.Runs.{first_views, joint_runs}
-use Rattle.owed_calls.specs.Owing.{Owing}
-use Rattle.owed_calls.specs.Sound.{SoundOwing}
-use Rattle.owed_calls.proofs.End.{all_ended}
+use Rattle.owed_calls.specs.call_owing.specs.Owing.{Owing}
+use Rattle.owed_calls.specs.call_owing.specs.Sound.{SoundOwing}
+use Rattle.owed_calls.specs.call_owing.proofs.End.{all_ended}
 use Rattle.owed_calls.specs.report_fits.specs.Calm.{IsCalm}
 use Rattle.owed_calls.specs.report_fits.specs.Ends.{AreEndsOf, EndsEarly}
 use Rattle.owed_calls.specs.script_facts.proofs.Lists.{Has, has_first, has_later, within, all_at, contains_from}

@@ -11,7 +11,7 @@ use Rattle.seat_programs.specs.Ticks.{Answer, OfPut, OfReady, OfTake, Moment, as
 use Rattle.seat_programs.specs.Tasks.{plan_of}
 use Rattle.seat_programs.specs.Scripts.{IsRunWithCalls, set_up}
 use Rattle.run_theorems.specs.Answers.{said_at, said_in}
-pub use Rattle.owed_calls.specs.Takes.{taken_link}
+pub use Rattle.owed_calls.specs.call_owing.specs.Takes.{taken_link}
 
 -- ## Answers
 

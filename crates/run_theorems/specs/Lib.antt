@@ -7,4 +7,4 @@ pub mod Unserved
 pub mod Over
 pub use Rattle.owed_calls.specs.programs_allowed
 pub use Rattle.owed_calls.specs.joint_runs
-pub use Rattle.owed_calls
+pub use Rattle.owed_calls.specs.call_owing

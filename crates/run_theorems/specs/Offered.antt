@@ -12,7 +12,7 @@ use Rattle.seat_programs.specs.Programs.{Program, Aside}
 use Rattle.seat_programs.specs.Cores.{Core, SeatState, link_place}
 use Rattle.seat_programs.specs.Ticks.{Answer, Moment, taken, ticked}
 use Rattle.owed_calls.specs.id_runs.specs.Goes as goes
-use Rattle.owed_calls.specs.Lives.{InHand}
+use Rattle.owed_calls.specs.call_owing.specs.Lives.{InHand}
 
 -- what the other end of a link offers for these bytes: the server the replies, up to the number that is given, and another end nothing
 abbrev pub offered : Bool → Option ℕ → List ℕ → List ℕ

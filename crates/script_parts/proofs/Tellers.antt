@@ -53,7 +53,7 @@ use Rattle.calls_done.specs.call_whys.specs.call_deeds.specs.Scripts.{Reports}
 use Rattle.calls_done.specs.call_whys.specs.call_deeds.proofs.Ran.{Result}
 use Rattle.calls_done.specs.call_whys.specs.call_deeds.proofs.Told.{all_results, task_at, said_of, one_place}
 use Rattle.callless_fits.specs.sock_deeds.specs.Runs.{IsOperation}
-use Rattle.calls_done.specs.failed_told.proofs.Makers.{made_begun}
+use Rattle.calls_done.specs.failed_reasons.proofs.Makers.{made_begun}
 use Rattle.script_parts.specs.Told.{outcomes_of}
 use Rattle.script_parts.proofs.Sayings.{long_each, told_each, none_long, none_told}
 use Rattle.script_parts.proofs.Began.{thread_ends_in}

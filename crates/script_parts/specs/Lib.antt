@@ -6,6 +6,8 @@ pub mod Told
 pub use Rattle.calls_done.specs.attempts_told
 pub use Rattle.calls_done.specs.call_whys
 pub use Rattle.callless_fits
+pub use Rattle.calls_done.specs.failed_reasons
+pub use Rattle.calls_done.specs.failed_ends
 pub use Rattle.calls_done.specs.failed_told
 pub use Rattle.id_rule
 pub use Rattle.calls_done.specs.call_whys.specs.Below.script_facts

@@ -13,7 +13,7 @@ use Rattle.seat_programs.specs.declared.task.Op.TheVariants as ops
 use Rattle.seat_programs.specs.declared.task.Task.{Task}
 use Rattle.seat_programs.specs.Told.{IsTask, Became}
 use Rattle.seat_programs.specs.ToldCalls.{Fixed, Order, WhyExpire, WhyAgain, FailedBy}
-use Rattle.calls_done.specs.failed_told.specs.Ends.{EndedByReading}
+use Rattle.calls_done.specs.failed_reasons.specs.Ends.{EndedByReading}
 use Rattle.rpc_client.specs.declared.acting.Told.{Told}
 use Rattle.script_parts.specs.Saying.{said_by_each}
 

@@ -18,8 +18,8 @@ use Rattle.calm_runs.specs.send_causes.specs.report_fits.proofs.Callless.{not_la
 use Rattle.calm_runs.specs.send_causes.specs.script_facts.proofs.Lists.{Has, has_first, filter_map_has}
 use Rattle.calm_runs.specs.send_causes.specs.script_facts.proofs.Numbering.{are_from, is_numbered}
 use Rattle.calm_runs.specs.send_causes.specs.script_facts.proofs.TaskLemmas.{tasks_length}
-use Rattle.calm_runs.specs.send_causes.proofs.Early.{start, go, fitting}
-use Rattle.calm_runs.specs.send_causes.proofs.Rests as rests
+use Rattle.calm_runs.specs.accept_counts.proofs.Early.{start, go, fitting}
+use Rattle.calm_runs.specs.accept_counts.proofs.Rests as rests
 use Rattle.calm_runs.specs.send_causes.specs.run_theorems.proofs.Starts.{made}
 use Rattle.calm_runs.proofs.Nothing.{nothing_behind}
 

@@ -15,7 +15,7 @@ use Rattle.seat_programs.specs.Scripts.{IsRunWithCalls, Settles, AreStill, round
 use Rattle.seat_programs.specs.Tasks as tasks
 use Rattle.seat_programs.specs.Tasks.{plan_of, id_plan_of}
 use Rattle.brpc_model.specs.Script.{script_of}
-use Rattle.calm_runs.specs.send_causes.specs.owed_calls.specs.Lives.{ClosesInTime, ClosesInRun}
+use Rattle.calm_runs.specs.accept_counts.specs.call_owing.specs.Lives.{ClosesInTime, ClosesInRun}
 use Rattle.calm_runs.specs.send_causes.specs.run_theorems.proofs.Lengths.{opened_sized, run_sized}
 use Rattle.calm_runs.specs.send_causes.specs.run_theorems.specs.Heard.{heard_in, taken_in, heard_of, taken_of}
 use Rattle.calm_runs.specs.send_causes.specs.run_theorems.specs.Offered.{AreOffered}

@@ -30,7 +30,7 @@ use Rattle.calm_runs.specs.send_causes.specs.run_theorems.proofs.Gave.{gave_hear
 use Rattle.calm_runs.specs.send_causes.specs.run_theorems.proofs.Lengths.{ended_length}
 use Rattle.calm_runs.specs.send_causes.specs.run_theorems.proofs.Runs.{run_drops_told}
 use Rattle.calm_runs.specs.send_causes.specs.run_theorems.proofs.Starts.{made, starts, fitting}
-use Rattle.calm_runs.specs.send_causes.specs.owed_calls.proofs.Known.{run_owed_of}
+use Rattle.calm_runs.specs.accept_counts.specs.owed_calls.proofs.Known.{run_owed_of}
 use Rattle.run_laws.proofs.Laws.{keeps_laws}
 use Rattle.calm_runs.specs.send_causes.specs.report_fits.specs.Ends.{IsEndOf, AreEndsOf, EndsEarly}
 use Rattle.calm_runs.specs.send_causes.specs.script_facts.proofs.Lists.{within, has_from, all_at}

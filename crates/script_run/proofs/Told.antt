@@ -16,16 +16,16 @@ use Rattle.calm_runs.specs.send_causes.specs.outcome_stories.specs.PlainTasks.{t
 use Rattle.calm_runs.specs.send_causes.specs.outcome_stories.specs.TaskCauses.{ToldTasks}
 use Rattle.calm_runs.specs.send_causes.specs.outcome_stories.proofs.Members.{in_contains, contains_in}
 use Rattle.calm_runs.specs.send_causes.specs.outcome_causes.proofs.Scripts.{lost_of_run, run_told}
-use Rattle.calm_runs.specs.send_causes.proofs.Early.{closed_early, start, go, fitting}
-use Rattle.calm_runs.specs.send_causes.proofs.Lists.{early_shown, closed_shown}
-use Rattle.calm_runs.specs.send_causes.proofs.Plain.{broken_shown}
-use Rattle.calm_runs.specs.send_causes.proofs.Sends as sends
+use Rattle.calm_runs.specs.accept_counts.proofs.Early.{closed_early, start, go, fitting}
+use Rattle.calm_runs.specs.accept_counts.proofs.Lists.{early_shown, closed_shown}
+use Rattle.calm_runs.specs.accept_counts.proofs.Plain.{broken_shown}
+use Rattle.calm_runs.specs.sent_once.proofs.Sends as sends
 use Rattle.calm_runs.specs.send_causes.proofs.AllTold.{told_of_run, told_last}
 use Rattle.calm_runs.specs.send_causes.proofs.Assembled.{fixed_in_run}
 use Rattle.run_laws.specs.programs_allowed.specs.Openings.{all_seats}
 use Rattle.run_laws.specs.programs_allowed.proofs.Fresh.{opening_fresh}
 use Rattle.calm_runs.specs.send_causes.specs.joint_runs.proofs.Runs.{first_views}
-use Rattle.calm_runs.specs.send_causes.specs.owed_calls.specs.Lives.{ClosesInRun}
+use Rattle.calm_runs.specs.accept_counts.specs.call_owing.specs.Lives.{ClosesInRun}
 use Rattle.calm_runs.specs.send_causes.specs.script_facts.proofs.Lists.{Has, has_from, has_none}
 use Rattle.calm_runs.specs.send_causes.specs.script_facts.proofs.Reading.{InRange}
 use Rattle.calm_runs.specs.send_causes.specs.script_facts.proofs.Sizes.{is_counted}

@@ -20,7 +20,7 @@ use Rattle.calm_runs.specs.send_causes.specs.outcome_stories.specs.Facts.{broken
 use Rattle.calm_runs.specs.send_causes.specs.outcome_stories.specs.Losses.{lost_in}
 use Rattle.calm_runs.specs.send_causes.specs.outcome_stories.specs.TaskCauses.{ToldTasks, DropsMade}
 use Rattle.calm_runs.specs.send_causes.specs.outcome_causes.proofs.Scripts.{MadeInRun, lost_of_run}
-use Rattle.calm_runs.specs.send_causes.specs.call_causes.specs.Lists.{attempts_of_run, silent_of_run, soon_of_run}
+use Rattle.calm_runs.specs.accept_counts.specs.call_stories.specs.Lists.{attempts_of_run, silent_of_run, soon_of_run}
 use Rattle.calm_runs.specs.send_causes.specs.run_theorems.specs.Heard.{heard_takes, given_by}
 
 -- the links that answered that they failed in a run, before its ending and behind it

@@ -19,7 +19,7 @@ use Rattle.seat_programs.specs.Tasks.{plan_of}
 use Rattle.calm_runs.specs.send_causes.specs.report_fits.specs.Ends.{AreEndsOf}
 use Rattle.run_laws.specs.Laws.{KeepsLaws}
 use Rattle.sock_io.specs.Link.{InState}
-use Rattle.calm_runs.specs.send_causes.specs.owed_calls.specs.Lives.{ClosesInRun}
+use Rattle.calm_runs.specs.accept_counts.specs.call_owing.specs.Lives.{ClosesInRun}
 use Rattle.machine_model.specs.Links.{Taken, Given, SoFar, TellClosing, IsOffering}
 use Rattle.machine_model.specs.Machines.{MachineState, core_with}
 use Rattle.calm_runs.specs.send_causes.specs.run_theorems.specs.Heard.{as_told, as_taken, take_answers, heard_of, taken_of, heard_takes}

@@ -28,7 +28,7 @@ use Rattle.call_run.specs.Readers.{LinkReader, nothing_read, IsReader, AreReader
 use Rattle.script_parts.specs.script_facts.proofs.Lists.{has_from}
 use Rattle.script_parts.specs.call_whys.specs.call_deeds.proofs.Beside.{read_early, early_links}
 use Rattle.script_parts.specs.call_whys.specs.call_deeds.proofs.Readers.{early_if}
-use Rattle.script_parts.specs.failed_told.proofs.Ends.{EndedIf, ReadEnded}
+use Rattle.script_parts.specs.failed_reasons.proofs.Ends.{EndedIf, ReadEnded}
 use Rattle.script_parts.specs.call_whys.specs.call_told.proofs.Gains.{met_bytes, rest_bytes, gains_read}
 use Rattle.script_parts.specs.call_whys.specs.call_told.proofs.Linked.{read_bytes}
 use Rattle.script_parts.specs.call_whys.specs.call_told.proofs.Readers.{link_read, if_bytes, reader_gave, each_read, readers_gave}

@@ -59,25 +59,25 @@ use Rattle.script_parts.specs.call_whys.specs.Below.sock_deeds.proofs.Whole.{log
 use Rattle.script_parts.specs.call_whys.specs.Below.sock_deeds.proofs.Flats.{flat_there}
 use Rattle.script_parts.specs.call_whys.specs.Below.sock_deeds.proofs.DropCodes.{StoredByReader}
 use Rattle.script_parts.specs.attempts_told.specs.Attempts.{last_attempt}
-use Rattle.script_parts.specs.failed_told.specs.Ends.{ReadingEnded, GaveNoResponse, EndedByReading, AtFault, AtEnd, AtFaultDrop, AtEndDrop, LeftOver, LeftAt}
+use Rattle.script_parts.specs.failed_reasons.specs.Ends.{ReadingEnded, GaveNoResponse, EndedByReading, AtFault, AtEnd, AtFaultDrop, AtEndDrop, LeftOver, LeftAt}
 use Rattle.script_parts.specs.failed_told.proofs.Again.{again_with}
-use Rattle.script_parts.specs.failed_told.proofs.Alone.{NoResponse, told_alone, waits_alone}
+use Rattle.script_parts.specs.failed_ends.proofs.Alone.{NoResponse, told_alone, waits_alone}
 use Rattle.script_parts.specs.failed_told.proofs.ByLinks.{IsPosted, LockOf, told_why, by_reader}
-use Rattle.script_parts.specs.failed_told.proofs.Codes.{IsReadCode}
+use Rattle.script_parts.specs.failed_reasons.proofs.Codes.{IsReadCode}
 use Rattle.script_parts.specs.failed_told.proofs.DropsTold.{drops_with, expires_with}
 use Rattle.script_parts.specs.failed_told.proofs.Ended.{TellsDrops, ends_with}
-use Rattle.script_parts.specs.failed_told.proofs.Ends.{ReadEnded, reader_read, reader_posts, ToldBy, reader_tells}
+use Rattle.script_parts.specs.failed_reasons.proofs.Ends.{ReadEnded, reader_read, reader_posts, ToldBy, reader_tells}
 use Rattle.script_parts.specs.failed_told.proofs.Left.{left_at}
-use Rattle.script_parts.specs.failed_told.proofs.LeftOver.{MoreNotes, IsLast, rest_last, over_last}
+use Rattle.script_parts.specs.failed_reasons.proofs.LeftOver.{MoreNotes, IsLast, rest_last, over_last}
 use Rattle.script_parts.specs.failed_told.proofs.LinkEnds.{EndedHere, DroppedHere, QueuedHere, told_on}
-use Rattle.script_parts.specs.failed_told.proofs.Posts.{IsPost, rest_stays}
-use Rattle.script_parts.specs.failed_told.proofs.Premises.{asked_so}
-use Rattle.script_parts.specs.failed_told.proofs.ReaderStores.{setter}
-use Rattle.script_parts.specs.failed_told.proofs.Reading.{notes_flat, rest_queues, readers_queue, queued_beside, others_beside}
+use Rattle.script_parts.specs.failed_reasons.proofs.Posts.{IsPost, rest_stays}
+use Rattle.script_parts.specs.failed_reasons.proofs.Premises.{asked_so}
+use Rattle.script_parts.specs.failed_ends.proofs.ReaderStores.{setter}
+use Rattle.script_parts.specs.failed_reasons.proofs.Reading.{notes_flat, rest_queues, readers_queue, queued_beside, others_beside}
 use Rattle.script_parts.specs.failed_told.proofs.Silent.{silent}
-use Rattle.script_parts.specs.failed_told.proofs.Tells.{ToldEnd, IsPostFor, rest_step}
-use Rattle.script_parts.specs.failed_told.proofs.Unmet.{HasMet, has_asked, reader_waits, reader_ends, AnyMet, any_asked, any_at, HasTaken, rest_ends}
-use Rattle.script_parts.specs.failed_told.proofs.Views.{Stays, queued_in}
+use Rattle.script_parts.specs.failed_reasons.proofs.Tells.{ToldEnd, IsPostFor, rest_step}
+use Rattle.script_parts.specs.failed_ends.proofs.Unmet.{HasMet, has_asked, reader_waits, reader_ends, AnyMet, any_asked, any_at, HasTaken, rest_ends}
+use Rattle.script_parts.specs.failed_reasons.proofs.Views.{Stays, queued_in}
 use Rattle.script_parts.specs.call_whys.specs.call_told.proofs.Unanswered.{CodeEnd}
 use Rattle.script_parts.specs.call_whys.specs.call_told.specs.Once.{ends_of}
 use Rattle.rpc_reader.specs.Posting.{call_at}

@@ -7,11 +7,11 @@ use mathlib.Core.Logic.{dite}
 use native.Mathlib.Decide.{ℕ_discrete}
 use Rattle.sock_words.specs.declared.outcome.Outcome.{Outcome}
 use Rattle.sock_words.specs.declared.outcome.Outcome.TheVariants.{Unopened, Answered, Peer, CallFailed}
-use Rattle.brpc_model.specs.Items.{Item}
-use Rattle.brpc_model.specs.Operations.{Turn}
-use Rattle.brpc_model.specs.Messages.{shown_id}
-use Rattle.brpc_model.specs.Order.{EachBefore}
-use Rattle.brpc_model.specs.Script.{script_of}
+use Rattle.seat_programs.specs.brpc_model.specs.Items.{Item}
+use Rattle.seat_programs.specs.brpc_model.specs.Operations.{Turn}
+use Rattle.seat_programs.specs.brpc_model.specs.Messages.{shown_id}
+use Rattle.seat_programs.specs.brpc_model.specs.Order.{EachBefore}
+use Rattle.seat_programs.specs.brpc_model.specs.Script.{script_of}
 use Rattle.corr_core.specs.Word.{error_of}
 use Rattle.sock_message.specs.Asked.{Asked, name_of}
 use Rattle.seat_programs.specs.Cores.{Core}
@@ -22,29 +22,29 @@ use Rattle.seat_programs.specs.Tasks.{plan_of}
 use Rattle.seat_programs.specs.Scripts.{all_tasks, IsRunWithCalls}
 use Rattle.seat_programs.specs.Told.{IsTask, Became, Made}
 use Rattle.seat_programs.specs.ToldCalls.{Fixed, Order, IsSent, OfSend, OfCall, InOwnOrder, IsDropped, IsFailing, WhyLost, WasFailing, WhyAgain, FailedBy, ByExpiry, ByCompression, ByEnd, EndedWith, Why, WhyCall, ToldCalls}
-use Rattle.outcome_causes.specs.outcome_stories.specs.Explains.{is_plain}
-use Rattle.outcome_causes.specs.outcome_stories.specs.Facts.{ToldPlain}
-use Rattle.outcome_causes.specs.outcome_stories.proofs.Members.{contains_in}
-use Rattle.outcome_causes.specs.outcome_ticks.proofs.Tasks.{one_task}
-use Rattle.call_causes.specs.joint_runs.proofs.Runs.{AreMade, first_views}
-use Rattle.call_causes.specs.owed_calls.specs.script_facts.proofs.Reading.{InRange}
-use Rattle.call_causes.specs.owed_calls.specs.script_facts.proofs.Targets.{AreThere}
-use Rattle.call_causes.specs.owed_calls.specs.script_facts.proofs.Lists.{all_at}
-use Rattle.call_causes.specs.owed_calls.specs.Lives.{ClosesInRun}
-use Rattle.call_causes.specs.Lists.{given, attempts_of_run, early_of_run, closed_of_run, silent_of_run, soon_of_run}
-use Rattle.call_causes.specs.Posts.{posts_of_run}
-use Rattle.call_causes.specs.Target.{IsOnCalls, ToldOnCallsInPart, WhyInPart, WhyCallInPart}
-use Rattle.call_causes.proofs.Whole.{run_told_in_part, run_found_none}
-use Rattle.call_causes.proofs.Posted.{run_few_attempts, run_advanced_by, run_advanced_shown, run_failed_by}
-use Rattle.send_causes.specs.PostCauses.{PostCause}
-use Rattle.send_causes.proofs.AttemptedRun.{attempted_of_run}
-use Rattle.send_causes.proofs.Beside.{ends_listed}
+use Rattle.dropped_calls.specs.outcome_stories.specs.Explains.{is_plain}
+use Rattle.dropped_calls.specs.outcome_stories.specs.Facts.{ToldPlain}
+use Rattle.dropped_calls.specs.outcome_stories.proofs.Members.{contains_in}
+use Rattle.dropped_calls.specs.outcome_ticks.proofs.Tasks.{one_task}
+use Rattle.dropped_calls.specs.joint_runs.proofs.Runs.{AreMade, first_views}
+use Rattle.dropped_calls.specs.script_facts.proofs.Reading.{InRange}
+use Rattle.dropped_calls.specs.script_facts.proofs.Targets.{AreThere}
+use Rattle.dropped_calls.specs.script_facts.proofs.Lists.{all_at}
+use Rattle.dropped_calls.specs.call_owing.specs.Lives.{ClosesInRun}
+use Rattle.dropped_calls.specs.call_stories.specs.Lists.{given, attempts_of_run, early_of_run, closed_of_run, silent_of_run, soon_of_run}
+use Rattle.dropped_calls.specs.call_stories.specs.Posts.{posts_of_run}
+use Rattle.dropped_calls.specs.call_stories.specs.Target.{IsOnCalls, ToldOnCallsInPart, WhyInPart, WhyCallInPart}
+use Rattle.dropped_calls.specs.call_causes.proofs.Whole.{run_told_in_part, run_found_none}
+use Rattle.dropped_calls.specs.call_causes.proofs.Posted.{run_few_attempts, run_advanced_by, run_advanced_shown, run_failed_by}
+use Rattle.dropped_calls.specs.accept_counts.specs.PostCauses.{PostCause}
+use Rattle.dropped_calls.specs.attempted_calls.proofs.AttemptedRun.{attempted_of_run}
+use Rattle.dropped_calls.specs.sent_once.proofs.Beside.{ends_listed}
 use Rattle.send_causes.proofs.ByPosts.{never_final, failed_by_post, again_by_post}
 use Rattle.send_causes.proofs.CausedRanges.{few_last}
-use Rattle.send_causes.proofs.Early.{start, go, fitting}
-use Rattle.send_causes.proofs.FirstRuns.{run_own_order}
-use Rattle.send_causes.proofs.LateDropped.{dropped_of_run}
-use Rattle.send_causes.proofs.Sends.{fixed, orders_of_run, orders_are, told_plain, opening_bare}
+use Rattle.dropped_calls.specs.accept_counts.proofs.Early.{start, go, fitting}
+use Rattle.dropped_calls.specs.sent_once.proofs.FirstRuns.{run_own_order}
+use Rattle.dropped_calls.proofs.LateDropped.{dropped_of_run}
+use Rattle.dropped_calls.specs.sent_once.proofs.Sends.{fixed, orders_of_run, orders_are, told_plain, opening_bare}
 
 -- an operation is on calls, or a plain one
 kind_of : (op : Op) → IsOnCalls op ⊎ (is_plain op ≡ true)

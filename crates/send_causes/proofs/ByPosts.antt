@@ -6,7 +6,7 @@ use Rattle.sock_message.specs.Asked.{Asked, name_of}
 use Rattle.seat_programs.specs.declared.task.Task.{Task}
 use Rattle.seat_programs.specs.Posts.{is_final}
 use Rattle.seat_programs.specs.ToldCalls.{Fixed, Order, IsDropped, WhyLost, WhyAgain, AfterDrop, AfterLoss, AfterFull, FailedBy, ByFrameFault, ByEnd, BySocket, ByRequests, ByFail}
-use Rattle.send_causes.specs.PostCauses.{PostCause, OfLoss, OfWant, OfDrop, OfFail, OfFault, OfEnd}
+use Rattle.dropped_calls.specs.accept_counts.specs.PostCauses.{PostCause, OfLoss, OfWant, OfDrop, OfFail, OfFault, OfEnd}
 
 -- codes that end no call by themselves
 not_final : (code : ℕ) → is_final code ≡ true → (code ≡ 1009) ⊎ ((code ≡ 3001) ⊎ ((1500 ≤ code) × (code ≤ 1999))) → ⊥

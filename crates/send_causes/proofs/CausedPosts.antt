@@ -6,10 +6,10 @@ use mathlib.Core.Logic.{dite}
 use native.Mathlib.Decide.{dec_le}
 use Rattle.sock_words.specs.declared.plain.Plan.{Plan}
 use Rattle.sock_words.specs.declared.outcome.Outcome.{Outcome}
-use Rattle.brpc_model.specs.Items.{Item}
-use Rattle.brpc_model.specs.Operations.{Turn}
-use Rattle.brpc_model.specs.Messages.{shown_id}
-use Rattle.brpc_model.specs.Script.{script_of}
+use Rattle.seat_programs.specs.brpc_model.specs.Items.{Item}
+use Rattle.seat_programs.specs.brpc_model.specs.Operations.{Turn}
+use Rattle.seat_programs.specs.brpc_model.specs.Messages.{shown_id}
+use Rattle.seat_programs.specs.brpc_model.specs.Script.{script_of}
 use Rattle.corr_core.specs.Word.{error_of, code_of, attempt_of}
 use Rattle.sock_message.specs.Asked.{Asked, name_of}
 use Rattle.seat_programs.specs.declared.task.Op.TheVariants as ops
@@ -18,25 +18,25 @@ use Rattle.seat_programs.specs.Cores.{Core}
 use Rattle.seat_programs.specs.Scripts.{all_tasks, IsRunWithCalls}
 use Rattle.seat_programs.specs.Told.{IsTask, Became}
 use Rattle.seat_programs.specs.ToldCalls.{Fixed, Order, IsUnordered, WhyLost, WasFailing, RunEnding, WasUnopened}
-use Rattle.outcome_causes.specs.outcome_stories.specs.Stories.{In}
-use Rattle.outcome_causes.specs.outcome_stories.proofs.Members.{contains_in}
-use Rattle.call_causes.specs.joint_runs.proofs.Runs.{AreMade}
-use Rattle.call_causes.specs.owed_calls.specs.script_facts.proofs.Reading.{InRange}
-use Rattle.call_causes.specs.owed_calls.specs.script_facts.proofs.Targets.{AreThere}
-use Rattle.call_causes.specs.owed_calls.specs.Lives.{ClosesInRun}
-use Rattle.call_causes.specs.Decided.{posted_by}
-use Rattle.call_causes.specs.Lists.{given, shows_in_run}
-use Rattle.call_causes.specs.Posts.{Post, posts_of_run}
-use Rattle.send_causes.specs.EndedCalls.{reader_posts_of_run}
-use Rattle.send_causes.specs.PostCauses.{PostCause, OfLoss, OfWant, OfFault}
-use Rattle.send_causes.specs.Refused.{FoundNothing}
-use Rattle.send_causes.proofs.AttemptedRun.{one_asked}
-use Rattle.send_causes.proofs.AttemptedStored.{ids_at}
-use Rattle.send_causes.proofs.Beside.{gave_of_run}
+use Rattle.dropped_calls.specs.outcome_stories.specs.Stories.{In}
+use Rattle.dropped_calls.specs.outcome_stories.proofs.Members.{contains_in}
+use Rattle.dropped_calls.specs.joint_runs.proofs.Runs.{AreMade}
+use Rattle.dropped_calls.specs.script_facts.proofs.Reading.{InRange}
+use Rattle.dropped_calls.specs.script_facts.proofs.Targets.{AreThere}
+use Rattle.dropped_calls.specs.call_owing.specs.Lives.{ClosesInRun}
+use Rattle.dropped_calls.specs.call_stories.specs.Decided.{posted_by}
+use Rattle.dropped_calls.specs.call_stories.specs.Lists.{given, shows_in_run}
+use Rattle.dropped_calls.specs.call_stories.specs.Posts.{Post, posts_of_run}
+use Rattle.dropped_calls.specs.accept_counts.specs.EndedCalls.{reader_posts_of_run}
+use Rattle.dropped_calls.specs.accept_counts.specs.PostCauses.{PostCause, OfLoss, OfWant, OfFault}
+use Rattle.dropped_calls.specs.accept_counts.specs.Refused.{FoundNothing}
+use Rattle.dropped_calls.specs.attempted_calls.proofs.AttemptedRun.{one_asked}
+use Rattle.dropped_calls.specs.attempted_calls.proofs.AttemptedStored.{ids_at}
+use Rattle.dropped_calls.specs.sent_once.proofs.Beside.{gave_of_run}
 use Rattle.send_causes.proofs.FoundNamesWhole.{found_lost}
 use Rattle.send_causes.proofs.OwnIds.{labelled_at, would_at, single_at, some_id, own_id, whys_of_seat, drop_post, drop_cause, reader_post}
-use Rattle.send_causes.proofs.PostSeats.{seat_of_post, reader_post_of}
-use Rattle.send_causes.proofs.RefusedRun.{IsOfRefusal, WhyPosted, PostedByReader, PostedByExpiry, PostedByRefusal, PostedByDrop}
+use Rattle.dropped_calls.specs.accept_counts.proofs.PostSeats.{seat_of_post, reader_post_of}
+use Rattle.dropped_calls.specs.refused_attempts.proofs.RefusedRun.{IsOfRefusal, WhyPosted, PostedByReader, PostedByExpiry, PostedByRefusal, PostedByDrop}
 use Rattle.send_causes.proofs.Laws.{laws}
 
 -- an attempt's loss is none of what links gave

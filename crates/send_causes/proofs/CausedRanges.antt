@@ -1,8 +1,8 @@
 -- An error of a call is for an attempt that its word can tell: none of them is past the sixth.
 use Rattle.std.proofs.Common.{◌≡◌, ℕ, ◌≤◌, List, subst, arith}
 use Rattle.std.specs.List.{AllByRecursion}
-use Rattle.brpc_model.specs.Items.{Item}
-use Rattle.brpc_model.specs.Operations.{Turn}
+use Rattle.seat_programs.specs.brpc_model.specs.Items.{Item}
+use Rattle.seat_programs.specs.brpc_model.specs.Operations.{Turn}
 use Rattle.sock_message.specs.Asked.{Asked}
 use Rattle.seat_programs.specs.Cores.{Core}
 use Rattle.seat_programs.specs.declared.task.Op.TheVariants as ops
@@ -10,12 +10,12 @@ use Rattle.seat_programs.specs.declared.task.Task.{Task}
 use Rattle.seat_programs.specs.Tasks.{plan_of}
 use Rattle.seat_programs.specs.Scripts.{all_tasks, IsRunWithCalls}
 use Rattle.seat_programs.specs.Told.{AskedFits, OpFits, TaskFits, IsTask}
-use Rattle.outcome_causes.specs.outcome_stories.proofs.Members.{all_in, contains_in, get_all}
-use Rattle.call_causes.specs.joint_runs.proofs.Runs.{AreMade}
-use Rattle.call_causes.specs.owed_calls.specs.script_facts.proofs.Reading.{InRange}
-use Rattle.call_causes.specs.owed_calls.specs.script_facts.proofs.Targets.{AreThere}
-use Rattle.call_causes.specs.Lists.{attempts_of_run}
-use Rattle.call_causes.proofs.Posted.{run_few_attempts}
+use Rattle.dropped_calls.specs.outcome_stories.proofs.Members.{all_in, contains_in, get_all}
+use Rattle.dropped_calls.specs.joint_runs.proofs.Runs.{AreMade}
+use Rattle.dropped_calls.specs.script_facts.proofs.Reading.{InRange}
+use Rattle.dropped_calls.specs.script_facts.proofs.Targets.{AreThere}
+use Rattle.dropped_calls.specs.call_stories.specs.Lists.{attempts_of_run}
+use Rattle.dropped_calls.specs.call_causes.proofs.Posted.{run_few_attempts}
 
 module _ (script : List Item) (made : AreMade script) (there : AreThere script) (range : AllByRecursion InRange script) (turns : List Turn) (core : Core) (is : IsRunWithCalls script turns core) where
   asked_fits : (client : ℕ) (t : Task) (asked : Asked) → IsTask (all_tasks script) core.outcomes client t → t.op ≡ ops.Call asked → AskedFits (plan_of script) asked

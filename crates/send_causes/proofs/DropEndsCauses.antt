@@ -4,11 +4,11 @@ use Rattle.std.specs.Prelude.{Some, slice_get}
 use Rattle.std.specs.List.{AllByRecursion}
 use mathlib.Core.Option.{some}
 use lib.ListN.{get_elem?}
-use Rattle.brpc_model.specs.Items.{Item}
-use Rattle.brpc_model.specs.Operations.{Turn}
-use Rattle.brpc_model.specs.Script.{script_of}
-use Rattle.call_causes.specs.owed_calls.specs.script_facts.proofs.Reading.{InRange}
-use Rattle.call_causes.specs.owed_calls.specs.script_facts.proofs.Targets.{AreThere}
+use Rattle.seat_programs.specs.brpc_model.specs.Items.{Item}
+use Rattle.seat_programs.specs.brpc_model.specs.Operations.{Turn}
+use Rattle.seat_programs.specs.brpc_model.specs.Script.{script_of}
+use Rattle.dropped_calls.specs.script_facts.proofs.Reading.{InRange}
+use Rattle.dropped_calls.specs.script_facts.proofs.Targets.{AreThere}
 use Rattle.sock_words.specs.Words.{socket_id_slot, socket_id_version}
 use Rattle.sock_words.specs.declared.plain.Plan.{Plan}
 use Rattle.sock_model.specs.Layout.{open_index}
@@ -21,27 +21,27 @@ use Rattle.seat_programs.specs.Tasks.{opens, plan_of}
 use Rattle.seat_programs.specs.Ticks.{run, quiet}
 use Rattle.seat_programs.specs.Scripts.{all_tasks, opened, set_up, played, IsRunWithCalls}
 use Rattle.seat_programs.specs.ToldCalls.{Order, Fixed, IsSent, GaveFault}
-use Rattle.outcome_causes.specs.program_steps.specs.Sound.{views_along}
-use Rattle.outcome_causes.specs.sock_runs.proofs.Along.{place_inside}
-use Rattle.outcome_causes.specs.program_walks.proofs.LinksOpening.{OpensLink}
-use Rattle.outcome_causes.specs.program_walks.proofs.Whole.{closing_of, views_played, views_closed, views_ended, set_up_sound, closing_sound, closed_sound, end_answered}
-use Rattle.outcome_causes.specs.outcome_stories.specs.Causes.{WasGiven}
-use Rattle.outcome_causes.specs.outcome_stories.specs.Stories.{In}
-use Rattle.outcome_causes.specs.outcome_stories.proofs.Members.{in_contains}
-use Rattle.call_causes.specs.joint_runs.proofs.Runs.{AreMade, first_views}
-use Rattle.call_causes.specs.owed_calls.specs.Lives.{ClosesInRun}
-use Rattle.call_causes.specs.owed_calls.proofs.Known.{opens_apart}
-use Rattle.call_causes.specs.owed_calls.proofs.WordsGiven.{Named, IsOfLink, run_named, named_ending, named_on}
-use Rattle.call_causes.specs.Lists.{given}
-use Rattle.call_causes.specs.Posts.{Post}
-use Rattle.send_causes.specs.PostCauses.{PostCause, OfFault}
-use Rattle.send_causes.proofs.Beside.{orders_here}
-use Rattle.send_causes.proofs.DropCauses.{fail_range, may_be_on, caused_by_drop}
-use Rattle.send_causes.proofs.DropEndsWhole.{WhoseIn, whose_of_run}
-use Rattle.send_causes.proofs.DropOfRun.{DropOf, ends, one_given, story_given}
-use Rattle.send_causes.proofs.Early.{start, go, fitting, known, named_set_up}
-use Rattle.send_causes.proofs.EndedWhole.{h₄, ended_so}
-use Rattle.send_causes.proofs.Runs.{AreLabelledIn}
+use Rattle.dropped_calls.specs.programs_allowed.specs.program_steps.specs.Sound.{views_along}
+use Rattle.dropped_calls.specs.programs_allowed.specs.sock_runs.proofs.Along.{place_inside}
+use Rattle.dropped_calls.specs.programs_allowed.specs.program_walks.proofs.LinksOpening.{OpensLink}
+use Rattle.dropped_calls.specs.programs_allowed.specs.program_walks.proofs.Whole.{closing_of, views_played, views_closed, views_ended, set_up_sound, closing_sound, closed_sound, end_answered}
+use Rattle.dropped_calls.specs.outcome_stories.specs.Causes.{WasGiven}
+use Rattle.dropped_calls.specs.outcome_stories.specs.Stories.{In}
+use Rattle.dropped_calls.specs.outcome_stories.proofs.Members.{in_contains}
+use Rattle.dropped_calls.specs.joint_runs.proofs.Runs.{AreMade, first_views}
+use Rattle.dropped_calls.specs.call_owing.specs.Lives.{ClosesInRun}
+use Rattle.dropped_calls.specs.owed_calls.proofs.Known.{opens_apart}
+use Rattle.dropped_calls.specs.owned_ids.proofs.WordsGiven.{Named, IsOfLink, run_named, named_ending, named_on}
+use Rattle.dropped_calls.specs.call_stories.specs.Lists.{given}
+use Rattle.dropped_calls.specs.call_stories.specs.Posts.{Post}
+use Rattle.dropped_calls.specs.accept_counts.specs.PostCauses.{PostCause, OfFault}
+use Rattle.dropped_calls.specs.sent_once.proofs.Beside.{orders_here}
+use Rattle.dropped_calls.proofs.DropCauses.{fail_range, may_be_on, caused_by_drop}
+use Rattle.dropped_calls.proofs.DropEndsWhole.{WhoseIn, whose_of_run}
+use Rattle.dropped_calls.proofs.DropOfRun.{DropOf, ends, one_given, story_given}
+use Rattle.dropped_calls.specs.accept_counts.proofs.Early.{start, go, fitting, known, named_set_up}
+use Rattle.dropped_calls.specs.ended_calls.proofs.EndedWhole.{h₄, ended_so}
+use Rattle.dropped_calls.specs.accept_counts.proofs.Runs.{AreLabelledIn}
 
 module _ (script : List Item) (made : AreMade script) (turns : List Turn) (core : Core) (is : IsRunWithCalls script turns core) where
   -- the words of opens at the end of the run

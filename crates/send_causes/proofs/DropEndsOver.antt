@@ -4,12 +4,12 @@ use Rattle.std.specs.Prelude.{Contains}
 use Rattle.std.specs.List.{AllByRecursion}
 use mathlib.Core.Option.{some}
 use lib.ListN.{get_elem?}
-use Rattle.brpc_model.specs.Items.{Item}
-use Rattle.brpc_model.specs.Operations.{Turn}
-use Rattle.brpc_model.specs.Frame.{Frame}
-use Rattle.brpc_model.specs.Script.{script_of}
-use Rattle.call_causes.specs.owed_calls.specs.script_facts.proofs.Reading.{InRange}
-use Rattle.call_causes.specs.owed_calls.specs.script_facts.proofs.Targets.{AreThere}
+use Rattle.seat_programs.specs.brpc_model.specs.Items.{Item}
+use Rattle.seat_programs.specs.brpc_model.specs.Operations.{Turn}
+use Rattle.seat_programs.specs.brpc_model.specs.Frame.{Frame}
+use Rattle.seat_programs.specs.brpc_model.specs.Script.{script_of}
+use Rattle.dropped_calls.specs.script_facts.proofs.Reading.{InRange}
+use Rattle.dropped_calls.specs.script_facts.proofs.Targets.{AreThere}
 use Rattle.sock_words.specs.Words.{socket_id, socket_id_slot, socket_id_version}
 use Rattle.sock_model.specs.declared.view.View.{View}
 use Rattle.sock_model.specs.Layout.{open_index}
@@ -24,29 +24,29 @@ use Rattle.seat_programs.specs.Readers.{reader}
 use Rattle.seat_programs.specs.Tasks.{opens, calls, plan_of}
 use Rattle.seat_programs.specs.Scripts.{IsRunWithCalls}
 use Rattle.seat_programs.specs.ToldCalls.{IsSent, Gave, IsResponse, IsPlaced, StandsOn}
-use Rattle.outcome_causes.specs.program_steps.specs.Sound.{first_step}
-use Rattle.outcome_causes.specs.sock_runs.proofs.Along.{place_inside}
-use Rattle.outcome_causes.specs.program_walks.proofs.Whole.{IsListed, views_closed, views_ended, closed_sound, recorded_closed}
-use Rattle.outcome_causes.specs.outcome_stories.specs.Causes.{WasGiven}
-use Rattle.outcome_causes.proofs.Final.{at_there}
-use Rattle.outcome_causes.specs.outcome_stories.proofs.Members.{contains_in}
-use Rattle.outcome_causes.specs.outcome_ticks.proofs.Tasks.{one_task}
-use Rattle.call_causes.specs.joint_runs.proofs.Runs.{AreMade, first_views}
-use Rattle.call_causes.specs.owed_calls.specs.Lives.{ClosesInRun}
-use Rattle.call_causes.specs.Lists.{given, early_of_run, closed_of_run, silent_of_run}
-use Rattle.call_causes.specs.Posts.{Post}
-use Rattle.send_causes.specs.PostCauses.{PostCause, OfEnd}
+use Rattle.dropped_calls.specs.programs_allowed.specs.program_steps.specs.Sound.{first_step}
+use Rattle.dropped_calls.specs.programs_allowed.specs.sock_runs.proofs.Along.{place_inside}
+use Rattle.dropped_calls.specs.programs_allowed.specs.program_walks.proofs.Whole.{IsListed, views_closed, views_ended, closed_sound, recorded_closed}
+use Rattle.dropped_calls.specs.outcome_stories.specs.Causes.{WasGiven}
+use Rattle.dropped_calls.specs.outcome_causes.proofs.Final.{at_there}
+use Rattle.dropped_calls.specs.outcome_stories.proofs.Members.{contains_in}
+use Rattle.dropped_calls.specs.outcome_ticks.proofs.Tasks.{one_task}
+use Rattle.dropped_calls.specs.joint_runs.proofs.Runs.{AreMade, first_views}
+use Rattle.dropped_calls.specs.call_owing.specs.Lives.{ClosesInRun}
+use Rattle.dropped_calls.specs.call_stories.specs.Lists.{given, early_of_run, closed_of_run, silent_of_run}
+use Rattle.dropped_calls.specs.call_stories.specs.Posts.{Post}
+use Rattle.dropped_calls.specs.accept_counts.specs.PostCauses.{PostCause, OfEnd}
 use Rattle.send_causes.proofs.Assembled.{last_in_run}
-use Rattle.send_causes.proofs.Closers.{Calm, IsOver}
-use Rattle.send_causes.proofs.DropCauses.{may_be_on, stands_on}
+use Rattle.dropped_calls.specs.accept_counts.proofs.Closers.{Calm, IsOver}
+use Rattle.dropped_calls.proofs.DropCauses.{may_be_on, stands_on}
 use Rattle.send_causes.proofs.DropEndsCauses.{own_link, cause_of_drop}
-use Rattle.send_causes.proofs.DropOfRun.{IsOpened, DropOf, ends, end_sound, settled, given_opened}
-use Rattle.send_causes.proofs.Early.{Any, ends_anyhow, start, go, fitting, known}
-use Rattle.send_causes.proofs.EndedWhole.{h₃, h₄, closed_keeps, ended_so}
-use Rattle.send_causes.proofs.Readings.{State}
-use Rattle.send_causes.proofs.ReaderRuns.{Keeps, keeps_along}
-use Rattle.send_causes.proofs.Runs.{AreLabelledIn}
-use Rattle.send_causes.proofs.Sends.{orders_are}
+use Rattle.dropped_calls.proofs.DropOfRun.{IsOpened, DropOf, ends, end_sound, settled, given_opened}
+use Rattle.dropped_calls.specs.accept_counts.proofs.Early.{Any, ends_anyhow, start, go, fitting, known}
+use Rattle.dropped_calls.specs.ended_calls.proofs.EndedWhole.{h₃, h₄, closed_keeps, ended_so}
+use Rattle.dropped_calls.specs.accept_counts.proofs.Readings.{State}
+use Rattle.dropped_calls.specs.accept_counts.proofs.ReaderRuns.{Keeps, keeps_along}
+use Rattle.dropped_calls.specs.accept_counts.proofs.Runs.{AreLabelledIn}
+use Rattle.dropped_calls.specs.sent_once.proofs.Sends.{orders_are}
 use Rattle.send_causes.proofs.Laws.{laws}
 
 module _ (script : List Item) (made : AreMade script) (turns : List Turn) (core : Core) (is : IsRunWithCalls script turns core) (closes : ClosesInRun script turns core is) (ids : ℕ → ℕ) (labelled : AreLabelledIn ids script turns core is) where

@@ -11,24 +11,24 @@ use Rattle.seat_programs.specs.declared.task.Task.{Task}
 use Rattle.seat_programs.specs.Calls.{LoadName}
 use Rattle.seat_programs.specs.Cores.{Core, SeatState}
 use Rattle.seat_programs.specs.Ticks.{Moment, AreAnswered, ticked, run}
-use Rattle.outcome_causes.specs.program_steps.specs.Sound.{first_step, views_after}
-use Rattle.outcome_causes.specs.outcome_ticks.proofs.Ticks.{elem_there}
-use Rattle.call_causes.specs.joint_runs.proofs.Both.{AreBoth}
-use Rattle.call_causes.specs.Lists.{advanced_at}
-use Rattle.call_causes.specs.Posts.{Post, posted_at}
-use Rattle.call_causes.specs.Scenes.{Scene, LeadsTo, Later}
-use Rattle.call_causes.specs.Decided.{Decision}
-use Rattle.call_causes.specs.Stories.{HasStory, GoesOn}
-use Rattle.call_causes.proofs.Allowing.{allows}
-use Rattle.call_causes.proofs.Claiming.{HaveSlots}
-use Rattle.call_causes.proofs.Leading.{run_leads}
-use Rattle.call_causes.proofs.Numbered.{AreNumbered}
-use Rattle.call_causes.proofs.Ticks.{IsSetUp, other_there, story_lasts}
-use Rattle.send_causes.specs.Refused.{DidMiss, WouldStore, DidAt, DidIn}
-use Rattle.send_causes.proofs.AttemptedFacts.{IsOwn, facts}
-use Rattle.send_causes.proofs.EndedNames.{follows_first}
-use Rattle.send_causes.proofs.AttemptedOwn.{IsTrueOf, own_ticks}
-use Rattle.send_causes.proofs.AttemptedStored.{Owns, AreSetUp, would_of}
+use Rattle.dropped_calls.specs.programs_allowed.specs.program_steps.specs.Sound.{first_step, views_after}
+use Rattle.dropped_calls.specs.outcome_ticks.proofs.Ticks.{elem_there}
+use Rattle.dropped_calls.specs.joint_runs.proofs.Both.{AreBoth}
+use Rattle.dropped_calls.specs.call_stories.specs.Lists.{advanced_at}
+use Rattle.dropped_calls.specs.call_stories.specs.Posts.{Post, posted_at}
+use Rattle.dropped_calls.specs.call_stories.specs.Scenes.{Scene, LeadsTo, Later}
+use Rattle.dropped_calls.specs.call_stories.specs.Decided.{Decision}
+use Rattle.dropped_calls.specs.call_stories.specs.Stories.{HasStory, GoesOn}
+use Rattle.dropped_calls.specs.story_ticks.proofs.Allowing.{allows}
+use Rattle.dropped_calls.specs.story_ticks.proofs.Claiming.{HaveSlots}
+use Rattle.dropped_calls.specs.call_stories.proofs.Leading.{run_leads}
+use Rattle.dropped_calls.specs.story_steps.proofs.Numbered.{AreNumbered}
+use Rattle.dropped_calls.specs.story_ticks.proofs.Ticks.{IsSetUp, other_there, story_lasts}
+use Rattle.dropped_calls.specs.accept_counts.specs.Refused.{DidMiss, WouldStore, DidAt, DidIn}
+use Rattle.dropped_calls.specs.attempted_calls.proofs.AttemptedFacts.{IsOwn, facts}
+use Rattle.dropped_calls.specs.attempted_calls.proofs.EndedNames.{follows_first}
+use Rattle.dropped_calls.specs.attempted_calls.proofs.AttemptedOwn.{IsTrueOf, own_ticks}
+use Rattle.dropped_calls.specs.attempted_calls.proofs.AttemptedStored.{Owns, AreSetUp, would_of}
 use Rattle.send_causes.proofs.FoundNames.{Missed, missed_on, missed_here}
 
 first_there : {A : Type 0} (xs : List A) (i : ℕ) (x : A) → get_elem? xs i ≡ some x → (y : A) × (get_elem? xs 0 ≡ some y)

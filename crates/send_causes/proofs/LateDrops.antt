@@ -6,10 +6,10 @@ use mathlib.Core.Logic.{dite}
 use mathlib.Core.Option.{some, some-injective}
 use native.Mathlib.Decide.{ℕ_discrete}
 use lib.ListN.{get_elem?}
-use Rattle.brpc_model.specs.Items.{Item}
-use Rattle.brpc_model.specs.Operations.{Turn}
-use Rattle.call_causes.specs.owed_calls.specs.script_facts.proofs.Reading.{InRange}
-use Rattle.call_causes.specs.owed_calls.specs.script_facts.proofs.Targets.{AreThere}
+use Rattle.seat_programs.specs.brpc_model.specs.Items.{Item}
+use Rattle.seat_programs.specs.brpc_model.specs.Operations.{Turn}
+use Rattle.dropped_calls.specs.script_facts.proofs.Reading.{InRange}
+use Rattle.dropped_calls.specs.script_facts.proofs.Targets.{AreThere}
 use Rattle.sock_words.specs.Words.{socket_id, socket_id_slot, socket_id_version}
 use Rattle.sock_model.specs.declared.chain.Heading.{Heading}
 use Rattle.sock_model.specs.Layout.{open_index}
@@ -21,31 +21,31 @@ use Rattle.seat_programs.specs.Cores.{Core}
 use Rattle.seat_programs.specs.Tasks.{opens, plan_of, id_plan_of}
 use Rattle.seat_programs.specs.Scripts.{all_tasks, IsRunWithCalls}
 use Rattle.seat_programs.specs.Writings.{Holder, Puts}
-use Rattle.outcome_causes.specs.outcome_stories.specs.Causes.{WasGiven}
-use Rattle.outcome_causes.specs.outcome_stories.specs.PlainTasks.{told_tasks_of}
-use Rattle.outcome_causes.specs.outcome_stories.specs.Stories.{In}
-use Rattle.outcome_causes.specs.outcome_stories.proofs.Members.{all_in, in_contains}
-use Rattle.call_causes.specs.joint_runs.proofs.Runs.{AreMade}
-use Rattle.call_causes.specs.owed_calls.specs.Lives.{ClosesInRun}
-use Rattle.call_causes.specs.Decided.{posted_by}
-use Rattle.call_causes.specs.Lists.{given, shows_in_run}
-use Rattle.call_causes.specs.Posts.{Post}
-use Rattle.call_causes.proofs.HandledWhole.{PostedLate}
-use Rattle.send_causes.specs.Refused.{Deed, DidStep, DidRound, DidInRun, DidEarly, DidLate, RunWouldOwn}
-use Rattle.send_causes.proofs.AttemptedStored.{ids_at}
-use Rattle.send_causes.proofs.Beside.{fixed_of_run}
-use Rattle.send_causes.proofs.DropCauses.{fail_range}
+use Rattle.dropped_calls.specs.outcome_stories.specs.Causes.{WasGiven}
+use Rattle.dropped_calls.specs.outcome_stories.specs.PlainTasks.{told_tasks_of}
+use Rattle.dropped_calls.specs.outcome_stories.specs.Stories.{In}
+use Rattle.dropped_calls.specs.outcome_stories.proofs.Members.{all_in, in_contains}
+use Rattle.dropped_calls.specs.joint_runs.proofs.Runs.{AreMade}
+use Rattle.dropped_calls.specs.call_owing.specs.Lives.{ClosesInRun}
+use Rattle.dropped_calls.specs.call_stories.specs.Decided.{posted_by}
+use Rattle.dropped_calls.specs.call_stories.specs.Lists.{given, shows_in_run}
+use Rattle.dropped_calls.specs.call_stories.specs.Posts.{Post}
+use Rattle.dropped_calls.specs.call_causes.proofs.HandledWhole.{PostedLate}
+use Rattle.dropped_calls.specs.accept_counts.specs.Refused.{Deed, DidStep, DidRound, DidInRun, DidEarly, DidLate, RunWouldOwn}
+use Rattle.dropped_calls.specs.attempted_calls.proofs.AttemptedStored.{ids_at}
+use Rattle.dropped_calls.specs.sent_once.proofs.Beside.{fixed_of_run}
+use Rattle.dropped_calls.proofs.DropCauses.{fail_range}
 use Rattle.send_causes.proofs.DropEndsCauses.{own_link}
 use Rattle.send_causes.proofs.DropEndsOver.{opened_link}
-use Rattle.send_causes.proofs.DropOfRun.{ends, DropOf, IsDroppedOn, story_given, dropped_of_run}
-use Rattle.send_causes.proofs.DropRuns.{IsCalls}
-use Rattle.send_causes.proofs.DropWhole.{get_same}
-use Rattle.send_causes.proofs.LateDropsEnding.{IsNew, IsOfNew, drops_of_new}
-use Rattle.send_causes.proofs.LateDropsPosts.{DropPost}
-use Rattle.send_causes.proofs.LateDropsWhole.{IsNoEnd, AnyLife, LifeOf, PostOf, BehindClients, BehindEnding, posts_late}
+use Rattle.dropped_calls.proofs.DropOfRun.{ends, DropOf, IsDroppedOn, story_given, dropped_of_run}
+use Rattle.dropped_calls.specs.sent_once.proofs.DropRuns.{IsCalls}
+use Rattle.dropped_calls.specs.sent_once.proofs.DropWhole.{get_same}
+use Rattle.dropped_calls.proofs.LateDropsEnding.{IsNew, IsOfNew, drops_of_new}
+use Rattle.dropped_calls.proofs.LateDropsPosts.{DropPost}
+use Rattle.dropped_calls.proofs.LateDropsWhole.{IsNoEnd, AnyLife, LifeOf, PostOf, BehindClients, BehindEnding, posts_late}
 use Rattle.send_causes.proofs.OwnIds.{labelled_at, would_at, single_at}
-use Rattle.send_causes.proofs.Runs.{AreLabelledIn, IsCallOf}
-use Rattle.send_causes.proofs.Sends.{orders_are}
+use Rattle.dropped_calls.specs.accept_counts.proofs.Runs.{AreLabelledIn, IsCallOf}
+use Rattle.dropped_calls.specs.sent_once.proofs.Sends.{orders_are}
 
 module _ (script : List Item) (made : AreMade script) (there : AreThere script) (range : AllByRecursion InRange script) (turns : List Turn) (core : Core) (is : IsRunWithCalls script turns core) (closes : ClosesInRun script turns core is)
     (ids : ℕ → ℕ) (labelled : AreLabelledIn ids script turns core is) (would : RunWouldOwn ids script turns core is) where

@@ -2,18 +2,18 @@
 use Rattle.std.proofs.Common.{◌≡◌, ℕ, List, Ok}
 use Rattle.std.specs.List.{AllByRecursion}
 use Rattle.sock_words.specs.declared.plain.Plan.{Plan}
-use Rattle.brpc_model.specs.Items.{Item}
-use Rattle.brpc_model.specs.Operations.{Turn}
-use Rattle.brpc_model.specs.Script.{script_of}
+use Rattle.seat_programs.specs.brpc_model.specs.Items.{Item}
+use Rattle.seat_programs.specs.brpc_model.specs.Operations.{Turn}
+use Rattle.seat_programs.specs.brpc_model.specs.Script.{script_of}
 use Rattle.seat_programs.specs.Cores.{Core}
 use Rattle.seat_programs.specs.declared.task.Task.{Task}
 use Rattle.seat_programs.specs.Tasks.{plan_of}
 use Rattle.seat_programs.specs.Scripts.{all_tasks, IsRunWithCalls}
 use Rattle.seat_programs.specs.ToldCalls.{Fixed, Order}
-use Rattle.call_causes.specs.joint_runs.proofs.Runs.{AreMade}
-use Rattle.call_causes.specs.owed_calls.specs.script_facts.proofs.Reading.{InRange}
-use Rattle.call_causes.specs.owed_calls.specs.script_facts.proofs.Targets.{AreThere}
-use Rattle.call_causes.specs.owed_calls.specs.Lives.{ClosesInRun}
+use Rattle.dropped_calls.specs.joint_runs.proofs.Runs.{AreMade}
+use Rattle.dropped_calls.specs.script_facts.proofs.Reading.{InRange}
+use Rattle.dropped_calls.specs.script_facts.proofs.Targets.{AreThere}
+use Rattle.dropped_calls.specs.call_owing.specs.Lives.{ClosesInRun}
 use Rattle.send_causes.proofs.Assembled.{fixed_in_run, orders_in_run}
 
 pub record Laws : Type 0 where

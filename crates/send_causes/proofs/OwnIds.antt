@@ -6,14 +6,14 @@ use Rattle.sock_words.specs.declared.outcome.Outcome.{Outcome}
 use Rattle.sock_words.specs.declared.outcome.Outcome.TheVariants as outcomes
 use Rattle.sock_words.specs.declared.plain.Plan.{Plan}
 use Rattle.sock_model.specs.declared.chain.Heading.{Heading}
-use Rattle.brpc_model.specs.Items.{Item}
-use Rattle.brpc_model.specs.Operations.{Turn}
-use Rattle.brpc_model.specs.Frame.{Frame}
-use Rattle.brpc_model.specs.Messages.{shown_id}
-use Rattle.brpc_model.specs.Script.{script_of}
+use Rattle.seat_programs.specs.brpc_model.specs.Items.{Item}
+use Rattle.seat_programs.specs.brpc_model.specs.Operations.{Turn}
+use Rattle.seat_programs.specs.brpc_model.specs.Frame.{Frame}
+use Rattle.seat_programs.specs.brpc_model.specs.Messages.{shown_id}
+use Rattle.seat_programs.specs.brpc_model.specs.Script.{script_of}
 use Rattle.corr_core.specs.Word.{error_of}
 use Rattle.corr_core.specs.declared.marks.Plan.{Plan as IdPlan}
-use Rattle.id_rule.specs.Lawful.{call_index}
+use Rattle.seat_programs.specs.id_rule.specs.Lawful.{call_index}
 use Rattle.sock_message.specs.Asked.{Asked, name_of}
 use Rattle.seat_programs.specs.declared.task.Op.TheVariants as ops
 use Rattle.seat_programs.specs.declared.task.Task.{Task}
@@ -22,31 +22,31 @@ use Rattle.seat_programs.specs.Tasks.{plan_of, id_plan_of}
 use Rattle.seat_programs.specs.Scripts.{all_tasks, IsRunWithCalls}
 use Rattle.seat_programs.specs.Told.{IsTask, Became}
 use Rattle.seat_programs.specs.ToldCalls.{Accepted, IsSent, Gave, IsResponse, StandsOn, MayBeOn}
-use Rattle.outcome_causes.specs.outcome_stories.specs.Stories.{In}
-use Rattle.call_causes.specs.joint_runs.proofs.Runs.{AreMade}
-use Rattle.call_causes.specs.owed_calls.specs.script_facts.proofs.Reading.{InRange}
-use Rattle.call_causes.specs.owed_calls.specs.script_facts.proofs.Targets.{AreThere}
-use Rattle.call_causes.specs.owed_calls.specs.Lives.{ClosesInRun}
-use Rattle.call_causes.specs.owed_calls.proofs.Known.{run_all_rest}
-use Rattle.call_causes.specs.Decided.{posted_by}
-use Rattle.call_causes.specs.Lists.{given, shows_in_run}
-use Rattle.call_causes.specs.Posts.{Post}
-use Rattle.call_causes.specs.Scenes.{Scene, In as Has, Begun, WhyOwn, ToldOf, was_said, was_sent, was_begun, AreTold}
-use Rattle.call_causes.specs.Says.{Mark}
-use Rattle.call_causes.proofs.End.{HasEnded, one_outcome, call_of}
-use Rattle.call_causes.proofs.Whole.{run_has_story, run_has_ended}
-use Rattle.send_causes.specs.EndedCalls.{reader_posts_of_run, EndedSo}
-use Rattle.send_causes.specs.PostCauses.{PostCause}
-use Rattle.send_causes.specs.Refused.{Deed, DidInRun, IsDrop, RunWouldOwn}
+use Rattle.dropped_calls.specs.outcome_stories.specs.Stories.{In}
+use Rattle.dropped_calls.specs.joint_runs.proofs.Runs.{AreMade}
+use Rattle.dropped_calls.specs.script_facts.proofs.Reading.{InRange}
+use Rattle.dropped_calls.specs.script_facts.proofs.Targets.{AreThere}
+use Rattle.dropped_calls.specs.call_owing.specs.Lives.{ClosesInRun}
+use Rattle.dropped_calls.specs.owed_calls.proofs.Known.{run_all_rest}
+use Rattle.dropped_calls.specs.call_stories.specs.Decided.{posted_by}
+use Rattle.dropped_calls.specs.call_stories.specs.Lists.{given, shows_in_run}
+use Rattle.dropped_calls.specs.call_stories.specs.Posts.{Post}
+use Rattle.dropped_calls.specs.call_stories.specs.Scenes.{Scene, In as Has, Begun, WhyOwn, ToldOf, was_said, was_sent, was_begun, AreTold}
+use Rattle.dropped_calls.specs.call_stories.specs.Says.{Mark}
+use Rattle.dropped_calls.specs.story_steps.proofs.End.{HasEnded, one_outcome, call_of}
+use Rattle.dropped_calls.specs.call_causes.proofs.Whole.{run_has_story, run_has_ended}
+use Rattle.dropped_calls.specs.accept_counts.specs.EndedCalls.{reader_posts_of_run, EndedSo}
+use Rattle.dropped_calls.specs.accept_counts.specs.PostCauses.{PostCause}
+use Rattle.dropped_calls.specs.accept_counts.specs.Refused.{Deed, DidInRun, IsDrop, RunWouldOwn}
 use Rattle.send_causes.proofs.Assembled.{last_in_run}
-use Rattle.send_causes.proofs.AttemptedCalls.{single, shows}
-use Rattle.send_causes.proofs.AttemptedRun.{attempted_of_run}
-use Rattle.send_causes.proofs.AttemptedStored.{ids_at, stored_run, would_run, words_stored}
+use Rattle.dropped_calls.specs.attempted_calls.proofs.AttemptedCalls.{single, shows}
+use Rattle.dropped_calls.specs.attempted_calls.proofs.AttemptedRun.{attempted_of_run}
+use Rattle.dropped_calls.specs.attempted_calls.proofs.AttemptedStored.{ids_at, stored_run, would_run, words_stored}
 use Rattle.send_causes.proofs.DropEndsOver.{caused_for_call}
-use Rattle.send_causes.proofs.DropOfRun.{DropOf, drop_of_run}
-use Rattle.send_causes.proofs.EndedCauses.{EndedOn, run_ended_on}
-use Rattle.send_causes.proofs.RefusedRun.{WhyPosted, refused_of_seat}
-use Rattle.send_causes.proofs.Runs.{AreLabelledIn}
+use Rattle.dropped_calls.proofs.DropOfRun.{DropOf, drop_of_run}
+use Rattle.dropped_calls.specs.ended_calls.proofs.EndedCauses.{EndedOn, run_ended_on}
+use Rattle.dropped_calls.specs.refused_attempts.proofs.RefusedRun.{WhyPosted, refused_of_seat}
+use Rattle.dropped_calls.specs.accept_counts.proofs.Runs.{AreLabelledIn}
 use Rattle.send_causes.proofs.Laws.{laws}
 
 -- ## Words of calls

@@ -1,2 +1,2 @@
-//! What links accepted in runs with calls: each message of a `send` and of an attempt of a call, once at most. The definitions are in `specs/`, the proofs in `proofs/`. There is no code here.
+//! Why errors are posted to the ids of calls, and that each call that ended had a cause. The proofs are in `proofs/`. There is no code here.
 #![tactic(auto)]

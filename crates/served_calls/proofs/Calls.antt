@@ -28,7 +28,7 @@ use Rattle.seat_programs.specs.ToldCalls.{Accepted, Order, Fixed, ToldCalls, OfS
 use Rattle.seat_programs.specs.Scripts.{all_tasks, IsRunWithCalls}
 use Rattle.served_runs.specs.joint_runs.proofs.Runs.{AreMade}
 use Rattle.served_runs.specs.run_theorems.specs.Heard.{heard_takes}
-use Rattle.served_runs.specs.call_causes.specs.Lists.{given, attempts_of_run}
+use Rattle.served_runs.specs.call_stories.specs.Lists.{given, attempts_of_run}
 use Rattle.served_runs.proofs.Served.{shapes_many}
 use Rattle.served_runs.specs.Served.{request_with, IsServed, IsForCalls, IsReplyToCall, GivesReplies, GivesLast, GivesNoFault, GivesCallReplies}
 use Rattle.served_runs.proofs.Frames.{request_is}

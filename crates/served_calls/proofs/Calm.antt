@@ -39,7 +39,7 @@ use Rattle.seat_programs.specs.Scripts.{Reports, all_tasks, IsRunWithCalls}
 use Rattle.served_runs.specs.run_theorems.specs.Heard.{heard_takes, given_by}
 use Rattle.served_runs.specs.run_theorems.proofs.Gave.{gave_heard}
 use Rattle.served_runs.specs.run_theorems.proofs.Starts.{made}
-use Rattle.served_runs.specs.call_causes.specs.Lists.{given, attempts_of_run}
+use Rattle.served_runs.specs.call_stories.specs.Lists.{given, attempts_of_run}
 use Rattle.served_runs.specs.Served.{GivesReplies, GivesLast, GivesNoFault, GivesCallReplies}
 use Rattle.served_calls.specs.Quiet.{AreShown, GivesFew, HasServer, AreEarly, IsQuiet, IsTimely, IsForServers, IsUnexpired, CallIsDone}
 use Rattle.served_runs.proofs.Served.{shapes_many}

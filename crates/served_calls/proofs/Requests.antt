@@ -23,8 +23,8 @@ use Rattle.seat_programs.specs.Scripts.{all_tasks, IsRunWithCalls}
 use Rattle.served_runs.specs.outcome_stories.proofs.Members.{contains_in}
 use Rattle.served_runs.specs.outcome_ticks.proofs.Tasks.{one_task}
 use Rattle.served_runs.specs.joint_runs.proofs.Runs.{AreMade}
-use Rattle.served_runs.specs.call_causes.specs.Lists.{given}
-use Rattle.served_runs.specs.call_causes.proofs.Streams.{frames_stay}
+use Rattle.served_runs.specs.call_stories.specs.Lists.{given}
+use Rattle.served_runs.specs.call_stories.proofs.Streams.{frames_stay}
 use Rattle.served_runs.specs.Served.{took_in_all}
 use Rattle.served_runs.proofs.Frames.{IsPiece, piece_frames, pieces_end, IsSmall, request_is, reply_is}
 use Rattle.served_runs.proofs.Own.{cut_more}

@@ -23,9 +23,9 @@ use Rattle.seat_programs.specs.Tasks.{plan_of}
 use Rattle.seat_programs.specs.Told.{IsTask}
 use Rattle.seat_programs.specs.ToldCalls.{Order, Fixed, ToldCalls}
 use Rattle.seat_programs.specs.Scripts.{Reports, all_tasks, IsRunWithCalls}
-use Rattle.served_runs.specs.owed_calls.specs.Lives.{ClosesInRun}
+use Rattle.served_runs.specs.call_owing.specs.Lives.{ClosesInRun}
 use Rattle.served_runs.specs.run_theorems.proofs.Starts.{made}
-use Rattle.served_runs.specs.call_causes.specs.Lists.{given, attempts_of_run}
+use Rattle.served_runs.specs.call_stories.specs.Lists.{given, attempts_of_run}
 use Rattle.served_runs.specs.Offered.{OffersInRun}
 use Rattle.served_runs.proofs.Own.{id_small}
 use Rattle.served_runs.proofs.Served.{gives_replies, gives_last, gives_no_fault, gives_call_replies}

@@ -1,10 +1,15 @@
 pub mod Quiet
 pub use Rattle.served_runs
+pub use Rattle.served_runs.specs.call_stories
+pub use Rattle.served_runs.specs.story_ticks
 pub use Rattle.served_runs.specs.call_causes
 pub use Rattle.served_runs.specs.programs_allowed
 pub use Rattle.served_runs.specs.id_runs
 pub use Rattle.served_runs.specs.joint_runs
 pub use Rattle.served_runs.specs.label_runs
+pub use Rattle.served_runs.specs.call_owing
+pub use Rattle.served_runs.specs.owing_ticks
+pub use Rattle.served_runs.specs.owned_ids
 pub use Rattle.served_runs.specs.owed_calls
 pub use Rattle.served_runs.specs.script_facts
 pub use Rattle.served_runs.specs.report_fits

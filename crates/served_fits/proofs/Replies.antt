@@ -28,10 +28,10 @@ use Rattle.seat_programs.specs.Told.{Made}
 use Rattle.seat_programs.specs.ToldCalls.{Order, Fixed, ToldCalls}
 use Rattle.seat_programs.specs.Scripts.{Reports, all_tasks, IsRunWithCalls}
 use Rattle.served_calls.specs.outcome_stories.specs.Facts.{late_links_of_run}
-use Rattle.served_calls.specs.owed_calls.specs.Lives.{ClosesInRun}
+use Rattle.served_calls.specs.call_owing.specs.Lives.{ClosesInRun}
 use Rattle.served_calls.specs.run_theorems.proofs.Lengths.{ended_length}
 use Rattle.served_calls.specs.run_theorems.proofs.Starts.{made}
-use Rattle.served_calls.specs.call_causes.specs.Lists.{given}
+use Rattle.served_calls.specs.call_stories.specs.Lists.{given}
 use Rattle.served_calls.specs.served_runs.specs.Offered.{OffersInRun}
 use Rattle.served_calls.specs.served_runs.specs.Served.{IsServed, took_in_all}
 use Rattle.served_calls.specs.served_runs.proofs.Model.{link_own_replies}

@@ -18,11 +18,11 @@ use Rattle.seat_programs.specs.Tasks.{plan_of}
 use Rattle.seat_programs.specs.ToldCalls.{Order, Fixed, ToldCalls}
 use Rattle.seat_programs.specs.Scripts.{Reports, all_tasks, IsRunWithCalls}
 use Rattle.served_calls.specs.outcome_stories.specs.Facts.{late_of_run, late_links_of_run}
-use Rattle.served_calls.specs.owed_calls.specs.Lives.{ClosesInRun}
+use Rattle.served_calls.specs.call_owing.specs.Lives.{ClosesInRun}
 use Rattle.served_calls.specs.run_theorems.proofs.Lengths.{ended_length}
 use Rattle.served_calls.specs.run_theorems.proofs.Starts.{made}
 use Rattle.served_calls.specs.run_theorems.proofs.Unjoined.{no_join}
-use Rattle.served_calls.specs.call_causes.specs.Lists.{given}
+use Rattle.served_calls.specs.call_stories.specs.Lists.{given}
 use Rattle.served_calls.specs.served_runs.specs.Offered.{OffersInRun}
 use Rattle.calm_runs.proofs.Nothing.{nothing_behind, nothing_late}
 use Rattle.served_calls.specs.Quiet.{AreShown, GivesFew, IsTimely}

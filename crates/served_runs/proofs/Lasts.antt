@@ -25,11 +25,11 @@ use Rattle.send_causes.specs.outcome_causes.proofs.Plain.{in_both}
 use Rattle.send_causes.specs.run_theorems.specs.Heard.{as_taken, taken_link, taken_at, taken_in, bytes_found}
 use Rattle.send_causes.specs.run_theorems.proofs.HeardRuns.{taken_append}
 use Rattle.send_causes.specs.run_theorems.proofs.Lengths.{tick_long}
-use Rattle.send_causes.specs.call_causes.specs.Lists.{given}
-use Rattle.send_causes.proofs.Early.{Any, ends_anyhow}
-use Rattle.send_causes.proofs.EndedTicks.{seats_else}
-use Rattle.send_causes.proofs.ReaderRuns.{keeps_ticks}
-use Rattle.send_causes.proofs.Readings.{IsTake, takes_or_not, found_by}
+use Rattle.send_causes.specs.call_stories.specs.Lists.{given}
+use Rattle.send_causes.specs.accept_counts.proofs.Early.{Any, ends_anyhow}
+use Rattle.send_causes.specs.ended_calls.proofs.EndedTicks.{seats_else}
+use Rattle.send_causes.specs.accept_counts.proofs.ReaderRuns.{keeps_ticks}
+use Rattle.send_causes.specs.accept_counts.proofs.Readings.{IsTake, takes_or_not, found_by}
 use Rattle.served_runs.specs.Offered.{offered_by, GaveLast, IsOfferedSo, OffersAt, IsOffered, AreOffered}
 use Rattle.served_runs.proofs.Places.{all_lay}
 use Rattle.served_runs.proofs.Readings.{is_last}

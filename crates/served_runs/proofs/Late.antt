@@ -17,12 +17,12 @@ use Rattle.send_causes.specs.outcome_stories.specs.Facts.{born_at, shown_in, lat
 use Rattle.send_causes.specs.outcome_stories.specs.Stories.{In}
 use Rattle.send_causes.specs.outcome_causes.proofs.Plain.{in_left, in_right}
 use Rattle.send_causes.specs.joint_runs.proofs.Runs.{AreMade, first_views}
-use Rattle.send_causes.specs.owed_calls.proofs.EndsStill.{view_of}
-use Rattle.send_causes.proofs.LateEnding.{ended_past}
-use Rattle.send_causes.proofs.LateLives.{WasPast, Lives, lives_tell, lives_ticks}
-use Rattle.send_causes.proofs.LateLooks.{Mode, Idle, Writes}
-use Rattle.send_causes.proofs.LateRests.{none_stands, ended_idle}
-use Rattle.send_causes.proofs.LateSeats.{Righted, rights_of, AllStand, stand_ticks}
+use Rattle.send_causes.specs.call_owing.proofs.EndsStill.{view_of}
+use Rattle.send_causes.specs.dropped_calls.proofs.LateEnding.{ended_past}
+use Rattle.send_causes.specs.dropped_calls.proofs.LateLives.{WasPast, Lives, lives_tell, lives_ticks}
+use Rattle.send_causes.specs.dropped_calls.proofs.LateLooks.{Mode, Idle, Writes}
+use Rattle.send_causes.specs.dropped_calls.proofs.LateRests.{none_stands, ended_idle}
+use Rattle.send_causes.specs.dropped_calls.proofs.LateSeats.{Righted, rights_of, AllStand, stand_ticks}
 use Rattle.served_runs.proofs.Places.{IsPut}
 
 module _ (script : List Item) (made : AreMade script) (turns : List Turn) (core : Core) (is : IsRunWithCalls script turns core) where

@@ -24,8 +24,8 @@ use Rattle.seat_programs.specs.Tasks.{numbered, asked_of, op_of}
 use Rattle.seat_programs.specs.Told.{IsTask, Made}
 use Rattle.seat_programs.specs.Scripts.{all_tasks, IsRunWithCalls}
 use Rattle.send_causes.specs.joint_runs.proofs.Runs.{AreMade}
-use Rattle.send_causes.specs.owed_calls.specs.Lives.{ClosesInRun}
-use Rattle.send_causes.specs.call_causes.specs.Lists.{given}
+use Rattle.send_causes.specs.call_owing.specs.Lives.{ClosesInRun}
+use Rattle.send_causes.specs.call_stories.specs.Lists.{given}
 use Rattle.served_runs.specs.Offered.{OffersInRun}
 use Rattle.served_runs.specs.Served.{IsForCalls}
 use Rattle.served_runs.proofs.Served.{gives_own_replies}

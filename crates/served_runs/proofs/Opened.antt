@@ -29,12 +29,12 @@ use Rattle.send_causes.specs.outcome_ticks.proofs.Lifted.{made_down}
 use Rattle.send_causes.specs.outcome_stories.proofs.Members.{contains_in, from_trace}
 use Rattle.send_causes.specs.outcome_causes.proofs.Openings.{are_seats}
 use Rattle.send_causes.specs.joint_runs.proofs.Runs.{AreMade, first_views}
-use Rattle.send_causes.specs.owed_calls.specs.Lives.{ClosesInRun}
+use Rattle.send_causes.specs.call_owing.specs.Lives.{ClosesInRun}
 use Rattle.send_causes.specs.owed_calls.proofs.Known.{run_all_rest}
-use Rattle.send_causes.proofs.AttemptedStored.{ids_at}
+use Rattle.send_causes.specs.attempted_calls.proofs.AttemptedStored.{ids_at}
 use Rattle.send_causes.proofs.DropEndsCauses.{own_link}
-use Rattle.send_causes.proofs.DropOfRun.{EndStory, IsOpened, ends, given_opened}
-use Rattle.send_causes.proofs.Early.{start, go, fitting}
+use Rattle.send_causes.specs.dropped_calls.proofs.DropOfRun.{EndStory, IsOpened, ends, given_opened}
+use Rattle.send_causes.specs.accept_counts.proofs.Early.{start, go, fitting}
 use Rattle.send_causes.proofs.OwnIds.{labelled_at}
 
 module _ (script : List Item) (made : AreMade script) (there : AreThere script) (range : AllByRecursion InRange script) (turns : List Turn) (core : Core) (is : IsRunWithCalls script turns core) (closes : ClosesInRun script turns core is) where

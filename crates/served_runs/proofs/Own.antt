@@ -30,17 +30,17 @@ use Rattle.seat_programs.specs.Scripts.{all_tasks, took_at_home, IsRunWithCalls}
 use Rattle.send_causes.specs.outcome_stories.proofs.Members.{contains_in}
 use Rattle.send_causes.specs.outcome_ticks.proofs.Tasks.{one_task}
 use Rattle.send_causes.specs.joint_runs.proofs.Runs.{AreMade}
-use Rattle.send_causes.specs.owed_calls.specs.Lives.{ClosesInRun}
-use Rattle.send_causes.specs.call_causes.specs.Lists.{given, attempts_of_run}
-use Rattle.send_causes.specs.call_causes.specs.Scenes.{Scene, In, WhyOwn}
-use Rattle.send_causes.specs.call_causes.proofs.End.{call_of, shows_own}
+use Rattle.send_causes.specs.call_owing.specs.Lives.{ClosesInRun}
+use Rattle.send_causes.specs.call_stories.specs.Lists.{given, attempts_of_run}
+use Rattle.send_causes.specs.call_stories.specs.Scenes.{Scene, In, WhyOwn}
+use Rattle.send_causes.specs.story_steps.proofs.End.{call_of, shows_own}
 use Rattle.send_causes.specs.call_causes.proofs.Posted.{run_few_attempts}
-use Rattle.send_causes.specs.call_causes.proofs.Streams.{frames_stay, faults_more}
+use Rattle.send_causes.specs.call_stories.proofs.Streams.{frames_stay, faults_more}
 use Rattle.send_causes.specs.call_causes.proofs.Whole.{run_has_story, run_has_ended, run_told_in_part}
-use Rattle.send_causes.proofs.AttemptedRun.{attempted_of_run}
-use Rattle.send_causes.proofs.Beside.{fixed_of_run, orders_here}
-use Rattle.send_causes.proofs.Early.{known}
-use Rattle.send_causes.proofs.Sends.{orders_are}
+use Rattle.send_causes.specs.attempted_calls.proofs.AttemptedRun.{attempted_of_run}
+use Rattle.send_causes.specs.sent_once.proofs.Beside.{fixed_of_run, orders_here}
+use Rattle.send_causes.specs.accept_counts.proofs.Early.{known}
+use Rattle.send_causes.specs.sent_once.proofs.Sends.{orders_are}
 use Rattle.served_runs.proofs.Requests.{IsRequestOf}
 use Rattle.served_runs.specs.Served.{request_with}
 use Rattle.served_runs.proofs.Frames.{IsPiece, piece_frames, pieces_end, IsSmall, request_is, reply_is}

@@ -27,9 +27,9 @@ use Rattle.send_causes.specs.programs_allowed.specs.sock_runs.proofs.LinkTicks.{
 use Rattle.send_causes.specs.programs_allowed.specs.sock_runs.proofs.Ticks.{sound_ticks}
 use Rattle.send_causes.specs.run_theorems.specs.Heard.{taken_link, bytes_found}
 use Rattle.send_causes.specs.run_theorems.proofs.Lengths.{tick_long}
-use Rattle.send_causes.specs.call_causes.specs.Lists.{given}
-use Rattle.send_causes.specs.call_causes.proofs.Streams.{frames_behind_rest, frames_before_fault}
-use Rattle.send_causes.proofs.Readings.{IsTake, takes_or_not}
+use Rattle.send_causes.specs.call_stories.specs.Lists.{given}
+use Rattle.send_causes.specs.call_stories.proofs.Streams.{frames_behind_rest, frames_before_fault}
+use Rattle.send_causes.specs.accept_counts.proofs.Readings.{IsTake, takes_or_not}
 use Rattle.served_runs.specs.Offered.{TookSoFar, offered_by, IsOfferedSo, OffersAt, IsOffered, AreOffered}
 use Rattle.served_runs.proofs.Places.{all_lay}
 use Rattle.served_runs.proofs.Ticks.{tick_is, gave_same, gave_more}

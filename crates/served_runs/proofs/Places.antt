@@ -27,8 +27,8 @@ use Rattle.send_causes.specs.programs_allowed.specs.sock_runs.proofs.HandTicks.{
 use Rattle.send_causes.specs.programs_allowed.specs.sock_runs.proofs.LinkTicks.{RetriesGo, link_there, has_link, link_put_there}
 use Rattle.send_causes.specs.programs_allowed.specs.program_steps.proofs.Passes.{goes_round}
 use Rattle.send_causes.specs.programs_allowed.specs.program_steps.proofs.Rounds.{begins_round}
-use Rattle.send_causes.specs.owed_calls.specs.Lives.{InHand}
-use Rattle.send_causes.specs.owed_calls.proofs.EndsStill.{view_of}
+use Rattle.send_causes.specs.call_owing.specs.Lives.{InHand}
+use Rattle.send_causes.specs.call_owing.proofs.EndsStill.{view_of}
 use Rattle.served_runs.specs.Offered.{Lies, IsDone}
 
 -- ## In hand

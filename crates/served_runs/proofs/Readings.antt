@@ -16,7 +16,7 @@ use Rattle.send_causes.specs.programs_allowed.specs.program_walks.proofs.Through
 use Rattle.send_causes.specs.programs_allowed.specs.program_walks.proofs.ThroughLoops.{through_errors, through_locks, through_joins, through_answer, through_responses, through_opens}
 use Rattle.send_causes.specs.programs_allowed.specs.program_walks.proofs.ThroughCalls.{through_post_each, through_read_end}
 use Rattle.brpc_model.specs.Causes.{HasFault}
-use Rattle.send_causes.specs.call_causes.proofs.Streams.{faults_more, faults_follow, tied_more}
+use Rattle.send_causes.specs.call_stories.proofs.Streams.{faults_more, faults_follow, tied_more}
 
 -- ## How a reading ends
 

@@ -32,17 +32,17 @@ use Rattle.send_causes.specs.outcome_stories.specs.Facts.{late_links_of_run}
 use Rattle.send_causes.specs.outcome_stories.specs.Stories.{In}
 use Rattle.send_causes.specs.outcome_causes.proofs.Plain.{in_left, in_right, in_both}
 use Rattle.send_causes.specs.joint_runs.proofs.Runs.{AreMade, first_views}
-use Rattle.send_causes.specs.owed_calls.specs.Lives.{ClosesInRun}
-use Rattle.send_causes.specs.owed_calls.proofs.EndsStill.{run_ending}
+use Rattle.send_causes.specs.call_owing.specs.Lives.{ClosesInRun}
+use Rattle.send_causes.specs.call_owing.proofs.EndsStill.{run_ending}
 use Rattle.send_causes.specs.owed_calls.proofs.Known.{run_all_rest}
 use Rattle.send_causes.specs.run_theorems.specs.Heard.{as_taken, taken_in, heard_takes}
 use Rattle.send_causes.specs.run_theorems.proofs.HeardRuns.{taken_append}
 use Rattle.send_causes.specs.run_theorems.proofs.Lengths.{tick_long}
-use Rattle.send_causes.specs.call_causes.specs.Lists.{given}
-use Rattle.send_causes.proofs.Early.{Any, ends_anyhow, start, go, fitting, known, begins_at}
-use Rattle.send_causes.proofs.EndedWhole.{opened_keeps, closing_keeps, closed_keeps}
-use Rattle.send_causes.proofs.ReaderRuns.{founds, keeps_along}
-use Rattle.send_causes.specs.call_causes.proofs.RunTicks.{in_setup, in_clients, in_closing}
+use Rattle.send_causes.specs.call_stories.specs.Lists.{given}
+use Rattle.send_causes.specs.accept_counts.proofs.Early.{Any, ends_anyhow, start, go, fitting, known, begins_at}
+use Rattle.send_causes.specs.ended_calls.proofs.EndedWhole.{opened_keeps, closing_keeps, closed_keeps}
+use Rattle.send_causes.specs.accept_counts.proofs.ReaderRuns.{founds, keeps_along}
+use Rattle.send_causes.specs.call_stories.proofs.RunTicks.{in_setup, in_clients, in_closing}
 use Rattle.served_runs.specs.Offered.{TookSoFar, offered_by, OffersInRun}
 use Rattle.served_runs.proofs.Ends.{IsOverSo, Holds}
 use Rattle.served_runs.proofs.Lasts.{Behind, lasts_along}

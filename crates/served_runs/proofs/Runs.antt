@@ -25,10 +25,10 @@ use Rattle.send_causes.specs.outcome_causes.proofs.Plain.{in_left, in_right, in_
 use Rattle.send_causes.specs.run_theorems.specs.Heard.{as_taken, taken_link, taken_at, taken_in}
 use Rattle.send_causes.specs.run_theorems.proofs.HeardRuns.{taken_append}
 use Rattle.send_causes.specs.run_theorems.proofs.Lengths.{tick_long}
-use Rattle.send_causes.proofs.Early.{Any, ends_anyhow}
-use Rattle.send_causes.proofs.ReaderRuns.{Keeps, reader_of, view_at, state_at, keeps_ticks}
-use Rattle.send_causes.proofs.Readings.{found_by, takes_own}
-use Rattle.send_causes.proofs.Takeless.{none_taken}
+use Rattle.send_causes.specs.accept_counts.proofs.Early.{Any, ends_anyhow}
+use Rattle.send_causes.specs.accept_counts.proofs.ReaderRuns.{Keeps, reader_of, view_at, state_at, keeps_ticks}
+use Rattle.send_causes.specs.accept_counts.proofs.Readings.{found_by, takes_own}
+use Rattle.send_causes.specs.accept_counts.proofs.Takeless.{none_taken}
 use Rattle.served_runs.specs.Offered.{OffersAt, AreOffered}
 use Rattle.served_runs.proofs.Places.{IsPut}
 use Rattle.served_runs.proofs.Ends.{Holds, holds_tick}

@@ -22,11 +22,11 @@ use Rattle.seat_programs.specs.Scripts.{IsRunWithCalls}
 use Rattle.send_causes.specs.outcome_stories.specs.Facts.{late_links_of_run}
 use Rattle.send_causes.specs.outcome_stories.proofs.Members.{in_contains, contains_in}
 use Rattle.send_causes.specs.joint_runs.proofs.Runs.{AreMade}
-use Rattle.send_causes.specs.owed_calls.specs.Lives.{ClosesInRun}
+use Rattle.send_causes.specs.call_owing.specs.Lives.{ClosesInRun}
 use Rattle.send_causes.specs.run_theorems.specs.Heard.{heard_takes}
 use Rattle.served_runs.specs.Offered.{OffersInRun}
-use Rattle.send_causes.specs.call_causes.specs.Lists.{given}
-use Rattle.send_causes.proofs.Early.{known}
+use Rattle.send_causes.specs.call_stories.specs.Lists.{given}
+use Rattle.send_causes.specs.accept_counts.proofs.Early.{known}
 use Rattle.served_runs.specs.Served.{took_in_all, IsForCalls, GivesReplies, GivesFront, GivesLast, GivesNoFault, GivesCallReplies, GivesOwnReplies}
 use Rattle.served_runs.proofs.Opened.{opened_word}
 use Rattle.served_runs.proofs.Own.{IsReplied, replied_at, faultless, own_reply}

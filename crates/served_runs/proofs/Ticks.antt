@@ -19,8 +19,8 @@ use Rattle.seat_programs.specs.Cores.{Core, SeatState, word_of, found_at, waitin
 use Rattle.seat_programs.specs.Ticks.{Answer, OfPut, OfReady, OfTake, Moment, taken, with_message, with_link, with_put, with_ready, with_found, step_with, tick_with, ticked}
 use Rattle.send_causes.specs.programs_allowed.specs.program_steps.specs.Sound.{first_step}
 use Rattle.send_causes.specs.run_theorems.specs.Heard.{taken_link, bytes_found}
-use Rattle.send_causes.specs.call_causes.specs.Lists.{given}
-use Rattle.send_causes.proofs.Readings.{IsTake, ticks_first}
+use Rattle.send_causes.specs.call_stories.specs.Lists.{given}
+use Rattle.send_causes.specs.accept_counts.proofs.Readings.{IsTake, ticks_first}
 use Rattle.served_runs.proofs.Readings.{Goes, is_last, goes_first, goes_next, begins_reading}
 use Rattle.send_causes.specs.call_causes.proofs.HandledTicks.{take_of, taken_first}
 

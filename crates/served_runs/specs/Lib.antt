@@ -1,11 +1,16 @@
 pub mod Offered
 pub mod Served
-pub use Rattle.send_causes
+pub use Rattle.send_causes.specs.accept_counts
+pub use Rattle.send_causes.specs.call_stories
+pub use Rattle.send_causes.specs.story_ticks
 pub use Rattle.send_causes.specs.call_causes
 pub use Rattle.send_causes.specs.programs_allowed
 pub use Rattle.send_causes.specs.id_runs
 pub use Rattle.send_causes.specs.joint_runs
 pub use Rattle.send_causes.specs.label_runs
+pub use Rattle.send_causes.specs.call_owing
+pub use Rattle.send_causes.specs.owing_ticks
+pub use Rattle.send_causes.specs.owned_ids
 pub use Rattle.send_causes.specs.owed_calls
 pub use Rattle.send_causes.specs.script_facts
 pub use Rattle.send_causes.specs.report_fits

@@ -15,8 +15,8 @@ use Rattle.seat_programs.specs.Ticks.{Answer, OfTake, Moment, ticked}
 use Rattle.seat_programs.specs.Tasks.{plan_of}
 use Rattle.seat_programs.specs.Scripts.{set_up, IsRunWithCalls}
 use Rattle.send_causes.specs.programs_allowed.specs.program_steps.specs.Sound.{first_step}
-use Rattle.send_causes.specs.owed_calls.specs.Lives.{InHand}
-use Rattle.send_causes.specs.call_causes.specs.Lists.{given}
+use Rattle.send_causes.specs.call_owing.specs.Lives.{InHand}
+use Rattle.send_causes.specs.call_stories.specs.Lists.{given}
 
 -- ## What a link took
 

@@ -30,9 +30,9 @@ use Rattle.seat_programs.specs.Tasks.{numbered, plan_of}
 use Rattle.seat_programs.specs.Told.{IsTask}
 use Rattle.seat_programs.specs.ToldCalls.{Accepted, Order, Fixed, AreOrders, ToldCalls, IsTaken, IsSent, OfSend, OfCall, label, bytes_of}
 use Rattle.seat_programs.specs.Scripts.{all_tasks, took_at_home, IsRunWithCalls}
-use Rattle.served_runs.specs.owed_calls.specs.Lives.{ClosesInRun}
+use Rattle.served_runs.specs.call_owing.specs.Lives.{ClosesInRun}
 use Rattle.served_runs.specs.run_theorems.proofs.Starts.{made}
-use Rattle.served_runs.specs.call_causes.specs.Lists.{given}
+use Rattle.served_runs.specs.call_stories.specs.Lists.{given}
 use Rattle.served_runs.specs.Offered.{OffersInRun}
 use Rattle.served_runs.specs.Served.{took_in_all}
 use Rattle.served_runs.proofs.Served.{gives_front}

@@ -25,7 +25,7 @@ use Rattle.seat_programs.specs.Tasks.{plan_of}
 use Rattle.seat_programs.specs.Told.{AreTasks, IsTask, Became, Made}
 use Rattle.seat_programs.specs.ToldCalls.{Accepted, Order, Fixed, AreOrders, IsTaken, StandsAt, IsSent, OfSend, OfCall, bytes_of}
 use Rattle.attempts_told.specs.Attempts.{AreAttemptsTold}
-use Rattle.served_calls.specs.call_causes.proofs.Streams.{frames_stay}
+use Rattle.served_calls.specs.call_stories.proofs.Streams.{frames_stay}
 use Rattle.served_calls.specs.served_runs.specs.Served.{request_with}
 use Rattle.served_calls.specs.served_runs.proofs.Frames.{IsPiece, piece_frames, pieces_end, IsSmall, request_is, reply_is}
 use Rattle.served_calls.specs.served_runs.proofs.Own.{cut_more}

@@ -4,7 +4,7 @@ use Rattle.sock_words.specs.declared.plain.Plan.{Plan}
 use Rattle.seat_programs.specs.Cores.{Core}
 use Rattle.seat_programs.specs.Ticks.{quiet, run, AreAnswered, broken_in}
 use Rattle.seat_programs.specs.Scripts.{is_ending}
-use Rattle.machine_model.specs.run_theorems.specs.owed_calls.specs.Lives.{ClosesInTime}
+use Rattle.machine_model.specs.run_theorems.specs.call_owing.specs.Lives.{ClosesInTime}
 use Rattle.machine_model.specs.run_theorems.specs.Offered.{AreOffered}
 use Rattle.machine_model.specs.run_theorems.specs.Heard.{heard_in, taken_in}
 use Rattle.machine_model.specs.Links.{LinksData, Taken, Given, Agrees, AgreesGave, AreAlwaysReady, TellClosing, IsOffering}

@@ -1,0 +1,15 @@
+pub mod EndedTrails
+pub mod EndedPrograms
+pub mod EndedNames
+pub mod EndedNamed
+pub mod EndedLives
+pub mod AttemptedWords
+pub mod AttemptedIds
+pub mod AttemptedRuns
+pub mod AttemptedCalls
+pub mod AttemptedSent
+pub mod AttemptedRun
+pub mod AttemptedFacts
+pub mod AttemptedOwn
+pub mod AttemptedStored
+pub mod RefusedNames

@@ -1,0 +1,13 @@
+pub mod Posts
+pub mod Rounds
+pub mod Programs
+pub mod Clients
+pub mod Reading
+pub mod End
+pub mod Changes
+pub mod Quiet
+pub mod Words
+pub mod Resolves
+pub mod Opening
+pub mod Finds
+pub mod EndsStill

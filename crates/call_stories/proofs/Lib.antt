@@ -1,0 +1,10 @@
+pub mod Lasting
+pub mod Posts
+pub mod Programs
+pub mod Streams
+pub mod Effects
+pub mod Knowing
+pub mod SockWords
+pub mod Links
+pub mod Leading
+pub mod RunTicks

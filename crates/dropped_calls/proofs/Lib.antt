@@ -1,0 +1,16 @@
+pub mod LateLooks
+pub mod LateSeats
+pub mod LateRests
+pub mod LateEnding
+pub mod LateLives
+pub mod LatePlaces
+pub mod LateDropped
+pub mod DropOfRun
+pub mod DropCauses
+pub mod DropEnds
+pub mod DropEndsWhole
+pub mod LateDropsPosts
+pub mod LateDropsCodes
+pub mod LateDropsRuns
+pub mod LateDropsEnding
+pub mod LateDropsWhole

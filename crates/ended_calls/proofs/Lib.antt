@@ -1,0 +1,9 @@
+pub mod EndedReads
+pub mod EndedTicks
+pub mod EndedRuns
+pub mod EndedWhole
+pub mod EndedAttempts
+pub mod EndedOnce
+pub mod EndedCauses
+pub mod Unanswered
+pub mod CausedReaders

@@ -1,0 +1,3 @@
+pub use Rattle.failed_reasons.specs.attempts_told
+pub use Rattle.failed_reasons.specs.call_whys
+pub use Rattle.failed_reasons

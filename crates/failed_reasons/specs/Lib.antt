@@ -1,0 +1,5 @@
+pub mod Missed
+pub mod Reasons
+pub mod Ends
+pub use Rattle.attempts_told
+pub use Rattle.attempts_told.specs.call_whys

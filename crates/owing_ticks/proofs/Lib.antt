@@ -1,0 +1,16 @@
+pub mod Exchanges
+pub mod Turns
+pub mod Stores
+pub mod Seats
+pub mod Ticks
+pub mod Beside
+pub mod AsideTicks
+pub mod AtTicks
+pub mod MoveTicks
+pub mod IdFacts
+pub mod OwingTicks
+pub mod AllSettled
+pub mod LivesFit
+pub mod OwingRuns
+pub mod OwingEnding
+pub mod Beginning

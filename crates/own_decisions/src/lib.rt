@@ -1,0 +1,2 @@
+//! That each retry of a call was decided by whoever makes it. The proofs are in `proofs/`. There is no code here.
+#![tactic(auto)]

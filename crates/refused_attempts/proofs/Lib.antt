@@ -1,0 +1,12 @@
+pub mod RefusedLoops
+pub mod RefusedPrograms
+pub mod RefusedTicks
+pub mod RefusedPosts
+pub mod RefusedRuns
+pub mod RefusedClosing
+pub mod RefusedWhole
+pub mod RefusedGone
+pub mod RefusedMeans
+pub mod RefusedWhys
+pub mod RefusedLost
+pub mod RefusedRun

@@ -1,0 +1,14 @@
+pub mod Whole
+pub mod Labelled
+pub mod Dropped
+pub mod Sends
+pub mod ToldEnd
+pub mod FirstRuns
+pub mod Beside
+pub mod DropPlaces
+pub mod DropCodes
+pub mod DropWords
+pub mod DropSays
+pub mod DropTicks
+pub mod DropRuns
+pub mod DropWhole

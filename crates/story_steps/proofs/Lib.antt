@@ -1,0 +1,17 @@
+pub mod Calls
+pub mod Clients
+pub mod Reading
+pub mod Rounds
+pub mod Firsts
+pub mod Slots
+pub mod SlotTicks
+pub mod Births
+pub mod BirthTicks
+pub mod Attempts
+pub mod Laters
+pub mod Moving
+pub mod Numbered
+pub mod Errors
+pub mod End
+pub mod Whys
+pub mod Shown

@@ -1,0 +1,15 @@
+pub mod Sayings
+pub mod SayingsOwed
+pub mod Chains
+pub mod TaskTicks
+pub mod TaskSteps
+pub mod Claiming
+pub mod AsideTicks
+pub mod SockTicks
+pub mod Kept
+pub mod Ticks
+pub mod Opening
+pub mod Allowing
+pub mod RunFacts
+pub mod Over
+pub mod Scripts
