@@ -4,7 +4,7 @@ use Rattle.std.proofs.lemmas.Bool.{true≢false}
 use Rattle.std.proofs.lemmas.List.Concat.{flat_map-append}
 use Rattle.std.specs.Prelude.{Some, None}
 use Rattle.sock_words.specs.Words.{socket_id_version, socket_id_slot, vref_version}
-use Rattle.call_causes.specs.joint_runs.specs.sock_steps.proofs.Quiet.{either_way}
+use Rattle.run_theorems.specs.Below.sock_steps.proofs.Quiet.{either_way}
 use Rattle.corr_core.specs.Word.{parts, code_of}
 use Rattle.seat_programs.specs.brpc_model.specs.Frame.{Frame}
 use Rattle.seat_programs.specs.brpc_model.specs.Stream as streams
@@ -17,7 +17,7 @@ use Rattle.seat_programs.specs.Readers.{LIMIT, last_of, ended_by, read_on, took,
 use Rattle.seat_programs.specs.Rounds.{round}
 use Rattle.seat_programs.specs.Cores.{resolved, next_step}
 use Rattle.outcome_causes.specs.program_steps.specs.Sound.{first_step}
-use Rattle.call_causes.specs.outcome_stories.specs.Stories.{In}
+use Rattle.call_causes.specs.Below.outcome_stories.specs.Stories.{In}
 use Rattle.outcome_causes.proofs.Plain.{in_left, in_right}
 use Rattle.run_theorems.specs.Heard.{bytes_found, given_by}
 use Rattle.outcome_causes.specs.program_walks.proofs.Through.{PassesErrors, is_freeing, is_plain_aside, by_errors, locked, given_release}

@@ -14,7 +14,7 @@ use Rattle.sock_model.specs.Layout.{open_index}
 use Rattle.seat_programs.specs.brpc_model.specs.Causes.{HasFault, reading_limit}
 use Rattle.seat_programs.specs.brpc_model.specs.Items.{Item}
 use Rattle.seat_programs.specs.brpc_model.specs.Operations.{Turn, operations, link_names}
-use Rattle.call_causes.specs.call_owing.specs.script_facts.proofs.Lists.{Has}
+use Rattle.run_theorems.specs.Below.script_facts.proofs.Lists.{Has}
 use Rattle.seat_programs.specs.declared.task.Op.{Op}
 use Rattle.seat_programs.specs.declared.task.Op.TheVariants as ops
 use Rattle.seat_programs.specs.declared.task.Task.{Task}
@@ -39,27 +39,27 @@ use Rattle.outcome_causes.specs.sock_runs.proofs.LinkTicks.{RetriesGo}
 use Rattle.outcome_causes.specs.program_walks.proofs.Opening.{mapped}
 use Rattle.outcome_causes.specs.program_walks.proofs.OpensStay.{readers_begin}
 use Rattle.outcome_causes.specs.program_walks.proofs.Whole.{AreFittingIn, Begins, IsListed, closing_of, views_played, views_closed, set_up_answered, end_answered, set_up_sound, closing_sound, recorded_opened, recorded_set_up, recorded_closing}
-use Rattle.call_causes.specs.joint_runs.specs.sock_steps.proofs.Quiet.{either_way}
-use Rattle.call_causes.specs.outcome_stories.specs.Facts.{shown_in, closed_before_ending}
-use Rattle.call_causes.specs.outcome_stories.specs.Losses.{lost_by, closed_at}
-use Rattle.call_causes.specs.outcome_stories.specs.Stories.{In}
-use Rattle.call_causes.specs.outcome_stories.proofs.Members.{in_contains}
+use Rattle.run_theorems.specs.Below.sock_steps.proofs.Quiet.{either_way}
+use Rattle.call_causes.specs.Below.outcome_stories.specs.Facts.{shown_in, closed_before_ending}
+use Rattle.call_causes.specs.Below.outcome_stories.specs.Losses.{lost_by, closed_at}
+use Rattle.call_causes.specs.Below.outcome_stories.specs.Stories.{In}
+use Rattle.call_causes.specs.Below.outcome_stories.proofs.Members.{in_contains}
 use Rattle.outcome_causes.proofs.Plain.{in_left, in_right, in_both}
-use Rattle.call_causes.specs.programs_allowed.proofs.Beginning as clients_begin
-use Rattle.call_causes.specs.programs_allowed.specs.Openings.{all_seats}
-use Rattle.call_causes.specs.programs_allowed.proofs.Retrying.{retries_go}
-use Rattle.call_causes.specs.joint_runs.proofs.Runs.{AreMade, first_views, begins, are_fitting_in, joint_runs}
-use Rattle.call_causes.specs.call_owing.proofs.EndsStill.{run_ending}
-use Rattle.call_causes.specs.owed_calls.proofs.Known.{known_of, opens_apart}
-use Rattle.call_causes.specs.owed_calls.proofs.Owed.{IsKnown, tasks_own, opened_seats}
-use Rattle.call_causes.specs.owned_ids.proofs.WordsGiven.{Named, names_others, beginning_named, run_named}
+use Rattle.call_causes.specs.Below.programs_allowed.proofs.Beginning as clients_begin
+use Rattle.call_causes.specs.Below.programs_allowed.specs.Openings.{all_seats}
+use Rattle.call_causes.specs.Below.programs_allowed.proofs.Retrying.{retries_go}
+use Rattle.call_causes.specs.Below.joint_runs.proofs.Runs.{AreMade, first_views, begins, are_fitting_in, joint_runs}
+use Rattle.call_causes.specs.Below.call_owing.proofs.EndsStill.{run_ending}
+use Rattle.call_causes.specs.Below.owed_calls.proofs.Known.{known_of, opens_apart}
+use Rattle.call_causes.specs.Below.owed_calls.proofs.Owed.{IsKnown, tasks_own, opened_seats}
+use Rattle.call_causes.specs.Below.owned_ids.proofs.WordsGiven.{Named, names_others, beginning_named, run_named}
 use Rattle.run_theorems.specs.Heard.{as_taken, bytes_found, taken_link, taken_at, taken_in, heard_takes, given_by}
 use Rattle.run_theorems.proofs.HeardRuns.{taken_append}
 use Rattle.call_causes.specs.call_stories.proofs.Streams.{faults_more}
 use Rattle.accept_counts.proofs.Closers.{Ends}
 use Rattle.accept_counts.proofs.ReaderRuns.{Keeps, founds, keeps_same, keeps_along, closes_along}
 use Rattle.accept_counts.proofs.Takeless.{NoTakes, TakesNone, client_takes, ending_takes, takes_next}
-use Rattle.call_causes.specs.programs_allowed.proofs.Fresh.{opening_fresh, opening_rights}
+use Rattle.call_causes.specs.Below.programs_allowed.proofs.Fresh.{opening_fresh, opening_rights}
 
 -- ## How a reading ends early
 

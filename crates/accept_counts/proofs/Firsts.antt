@@ -7,10 +7,10 @@ use Rattle.sock_words.specs.declared.outcome.Outcome.TheVariants.{Unopened, Gone
 use Rattle.sock_model.specs.declared.chain.Heading.{Heading}
 use Rattle.sock_model.specs.Entries.{ticket_of}
 use Rattle.sock_model.specs.Memory.{IDLE}
-use Rattle.call_causes.specs.joint_runs.specs.sock_steps.proofs.Quiet.{either_way}
+use Rattle.run_theorems.specs.Below.sock_steps.proofs.Quiet.{either_way}
 use Rattle.sock_message.specs.Asked.{Asked, frame_of}
 use Rattle.seat_programs.specs.brpc_model.specs.Order.{EachBefore}
-use Rattle.call_causes.specs.outcome_stories.specs.PlainTasks.{OwnsCall}
+use Rattle.call_causes.specs.Below.outcome_stories.specs.PlainTasks.{OwnsCall}
 use Rattle.outcome_causes.specs.outcome_ticks.proofs.Seats.{Less}
 use Rattle.seat_programs.specs.declared.task.Op.{Op}
 use Rattle.seat_programs.specs.declared.task.Task.{Task}

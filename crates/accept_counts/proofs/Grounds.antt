@@ -12,7 +12,7 @@ use Rattle.seat_programs.specs.Scripts.{opened, played, IsRunWithCalls}
 use Rattle.outcome_causes.specs.program_steps.specs.Sound.{views_along}
 use Rattle.outcome_causes.specs.sock_runs.proofs.LinkTicks.{RetriesGo}
 use Rattle.outcome_causes.specs.program_walks.proofs.Whole.{AreFittingIn, Begins, views_played, views_closed, views_ended}
-use Rattle.call_causes.specs.joint_runs.proofs.Runs.{AreMade, first_views}
+use Rattle.call_causes.specs.Below.joint_runs.proofs.Runs.{AreMade, first_views}
 use Rattle.accept_counts.proofs.Early.{start, go, fitting}
 
 -- its plans, its `open`s, and the views that seats begin with

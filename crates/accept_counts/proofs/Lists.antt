@@ -22,9 +22,9 @@ use Rattle.seat_programs.specs.Runs.{from_to}
 use Rattle.seat_programs.specs.Tasks.{plan_of}
 use Rattle.seat_programs.specs.Ticks.{Answer, Unasked, OfPut, OfReady, OfTake, Moment, quiet, taken, ticked}
 use Rattle.seat_programs.specs.Scripts.{opened, set_up, played, ending, IsRunWithCalls}
-use Rattle.call_causes.specs.outcome_stories.specs.Stories.{In}
+use Rattle.call_causes.specs.Below.outcome_stories.specs.Stories.{In}
 use Rattle.outcome_causes.specs.outcome_ticks.proofs.Lifted.{in_filtered, filtered_in}
-use Rattle.call_causes.specs.outcome_stories.proofs.Members.{in_contains, contains_in}
+use Rattle.call_causes.specs.Below.outcome_stories.proofs.Members.{in_contains, contains_in}
 use Rattle.run_theorems.specs.Heard.{as_taken, taken_link, taken_at, taken_in, heard_takes, given_by}
 use Rattle.run_theorems.proofs.Gave.{gave_heard}
 use Rattle.run_theorems.proofs.HeardRuns.{taken_append}

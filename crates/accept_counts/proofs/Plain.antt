@@ -8,9 +8,9 @@ use Rattle.seat_programs.specs.Cores.{Core}
 use Rattle.seat_programs.specs.Tasks.{plan_of}
 use Rattle.seat_programs.specs.Ticks.{quiet, ticked, broken_in}
 use Rattle.seat_programs.specs.Scripts.{opened, set_up, played, ending, IsRunWithCalls}
-use Rattle.call_causes.specs.outcome_stories.specs.Facts.{broken_of_run}
-use Rattle.call_causes.specs.outcome_stories.specs.Stories.{In}
-use Rattle.call_causes.specs.outcome_stories.proofs.Members.{in_contains, contains_in}
+use Rattle.call_causes.specs.Below.outcome_stories.specs.Facts.{broken_of_run}
+use Rattle.call_causes.specs.Below.outcome_stories.specs.Stories.{In}
+use Rattle.call_causes.specs.Below.outcome_stories.proofs.Members.{in_contains, contains_in}
 use Rattle.outcome_causes.proofs.Plain.{in_left, in_right, in_both}
 
 -- ## Links that answered that they failed

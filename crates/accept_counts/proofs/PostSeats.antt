@@ -7,7 +7,7 @@ use Rattle.seat_programs.specs.Cores.{Core}
 use Rattle.seat_programs.specs.Tasks.{plan_of}
 use Rattle.seat_programs.specs.Ticks.{Moment, quiet, ticked}
 use Rattle.seat_programs.specs.Scripts.{opened, ending, set_up, played, IsRunWithCalls}
-use Rattle.call_causes.specs.outcome_stories.specs.Stories.{In}
+use Rattle.call_causes.specs.Below.outcome_stories.specs.Stories.{In}
 use Rattle.outcome_causes.proofs.Plain.{in_both, in_left, in_right}
 use Rattle.call_causes.specs.call_stories.specs.Decided.{posted_by}
 use Rattle.call_causes.specs.call_stories.specs.Lists.{shows_in, shows_in_run}

@@ -11,8 +11,8 @@ use Rattle.sock_model.specs.declared.view.View.{View}
 use Rattle.sock_model.specs.Layout.{open_index, link_index, ref_index}
 use Rattle.sock_model.specs.SlotRows.{marks_of}
 use Rattle.sock_model.specs.Weights.{is_hold}
-use Rattle.call_causes.specs.joint_runs.specs.chain_steps.proofs.Lists.{at_some}
-use Rattle.call_causes.specs.joint_runs.specs.sock_steps.proofs.Places.{own_count}
+use Rattle.run_theorems.specs.Below.chain_steps.proofs.Lists.{at_some}
+use Rattle.run_theorems.specs.Below.sock_steps.proofs.Places.{own_count}
 use Rattle.seat_programs.specs.Asides.{Taking}
 use Rattle.seat_programs.specs.Calls.{SetOdd}
 use Rattle.seat_programs.specs.Drops.{call_in}
@@ -28,11 +28,11 @@ use Rattle.outcome_causes.specs.sock_runs.proofs.LinkTicks.{RetriesGo}
 use Rattle.outcome_causes.specs.sock_runs.proofs.Quiets.{ticked_seats, ticked_rests}
 use Rattle.outcome_causes.specs.program_walks.proofs.Recorded.{Recorded, recorded_ticks}
 use Rattle.outcome_causes.specs.sock_runs.proofs.Ticks.{sound_ticks}
-use Rattle.call_causes.specs.outcome_stories.specs.Facts.{shown_in}
-use Rattle.call_causes.specs.outcome_stories.specs.Losses.{lost_by, may_close, closed_at}
-use Rattle.call_causes.specs.outcome_stories.specs.Stories.{In}
+use Rattle.call_causes.specs.Below.outcome_stories.specs.Facts.{shown_in}
+use Rattle.call_causes.specs.Below.outcome_stories.specs.Losses.{lost_by, may_close, closed_at}
+use Rattle.call_causes.specs.Below.outcome_stories.specs.Stories.{In}
 use Rattle.outcome_causes.proofs.Plain.{in_both}
-use Rattle.call_causes.specs.owned_ids.proofs.WordsGiven.{Named, run_named}
+use Rattle.call_causes.specs.Below.owned_ids.proofs.WordsGiven.{Named, run_named}
 use Rattle.run_theorems.specs.Heard.{taken_link}
 use Rattle.accept_counts.proofs.Closers.{Ends, Calm, sets_odd}
 use Rattle.accept_counts.proofs.Readings.{found_by, State, HasReader, takes_own, reader_ticks}
@@ -109,7 +109,7 @@ module _ (p : Plan) (calls os : List ℕ) (in_os : (k o : ℕ) → get_elem? os 
     keeps_along (m ∷ ms) c vs taken sound answered fitting recorded lasting k = keeps_same (run p (ticked p c m) ms) (views_along p (ticked p c m) (views_after p c vs m) ms) (λ n. (taken n ++ found_by c m n) ++ founds (ticked p c m) ms n) (λ n. taken n ++ founds c (m ∷ ms) n)
         (λ n. append_assoc (taken n) (found_by c m n) (founds (ticked p c m) ms n))
         (keeps_along ms (ticked p c m) (views_after p c vs m) (λ n. taken n ++ found_by c m n) (sound_ticks p go c vs m sound answered.0 fitting.0) answered.1 fitting.1 (recorded_ticks p Q c vs m sound answered.0 fitting.0 recorded)
-        (λ e. lasting (sym (Rattle.call_causes.specs.call_owing.proofs.EndsStill.run_ending p c (m ∷ [])) ∙ e)) (keeps_ticks c vs m taken sound answered.0 fitting.0 recorded lasting k))
+        (λ e. lasting (sym (Rattle.call_causes.specs.Below.call_owing.proofs.EndsStill.run_ending p c (m ∷ [])) ∙ e)) (keeps_ticks c vs m taken sound answered.0 fitting.0 recorded lasting k))
 
   -- ## Sockets that readers set failed
 
@@ -166,7 +166,7 @@ module _ (p : Plan) (calls os : List ℕ) (in_os : (k o : ℕ) → get_elem? os 
       closes_along (m ∷ ms) c vs taken sound answered fitting recorded named lasting ahead rests k x there = ⊎_elim
           (λ now. let y = closes_at c vs m taken sound named (λ seat at. seat_rests c ahead 0 rests seat at) k x now in (y.0, more (taken x) (founds c (m ∷ ms) x) y.1))
           (λ later. let y = closes_along ms (ticked p c m) (views_after p c vs m) (λ n. taken n ++ found_by c m n) (sound_ticks p go c vs m sound answered.0 fitting.0) answered.1 fitting.1 (recorded_ticks p Q c vs m sound answered.0 fitting.0 recorded)
-          (run_named p go (OpensLink os) c vs (m ∷ []) sound (answered.0, tt) (fitting.0, tt) named) (λ e. lasting (sym (Rattle.call_causes.specs.call_owing.proofs.EndsStill.run_ending p c (m ∷ [])) ∙ e)) (ticked_ahead p c m ahead) (ticked_rests p c m 0 rests)
+          (run_named p go (OpensLink os) c vs (m ∷ []) sound (answered.0, tt) (fitting.0, tt) named) (λ e. lasting (sym (Rattle.call_causes.specs.Below.call_owing.proofs.EndsStill.run_ending p c (m ∷ [])) ∙ e)) (ticked_ahead p c m ahead) (ticked_rests p c m 0 rests)
           (keeps_ticks Q go c vs m taken sound answered.0 fitting.0 recorded lasting k) x later in
           (y.0, subst Odd (append_assoc (taken x) (found_by c m x) (founds (ticked p c m) ms x)) y.1))
           (in_both (closed_at c m) (shown_in closed_at p (ticked p c m) ms) x there)

@@ -16,9 +16,9 @@ use Rattle.sock_model.specs.Marks.{about, at}
 use Rattle.sock_model.specs.SlotRows.{marks_of, added, met, looked, told_code, met_link}
 use Rattle.sock_model.specs.Weights.{total, only, is_hold}
 use Rattle.sock_model.specs.ChainRows.{spent_hand, with_hand, with_claim}
-use Rattle.call_causes.specs.programs_allowed.specs.slot_steps.proofs.Numbers.{only-same}
-use Rattle.call_causes.specs.programs_allowed.specs.slot_steps.proofs.Sums.{about-here}
-use Rattle.call_causes.specs.joint_runs.specs.sock_steps.proofs.Quiet.{either_way}
+use Rattle.call_causes.specs.Below.programs_allowed.specs.slot_steps.proofs.Numbers.{only-same}
+use Rattle.call_causes.specs.Below.programs_allowed.specs.slot_steps.proofs.Sums.{about-here}
+use Rattle.run_theorems.specs.Below.sock_steps.proofs.Quiet.{either_way}
 use Rattle.seat_programs.specs.Asides.{Step, Found, TakeBytes, Taking, Bytes, Nothing, NoMore, AtEnd, Closed, Broken}
 use Rattle.seat_programs.specs.Beside.{at_last, found_in, calls_after}
 use Rattle.seat_programs.specs.Calls.{Call, AddRef, LoadName, LoadOpen, TakeLink, LookWord, LoadCode, ClaimRequest, PutMessage, Unconnect, SwapHead, EmptyHead, ReadNext, ReverseNext, FreeRequest, StorePlace, DropPlace}
@@ -36,7 +36,7 @@ use Rattle.outcome_causes.specs.program_walks.proofs.OpensStay.{run_word}
 use Rattle.outcome_causes.specs.program_steps.proofs.Cases.{beside, tick_keeps_marks}
 use Rattle.outcome_causes.specs.program_steps.proofs.Rounds.{begins_round}
 use Rattle.outcome_causes.specs.program_steps.proofs.Passes.{goes_round}
-use Rattle.call_causes.specs.outcome_stories.proofs.Cases.{tick_cases}
+use Rattle.call_causes.specs.Below.outcome_stories.proofs.Cases.{tick_cases}
 use Rattle.run_theorems.specs.Heard.{taken_link, taken_at, as_taken}
 use Rattle.accept_counts.proofs.Closers.{Ends, Calm, IsCalmCall, IsNoTake, calm_first, calm_next, begins_calm, calm_step, calm_aside}
 

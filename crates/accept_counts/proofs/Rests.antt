@@ -10,7 +10,7 @@ use lib.ListN.{get_elem?}
 use Rattle.sock_words.specs.declared.kind.Kind.{Kind}
 use Rattle.seat_programs.specs.brpc_model.specs.Items.{Item}
 use Rattle.seat_programs.specs.brpc_model.specs.Operations.{Turn, clients, link_names}
-use Rattle.call_causes.specs.call_owing.specs.script_facts.proofs.TaskLemmas.{tasks_length}
+use Rattle.run_theorems.specs.Below.script_facts.proofs.TaskLemmas.{tasks_length}
 use Rattle.seat_programs.specs.Heads.{Head, Exit, Posts, Unlocks, Decides, Locks, Joins, Opens, Reads, Discards}
 use Rattle.seat_programs.specs.Programs.{Program, Rest, Round}
 use Rattle.seat_programs.specs.Clients.{client_from}
@@ -19,15 +19,15 @@ use Rattle.seat_programs.specs.Runs.{IsAtRest, kind_in}
 use Rattle.seat_programs.specs.Tasks.{opens, calls, plan_of, id_plan_of}
 use Rattle.seat_programs.specs.Ticks.{Moment, IsAlwaysReady, quiet, run, waits}
 use Rattle.seat_programs.specs.Scripts.{sizes_of, programs, readers_from, all_programs, all_tasks, opened, set_up, played, ticks_of, IsRunWithCalls}
-use Rattle.call_causes.specs.id_runs.specs.Held.{IdView}
-use Rattle.call_causes.specs.id_runs.specs.Goes.{IdGoesOn}
+use Rattle.call_causes.specs.Below.id_runs.specs.Held.{IdView}
+use Rattle.call_causes.specs.Below.id_runs.specs.Goes.{IdGoesOn}
 use Rattle.outcome_causes.specs.sock_runs.proofs.Quiets.{run_seats, run_rests}
 use Rattle.outcome_causes.specs.sock_runs.proofs.Waiting.{StandsAside, still_settles}
 use Rattle.outcome_causes.specs.program_walks.proofs.Whole.{views_played, rested_ahead, rested_idle, played_sound}
-use Rattle.call_causes.specs.joint_runs.proofs.Both.{behind_both}
-use Rattle.call_causes.specs.joint_runs.proofs.Runs.{AreMade, first_views, joint_runs}
-use Rattle.call_causes.specs.call_owing.proofs.EndsStill.{view_of, all_still, one_of_still, run_parts, second_part, in_round, rest_at, mapped_at}
-use Rattle.call_causes.specs.owed_calls.proofs.Owed.{opened_seats}
+use Rattle.call_causes.specs.Below.joint_runs.proofs.Both.{behind_both}
+use Rattle.call_causes.specs.Below.joint_runs.proofs.Runs.{AreMade, first_views, joint_runs}
+use Rattle.call_causes.specs.Below.call_owing.proofs.EndsStill.{view_of, all_still, one_of_still, run_parts, second_part, in_round, rest_at, mapped_at}
+use Rattle.call_causes.specs.Below.owed_calls.proofs.Owed.{opened_seats}
 use Rattle.accept_counts.proofs.Early.{start, go, fitting, known, clients_take_none}
 use Rattle.accept_counts.proofs.Takeless.{NoTakes}
 

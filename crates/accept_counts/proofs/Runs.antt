@@ -12,17 +12,17 @@ use Rattle.sock_model.specs.Weights.{total}
 use Rattle.seat_programs.specs.brpc_model.specs.Items.{Item}
 use Rattle.seat_programs.specs.brpc_model.specs.Operations.{Turn, clients}
 use Rattle.corr_core.specs.declared.marks.Plan.{Plan as IdPlan}
-use Rattle.call_causes.specs.id_runs.specs.Held.{IdView}
-use Rattle.call_causes.specs.id_runs.specs.Goes.{SoundIds}
+use Rattle.call_causes.specs.Below.id_runs.specs.Held.{IdView}
+use Rattle.call_causes.specs.Below.id_runs.specs.Goes.{SoundIds}
 use Rattle.sock_message.specs.Asked.{Asked}
 use Rattle.seat_programs.specs.Beside.{call_at}
 use Rattle.seat_programs.specs.declared.task.Op.{Op}
 use Rattle.seat_programs.specs.declared.task.Op.TheVariants as ops
-use Rattle.call_causes.specs.outcome_stories.specs.Stories.{In}
-use Rattle.call_causes.specs.outcome_stories.proofs.Members.{all_in, all_of}
+use Rattle.call_causes.specs.Below.outcome_stories.specs.Stories.{In}
+use Rattle.call_causes.specs.Below.outcome_stories.proofs.Members.{all_in, all_of}
 use Rattle.outcome_causes.proofs.Messages.{in_of_at}
 use Rattle.accept_counts.proofs.Beginnings.{all_begin}
-use Rattle.call_causes.specs.outcome_stories.proofs.HomeCalls.{none_asked}
+use Rattle.call_causes.specs.Below.outcome_stories.proofs.HomeCalls.{none_asked}
 use Rattle.seat_programs.specs.declared.task.Sizes.{Sizes}
 use Rattle.seat_programs.specs.declared.task.Task.{Task}
 use Rattle.seat_programs.specs.Programs.{Program, Say, Sent, Keep, Retries}
@@ -40,7 +40,7 @@ use Rattle.outcome_causes.specs.program_walks.proofs.Whole.{Begins, AreFittingIn
 use Rattle.label_runs.specs.Labels.{Trial, Idle, Labels}
 use Rattle.label_runs.proofs.Operations.{OpCalls}
 use Rattle.label_runs.proofs.Programs.{client_goes, ending_goes, reader_goes}
-use Rattle.call_causes.specs.outcome_stories.specs.PlainTasks.{told_tasks_of, OwnsCall}
+use Rattle.call_causes.specs.Below.outcome_stories.specs.PlainTasks.{told_tasks_of, OwnsCall}
 use Rattle.outcome_causes.proofs.Final.{at_there}
 use Rattle.outcome_causes.proofs.Scripts.{own_from, seats, closing_told}
 use Rattle.outcome_causes.specs.outcome_ticks.proofs.Ticks.{elem_there}

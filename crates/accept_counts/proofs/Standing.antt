@@ -21,14 +21,14 @@ use Rattle.outcome_causes.specs.program_steps.specs.Sound.{views_along}
 use Rattle.outcome_causes.specs.sock_runs.proofs.Along.{seat_rests, place_inside}
 use Rattle.outcome_causes.specs.sock_runs.proofs.Waiting.{StandsAside}
 use Rattle.outcome_causes.specs.program_walks.proofs.Whole.{views_played, rested_ahead}
-use Rattle.call_causes.specs.id_runs.specs.Held.{IdView}
-use Rattle.call_causes.specs.id_runs.specs.Goes.{IdGoesOn}
-use Rattle.call_causes.specs.joint_runs.proofs.Both.{BothSound, behind_both}
-use Rattle.call_causes.specs.joint_runs.proofs.Runs.{AreMade, first_views, joint_runs}
-use Rattle.call_causes.specs.call_owing.specs.Settled as settled
-use Rattle.call_causes.specs.call_owing.specs.Sound.{id_word_of}
-use Rattle.call_causes.specs.owing_ticks.proofs.AllSettled.{not_locked}
-use Rattle.call_causes.specs.call_owing.proofs.EndsStill.{view_of}
+use Rattle.call_causes.specs.Below.id_runs.specs.Held.{IdView}
+use Rattle.call_causes.specs.Below.id_runs.specs.Goes.{IdGoesOn}
+use Rattle.call_causes.specs.Below.joint_runs.proofs.Both.{BothSound, behind_both}
+use Rattle.call_causes.specs.Below.joint_runs.proofs.Runs.{AreMade, first_views, joint_runs}
+use Rattle.call_causes.specs.Below.call_owing.specs.Settled as settled
+use Rattle.call_causes.specs.Below.call_owing.specs.Sound.{id_word_of}
+use Rattle.call_causes.specs.Below.owing_ticks.proofs.AllSettled.{not_locked}
+use Rattle.call_causes.specs.Below.call_owing.proofs.EndsStill.{view_of}
 use Rattle.accept_counts.proofs.Early.{start, go, fitting}
 use Rattle.accept_counts.proofs.Rests.{still, aside}
 use Rattle.accept_counts.proofs.Takeless.{NoTakes, TakesNone}

@@ -7,7 +7,7 @@ use Rattle.atomic_table.proofs.Lists.{at_set}
 use Rattle.sock_words.specs.declared.plain.Plan.{Plan}
 use Rattle.sock_model.specs.declared.view.View.{View}
 use Rattle.sock_message.specs.Asked.{Asked}
-use Rattle.call_causes.specs.call_owing.specs.script_facts.proofs.Lists as lists
+use Rattle.run_theorems.specs.Below.script_facts.proofs.Lists as lists
 use Rattle.seat_programs.specs.declared.task.Op.{Op}
 use Rattle.seat_programs.specs.declared.task.Op.TheVariants as ops
 use Rattle.seat_programs.specs.declared.task.Task.{Task}

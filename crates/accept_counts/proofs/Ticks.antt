@@ -13,13 +13,13 @@ use Rattle.sock_model.specs.declared.chain.Heading.{Heading}
 use Rattle.sock_model.specs.declared.home.Home.{Home}
 use Rattle.sock_model.specs.declared.view.View.{View}
 use Rattle.sock_model.specs.Weights.{total}
-use Rattle.call_causes.specs.programs_allowed.specs.slot_steps.proofs.Sums.{term_le, total-append, total-set}
+use Rattle.call_causes.specs.Below.programs_allowed.specs.slot_steps.proofs.Sums.{term_le, total-append, total-set}
 use Rattle.corr_core.specs.Word.{parts}
 use Rattle.corr_core.specs.declared.marks.Plan.{Plan as IdPlan}
-use Rattle.call_causes.specs.id_runs.specs.Held.{IdView, MayId}
-use Rattle.call_causes.specs.id_runs.specs.Goes.{FitsRetryId, FitsSock, FindsId, SoundIds, FitsFirst, IsFittingIds}
-use Rattle.call_causes.specs.id_runs.specs.Goes as goes
-use Rattle.call_causes.specs.id_runs.proofs.Steps.{finds_ids}
+use Rattle.call_causes.specs.Below.id_runs.specs.Held.{IdView, MayId}
+use Rattle.call_causes.specs.Below.id_runs.specs.Goes.{FitsRetryId, FitsSock, FindsId, SoundIds, FitsFirst, IsFittingIds}
+use Rattle.call_causes.specs.Below.id_runs.specs.Goes as goes
+use Rattle.call_causes.specs.Below.id_runs.proofs.Steps.{finds_ids}
 use Rattle.seat_programs.specs.Asides.{Step, Found, PutCall, MakeId, StoreAt, UnlockId, TakeCall, TakeBytes, Taking, Bytes, call_id, id_slot, id_first}
 use Rattle.sock_message.specs.Asked.{Asked, frame_of}
 use Rattle.seat_programs.specs.Beside.{found_in, calls_after}
@@ -36,7 +36,7 @@ use Rattle.label_runs.specs.Labels.{Trial, Idle, Tries, Sends, IsOfTrial, MayPut
 use Rattle.label_runs.proofs.Programs.{labels_round, block_goes, retry_goes}
 use Rattle.accept_counts.specs.Counts.{pair_of, of_trial, of_retry, of_view, times_of, WasMade, WasNow, ViewFits, TrialFits, IsOfCall, LabelLaw, StoresOwn}
 use Rattle.accept_counts.proofs.Words.{made_on, finds_label, words_forward, makes_new, advances_new}
-use Rattle.call_causes.specs.outcome_stories.proofs.HomeCalls.{AreCalls, PutsAsked, calls_behind}
+use Rattle.call_causes.specs.Below.outcome_stories.proofs.HomeCalls.{AreCalls, PutsAsked, calls_behind}
 use Rattle.accept_counts.proofs.SeatFacts.{seat_facts, tick_moves}
 use Rattle.accept_counts.proofs.Views.{put_of, row_count, rights_count, PutsFit, row_fits, rights_fit}
 use Rattle.call_causes.specs.story_ticks.proofs.Chains.{AreFewTries}

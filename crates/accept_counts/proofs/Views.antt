@@ -14,14 +14,14 @@ use Rattle.sock_model.specs.declared.view.Hand.{Hand}
 use Rattle.sock_model.specs.ChainRows.{with_claim, entry_of, more, queued, righted}
 use Rattle.sock_model.specs.Memory.{IDLE, UNCONNECTED}
 use Rattle.sock_model.specs.Weights.{total, only}
-use Rattle.call_causes.specs.programs_allowed.specs.slot_steps.proofs.Sums.{total-append}
+use Rattle.call_causes.specs.Below.programs_allowed.specs.slot_steps.proofs.Sums.{total-append}
 use Rattle.sock_message.specs.Asked.{Asked}
 use Rattle.seat_programs.specs.Calls.{Call, LoadName, LoadOpen, TakeLink, LookWord, LoadCode, ClaimRequest, PutMessage, Unconnect, SwapHead, EmptyHead, ReadNext, ReverseNext, FreeRequest, StorePlace, DropPlace}
 use Rattle.outcome_causes.specs.program_steps.specs.Rows.{row, is_id, by_claim, exchanged, filled_claim, ready_claim, looked_clean, emptied, read_next, turned_next, freed_next, placed_next, dropped_next}
 use Rattle.outcome_causes.specs.program_steps.specs.May.{May}
 use Rattle.outcome_causes.specs.program_steps.proofs.Cases.{with_rights}
 use Rattle.outcome_causes.specs.program_steps.proofs.Leaves.{claim_way, right_way}
-use Rattle.call_causes.specs.outcome_stories.proofs.Tests.{split}
+use Rattle.call_causes.specs.Below.outcome_stories.proofs.Tests.{split}
 use Rattle.accept_counts.specs.Counts.{of_heading, of_claim, of_entry, of_view, HeadFits, ClaimFits, EntryFits, ViewFits}
 
 -- a step on claims or accepted messages

@@ -12,9 +12,9 @@ use Rattle.corr_core.specs.declared.marks.Token.TheVariants.{Claimed}
 use Rattle.seat_programs.specs.id_rule.specs.Lawful.{local, id_index, tag_index, call_index, at_index, all_words}
 use Rattle.seat_programs.specs.id_rule.specs.Plays.{Longer}
 use Rattle.seat_programs.specs.id_rule.proofs.Allowed as allowed
-use Rattle.call_causes.specs.id_runs.specs.Held.{IdView, id_state, HasOne, MayId}
-use Rattle.call_causes.specs.id_runs.specs.Goes.{SoundIds, FindsId}
-use Rattle.call_causes.specs.id_runs.proofs.Keeps.{parts_packed}
+use Rattle.call_causes.specs.Below.id_runs.specs.Held.{IdView, id_state, HasOne, MayId}
+use Rattle.call_causes.specs.Below.id_runs.specs.Goes.{SoundIds, FindsId}
+use Rattle.call_causes.specs.Below.id_runs.proofs.Keeps.{parts_packed}
 use Rattle.sock_message.specs.Asked.{Asked}
 use Rattle.seat_programs.specs.Asides.{Step, Found, ClaimId, MakeId, StoreCall, StoreAt, LockId, PostId, UnlockId, EndId, FreeId, TakeBytes, Taking, Bytes, call_id, id_slot, id_first}
 use Rattle.seat_programs.specs.Beside.{found_in, calls_after}
@@ -22,8 +22,8 @@ use Rattle.seat_programs.specs.Cores.{Core}
 use Rattle.seat_programs.specs.Posts.{packed, advance_of}
 use Rattle.label_runs.specs.Labels.{FindsLabel}
 use Rattle.accept_counts.specs.Counts.{word_of_id, WasMade, WasNow}
-use Rattle.call_causes.specs.owing_ticks.proofs.IdFacts.{claimed_free}
-use Rattle.call_causes.specs.call_owing.proofs.Words.{Forward}
+use Rattle.call_causes.specs.Below.owing_ticks.proofs.IdFacts.{claimed_free}
+use Rattle.call_causes.specs.Below.call_owing.proofs.Words.{Forward}
 
 abbrev pub AnyCall : Asked → Type 0
 AnyCall asked = Unit {0}

@@ -21,8 +21,8 @@ use Rattle.sock_words.specs.Words.{at_word}
 use Rattle.seat_programs.specs.Programs.{Program, Aside}
 use Rattle.seat_programs.specs.Ticks.{Moment, ticked}
 use Rattle.outcome_causes.specs.program_steps.specs.Sound.{first_step}
-use Rattle.call_causes.specs.id_runs.specs.Held.{IdView}
-use Rattle.call_causes.specs.id_runs.specs.Goes.{SoundIds, IsFittingIds}
+use Rattle.call_causes.specs.Below.id_runs.specs.Held.{IdView}
+use Rattle.call_causes.specs.Below.id_runs.specs.Goes.{SoundIds, IsFittingIds}
 use Rattle.label_runs.specs.Labels.{Trial, Idle, Tries, Sends, Labels}
 
 -- 1 where these are attempt n of the call with this id

@@ -23,8 +23,8 @@ use Rattle.seat_programs.specs.Tasks.{plan_of}
 use Rattle.seat_programs.specs.Scripts.{opened, ending, set_up, played, IsRunWithCalls}
 use Rattle.outcome_causes.specs.program_steps.specs.AtSteps.{Asks, AtSteps}
 use Rattle.outcome_causes.specs.program_steps.specs.Sound.{first_step}
-use Rattle.call_causes.specs.outcome_stories.specs.Stories.{In}
-use Rattle.call_causes.specs.id_runs.specs.Goes.{FitsSock}
+use Rattle.call_causes.specs.Below.outcome_stories.specs.Stories.{In}
+use Rattle.call_causes.specs.Below.id_runs.specs.Goes.{FitsSock}
 use Rattle.label_runs.specs.Labels.{Trial, Idle, Tries, Sends, put_behind, Kept, unlocks_trial, locked_trial, LeavesLabel, MayPut, AsideMove, FindsLabel, AtLabel}
 use Rattle.corr_core.specs.declared.marks.Plan.{Plan as IdPlan}
 use Rattle.sock_model.specs.declared.view.View.{View}

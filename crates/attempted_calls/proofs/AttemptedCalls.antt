@@ -13,15 +13,15 @@ use Rattle.seat_programs.specs.Cores.{Core}
 use Rattle.seat_programs.specs.Tasks.{plan_of, id_plan_of}
 use Rattle.seat_programs.specs.Scripts.{all_tasks, IsRunWithCalls}
 use Rattle.seat_programs.specs.Told.{Became}
-use Rattle.own_decisions.specs.joint_runs.proofs.Runs.{AreMade}
-use Rattle.own_decisions.specs.script_facts.proofs.Reading.{InRange}
-use Rattle.own_decisions.specs.script_facts.proofs.Targets.{AreThere}
-use Rattle.own_decisions.specs.call_owing.specs.Lives.{ClosesInRun}
-use Rattle.own_decisions.specs.call_stories.specs.Lists.{given}
-use Rattle.own_decisions.specs.call_stories.specs.Scenes.{Birth, In, WhyEnded}
-use Rattle.own_decisions.specs.story_steps.proofs.BirthTicks.{one_call}
-use Rattle.own_decisions.specs.story_steps.proofs.End.{ended_call}
-use Rattle.own_decisions.specs.call_causes.proofs.Whole.{run_has_story, run_has_ended}
+use Rattle.own_decisions.specs.Below.joint_runs.proofs.Runs.{AreMade}
+use Rattle.own_decisions.specs.Below.script_facts.proofs.Reading.{InRange}
+use Rattle.own_decisions.specs.Below.script_facts.proofs.Targets.{AreThere}
+use Rattle.own_decisions.specs.Below.call_owing.specs.Lives.{ClosesInRun}
+use Rattle.own_decisions.specs.Below.call_stories.specs.Lists.{given}
+use Rattle.own_decisions.specs.Below.call_stories.specs.Scenes.{Birth, In, WhyEnded}
+use Rattle.own_decisions.specs.Below.story_steps.proofs.BirthTicks.{one_call}
+use Rattle.own_decisions.specs.Below.story_steps.proofs.End.{ended_call}
+use Rattle.own_decisions.specs.Below.call_causes.proofs.Whole.{run_has_story, run_has_ended}
 
 -- as the run ends the word of a call is its id
 abbrev pub AreStored : (ℕ → ℕ) → (script : List Item) → Core → Type 0

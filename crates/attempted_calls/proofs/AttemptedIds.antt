@@ -9,8 +9,8 @@ use Rattle.seat_programs.specs.Cores.{Core}
 use Rattle.seat_programs.specs.Ticks.{Moment, quiet, ticked}
 use Rattle.seat_programs.specs.Tasks.{plan_of, id_plan_of}
 use Rattle.seat_programs.specs.Scripts.{opened, set_up, IsRunWithCalls}
-use Rattle.own_decisions.specs.programs_allowed.specs.program_walks.proofs.Whole.{closing_of}
-use Rattle.own_decisions.specs.call_stories.specs.Lists.{advanced_at}
+use Rattle.own_decisions.specs.Below.programs_allowed.specs.program_walks.proofs.Whole.{closing_of}
+use Rattle.own_decisions.specs.Below.call_stories.specs.Lists.{advanced_at}
 use Rattle.own_decisions.specs.accept_counts.specs.Counts.{word_of_id}
 use Rattle.attempted_calls.proofs.AttemptedWords.{Rise}
 

@@ -7,7 +7,7 @@ use native.Mathlib.Decide.{ℕ_discrete}
 use mathlib.Core.Option.{Option, some, none, some-injective}
 use lib.ListN.{get_elem?}
 use Rattle.atomic_table.proofs.Lists.{at_set, set_else, set_here}
-use Rattle.own_decisions.specs.chain_steps.proofs.Lists.{at_length}
+use Rattle.own_decisions.specs.Below.chain_steps.proofs.Lists.{at_length}
 use Rattle.sock_words.specs.declared.plain.Plan.{Plan}
 use Rattle.sock_model.specs.declared.home.Home.{Home}
 use Rattle.sock_model.specs.declared.view.View.{View}
@@ -22,9 +22,9 @@ use Rattle.seat_programs.specs.id_rule.specs.Lawful.{id_index, tag_index, call_i
 use Rattle.seat_programs.specs.id_rule.specs.Plays.{with_hand}
 use Rattle.seat_programs.specs.id_rule.proofs.Allowed as allowed
 use Rattle.seat_programs.specs.id_rule.proofs.Frames.{token_here}
-use Rattle.own_decisions.specs.id_runs.specs.Held.{IdView, MayId, HasOne, id_state, id_row, one, by_token}
-use Rattle.own_decisions.specs.id_runs.specs.Goes.{FitsRetryId, IdGoesOn, SoundIds, IsFittingIds}
-use Rattle.own_decisions.specs.id_runs.proofs.Steps.{finds_ids, no_call}
+use Rattle.own_decisions.specs.Below.id_runs.specs.Held.{IdView, MayId, HasOne, id_state, id_row, one, by_token}
+use Rattle.own_decisions.specs.Below.id_runs.specs.Goes.{FitsRetryId, IdGoesOn, SoundIds, IsFittingIds}
+use Rattle.own_decisions.specs.Below.id_runs.proofs.Steps.{finds_ids, no_call}
 use Rattle.seat_programs.specs.Asides.{Step, Found, ClaimId, PutCall, MakeId, StoreCall, StoreAt, LockId, PostId, UnlockId, EndId, FreeId, TakeCall, TakeBytes, Taking, Bytes, call_id}
 use Rattle.seat_programs.specs.Heads.{Exit, Unlocks}
 use Rattle.sock_message.specs.Asked.{Asked}
@@ -34,12 +34,12 @@ use Rattle.seat_programs.specs.Heads.{Retry}
 use Rattle.seat_programs.specs.Programs.{Program, Do, TakeMessage, TakeHome, PutHome, PutBytes, AskReady, Aside, Round}
 use Rattle.seat_programs.specs.Cores.{Calls, Core, SeatState, word_of, found_at, words_after, word_after, homes_after, hand_after, lies_at, first_of, others_of, link_place, resolved, waiting_at, next_step, with_seat}
 use Rattle.seat_programs.specs.Ticks.{Moment, IsAnswered, fed, with_places, onto_first, taken, ticked}
-use Rattle.own_decisions.specs.programs_allowed.specs.program_steps.specs.Sound.{Sound, first_step}
-use Rattle.own_decisions.specs.outcome_stories.proofs.Cases.{tick_cases}
-use Rattle.own_decisions.specs.label_runs.specs.Labels.{FindsLabel}
+use Rattle.own_decisions.specs.Below.programs_allowed.specs.program_steps.specs.Sound.{Sound, first_step}
+use Rattle.own_decisions.specs.Below.outcome_stories.proofs.Cases.{tick_cases}
+use Rattle.own_decisions.specs.Below.label_runs.specs.Labels.{FindsLabel}
 use Rattle.own_decisions.specs.accept_counts.specs.Counts.{word_of_id}
 use Rattle.own_decisions.specs.accept_counts.proofs.Words.{finds_label}
-use Rattle.own_decisions.specs.outcome_stories.proofs.HomeCalls.{AreCalls, PutsAsked, calls_behind}
+use Rattle.own_decisions.specs.Below.outcome_stories.proofs.HomeCalls.{AreCalls, PutsAsked, calls_behind}
 use Rattle.own_decisions.specs.accept_counts.proofs.Ticks.{calls_waiting, few_of, fits_as, pairs_set}
 use Rattle.attempted_calls.proofs.AttemptedWords.{Rise, is_new, is_same, is_more, IsMakeAt, risen, Advances}
 use Rattle.attempted_calls.proofs.EndedTrails.{StoresNext, Of, NoCall, Makes, Knows, Trail, lost, Stays, GoesDo, GoesAside, Follows}

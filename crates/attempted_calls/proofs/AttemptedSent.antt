@@ -6,7 +6,7 @@ use Rattle.sock_model.specs.declared.chain.Entry.{Entry}
 use Rattle.sock_model.specs.declared.chain.Heading.{Heading}
 use Rattle.sock_model.specs.declared.view.View.{View}
 use Rattle.sock_model.specs.Weights.{total}
-use Rattle.own_decisions.specs.slot_steps.proofs.Sums.{term_le}
+use Rattle.own_decisions.specs.Below.slot_steps.proofs.Sums.{term_le}
 use Rattle.seat_programs.specs.brpc_model.specs.Items.{Item}
 use Rattle.seat_programs.specs.brpc_model.specs.Operations.{Turn}
 use Rattle.corr_core.specs.declared.marks.Plan.{Plan as IdPlan}
@@ -18,25 +18,25 @@ use Rattle.seat_programs.specs.Tasks.{opens, plan_of, id_plan_of}
 use Rattle.seat_programs.specs.Scripts.{all_tasks, IsRunWithCalls}
 use Rattle.seat_programs.specs.Told.{AreTasks, IsTask, Made}
 use Rattle.seat_programs.specs.ToldCalls.{Accepted, Fixed, IsSent, OfSend, OfCall}
-use Rattle.own_decisions.specs.programs_allowed.specs.program_steps.specs.Sound.{Sound, AllRest}
-use Rattle.own_decisions.specs.programs_allowed.specs.program_walks.proofs.Whole.{views_ended, ended_sound, end_rests, IsOwed}
-use Rattle.own_decisions.specs.outcome_stories.specs.Causes.{Asks}
-use Rattle.own_decisions.specs.outcome_stories.specs.Kept.{is_of_send, IsSpoken, Story}
-use Rattle.own_decisions.specs.outcome_stories.specs.PlainTasks.{told_tasks_of}
-use Rattle.own_decisions.specs.outcome_stories.specs.Stories.{Event}
-use Rattle.own_decisions.specs.outcome_stories.specs.TaskCauses as causes
-use Rattle.own_decisions.specs.outcome_stories.proofs.Delivered.{orders_of}
-use Rattle.own_decisions.specs.outcome_ticks.proofs.Lifted.{task_up, made_up}
-use Rattle.own_decisions.specs.outcome_stories.proofs.Members.{in_contains}
-use Rattle.own_decisions.specs.outcome_causes.proofs.Messages.{each_made, message_of, number_of}
-use Rattle.own_decisions.specs.outcome_causes.proofs.Scripts.{seats, final_told, story_end, run_told}
-use Rattle.own_decisions.specs.outcome_stories.proofs.Senders.{HasSent, all_sent}
-use Rattle.own_decisions.specs.joint_runs.proofs.Runs.{AreMade}
-use Rattle.own_decisions.specs.script_facts.proofs.Reading.{InRange}
-use Rattle.own_decisions.specs.script_facts.proofs.Targets.{AreThere}
-use Rattle.own_decisions.specs.call_owing.specs.Lives.{ClosesInRun}
-use Rattle.own_decisions.specs.call_stories.specs.Lists.{attempts_of_run}
-use Rattle.own_decisions.specs.label_runs.specs.Labels.{Trial}
+use Rattle.own_decisions.specs.Below.programs_allowed.specs.program_steps.specs.Sound.{Sound, AllRest}
+use Rattle.own_decisions.specs.Below.programs_allowed.specs.program_walks.proofs.Whole.{views_ended, ended_sound, end_rests, IsOwed}
+use Rattle.own_decisions.specs.Below.outcome_stories.specs.Causes.{Asks}
+use Rattle.own_decisions.specs.Below.outcome_stories.specs.Kept.{is_of_send, IsSpoken, Story}
+use Rattle.own_decisions.specs.Below.outcome_stories.specs.PlainTasks.{told_tasks_of}
+use Rattle.own_decisions.specs.Below.outcome_stories.specs.Stories.{Event}
+use Rattle.own_decisions.specs.Below.outcome_stories.specs.TaskCauses as causes
+use Rattle.own_decisions.specs.Below.outcome_stories.proofs.Delivered.{orders_of}
+use Rattle.own_decisions.specs.Below.outcome_ticks.proofs.Lifted.{task_up, made_up}
+use Rattle.own_decisions.specs.Below.outcome_stories.proofs.Members.{in_contains}
+use Rattle.own_decisions.specs.Below.outcome_causes.proofs.Messages.{each_made, message_of, number_of}
+use Rattle.own_decisions.specs.Below.outcome_causes.proofs.Scripts.{seats, final_told, story_end, run_told}
+use Rattle.own_decisions.specs.Below.outcome_stories.proofs.Senders.{HasSent, all_sent}
+use Rattle.own_decisions.specs.Below.joint_runs.proofs.Runs.{AreMade}
+use Rattle.own_decisions.specs.Below.script_facts.proofs.Reading.{InRange}
+use Rattle.own_decisions.specs.Below.script_facts.proofs.Targets.{AreThere}
+use Rattle.own_decisions.specs.Below.call_owing.specs.Lives.{ClosesInRun}
+use Rattle.own_decisions.specs.Below.call_stories.specs.Lists.{attempts_of_run}
+use Rattle.own_decisions.specs.Below.label_runs.specs.Labels.{Trial}
 use Rattle.own_decisions.specs.accept_counts.specs.Counts.{pair_of, of_heading, of_entry, of_view, times_of, LabelLaw}
 use Rattle.own_decisions.specs.accept_counts.proofs.Apart as apart
 use Rattle.own_decisions.specs.accept_counts.proofs.Early.{first_fresh}
@@ -48,7 +48,7 @@ use Rattle.attempted_calls.proofs.AttemptedCalls.{AreStored, single, shows}
 use Rattle.own_decisions.specs.sent_once.proofs.DropWhole.{get_same}
 use Rattle.own_decisions.proofs.OwnDecisionsTicks.{pair_self}
 use Rattle.own_decisions.specs.accept_counts.proofs.Grounds.{setting, grounds}
-use Rattle.own_decisions.specs.programs_allowed.specs.program_walks.proofs.Recorded.{either_bool}
+use Rattle.own_decisions.specs.Below.programs_allowed.specs.program_walks.proofs.Recorded.{either_bool}
 
 -- ## Accepted messages
 

@@ -12,7 +12,7 @@ use Rattle.seat_programs.specs.brpc_model.specs.Operations.{Turn}
 use Rattle.corr_core.specs.Word.{Parts}
 use Rattle.corr_core.specs.declared.marks.Plan.{Plan as IdPlan}
 use Rattle.seat_programs.specs.id_rule.specs.Lawful.{call_index}
-use Rattle.own_decisions.specs.id_runs.proofs.Opening.{unused}
+use Rattle.own_decisions.specs.Below.id_runs.proofs.Opening.{unused}
 use Rattle.sock_message.specs.Asked.{Asked}
 use Rattle.seat_programs.specs.Asides.{StoreCall, StoreAt, call_id, id_slot, id_first}
 use Rattle.seat_programs.specs.Calls.{Call, LoadName, FindLink, ClaimRequest}
@@ -24,30 +24,30 @@ use Rattle.seat_programs.specs.Runs.{IsAtRest}
 use Rattle.seat_programs.specs.Ticks.{Moment, AreAnswered, quiet, ticked, run}
 use Rattle.seat_programs.specs.Tasks.{opens, calls, plan_of, id_plan_of}
 use Rattle.seat_programs.specs.Scripts.{sizes_of, programs, readers_from, all_programs, all_tasks, opened, ending, set_up, played, is_ending, IsRunWithCalls}
-use Rattle.own_decisions.specs.programs_allowed.specs.program_steps.specs.Sound.{IsAhead, AllRest, first_step, views_after, views_along}
-use Rattle.own_decisions.specs.programs_allowed.specs.sock_runs.proofs.Along.{seat_rests, ticked_ahead}
-use Rattle.own_decisions.specs.programs_allowed.specs.sock_runs.proofs.Quiets.{ticked_rests, run_rests}
-use Rattle.own_decisions.specs.programs_allowed.specs.program_walks.proofs.Whole.{views_played, views_closed, set_up_answered, end_answered}
-use Rattle.own_decisions.specs.outcome_causes.proofs.Final.{at_there}
-use Rattle.own_decisions.specs.outcome_ticks.proofs.Ticks.{elem_there}
-use Rattle.own_decisions.specs.joint_runs.proofs.Both.{BothSound, AreBoth, behind_both}
-use Rattle.own_decisions.specs.joint_runs.proofs.Runs.{AreMade, first_views, joint_runs}
-use Rattle.own_decisions.specs.script_facts.proofs.Reading.{InRange}
-use Rattle.own_decisions.specs.script_facts.proofs.Targets.{AreThere}
-use Rattle.own_decisions.specs.call_stories.specs.Lists.{given, advanced_at}
-use Rattle.own_decisions.specs.call_stories.specs.Scenes.{LeadsTo}
-use Rattle.own_decisions.specs.call_stories.specs.Posts.{Post, posted_at}
-use Rattle.own_decisions.specs.call_stories.specs.Stories.{HasStory}
-use Rattle.own_decisions.specs.story_ticks.proofs.Allowing.{allows}
-use Rattle.own_decisions.specs.story_ticks.proofs.Claiming.{HaveSlots}
-use Rattle.own_decisions.specs.call_stories.proofs.Leading.{run_leads}
-use Rattle.own_decisions.specs.story_steps.proofs.Numbered.{AreNumbered}
-use Rattle.own_decisions.specs.story_ticks.proofs.Opening.{first_story}
-use Rattle.own_decisions.specs.call_causes.proofs.Run.{ending_story, told_on}
-use Rattle.own_decisions.specs.story_ticks.proofs.RunFacts.{own_leads, run_facts, leadings}
-use Rattle.own_decisions.specs.story_ticks.proofs.Scripts as scripts
-use Rattle.own_decisions.specs.story_ticks.proofs.Ticks.{IsSetUp, story_ticks}
-use Rattle.own_decisions.specs.label_runs.proofs.Loops.{id_back}
+use Rattle.own_decisions.specs.Below.programs_allowed.specs.program_steps.specs.Sound.{IsAhead, AllRest, first_step, views_after, views_along}
+use Rattle.own_decisions.specs.Below.programs_allowed.specs.sock_runs.proofs.Along.{seat_rests, ticked_ahead}
+use Rattle.own_decisions.specs.Below.programs_allowed.specs.sock_runs.proofs.Quiets.{ticked_rests, run_rests}
+use Rattle.own_decisions.specs.Below.programs_allowed.specs.program_walks.proofs.Whole.{views_played, views_closed, set_up_answered, end_answered}
+use Rattle.own_decisions.specs.Below.outcome_causes.proofs.Final.{at_there}
+use Rattle.own_decisions.specs.Below.outcome_ticks.proofs.Ticks.{elem_there}
+use Rattle.own_decisions.specs.Below.joint_runs.proofs.Both.{BothSound, AreBoth, behind_both}
+use Rattle.own_decisions.specs.Below.joint_runs.proofs.Runs.{AreMade, first_views, joint_runs}
+use Rattle.own_decisions.specs.Below.script_facts.proofs.Reading.{InRange}
+use Rattle.own_decisions.specs.Below.script_facts.proofs.Targets.{AreThere}
+use Rattle.own_decisions.specs.Below.call_stories.specs.Lists.{given, advanced_at}
+use Rattle.own_decisions.specs.Below.call_stories.specs.Scenes.{LeadsTo}
+use Rattle.own_decisions.specs.Below.call_stories.specs.Posts.{Post, posted_at}
+use Rattle.own_decisions.specs.Below.call_stories.specs.Stories.{HasStory}
+use Rattle.own_decisions.specs.Below.story_ticks.proofs.Allowing.{allows}
+use Rattle.own_decisions.specs.Below.story_ticks.proofs.Claiming.{HaveSlots}
+use Rattle.own_decisions.specs.Below.call_stories.proofs.Leading.{run_leads}
+use Rattle.own_decisions.specs.Below.story_steps.proofs.Numbered.{AreNumbered}
+use Rattle.own_decisions.specs.Below.story_ticks.proofs.Opening.{first_story}
+use Rattle.own_decisions.specs.Below.call_causes.proofs.Run.{ending_story, told_on}
+use Rattle.own_decisions.specs.Below.story_ticks.proofs.RunFacts.{own_leads, run_facts, leadings}
+use Rattle.own_decisions.specs.Below.story_ticks.proofs.Scripts as scripts
+use Rattle.own_decisions.specs.Below.story_ticks.proofs.Ticks.{IsSetUp, story_ticks}
+use Rattle.own_decisions.specs.Below.label_runs.proofs.Loops.{id_back}
 use Rattle.own_decisions.specs.accept_counts.specs.Counts.{word_of_id, StoresOwn, AreLabelled}
 use Rattle.own_decisions.specs.accept_counts.proofs.Early.{start, go, fitting}
 use Rattle.own_decisions.specs.accept_counts.proofs.Runs.{AreLabelledIn, IsCallOf, asked_by}
@@ -62,8 +62,8 @@ use Rattle.attempted_calls.proofs.EndedNamed.{all_follow, begins_named}
 use Rattle.attempted_calls.proofs.AttemptedCalls.{AreStored}
 use Rattle.attempted_calls.proofs.AttemptedFacts.{IsStoring, IsOwn, facts}
 use Rattle.attempted_calls.proofs.AttemptedOwn.{IsTrueOf, CallLaw, beside, own_ticks}
-use Rattle.own_decisions.specs.programs_allowed.specs.program_walks.proofs.Opening.{mapped}
-use Rattle.own_decisions.specs.joint_runs.proofs.Starts.{narrow}
+use Rattle.own_decisions.specs.Below.programs_allowed.specs.program_walks.proofs.Opening.{mapped}
+use Rattle.own_decisions.specs.Below.joint_runs.proofs.Starts.{narrow}
 
 -- the id that an at word names
 named_id : (id k n w : ℕ) → w ≡ at_word (id_first id) (id_slot id) k n → k < 65535 → n ≤ 6 → id_slot id < 65536 → call_id (at_word_slot w) (at_word_first w) ≡ id

@@ -16,13 +16,13 @@ use Rattle.corr_core.specs.declared.marks.Plan.{Plan as IdPlan}
 use Rattle.corr_core.specs.declared.marks.Hand.TheVariants.{Full}
 use Rattle.corr_core.specs.declared.marks.Token.TheVariants.{Locked}
 use Rattle.seat_programs.specs.id_rule.specs.Lawful.{id_index, tag_index, call_index, at_index, all_words}
-use Rattle.own_decisions.specs.id_runs.specs.Held.{IdView, MayId}
-use Rattle.own_decisions.specs.id_runs.specs.Goes.{SoundIds, FindsId, IdGoesOn}
-use Rattle.own_decisions.specs.id_runs.specs.Goes as goes
-use Rattle.own_decisions.specs.id_runs.proofs.Keeps.{parts_packed}
-use Rattle.own_decisions.specs.id_runs.proofs.Loops.{ids_round}
-use Rattle.own_decisions.specs.id_runs.proofs.Programs.{block_goes}
-use Rattle.own_decisions.specs.id_runs.proofs.Steps.{finds_ids, call_there}
+use Rattle.own_decisions.specs.Below.id_runs.specs.Held.{IdView, MayId}
+use Rattle.own_decisions.specs.Below.id_runs.specs.Goes.{SoundIds, FindsId, IdGoesOn}
+use Rattle.own_decisions.specs.Below.id_runs.specs.Goes as goes
+use Rattle.own_decisions.specs.Below.id_runs.proofs.Keeps.{parts_packed}
+use Rattle.own_decisions.specs.Below.id_runs.proofs.Loops.{ids_round}
+use Rattle.own_decisions.specs.Below.id_runs.proofs.Programs.{block_goes}
+use Rattle.own_decisions.specs.Below.id_runs.proofs.Steps.{finds_ids, call_there}
 use Rattle.sock_message.specs.Asked.{Asked}
 use Rattle.seat_programs.specs.Asides.{Step, Found, ClaimId, PutCall, MakeId, StoreCall, LoadCall, StoreAt, LoadAt, LoadIdWord, LockId, PostId, UnlockId, EndId, FreeId, TakeCall, TakeBytes, Taking, Bytes}
 use Rattle.seat_programs.specs.Beside.{found_in, calls_after, call_at}
@@ -32,8 +32,8 @@ use Rattle.seat_programs.specs.Programs.{Program, TakeMessage, TakeHome, PutByte
 use Rattle.seat_programs.specs.Rounds.{round}
 use Rattle.seat_programs.specs.Sends.{block}
 use Rattle.seat_programs.specs.Ticks.{Answer, OfPut, OfReady, Moment, taken, with_message, with_link, with_put, with_ready, with_found, step_with, tick_with, ticked}
-use Rattle.own_decisions.specs.call_owing.proofs.EndsStill.{view_of}
-use Rattle.own_decisions.specs.call_stories.specs.Lists.{advances_by, called_at, advanced_with, advanced_at}
+use Rattle.own_decisions.specs.Below.call_owing.proofs.EndsStill.{view_of}
+use Rattle.own_decisions.specs.Below.call_stories.specs.Lists.{advances_by, called_at, advanced_with, advanced_at}
 use Rattle.own_decisions.specs.accept_counts.specs.Counts.{word_of_id}
 use Rattle.own_decisions.specs.accept_counts.proofs.Words.{state_fits, small_first}
 

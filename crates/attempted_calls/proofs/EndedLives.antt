@@ -12,20 +12,20 @@ use Rattle.seat_programs.specs.Cores.{Core}
 use Rattle.seat_programs.specs.declared.task.Task.{Task}
 use Rattle.seat_programs.specs.Told.{AreTasks, Made}
 use Rattle.seat_programs.specs.ToldCalls.{Accepted}
-use Rattle.own_decisions.specs.programs_allowed.specs.program_steps.specs.Sound.{Sound, AllRest}
-use Rattle.own_decisions.specs.outcome_stories.specs.Causes.{WasGiven}
-use Rattle.own_decisions.specs.outcome_stories.specs.Kept.{is_of_send, IsSpoken, Story}
-use Rattle.own_decisions.specs.outcome_stories.specs.Stories.{Event, In}
-use Rattle.own_decisions.specs.outcome_stories.proofs.Delivered.{orders_of}
-use Rattle.own_decisions.specs.outcome_causes.proofs.Lives.{World, one_life, given_made}
-use Rattle.own_decisions.specs.outcome_stories.proofs.Members.{all_in}
-use Rattle.own_decisions.specs.outcome_causes.proofs.Messages.{in_of_at, each_made, message_of, number_of}
-use Rattle.own_decisions.specs.outcome_stories.proofs.Senders.{HasSent, all_sent}
+use Rattle.own_decisions.specs.Below.programs_allowed.specs.program_steps.specs.Sound.{Sound, AllRest}
+use Rattle.own_decisions.specs.Below.outcome_stories.specs.Causes.{WasGiven}
+use Rattle.own_decisions.specs.Below.outcome_stories.specs.Kept.{is_of_send, IsSpoken, Story}
+use Rattle.own_decisions.specs.Below.outcome_stories.specs.Stories.{Event, In}
+use Rattle.own_decisions.specs.Below.outcome_stories.proofs.Delivered.{orders_of}
+use Rattle.own_decisions.specs.Below.outcome_causes.proofs.Lives.{World, one_life, given_made}
+use Rattle.own_decisions.specs.Below.outcome_stories.proofs.Members.{all_in}
+use Rattle.own_decisions.specs.Below.outcome_causes.proofs.Messages.{in_of_at, each_made, message_of, number_of}
+use Rattle.own_decisions.specs.Below.outcome_stories.proofs.Senders.{HasSent, all_sent}
 use Rattle.own_decisions.specs.accept_counts.specs.EndedCalls.{Store}
 use Rattle.attempted_calls.proofs.EndedTrails.{Trail}
 use Rattle.attempted_calls.proofs.RefusedNames as lives
 use Rattle.attempted_calls.proofs.EndedNames.{IsNamed, IsOver, EntryOver, StoredFor, NameLaw}
-use Rattle.own_decisions.specs.programs_allowed.specs.program_walks.proofs.Recorded.{either_bool}
+use Rattle.own_decisions.specs.Below.programs_allowed.specs.program_walks.proofs.Recorded.{either_bool}
 
 module _ (p : Plan) (clients : List (List Task)) (are : AreTasks p clients) (c : Core) (vs : List View) (es : List Event) (lost : List ℕ) (sound : Sound p c vs) (story : Story p clients true c vs es lost) (settled : AllRest c) where
   abbrev world : World p clients c.outcomes lost (orders_of p c vs sound.lawful) es

@@ -22,9 +22,9 @@ use Rattle.sock_model.specs.Memory.{IDLE}
 use Rattle.sock_model.specs.SlotRows.{met_link}
 use Rattle.corr_core.specs.declared.marks.Plan.{Plan as IdPlan}
 use Rattle.seat_programs.specs.id_rule.specs.Lawful as ids
-use Rattle.own_decisions.specs.id_runs.specs.Held.{IdView, MayId}
-use Rattle.own_decisions.specs.id_runs.specs.Goes.{FitsRetryId, FitsSock, SoundIds, IsFittingIds}
-use Rattle.own_decisions.specs.id_runs.proofs.Steps.{finds_ids}
+use Rattle.own_decisions.specs.Below.id_runs.specs.Held.{IdView, MayId}
+use Rattle.own_decisions.specs.Below.id_runs.specs.Goes.{FitsRetryId, FitsSock, SoundIds, IsFittingIds}
+use Rattle.own_decisions.specs.Below.id_runs.proofs.Steps.{finds_ids}
 use Rattle.seat_programs.specs.Asides.{Step, Found, ClaimId, PutCall, MakeId, StoreCall, StoreAt, LoadAt, LockId, PostId, UnlockId, EndId, FreeId, TakeCall, TakeBytes, Taking, Bytes, id_slot, id_first}
 use Rattle.sock_message.specs.Asked.{Asked, name_of}
 use Rattle.seat_programs.specs.Beside.{found_in, calls_after, more_given}
@@ -34,27 +34,27 @@ use Rattle.seat_programs.specs.Programs.{Program, Do, Say, Sent, Write, Aside, R
 use Rattle.seat_programs.specs.Cores.{Calls, Core, SeatState, word_of, found_at, words_after, word_after, homes_after, hand_after, resolved, waiting_at, next_step, with_seat, stepped}
 use Rattle.seat_programs.specs.declared.task.Task.{Task}
 use Rattle.seat_programs.specs.Ticks.{Moment, IsAnswered, taken, ticked}
-use Rattle.own_decisions.specs.programs_allowed.specs.program_steps.specs.May.{May}
-use Rattle.own_decisions.specs.programs_allowed.specs.program_steps.specs.Rows.{row, hand_at, new_claim, filled_claim, ready_claim, by_claim, exchanged}
-use Rattle.own_decisions.specs.programs_allowed.specs.program_steps.specs.Sound.{Sound, first_step, views_after}
-use Rattle.own_decisions.specs.programs_allowed.specs.program_steps.proofs.Cases.{with_rights}
-use Rattle.own_decisions.specs.outcome_stories.specs.Causes.{WasGiven}
-use Rattle.own_decisions.specs.outcome_stories.specs.Kept.{Story}
-use Rattle.own_decisions.specs.outcome_stories.specs.Stories.{Event, In, last_name}
-use Rattle.own_decisions.specs.outcome_ticks.proofs.Events.{event, marked_given, given_by, last_some}
-use Rattle.own_decisions.specs.outcome_ticks.proofs.Means.{held_given}
-use Rattle.own_decisions.specs.outcome_stories.proofs.Tests.{split}
-use Rattle.own_decisions.specs.label_runs.specs.Labels.{FindsLabel}
+use Rattle.own_decisions.specs.Below.programs_allowed.specs.program_steps.specs.May.{May}
+use Rattle.own_decisions.specs.Below.programs_allowed.specs.program_steps.specs.Rows.{row, hand_at, new_claim, filled_claim, ready_claim, by_claim, exchanged}
+use Rattle.own_decisions.specs.Below.programs_allowed.specs.program_steps.specs.Sound.{Sound, first_step, views_after}
+use Rattle.own_decisions.specs.Below.programs_allowed.specs.program_steps.proofs.Cases.{with_rights}
+use Rattle.own_decisions.specs.Below.outcome_stories.specs.Causes.{WasGiven}
+use Rattle.own_decisions.specs.Below.outcome_stories.specs.Kept.{Story}
+use Rattle.own_decisions.specs.Below.outcome_stories.specs.Stories.{Event, In, last_name}
+use Rattle.own_decisions.specs.Below.outcome_ticks.proofs.Events.{event, marked_given, given_by, last_some}
+use Rattle.own_decisions.specs.Below.outcome_ticks.proofs.Means.{held_given}
+use Rattle.own_decisions.specs.Below.outcome_stories.proofs.Tests.{split}
+use Rattle.own_decisions.specs.Below.label_runs.specs.Labels.{FindsLabel}
 use Rattle.own_decisions.specs.accept_counts.specs.EndedCalls.{Load, loads_by, loaded_with, loaded_at, Store, stores_by, stored_at}
 use Rattle.own_decisions.specs.accept_counts.proofs.Words.{finds_label, makes_new}
-use Rattle.own_decisions.specs.outcome_stories.proofs.HomeCalls.{AreCalls, PutsAsked, calls_behind}
+use Rattle.own_decisions.specs.Below.outcome_stories.proofs.HomeCalls.{AreCalls, PutsAsked, calls_behind}
 use Rattle.own_decisions.specs.accept_counts.proofs.Ticks.{few_more, few_of, calls_waiting, fits_as, pairs_set}
-use Rattle.own_decisions.specs.story_ticks.proofs.Chains.{AreFewTries as AreTries}
+use Rattle.own_decisions.specs.Below.story_ticks.proofs.Chains.{AreFewTries as AreTries}
 use Rattle.own_decisions.specs.accept_counts.proofs.Views.{row_same}
 use Rattle.attempted_calls.proofs.EndedTrails.{Of, NoCall, Makes, Knows, Trail, lost, Stays, IsAtOf, IsOwnStore, MayAttempt, GoesDo, GoesAside, Follows}
 use Rattle.own_decisions.specs.accept_counts.proofs.SeatFacts.{seat_facts, tick_moves}
 use Rattle.attempted_calls.proofs.EndedPrograms.{follows_round, block_goes, retry_goes}
-use Rattle.own_decisions.specs.script_facts.proofs.Lists.{all_map}
+use Rattle.own_decisions.specs.Below.script_facts.proofs.Lists.{all_map}
 
 -- ## First steps
 

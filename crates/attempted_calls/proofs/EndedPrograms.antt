@@ -19,10 +19,10 @@ use Rattle.seat_programs.specs.Readers.{reader}
 use Rattle.seat_programs.specs.Rounds.{round}
 use Rattle.seat_programs.specs.Sends.{block, accept}
 use Rattle.seat_programs.specs.Writings.{Writing}
-use Rattle.own_decisions.specs.label_runs.specs.Labels.{AtLabel, LeavesLabel, LeavesLock, LeavesUnlock}
-use Rattle.own_decisions.specs.label_runs.proofs.Loops.{id_back, not_equal, is_plain, is_plain_aside, HoldsBehind, Tracks, behind, way, post_goes, decide_goes, decided_goes, round_goes}
-use Rattle.own_decisions.specs.label_runs.proofs.Operations as kept
-use Rattle.own_decisions.specs.label_runs.proofs.Operations.{OpCalls, release_goes, address_goes, accept_goes}
+use Rattle.own_decisions.specs.Below.label_runs.specs.Labels.{AtLabel, LeavesLabel, LeavesLock, LeavesUnlock}
+use Rattle.own_decisions.specs.Below.label_runs.proofs.Loops.{id_back, not_equal, is_plain, is_plain_aside, HoldsBehind, Tracks, behind, way, post_goes, decide_goes, decided_goes, round_goes}
+use Rattle.own_decisions.specs.Below.label_runs.proofs.Operations as kept
+use Rattle.own_decisions.specs.Below.label_runs.proofs.Operations.{OpCalls, release_goes, address_goes, accept_goes}
 use Rattle.attempted_calls.proofs.EndedTrails.{Trail, lost, Stays, NoCall, Makes, Knows, with_link, GoesDo, GoesAside, MayAttempt, Follows}
 
 module _ (is_call : Asked → Type 0) where

@@ -2,14 +2,14 @@
 use Rattle.std.specs.Prelude.{ℕ, ◌≡◌, ◌≢◌, ◌-◌, ◌%◌, ◌<◌, ◌≤◌, ◌⊎◌, Bool, true, false, List, [], ◌∷◌}
 use Rattle.sock_words.specs.Words.{at_word, socket_id_slot, socket_id_version}
 use Rattle.corr_core.specs.Word.{parts}
-use Rattle.own_decisions.specs.id_runs.specs.Goes.{FitsSock}
+use Rattle.own_decisions.specs.Below.id_runs.specs.Goes.{FitsSock}
 use Rattle.sock_message.specs.Asked.{Asked, name_of}
 use Rattle.seat_programs.specs.Asides.{Step, Found, PutCall, MakeId, StoreCall, StoreAt, call_id, id_slot, id_first}
 use Rattle.seat_programs.specs.Calls.{Call, LoadName, FindLink, ClaimRequest, PutMessage}
 use Rattle.seat_programs.specs.Heads.{Head, Exit, Unlocks}
 use Rattle.seat_programs.specs.Programs.{Program, Aside, Round}
-use Rattle.own_decisions.specs.programs_allowed.specs.program_steps.specs.AtSteps.{Asks, AtSteps}
-use Rattle.own_decisions.specs.label_runs.specs.Labels.{FindsLabel, AtLabel, LeavesLabel}
+use Rattle.own_decisions.specs.Below.programs_allowed.specs.program_steps.specs.AtSteps.{Asks, AtSteps}
+use Rattle.own_decisions.specs.Below.label_runs.specs.Labels.{FindsLabel, AtLabel, LeavesLabel}
 
 -- of which call the seat knows the id: none; it made this id, and stores the word of its call next; or that of this operation
 pub data Of : Type 0 where

@@ -12,24 +12,24 @@ use Rattle.seat_programs.specs.declared.task.Task.{Task}
 use Rattle.seat_programs.specs.Programs.{Do}
 use Rattle.seat_programs.specs.Ticks.{Moment, AreAnswered, quiet, ticked, run}
 use Rattle.seat_programs.specs.Told.{AreTasks, Made}
-use Rattle.own_decisions.specs.programs_allowed.specs.program_steps.specs.GoesOn.{GoesOn}
-use Rattle.own_decisions.specs.programs_allowed.specs.program_steps.specs.Sound.{Sound, AllRest, AreFitting, state, views_after, views_along}
-use Rattle.own_decisions.specs.programs_allowed.specs.program_steps.proofs.Cases.{goes_first}
-use Rattle.own_decisions.specs.programs_allowed.specs.sock_runs.proofs.LinkTicks.{RetriesGo}
-use Rattle.own_decisions.specs.programs_allowed.specs.program_steps.proofs.Passes.{goes_round}
-use Rattle.own_decisions.specs.programs_allowed.specs.program_steps.proofs.Rounds.{begins_round}
-use Rattle.own_decisions.specs.programs_allowed.specs.sock_runs.proofs.Ticks.{sound_ticks}
-use Rattle.own_decisions.specs.outcome_stories.specs.Causes.{Asks}
-use Rattle.own_decisions.specs.outcome_stories.specs.Explains.{step}
-use Rattle.own_decisions.specs.outcome_stories.specs.Kept.{Story}
-use Rattle.own_decisions.specs.outcome_stories.specs.Stories.{Event, In, trace_of}
-use Rattle.own_decisions.specs.outcome_stories.proofs.Delivered.{orders_of}
-use Rattle.own_decisions.specs.outcome_ticks.proofs.Events.{event, cause_of, given_by, last_some}
-use Rattle.own_decisions.specs.outcome_causes.proofs.Final.{final}
-use Rattle.own_decisions.specs.outcome_causes.proofs.Lives.{World, task_of, tells_of}
-use Rattle.own_decisions.specs.outcome_stories.proofs.Members.{from_trace, to_trace}
-use Rattle.own_decisions.specs.outcome_ticks.proofs.Ticks.{elem_there, tick_story}
-use Rattle.own_decisions.specs.outcome_causes.proofs.Worlds.{world_of}
+use Rattle.own_decisions.specs.Below.programs_allowed.specs.program_steps.specs.GoesOn.{GoesOn}
+use Rattle.own_decisions.specs.Below.programs_allowed.specs.program_steps.specs.Sound.{Sound, AllRest, AreFitting, state, views_after, views_along}
+use Rattle.own_decisions.specs.Below.programs_allowed.specs.program_steps.proofs.Cases.{goes_first}
+use Rattle.own_decisions.specs.Below.programs_allowed.specs.sock_runs.proofs.LinkTicks.{RetriesGo}
+use Rattle.own_decisions.specs.Below.programs_allowed.specs.program_steps.proofs.Passes.{goes_round}
+use Rattle.own_decisions.specs.Below.programs_allowed.specs.program_steps.proofs.Rounds.{begins_round}
+use Rattle.own_decisions.specs.Below.programs_allowed.specs.sock_runs.proofs.Ticks.{sound_ticks}
+use Rattle.own_decisions.specs.Below.outcome_stories.specs.Causes.{Asks}
+use Rattle.own_decisions.specs.Below.outcome_stories.specs.Explains.{step}
+use Rattle.own_decisions.specs.Below.outcome_stories.specs.Kept.{Story}
+use Rattle.own_decisions.specs.Below.outcome_stories.specs.Stories.{Event, In, trace_of}
+use Rattle.own_decisions.specs.Below.outcome_stories.proofs.Delivered.{orders_of}
+use Rattle.own_decisions.specs.Below.outcome_ticks.proofs.Events.{event, cause_of, given_by, last_some}
+use Rattle.own_decisions.specs.Below.outcome_causes.proofs.Final.{final}
+use Rattle.own_decisions.specs.Below.outcome_causes.proofs.Lives.{World, task_of, tells_of}
+use Rattle.own_decisions.specs.Below.outcome_stories.proofs.Members.{from_trace, to_trace}
+use Rattle.own_decisions.specs.Below.outcome_ticks.proofs.Ticks.{elem_there, tick_story}
+use Rattle.own_decisions.specs.Below.outcome_causes.proofs.Worlds.{world_of}
 use Rattle.own_decisions.specs.accept_counts.specs.Refused.{Deed, DidStep, DidAt, DidIn}
 
 -- ## What was found under names

@@ -23,12 +23,12 @@ use Rattle.seat_programs.specs.Tasks.{plan_of}
 use Rattle.seat_programs.specs.ToldCalls.{Fixed}
 use Rattle.script_threads.specs.script_parts.specs.script_facts.proofs.Lists.{within, has_from, has_none}
 use Rattle.script_threads.specs.script_parts.specs.report_fits.proofs.Places.{lateness}
-use Rattle.calls_over.specs.run_theorems.specs.Heard.{as_told, as_taken, take_answers, heard_of, heard_takes}
-use Rattle.calls_over.specs.run_theorems.specs.Unserved.{IsInTime}
-use Rattle.calls_over.specs.run_theorems.proofs.HeardRuns.{one_text_told}
-use Rattle.calls_over.specs.run_theorems.proofs.Gave.{same_takes}
-use Rattle.calls_over.specs.run_theorems.proofs.Lengths.{ended_length}
-use Rattle.calls_over.specs.run_theorems.proofs.Starts.{made}
+use Rattle.calls_over.specs.Below.run_theorems.specs.Heard.{as_told, as_taken, take_answers, heard_of, heard_takes}
+use Rattle.calls_over.specs.Below.run_theorems.specs.Unserved.{IsInTime}
+use Rattle.calls_over.specs.Below.run_theorems.proofs.HeardRuns.{one_text_told}
+use Rattle.calls_over.specs.Below.run_theorems.proofs.Gave.{same_takes}
+use Rattle.calls_over.specs.Below.run_theorems.proofs.Lengths.{ended_length}
+use Rattle.calls_over.specs.Below.run_theorems.proofs.Starts.{made}
 use Rattle.offered_runs.specs.served_runs.specs.Offered.{OffersInRun}
 use Rattle.calls_over.specs.served_calls.specs.Quiet.{AreShown}
 use Rattle.calls_over.specs.served_fits.specs.Shown.{AreSo, TellTook}

@@ -31,8 +31,8 @@ use Rattle.script_threads.specs.script_parts.specs.report_fits.proofs.Lives as l
 use Rattle.script_threads.specs.script_parts.specs.report_fits.proofs.Causes as causes
 use Rattle.script_threads.specs.script_parts.specs.report_fits.proofs.Fitting.{fits_run}
 use Rattle.script_threads.specs.script_parts.specs.report_fits.proofs.Places.{lateness, known_of}
-use Rattle.calls_over.specs.run_theorems.specs.Unserved.{IsInTime}
-use Rattle.calls_over.specs.run_theorems.proofs.Runs.{not_early}
+use Rattle.calls_over.specs.Below.run_theorems.specs.Unserved.{IsInTime}
+use Rattle.calls_over.specs.Below.run_theorems.proofs.Runs.{not_early}
 
 -- ## Links without a server
 

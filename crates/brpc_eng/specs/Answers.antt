@@ -25,7 +25,7 @@ use Rattle.frame_print.specs.declared.print.PrintFault.{PrintFault}
 use Rattle.frame_print.specs.declared.print.PrintFault.TheVariants as fault_
 use Rattle.seat_programs.specs.Cores.{Core}
 use Rattle.seat_programs.specs.Scripts.{IsRunWithCalls, is_callless, drawn_turns}
-use Rattle.calls_over.specs.run_theorems.specs.Heard.{as_told, heard_of, heard_takes}
+use Rattle.calls_over.specs.Below.run_theorems.specs.Heard.{as_told, heard_of, heard_takes}
 use Rattle.sock_io.specs.declared.link.LinkSpec.{LinkSpec}
 use Rattle.sock_io.specs.declared.link.Mode.{Mode}
 use Rattle.sock_io.specs.declared.link.Mode.TheVariants as modes

@@ -13,9 +13,9 @@ use Rattle.seat_programs.specs.Beside.{found_in, calls_after}
 use Rattle.seat_programs.specs.Posts.{packed}
 use Rattle.seat_programs.specs.Programs.{Program, Aside}
 use Rattle.seat_programs.specs.Cores.{Core}
-use Rattle.story_ticks.specs.id_runs.specs.Held.{IdView}
-use Rattle.story_ticks.specs.id_runs.specs.Goes.{IdGoesOn, SoundIds}
-use Rattle.story_ticks.specs.id_runs.proofs.Keeps.{parts_packed}
+use Rattle.story_ticks.specs.Below.id_runs.specs.Held.{IdView}
+use Rattle.story_ticks.specs.Below.id_runs.specs.Goes.{IdGoesOn, SoundIds}
+use Rattle.story_ticks.specs.Below.id_runs.proofs.Keeps.{parts_packed}
 use Rattle.story_ticks.specs.call_stories.specs.Lists.{advances_by}
 use Rattle.story_ticks.specs.call_stories.specs.Posts.{posts_by}
 use Rattle.story_ticks.specs.call_stories.specs.Scenes.{Scene}

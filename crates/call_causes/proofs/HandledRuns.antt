@@ -13,14 +13,14 @@ use Rattle.seat_programs.specs.Programs.{Program, Write, Round}
 use Rattle.seat_programs.specs.Cores.{Core, SeatState}
 use Rattle.seat_programs.specs.Ticks.{Moment, quiet, ticked, run}
 use Rattle.seat_programs.specs.Runs.{IsAtRest}
-use Rattle.story_ticks.specs.programs_allowed.specs.program_steps.specs.Sound.{IsAhead, first_step, views_after}
-use Rattle.story_ticks.specs.programs_allowed.specs.sock_runs.proofs.Along.{seat_rests, ticked_ahead}
-use Rattle.story_ticks.specs.programs_allowed.specs.sock_runs.proofs.Quiets.{ticked_rests}
-use Rattle.story_ticks.specs.joint_runs.proofs.Both.{BothSound, AreBoth}
-use Rattle.story_ticks.specs.id_runs.specs.Held.{IdView}
-use Rattle.story_ticks.specs.id_runs.specs.Goes.{IdGoesOn, SoundIds}
-use Rattle.story_ticks.specs.id_runs.proofs.Loops.{ids_round}
-use Rattle.story_ticks.specs.id_runs.proofs.Programs.{block_goes}
+use Rattle.story_ticks.specs.Below.programs_allowed.specs.program_steps.specs.Sound.{IsAhead, first_step, views_after}
+use Rattle.story_ticks.specs.Below.programs_allowed.specs.sock_runs.proofs.Along.{seat_rests, ticked_ahead}
+use Rattle.story_ticks.specs.Below.programs_allowed.specs.sock_runs.proofs.Quiets.{ticked_rests}
+use Rattle.story_ticks.specs.Below.joint_runs.proofs.Both.{BothSound, AreBoth}
+use Rattle.story_ticks.specs.Below.id_runs.specs.Held.{IdView}
+use Rattle.story_ticks.specs.Below.id_runs.specs.Goes.{IdGoesOn, SoundIds}
+use Rattle.story_ticks.specs.Below.id_runs.proofs.Loops.{ids_round}
+use Rattle.story_ticks.specs.Below.id_runs.proofs.Programs.{block_goes}
 use Rattle.story_ticks.specs.call_stories.specs.Lists.{soon_at, shows_in, advanced_at}
 use Rattle.story_ticks.specs.call_stories.specs.Posts.{Post, posted_at}
 use Rattle.story_ticks.specs.call_stories.specs.Decided.{posted_by, Decision, decision_in, decided_at, decided_by}

@@ -13,7 +13,7 @@ use Rattle.seat_programs.specs.Posts.{WHOLE, packed, advance_of, is_final, is_fi
 use Rattle.seat_programs.specs.Readers.{LIMIT, ending_of, slot_in, answer, discarded, kept_for, ends_with, posted_last, post_each, thrown_away, read}
 use Rattle.seat_programs.specs.Rounds.{round}
 use Rattle.seat_programs.specs.Cores.{resolved, next_step}
-use Rattle.story_ticks.specs.programs_allowed.specs.program_steps.specs.Sound.{first_step}
+use Rattle.story_ticks.specs.Below.programs_allowed.specs.program_steps.specs.Sound.{first_step}
 
 -- ## Behind the end of a reading
 

@@ -16,7 +16,7 @@ use Rattle.seat_programs.specs.brpc_model.specs.Frame.{Frame}
 use Rattle.corr_core.specs.Word.{parts}
 use Rattle.corr_core.specs.declared.marks.Plan.{Plan as IdPlan}
 use Rattle.seat_programs.specs.id_rule.specs.Lawful.{id_index}
-use Rattle.story_ticks.specs.joint_runs.specs.sock_steps.proofs.Quiet.{either_way}
+use Rattle.story_ticks.specs.Below.joint_runs.specs.Below.sock_steps.proofs.Quiet.{either_way}
 use Rattle.seat_programs.specs.Asides.{Step, TakeBytes, Taking, Bytes, Nothing, NoMore, AtEnd, Closed, Broken, Found, id_slot, id_first}
 use Rattle.seat_programs.specs.Heads.{Exit, Retry, Decides, Locks}
 use Rattle.seat_programs.specs.Programs.{Program, Do, TakeMessage, TakeHome, PutHome, PutBytes, AskReady, Write, Aside, Round}
@@ -28,7 +28,7 @@ use Rattle.seat_programs.specs.Beside.{found_in, calls_after}
 use Rattle.seat_programs.specs.Readers.{has_response, slot_in, version_in, is_early}
 use Rattle.seat_programs.specs.Cores.{Core, SeatState, word_of, found_at, words_after, word_after, homes_after, hand_after, lies_at, first_of, others_of, link_place, resolved, waiting_at, next_step, with_seat}
 use Rattle.seat_programs.specs.Ticks.{Answer, OfPut, OfReady, Moment, fed, with_places, onto_first, taken, with_message, with_link, with_put, with_ready, with_found, step_with, tick_with, ticked}
-use Rattle.story_ticks.specs.programs_allowed.specs.program_steps.specs.Sound.{first_step}
+use Rattle.story_ticks.specs.Below.programs_allowed.specs.program_steps.specs.Sound.{first_step}
 use Rattle.story_ticks.specs.call_stories.specs.Lists.{Take, taken_link, takes_by, takes_at, given, is_soon, soon_from, soon_by, soon_at}
 use Rattle.story_ticks.specs.call_stories.specs.Scenes.{In}
 use Rattle.story_ticks.specs.story_steps.proofs.Attempts.{in_behind}

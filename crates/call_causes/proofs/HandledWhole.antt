@@ -8,13 +8,13 @@ use Rattle.atomic_table.proofs.Lists.{at_set}
 use Rattle.seat_programs.specs.brpc_model.specs.Items.{Item}
 use Rattle.seat_programs.specs.brpc_model.specs.Operations.{Turn}
 use Rattle.seat_programs.specs.brpc_model.specs.Frame.{Frame}
-use Rattle.story_ticks.specs.joint_runs.specs.chain_steps.proofs.Lists.{at_some}
+use Rattle.story_ticks.specs.Below.joint_runs.specs.Below.chain_steps.proofs.Lists.{at_some}
 use Rattle.sock_words.specs.declared.outcome.Outcome.TheVariants as outcomes
 use Rattle.sock_message.specs.Asked.{Asked}
 use Rattle.seat_programs.specs.declared.task.Op.TheVariants as ops
 use Rattle.seat_programs.specs.declared.task.Task.{Task}
 use Rattle.seat_programs.specs.Told.{IsTask, Became}
-use Rattle.story_ticks.specs.call_owing.specs.Lives.{ClosesInRun}
+use Rattle.story_ticks.specs.Below.call_owing.specs.Lives.{ClosesInRun}
 use Rattle.seat_programs.specs.Asides.{id_slot, id_first}
 use Rattle.seat_programs.specs.Clients.{ending_of, client_from}
 use Rattle.seat_programs.specs.Programs.{Program}
@@ -23,15 +23,15 @@ use Rattle.seat_programs.specs.Cores.{Core, SeatState, resolved, waiting_at, nex
 use Rattle.seat_programs.specs.Ticks.{Moment, run}
 use Rattle.seat_programs.specs.Tasks.{opens, calls, plan_of, id_plan_of}
 use Rattle.seat_programs.specs.Scripts.{sizes_of, programs, all_tasks, opened, ending, set_up, played, is_ending, IsRunWithCalls}
-use Rattle.story_ticks.specs.programs_allowed.specs.program_walks.proofs.OpensStay.{readers_begin}
-use Rattle.story_ticks.specs.programs_allowed.specs.program_walks.proofs.Whole.{views_played, views_closed, views_ended}
-use Rattle.story_ticks.specs.programs_allowed.proofs.Beginning as clients_begin
-use Rattle.story_ticks.specs.id_runs.specs.Held.{IdView}
-use Rattle.story_ticks.specs.id_runs.specs.Goes.{SoundIds}
-use Rattle.story_ticks.specs.joint_runs.proofs.Both.{BothSound}
-use Rattle.story_ticks.specs.joint_runs.proofs.Runs.{AreMade, first_views, joint_runs}
-use Rattle.story_ticks.specs.call_owing.specs.script_facts.proofs.Reading.{InRange}
-use Rattle.story_ticks.specs.call_owing.specs.script_facts.proofs.Targets.{AreThere}
+use Rattle.story_ticks.specs.Below.programs_allowed.specs.program_walks.proofs.OpensStay.{readers_begin}
+use Rattle.story_ticks.specs.Below.programs_allowed.specs.program_walks.proofs.Whole.{views_played, views_closed, views_ended}
+use Rattle.story_ticks.specs.Below.programs_allowed.proofs.Beginning as clients_begin
+use Rattle.story_ticks.specs.Below.id_runs.specs.Held.{IdView}
+use Rattle.story_ticks.specs.Below.id_runs.specs.Goes.{SoundIds}
+use Rattle.story_ticks.specs.Below.joint_runs.proofs.Both.{BothSound}
+use Rattle.story_ticks.specs.Below.joint_runs.proofs.Runs.{AreMade, first_views, joint_runs}
+use Rattle.story_ticks.specs.Below.call_owing.specs.Below.script_facts.proofs.Reading.{InRange}
+use Rattle.story_ticks.specs.Below.call_owing.specs.Below.script_facts.proofs.Targets.{AreThere}
 use Rattle.story_ticks.specs.call_stories.specs.Lists.{advanced_at, given, soon_at, shows_in, shows_in_run, soon_of_run}
 use Rattle.story_ticks.specs.call_stories.specs.Posts.{Post, posted_at}
 use Rattle.story_ticks.specs.call_stories.specs.Decided.{posted_by, Decision, decided_by, posted_behind, late_in}

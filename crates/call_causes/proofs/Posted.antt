@@ -18,10 +18,10 @@ use Rattle.seat_programs.specs.Tasks.{plan_of, id_plan_of}
 use Rattle.seat_programs.specs.Told.{TaskFits, OpFits, IsTask, Became}
 use Rattle.seat_programs.specs.ToldCalls.{Fixed, Order, ShowsId}
 use Rattle.seat_programs.specs.Scripts.{all_tasks, IsRunWithCalls}
-use Rattle.story_ticks.specs.joint_runs.proofs.Runs.{AreMade}
-use Rattle.story_ticks.specs.call_owing.specs.script_facts.proofs.Reading.{InRange}
-use Rattle.story_ticks.specs.call_owing.specs.script_facts.proofs.Targets.{AreThere}
-use Rattle.story_ticks.specs.call_owing.specs.Lives.{ClosesInRun}
+use Rattle.story_ticks.specs.Below.joint_runs.proofs.Runs.{AreMade}
+use Rattle.story_ticks.specs.Below.call_owing.specs.Below.script_facts.proofs.Reading.{InRange}
+use Rattle.story_ticks.specs.Below.call_owing.specs.Below.script_facts.proofs.Targets.{AreThere}
+use Rattle.story_ticks.specs.Below.call_owing.specs.Lives.{ClosesInRun}
 use Rattle.story_ticks.specs.call_stories.specs.Lists.{given, times, shows_in_run, attempts_of_run}
 use Rattle.story_ticks.specs.call_stories.specs.Posts.{Post, posts_of_run}
 use Rattle.story_ticks.specs.call_stories.specs.Decided.{Decision, decided_by}

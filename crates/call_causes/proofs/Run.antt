@@ -16,13 +16,13 @@ use Rattle.seat_programs.specs.Ticks.{Moment, quiet, ticked, run}
 use Rattle.seat_programs.specs.Runs.{IsAtRest}
 use Rattle.seat_programs.specs.Tasks.{opens, calls, plan_of, id_plan_of}
 use Rattle.seat_programs.specs.Scripts.{sizes_of, programs, readers_from, all_programs, all_tasks, opened, ending, set_up, played, is_ending, IsRunWithCalls}
-use Rattle.story_ticks.specs.programs_allowed.specs.program_steps.specs.Sound.{IsAhead, views_after, views_along}
-use Rattle.story_ticks.specs.programs_allowed.specs.sock_runs.proofs.Along.{seat_rests, ticked_ahead}
-use Rattle.story_ticks.specs.programs_allowed.specs.sock_runs.proofs.Quiets.{ticked_rests, run_rests}
-use Rattle.story_ticks.specs.programs_allowed.specs.program_walks.proofs.Whole.{views_played, views_closed}
-use Rattle.story_ticks.specs.joint_runs.proofs.Both.{BothSound, AreBoth, behind_both}
-use Rattle.story_ticks.specs.joint_runs.proofs.Runs.{AreMade, first_views, IsSoundRun, joint_runs}
-use Rattle.story_ticks.specs.joint_runs.proofs.Starts.{narrow}
+use Rattle.story_ticks.specs.Below.programs_allowed.specs.program_steps.specs.Sound.{IsAhead, views_after, views_along}
+use Rattle.story_ticks.specs.Below.programs_allowed.specs.sock_runs.proofs.Along.{seat_rests, ticked_ahead}
+use Rattle.story_ticks.specs.Below.programs_allowed.specs.sock_runs.proofs.Quiets.{ticked_rests, run_rests}
+use Rattle.story_ticks.specs.Below.programs_allowed.specs.program_walks.proofs.Whole.{views_played, views_closed}
+use Rattle.story_ticks.specs.Below.joint_runs.proofs.Both.{BothSound, AreBoth, behind_both}
+use Rattle.story_ticks.specs.Below.joint_runs.proofs.Runs.{AreMade, first_views, IsSoundRun, joint_runs}
+use Rattle.story_ticks.specs.Below.joint_runs.proofs.Starts.{narrow}
 use Rattle.story_ticks.specs.call_stories.specs.Lists.{times, advanced_at, shows_in, shows_in_run, attempts_of_run}
 use Rattle.story_ticks.specs.call_stories.specs.Posts.{Post, posted_at, posts_of_run}
 use Rattle.story_ticks.specs.call_stories.specs.Decided.{Decision, decided_at}
@@ -69,7 +69,7 @@ module _ (p : Plan) (q : IdPlan) (clients : List (List Task)) (gives : ℕ → L
   retold : (ds es : List Decision) (x y : List Post) (a b : List ℕ) (c : Core) → ds ≡ es → x ≡ y → ((o : ℕ) → times o a ≡ times o b) → Told ds x a c → Told es y b c
   retold ds es x y a b c on are same h = ((h.0.0, h.0.1, h.0.2, (λ z there. subst (In z) are (h.0.3 z there)), λ o. h.0.4 o ∙ same o), λ d there. subst (In d) on (h.1 d there))
 
-  told_tick : (decided : List Decision) (posted : List Post) (shown : List ℕ) (c : Core) (vs : List View) (m : Moment) → BothSound p q c vs → Rattle.story_ticks.specs.joint_runs.proofs.Both.FitsBoth p c m → (m.seat ≢ 0 → (seat : SeatState) → get_elem? c.seats 0 ≡ some seat → seat.program ≡ Rattle.seat_programs.specs.Programs.Rest) → LeadsTo p q clients gives (ticked p c m) → Told decided posted shown c
+  told_tick : (decided : List Decision) (posted : List Post) (shown : List ℕ) (c : Core) (vs : List View) (m : Moment) → BothSound p q c vs → Rattle.story_ticks.specs.Below.joint_runs.proofs.Both.FitsBoth p c m → (m.seat ≢ 0 → (seat : SeatState) → get_elem? c.seats 0 ≡ some seat → seat.program ≡ Rattle.seat_programs.specs.Programs.Rest) → LeadsTo p q clients gives (ticked p c m) → Told decided posted shown c
       → Told (decided ++ decided_at c m) (posted ++ posted_at c m) (shown ++ advanced_at c m) (ticked p c m)
   told_tick decided posted shown c vs m both fits over lead t =
       let h = t.0 in
@@ -84,7 +84,7 @@ module _ (p : Plan) (q : IdPlan) (clients : List (List Task)) (gives : ℕ → L
         λ d there. ⊎_elim (λ new. in_behind d decided (decided_at c m) new) (λ old. in_front d decided (decided_at c m) (t.1 d old)) (in_either d (decided_at c m) h.2.scene.decisions (subst (In d) k.shown_decisions there)),
       )
 
-  pub one_tick : (posted : List Post) (shown : List ℕ) (c : Core) (vs : List View) (m : Moment) → BothSound p q c vs → Rattle.story_ticks.specs.joint_runs.proofs.Both.FitsBoth p c m → (m.seat ≢ 0 → (seat : SeatState) → get_elem? c.seats 0 ≡ some seat → seat.program ≡ Rattle.seat_programs.specs.Programs.Rest) → LeadsTo p q clients gives (ticked p c m) → Story posted shown c → Story (posted ++ posted_at c m) (shown ++ advanced_at c m) (ticked p c m)
+  pub one_tick : (posted : List Post) (shown : List ℕ) (c : Core) (vs : List View) (m : Moment) → BothSound p q c vs → Rattle.story_ticks.specs.Below.joint_runs.proofs.Both.FitsBoth p c m → (m.seat ≢ 0 → (seat : SeatState) → get_elem? c.seats 0 ≡ some seat → seat.program ≡ Rattle.seat_programs.specs.Programs.Rest) → LeadsTo p q clients gives (ticked p c m) → Story posted shown c → Story (posted ++ posted_at c m) (shown ++ advanced_at c m) (ticked p c m)
   one_tick posted shown c vs m both fits over lead h = (told_tick h.2.scene.decisions posted shown c vs m both fits over lead (h, λ d there. there)).0
 
   -- ticks of seat 0

@@ -12,13 +12,13 @@ use Rattle.seat_programs.specs.declared.task.Op.TheVariants as ops
 use Rattle.seat_programs.specs.Tasks.{plan_of, id_plan_of}
 use Rattle.seat_programs.specs.Scripts.{all_tasks, IsRunWithCalls}
 use Rattle.seat_programs.specs.ToldCalls.{Fixed, Order}
-use Rattle.story_ticks.specs.programs_allowed.specs.program_steps.specs.Sound.{AllRest}
-use Rattle.story_ticks.specs.outcome_stories.specs.Facts.{Seeks, CallsFoundNone}
-use Rattle.story_ticks.specs.joint_runs.proofs.Runs.{AreMade}
-use Rattle.story_ticks.specs.call_owing.specs.script_facts.proofs.Reading.{InRange}
-use Rattle.story_ticks.specs.call_owing.specs.script_facts.proofs.Targets.{AreThere}
-use Rattle.story_ticks.specs.call_owing.specs.Lives.{ClosesInRun}
-use Rattle.story_ticks.specs.owed_calls.proofs.Known.{run_all_ended, run_all_rest}
+use Rattle.story_ticks.specs.Below.programs_allowed.specs.program_steps.specs.Sound.{AllRest}
+use Rattle.story_ticks.specs.Below.outcome_stories.specs.Facts.{Seeks, CallsFoundNone}
+use Rattle.story_ticks.specs.Below.joint_runs.proofs.Runs.{AreMade}
+use Rattle.story_ticks.specs.Below.call_owing.specs.Below.script_facts.proofs.Reading.{InRange}
+use Rattle.story_ticks.specs.Below.call_owing.specs.Below.script_facts.proofs.Targets.{AreThere}
+use Rattle.story_ticks.specs.Below.call_owing.specs.Lives.{ClosesInRun}
+use Rattle.story_ticks.specs.Below.owed_calls.proofs.Known.{run_all_ended, run_all_rest}
 use Rattle.story_ticks.specs.call_stories.specs.Lists.{given, times, shows_in_run, attempts_of_run}
 use Rattle.story_ticks.specs.call_stories.specs.Target.{ToldOnCallsInPart}
 use Rattle.story_ticks.specs.call_stories.specs.Posts.{Post, posts_of_run}

@@ -1,11 +1,4 @@
-pub use Rattle.story_ticks.specs.programs_allowed
-pub use Rattle.story_ticks.specs.joint_runs
-pub use Rattle.story_ticks.specs.call_owing
-pub use Rattle.story_ticks.specs.owing_ticks
-pub use Rattle.story_ticks.specs.owned_ids
-pub use Rattle.story_ticks.specs.owed_calls
-pub use Rattle.story_ticks.specs.outcome_stories
-pub use Rattle.story_ticks.specs.id_runs
 pub use Rattle.story_ticks.specs.call_stories
 pub use Rattle.story_ticks.specs.story_steps
 pub use Rattle.story_ticks
+pub use Rattle.story_ticks.specs.Below

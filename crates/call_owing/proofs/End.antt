@@ -10,8 +10,8 @@ use Rattle.seat_programs.specs.id_rule.specs.Lawful.{local, tokens_in, tokens_of
 use Rattle.seat_programs.specs.Asides.{call_id, id_slot, id_first}
 use Rattle.seat_programs.specs.Programs.{Rest}
 use Rattle.seat_programs.specs.Cores.{Core}
-use Rattle.joint_runs.specs.id_runs.specs.Held.{IdView, id_state}
-use Rattle.joint_runs.specs.id_runs.specs.Goes.{IdGoesOn, SoundIds}
+use Rattle.joint_runs.specs.Below.id_runs.specs.Held.{IdView, id_state}
+use Rattle.joint_runs.specs.Below.id_runs.specs.Goes.{IdGoesOn, SoundIds}
 use Rattle.call_owing.specs.Owing.{Duty, Owing, InList, DutyTo, Among}
 use Rattle.call_owing.specs.Owes.{OwesOn}
 use Rattle.call_owing.specs.Sound.{id_word_of, Owed, by_seat, by_retry, by_reader, SoundOwing, AllRest, retry_tokens}

@@ -20,8 +20,8 @@ use Rattle.seat_programs.specs.Cores.{Calls, Core, SeatState}
 use Rattle.seat_programs.specs.Ticks.{Answer, Unasked, Moment, seats_of, taken, with_message, with_link, with_found, step_with, tick_with, ticked, run, waits, IsAlwaysReady}
 use Rattle.seat_programs.specs.Runs.{kind_in, IsAtRest, from_to}
 use Rattle.seat_programs.specs.Scripts.{AreStill}
-use Rattle.joint_runs.specs.program_steps.specs.Sound.{first_step}
-use Rattle.joint_runs.specs.sock_runs.proofs.Waiting.{still}
+use Rattle.joint_runs.specs.Below.program_steps.specs.Sound.{first_step}
+use Rattle.joint_runs.specs.Below.sock_runs.proofs.Waiting.{still}
 
 -- ## The run stays one that is ending
 

@@ -8,11 +8,11 @@ use Rattle.seat_programs.specs.Heads.{Retry, Posts, Unlocks, Decides, Posting, W
 use Rattle.seat_programs.specs.Programs.{Program, Aside, Round}
 use Rattle.seat_programs.specs.Posts.{packed, advance_of, is_first, is_stale, is_full, judged, posted, post_with, post, popped, end_id, ends_call, is_final, decide, decided, unlocked}
 use Rattle.seat_programs.specs.Rounds.{round}
-use Rattle.joint_runs.specs.id_runs.proofs.Keeps.{parts_packed}
+use Rattle.joint_runs.specs.Below.id_runs.proofs.Keeps.{parts_packed}
 use Rattle.call_owing.specs.Owing.{Duty, Free, Trying, Linked, Looking, Telling, Owing, Among, IsOpenAt, with_duty, freed, with_known, with_error, unlocked_by, KnowsError, FindsUnlock}
 use Rattle.call_owing.specs.Owing as owing
 use Rattle.call_owing.specs.Owes.{Further, PostsOwn, IsDue, MayDecide, MayAdvance, AtOwe, LeavesUnlocks, LeavesPosts, OwesOn}
-pub use Rattle.joint_runs.specs.id_runs.proofs.Loops.{not_true, not_equal, and_left, and_right}
+pub use Rattle.joint_runs.specs.Below.id_runs.proofs.Loops.{not_true, not_equal, and_left, and_right}
 
 -- ## Numbers and truth values
 

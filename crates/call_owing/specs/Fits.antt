@@ -13,7 +13,7 @@ use Rattle.seat_programs.specs.Asides.{StoreAt, TakeBytes, Closed, call_id}
 use Rattle.seat_programs.specs.Programs.{Program, Do, PutHome, Aside}
 use Rattle.seat_programs.specs.Cores.{Core, SeatState, word_of, word_after, found_at, words_after, first_of}
 use Rattle.seat_programs.specs.Ticks.{Answer, Moment, taken}
-use Rattle.joint_runs.specs.id_runs.specs.Goes as goes
+use Rattle.joint_runs.specs.Below.id_runs.specs.Goes as goes
 use Rattle.call_owing.specs.Owing.{Linked, Owing, InList, FindsCall}
 use Rattle.call_owing.specs.Sound.{at_of, FailedIn}
 

@@ -6,10 +6,4 @@ pub mod Settled
 pub mod Lives
 pub mod Owns
 pub mod Takes
-pub use Rattle.joint_runs.specs.chain_steps
-pub use Rattle.joint_runs.specs.programs_allowed
-pub use Rattle.joint_runs.specs.id_runs
-pub use Rattle.joint_runs
-pub use Rattle.report_fits.specs.script_facts
-pub use Rattle.report_fits
-pub use Rattle.joint_runs.specs.sock_steps
+pub mod Below

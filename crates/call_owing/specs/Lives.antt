@@ -16,9 +16,9 @@ use Rattle.seat_programs.specs.Asides.{StoreAt, TakeBytes, Closed, call_id}
 use Rattle.seat_programs.specs.Programs.{Program, Aside, NO_SOCKET}
 use Rattle.seat_programs.specs.Cores.{Core, SeatState, link_place}
 use Rattle.seat_programs.specs.Ticks.{Answer, Moment, taken, ticked}
-use Rattle.joint_runs.specs.id_runs.specs.Held.{IdView}
-use Rattle.joint_runs.specs.id_runs.specs.Goes.{SoundIds}
-use Rattle.joint_runs.specs.id_runs.specs.Goes as goes
+use Rattle.joint_runs.specs.Below.id_runs.specs.Held.{IdView}
+use Rattle.joint_runs.specs.Below.id_runs.specs.Goes.{SoundIds}
+use Rattle.joint_runs.specs.Below.id_runs.specs.Goes as goes
 use Rattle.call_owing.specs.Owing.{Linked, Owing, InList}
 use Rattle.call_owing.specs.Sound.{at_of, FailedIn, SoundOwing}
 

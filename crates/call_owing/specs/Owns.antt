@@ -13,7 +13,7 @@ use Rattle.seat_programs.specs.Asides.{Step, ClaimId, PutCall, MakeId, StoreAt, 
 use Rattle.seat_programs.specs.Heads.{Head, Exit, Sought, First, Posts, Unlocks, Decides, Locks, HasLocked, Posting, Unlocking, HasNext, Locking, Has}
 use Rattle.seat_programs.specs.Programs.{Program, Do, Say, Sent, Rest, TakeMessage, TakeHome, PutHome, PutBytes, AskReady, Write, Aside, Round, Keep, Retries}
 use Rattle.seat_programs.specs.Cores.{Core, SeatState}
-use Rattle.joint_runs.specs.id_runs.specs.Goes.{FitsSock}
+use Rattle.joint_runs.specs.Below.id_runs.specs.Goes.{FitsSock}
 use Rattle.call_owing.specs.Owing.{InList}
 use Rattle.call_owing.specs.Sound.{id_word_of, at_of}
 

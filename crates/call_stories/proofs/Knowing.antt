@@ -13,9 +13,9 @@ use Rattle.seat_programs.specs.declared.task.Task.{Task}
 use Rattle.seat_programs.specs.Asides.{Step, ClaimId, MakeId, StoreCall, LoadCall, LoadAt, LoadIdWord, LockId, PostId, UnlockId, EndId, TakeCall, TakeBytes, Taking, Found}
 use Rattle.seat_programs.specs.Posts.{advance_of}
 use Rattle.seat_programs.specs.Beside.{found_in, call_at}
-use Rattle.owed_calls.specs.id_runs.specs.Held.{IdView, id_state, MayId}
-use Rattle.owed_calls.specs.id_runs.specs.Goes.{FindsId, SoundIds}
-use Rattle.owed_calls.specs.id_runs.proofs.Steps.{finds_ids, call_there}
+use Rattle.owed_calls.specs.Below.id_runs.specs.Held.{IdView, id_state, MayId}
+use Rattle.owed_calls.specs.Below.id_runs.specs.Goes.{FindsId, SoundIds}
+use Rattle.owed_calls.specs.Below.id_runs.proofs.Steps.{finds_ids, call_there}
 use Rattle.call_stories.specs.Scenes.{Scene}
 use Rattle.call_stories.specs.Says.{Mark, MayAside}
 use Rattle.call_stories.specs.Stories.{At, word_at, LiesAt, ReadsLaw, IsWordAt, IsTakenWith, KnowsStep}

@@ -11,8 +11,8 @@ use Rattle.seat_programs.specs.Calls.{Call}
 use Rattle.seat_programs.specs.Heads.{Retry, Sought, First, Version, Posts, Unlocks, Decides, Locks, Joins, Posting, WasGone, WasStale, WasCrowded, WasQueued, HasLocked, Unlocking, IsOpen, HasNext, Deciding, HasEnded, GoesOn, Locking, NotThere, Has}
 use Rattle.seat_programs.specs.Programs.{Program, Do, Aside, Round}
 use Rattle.seat_programs.specs.Posts.{packed, advance_of, is_first, is_sought, is_stale, is_full, judged, posts_round, post_with, posted, post, popped, unlocks_round, end_id, is_final, ends_call, decide, unlocked, decides_round, decided, locking, locks_round, joins_round}
-use Rattle.owed_calls.specs.id_runs.proofs.Keeps.{parts_packed}
-use Rattle.owed_calls.specs.id_runs.proofs.Loops.{not_equal}
+use Rattle.owed_calls.specs.Below.id_runs.proofs.Keeps.{parts_packed}
+use Rattle.owed_calls.specs.Below.id_runs.proofs.Loops.{not_equal}
 use Rattle.call_stories.specs.Scenes.{Birth, Scene, IsBorn, WasPosted, WasDecided, IsOther, EndedAt, MayAdvance, CauseOf, of_expiry, of_other, FailedIn, by_expiry, by_other, Later}
 use Rattle.call_stories.specs.Says.{Shape, shape_of, HasShape, with_attempt, unlocked_by, Slot, NoSlot, Locked, Holds, Leaves, Mark, with_slot, with_owed, IsVacant, IsFree, put_in, taken_out, SaidBy, HasCodes, MayDo, MayUnlock, Moves, Shows, IsSoughtIn, AtHead, Again, MatchesRange, LeavesPost, LeavesUnlock, IsLast, EndsBy, LeavesDecision, LeavesLock, YieldsPost, SaysOn}
 use Rattle.call_stories.proofs.Lasting.{far, cause_on, unlock_on}

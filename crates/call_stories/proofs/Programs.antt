@@ -20,8 +20,8 @@ use Rattle.seat_programs.specs.Posts.{post}
 use Rattle.seat_programs.specs.Writings.{Holder, Writing, Puts, Waits, Empties, Walks}
 use Rattle.seat_programs.specs.Sends.{freed, one_more, passed_telling, tell_drop, placed, dropped, put_answered, ready_answered, block, accept, write_link}
 use Rattle.seat_programs.specs.Attempts.{claims_from, heading_for, attempt}
-use Rattle.owed_calls.specs.id_runs.specs.Goes.{FitsOwner, FitsWriting}
-use Rattle.owed_calls.specs.id_runs.proofs.Loops.{not_equal}
+use Rattle.owed_calls.specs.Below.id_runs.specs.Goes.{FitsOwner, FitsWriting}
+use Rattle.owed_calls.specs.Below.id_runs.proofs.Loops.{not_equal}
 use Rattle.call_stories.specs.Scenes.{Scene, IsOther}
 use Rattle.call_stories.specs.Says.{Mark, with_slot, IsFree, Again}
 use Rattle.call_stories.proofs.Lasting.{far}

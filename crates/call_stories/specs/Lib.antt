@@ -5,11 +5,4 @@ pub mod Says
 pub mod Stories
 pub mod Posts
 pub mod Decided
-pub use Rattle.owed_calls.specs.programs_allowed
-pub use Rattle.owed_calls.specs.joint_runs
-pub use Rattle.owed_calls.specs.call_owing
-pub use Rattle.owed_calls.specs.owing_ticks
-pub use Rattle.owed_calls.specs.owned_ids
-pub use Rattle.owed_calls
-pub use Rattle.outcome_stories
-pub use Rattle.owed_calls.specs.id_runs
+pub mod Below

@@ -13,7 +13,7 @@ use Rattle.seat_programs.specs.Asides.{Step, Found, UnlockId, Taking, NoMore, At
 use Rattle.seat_programs.specs.Programs.{Program, Aside}
 use Rattle.seat_programs.specs.Readers.{LIMIT, has_response, slot_in, version_in, is_early}
 use Rattle.seat_programs.specs.Beside.{call_at, found_in, taking_in}
-use Rattle.owed_calls.specs.id_runs.specs.Goes.{first_of}
+use Rattle.owed_calls.specs.Below.id_runs.specs.Goes.{first_of}
 use Rattle.seat_programs.specs.Cores.{Calls, Core}
 use Rattle.seat_programs.specs.Runs.{from_to}
 use Rattle.seat_programs.specs.Ticks.{Moment, quiet, taken, ticked}

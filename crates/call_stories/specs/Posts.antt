@@ -8,7 +8,7 @@ use Rattle.corr_core.specs.Word.{parts}
 use Rattle.seat_programs.specs.Asides.{Step, Found, PostId, Taking, call_id}
 use Rattle.seat_programs.specs.Programs.{Program, Aside}
 use Rattle.seat_programs.specs.Beside.{found_in}
-use Rattle.owed_calls.specs.id_runs.specs.Goes.{first_of}
+use Rattle.owed_calls.specs.Below.id_runs.specs.Goes.{first_of}
 use Rattle.seat_programs.specs.Cores.{Calls, Core}
 use Rattle.seat_programs.specs.Ticks.{Moment, taken}
 use Rattle.seat_programs.specs.Scripts.{IsRunWithCalls}

@@ -21,7 +21,7 @@ use Rattle.seat_programs.specs.Heads.{Head, Exit, Sought, First, Version, Posts,
 use Rattle.seat_programs.specs.Posts.{WHOLE, is_final, is_first, is_stale, is_sought, packed, advance_of}
 use Rattle.seat_programs.specs.Programs.{Program, Do, Say, Sent, Rest, TakeMessage, TakeHome, PutHome, PutBytes, AskReady, Write, Aside, Round, Keep, Retries}
 use Rattle.seat_programs.specs.Readers.{has_response}
-use Rattle.owed_calls.specs.id_runs.specs.Goes.{FitsOwner, FitsWriting}
+use Rattle.owed_calls.specs.Below.id_runs.specs.Goes.{FitsOwner, FitsWriting}
 use Rattle.call_stories.specs.Lists.{given}
 use Rattle.sock_words.specs.declared.outcome.Outcome.{Outcome}
 use Rattle.call_stories.specs.Scenes.{Birth, Scene, Said, IsOver, IsJust, IsBorn, IsClaimed, Came, HasFaulted, IsOther, IsErrorCode, Named, Begun, WasPosted, WasDecided, EndedAt, MayAdvance, HasBegunIn, CauseOf, WhyEnded, WhyOwn, AreTold, HasNoneOf, IsTaskOf, Later}

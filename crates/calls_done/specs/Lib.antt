@@ -6,3 +6,4 @@ pub use Rattle.failed_told
 pub use Rattle.served_told
 pub use Rattle.failed_told.specs.attempts_told
 pub use Rattle.failed_told.specs.call_whys
+pub use Rattle.served_told.specs.Below

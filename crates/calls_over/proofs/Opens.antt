@@ -10,10 +10,10 @@ use Rattle.corr_core.specs.Word.{Parts}
 use Rattle.corr_core.specs.declared.marks.Plan.{Plan as IdPlan}
 use Rattle.id_rule.specs.Lawful.{local}
 use Rattle.id_runs.specs.Held.{id_state}
-use Rattle.served_fits.specs.script_facts.proofs.Lists.{Has}
-use Rattle.served_fits.specs.script_facts.proofs.Sizes.{is_counted}
-use Rattle.served_fits.specs.script_facts.proofs.Targets.{are_there}
-use Rattle.served_fits.specs.script_facts.proofs.TaskLemmas.{numbers_at, task_is, call_asks}
+use Rattle.served_fits.specs.Below.script_facts.proofs.Lists.{Has}
+use Rattle.served_fits.specs.Below.script_facts.proofs.Sizes.{is_counted}
+use Rattle.served_fits.specs.Below.script_facts.proofs.Targets.{are_there}
+use Rattle.served_fits.specs.Below.script_facts.proofs.TaskLemmas.{numbers_at, task_is, call_asks}
 use Rattle.sock_message.specs.Asked.{Asked, request_of}
 use Rattle.seat_programs.specs.Asides.{id_slot, id_first, call_id}
 use Rattle.seat_programs.specs.Cores.{Core}
@@ -22,25 +22,25 @@ use Rattle.seat_programs.specs.Tasks.{opens, numbered, plan_of, id_plan_of}
 use Rattle.seat_programs.specs.Ticks.{quiet}
 use Rattle.seat_programs.specs.Told.{IsTask}
 use Rattle.seat_programs.specs.ToldCalls.{Fixed}
-use Rattle.served_fits.specs.programs_allowed.specs.sock_runs.proofs.Along.{place_inside}
-use Rattle.served_fits.specs.programs_allowed.specs.program_walks.proofs.Whole.{closing_of, views_played}
-use Rattle.served_fits.specs.outcome_stories.proofs.Members.{in_contains}
-use Rattle.served_fits.specs.joint_runs.proofs.Runs.{first_views}
-use Rattle.served_fits.specs.call_owing.specs.Sound.{id_word_of, at_of, IsOpen}
-use Rattle.served_fits.specs.owed_calls.proofs.Known.{run_all_rest}
-use Rattle.served_fits.specs.run_theorems.proofs.Lengths.{ended_length}
-use Rattle.served_fits.specs.run_theorems.proofs.Starts.{made}
-use Rattle.served_fits.specs.call_stories.specs.Lists.{given, shows_in, times, advanced_at, attempts_of_run}
-use Rattle.served_fits.specs.call_causes.proofs.Posted.{run_few_attempts}
+use Rattle.served_fits.specs.Below.programs_allowed.specs.sock_runs.proofs.Along.{place_inside}
+use Rattle.served_fits.specs.Below.programs_allowed.specs.program_walks.proofs.Whole.{closing_of, views_played}
+use Rattle.served_fits.specs.Below.outcome_stories.proofs.Members.{in_contains}
+use Rattle.served_fits.specs.Below.joint_runs.proofs.Runs.{first_views}
+use Rattle.served_fits.specs.Below.call_owing.specs.Sound.{id_word_of, at_of, IsOpen}
+use Rattle.served_fits.specs.Below.owed_calls.proofs.Known.{run_all_rest}
+use Rattle.served_fits.specs.Below.run_theorems.proofs.Lengths.{ended_length}
+use Rattle.served_fits.specs.Below.run_theorems.proofs.Starts.{made}
+use Rattle.served_fits.specs.Below.call_stories.specs.Lists.{given, shows_in, times, advanced_at, attempts_of_run}
+use Rattle.served_fits.specs.Below.call_causes.proofs.Posted.{run_few_attempts}
 use Rattle.served_fits.specs.send_causes.proofs.Assembled.{fixed_in_run}
-use Rattle.served_fits.specs.attempted_calls.proofs.AttemptedRuns.{Counted, played_counted, times_append}
-use Rattle.served_fits.specs.sent_once.proofs.DropWhole.{get_same}
-use Rattle.served_fits.specs.attempted_calls.proofs.AttemptedStored.{ids_at, stored_run}
+use Rattle.served_fits.specs.Below.attempted_calls.proofs.AttemptedRuns.{Counted, played_counted, times_append}
+use Rattle.served_fits.specs.Below.sent_once.proofs.DropWhole.{get_same}
+use Rattle.served_fits.specs.Below.attempted_calls.proofs.AttemptedStored.{ids_at, stored_run}
 use Rattle.served_fits.specs.send_causes.proofs.ClosedLostTicks.{word_link, word_attempt}
-use Rattle.served_fits.specs.accept_counts.proofs.Early.{start, go, fitting, known}
+use Rattle.served_fits.specs.Below.accept_counts.proofs.Early.{start, go, fitting, known}
 use Rattle.served_fits.specs.send_causes.proofs.OwnIds.{labelled_at, single_at}
-use Rattle.served_fits.specs.accept_counts.proofs.Runs.{AreLabelledIn, IsCallOf}
-use Rattle.served_fits.specs.sent_once.proofs.Sends.{narrow, opening_bare}
+use Rattle.served_fits.specs.Below.accept_counts.proofs.Runs.{AreLabelledIn, IsCallOf}
+use Rattle.served_fits.specs.Below.sent_once.proofs.Sends.{narrow, opening_bare}
 use Rattle.served_fits.specs.served_calls.specs.Quiet.{HasServer}
 use Rattle.calls_over.specs.Open.{OpenCall}
 use Rattle.calls_over.proofs.OpensEntered.{early_log, IsAccepted, AllTaken, own_early, accepted_so, accepted_or}
@@ -50,7 +50,7 @@ use Rattle.calls_over.proofs.OpensOwed.{IsRead, open_read}
 use Rattle.calls_over.proofs.OpensGiven.{CalmRun, are_made, targets, range}
 use Rattle.calls_over.proofs.OpensQuiet.{has_server, unfailed, none_thrown}
 use Rattle.calls_over.proofs.OpensRequest.{own_told, IsAttempt, attempt_of, taken, taken_so, request_there}
-use Rattle.served_fits.specs.accept_counts.proofs.Standing.{both, unlocked}
+use Rattle.served_fits.specs.Below.accept_counts.proofs.Standing.{both, unlocked}
 use Rattle.id_runs.proofs.Steps.{live_room}
 
 -- ## At words

@@ -15,27 +15,27 @@ use Rattle.seat_programs.specs.Scripts.{all_tasks, opened, set_up, played, IsRun
 use Rattle.seat_programs.specs.Tasks.{plan_of}
 use Rattle.seat_programs.specs.Ticks.{quiet}
 use Rattle.seat_programs.specs.ToldCalls.{Accepted, Fixed, StandsAt, StandsOn}
-use Rattle.served_fits.specs.programs_allowed.specs.program_steps.specs.Sound.{state, Sound}
-use Rattle.served_fits.specs.programs_allowed.specs.program_walks.proofs.Whole.{closing_of, views_played, views_closed, views_ended, end_answered, played_sound, closing_sound, closed_sound, ended_sound}
-use Rattle.served_fits.specs.outcome_stories.specs.Kept.{IsSpoken}
-use Rattle.served_fits.specs.outcome_stories.specs.PlainTasks.{told_tasks_of}
-use Rattle.served_fits.specs.outcome_stories.specs.Stories.{In}
-use Rattle.served_fits.specs.outcome_stories.proofs.Delivered.{accepted_of, accepted_there}
-use Rattle.served_fits.specs.outcome_causes.proofs.Final.{at_there, at_within}
-use Rattle.served_fits.specs.outcome_stories.proofs.Members.{in_contains}
-use Rattle.served_fits.specs.outcome_causes.proofs.Plain.{in_both, in_left, in_right}
-use Rattle.served_fits.specs.joint_runs.proofs.Runs.{AreMade, first_views}
-use Rattle.served_fits.specs.call_owing.specs.Lives.{ClosesInRun}
-use Rattle.served_fits.specs.call_stories.specs.Lists.{shows_in}
-use Rattle.served_fits.specs.accept_counts.specs.EndedCalls.{Store, stored_at, stores_of_run}
+use Rattle.served_fits.specs.Below.programs_allowed.specs.program_steps.specs.Sound.{state, Sound}
+use Rattle.served_fits.specs.Below.programs_allowed.specs.program_walks.proofs.Whole.{closing_of, views_played, views_closed, views_ended, end_answered, played_sound, closing_sound, closed_sound, ended_sound}
+use Rattle.served_fits.specs.Below.outcome_stories.specs.Kept.{IsSpoken}
+use Rattle.served_fits.specs.Below.outcome_stories.specs.PlainTasks.{told_tasks_of}
+use Rattle.served_fits.specs.Below.outcome_stories.specs.Stories.{In}
+use Rattle.served_fits.specs.Below.outcome_stories.proofs.Delivered.{accepted_of, accepted_there}
+use Rattle.served_fits.specs.Below.outcome_causes.proofs.Final.{at_there, at_within}
+use Rattle.served_fits.specs.Below.outcome_stories.proofs.Members.{in_contains}
+use Rattle.served_fits.specs.Below.outcome_causes.proofs.Plain.{in_both, in_left, in_right}
+use Rattle.served_fits.specs.Below.joint_runs.proofs.Runs.{AreMade, first_views}
+use Rattle.served_fits.specs.Below.call_owing.specs.Lives.{ClosesInRun}
+use Rattle.served_fits.specs.Below.call_stories.specs.Lists.{shows_in}
+use Rattle.served_fits.specs.Below.accept_counts.specs.EndedCalls.{Store, stored_at, stores_of_run}
 use Rattle.served_fits.specs.send_causes.proofs.ClosedLost.{setup_fates, played_fates, early_ended}
 use Rattle.served_fits.specs.send_causes.proofs.ClosedLostTicks.{AreTaken, Ended, word_link, word_attempt}
-use Rattle.served_fits.specs.accept_counts.proofs.Early.{start, go, fitting}
-use Rattle.served_fits.specs.ended_calls.proofs.EndedAttempts.{all_stored, at_place, spoken_call, own_store}
-use Rattle.served_fits.specs.ended_calls.proofs.EndedOnce.{run_stored_once}
-use Rattle.served_fits.specs.dropped_calls.proofs.LateRests.{HasNone, played_idle, NoOld}
-use Rattle.served_fits.specs.accept_counts.proofs.Runs.{AreLabelledIn}
-use Rattle.served_fits.specs.sent_once.proofs.Sends.{orders_of_run}
+use Rattle.served_fits.specs.Below.accept_counts.proofs.Early.{start, go, fitting}
+use Rattle.served_fits.specs.Below.ended_calls.proofs.EndedAttempts.{all_stored, at_place, spoken_call, own_store}
+use Rattle.served_fits.specs.Below.ended_calls.proofs.EndedOnce.{run_stored_once}
+use Rattle.served_fits.specs.Below.dropped_calls.proofs.LateRests.{HasNone, played_idle, NoOld}
+use Rattle.served_fits.specs.Below.accept_counts.proofs.Runs.{AreLabelledIn}
+use Rattle.served_fits.specs.Below.sent_once.proofs.Sends.{orders_of_run}
 use Rattle.calls_over.proofs.OpensHeld.{IsHeld, run_held}
 use Rattle.calls_over.proofs.OpensLog.{log, held_logged, logged_held, logged_on}
 use Rattle.calls_over.proofs.OpensNamed.{IsEarly}

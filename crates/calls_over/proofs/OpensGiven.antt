@@ -9,19 +9,19 @@ use Rattle.brpc_model.specs.Operations.{Turn}
 use Rattle.brpc_model.specs.Report.{Report}
 use Rattle.brpc_model.specs.Script.{script_of}
 use Rattle.brpc_model.specs.PlaceWords.{AreTold}
-use Rattle.served_fits.specs.report_fits.specs.Ends.{AreEndsOf}
-use Rattle.served_fits.specs.script_facts.proofs.Reading.{InRange}
-use Rattle.served_fits.specs.script_facts.proofs.Sizes.{is_counted}
-use Rattle.served_fits.specs.script_facts.proofs.Targets.{AreThere, are_there}
+use Rattle.served_fits.specs.Below.report_fits.specs.Ends.{AreEndsOf}
+use Rattle.served_fits.specs.Below.script_facts.proofs.Reading.{InRange}
+use Rattle.served_fits.specs.Below.script_facts.proofs.Sizes.{is_counted}
+use Rattle.served_fits.specs.Below.script_facts.proofs.Targets.{AreThere, are_there}
 use Rattle.seat_programs.specs.Cores.{Core}
 use Rattle.seat_programs.specs.Scripts.{Reports, all_tasks, IsRunWithCalls}
 use Rattle.seat_programs.specs.Tasks.{plan_of}
 use Rattle.seat_programs.specs.ToldCalls.{Order, Fixed, ToldCalls}
-use Rattle.served_fits.specs.outcome_stories.specs.Facts.{broken_of_run}
-use Rattle.served_fits.specs.joint_runs.proofs.Runs.{AreMade}
-use Rattle.served_fits.specs.call_owing.specs.Lives.{ClosesInRun}
-use Rattle.served_fits.specs.run_theorems.proofs.Starts.{made}
-use Rattle.served_fits.specs.call_stories.specs.Lists.{given}
+use Rattle.served_fits.specs.Below.outcome_stories.specs.Facts.{broken_of_run}
+use Rattle.served_fits.specs.Below.joint_runs.proofs.Runs.{AreMade}
+use Rattle.served_fits.specs.Below.call_owing.specs.Lives.{ClosesInRun}
+use Rattle.served_fits.specs.Below.run_theorems.proofs.Starts.{made}
+use Rattle.served_fits.specs.Below.call_stories.specs.Lists.{given}
 use Rattle.served_fits.specs.served_runs.specs.Offered.{OffersInRun}
 use Rattle.served_fits.specs.served_calls.specs.Quiet.{AreShown}
 

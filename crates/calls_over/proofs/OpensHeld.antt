@@ -16,17 +16,17 @@ use Rattle.sock_steps.proofs.Quiet.{either_way}
 use Rattle.seat_programs.specs.Calls.{Call, ClaimRequest, PutMessage, Unconnect, SwapHead}
 use Rattle.seat_programs.specs.Cores.{Core, word_of, found_at}
 use Rattle.seat_programs.specs.Ticks.{Moment, IsAnswered, AreAnswered, ticked}
-use Rattle.served_fits.specs.programs_allowed.specs.program_steps.specs.Rows.{row, hand_at, exchanged, filled_claim, ready_claim, took_message, link_away, link_home_again, took_bytes}
-use Rattle.served_fits.specs.programs_allowed.specs.program_steps.specs.Sound.{Sound, AreFitting, views_after, views_along}
-use Rattle.served_fits.specs.programs_allowed.specs.program_steps.proofs.Cases.{with_rights, right_rights, put_rights}
-use Rattle.served_fits.specs.programs_allowed.specs.program_steps.proofs.Leaves.{claim_way}
-use Rattle.served_fits.specs.programs_allowed.specs.sock_runs.proofs.LinkTicks.{RetriesGo}
-use Rattle.served_fits.specs.programs_allowed.specs.sock_runs.proofs.Ticks.{sound_ticks}
-use Rattle.served_fits.specs.outcome_stories.specs.Stories.{In}
-use Rattle.served_fits.specs.outcome_stories.proofs.Cases.{tick_cases}
-use Rattle.served_fits.specs.outcome_causes.proofs.Final.{at_within}
-use Rattle.served_fits.specs.outcome_causes.proofs.Plain.{in_left}
-use Rattle.served_fits.specs.accept_counts.proofs.Views.{row_same}
+use Rattle.served_fits.specs.Below.programs_allowed.specs.program_steps.specs.Rows.{row, hand_at, exchanged, filled_claim, ready_claim, took_message, link_away, link_home_again, took_bytes}
+use Rattle.served_fits.specs.Below.programs_allowed.specs.program_steps.specs.Sound.{Sound, AreFitting, views_after, views_along}
+use Rattle.served_fits.specs.Below.programs_allowed.specs.program_steps.proofs.Cases.{with_rights, right_rights, put_rights}
+use Rattle.served_fits.specs.Below.programs_allowed.specs.program_steps.proofs.Leaves.{claim_way}
+use Rattle.served_fits.specs.Below.programs_allowed.specs.sock_runs.proofs.LinkTicks.{RetriesGo}
+use Rattle.served_fits.specs.Below.programs_allowed.specs.sock_runs.proofs.Ticks.{sound_ticks}
+use Rattle.served_fits.specs.Below.outcome_stories.specs.Stories.{In}
+use Rattle.served_fits.specs.Below.outcome_stories.proofs.Cases.{tick_cases}
+use Rattle.served_fits.specs.Below.outcome_causes.proofs.Final.{at_within}
+use Rattle.served_fits.specs.Below.outcome_causes.proofs.Plain.{in_left}
+use Rattle.served_fits.specs.Below.accept_counts.proofs.Views.{row_same}
 
 module _ (e : Entry) where
   abbrev pub IsThere : List (List Entry) → Type 0

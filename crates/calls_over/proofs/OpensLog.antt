@@ -10,9 +10,9 @@ use Rattle.sock_model.specs.Authors.{pick}
 use Rattle.sock_model.specs.Entries.{on}
 use Rattle.seat_programs.specs.Cores.{Core}
 use Rattle.seat_programs.specs.ToldCalls.{StandsAt}
-use Rattle.served_fits.specs.programs_allowed.specs.program_steps.specs.Sound.{Sound}
-use Rattle.served_fits.specs.outcome_stories.specs.Stories.{In}
-use Rattle.served_fits.specs.outcome_stories.proofs.Delivered.{accepted_of, accepted_there, orders_of}
+use Rattle.served_fits.specs.Below.programs_allowed.specs.program_steps.specs.Sound.{Sound}
+use Rattle.served_fits.specs.Below.outcome_stories.specs.Stories.{In}
+use Rattle.served_fits.specs.Below.outcome_stories.proofs.Delivered.{accepted_of, accepted_there, orders_of}
 use Rattle.calls_over.proofs.OpensHeld.{IsHeld}
 
 -- ## Lists

@@ -7,12 +7,12 @@ use Rattle.brpc_model.specs.Items.{Open, Fail}
 use Rattle.brpc_model.specs.Link.{LinkEnd}
 use Rattle.brpc_model.specs.Operations.{link_names, link_shapes}
 use Rattle.brpc_model.specs.Places.{names}
-use Rattle.served_fits.specs.script_facts.proofs.Known as known
-use Rattle.served_fits.specs.report_fits.proofs.Lines.{Given}
-use Rattle.served_fits.specs.script_facts.proofs.Lists.{all_at, has_from, contains_from, within}
-use Rattle.served_fits.specs.report_fits.proofs.Lives as lives
-use Rattle.served_fits.specs.report_fits.proofs.Places.{known_of}
-use Rattle.served_fits.specs.script_facts.proofs.TaskLemmas.{numbers_at, task_is, fail_asks}
+use Rattle.served_fits.specs.Below.script_facts.proofs.Known as known
+use Rattle.served_fits.specs.Below.report_fits.proofs.Lines.{Given}
+use Rattle.served_fits.specs.Below.script_facts.proofs.Lists.{all_at, has_from, contains_from, within}
+use Rattle.served_fits.specs.Below.report_fits.proofs.Lives as lives
+use Rattle.served_fits.specs.Below.report_fits.proofs.Places.{known_of}
+use Rattle.served_fits.specs.Below.script_facts.proofs.TaskLemmas.{numbers_at, task_is, fail_asks}
 use Rattle.seat_programs.specs.declared.task.Op.TheVariants as ops
 use Rattle.seat_programs.specs.declared.task.Task.{Task}
 use Rattle.seat_programs.specs.Asides.{AtEnd, Broken}
@@ -24,27 +24,27 @@ use Rattle.seat_programs.specs.Scripts.{all_tasks, opened, set_up, played}
 use Rattle.seat_programs.specs.Tasks.{opens, calls, numbered, plan_of, id_plan_of}
 use Rattle.seat_programs.specs.Ticks.{Moment, quiet, broken_in}
 use Rattle.seat_programs.specs.Told.{IsTask, IsFail, Made}
-use Rattle.served_fits.specs.programs_allowed.specs.program_steps.specs.Sound.{state}
-use Rattle.served_fits.specs.programs_allowed.specs.sock_runs.proofs.Along.{place_inside}
-use Rattle.served_fits.specs.programs_allowed.specs.program_walks.proofs.Whole.{views_played}
-use Rattle.served_fits.specs.outcome_stories.specs.Facts.{shown_in, broken_of_run, closed_before_ending}
-use Rattle.served_fits.specs.outcome_stories.specs.Losses.{closed_at, lost_in}
-use Rattle.served_fits.specs.outcome_stories.specs.PlainTasks.{told_tasks_of}
-use Rattle.served_fits.specs.outcome_stories.specs.Stories.{In}
-use Rattle.served_fits.specs.outcome_ticks.proofs.Lifted.{task_up}
-use Rattle.served_fits.specs.outcome_stories.proofs.Members.{in_contains, contains_in}
-use Rattle.served_fits.specs.outcome_causes.proofs.Plain.{in_left, in_right, in_both}
-use Rattle.served_fits.specs.joint_runs.proofs.Runs.{first_views}
-use Rattle.served_fits.specs.run_theorems.specs.Heard.{heard_takes, given_by}
-use Rattle.served_fits.specs.run_theorems.proofs.Gave.{gave_heard}
-use Rattle.served_fits.specs.run_theorems.proofs.Lengths.{ended_length}
-use Rattle.served_fits.specs.call_stories.specs.Lists.{given}
-use Rattle.served_fits.specs.call_stories.specs.Scenes.{LeadsTo}
-use Rattle.served_fits.specs.story_ticks.proofs.RunFacts.{own_leads, leadings}
-use Rattle.served_fits.specs.accept_counts.proofs.Early.{start, go, fitting, closed_early, first_fresh}
-use Rattle.served_fits.specs.call_stories.proofs.Streams.{faults_more}
-use Rattle.served_fits.specs.sent_once.proofs.Sends.{owed, lost_so}
-use Rattle.served_fits.specs.outcome_causes.proofs.Scripts.{run_tells, failed_early}
+use Rattle.served_fits.specs.Below.programs_allowed.specs.program_steps.specs.Sound.{state}
+use Rattle.served_fits.specs.Below.programs_allowed.specs.sock_runs.proofs.Along.{place_inside}
+use Rattle.served_fits.specs.Below.programs_allowed.specs.program_walks.proofs.Whole.{views_played}
+use Rattle.served_fits.specs.Below.outcome_stories.specs.Facts.{shown_in, broken_of_run, closed_before_ending}
+use Rattle.served_fits.specs.Below.outcome_stories.specs.Losses.{closed_at, lost_in}
+use Rattle.served_fits.specs.Below.outcome_stories.specs.PlainTasks.{told_tasks_of}
+use Rattle.served_fits.specs.Below.outcome_stories.specs.Stories.{In}
+use Rattle.served_fits.specs.Below.outcome_ticks.proofs.Lifted.{task_up}
+use Rattle.served_fits.specs.Below.outcome_stories.proofs.Members.{in_contains, contains_in}
+use Rattle.served_fits.specs.Below.outcome_causes.proofs.Plain.{in_left, in_right, in_both}
+use Rattle.served_fits.specs.Below.joint_runs.proofs.Runs.{first_views}
+use Rattle.served_fits.specs.Below.run_theorems.specs.Heard.{heard_takes, given_by}
+use Rattle.served_fits.specs.Below.run_theorems.proofs.Gave.{gave_heard}
+use Rattle.served_fits.specs.Below.run_theorems.proofs.Lengths.{ended_length}
+use Rattle.served_fits.specs.Below.call_stories.specs.Lists.{given}
+use Rattle.served_fits.specs.Below.call_stories.specs.Scenes.{LeadsTo}
+use Rattle.served_fits.specs.Below.story_ticks.proofs.RunFacts.{own_leads, leadings}
+use Rattle.served_fits.specs.Below.accept_counts.proofs.Early.{start, go, fitting, closed_early, first_fresh}
+use Rattle.served_fits.specs.Below.call_stories.proofs.Streams.{faults_more}
+use Rattle.served_fits.specs.Below.sent_once.proofs.Sends.{owed, lost_so}
+use Rattle.served_fits.specs.Below.outcome_causes.proofs.Scripts.{run_tells, failed_early}
 use Rattle.served_fits.specs.served_runs.specs.Served.{IsForCalls}
 use Rattle.served_fits.specs.served_runs.proofs.Ends.{Holds}
 use Rattle.served_fits.specs.served_runs.proofs.Own.{id_small}
@@ -159,7 +159,7 @@ module _ (calm : CalmRun) where
       (held.reader seat there)
     where
       low : k < length (link_names script)
-      low = let i = place_inside (opens script) k o at in let many = (let x = Rattle.served_fits.specs.accept_counts.proofs.Early.known script (are_made calm) turns core is in x.as_many) in omega (arith, i, many)
+      low = let i = place_inside (opens script) k o at in let many = (let x = Rattle.served_fits.specs.Below.accept_counts.proofs.Early.known script (are_made calm) turns core is in x.as_many) in omega (arith, i, many)
 
       server : HasServer script turns core is k
       server = has_server k low

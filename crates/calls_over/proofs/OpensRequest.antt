@@ -9,28 +9,28 @@ use Rattle.sock_model.specs.Entries.{on}
 use Rattle.sock_model.specs.Links.{Given}
 use Rattle.brpc_model.specs.Frame.{IsFrame}
 use Rattle.brpc_model.specs.Stream.{stream}
-use Rattle.served_fits.specs.script_facts.proofs.Lists.{Has, all_at, all_from, filter_has}
-use Rattle.served_fits.specs.script_facts.proofs.Sizes.{is_counted}
-use Rattle.served_fits.specs.script_facts.proofs.Targets.{are_there}
+use Rattle.served_fits.specs.Below.script_facts.proofs.Lists.{Has, all_at, all_from, filter_has}
+use Rattle.served_fits.specs.Below.script_facts.proofs.Sizes.{is_counted}
+use Rattle.served_fits.specs.Below.script_facts.proofs.Targets.{are_there}
 use Rattle.sock_message.specs.Asked.{Asked, request_of, frame_of}
 use Rattle.seat_programs.specs.Cores.{Core}
 use Rattle.seat_programs.specs.Scripts.{all_tasks, played}
 use Rattle.seat_programs.specs.Tasks.{plan_of}
 use Rattle.seat_programs.specs.Told.{Became}
 use Rattle.seat_programs.specs.ToldCalls.{Order, Fixed, ToldCalls, IsSent, OfSend, OfCall}
-use Rattle.served_fits.specs.programs_allowed.specs.program_steps.specs.Sound.{state}
-use Rattle.served_fits.specs.programs_allowed.specs.program_walks.proofs.Whole.{views_played}
-use Rattle.served_fits.specs.outcome_stories.proofs.Delivered.{accepted_of}
-use Rattle.served_fits.specs.joint_runs.proofs.Runs.{first_views}
-use Rattle.served_fits.specs.owned_ids.proofs.OpensStored.{at_place}
-use Rattle.served_fits.specs.run_theorems.proofs.Starts.{made}
-use Rattle.served_fits.specs.call_stories.specs.Lists.{given}
+use Rattle.served_fits.specs.Below.programs_allowed.specs.program_steps.specs.Sound.{state}
+use Rattle.served_fits.specs.Below.programs_allowed.specs.program_walks.proofs.Whole.{views_played}
+use Rattle.served_fits.specs.Below.outcome_stories.proofs.Delivered.{accepted_of}
+use Rattle.served_fits.specs.Below.joint_runs.proofs.Runs.{first_views}
+use Rattle.served_fits.specs.Below.owned_ids.proofs.OpensStored.{at_place}
+use Rattle.served_fits.specs.Below.run_theorems.proofs.Starts.{made}
+use Rattle.served_fits.specs.Below.call_stories.specs.Lists.{given}
 use Rattle.served_fits.specs.send_causes.proofs.AllTold.{told_of_run}
 use Rattle.served_fits.specs.send_causes.proofs.Assembled.{fixed_in_run}
-use Rattle.served_fits.specs.sent_once.proofs.DropWhole.{get_same}
-use Rattle.served_fits.specs.attempted_calls.proofs.AttemptedStored.{ids_at}
+use Rattle.served_fits.specs.Below.sent_once.proofs.DropWhole.{get_same}
+use Rattle.served_fits.specs.Below.attempted_calls.proofs.AttemptedStored.{ids_at}
 use Rattle.served_fits.specs.send_causes.proofs.OwnIds.{own_id}
-use Rattle.served_fits.specs.sent_once.proofs.Sends.{orders_of_run}
+use Rattle.served_fits.specs.Below.sent_once.proofs.Sends.{orders_of_run}
 use Rattle.served_fits.specs.served_runs.specs.Offered.{TookSoFar}
 use Rattle.served_fits.specs.served_runs.proofs.Frames.{IsPiece, IsSmall, request_is}
 use Rattle.served_fits.specs.served_runs.proofs.Own.{id_small}

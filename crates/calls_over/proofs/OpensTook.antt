@@ -22,8 +22,8 @@ use Rattle.chain_steps.proofs.Settles.{all_placed}
 use Rattle.sock_steps.proofs.HandSteps.{link_value}
 use Rattle.sock_steps.proofs.Maps.{took_some, gather_nil}
 use Rattle.seat_programs.specs.Cores.{Core}
-use Rattle.served_fits.specs.programs_allowed.specs.program_steps.specs.Sound.{state, Sound}
-use Rattle.served_fits.specs.programs_allowed.specs.program_steps.proofs.Bounds.{law}
+use Rattle.served_fits.specs.Below.programs_allowed.specs.program_steps.specs.Sound.{state, Sound}
+use Rattle.served_fits.specs.Below.programs_allowed.specs.program_steps.proofs.Bounds.{law}
 use Rattle.calls_over.proofs.OpensLog.{log}
 
 whole_is : (es : List Entry) → whole es (length es) ≡ flat_map (λ (e : Entry). e.bytes) es

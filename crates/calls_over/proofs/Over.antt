@@ -8,23 +8,23 @@ use Rattle.brpc_model.specs.Operations.{Turn}
 use Rattle.brpc_model.specs.Report.{Report, report_text}
 use Rattle.brpc_model.specs.Script.{script_of}
 use Rattle.brpc_model.specs.PlaceWords.{AreTold}
-use Rattle.served_fits.specs.report_fits.specs.Ends.{AreEndsOf}
-use Rattle.served_fits.specs.report_fits.proofs.Places.{lateness}
+use Rattle.served_fits.specs.Below.report_fits.specs.Ends.{AreEndsOf}
+use Rattle.served_fits.specs.Below.report_fits.proofs.Places.{lateness}
 use Rattle.seat_programs.specs.Cores.{Core}
 use Rattle.seat_programs.specs.Tasks.{plan_of}
 use Rattle.seat_programs.specs.ToldCalls.{Order, Fixed, ToldCalls}
 use Rattle.seat_programs.specs.Scripts.{Reports, all_tasks, IsRunWithCalls}
-use Rattle.served_fits.specs.outcome_stories.specs.Facts.{broken_of_run}
-use Rattle.served_fits.specs.call_owing.specs.Lives.{ClosesInRun}
-use Rattle.served_fits.specs.run_theorems.proofs.Starts.{made}
-use Rattle.served_fits.specs.call_stories.specs.Lists.{given}
+use Rattle.served_fits.specs.Below.outcome_stories.specs.Facts.{broken_of_run}
+use Rattle.served_fits.specs.Below.call_owing.specs.Lives.{ClosesInRun}
+use Rattle.served_fits.specs.Below.run_theorems.proofs.Starts.{made}
+use Rattle.served_fits.specs.Below.call_stories.specs.Lists.{given}
 use Rattle.served_fits.specs.served_runs.specs.Offered.{OffersInRun}
 use Rattle.served_fits.specs.served_calls.specs.Quiet.{AreShown}
 use Rattle.served_fits.specs.Shown.{AreSo}
 use Rattle.served_fits.proofs.Whole as fits
 use Rattle.calls_over.proofs.OpensGiven.{CalmRun}
 use Rattle.calls_over.proofs.Opens.{open_call}
-use Rattle.served_fits.specs.accept_counts.proofs.Standing.{unlocked}
+use Rattle.served_fits.specs.Below.accept_counts.proofs.Standing.{unlocked}
 use Rattle.calls_over.proofs.Soon.{no_open_call}
 
 module _ (bytes : List ℕ) (script : List Item) (reads : script_of bytes ≡ Ok script) (short : length bytes ≤ 1048576) (turns : List Turn) (core : Core) (is : IsRunWithCalls script turns core) (closes : ClosesInRun script turns core is) (offers : OffersInRun script turns core is) (fixed : Fixed)

@@ -15,16 +15,16 @@ use Rattle.brpc_model.specs.Script.{script_of}
 use Rattle.brpc_model.specs.Served.{first_of, given_for}
 use Rattle.brpc_model.specs.Stream.{stream}
 use Rattle.brpc_model.specs.PlaceWords.{AreTold}
-use Rattle.served_fits.specs.report_fits.specs.Ends.{AreEndsOf}
-use Rattle.served_fits.specs.script_facts.proofs.Known as known
-use Rattle.served_fits.specs.report_fits.proofs.Lines.{Given}
-use Rattle.served_fits.specs.script_facts.proofs.Lists.{Has, has_later, has_filter_map, contains_from, some_is, all_at, all_from, filter_map_has}
-use Rattle.served_fits.specs.report_fits.proofs.Lives as lives
-use Rattle.served_fits.specs.report_fits.proofs.Places.{known_of}
-use Rattle.served_fits.specs.script_facts.proofs.Reading.{InRange}
-use Rattle.served_fits.specs.script_facts.proofs.Sizes.{is_counted}
-use Rattle.served_fits.specs.script_facts.proofs.Targets.{AreThere, are_there}
-use Rattle.served_fits.specs.script_facts.proofs.TaskLemmas.{numbers_at, task_is, send_asks, mentions_send}
+use Rattle.served_fits.specs.Below.report_fits.specs.Ends.{AreEndsOf}
+use Rattle.served_fits.specs.Below.script_facts.proofs.Known as known
+use Rattle.served_fits.specs.Below.report_fits.proofs.Lines.{Given}
+use Rattle.served_fits.specs.Below.script_facts.proofs.Lists.{Has, has_later, has_filter_map, contains_from, some_is, all_at, all_from, filter_map_has}
+use Rattle.served_fits.specs.Below.report_fits.proofs.Lives as lives
+use Rattle.served_fits.specs.Below.report_fits.proofs.Places.{known_of}
+use Rattle.served_fits.specs.Below.script_facts.proofs.Reading.{InRange}
+use Rattle.served_fits.specs.Below.script_facts.proofs.Sizes.{is_counted}
+use Rattle.served_fits.specs.Below.script_facts.proofs.Targets.{AreThere, are_there}
+use Rattle.served_fits.specs.Below.script_facts.proofs.TaskLemmas.{numbers_at, task_is, send_asks, mentions_send}
 use Rattle.corr_core.specs.declared.marks.Plan.{Plan as IdPlan}
 use Rattle.sock_message.specs.Asked.{request_of}
 use Rattle.seat_programs.specs.declared.task.Op.TheVariants as ops
@@ -37,12 +37,12 @@ use Rattle.seat_programs.specs.Tasks.{numbered, plan_of, id_plan_of}
 use Rattle.seat_programs.specs.Told.{IsTask, Made}
 use Rattle.seat_programs.specs.ToldCalls.{Order, Fixed, ToldCalls}
 use Rattle.seat_programs.specs.Scripts.{Reports, all_tasks, IsRunWithCalls}
-use Rattle.served_fits.specs.call_owing.specs.Lives.{ClosesInRun}
-use Rattle.served_fits.specs.call_owing.specs.Sound.{id_word_of}
-use Rattle.served_fits.specs.run_theorems.proofs.Lengths.{ended_length}
-use Rattle.served_fits.specs.run_theorems.proofs.Starts.{made}
-use Rattle.served_fits.specs.call_stories.specs.Lists.{given}
-use Rattle.served_fits.specs.call_causes.proofs.Handled.{IsResp}
+use Rattle.served_fits.specs.Below.call_owing.specs.Lives.{ClosesInRun}
+use Rattle.served_fits.specs.Below.call_owing.specs.Sound.{id_word_of}
+use Rattle.served_fits.specs.Below.run_theorems.proofs.Lengths.{ended_length}
+use Rattle.served_fits.specs.Below.run_theorems.proofs.Starts.{made}
+use Rattle.served_fits.specs.Below.call_stories.specs.Lists.{given}
+use Rattle.served_fits.specs.Below.call_causes.proofs.Handled.{IsResp}
 use Rattle.served_fits.specs.served_runs.specs.Offered.{OffersInRun}
 use Rattle.served_fits.specs.served_runs.proofs.Frames.{IsPiece, reply_is}
 use Rattle.served_fits.specs.served_calls.proofs.Frames.{SaysReply, piece_has, reply_to, reply_says}

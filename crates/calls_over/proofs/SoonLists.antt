@@ -18,13 +18,13 @@ use Rattle.sock_model.specs.Memory.{IDLE}
 use Rattle.seat_programs.specs.Calls.{Call, SwapHead}
 use Rattle.seat_programs.specs.Cores.{Core, word_of, found_at}
 use Rattle.seat_programs.specs.Ticks.{Moment, IsAnswered, AreAnswered, ticked}
-use Rattle.served_fits.specs.programs_allowed.specs.program_steps.specs.Rows.{row, hand_at, by_claim, exchanged, took_message, link_away, link_home_again, took_bytes}
-use Rattle.served_fits.specs.programs_allowed.specs.program_steps.specs.Sound.{state, Sound, AreFitting, views_after, views_along}
-use Rattle.served_fits.specs.programs_allowed.specs.sock_runs.proofs.LinkTicks.{RetriesGo}
-use Rattle.served_fits.specs.programs_allowed.specs.sock_runs.proofs.Ticks.{sound_ticks}
-use Rattle.served_fits.specs.programs_allowed.specs.runs_end.proofs.WalksLeft.{message_lists, away_lists, home_lists, put_lists}
-use Rattle.served_fits.specs.outcome_ticks.proofs.Accepting.{row_lists}
-use Rattle.served_fits.specs.outcome_stories.proofs.Cases.{tick_cases}
+use Rattle.served_fits.specs.Below.programs_allowed.specs.program_steps.specs.Rows.{row, hand_at, by_claim, exchanged, took_message, link_away, link_home_again, took_bytes}
+use Rattle.served_fits.specs.Below.programs_allowed.specs.program_steps.specs.Sound.{state, Sound, AreFitting, views_after, views_along}
+use Rattle.served_fits.specs.Below.programs_allowed.specs.sock_runs.proofs.LinkTicks.{RetriesGo}
+use Rattle.served_fits.specs.Below.programs_allowed.specs.sock_runs.proofs.Ticks.{sound_ticks}
+use Rattle.served_fits.specs.Below.programs_allowed.specs.runs_end.proofs.WalksLeft.{message_lists, away_lists, home_lists, put_lists}
+use Rattle.served_fits.specs.Below.outcome_ticks.proofs.Accepting.{row_lists}
+use Rattle.served_fits.specs.Below.outcome_stories.proofs.Cases.{tick_cases}
 
 -- ## Lists of one seat
 

@@ -14,24 +14,24 @@ use Rattle.sock_model.specs.Entries.{on}
 use Rattle.sock_model.specs.Weights.{total}
 use Rattle.brpc_model.specs.Frame.{Frame, IsFrame}
 use Rattle.brpc_model.specs.Stream.{stream, stream_from}
-use Rattle.served_fits.specs.script_facts.proofs.Lists.{all_at, all_from}
+use Rattle.served_fits.specs.Below.script_facts.proofs.Lists.{all_at, all_from}
 use Rattle.corr_core.specs.declared.marks.Plan.{Plan as IdPlan}
 use Rattle.sock_message.specs.Asked.{Asked, request_of, frame_of}
 use Rattle.seat_programs.specs.Asides.{id_slot, id_first}
 use Rattle.seat_programs.specs.Cores.{Core}
-use Rattle.served_fits.specs.programs_allowed.specs.program_steps.specs.Sound.{Sound}
+use Rattle.served_fits.specs.Below.programs_allowed.specs.program_steps.specs.Sound.{Sound}
 use Rattle.id_runs.specs.Held.{IdView}
 use Rattle.id_runs.specs.Goes.{SoundIds}
-use Rattle.served_fits.specs.label_runs.specs.Labels.{Trial}
-use Rattle.served_fits.specs.call_owing.specs.Sound.{id_word_of}
-use Rattle.served_fits.specs.call_owing.proofs.EndsStill as still
-use Rattle.served_fits.specs.call_causes.proofs.Handled.{bound}
-use Rattle.served_fits.specs.call_stories.proofs.Streams.{frames_stay}
-use Rattle.served_fits.specs.accept_counts.specs.Counts.{pair_of, of_heading, of_entry, of_view, times_of, IsOfCall, EntryFits, LabelLaw}
+use Rattle.served_fits.specs.Below.label_runs.specs.Labels.{Trial}
+use Rattle.served_fits.specs.Below.call_owing.specs.Sound.{id_word_of}
+use Rattle.served_fits.specs.Below.call_owing.proofs.EndsStill as still
+use Rattle.served_fits.specs.Below.call_causes.proofs.Handled.{bound}
+use Rattle.served_fits.specs.Below.call_stories.proofs.Streams.{frames_stay}
+use Rattle.served_fits.specs.Below.accept_counts.specs.Counts.{pair_of, of_heading, of_entry, of_view, times_of, IsOfCall, EntryFits, LabelLaw}
 use Rattle.served_fits.specs.served_runs.proofs.Frames.{IsPiece, piece_frames, IsSmall, request_is}
 use Rattle.calls_over.proofs.SoonLists.{Stood, log_stood}
 use Rattle.calls_over.proofs.SoonWords.{bound_low}
-use Rattle.served_fits.specs.own_decisions.proofs.OwnDecisionsTicks.{pair_self}
+use Rattle.served_fits.specs.Below.own_decisions.proofs.OwnDecisionsTicks.{pair_self}
 
 -- ## Requests of ranges that have begun
 

@@ -22,11 +22,11 @@ use Rattle.sock_steps.proofs.RightSteps.{right_in, right_alone}
 use Rattle.seat_programs.specs.Programs.{Program, Do, TakeMessage, TakeHome, PutHome, PutBytes, AskReady, Aside}
 use Rattle.seat_programs.specs.Cores.{Core, SeatState, with_seat}
 use Rattle.seat_programs.specs.Ticks.{Moment, IsAnswered, fed, onto_first, ticked}
-use Rattle.served_fits.specs.programs_allowed.specs.program_steps.specs.Writes.{MayPut}
-use Rattle.served_fits.specs.programs_allowed.specs.program_steps.specs.Sound.{Sound, IsFitting, IsOfRight, AreHeld, first_step}
-use Rattle.served_fits.specs.programs_allowed.specs.sock_runs.proofs.LinkTicks.{RetriesGo}
-use Rattle.served_fits.specs.outcome_stories.proofs.Cases.{tick_cases}
-use Rattle.served_fits.specs.call_owing.specs.Lives.{InHand}
+use Rattle.served_fits.specs.Below.programs_allowed.specs.program_steps.specs.Writes.{MayPut}
+use Rattle.served_fits.specs.Below.programs_allowed.specs.program_steps.specs.Sound.{Sound, IsFitting, IsOfRight, AreHeld, first_step}
+use Rattle.served_fits.specs.Below.programs_allowed.specs.sock_runs.proofs.LinkTicks.{RetriesGo}
+use Rattle.served_fits.specs.Below.outcome_stories.proofs.Cases.{tick_cases}
+use Rattle.served_fits.specs.Below.call_owing.specs.Lives.{InHand}
 use Rattle.served_fits.specs.served_runs.specs.Offered.{Lies, TookSoFar}
 use Rattle.served_fits.specs.served_runs.proofs.Places.{IsPut, all_lay}
 

@@ -7,7 +7,7 @@ use Rattle.sock_model.specs.declared.chain.Entry.{Entry}
 use Rattle.sock_model.specs.declared.view.View.{View}
 use Rattle.brpc_model.specs.Items.{Item}
 use Rattle.brpc_model.specs.Operations.{Turn}
-use Rattle.served_fits.specs.script_facts.proofs.Lists.{all_at}
+use Rattle.served_fits.specs.Below.script_facts.proofs.Lists.{all_at}
 use Rattle.seat_programs.specs.declared.task.Op.TheVariants as ops
 use Rattle.seat_programs.specs.declared.task.Task.{Task}
 use Rattle.seat_programs.specs.Cores.{Core}
@@ -16,25 +16,25 @@ use Rattle.seat_programs.specs.Ticks.{quiet}
 use Rattle.seat_programs.specs.Told.{IsTask, Made}
 use Rattle.seat_programs.specs.ToldCalls.{Accepted}
 use Rattle.seat_programs.specs.Scripts.{all_tasks, IsRunWithCalls}
-use Rattle.served_fits.specs.programs_allowed.specs.program_steps.specs.Sound.{Sound, AllRest}
-use Rattle.served_fits.specs.programs_allowed.specs.program_walks.proofs.Whole.{IsOwed, closing_of, views_played, views_closed, views_ended, end_answered, closing_sound, closed_sound, ended_sound, end_rests}
-use Rattle.served_fits.specs.outcome_stories.specs.Kept.{is_of_send, IsSpoken}
-use Rattle.served_fits.specs.outcome_stories.specs.PlainTasks.{told_tasks_of}
-use Rattle.served_fits.specs.outcome_stories.specs.TaskCauses as causes
-use Rattle.served_fits.specs.outcome_stories.proofs.Delivered.{accepted_of}
-use Rattle.served_fits.specs.outcome_ticks.proofs.Lifted.{task_up, made_up}
-use Rattle.served_fits.specs.outcome_causes.proofs.Messages.{each_made, message_of, number_of}
-use Rattle.served_fits.specs.outcome_causes.proofs.Scripts.{seats, final_told, story_end, orders, run_told}
-use Rattle.served_fits.specs.outcome_stories.proofs.Senders.{HasSent, sent_stands}
-use Rattle.served_fits.specs.joint_runs.proofs.Runs.{AreMade, first_views}
-use Rattle.served_fits.specs.call_owing.specs.Lives.{ClosesInRun}
-use Rattle.served_fits.specs.call_owing.proofs.EndsStill as still
-use Rattle.served_fits.specs.accept_counts.specs.Counts.{EntryFits}
-use Rattle.served_fits.specs.accept_counts.proofs.Early.{first_fresh}
-use Rattle.served_fits.specs.accept_counts.proofs.Runs.{IsCallOf, end_law}
-use Rattle.served_fits.specs.sent_once.proofs.Sends.{owed, narrow, few_clients, labelled, opening_bare}
-use Rattle.served_fits.specs.sent_once.proofs.Labelled.{ids_of_run}
-use Rattle.served_fits.specs.accept_counts.proofs.Grounds.{setting, grounds}
+use Rattle.served_fits.specs.Below.programs_allowed.specs.program_steps.specs.Sound.{Sound, AllRest}
+use Rattle.served_fits.specs.Below.programs_allowed.specs.program_walks.proofs.Whole.{IsOwed, closing_of, views_played, views_closed, views_ended, end_answered, closing_sound, closed_sound, ended_sound, end_rests}
+use Rattle.served_fits.specs.Below.outcome_stories.specs.Kept.{is_of_send, IsSpoken}
+use Rattle.served_fits.specs.Below.outcome_stories.specs.PlainTasks.{told_tasks_of}
+use Rattle.served_fits.specs.Below.outcome_stories.specs.TaskCauses as causes
+use Rattle.served_fits.specs.Below.outcome_stories.proofs.Delivered.{accepted_of}
+use Rattle.served_fits.specs.Below.outcome_ticks.proofs.Lifted.{task_up, made_up}
+use Rattle.served_fits.specs.Below.outcome_causes.proofs.Messages.{each_made, message_of, number_of}
+use Rattle.served_fits.specs.Below.outcome_causes.proofs.Scripts.{seats, final_told, story_end, orders, run_told}
+use Rattle.served_fits.specs.Below.outcome_stories.proofs.Senders.{HasSent, sent_stands}
+use Rattle.served_fits.specs.Below.joint_runs.proofs.Runs.{AreMade, first_views}
+use Rattle.served_fits.specs.Below.call_owing.specs.Lives.{ClosesInRun}
+use Rattle.served_fits.specs.Below.call_owing.proofs.EndsStill as still
+use Rattle.served_fits.specs.Below.accept_counts.specs.Counts.{EntryFits}
+use Rattle.served_fits.specs.Below.accept_counts.proofs.Early.{first_fresh}
+use Rattle.served_fits.specs.Below.accept_counts.proofs.Runs.{IsCallOf, end_law}
+use Rattle.served_fits.specs.Below.sent_once.proofs.Sends.{owed, narrow, few_clients, labelled, opening_bare}
+use Rattle.served_fits.specs.Below.sent_once.proofs.Labelled.{ids_of_run}
+use Rattle.served_fits.specs.Below.accept_counts.proofs.Grounds.{setting, grounds}
 use Rattle.calls_over.proofs.SoonLists.{Stood, run_stay}
 use Rattle.calls_over.proofs.SoonPieces.{NonePlain}
 

@@ -1,4 +1,4 @@
 pub mod Open
 pub use Rattle.served_fits.specs.served_calls
 pub use Rattle.served_fits
-pub use Rattle.served_fits.specs.run_theorems
+pub use Rattle.served_fits.specs.Below

@@ -13,8 +13,8 @@ use Rattle.seat_programs.specs.Heads.{Exit, Reading, Reads}
 use Rattle.seat_programs.specs.Programs.{Program, Round}
 use Rattle.seat_programs.specs.Scripts.{played, IsRunWithCalls}
 use Rattle.seat_programs.specs.Tasks.{opens, plan_of, id_plan_of}
-use Rattle.served_fits.specs.script_facts.proofs.Lists.{Has}
-use Rattle.served_fits.specs.call_owing.specs.Sound.{id_word_of}
+use Rattle.served_fits.specs.Below.script_facts.proofs.Lists.{Has}
+use Rattle.served_fits.specs.Below.call_owing.specs.Sound.{id_word_of}
 use Rattle.served_fits.specs.served_runs.specs.Offered.{TookSoFar}
 
 module _ (script : List Item) (turns : List Turn) (core : Core) (is : IsRunWithCalls script turns core) where

@@ -7,11 +7,11 @@ use Rattle.seat_programs.specs.declared.task.Task.{Task}
 use Rattle.seat_programs.specs.Cores.{Core}
 use Rattle.seat_programs.specs.Ticks.{Moment, quiet, ticked, run, IsAnswered, AreAnswered}
 use Rattle.seat_programs.specs.Told.{AreTasks}
-use Rattle.send_causes.specs.programs_allowed.specs.program_steps.specs.Sound.{IsFitting, AreFitting, views_after}
-use Rattle.send_causes.specs.programs_allowed.specs.sock_runs.proofs.LinkTicks.{RetriesGo}
-use Rattle.send_causes.specs.outcome_stories.specs.Facts.{born_at, put_at, shown_in}
-use Rattle.send_causes.specs.outcome_stories.specs.Kept.{IsSpoken}
-use Rattle.send_causes.specs.outcome_causes.proofs.Runs.{IsStoried, Goes, seats_run}
+use Rattle.send_causes.specs.Below.programs_allowed.specs.program_steps.specs.Sound.{IsFitting, AreFitting, views_after}
+use Rattle.send_causes.specs.Below.programs_allowed.specs.sock_runs.proofs.LinkTicks.{RetriesGo}
+use Rattle.send_causes.specs.Below.outcome_stories.specs.Facts.{born_at, put_at, shown_in}
+use Rattle.send_causes.specs.Below.outcome_stories.specs.Kept.{IsSpoken}
+use Rattle.send_causes.specs.Below.outcome_causes.proofs.Runs.{IsStoried, Goes, seats_run}
 use Rattle.calm_runs.proofs.Ticks.{AreCalls, CalmAt, AllCalm, calm_tick, calm_beside, quiet_outcomes, none_born, no_put}
 
 -- ticks of seat 0 leave another as it is

@@ -12,7 +12,7 @@ use Rattle.seat_programs.specs.Heads.{Reading, Sought, Posting, WasGone, WasStal
 use Rattle.seat_programs.specs.Posts.{packed, is_final, is_first, is_stale, is_full, is_sought, judged, posts_round, post_with, end_id, locking}
 use Rattle.seat_programs.specs.Programs.{Program, Say, LAST_VERSION, NO_SOCKET, recycle, release, address, set_failed}
 use Rattle.seat_programs.specs.Readers.{LIMIT, has_response, slot_in, version_in, is_early, ending_of as outcome_of, answer, answered, responses, read_on, took, discarded, kept_for, ends_with, posted_last, post_each, thrown_away, read, reader}
-use Rattle.send_causes.specs.call_causes.proofs.HandledStates.{ends_final}
+use Rattle.send_causes.specs.Below.call_causes.proofs.HandledStates.{ends_final}
 use Rattle.calm_runs.specs.Calm.{IsCalm}
 
 module _ (S : ℕ → Type 0) where

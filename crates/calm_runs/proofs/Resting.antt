@@ -6,9 +6,9 @@ use lib.ListN.{get_elem?}
 use Rattle.brpc_model.specs.Items.{Item, Join}
 use Rattle.brpc_model.specs.Operations.{Turn}
 use Rattle.brpc_model.specs.Places.{names}
-use Rattle.send_causes.specs.script_facts.proofs.Lists.{Has, contains_from}
-use Rattle.send_causes.specs.script_facts.proofs.Numbering.{are_from}
-use Rattle.send_causes.specs.script_facts.proofs.TaskLemmas.{numbers_at, task_is, join_asks}
+use Rattle.send_causes.specs.Below.script_facts.proofs.Lists.{Has, contains_from}
+use Rattle.send_causes.specs.Below.script_facts.proofs.Numbering.{are_from}
+use Rattle.send_causes.specs.Below.script_facts.proofs.TaskLemmas.{numbers_at, task_is, join_asks}
 use Rattle.seat_programs.specs.declared.task.Op.{Op}
 use Rattle.seat_programs.specs.declared.task.Op.TheVariants as ops
 use Rattle.seat_programs.specs.declared.task.Task.{Task}
@@ -16,14 +16,14 @@ use Rattle.seat_programs.specs.Cores.{Core}
 use Rattle.seat_programs.specs.Scripts.{all_tasks, opened, set_up, played, IsRunWithCalls}
 use Rattle.seat_programs.specs.Tasks.{numbered, plan_of}
 use Rattle.seat_programs.specs.Ticks.{quiet}
-use Rattle.send_causes.specs.programs_allowed.specs.program_steps.specs.Sound.{views_along}
-use Rattle.send_causes.specs.programs_allowed.specs.program_walks.proofs.Whole.{set_up_answered, set_up_sound}
-use Rattle.send_causes.specs.joint_runs.proofs.Runs.{AreMade, first_views}
-use Rattle.send_causes.specs.call_owing.specs.Settled as settled
-use Rattle.send_causes.specs.sent_once.proofs.DropWhole.{get_same}
-use Rattle.send_causes.specs.accept_counts.proofs.Early.{start, go, fitting, opened_takes}
-use Rattle.send_causes.specs.accept_counts.proofs.Standing.{takeless_rests}
-use Rattle.send_causes.specs.accept_counts.proofs.Takeless.{TakesNone, run_takes}
+use Rattle.send_causes.specs.Below.programs_allowed.specs.program_steps.specs.Sound.{views_along}
+use Rattle.send_causes.specs.Below.programs_allowed.specs.program_walks.proofs.Whole.{set_up_answered, set_up_sound}
+use Rattle.send_causes.specs.Below.joint_runs.proofs.Runs.{AreMade, first_views}
+use Rattle.send_causes.specs.Below.call_owing.specs.Settled as settled
+use Rattle.send_causes.specs.Below.sent_once.proofs.DropWhole.{get_same}
+use Rattle.send_causes.specs.Below.accept_counts.proofs.Early.{start, go, fitting, opened_takes}
+use Rattle.send_causes.specs.Below.accept_counts.proofs.Standing.{takeless_rests}
+use Rattle.send_causes.specs.Below.accept_counts.proofs.Takeless.{TakesNone, run_takes}
 
 module _ (script : List Item) (made : AreMade script) (turns : List Turn) (core : Core) (is : IsRunWithCalls script turns core) (no_join : (client number : ℕ) → Contains script (Join client number) → ⊥) where
   joinless : (c : ℕ) (ts : List Task) → get_elem? (all_tasks script) c ≡ some ts → (t : Task) → Has ts t → (o : ℕ) → t.op ≡ ops.Join o → ⊥

@@ -1,10 +1,5 @@
 pub mod Calm
-pub use Rattle.send_causes.specs.accept_counts
-pub use Rattle.send_causes.specs.sent_once
-pub use Rattle.send_causes.specs.own_decisions
-pub use Rattle.send_causes.specs.attempted_calls
-pub use Rattle.send_causes.specs.ended_calls
-pub use Rattle.send_causes.specs.dropped_calls
 pub use Rattle.send_causes
-pub use Rattle.send_causes.specs.programs_allowed.specs.sock_runs
-pub use Rattle.send_causes.specs.programs_allowed.specs.program_walks
+pub use Rattle.send_causes.specs.Below.programs_allowed.specs.sock_runs
+pub use Rattle.send_causes.specs.Below.programs_allowed.specs.program_walks
+pub use Rattle.send_causes.specs.Below

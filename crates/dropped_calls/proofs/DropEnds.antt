@@ -19,17 +19,17 @@ use Rattle.seat_programs.specs.Cores.{Calls, Core, SeatState, word_of, word_afte
 use Rattle.seat_programs.specs.Programs.{Program, Do, Rest, TakeMessage, TakeHome, PutHome, PutBytes, AskReady, Aside, NO_SOCKET}
 use Rattle.seat_programs.specs.Readers.{reader}
 use Rattle.seat_programs.specs.Ticks.{Moment, IsAnswered, AreAnswered, fed, with_places, onto_first, ticked, run}
-use Rattle.refused_attempts.specs.programs_allowed.specs.program_steps.specs.GoesOn.{GoesOn}
-use Rattle.refused_attempts.specs.programs_allowed.specs.program_steps.specs.May.{May}
-use Rattle.refused_attempts.specs.programs_allowed.specs.program_steps.specs.Sound.{state, Sound, IsFitting, AreFitting, first_step, views_after, views_along}
-use Rattle.refused_attempts.specs.programs_allowed.specs.program_steps.proofs.Cases.{goes_first}
-use Rattle.refused_attempts.specs.programs_allowed.specs.sock_runs.proofs.LinkTicks.{RetriesGo}
-use Rattle.refused_attempts.specs.programs_allowed.specs.program_walks.proofs.OpensStay.{run_word}
-use Rattle.refused_attempts.specs.programs_allowed.specs.program_steps.proofs.Passes.{goes_round}
-use Rattle.refused_attempts.specs.programs_allowed.specs.program_walks.proofs.Recorded.{Recorded, recorded_ticks}
-use Rattle.refused_attempts.specs.programs_allowed.specs.program_steps.proofs.Rounds.{begins_round}
-use Rattle.refused_attempts.specs.programs_allowed.specs.sock_runs.proofs.Ticks.{sound_ticks}
-use Rattle.refused_attempts.specs.outcome_stories.proofs.Cases.{tick_cases}
+use Rattle.refused_attempts.specs.Below.programs_allowed.specs.program_steps.specs.GoesOn.{GoesOn}
+use Rattle.refused_attempts.specs.Below.programs_allowed.specs.program_steps.specs.May.{May}
+use Rattle.refused_attempts.specs.Below.programs_allowed.specs.program_steps.specs.Sound.{state, Sound, IsFitting, AreFitting, first_step, views_after, views_along}
+use Rattle.refused_attempts.specs.Below.programs_allowed.specs.program_steps.proofs.Cases.{goes_first}
+use Rattle.refused_attempts.specs.Below.programs_allowed.specs.sock_runs.proofs.LinkTicks.{RetriesGo}
+use Rattle.refused_attempts.specs.Below.programs_allowed.specs.program_walks.proofs.OpensStay.{run_word}
+use Rattle.refused_attempts.specs.Below.programs_allowed.specs.program_steps.proofs.Passes.{goes_round}
+use Rattle.refused_attempts.specs.Below.programs_allowed.specs.program_walks.proofs.Recorded.{Recorded, recorded_ticks}
+use Rattle.refused_attempts.specs.Below.programs_allowed.specs.program_steps.proofs.Rounds.{begins_round}
+use Rattle.refused_attempts.specs.Below.programs_allowed.specs.sock_runs.proofs.Ticks.{sound_ticks}
+use Rattle.refused_attempts.specs.Below.outcome_stories.proofs.Cases.{tick_cases}
 use Rattle.refused_attempts.specs.accept_counts.specs.Refused.{DidStep, DidAt, DidIn}
 use Rattle.refused_attempts.specs.accept_counts.proofs.Closers.{Ends, Calm, Codes, codes_more, calm_first, stores_code}
 use Rattle.refused_attempts.specs.sent_once.proofs.DropCodes.{Failing, NoFail, Fails, Stores, codes_first, codes_next}

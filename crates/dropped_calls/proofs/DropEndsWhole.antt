@@ -24,18 +24,18 @@ use Rattle.seat_programs.specs.Programs.{Program}
 use Rattle.seat_programs.specs.Tasks.{opens, calls, plan_of, id_plan_of}
 use Rattle.seat_programs.specs.Ticks.{Moment, run}
 use Rattle.seat_programs.specs.Scripts.{sizes_of, programs, readers_from, all_programs, all_tasks, opened, set_up, played, is_ending, IsRunWithCalls}
-use Rattle.refused_attempts.specs.programs_allowed.specs.program_steps.specs.Sound.{views_along}
-use Rattle.refused_attempts.specs.programs_allowed.specs.program_walks.proofs.Opening.{mapped}
-use Rattle.refused_attempts.specs.programs_allowed.specs.program_walks.proofs.Whole.{IsListed, closing_of, rested_of, views_played, views_closed, set_up_answered, end_answered, set_up_sound, closing_sound, closed_sound, recorded_opened, recorded_set_up, recorded_closing, recorded_closed}
-use Rattle.refused_attempts.specs.outcome_stories.specs.Stories.{In}
-use Rattle.refused_attempts.specs.programs_allowed.proofs.Beginning as clients_begin
-use Rattle.refused_attempts.specs.joint_runs.proofs.Runs.{AreMade, first_views}
+use Rattle.refused_attempts.specs.Below.programs_allowed.specs.program_steps.specs.Sound.{views_along}
+use Rattle.refused_attempts.specs.Below.programs_allowed.specs.program_walks.proofs.Opening.{mapped}
+use Rattle.refused_attempts.specs.Below.programs_allowed.specs.program_walks.proofs.Whole.{IsListed, closing_of, rested_of, views_played, views_closed, set_up_answered, end_answered, set_up_sound, closing_sound, closed_sound, recorded_opened, recorded_set_up, recorded_closing, recorded_closed}
+use Rattle.refused_attempts.specs.Below.outcome_stories.specs.Stories.{In}
+use Rattle.refused_attempts.specs.Below.programs_allowed.proofs.Beginning as clients_begin
+use Rattle.refused_attempts.specs.Below.joint_runs.proofs.Runs.{AreMade, first_views}
 use Rattle.refused_attempts.specs.accept_counts.specs.Refused.{DidStep, DidEarly, DidInRun}
 use Rattle.refused_attempts.specs.sent_once.proofs.DropCodes.{NoFail, Stores, OwnsFail, client_codes, ending_codes, codes_next}
 use Rattle.dropped_calls.proofs.DropEnds.{StoresThose, EndsLaw, EndsAlong, Whose, ends_along}
 use Rattle.refused_attempts.specs.sent_once.proofs.DropWhole.{get_same}
 use Rattle.refused_attempts.specs.accept_counts.proofs.Early.{Any, ends_anyhow, start, go, fitting, known, before_readers}
-use Rattle.refused_attempts.specs.call_stories.proofs.RunTicks.{in_setup, in_clients, in_closing}
+use Rattle.refused_attempts.specs.Below.call_stories.proofs.RunTicks.{in_setup, in_clients, in_closing}
 use Rattle.ended_calls.proofs.EndedWhole.{opened_keeps, closing_keeps, h₁, h₂, h₃, h₄}
 
 module _ (script : List Item) (made : AreMade script) (turns : List Turn) (core : Core) (is : IsRunWithCalls script turns core) (P : ℕ → Type 0) (gone : P 1009)

@@ -20,10 +20,10 @@ use Rattle.sock_model.specs.Deliveries.{place_value}
 use Rattle.sock_model.specs.Entries.{on}
 use Rattle.sock_model.specs.Layout.{open_index, place_index, request_index}
 use Rattle.sock_model.specs.Rule.{lists_of}
-use Rattle.refused_attempts.specs.sock_steps.proofs.Positions.{few_log, on_shorter}
-use Rattle.refused_attempts.specs.slot_steps.proofs.Numbers.{life_le, life_is}
-use Rattle.refused_attempts.specs.slot_steps.proofs.Sums.{total_bound}
-use Rattle.refused_attempts.specs.chain_steps.proofs.Frames.{in_log}
+use Rattle.refused_attempts.specs.Below.sock_steps.proofs.Positions.{few_log, on_shorter}
+use Rattle.refused_attempts.specs.Below.slot_steps.proofs.Numbers.{life_le, life_is}
+use Rattle.refused_attempts.specs.Below.slot_steps.proofs.Sums.{total_bound}
+use Rattle.refused_attempts.specs.Below.chain_steps.proofs.Frames.{in_log}
 use Rattle.corr_core.specs.Word.{error_of, code_of, attempt_of}
 use Rattle.sock_message.specs.Asked.{Asked}
 use Rattle.seat_programs.specs.declared.task.Op.TheVariants as ops
@@ -35,35 +35,35 @@ use Rattle.seat_programs.specs.Scripts.{all_tasks, IsRunWithCalls}
 use Rattle.seat_programs.specs.Told.{AreTasks, IsTask, Became, Made}
 use Rattle.seat_programs.specs.ToldCalls.{Accepted, Order, IsAt}
 use Rattle.seat_programs.specs.Writings.{Puts}
-use Rattle.refused_attempts.specs.programs_allowed.specs.program_steps.specs.Sound.{state, Sound, AllRest, MOST_PLACES}
-use Rattle.refused_attempts.specs.programs_allowed.specs.program_steps.specs.GoesOn.{GoesOn, HasNothing}
+use Rattle.refused_attempts.specs.Below.programs_allowed.specs.program_steps.specs.Sound.{state, Sound, AllRest, MOST_PLACES}
+use Rattle.refused_attempts.specs.Below.programs_allowed.specs.program_steps.specs.GoesOn.{GoesOn, HasNothing}
 use Rattle.sock_model.specs.References.{slot_facts}
 use Rattle.sock_model.specs.Slots.{SlotLaw, live, count}
 use Rattle.sock_model.specs.Weights.{is_born}
-use Rattle.refused_attempts.specs.slot_steps.proofs.Clauses.{taken_for}
-use Rattle.refused_attempts.specs.programs_allowed.specs.sock_runs.proofs.LinksStay.{IsGiven}
-use Rattle.refused_attempts.specs.programs_allowed.specs.program_steps.proofs.Bounds.{lives_le}
-use Rattle.refused_attempts.specs.programs_allowed.specs.program_walks.proofs.Recorded.{Recorded, Stands, run_recorded}
-use Rattle.refused_attempts.specs.programs_allowed.specs.program_walks.proofs.Records.{next_stores}
-use Rattle.refused_attempts.specs.programs_allowed.specs.program_walks.proofs.Whole.{IsListed, views_closed, views_ended, closed_sound, recorded_closed, ended_sound, end_rests}
-use Rattle.refused_attempts.specs.outcome_stories.specs.Causes.{WasGiven, Cause}
-use Rattle.refused_attempts.specs.outcome_stories.specs.Explains.{FailsLife, FailsLink, is_plain, step}
-use Rattle.refused_attempts.specs.outcome_stories.specs.Kept.{IsSpoken, StaysUsed, Story}
-use Rattle.refused_attempts.specs.outcome_stories.specs.PlainTasks.{told_tasks_of}
-use Rattle.refused_attempts.specs.outcome_stories.specs.Stories.{Event, In, trace_of}
-use Rattle.refused_attempts.specs.outcome_stories.proofs.Delivered.{accepted_at, AreQuiet, requests_used}
-use Rattle.refused_attempts.specs.outcome_causes.proofs.Openings.{are_seats}
-use Rattle.refused_attempts.specs.outcome_ticks.proofs.Events.{event, BeforeIn, cause_of, in_marked, birth_adds, marked_given}
-use Rattle.refused_attempts.specs.outcome_causes.proofs.Final.{at_within, at_there, idle, final}
-use Rattle.refused_attempts.specs.outcome_ticks.proofs.Lifted.{up, task_up, made_up, made_down}
-use Rattle.refused_attempts.specs.outcome_causes.proofs.Lives.{World, birth_means, task_of, given_made, one_life, odd_means, odd_life, fail_says}
-use Rattle.refused_attempts.specs.outcome_stories.proofs.Members.{all_in, contains_in, in_contains}
-use Rattle.refused_attempts.specs.outcome_ticks.proofs.Tasks.{one_task}
-use Rattle.refused_attempts.specs.programs_allowed.specs.Openings.{all_seats}
-use Rattle.refused_attempts.specs.programs_allowed.proofs.Fresh.{opening_fresh, opening_claims}
-use Rattle.refused_attempts.specs.joint_runs.proofs.Runs.{AreMade, first_views, joint_runs, joint_bounded}
-use Rattle.refused_attempts.specs.call_owing.specs.Lives.{ClosesInRun}
-use Rattle.refused_attempts.specs.call_stories.specs.Posts.{Post}
+use Rattle.refused_attempts.specs.Below.slot_steps.proofs.Clauses.{taken_for}
+use Rattle.refused_attempts.specs.Below.programs_allowed.specs.sock_runs.proofs.LinksStay.{IsGiven}
+use Rattle.refused_attempts.specs.Below.programs_allowed.specs.program_steps.proofs.Bounds.{lives_le}
+use Rattle.refused_attempts.specs.Below.programs_allowed.specs.program_walks.proofs.Recorded.{Recorded, Stands, run_recorded}
+use Rattle.refused_attempts.specs.Below.programs_allowed.specs.program_walks.proofs.Records.{next_stores}
+use Rattle.refused_attempts.specs.Below.programs_allowed.specs.program_walks.proofs.Whole.{IsListed, views_closed, views_ended, closed_sound, recorded_closed, ended_sound, end_rests}
+use Rattle.refused_attempts.specs.Below.outcome_stories.specs.Causes.{WasGiven, Cause}
+use Rattle.refused_attempts.specs.Below.outcome_stories.specs.Explains.{FailsLife, FailsLink, is_plain, step}
+use Rattle.refused_attempts.specs.Below.outcome_stories.specs.Kept.{IsSpoken, StaysUsed, Story}
+use Rattle.refused_attempts.specs.Below.outcome_stories.specs.PlainTasks.{told_tasks_of}
+use Rattle.refused_attempts.specs.Below.outcome_stories.specs.Stories.{Event, In, trace_of}
+use Rattle.refused_attempts.specs.Below.outcome_stories.proofs.Delivered.{accepted_at, AreQuiet, requests_used}
+use Rattle.refused_attempts.specs.Below.outcome_causes.proofs.Openings.{are_seats}
+use Rattle.refused_attempts.specs.Below.outcome_ticks.proofs.Events.{event, BeforeIn, cause_of, in_marked, birth_adds, marked_given}
+use Rattle.refused_attempts.specs.Below.outcome_causes.proofs.Final.{at_within, at_there, idle, final}
+use Rattle.refused_attempts.specs.Below.outcome_ticks.proofs.Lifted.{up, task_up, made_up, made_down}
+use Rattle.refused_attempts.specs.Below.outcome_causes.proofs.Lives.{World, birth_means, task_of, given_made, one_life, odd_means, odd_life, fail_says}
+use Rattle.refused_attempts.specs.Below.outcome_stories.proofs.Members.{all_in, contains_in, in_contains}
+use Rattle.refused_attempts.specs.Below.outcome_ticks.proofs.Tasks.{one_task}
+use Rattle.refused_attempts.specs.Below.programs_allowed.specs.Openings.{all_seats}
+use Rattle.refused_attempts.specs.Below.programs_allowed.proofs.Fresh.{opening_fresh, opening_claims}
+use Rattle.refused_attempts.specs.Below.joint_runs.proofs.Runs.{AreMade, first_views, joint_runs, joint_bounded}
+use Rattle.refused_attempts.specs.Below.call_owing.specs.Lives.{ClosesInRun}
+use Rattle.refused_attempts.specs.Below.call_stories.specs.Posts.{Post}
 use Rattle.refused_attempts.specs.accept_counts.specs.Refused.{Deed, DidStep, DidRound, DidInRun, IsDrop}
 use Rattle.refused_attempts.specs.sent_once.proofs.Beside.{gave_of_run, fixed_of_run, orders_here}
 use Rattle.refused_attempts.specs.accept_counts.proofs.Early.{start, go, fitting}

@@ -19,15 +19,15 @@ use Rattle.seat_programs.specs.Tasks.{opens, plan_of}
 use Rattle.seat_programs.specs.Ticks.{Moment, quiet}
 use Rattle.seat_programs.specs.Scripts.{all_tasks, played, IsRunWithCalls}
 use Rattle.seat_programs.specs.ToldCalls.{Accepted, label, IsFailing}
-use Rattle.refused_attempts.specs.programs_allowed.specs.program_steps.specs.Sound.{state, Sound, AreFew}
-use Rattle.refused_attempts.specs.programs_allowed.specs.sock_runs.proofs.Along.{seat_rests, place_inside}
-use Rattle.refused_attempts.specs.programs_allowed.specs.program_walks.proofs.Whole.{closing_of, views_played, views_closed, views_ended, end_answered, played_sound, closing_sound, closed_sound, ended_sound, rested_ahead, rested_idle}
-use Rattle.refused_attempts.specs.outcome_stories.specs.Facts.{late_links_of_run}
-use Rattle.refused_attempts.specs.outcome_stories.specs.Stories.{In}
-use Rattle.refused_attempts.specs.outcome_stories.proofs.Members.{get_there, in_contains}
-use Rattle.refused_attempts.specs.joint_runs.proofs.Both.{AreBounded}
-use Rattle.refused_attempts.specs.joint_runs.proofs.Runs.{AreMade, first_views, joint_runs, joint_bounded}
-use Rattle.refused_attempts.specs.call_owing.specs.Lives.{ClosesInRun}
+use Rattle.refused_attempts.specs.Below.programs_allowed.specs.program_steps.specs.Sound.{state, Sound, AreFew}
+use Rattle.refused_attempts.specs.Below.programs_allowed.specs.sock_runs.proofs.Along.{seat_rests, place_inside}
+use Rattle.refused_attempts.specs.Below.programs_allowed.specs.program_walks.proofs.Whole.{closing_of, views_played, views_closed, views_ended, end_answered, played_sound, closing_sound, closed_sound, ended_sound, rested_ahead, rested_idle}
+use Rattle.refused_attempts.specs.Below.outcome_stories.specs.Facts.{late_links_of_run}
+use Rattle.refused_attempts.specs.Below.outcome_stories.specs.Stories.{In}
+use Rattle.refused_attempts.specs.Below.outcome_stories.proofs.Members.{get_there, in_contains}
+use Rattle.refused_attempts.specs.Below.joint_runs.proofs.Both.{AreBounded}
+use Rattle.refused_attempts.specs.Below.joint_runs.proofs.Runs.{AreMade, first_views, joint_runs, joint_bounded}
+use Rattle.refused_attempts.specs.Below.call_owing.specs.Lives.{ClosesInRun}
 use Rattle.refused_attempts.specs.sent_once.proofs.Beside.{gave_of_run, fixed_of_run, orders_here, failing_of_run}
 use Rattle.refused_attempts.specs.sent_once.proofs.Dropped.{ending_begins, ending_places, log_small}
 use Rattle.refused_attempts.specs.accept_counts.proofs.Early.{start, go, fitting}
@@ -37,8 +37,8 @@ use Rattle.dropped_calls.proofs.LatePlaces.{IsEnding, ending_along}
 use Rattle.dropped_calls.proofs.LateRests.{none_stands, ended_idle}
 use Rattle.dropped_calls.proofs.LateLives.{WasPast}
 use Rattle.refused_attempts.specs.sent_once.proofs.Sends.{orders_are}
-use Rattle.refused_attempts.specs.sock_steps.proofs.Positions.{on_shorter}
-use Rattle.refused_attempts.specs.programs_allowed.specs.program_steps.specs.Lasts.{MOST_TICKS}
+use Rattle.refused_attempts.specs.Below.sock_steps.proofs.Positions.{on_shorter}
+use Rattle.refused_attempts.specs.Below.programs_allowed.specs.program_steps.specs.Lasts.{MOST_TICKS}
 
 -- a place word tells that the message at this position of the link was dropped: then the link had failed
 failed_here : (p : Plan) (c : Core) (vs : List View) (sound : Sound p c vs) → AreFew vs → (l k position : ℕ) → l < 8 * p.operations → k < p.links → position < 2147483648 → get_or c.words (place_index p l) 0 ≡ place_value true k position → Failed p (state c vs) k
@@ -135,4 +135,4 @@ module _ (script : List Item) (made : AreMade script) (turns : List Turn) (core 
 
         place_low : (orders_here script made turns core is closes k).placed < 2147483648
         place_low = let b = joint_bounded script turns core is made (joint_runs script turns core is made) in let over_ = b.over in
-            let s = log_small (plan_of script) core (views_ended script turns core is (first_views script)) sound over_.few in let o = on_shorter k sound.lawful.log in let m = length-map (on k sound.lawful.log) Rattle.refused_attempts.specs.outcome_stories.proofs.Delivered.accepted_of in omega (arith, s, o, m, less)
+            let s = log_small (plan_of script) core (views_ended script turns core is (first_views script)) sound over_.few in let o = on_shorter k sound.lawful.log in let m = length-map (on k sound.lawful.log) Rattle.refused_attempts.specs.Below.outcome_stories.proofs.Delivered.accepted_of in omega (arith, s, o, m, less)

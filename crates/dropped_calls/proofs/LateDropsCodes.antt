@@ -17,16 +17,16 @@ use Rattle.seat_programs.specs.Cores.{Core, SeatState, word_of, found_at}
 use Rattle.seat_programs.specs.Programs.{Program, Do, Rest, NO_SOCKET}
 use Rattle.seat_programs.specs.Readers.{reader}
 use Rattle.seat_programs.specs.Ticks.{Moment, IsAnswered, ticked}
-use Rattle.refused_attempts.specs.programs_allowed.specs.program_steps.specs.GoesOn.{GoesOn}
-use Rattle.refused_attempts.specs.programs_allowed.specs.program_steps.specs.May.{May}
-use Rattle.refused_attempts.specs.programs_allowed.specs.program_steps.specs.Sound.{state, Sound, IsFitting, first_step, views_after}
-use Rattle.refused_attempts.specs.programs_allowed.specs.program_steps.proofs.Cases.{goes_first}
-use Rattle.refused_attempts.specs.programs_allowed.specs.sock_runs.proofs.LinkTicks.{RetriesGo}
-use Rattle.refused_attempts.specs.programs_allowed.specs.program_steps.proofs.Passes.{goes_round}
-use Rattle.refused_attempts.specs.programs_allowed.specs.program_walks.proofs.Recorded.{Recorded}
-use Rattle.refused_attempts.specs.programs_allowed.specs.program_steps.proofs.Rounds.{begins_round}
-use Rattle.refused_attempts.specs.outcome_stories.proofs.Cases.{tick_cases}
-use Rattle.refused_attempts.specs.call_stories.specs.Decided.{is_late_step, late_at}
+use Rattle.refused_attempts.specs.Below.programs_allowed.specs.program_steps.specs.GoesOn.{GoesOn}
+use Rattle.refused_attempts.specs.Below.programs_allowed.specs.program_steps.specs.May.{May}
+use Rattle.refused_attempts.specs.Below.programs_allowed.specs.program_steps.specs.Sound.{state, Sound, IsFitting, first_step, views_after}
+use Rattle.refused_attempts.specs.Below.programs_allowed.specs.program_steps.proofs.Cases.{goes_first}
+use Rattle.refused_attempts.specs.Below.programs_allowed.specs.sock_runs.proofs.LinkTicks.{RetriesGo}
+use Rattle.refused_attempts.specs.Below.programs_allowed.specs.program_steps.proofs.Passes.{goes_round}
+use Rattle.refused_attempts.specs.Below.programs_allowed.specs.program_walks.proofs.Recorded.{Recorded}
+use Rattle.refused_attempts.specs.Below.programs_allowed.specs.program_steps.proofs.Rounds.{begins_round}
+use Rattle.refused_attempts.specs.Below.outcome_stories.proofs.Cases.{tick_cases}
+use Rattle.refused_attempts.specs.Below.call_stories.specs.Decided.{is_late_step, late_at}
 use Rattle.refused_attempts.specs.accept_counts.specs.Refused.{DidStep, DidAt}
 use Rattle.refused_attempts.specs.accept_counts.proofs.Closers.{Ends, Calm, calm_first, stores_code}
 use Rattle.dropped_calls.proofs.DropEnds.{StoresThose, those, program_of, those_ticks}

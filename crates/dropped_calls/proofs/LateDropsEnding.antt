@@ -10,25 +10,25 @@ use Rattle.sock_words.specs.Words.{vref_version}
 use Rattle.sock_words.specs.declared.plain.Plan.{Plan}
 use Rattle.sock_model.specs.declared.view.View.{View}
 use Rattle.sock_model.specs.Layout.{ref_index}
-use Rattle.refused_attempts.specs.chain_steps.proofs.Lists.{at_some}
+use Rattle.refused_attempts.specs.Below.chain_steps.proofs.Lists.{at_some}
 use Rattle.seat_programs.specs.Calls.{DropPlace}
 use Rattle.seat_programs.specs.Cores.{Core, SeatState}
 use Rattle.seat_programs.specs.Programs.{Program, Do}
 use Rattle.seat_programs.specs.Tasks.{plan_of}
 use Rattle.seat_programs.specs.Ticks.{Moment, AreAnswered, ticked, run}
 use Rattle.seat_programs.specs.Scripts.{IsRunWithCalls}
-use Rattle.refused_attempts.specs.programs_allowed.specs.program_steps.specs.GoesOn.{GoesOn}
-use Rattle.refused_attempts.specs.programs_allowed.specs.program_steps.specs.May.{May}
-use Rattle.refused_attempts.specs.programs_allowed.specs.program_steps.specs.Sound.{Sound, AreFitting, first_step, views_after, views_along}
-use Rattle.refused_attempts.specs.programs_allowed.specs.sock_runs.proofs.Along.{place_inside}
-use Rattle.refused_attempts.specs.programs_allowed.specs.program_steps.proofs.Cases.{goes_first}
-use Rattle.refused_attempts.specs.programs_allowed.specs.sock_runs.proofs.LinksStay.{IsGiven, run_given}
-use Rattle.refused_attempts.specs.programs_allowed.specs.sock_runs.proofs.LinkTicks.{RetriesGo}
-use Rattle.refused_attempts.specs.programs_allowed.specs.program_steps.proofs.Passes.{goes_round}
-use Rattle.refused_attempts.specs.programs_allowed.specs.program_steps.proofs.Rounds.{begins_round}
-use Rattle.refused_attempts.specs.programs_allowed.specs.sock_runs.proofs.Ticks.{sound_ticks}
-use Rattle.refused_attempts.specs.programs_allowed.specs.program_walks.proofs.Whole.{views_closed, views_ended, closed_sound}
-use Rattle.refused_attempts.specs.joint_runs.proofs.Runs.{AreMade, first_views}
+use Rattle.refused_attempts.specs.Below.programs_allowed.specs.program_steps.specs.GoesOn.{GoesOn}
+use Rattle.refused_attempts.specs.Below.programs_allowed.specs.program_steps.specs.May.{May}
+use Rattle.refused_attempts.specs.Below.programs_allowed.specs.program_steps.specs.Sound.{Sound, AreFitting, first_step, views_after, views_along}
+use Rattle.refused_attempts.specs.Below.programs_allowed.specs.sock_runs.proofs.Along.{place_inside}
+use Rattle.refused_attempts.specs.Below.programs_allowed.specs.program_steps.proofs.Cases.{goes_first}
+use Rattle.refused_attempts.specs.Below.programs_allowed.specs.sock_runs.proofs.LinksStay.{IsGiven, run_given}
+use Rattle.refused_attempts.specs.Below.programs_allowed.specs.sock_runs.proofs.LinkTicks.{RetriesGo}
+use Rattle.refused_attempts.specs.Below.programs_allowed.specs.program_steps.proofs.Passes.{goes_round}
+use Rattle.refused_attempts.specs.Below.programs_allowed.specs.program_steps.proofs.Rounds.{begins_round}
+use Rattle.refused_attempts.specs.Below.programs_allowed.specs.sock_runs.proofs.Ticks.{sound_ticks}
+use Rattle.refused_attempts.specs.Below.programs_allowed.specs.program_walks.proofs.Whole.{views_closed, views_ended, closed_sound}
+use Rattle.refused_attempts.specs.Below.joint_runs.proofs.Runs.{AreMade, first_views}
 use Rattle.refused_attempts.specs.accept_counts.specs.Refused.{DidStep, DidAt, DidIn}
 use Rattle.refused_attempts.specs.accept_counts.proofs.Early.{start, go, fitting}
 use Rattle.dropped_calls.proofs.LateLives.{WasPast, Lives, lives_tell, lives_ticks}

@@ -15,17 +15,17 @@ use Rattle.seat_programs.specs.Asides.{Taking}
 use Rattle.seat_programs.specs.Calls.{LoadCode}
 use Rattle.seat_programs.specs.Cores.{Core, SeatState}
 use Rattle.seat_programs.specs.Ticks.{Moment, AreAnswered, IsAnswered, quiet, ticked, run}
-use Rattle.refused_attempts.specs.programs_allowed.specs.program_steps.specs.Sound.{Sound, AreFitting, IsFitting, first_step, views_after, views_along}
-use Rattle.refused_attempts.specs.programs_allowed.specs.sock_runs.proofs.LinkTicks.{RetriesGo}
-use Rattle.refused_attempts.specs.programs_allowed.specs.program_walks.proofs.OpensStay.{run_word}
-use Rattle.refused_attempts.specs.programs_allowed.specs.program_walks.proofs.Recorded.{Recorded, recorded_ticks}
-use Rattle.refused_attempts.specs.programs_allowed.specs.sock_runs.proofs.Ticks.{sound_ticks}
-use Rattle.refused_attempts.specs.outcome_stories.specs.Stories.{In}
-use Rattle.refused_attempts.specs.outcome_stories.proofs.Members.{all_in}
-use Rattle.refused_attempts.specs.outcome_causes.proofs.Plain.{in_left, in_right, in_both}
-use Rattle.refused_attempts.specs.call_stories.specs.Decided.{posted_by, is_late_step, late_at, late_in, posted_behind}
-use Rattle.refused_attempts.specs.call_stories.specs.Lists.{shows_in}
-use Rattle.refused_attempts.specs.call_stories.specs.Posts.{Post, posted_at}
+use Rattle.refused_attempts.specs.Below.programs_allowed.specs.program_steps.specs.Sound.{Sound, AreFitting, IsFitting, first_step, views_after, views_along}
+use Rattle.refused_attempts.specs.Below.programs_allowed.specs.sock_runs.proofs.LinkTicks.{RetriesGo}
+use Rattle.refused_attempts.specs.Below.programs_allowed.specs.program_walks.proofs.OpensStay.{run_word}
+use Rattle.refused_attempts.specs.Below.programs_allowed.specs.program_walks.proofs.Recorded.{Recorded, recorded_ticks}
+use Rattle.refused_attempts.specs.Below.programs_allowed.specs.sock_runs.proofs.Ticks.{sound_ticks}
+use Rattle.refused_attempts.specs.Below.outcome_stories.specs.Stories.{In}
+use Rattle.refused_attempts.specs.Below.outcome_stories.proofs.Members.{all_in}
+use Rattle.refused_attempts.specs.Below.outcome_causes.proofs.Plain.{in_left, in_right, in_both}
+use Rattle.refused_attempts.specs.Below.call_stories.specs.Decided.{posted_by, is_late_step, late_at, late_in, posted_behind}
+use Rattle.refused_attempts.specs.Below.call_stories.specs.Lists.{shows_in}
+use Rattle.refused_attempts.specs.Below.call_stories.specs.Posts.{Post, posted_at}
 use Rattle.refused_attempts.specs.accept_counts.specs.Counts.{AreLabelled}
 use Rattle.refused_attempts.specs.accept_counts.specs.Refused.{Deed, DidStep, Doing, DidAt, DidIn, ChargeLaw, AllWouldOwn}
 use Rattle.refused_attempts.specs.accept_counts.proofs.Closers.{Ends}

@@ -19,19 +19,19 @@ use Rattle.seat_programs.specs.Cores.{Core}
 use Rattle.seat_programs.specs.Tasks.{opens, calls, plan_of, id_plan_of}
 use Rattle.seat_programs.specs.Ticks.{Moment, AreAnswered, quiet, ticked, run}
 use Rattle.seat_programs.specs.Scripts.{all_tasks, opened, set_up, played, IsRunWithCalls}
-use Rattle.refused_attempts.specs.programs_allowed.specs.program_steps.specs.Sound.{Sound, AreFitting, views_along}
-use Rattle.refused_attempts.specs.programs_allowed.specs.sock_runs.proofs.Along.{seat_rests}
-use Rattle.refused_attempts.specs.programs_allowed.specs.program_walks.proofs.OpensStay.{run_word}
-use Rattle.refused_attempts.specs.programs_allowed.specs.program_walks.proofs.Recorded.{Recorded}
-use Rattle.refused_attempts.specs.programs_allowed.specs.program_walks.proofs.Whole.{IsListed, closing_of, views_played, views_closed, set_up_answered, end_answered, set_up_sound, closing_sound, closed_sound, closed_ahead, recorded_opened, recorded_set_up, recorded_closing, recorded_closed}
-use Rattle.refused_attempts.specs.outcome_stories.specs.Stories.{In}
-use Rattle.refused_attempts.specs.outcome_causes.proofs.Plain.{in_left, in_right, in_both}
-use Rattle.refused_attempts.specs.programs_allowed.proofs.Beginning as clients_begin
-use Rattle.refused_attempts.specs.joint_runs.proofs.Runs.{AreMade, first_views}
-use Rattle.refused_attempts.specs.call_owing.specs.Lives.{ClosesInRun}
-use Rattle.refused_attempts.specs.call_stories.specs.Decided.{posted_by, posted_behind}
-use Rattle.refused_attempts.specs.call_stories.specs.Lists.{shows_in, shows_in_run}
-use Rattle.refused_attempts.specs.call_stories.specs.Posts.{Post, posted_at}
+use Rattle.refused_attempts.specs.Below.programs_allowed.specs.program_steps.specs.Sound.{Sound, AreFitting, views_along}
+use Rattle.refused_attempts.specs.Below.programs_allowed.specs.sock_runs.proofs.Along.{seat_rests}
+use Rattle.refused_attempts.specs.Below.programs_allowed.specs.program_walks.proofs.OpensStay.{run_word}
+use Rattle.refused_attempts.specs.Below.programs_allowed.specs.program_walks.proofs.Recorded.{Recorded}
+use Rattle.refused_attempts.specs.Below.programs_allowed.specs.program_walks.proofs.Whole.{IsListed, closing_of, views_played, views_closed, set_up_answered, end_answered, set_up_sound, closing_sound, closed_sound, closed_ahead, recorded_opened, recorded_set_up, recorded_closing, recorded_closed}
+use Rattle.refused_attempts.specs.Below.outcome_stories.specs.Stories.{In}
+use Rattle.refused_attempts.specs.Below.outcome_causes.proofs.Plain.{in_left, in_right, in_both}
+use Rattle.refused_attempts.specs.Below.programs_allowed.proofs.Beginning as clients_begin
+use Rattle.refused_attempts.specs.Below.joint_runs.proofs.Runs.{AreMade, first_views}
+use Rattle.refused_attempts.specs.Below.call_owing.specs.Lives.{ClosesInRun}
+use Rattle.refused_attempts.specs.Below.call_stories.specs.Decided.{posted_by, posted_behind}
+use Rattle.refused_attempts.specs.Below.call_stories.specs.Lists.{shows_in, shows_in_run}
+use Rattle.refused_attempts.specs.Below.call_stories.specs.Posts.{Post, posted_at}
 use Rattle.refused_attempts.specs.accept_counts.specs.Counts.{AreLabelled}
 use Rattle.refused_attempts.specs.accept_counts.specs.Refused.{Deed, Doing, DidIn, DidEarly, DidLate, AllWouldOwn, RunWouldOwn}
 use Rattle.refused_attempts.specs.sent_once.proofs.DropCodes.{Stores}

@@ -12,10 +12,10 @@ use Rattle.sock_model.specs.Layout.{ref_index, open_index}
 use Rattle.sock_model.specs.Slots.{count, live}
 use Rattle.sock_model.specs.References.{slot_facts}
 use Rattle.sock_model.specs.Weights.{is_born, is_linked}
-use Rattle.refused_attempts.specs.slot_steps.proofs.Numbers.{life-in, life_is}
-use Rattle.refused_attempts.specs.chain_steps.proofs.Lists.{at_some}
-use Rattle.refused_attempts.specs.sock_steps.proofs.Places.{counts}
-use Rattle.refused_attempts.specs.sock_steps.proofs.Quiet.{either_way}
+use Rattle.refused_attempts.specs.Below.slot_steps.proofs.Numbers.{life-in, life_is}
+use Rattle.refused_attempts.specs.Below.chain_steps.proofs.Lists.{at_some}
+use Rattle.refused_attempts.specs.Below.sock_steps.proofs.Places.{counts}
+use Rattle.refused_attempts.specs.Below.sock_steps.proofs.Quiet.{either_way}
 use Rattle.seat_programs.specs.brpc_model.specs.Items.{Item}
 use Rattle.seat_programs.specs.brpc_model.specs.Operations.{Turn}
 use Rattle.seat_programs.specs.Calls.{Call, SetOdd}
@@ -26,25 +26,25 @@ use Rattle.seat_programs.specs.Cores.{Core, SeatState, word_of, word_after, foun
 use Rattle.seat_programs.specs.Tasks.{opens, plan_of}
 use Rattle.seat_programs.specs.Ticks.{Moment, IsAnswered, AreAnswered, quiet, ticked, run}
 use Rattle.seat_programs.specs.Scripts.{played, IsRunWithCalls}
-use Rattle.refused_attempts.specs.programs_allowed.specs.program_steps.specs.Rows.{row, hand_at}
-use Rattle.refused_attempts.specs.programs_allowed.specs.program_steps.specs.Sound.{state, Sound, first_step, IsFitting, AreFitting, views_after, views_along}
-use Rattle.refused_attempts.specs.programs_allowed.specs.sock_runs.proofs.Along.{place_inside, seat_rests}
-use Rattle.refused_attempts.specs.programs_allowed.specs.program_steps.proofs.Bounds.{law, lives_le}
-use Rattle.refused_attempts.specs.programs_allowed.specs.program_steps.proofs.Cases.{ComesNext, with_rights, tick_keeps_marks}
-use Rattle.refused_attempts.specs.programs_allowed.specs.program_walks.proofs.Closing.{Fails, fails_ending, what_fails}
-use Rattle.refused_attempts.specs.programs_allowed.specs.sock_runs.proofs.LinkNotes.{links_only}
-use Rattle.refused_attempts.specs.programs_allowed.specs.sock_runs.proofs.LinksStay.{IsGiven, run_given}
-use Rattle.refused_attempts.specs.programs_allowed.specs.sock_runs.proofs.LinkTicks.{RetriesGo}
-use Rattle.refused_attempts.specs.programs_allowed.specs.sock_runs.proofs.Notes.{bears}
-use Rattle.refused_attempts.specs.programs_allowed.specs.program_steps.proofs.Passes.{goes_round}
-use Rattle.refused_attempts.specs.programs_allowed.specs.sock_runs.proofs.Quiets.{run_seats}
-use Rattle.refused_attempts.specs.programs_allowed.specs.program_walks.proofs.Records.{stores, next_stores, opens_same}
-use Rattle.refused_attempts.specs.programs_allowed.specs.program_walks.proofs.Recorded.{Recorded, IsPending}
-use Rattle.refused_attempts.specs.programs_allowed.specs.program_steps.proofs.Rounds.{begins_round}
-use Rattle.refused_attempts.specs.programs_allowed.specs.sock_runs.proofs.Ticks.{sound_ticks}
-use Rattle.refused_attempts.specs.programs_allowed.specs.sock_runs.proofs.Versions.{versions_on, odd_past}
-use Rattle.refused_attempts.specs.programs_allowed.specs.program_walks.proofs.Whole.{closing_of, views_played, views_closed, end_answered, closing_sound, rested_ahead, recorded_closing, closed_ahead}
-use Rattle.refused_attempts.specs.joint_runs.proofs.Runs.{AreMade, first_views}
+use Rattle.refused_attempts.specs.Below.programs_allowed.specs.program_steps.specs.Rows.{row, hand_at}
+use Rattle.refused_attempts.specs.Below.programs_allowed.specs.program_steps.specs.Sound.{state, Sound, first_step, IsFitting, AreFitting, views_after, views_along}
+use Rattle.refused_attempts.specs.Below.programs_allowed.specs.sock_runs.proofs.Along.{place_inside, seat_rests}
+use Rattle.refused_attempts.specs.Below.programs_allowed.specs.program_steps.proofs.Bounds.{law, lives_le}
+use Rattle.refused_attempts.specs.Below.programs_allowed.specs.program_steps.proofs.Cases.{ComesNext, with_rights, tick_keeps_marks}
+use Rattle.refused_attempts.specs.Below.programs_allowed.specs.program_walks.proofs.Closing.{Fails, fails_ending, what_fails}
+use Rattle.refused_attempts.specs.Below.programs_allowed.specs.sock_runs.proofs.LinkNotes.{links_only}
+use Rattle.refused_attempts.specs.Below.programs_allowed.specs.sock_runs.proofs.LinksStay.{IsGiven, run_given}
+use Rattle.refused_attempts.specs.Below.programs_allowed.specs.sock_runs.proofs.LinkTicks.{RetriesGo}
+use Rattle.refused_attempts.specs.Below.programs_allowed.specs.sock_runs.proofs.Notes.{bears}
+use Rattle.refused_attempts.specs.Below.programs_allowed.specs.program_steps.proofs.Passes.{goes_round}
+use Rattle.refused_attempts.specs.Below.programs_allowed.specs.sock_runs.proofs.Quiets.{run_seats}
+use Rattle.refused_attempts.specs.Below.programs_allowed.specs.program_walks.proofs.Records.{stores, next_stores, opens_same}
+use Rattle.refused_attempts.specs.Below.programs_allowed.specs.program_walks.proofs.Recorded.{Recorded, IsPending}
+use Rattle.refused_attempts.specs.Below.programs_allowed.specs.program_steps.proofs.Rounds.{begins_round}
+use Rattle.refused_attempts.specs.Below.programs_allowed.specs.sock_runs.proofs.Ticks.{sound_ticks}
+use Rattle.refused_attempts.specs.Below.programs_allowed.specs.sock_runs.proofs.Versions.{versions_on, odd_past}
+use Rattle.refused_attempts.specs.Below.programs_allowed.specs.program_walks.proofs.Whole.{closing_of, views_played, views_closed, end_answered, closing_sound, rested_ahead, recorded_closing, closed_ahead}
+use Rattle.refused_attempts.specs.Below.joint_runs.proofs.Runs.{AreMade, first_views}
 use Rattle.refused_attempts.specs.accept_counts.proofs.Early.{start, go, fitting}
 use Rattle.refused_attempts.specs.accept_counts.proofs.Rests.{many, aside}
 
@@ -150,7 +150,7 @@ module _ (p : Plan) (retries : RetriesGo p) where
       makes : MakesEnding c
       fails : (seat : SeatState) → get_elem? c.seats 0 ≡ some seat → IsPast c i h ⊎ Fails o (socket_id h i + 1) seat.program
 
-    passing_step : (c : Core) (vs : List View) (j : ℕ) (v : View) (call : Call) (next : ℕ → Program) → Sound p c vs → get_elem? vs j ≡ some v → Rattle.refused_attempts.specs.programs_allowed.specs.program_steps.specs.May.May p v call → IsGiven c vs i h k → get_or c.words (open_index p o) 0 ≡ socket_id h i + 1
+    passing_step : (c : Core) (vs : List View) (j : ℕ) (v : View) (call : Call) (next : ℕ → Program) → Sound p c vs → get_elem? vs j ≡ some v → Rattle.refused_attempts.specs.Below.programs_allowed.specs.program_steps.specs.May.May p v call → IsGiven c vs i h k → get_or c.words (open_index p o) 0 ≡ socket_id h i + 1
         → IsPast c i h ⊎ Fails o (socket_id h i + 1) (Do call next)
         → (h < vref_version (get_or (words_after c.words (word_of p call) (word_after call (found_at c.words (word_of p call)))) (ref_index i) 0)) ⊎ Fails o (socket_id h i + 1) (next (found_at c.words (word_of p call)))
     passing_step c vs j v call next sound at may given word x = ⊎_elim (λ past. gone past)
@@ -206,7 +206,7 @@ module _ (script : List Item) (made : AreMade script) (turns : List Turn) (core 
   answered : AreAnswered (plan_of script) (closing_of script turns core is) (replicate is.last (quiet 0))
   answered = end_answered script made.are (first_views script) (start script made turns core is) (go script made turns core is) turns core is (fitting script made turns core is)
 
-  recorded : Recorded (plan_of script) (Rattle.refused_attempts.specs.programs_allowed.specs.program_walks.proofs.Whole.IsListed script) (closing_of script turns core is) (views_played script turns core is (first_views script))
+  recorded : Recorded (plan_of script) (Rattle.refused_attempts.specs.Below.programs_allowed.specs.program_walks.proofs.Whole.IsListed script) (closing_of script turns core is) (views_played script turns core is (first_views script))
   recorded = recorded_closing script made.are (first_views script) (start script made turns core is) (go script made turns core is) turns core is (fitting script made turns core is)
 
   -- seat 0 as it begins the ending

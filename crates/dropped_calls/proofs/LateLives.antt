@@ -10,8 +10,8 @@ use Rattle.sock_model.specs.declared.view.View.{View}
 use Rattle.sock_model.specs.Layout.{ref_index, link_index}
 use Rattle.sock_model.specs.Weights.{is_linked}
 use Rattle.sock_model.specs.SlotRows.{marks_of}
-use Rattle.refused_attempts.specs.sock_steps.proofs.Places.{counts}
-use Rattle.refused_attempts.specs.sock_steps.proofs.Quiet.{either_way}
+use Rattle.refused_attempts.specs.Below.sock_steps.proofs.Places.{counts}
+use Rattle.refused_attempts.specs.Below.sock_steps.proofs.Quiet.{either_way}
 use Rattle.corr_core.specs.Word.{parts}
 use Rattle.seat_programs.specs.Calls.{Call, CreateLife}
 use Rattle.seat_programs.specs.Drops.{call_in}
@@ -23,16 +23,16 @@ use Rattle.seat_programs.specs.Sends.{block}
 use Rattle.seat_programs.specs.Writings.{Writing, Puts}
 use Rattle.seat_programs.specs.Cores.{Core, SeatState, word_of, word_after, found_at, words_after, homes_after}
 use Rattle.seat_programs.specs.Ticks.{Moment, IsAnswered, ticked}
-use Rattle.refused_attempts.specs.programs_allowed.specs.program_steps.specs.Rows.{row, hand_at}
-use Rattle.refused_attempts.specs.programs_allowed.specs.program_steps.specs.Sound.{state, Sound, first_step, IsFitting, views_after}
-use Rattle.refused_attempts.specs.programs_allowed.specs.program_steps.proofs.Cases.{with_rights, tick_keeps_marks}
-use Rattle.refused_attempts.specs.programs_allowed.specs.sock_runs.proofs.LinkNotes.{links_only, birth_links}
-use Rattle.refused_attempts.specs.programs_allowed.specs.sock_runs.proofs.LinksStay.{IsGiven, finds_given}
-use Rattle.refused_attempts.specs.programs_allowed.specs.program_steps.proofs.Passes.{goes_round}
-use Rattle.refused_attempts.specs.programs_allowed.specs.program_steps.proofs.Rounds.{begins_round}
-use Rattle.refused_attempts.specs.programs_allowed.specs.sock_runs.proofs.Versions.{versions_on, look_holds}
-use Rattle.refused_attempts.specs.outcome_stories.specs.Facts.{born_of, born_at}
-use Rattle.refused_attempts.specs.outcome_stories.specs.Stories.{In}
+use Rattle.refused_attempts.specs.Below.programs_allowed.specs.program_steps.specs.Rows.{row, hand_at}
+use Rattle.refused_attempts.specs.Below.programs_allowed.specs.program_steps.specs.Sound.{state, Sound, first_step, IsFitting, views_after}
+use Rattle.refused_attempts.specs.Below.programs_allowed.specs.program_steps.proofs.Cases.{with_rights, tick_keeps_marks}
+use Rattle.refused_attempts.specs.Below.programs_allowed.specs.sock_runs.proofs.LinkNotes.{links_only, birth_links}
+use Rattle.refused_attempts.specs.Below.programs_allowed.specs.sock_runs.proofs.LinksStay.{IsGiven, finds_given}
+use Rattle.refused_attempts.specs.Below.programs_allowed.specs.program_steps.proofs.Passes.{goes_round}
+use Rattle.refused_attempts.specs.Below.programs_allowed.specs.program_steps.proofs.Rounds.{begins_round}
+use Rattle.refused_attempts.specs.Below.programs_allowed.specs.sock_runs.proofs.Versions.{versions_on, look_holds}
+use Rattle.refused_attempts.specs.Below.outcome_stories.specs.Facts.{born_of, born_at}
+use Rattle.refused_attempts.specs.Below.outcome_stories.specs.Stories.{In}
 use Rattle.dropped_calls.proofs.LateSeats.{Tells}
 
 -- ## Births

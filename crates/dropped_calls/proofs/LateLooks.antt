@@ -8,7 +8,7 @@ use Rattle.sock_words.specs.declared.outcome.Outcome.TheVariants.{Unopened, Gone
 use Rattle.sock_model.specs.declared.chain.Heading.{Heading}
 use Rattle.sock_model.specs.Entries.{ticket_of}
 use Rattle.sock_model.specs.Memory.{IDLE}
-use Rattle.refused_attempts.specs.sock_steps.proofs.Quiet.{either_way}
+use Rattle.refused_attempts.specs.Below.sock_steps.proofs.Quiet.{either_way}
 use Rattle.sock_message.specs.Asked.{Asked, frame_of}
 use Rattle.seat_programs.specs.declared.task.Op.{Op}
 use Rattle.seat_programs.specs.declared.task.Task.{Task}
@@ -24,15 +24,15 @@ use Rattle.seat_programs.specs.Attempts.{claims_from, heading_for, attempt, retr
 use Rattle.seat_programs.specs.Rounds.{round}
 use Rattle.seat_programs.specs.Clients.{HeldLife, operation, client_from}
 use Rattle.seat_programs.specs.Cores.{resolved, next_step}
-use Rattle.refused_attempts.specs.programs_allowed.specs.program_steps.specs.AtSteps.{Asks, AtSteps, asks_words}
-use Rattle.refused_attempts.specs.programs_allowed.specs.program_steps.specs.Sound.{first_step}
-use Rattle.refused_attempts.specs.programs_allowed.specs.program_steps.proofs.AtCalls.{every_exit}
-use Rattle.refused_attempts.specs.programs_allowed.specs.program_walks.proofs.Records.{awaits}
-use Rattle.refused_attempts.specs.programs_allowed.specs.program_walks.proofs.Through.{PassesPlain, PassesFails, PassesLinks, PassesReads, any_end, is_of_message, by_errors, others_plain, others_failing, others_make, reads_any, at_steps_plain, at_steps_links, through_release, through_address, through_reach, through_set_failed, through_fail}
-use Rattle.refused_attempts.specs.programs_allowed.specs.program_walks.proofs.ThroughLoops.{through_post, through_errors, through_round}
-use Rattle.refused_attempts.specs.programs_allowed.specs.program_walks.proofs.ThroughSends.{through_block, through_write_link}
-use Rattle.refused_attempts.specs.programs_allowed.specs.program_walks.proofs.ThroughCalls.{through_call, through_retry, through_join, through_reading}
-use Rattle.refused_attempts.specs.programs_allowed.specs.program_walks.proofs.ThroughClients.{through_open, through_back, through_operation}
+use Rattle.refused_attempts.specs.Below.programs_allowed.specs.program_steps.specs.AtSteps.{Asks, AtSteps, asks_words}
+use Rattle.refused_attempts.specs.Below.programs_allowed.specs.program_steps.specs.Sound.{first_step}
+use Rattle.refused_attempts.specs.Below.programs_allowed.specs.program_steps.proofs.AtCalls.{every_exit}
+use Rattle.refused_attempts.specs.Below.programs_allowed.specs.program_walks.proofs.Records.{awaits}
+use Rattle.refused_attempts.specs.Below.programs_allowed.specs.program_walks.proofs.Through.{PassesPlain, PassesFails, PassesLinks, PassesReads, any_end, is_of_message, by_errors, others_plain, others_failing, others_make, reads_any, at_steps_plain, at_steps_links, through_release, through_address, through_reach, through_set_failed, through_fail}
+use Rattle.refused_attempts.specs.Below.programs_allowed.specs.program_walks.proofs.ThroughLoops.{through_post, through_errors, through_round}
+use Rattle.refused_attempts.specs.Below.programs_allowed.specs.program_walks.proofs.ThroughSends.{through_block, through_write_link}
+use Rattle.refused_attempts.specs.Below.programs_allowed.specs.program_walks.proofs.ThroughCalls.{through_call, through_retry, through_join, through_reading}
+use Rattle.refused_attempts.specs.Below.programs_allowed.specs.program_walks.proofs.ThroughClients.{through_open, through_back, through_operation}
 
 -- ## What a seat has in hand of a message
 

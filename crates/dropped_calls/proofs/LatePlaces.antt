@@ -14,19 +14,19 @@ use Rattle.sock_model.specs.Layout.{tag_index, ref_index, link_index, head_index
 use Rattle.seat_programs.specs.Calls.{Call, ClaimSlot, CreateLife, AddRef, SubRef, SetOdd, Recycle, FreeSlot, StoreLink, LoadLink, ResetHead, ClearCode, StoreCode, StoreName, LoadName, StoreOpen, LoadOpen, LookWord, FindLink, LoadCode, ClaimRequest, Unconnect, SwapHead, Connect, EmptyHead, ReadNext, ReverseNext, FreeRequest, StorePlace, DropPlace}
 use Rattle.seat_programs.specs.Cores.{Core, word_of, word_after, found_at, words_after}
 use Rattle.seat_programs.specs.Ticks.{Moment, IsAnswered, AreAnswered, ticked, run}
-use Rattle.refused_attempts.specs.programs_allowed.specs.program_steps.specs.May.{May}
-use Rattle.refused_attempts.specs.programs_allowed.specs.program_steps.specs.Sound.{state, Sound, AreFew, MOST_PLACES, IsFitting, AreFitting, views_after, views_along}
-use Rattle.refused_attempts.specs.programs_allowed.specs.program_steps.proofs.Cases.{tick_keeps_marks}
-use Rattle.refused_attempts.specs.programs_allowed.specs.sock_runs.proofs.ChainTicks.{turn_inside, free_inside}
-use Rattle.refused_attempts.specs.programs_allowed.specs.sock_runs.proofs.Few.{places_small}
-use Rattle.refused_attempts.specs.programs_allowed.specs.sock_runs.proofs.LinkTicks.{RetriesGo}
-use Rattle.refused_attempts.specs.programs_allowed.specs.program_steps.proofs.Passes.{goes_round}
-use Rattle.refused_attempts.specs.programs_allowed.specs.program_steps.proofs.Rounds.{begins_round}
-use Rattle.refused_attempts.specs.programs_allowed.specs.sock_runs.proofs.Ticks.{sound_ticks}
-use Rattle.refused_attempts.specs.joint_runs.proofs.Both.{AreBounded}
-use Rattle.refused_attempts.specs.outcome_stories.specs.Facts.{born_at, shown_in}
-use Rattle.refused_attempts.specs.outcome_stories.specs.Stories.{In}
-use Rattle.refused_attempts.specs.outcome_causes.proofs.Plain.{in_left, in_right}
+use Rattle.refused_attempts.specs.Below.programs_allowed.specs.program_steps.specs.May.{May}
+use Rattle.refused_attempts.specs.Below.programs_allowed.specs.program_steps.specs.Sound.{state, Sound, AreFew, MOST_PLACES, IsFitting, AreFitting, views_after, views_along}
+use Rattle.refused_attempts.specs.Below.programs_allowed.specs.program_steps.proofs.Cases.{tick_keeps_marks}
+use Rattle.refused_attempts.specs.Below.programs_allowed.specs.sock_runs.proofs.ChainTicks.{turn_inside, free_inside}
+use Rattle.refused_attempts.specs.Below.programs_allowed.specs.sock_runs.proofs.Few.{places_small}
+use Rattle.refused_attempts.specs.Below.programs_allowed.specs.sock_runs.proofs.LinkTicks.{RetriesGo}
+use Rattle.refused_attempts.specs.Below.programs_allowed.specs.program_steps.proofs.Passes.{goes_round}
+use Rattle.refused_attempts.specs.Below.programs_allowed.specs.program_steps.proofs.Rounds.{begins_round}
+use Rattle.refused_attempts.specs.Below.programs_allowed.specs.sock_runs.proofs.Ticks.{sound_ticks}
+use Rattle.refused_attempts.specs.Below.joint_runs.proofs.Both.{AreBounded}
+use Rattle.refused_attempts.specs.Below.outcome_stories.specs.Facts.{born_at, shown_in}
+use Rattle.refused_attempts.specs.Below.outcome_stories.specs.Stories.{In}
+use Rattle.refused_attempts.specs.Below.outcome_causes.proofs.Plain.{in_left, in_right}
 use Rattle.dropped_calls.proofs.LateLooks.{Mode, Writes}
 use Rattle.dropped_calls.proofs.LateSeats.{Righted, rights_of, Stands, AllStand, stand_ticks}
 use Rattle.dropped_calls.proofs.LateLives.{WasPast, Lives, lives_tell, lives_ticks}

@@ -20,20 +20,20 @@ use Rattle.seat_programs.specs.Runs.{IsAtRest}
 use Rattle.seat_programs.specs.Tasks.{opens, calls, plan_of, id_plan_of}
 use Rattle.seat_programs.specs.Ticks.{Answer, Moment, AreAnswered, IsAnswered, quiet, ticked, run, waits, waits_at}
 use Rattle.seat_programs.specs.Scripts.{sizes_of, programs, readers_from, all_programs, all_tasks, opened, set_up, played, IsRunWithCalls}
-use Rattle.refused_attempts.specs.programs_allowed.specs.program_steps.specs.GoesOn.{GoesOn, HasNothing}
-use Rattle.refused_attempts.specs.programs_allowed.specs.program_steps.specs.Sound.{Sound, IsFitting, AreFitting, views_after, views_along}
-use Rattle.refused_attempts.specs.programs_allowed.specs.sock_runs.proofs.Along.{seat_rests}
-use Rattle.refused_attempts.specs.programs_allowed.specs.program_steps.proofs.Cases.{tick_keeps_marks}
-use Rattle.refused_attempts.specs.programs_allowed.specs.sock_runs.proofs.LinkTicks.{RetriesGo}
-use Rattle.refused_attempts.specs.programs_allowed.specs.program_walks.proofs.Opening.{mapped}
-use Rattle.refused_attempts.specs.programs_allowed.specs.program_steps.proofs.Passes.{goes_round}
-use Rattle.refused_attempts.specs.programs_allowed.specs.program_steps.proofs.Rounds.{begins_round}
-use Rattle.refused_attempts.specs.programs_allowed.specs.sock_runs.proofs.Ticks.{sound_ticks}
-use Rattle.refused_attempts.specs.programs_allowed.specs.sock_runs.proofs.Waiting.{StandsAside}
-use Rattle.refused_attempts.specs.programs_allowed.specs.program_walks.proofs.Whole.{closing_of, views_played, views_closed, set_up_answered, end_answered, set_up_sound, played_sound, closing_sound, closed_sound, rested_ahead, closed_ahead}
-use Rattle.refused_attempts.specs.programs_allowed.specs.Openings.{all_seats}
-use Rattle.refused_attempts.specs.joint_runs.proofs.Runs.{AreMade, first_views}
-use Rattle.refused_attempts.specs.programs_allowed.proofs.Fresh.{opening_rights, opening_claims}
+use Rattle.refused_attempts.specs.Below.programs_allowed.specs.program_steps.specs.GoesOn.{GoesOn, HasNothing}
+use Rattle.refused_attempts.specs.Below.programs_allowed.specs.program_steps.specs.Sound.{Sound, IsFitting, AreFitting, views_after, views_along}
+use Rattle.refused_attempts.specs.Below.programs_allowed.specs.sock_runs.proofs.Along.{seat_rests}
+use Rattle.refused_attempts.specs.Below.programs_allowed.specs.program_steps.proofs.Cases.{tick_keeps_marks}
+use Rattle.refused_attempts.specs.Below.programs_allowed.specs.sock_runs.proofs.LinkTicks.{RetriesGo}
+use Rattle.refused_attempts.specs.Below.programs_allowed.specs.program_walks.proofs.Opening.{mapped}
+use Rattle.refused_attempts.specs.Below.programs_allowed.specs.program_steps.proofs.Passes.{goes_round}
+use Rattle.refused_attempts.specs.Below.programs_allowed.specs.program_steps.proofs.Rounds.{begins_round}
+use Rattle.refused_attempts.specs.Below.programs_allowed.specs.sock_runs.proofs.Ticks.{sound_ticks}
+use Rattle.refused_attempts.specs.Below.programs_allowed.specs.sock_runs.proofs.Waiting.{StandsAside}
+use Rattle.refused_attempts.specs.Below.programs_allowed.specs.program_walks.proofs.Whole.{closing_of, views_played, views_closed, set_up_answered, end_answered, set_up_sound, played_sound, closing_sound, closed_sound, rested_ahead, closed_ahead}
+use Rattle.refused_attempts.specs.Below.programs_allowed.specs.Openings.{all_seats}
+use Rattle.refused_attempts.specs.Below.joint_runs.proofs.Runs.{AreMade, first_views}
+use Rattle.refused_attempts.specs.Below.programs_allowed.proofs.Fresh.{opening_rights, opening_claims}
 use Rattle.refused_attempts.specs.accept_counts.proofs.Beginnings.{all_begin}
 use Rattle.refused_attempts.specs.accept_counts.proofs.Early.{start, go, fitting}
 use Rattle.dropped_calls.proofs.LateLooks.{Mode, Idle, Looks, client_looks, reader_looks, looks_next}
@@ -131,7 +131,7 @@ module _ (script : List Item) (made : AreMade script) (turns : List Turn) (core 
       (λ w. ⊎_elim (λ rest. resting rest) (λ a. waiting w a) (aside script made turns core is j inside)) (still script made turns core is j inside)
     where
       inside : j < length (played script is.setup (is.scheduled ++ is.later)).seats
-      inside = Rattle.refused_attempts.specs.programs_allowed.specs.sock_runs.proofs.Along.place_inside (played script is.setup (is.scheduled ++ is.later)).seats j seat at
+      inside = Rattle.refused_attempts.specs.Below.programs_allowed.specs.sock_runs.proofs.Along.place_inside (played script is.setup (is.scheduled ++ is.later)).seats j seat at
 
       resting : IsAtRest (played script is.setup (is.scheduled ++ is.later)) j → IsIdle seat.program v
       resting rest = rests_idle (played script is.setup (is.scheduled ++ is.later)) (views_played script turns core is (first_views script)) (played_sound script made.are (first_views script) (start script made turns core is) (go script made turns core is) turns core is (fitting script made turns core is))

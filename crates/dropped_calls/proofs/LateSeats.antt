@@ -20,21 +20,21 @@ use Rattle.sock_model.specs.Layout.{ref_index}
 use Rattle.sock_model.specs.Memory.{IDLE, UNCONNECTED}
 use Rattle.sock_model.specs.SlotRows.{met, looked, told_code, met_link}
 use Rattle.sock_model.specs.Weights.{total, only}
-use Rattle.refused_attempts.specs.sock_steps.proofs.Quiet.{either_way}
+use Rattle.refused_attempts.specs.Below.sock_steps.proofs.Quiet.{either_way}
 use Rattle.seat_programs.specs.Calls.{Call, LookWord, ClaimRequest, PutMessage, Unconnect, SwapHead, EmptyHead, ReadNext, ReverseNext, FreeRequest, StorePlace, DropPlace, LoadName, LoadOpen, TakeLink, LoadCode}
 use Rattle.seat_programs.specs.Heads.{Retry}
 use Rattle.seat_programs.specs.Programs.{Program, Do}
 use Rattle.seat_programs.specs.Cores.{Core, SeatState, resolved, next_step, word_of, found_at, waiting_at, hand_after, lies_at, others_of, link_place}
 use Rattle.seat_programs.specs.Ticks.{Moment, IsAnswered, fed, onto_first, ticked}
-use Rattle.refused_attempts.specs.programs_allowed.specs.program_steps.specs.Rows.{row, hand_at, link_in, is_id, by_claim, by_right, new_claim, filled_claim, ready_claim, exchanged, looked_clean, emptied, settled, read_next, turned_next, freed_next, freed_stage, placed_next, dropped_next, took_message, link_away, link_home_again, took_bytes}
-use Rattle.refused_attempts.specs.programs_allowed.specs.program_steps.specs.May.{May}
-use Rattle.refused_attempts.specs.programs_allowed.specs.program_steps.specs.Sound.{Sound, IsFitting, views_after}
-use Rattle.refused_attempts.specs.programs_allowed.specs.program_steps.proofs.Leaves.{claim_way, right_way}
-use Rattle.refused_attempts.specs.programs_allowed.specs.program_steps.proofs.Cases.{tick_keeps}
-use Rattle.refused_attempts.specs.programs_allowed.specs.program_steps.proofs.Rounds.{begins_round}
-use Rattle.refused_attempts.specs.programs_allowed.specs.program_steps.proofs.Passes.{goes_round}
+use Rattle.refused_attempts.specs.Below.programs_allowed.specs.program_steps.specs.Rows.{row, hand_at, link_in, is_id, by_claim, by_right, new_claim, filled_claim, ready_claim, exchanged, looked_clean, emptied, settled, read_next, turned_next, freed_next, freed_stage, placed_next, dropped_next, took_message, link_away, link_home_again, took_bytes}
+use Rattle.refused_attempts.specs.Below.programs_allowed.specs.program_steps.specs.May.{May}
+use Rattle.refused_attempts.specs.Below.programs_allowed.specs.program_steps.specs.Sound.{Sound, IsFitting, views_after}
+use Rattle.refused_attempts.specs.Below.programs_allowed.specs.program_steps.proofs.Leaves.{claim_way, right_way}
+use Rattle.refused_attempts.specs.Below.programs_allowed.specs.program_steps.proofs.Cases.{tick_keeps}
+use Rattle.refused_attempts.specs.Below.programs_allowed.specs.program_steps.proofs.Rounds.{begins_round}
+use Rattle.refused_attempts.specs.Below.programs_allowed.specs.program_steps.proofs.Passes.{goes_round}
 use Rattle.dropped_calls.proofs.LateLooks.{Mode, Idle, Saw, Claims, Writes, IsCalm, seen, Looks, looks_first, looks_next}
-use Rattle.refused_attempts.specs.outcome_ticks.proofs.Accepting.{IsNoSwap}
+use Rattle.refused_attempts.specs.Below.outcome_ticks.proofs.Accepting.{IsNoSwap}
 
 -- ## Claims and rights
 

@@ -12,26 +12,26 @@ use Rattle.seat_programs.specs.Cores.{Core, SeatState}
 use Rattle.seat_programs.specs.Tasks.{opens, calls, plan_of}
 use Rattle.seat_programs.specs.Ticks.{Moment, AreAnswered, taken, ticked}
 use Rattle.seat_programs.specs.Scripts.{opened, set_up, IsRunWithCalls}
-use Rattle.attempted_calls.specs.programs_allowed.specs.program_steps.specs.Sound.{Sound, AreFitting, views_after, views_along}
-use Rattle.attempted_calls.specs.programs_allowed.specs.sock_runs.proofs.Along.{place_inside}
-use Rattle.attempted_calls.specs.programs_allowed.specs.sock_runs.proofs.LinkTicks.{RetriesGo}
-use Rattle.attempted_calls.specs.programs_allowed.specs.program_walks.proofs.Recorded.{Recorded, recorded_ticks}
-use Rattle.attempted_calls.specs.programs_allowed.specs.sock_runs.proofs.Ticks.{sound_ticks}
-use Rattle.attempted_calls.specs.programs_allowed.specs.program_walks.proofs.Whole.{IsListed, closing_of, views_played, views_closed, set_up_answered, end_answered, set_up_sound, closing_sound, closed_sound, recorded_opened, recorded_set_up, recorded_closing, recorded_closed}
-use Rattle.attempted_calls.specs.id_runs.specs.Goes.{first_of}
-use Rattle.attempted_calls.specs.outcome_stories.specs.Stories.{In}
-use Rattle.attempted_calls.specs.outcome_stories.proofs.Members.{in_contains}
-use Rattle.attempted_calls.specs.outcome_causes.proofs.Plain.{in_left, in_right, in_both}
-use Rattle.attempted_calls.specs.joint_runs.proofs.Runs.{AreMade, first_views}
-use Rattle.attempted_calls.specs.call_stories.specs.Lists.{shows_in, shows_in_run}
-use Rattle.attempted_calls.specs.call_stories.specs.Posts.{Post, posted_with, posted_at}
-use Rattle.attempted_calls.specs.call_stories.specs.Decided.{posted_by}
+use Rattle.attempted_calls.specs.Below.programs_allowed.specs.program_steps.specs.Sound.{Sound, AreFitting, views_after, views_along}
+use Rattle.attempted_calls.specs.Below.programs_allowed.specs.sock_runs.proofs.Along.{place_inside}
+use Rattle.attempted_calls.specs.Below.programs_allowed.specs.sock_runs.proofs.LinkTicks.{RetriesGo}
+use Rattle.attempted_calls.specs.Below.programs_allowed.specs.program_walks.proofs.Recorded.{Recorded, recorded_ticks}
+use Rattle.attempted_calls.specs.Below.programs_allowed.specs.sock_runs.proofs.Ticks.{sound_ticks}
+use Rattle.attempted_calls.specs.Below.programs_allowed.specs.program_walks.proofs.Whole.{IsListed, closing_of, views_played, views_closed, set_up_answered, end_answered, set_up_sound, closing_sound, closed_sound, recorded_opened, recorded_set_up, recorded_closing, recorded_closed}
+use Rattle.attempted_calls.specs.Below.id_runs.specs.Goes.{first_of}
+use Rattle.attempted_calls.specs.Below.outcome_stories.specs.Stories.{In}
+use Rattle.attempted_calls.specs.Below.outcome_stories.proofs.Members.{in_contains}
+use Rattle.attempted_calls.specs.Below.outcome_causes.proofs.Plain.{in_left, in_right, in_both}
+use Rattle.attempted_calls.specs.Below.joint_runs.proofs.Runs.{AreMade, first_views}
+use Rattle.attempted_calls.specs.Below.call_stories.specs.Lists.{shows_in, shows_in_run}
+use Rattle.attempted_calls.specs.Below.call_stories.specs.Posts.{Post, posted_with, posted_at}
+use Rattle.attempted_calls.specs.Below.call_stories.specs.Decided.{posted_by}
 use Rattle.attempted_calls.specs.accept_counts.specs.EndedCalls.{Load, loaded_at, loads_of_run, IsEndPost}
 use Rattle.attempted_calls.specs.accept_counts.proofs.Early.{Any, ends_anyhow, start, go, fitting, known}
 use Rattle.ended_calls.proofs.EndedReads.{MayPost, post_more}
 use Rattle.ended_calls.proofs.EndedRuns.{Keeping, finds, Seen, AllTold, told_along}
 use Rattle.ended_calls.proofs.EndedTicks.{told_posts}
-use Rattle.attempted_calls.specs.call_stories.proofs.RunTicks.{in_setup, in_clients, in_closing, parts}
+use Rattle.attempted_calls.specs.Below.call_stories.proofs.RunTicks.{in_setup, in_clients, in_closing, parts}
 use Rattle.ended_calls.proofs.EndedWhole.{opened_keeps, opened_told, h₁, h₂, h₃, h₄, setup_part, set_up_keeps, closing_keeps, closing_told, closed_keeps, closed_told, ended_so}
 use Rattle.attempted_calls.specs.accept_counts.proofs.ReaderRuns.{keeps_along}
 use Rattle.attempted_calls.specs.accept_counts.proofs.Readings.{found_by}

@@ -23,21 +23,21 @@ use Rattle.seat_programs.specs.Tasks.{opens, plan_of, id_plan_of}
 use Rattle.seat_programs.specs.Scripts.{all_tasks, opened, set_up, IsRunWithCalls}
 use Rattle.seat_programs.specs.Told.{AreTasks, Made}
 use Rattle.seat_programs.specs.ToldCalls.{Accepted, Fixed, StandsOn, MayBeOn, GaveFault}
-use Rattle.attempted_calls.specs.programs_allowed.specs.program_steps.specs.Sound.{first_step}
-use Rattle.attempted_calls.specs.programs_allowed.specs.program_walks.proofs.Whole.{closing_of, views_ended, ended_sound, end_rests}
-use Rattle.attempted_calls.specs.outcome_stories.specs.Explains.{is_plain}
-use Rattle.attempted_calls.specs.outcome_stories.specs.Kept.{IsSpoken}
-use Rattle.attempted_calls.specs.outcome_stories.specs.PlainTasks.{told_tasks_of}
-use Rattle.attempted_calls.specs.outcome_stories.specs.Stories.{In}
-use Rattle.attempted_calls.specs.outcome_ticks.proofs.Lifted.{up, made_up}
-use Rattle.attempted_calls.specs.outcome_stories.proofs.Members.{in_contains, contains_in}
-use Rattle.attempted_calls.specs.outcome_causes.proofs.Plain.{in_both}
-use Rattle.attempted_calls.specs.outcome_ticks.proofs.Tasks.{one_task}
-use Rattle.attempted_calls.specs.joint_runs.proofs.Runs.{AreMade}
-use Rattle.attempted_calls.specs.call_owing.specs.Lives.{ClosesInRun}
-use Rattle.attempted_calls.specs.run_theorems.proofs.Gave.{gave_heard}
-use Rattle.attempted_calls.specs.call_stories.specs.Lists.{shows_in}
-use Rattle.attempted_calls.specs.call_stories.specs.Posts.{Post}
+use Rattle.attempted_calls.specs.Below.programs_allowed.specs.program_steps.specs.Sound.{first_step}
+use Rattle.attempted_calls.specs.Below.programs_allowed.specs.program_walks.proofs.Whole.{closing_of, views_ended, ended_sound, end_rests}
+use Rattle.attempted_calls.specs.Below.outcome_stories.specs.Explains.{is_plain}
+use Rattle.attempted_calls.specs.Below.outcome_stories.specs.Kept.{IsSpoken}
+use Rattle.attempted_calls.specs.Below.outcome_stories.specs.PlainTasks.{told_tasks_of}
+use Rattle.attempted_calls.specs.Below.outcome_stories.specs.Stories.{In}
+use Rattle.attempted_calls.specs.Below.outcome_ticks.proofs.Lifted.{up, made_up}
+use Rattle.attempted_calls.specs.Below.outcome_stories.proofs.Members.{in_contains, contains_in}
+use Rattle.attempted_calls.specs.Below.outcome_causes.proofs.Plain.{in_both}
+use Rattle.attempted_calls.specs.Below.outcome_ticks.proofs.Tasks.{one_task}
+use Rattle.attempted_calls.specs.Below.joint_runs.proofs.Runs.{AreMade}
+use Rattle.attempted_calls.specs.Below.call_owing.specs.Lives.{ClosesInRun}
+use Rattle.attempted_calls.specs.Below.run_theorems.proofs.Gave.{gave_heard}
+use Rattle.attempted_calls.specs.Below.call_stories.specs.Lists.{shows_in}
+use Rattle.attempted_calls.specs.Below.call_stories.specs.Posts.{Post}
 use Rattle.attempted_calls.specs.accept_counts.specs.Counts.{AreLabelled}
 use Rattle.attempted_calls.specs.accept_counts.specs.EndedCalls.{Store, stores_by, stored_at, stores_of_run, reader_posts_of_run, AreStoredOnce, EndedSo, IsEndPost}
 use Rattle.attempted_calls.specs.accept_counts.proofs.Apart as apart
@@ -48,7 +48,7 @@ use Rattle.attempted_calls.proofs.EndedLives.{at_made, all_over}
 use Rattle.attempted_calls.proofs.EndedNamed.{tasks_are, EndNamed, end_named}
 use Rattle.attempted_calls.proofs.EndedNames.{StoredFor}
 use Rattle.ended_calls.proofs.EndedWhole.{run_end_posts}
-use Rattle.attempted_calls.specs.call_stories.proofs.Posts.{id_back}
+use Rattle.attempted_calls.specs.Below.call_stories.proofs.Posts.{id_back}
 use Rattle.attempted_calls.specs.accept_counts.proofs.Grounds.{setting, grounds}
 
 -- ## Numbers

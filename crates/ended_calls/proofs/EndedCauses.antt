@@ -13,13 +13,13 @@ use Rattle.seat_programs.specs.Tasks.{plan_of}
 use Rattle.seat_programs.specs.Scripts.{all_tasks, IsRunWithCalls}
 use Rattle.seat_programs.specs.Told.{IsTask}
 use Rattle.seat_programs.specs.ToldCalls.{MayBeOn, IsFailing}
-use Rattle.attempted_calls.specs.outcome_stories.specs.Stories.{In}
-use Rattle.attempted_calls.specs.outcome_stories.proofs.Members.{contains_in}
-use Rattle.attempted_calls.specs.outcome_ticks.proofs.Tasks.{one_task}
-use Rattle.attempted_calls.specs.joint_runs.proofs.Runs.{AreMade}
-use Rattle.attempted_calls.specs.call_owing.specs.Lives.{ClosesInRun}
-use Rattle.attempted_calls.specs.call_stories.specs.Lists.{early_of_run, closed_of_run, silent_of_run}
-use Rattle.attempted_calls.specs.call_stories.specs.Posts.{Post}
+use Rattle.attempted_calls.specs.Below.outcome_stories.specs.Stories.{In}
+use Rattle.attempted_calls.specs.Below.outcome_stories.proofs.Members.{contains_in}
+use Rattle.attempted_calls.specs.Below.outcome_ticks.proofs.Tasks.{one_task}
+use Rattle.attempted_calls.specs.Below.joint_runs.proofs.Runs.{AreMade}
+use Rattle.attempted_calls.specs.Below.call_owing.specs.Lives.{ClosesInRun}
+use Rattle.attempted_calls.specs.Below.call_stories.specs.Lists.{early_of_run, closed_of_run, silent_of_run}
+use Rattle.attempted_calls.specs.Below.call_stories.specs.Posts.{Post}
 use Rattle.attempted_calls.specs.accept_counts.specs.EndedCalls.{reader_posts_of_run, EndedSo}
 use Rattle.attempted_calls.specs.sent_once.proofs.Beside.{gave_of_run, fixed_of_run, orders_here}
 use Rattle.attempted_calls.specs.accept_counts.proofs.Runs.{AreLabelledIn, IsCallOf}

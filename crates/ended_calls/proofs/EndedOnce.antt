@@ -16,24 +16,24 @@ use Rattle.seat_programs.specs.Programs.{Program, Say, Sent, Keep, Retries}
 use Rattle.seat_programs.specs.Ticks.{Moment, AreAnswered, ticked, run}
 use Rattle.seat_programs.specs.Tasks.{opens, calls, plan_of, id_plan_of}
 use Rattle.seat_programs.specs.Scripts.{sizes_of, programs, readers_from, all_programs, all_tasks, beginning, opened, set_up, played, IsRunWithCalls}
-use Rattle.attempted_calls.specs.programs_allowed.specs.program_steps.specs.Sound.{Sound, AreFitting, views_after, views_along}
-use Rattle.attempted_calls.specs.programs_allowed.specs.sock_runs.proofs.LinkTicks.{RetriesGo}
-use Rattle.attempted_calls.specs.programs_allowed.specs.program_walks.proofs.Opening.{mapped}
-use Rattle.attempted_calls.specs.programs_allowed.specs.sock_runs.proofs.Ticks.{sound_ticks}
-use Rattle.attempted_calls.specs.programs_allowed.specs.program_walks.proofs.Whole.{closing_of, views_played, views_closed, set_up_answered, end_answered, set_up_sound, closing_sound, closed_sound}
-use Rattle.attempted_calls.specs.outcome_stories.specs.Stories.{In}
-use Rattle.attempted_calls.specs.outcome_causes.proofs.Final.{at_there}
-use Rattle.attempted_calls.specs.outcome_stories.proofs.Members.{contains_in}
-use Rattle.attempted_calls.specs.outcome_causes.proofs.Plain.{in_left, in_right, in_both}
-use Rattle.attempted_calls.specs.outcome_ticks.proofs.Ticks.{elem_there}
-use Rattle.attempted_calls.specs.joint_runs.proofs.Runs.{AreMade, first_views}
-use Rattle.attempted_calls.specs.label_runs.specs.Labels.{Trial, Idle, Labels}
-use Rattle.attempted_calls.specs.label_runs.proofs.Programs.{ending_goes}
-use Rattle.attempted_calls.specs.call_owing.specs.Lives.{ClosesInRun}
-use Rattle.attempted_calls.specs.call_stories.specs.Lists.{shows_in}
+use Rattle.attempted_calls.specs.Below.programs_allowed.specs.program_steps.specs.Sound.{Sound, AreFitting, views_after, views_along}
+use Rattle.attempted_calls.specs.Below.programs_allowed.specs.sock_runs.proofs.LinkTicks.{RetriesGo}
+use Rattle.attempted_calls.specs.Below.programs_allowed.specs.program_walks.proofs.Opening.{mapped}
+use Rattle.attempted_calls.specs.Below.programs_allowed.specs.sock_runs.proofs.Ticks.{sound_ticks}
+use Rattle.attempted_calls.specs.Below.programs_allowed.specs.program_walks.proofs.Whole.{closing_of, views_played, views_closed, set_up_answered, end_answered, set_up_sound, closing_sound, closed_sound}
+use Rattle.attempted_calls.specs.Below.outcome_stories.specs.Stories.{In}
+use Rattle.attempted_calls.specs.Below.outcome_causes.proofs.Final.{at_there}
+use Rattle.attempted_calls.specs.Below.outcome_stories.proofs.Members.{contains_in}
+use Rattle.attempted_calls.specs.Below.outcome_causes.proofs.Plain.{in_left, in_right, in_both}
+use Rattle.attempted_calls.specs.Below.outcome_ticks.proofs.Ticks.{elem_there}
+use Rattle.attempted_calls.specs.Below.joint_runs.proofs.Runs.{AreMade, first_views}
+use Rattle.attempted_calls.specs.Below.label_runs.specs.Labels.{Trial, Idle, Labels}
+use Rattle.attempted_calls.specs.Below.label_runs.proofs.Programs.{ending_goes}
+use Rattle.attempted_calls.specs.Below.call_owing.specs.Lives.{ClosesInRun}
+use Rattle.attempted_calls.specs.Below.call_stories.specs.Lists.{shows_in}
 use Rattle.attempted_calls.specs.accept_counts.specs.Counts.{AreLabelled}
 use Rattle.attempted_calls.specs.accept_counts.specs.EndedCalls.{Store, stored_at, stores_of_run, AreStoredOnce}
-use Rattle.attempted_calls.specs.call_stories.proofs.RunTicks.{in_setup, in_clients, in_closing}
+use Rattle.attempted_calls.specs.Below.call_stories.proofs.RunTicks.{in_setup, in_clients, in_closing}
 use Rattle.attempted_calls.specs.accept_counts.proofs.Early.{start, go, fitting}
 use Rattle.attempted_calls.specs.accept_counts.proofs.Runs.{AreLabelledIn, IsCallOf, behind_ids, asked_by, programs_go, none_waits, none_home}
 use Rattle.attempted_calls.specs.sent_once.proofs.Sends.{narrow}

@@ -3,11 +3,11 @@ use Rattle.std.proofs.Common.{◌≡◌, ◌≢◌, ℕ, ◌+◌, ◌-◌, ◌==
 use Rattle.std.proofs.lemmas.Bool.{true≢false}
 use Rattle.std.proofs.lemmas.List.Concat.{flat_map-append}
 use Rattle.sock_words.specs.Words.{at_word_first, at_word_slot, at_word_link, at_word_attempt}
-use Rattle.attempted_calls.specs.sock_steps.proofs.Quiet.{either_way}
+use Rattle.attempted_calls.specs.Below.sock_steps.proofs.Quiet.{either_way}
 use Rattle.corr_core.specs.Word.{parts, posted_word, code_of, error_of}
 use Rattle.seat_programs.specs.brpc_model.specs.Frame.{Frame}
 use Rattle.seat_programs.specs.brpc_model.specs.Stream as streams
-use Rattle.attempted_calls.specs.label_runs.proofs.Loops.{id_back, not_true, and_left}
+use Rattle.attempted_calls.specs.Below.label_runs.proofs.Loops.{id_back, not_true, and_left}
 use Rattle.seat_programs.specs.Asides.{Step, Found, LoadAt, PostId, TakeBytes, Taking, Bytes, Nothing, NoMore, AtEnd, Closed, Broken, call_id, id_slot, id_first}
 use Rattle.seat_programs.specs.Heads.{Head, Exit, Retry, Reading, Posts, Unlocks, Decides, Locks, Joins, Opens, Reads, Discards, Posting, WasGone, WasStale, WasCrowded, WasQueued, HasLocked, Ended}
 use Rattle.seat_programs.specs.Programs.{Program, Do, Say, Sent, Rest, TakeMessage, TakeHome, PutHome, PutBytes, AskReady, Write, Aside, Round, Keep, Retries, NO_SOCKET}
@@ -15,15 +15,15 @@ use Rattle.seat_programs.specs.Posts.{packed, is_first, is_stale, is_full, judge
 use Rattle.seat_programs.specs.Readers.{LIMIT, last_of, ended_by, read_on, took, discarded, posted_last, post_each, thrown_away, read, reader}
 use Rattle.seat_programs.specs.Rounds.{round}
 use Rattle.seat_programs.specs.Cores.{resolved, next_step}
-use Rattle.attempted_calls.specs.programs_allowed.specs.program_steps.specs.Sound.{first_step}
-use Rattle.attempted_calls.specs.outcome_stories.specs.Stories.{In}
-use Rattle.attempted_calls.specs.outcome_causes.proofs.Plain.{in_left}
-use Rattle.attempted_calls.specs.run_theorems.specs.Heard.{bytes_found, given_by}
-use Rattle.attempted_calls.specs.programs_allowed.specs.program_walks.proofs.Through.{PassesLocked, PassesWords, is_of_id, is_of_lock, through_set_failed}
-use Rattle.attempted_calls.specs.programs_allowed.specs.program_walks.proofs.ThroughLoops.{through_unlocks, through_decides, through_locks, through_joins, through_answer, through_responses, through_opens}
-use Rattle.attempted_calls.specs.programs_allowed.specs.program_walks.proofs.ThroughCalls.{through_posted_last, through_read_end}
+use Rattle.attempted_calls.specs.Below.programs_allowed.specs.program_steps.specs.Sound.{first_step}
+use Rattle.attempted_calls.specs.Below.outcome_stories.specs.Stories.{In}
+use Rattle.attempted_calls.specs.Below.outcome_causes.proofs.Plain.{in_left}
+use Rattle.attempted_calls.specs.Below.run_theorems.specs.Heard.{bytes_found, given_by}
+use Rattle.attempted_calls.specs.Below.programs_allowed.specs.program_walks.proofs.Through.{PassesLocked, PassesWords, is_of_id, is_of_lock, through_set_failed}
+use Rattle.attempted_calls.specs.Below.programs_allowed.specs.program_walks.proofs.ThroughLoops.{through_unlocks, through_decides, through_locks, through_joins, through_answer, through_responses, through_opens}
+use Rattle.attempted_calls.specs.Below.programs_allowed.specs.program_walks.proofs.ThroughCalls.{through_posted_last, through_read_end}
 use Rattle.seat_programs.specs.brpc_model.specs.Causes.{HasFault}
-use Rattle.attempted_calls.specs.call_stories.proofs.Streams.{faults_more, faults_follow, tied_more}
+use Rattle.attempted_calls.specs.Below.call_stories.proofs.Streams.{faults_more, faults_follow, tied_more}
 use Rattle.attempted_calls.specs.accept_counts.proofs.Closers.{gave_more, gave_none, last_in}
 use Rattle.attempted_calls.specs.accept_counts.proofs.Early.{EndedBy, ended_more}
 

@@ -9,17 +9,17 @@ use Rattle.seat_programs.specs.Asides.{Taking, Bytes}
 use Rattle.seat_programs.specs.Beside.{at_last, taking_in}
 use Rattle.seat_programs.specs.Cores.{Core, SeatState}
 use Rattle.seat_programs.specs.Ticks.{Answer, Unasked, OfPut, OfReady, OfTake, Moment, AreAnswered, taken, ticked, run}
-use Rattle.attempted_calls.specs.programs_allowed.specs.program_steps.specs.Sound.{Sound, AreFitting, views_after}
-use Rattle.attempted_calls.specs.programs_allowed.specs.sock_runs.proofs.Along.{place_inside}
-use Rattle.attempted_calls.specs.programs_allowed.specs.sock_runs.proofs.LinkTicks.{RetriesGo}
-use Rattle.attempted_calls.specs.programs_allowed.specs.program_walks.proofs.Recorded.{Recorded, recorded_ticks}
-use Rattle.attempted_calls.specs.programs_allowed.specs.sock_runs.proofs.Ticks.{sound_ticks}
-use Rattle.attempted_calls.specs.outcome_stories.specs.Stories.{In}
-use Rattle.attempted_calls.specs.outcome_causes.proofs.Plain.{in_left, in_right, in_both}
-use Rattle.attempted_calls.specs.run_theorems.specs.Heard.{as_taken, bytes_found, taken_link, taken_at, taken_in, given_by}
-use Rattle.attempted_calls.specs.run_theorems.proofs.HeardRuns.{taken_append}
-use Rattle.attempted_calls.specs.call_stories.specs.Lists.{Take, takes_by, takes_at, shows_in}
-use Rattle.attempted_calls.specs.call_stories.specs.Posts.{Post, posted_with, posted_at}
+use Rattle.attempted_calls.specs.Below.programs_allowed.specs.program_steps.specs.Sound.{Sound, AreFitting, views_after}
+use Rattle.attempted_calls.specs.Below.programs_allowed.specs.sock_runs.proofs.Along.{place_inside}
+use Rattle.attempted_calls.specs.Below.programs_allowed.specs.sock_runs.proofs.LinkTicks.{RetriesGo}
+use Rattle.attempted_calls.specs.Below.programs_allowed.specs.program_walks.proofs.Recorded.{Recorded, recorded_ticks}
+use Rattle.attempted_calls.specs.Below.programs_allowed.specs.sock_runs.proofs.Ticks.{sound_ticks}
+use Rattle.attempted_calls.specs.Below.outcome_stories.specs.Stories.{In}
+use Rattle.attempted_calls.specs.Below.outcome_causes.proofs.Plain.{in_left, in_right, in_both}
+use Rattle.attempted_calls.specs.Below.run_theorems.specs.Heard.{as_taken, bytes_found, taken_link, taken_at, taken_in, given_by}
+use Rattle.attempted_calls.specs.Below.run_theorems.proofs.HeardRuns.{taken_append}
+use Rattle.attempted_calls.specs.Below.call_stories.specs.Lists.{Take, takes_by, takes_at, shows_in}
+use Rattle.attempted_calls.specs.Below.call_stories.specs.Posts.{Post, posted_with, posted_at}
 use Rattle.attempted_calls.specs.accept_counts.specs.EndedCalls.{Load, loaded_at, reader_posts_at}
 use Rattle.attempted_calls.specs.accept_counts.proofs.Early.{Any, ends_anyhow}
 use Rattle.ended_calls.proofs.EndedReads.{MayPost, post_more}
@@ -55,7 +55,7 @@ module _ (p : Plan) (calls os : List ℕ) (in_os : (k o : ℕ) → get_elem? os 
     tick_posts c vs m h k told x there = by_seat (nat_le 32 m.seat) refl there
       where
         by_state : 32 ≤ m.seat → In x (posted_at c m) → (o : Option SeatState) → get_elem? c.seats m.seat ≡ o → IsPostOf h x
-        by_state high there none e = absurd (subst (λ o. In x (elim o as (λ o. List Post) [ none ↦ [] | some seat ↦ posted_with c.calls (taken m.answer) (Rattle.attempted_calls.specs.id_runs.specs.Goes.first_of seat.program) ])) e there)
+        by_state high there none e = absurd (subst (λ o. In x (elim o as (λ o. List Post) [ none ↦ [] | some seat ↦ posted_with c.calls (taken m.answer) (Rattle.attempted_calls.specs.Below.id_runs.specs.Goes.first_of seat.program) ])) e there)
         by_state high there (some seat) e = let r = reader_of p calls os in_os Any (Unit {0}) ends_anyhow c vs h k m.seat seat e high in record { link = r.0; inside = place_inside os r.0 r.1 r.3; may = told_posts p r.0 (Seen r.0) (h r.0) c m (told r.0) r.2 x there }
 
         by_seat : (b : Bool) → nat_le 32 m.seat ≡ b → In x (cond b (posted_at c m) []) → IsPostOf h x

@@ -13,18 +13,18 @@ use Rattle.sock_io.specs.declared.link.Put.{Put}
 use Rattle.sock_io.specs.declared.link.Ready.{Ready}
 use Rattle.corr_core.specs.Word.{parts}
 use Rattle.seat_programs.specs.id_rule.specs.Lawful.{at_index}
-use Rattle.attempted_calls.specs.id_runs.specs.Goes as goes
+use Rattle.attempted_calls.specs.Below.id_runs.specs.Goes as goes
 use Rattle.seat_programs.specs.Asides.{Step, Found, LoadAt, PostId, TakeBytes, Taking, call_id}
 use Rattle.seat_programs.specs.Beside.{at_last, taking_in, found_in}
 use Rattle.seat_programs.specs.Programs.{Program, Do, TakeMessage, TakeHome, PutHome, PutBytes, AskReady, Aside, Round, Say, Sent, Rest, Keep}
 use Rattle.seat_programs.specs.Cores.{Core, SeatState, word_of, found_at, waiting_at}
 use Rattle.seat_programs.specs.Ticks.{Answer, OfPut, OfReady, OfTake, Moment, taken, with_message, with_link, with_put, with_ready, with_found, step_with, tick_with, ticked}
-use Rattle.attempted_calls.specs.programs_allowed.specs.program_steps.specs.Sound.{first_step}
-use Rattle.attempted_calls.specs.outcome_stories.specs.Stories.{In}
-use Rattle.attempted_calls.specs.owing_ticks.proofs.OwingRuns.{same_first}
-use Rattle.attempted_calls.specs.run_theorems.specs.Heard.{as_taken, taken_link}
-use Rattle.attempted_calls.specs.call_stories.specs.Posts.{Post, posts_by, posted_with, posted_at}
-use Rattle.attempted_calls.specs.call_causes.proofs.HandledTicks.{take_of, taken_first}
+use Rattle.attempted_calls.specs.Below.programs_allowed.specs.program_steps.specs.Sound.{first_step}
+use Rattle.attempted_calls.specs.Below.outcome_stories.specs.Stories.{In}
+use Rattle.attempted_calls.specs.Below.owing_ticks.proofs.OwingRuns.{same_first}
+use Rattle.attempted_calls.specs.Below.run_theorems.specs.Heard.{as_taken, taken_link}
+use Rattle.attempted_calls.specs.Below.call_stories.specs.Posts.{Post, posts_by, posted_with, posted_at}
+use Rattle.attempted_calls.specs.Below.call_causes.proofs.HandledTicks.{take_of, taken_first}
 use Rattle.attempted_calls.specs.accept_counts.specs.EndedCalls.{Load, loaded_with, loaded_at}
 use Rattle.ended_calls.proofs.EndedReads.{Tells, MayPost, tell_first, tell_next}
 use Rattle.attempted_calls.specs.accept_counts.proofs.Readings.{ticks_first, found_by}

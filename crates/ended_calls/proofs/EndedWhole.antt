@@ -4,7 +4,7 @@ use Rattle.std.proofs.lemmas.List.Concat.{flat_map-append}
 use Rattle.std.specs.Prelude.{Contains}
 use Rattle.std.specs.List.{filter}
 use Rattle.atomic_table.proofs.Lists.{at_set, set_else}
-use Rattle.attempted_calls.specs.chain_steps.proofs.Lists.{at_some}
+use Rattle.attempted_calls.specs.Below.chain_steps.proofs.Lists.{at_some}
 use Rattle.sock_model.specs.declared.view.View.{View}
 use Rattle.seat_programs.specs.brpc_model.specs.Items.{Item}
 use Rattle.seat_programs.specs.brpc_model.specs.Operations.{Turn}
@@ -18,23 +18,23 @@ use Rattle.seat_programs.specs.Runs.{from_to}
 use Rattle.seat_programs.specs.Tasks.{opens, calls, plan_of}
 use Rattle.seat_programs.specs.Ticks.{Moment, ticked, run}
 use Rattle.seat_programs.specs.Scripts.{all_tasks, opened, set_up, played, IsRunWithCalls}
-use Rattle.attempted_calls.specs.programs_allowed.specs.program_steps.specs.Sound.{views_along}
-use Rattle.attempted_calls.specs.programs_allowed.specs.sock_runs.proofs.Along.{place_inside}
-use Rattle.attempted_calls.specs.programs_allowed.specs.program_walks.proofs.Whole.{IsListed, closing_of, views_played, views_closed, set_up_answered, end_answered, set_up_sound, closing_sound, closed_sound, recorded_opened, recorded_set_up, recorded_closing, recorded_closed}
-use Rattle.attempted_calls.specs.outcome_stories.specs.Stories.{In}
-use Rattle.attempted_calls.specs.outcome_ticks.proofs.Lifted.{filtered_in}
-use Rattle.attempted_calls.specs.outcome_stories.proofs.Members.{in_contains}
-use Rattle.attempted_calls.specs.outcome_causes.proofs.Plain.{in_left, in_right, in_both}
-use Rattle.attempted_calls.specs.programs_allowed.specs.Openings.{all_seats}
-use Rattle.attempted_calls.specs.call_stories.proofs.RunTicks.{in_setup, in_clients, in_closing, parts}
-use Rattle.attempted_calls.specs.joint_runs.proofs.Runs.{AreMade, first_views}
-use Rattle.attempted_calls.specs.owed_calls.proofs.Owed.{opened_seats}
-use Rattle.attempted_calls.specs.run_theorems.specs.Heard.{as_taken, bytes_found, taken_in, heard_takes, given_by}
-use Rattle.attempted_calls.specs.run_theorems.proofs.Gave.{gave_heard}
-use Rattle.attempted_calls.specs.run_theorems.proofs.HeardRuns.{taken_append}
-use Rattle.attempted_calls.specs.call_stories.specs.Lists.{Take, takes_at, given, shows_in, takes_of_run, is_last, is_closed, is_no_more, found_so, is_fault, early_of_run}
-use Rattle.attempted_calls.specs.call_stories.specs.Posts.{Post, posted_at, posts_of_run}
-use Rattle.attempted_calls.specs.programs_allowed.proofs.Fresh.{opening_rights}
+use Rattle.attempted_calls.specs.Below.programs_allowed.specs.program_steps.specs.Sound.{views_along}
+use Rattle.attempted_calls.specs.Below.programs_allowed.specs.sock_runs.proofs.Along.{place_inside}
+use Rattle.attempted_calls.specs.Below.programs_allowed.specs.program_walks.proofs.Whole.{IsListed, closing_of, views_played, views_closed, set_up_answered, end_answered, set_up_sound, closing_sound, closed_sound, recorded_opened, recorded_set_up, recorded_closing, recorded_closed}
+use Rattle.attempted_calls.specs.Below.outcome_stories.specs.Stories.{In}
+use Rattle.attempted_calls.specs.Below.outcome_ticks.proofs.Lifted.{filtered_in}
+use Rattle.attempted_calls.specs.Below.outcome_stories.proofs.Members.{in_contains}
+use Rattle.attempted_calls.specs.Below.outcome_causes.proofs.Plain.{in_left, in_right, in_both}
+use Rattle.attempted_calls.specs.Below.programs_allowed.specs.Openings.{all_seats}
+use Rattle.attempted_calls.specs.Below.call_stories.proofs.RunTicks.{in_setup, in_clients, in_closing, parts}
+use Rattle.attempted_calls.specs.Below.joint_runs.proofs.Runs.{AreMade, first_views}
+use Rattle.attempted_calls.specs.Below.owed_calls.proofs.Owed.{opened_seats}
+use Rattle.attempted_calls.specs.Below.run_theorems.specs.Heard.{as_taken, bytes_found, taken_in, heard_takes, given_by}
+use Rattle.attempted_calls.specs.Below.run_theorems.proofs.Gave.{gave_heard}
+use Rattle.attempted_calls.specs.Below.run_theorems.proofs.HeardRuns.{taken_append}
+use Rattle.attempted_calls.specs.Below.call_stories.specs.Lists.{Take, takes_at, given, shows_in, takes_of_run, is_last, is_closed, is_no_more, found_so, is_fault, early_of_run}
+use Rattle.attempted_calls.specs.Below.call_stories.specs.Posts.{Post, posted_at, posts_of_run}
+use Rattle.attempted_calls.specs.Below.programs_allowed.proofs.Fresh.{opening_rights}
 use Rattle.attempted_calls.specs.accept_counts.specs.EndedCalls.{loaded_at, reader_posts_at, client_posts_at, loads_of_run, reader_posts_of_run, client_posts_of_run, EndedSo, IsEndPost}
 use Rattle.attempted_calls.specs.accept_counts.proofs.Early.{EndedBy, Any, ends_anyhow, start, go, fitting, known, begins_at, opened_takes, quiet_founds}
 use Rattle.ended_calls.proofs.EndedReads.{WasOver, Tells, reader_tells}

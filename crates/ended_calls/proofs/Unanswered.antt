@@ -22,16 +22,16 @@ use Rattle.seat_programs.specs.Tasks.{opens, plan_of, id_plan_of}
 use Rattle.seat_programs.specs.Scripts.{all_tasks, IsRunWithCalls}
 use Rattle.seat_programs.specs.Told.{IsTask, Became}
 use Rattle.seat_programs.specs.ToldCalls.{Gave, IsResponse, IsPlaced}
-use Rattle.attempted_calls.specs.joint_runs.proofs.Runs.{AreMade}
-use Rattle.attempted_calls.specs.script_facts.proofs.Reading.{InRange}
-use Rattle.attempted_calls.specs.script_facts.proofs.Targets.{AreThere}
-use Rattle.attempted_calls.specs.call_owing.specs.Lives.{ClosesInRun}
-use Rattle.attempted_calls.specs.run_theorems.proofs.Gave.{gave_heard}
-use Rattle.attempted_calls.specs.call_stories.specs.Lists.{given, shows_in_run, soon_of_run}
-use Rattle.attempted_calls.specs.call_stories.specs.Decided.{decided_by}
-use Rattle.attempted_calls.specs.call_stories.specs.Scenes.{In}
-use Rattle.attempted_calls.specs.story_steps.proofs.Whys.{in_contains}
-use Rattle.attempted_calls.specs.call_causes.proofs.HandledWhole.{PostedLate, soon_behind, silent_of_readers, failed_inside}
+use Rattle.attempted_calls.specs.Below.joint_runs.proofs.Runs.{AreMade}
+use Rattle.attempted_calls.specs.Below.script_facts.proofs.Reading.{InRange}
+use Rattle.attempted_calls.specs.Below.script_facts.proofs.Targets.{AreThere}
+use Rattle.attempted_calls.specs.Below.call_owing.specs.Lives.{ClosesInRun}
+use Rattle.attempted_calls.specs.Below.run_theorems.proofs.Gave.{gave_heard}
+use Rattle.attempted_calls.specs.Below.call_stories.specs.Lists.{given, shows_in_run, soon_of_run}
+use Rattle.attempted_calls.specs.Below.call_stories.specs.Decided.{decided_by}
+use Rattle.attempted_calls.specs.Below.call_stories.specs.Scenes.{In}
+use Rattle.attempted_calls.specs.Below.story_steps.proofs.Whys.{in_contains}
+use Rattle.attempted_calls.specs.Below.call_causes.proofs.HandledWhole.{PostedLate, soon_behind, silent_of_readers, failed_inside}
 use Rattle.attempted_calls.specs.sent_once.proofs.Beside.{gave_of_run, fixed_of_run, orders_here}
 
 some_response : (r : Option ResponseMeta) → IsSome r → has_response r ≡ true

@@ -1,0 +1,1 @@
+pub use Rattle.attempted_calls.specs.Below

@@ -12,5 +12,5 @@ pub mod Parts
 pub use Rattle.run_theorems
 pub use Rattle.id_runs
 pub use Rattle.seat_states.specs.program_steps
-pub use Rattle.run_theorems.specs.programs_allowed.specs.sock_runs
-pub use Rattle.run_theorems.specs.programs_allowed.specs.runs_end
+pub use Rattle.run_theorems.specs.Below.programs_allowed.specs.sock_runs
+pub use Rattle.run_theorems.specs.Below.programs_allowed.specs.runs_end

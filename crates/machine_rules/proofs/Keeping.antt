@@ -31,10 +31,10 @@ use Rattle.machine_model.specs.sock_runs.proofs.LinkTicks.{link_asked_there}
 use Rattle.machine_model.specs.sock_runs.proofs.Few.{few_lasts}
 use Rattle.machine_model.specs.sock_runs.proofs.Waiting.{waits_still}
 use Rattle.machine_model.specs.runs_end.proofs.HeadMoves.{calls_last}
-use Rattle.machine_model.specs.run_theorems.specs.programs_allowed.proofs.Retrying.{retries_go}
+use Rattle.machine_model.specs.run_theorems.specs.Below.programs_allowed.proofs.Retrying.{retries_go}
 use Rattle.machine_model.specs.id_runs.specs.Held.{IdView}
 use Rattle.machine_model.specs.id_runs.specs.Goes.{SoundIds}
-use Rattle.machine_model.specs.run_theorems.specs.joint_runs.proofs.Both.{BothSound, FitsBoth, fits_both, joint_ticks}
+use Rattle.machine_model.specs.run_theorems.specs.Below.joint_runs.proofs.Both.{BothSound, FitsBoth, fits_both, joint_ticks}
 use Rattle.call_points.specs.Steps.{after_word}
 use Rattle.seat_states.specs.Points.{Context, after_put, after_ready}
 use Rattle.seat_states.specs.Steps.{First, OfCall, OfAside, OfMessage, OfLink, OfHome, first_in}

@@ -28,11 +28,11 @@ use Rattle.machine_model.specs.program_steps.proofs.Cases.{goes_first}
 use Rattle.machine_model.specs.program_steps.proofs.Rounds.{begins_round}
 use Rattle.machine_model.specs.program_steps.proofs.Passes.{goes_round}
 use Rattle.machine_model.specs.sock_runs.proofs.Allowed.{sound_allows, view_there}
-use Rattle.machine_model.specs.run_theorems.specs.programs_allowed.proofs.Retrying.{retries_go}
+use Rattle.machine_model.specs.run_theorems.specs.Below.programs_allowed.proofs.Retrying.{retries_go}
 use Rattle.machine_model.specs.id_runs.specs.Held.{IdView, MayId}
 use Rattle.machine_model.specs.id_runs.specs.Goes.{IdGoesOn, FitsSock, FitsFirst}
 use Rattle.machine_model.specs.id_runs.specs.Goes as goes
-use Rattle.machine_model.specs.run_theorems.specs.joint_runs.proofs.Joint.{is_fitting_ids}
+use Rattle.machine_model.specs.run_theorems.specs.Below.joint_runs.proofs.Joint.{is_fitting_ids}
 use Rattle.call_points.specs.Steps.{aside_of, aside_in}
 use Rattle.call_slots.proofs.Fitting.{may_next}
 use Rattle.seat_states.specs.Steps.{First, OfCall, OfAside, OfMessage, first_of, first_in}

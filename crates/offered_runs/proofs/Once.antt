@@ -23,15 +23,15 @@ use Rattle.seat_programs.specs.Programs.{Program}
 use Rattle.seat_programs.specs.Scripts.{sizes_of, programs, readers_from, all_programs, all_tasks, opened, ending}
 use Rattle.seat_programs.specs.Tasks.{opens, calls, plan_of, id_plan_of}
 use Rattle.seat_programs.specs.Ticks.{Moment, IsAnswered, AreAnswered, fed, with_places, onto_first, ticked, run}
-use Rattle.served_runs.specs.programs_allowed.specs.program_steps.specs.May.{May}
-use Rattle.served_runs.specs.programs_allowed.specs.program_steps.specs.Sound.{state, Sound, IsFitting, AreFitting, views_after}
-use Rattle.served_runs.specs.programs_allowed.specs.program_steps.proofs.Cases.{tick_keeps}
-use Rattle.served_runs.specs.programs_allowed.specs.sock_runs.proofs.HandTicks.{taking}
-use Rattle.served_runs.specs.programs_allowed.specs.sock_runs.proofs.LinkTicks.{RetriesGo, link_there}
-use Rattle.served_runs.specs.programs_allowed.specs.program_steps.proofs.Passes.{goes_round}
-use Rattle.served_runs.specs.programs_allowed.specs.program_steps.proofs.Rounds.{begins_round}
-use Rattle.served_runs.specs.programs_allowed.specs.sock_runs.proofs.Ticks.{sound_ticks}
-use Rattle.served_runs.specs.call_owing.specs.Lives.{InHand}
+use Rattle.served_runs.specs.Below.programs_allowed.specs.program_steps.specs.May.{May}
+use Rattle.served_runs.specs.Below.programs_allowed.specs.program_steps.specs.Sound.{state, Sound, IsFitting, AreFitting, views_after}
+use Rattle.served_runs.specs.Below.programs_allowed.specs.program_steps.proofs.Cases.{tick_keeps}
+use Rattle.served_runs.specs.Below.programs_allowed.specs.sock_runs.proofs.HandTicks.{taking}
+use Rattle.served_runs.specs.Below.programs_allowed.specs.sock_runs.proofs.LinkTicks.{RetriesGo, link_there}
+use Rattle.served_runs.specs.Below.programs_allowed.specs.program_steps.proofs.Passes.{goes_round}
+use Rattle.served_runs.specs.Below.programs_allowed.specs.program_steps.proofs.Rounds.{begins_round}
+use Rattle.served_runs.specs.Below.programs_allowed.specs.sock_runs.proofs.Ticks.{sound_ticks}
+use Rattle.served_runs.specs.Below.call_owing.specs.Lives.{InHand}
 use Rattle.served_runs.specs.Offered.{Lies}
 
 -- ## How many

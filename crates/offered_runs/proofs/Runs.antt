@@ -13,20 +13,20 @@ use Rattle.seat_programs.specs.Cores.{Core}
 use Rattle.seat_programs.specs.Tasks.{plan_of}
 use Rattle.seat_programs.specs.Ticks.{Answer, Moment, AreAnswered, taken, ticked, run}
 use Rattle.seat_programs.specs.Scripts.{opened, set_up, played, IsRunWithCalls}
-use Rattle.served_runs.specs.programs_allowed.specs.program_steps.specs.Sound.{Sound, AreFitting, views_after, views_along}
-use Rattle.served_runs.specs.programs_allowed.specs.sock_runs.proofs.LinkTicks.{RetriesGo}
-use Rattle.served_runs.specs.programs_allowed.specs.sock_runs.proofs.Ticks.{sound_ticks}
-use Rattle.served_runs.specs.programs_allowed.specs.program_walks.proofs.Whole.{closing_of, views_played, views_closed, set_up_answered, end_answered, set_up_sound, closing_sound, closed_sound}
-use Rattle.served_runs.specs.id_runs.specs.Goes as goes
-use Rattle.served_runs.specs.joint_runs.proofs.Runs.{AreMade, first_views}
-use Rattle.served_runs.specs.call_owing.specs.Lives.{IsFinished, ClosesAt, ClosesInTime, ClosesInRun}
-use Rattle.served_runs.specs.owing_ticks.proofs.OwingRuns.{same_first}
-use Rattle.served_runs.specs.run_theorems.specs.Offered.{GaveSo, HasTaken}
-use Rattle.served_runs.specs.run_theorems.specs.Offered as told
-use Rattle.served_runs.specs.run_theorems.specs.OfferedRuns as runs
-use Rattle.served_runs.specs.call_stories.specs.Lists.{given}
-use Rattle.served_runs.specs.accept_counts.proofs.Early.{start, go, fitting}
-use Rattle.served_runs.specs.call_stories.proofs.RunTicks.{in_setup, in_clients, in_closing}
+use Rattle.served_runs.specs.Below.programs_allowed.specs.program_steps.specs.Sound.{Sound, AreFitting, views_after, views_along}
+use Rattle.served_runs.specs.Below.programs_allowed.specs.sock_runs.proofs.LinkTicks.{RetriesGo}
+use Rattle.served_runs.specs.Below.programs_allowed.specs.sock_runs.proofs.Ticks.{sound_ticks}
+use Rattle.served_runs.specs.Below.programs_allowed.specs.program_walks.proofs.Whole.{closing_of, views_played, views_closed, set_up_answered, end_answered, set_up_sound, closing_sound, closed_sound}
+use Rattle.served_runs.specs.Below.id_runs.specs.Goes as goes
+use Rattle.served_runs.specs.Below.joint_runs.proofs.Runs.{AreMade, first_views}
+use Rattle.served_runs.specs.Below.call_owing.specs.Lives.{IsFinished, ClosesAt, ClosesInTime, ClosesInRun}
+use Rattle.served_runs.specs.Below.owing_ticks.proofs.OwingRuns.{same_first}
+use Rattle.served_runs.specs.Below.run_theorems.specs.Offered.{GaveSo, HasTaken}
+use Rattle.served_runs.specs.Below.run_theorems.specs.Offered as told
+use Rattle.served_runs.specs.Below.run_theorems.specs.OfferedRuns as runs
+use Rattle.served_runs.specs.Below.call_stories.specs.Lists.{given}
+use Rattle.served_runs.specs.Below.accept_counts.proofs.Early.{start, go, fitting}
+use Rattle.served_runs.specs.Below.call_stories.proofs.RunTicks.{in_setup, in_clients, in_closing}
 use Rattle.served_runs.specs.Offered.{TookSoFar, IsDone, IsOfferedSo, OffersAt, AreOffered, OffersInRun}
 use Rattle.offered_runs.proofs.Once.{IsOnce, one_link, once_tick, once_along, once_opened, once_ending}
 

@@ -1,1 +1,2 @@
 pub use Rattle.served_runs
+pub use Rattle.served_runs.specs.Below

@@ -17,13 +17,13 @@ use Rattle.sock_model.specs.Reads.{as_link, shown, carries, hands_of}
 use Rattle.sock_model.specs.Weights.{total, is_freer, is_linked}
 use Rattle.sock_model.specs.Slots.{count}
 use Rattle.sock_model.specs.References.{slot_facts}
-use Rattle.owned_ids.specs.programs_allowed.specs.slot_steps.proofs.Sums.{term_le}
-use Rattle.owned_ids.specs.programs_allowed.specs.slot_steps.proofs.Numbers.{only-same, life_is}
-use Rattle.owned_ids.specs.sock_steps.proofs.Maps.{is_none}
+use Rattle.owned_ids.specs.Below.programs_allowed.specs.slot_steps.proofs.Sums.{term_le}
+use Rattle.owned_ids.specs.Below.programs_allowed.specs.slot_steps.proofs.Numbers.{only-same, life_is}
+use Rattle.owned_ids.specs.Below.sock_steps.proofs.Maps.{is_none}
 use Rattle.seat_programs.specs.Cores.{Core, SeatState, link_place}
-use Rattle.owned_ids.specs.programs_allowed.specs.program_steps.specs.Sound.{state, Sound, AreInHand, AreHeld, IsOfRight}
-use Rattle.owned_ids.specs.programs_allowed.specs.program_steps.proofs.Bounds.{law}
-use Rattle.owned_ids.specs.programs_allowed.specs.program_walks.proofs.LinksOpening.{OpensLink}
+use Rattle.owned_ids.specs.Below.programs_allowed.specs.program_steps.specs.Sound.{state, Sound, AreInHand, AreHeld, IsOfRight}
+use Rattle.owned_ids.specs.Below.programs_allowed.specs.program_steps.proofs.Bounds.{law}
+use Rattle.owned_ids.specs.Below.programs_allowed.specs.program_walks.proofs.LinksOpening.{OpensLink}
 use Rattle.owned_ids.specs.call_owing.proofs.EndsStill.{view_of}
 use Rattle.owned_ids.specs.call_owing.specs.Lives.{InHand, IsFinished}
 use Rattle.owned_ids.proofs.WordsGiven.{Named}

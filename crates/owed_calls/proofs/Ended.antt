@@ -14,13 +14,13 @@ use Rattle.seat_programs.specs.Cores.{Core}
 use Rattle.seat_programs.specs.Ticks.{Moment, IsAlwaysReady, waits, waits_at}
 use Rattle.seat_programs.specs.Runs.{kind_in, IsSettled}
 use Rattle.seat_programs.specs.Runs as runs
-use Rattle.owned_ids.specs.programs_allowed.specs.program_steps.specs.Sound.{Sound, IsAhead}
-use Rattle.owned_ids.specs.programs_allowed.specs.sock_runs.proofs.Along.{seat_rests, place_inside}
-use Rattle.owned_ids.specs.programs_allowed.specs.sock_runs.proofs.Waiting.{StandsAside, still_settles}
-use Rattle.owned_ids.specs.programs_allowed.specs.program_walks.proofs.Rested.{IsPast}
-use Rattle.owned_ids.specs.programs_allowed.specs.program_walks.proofs.ReaderSeats.{AtReader, waits_own}
-use Rattle.owned_ids.specs.id_runs.specs.Held.{IdView}
-use Rattle.owned_ids.specs.id_runs.specs.Goes.{SoundIds}
+use Rattle.owned_ids.specs.Below.programs_allowed.specs.program_steps.specs.Sound.{Sound, IsAhead}
+use Rattle.owned_ids.specs.Below.programs_allowed.specs.sock_runs.proofs.Along.{seat_rests, place_inside}
+use Rattle.owned_ids.specs.Below.programs_allowed.specs.sock_runs.proofs.Waiting.{StandsAside, still_settles}
+use Rattle.owned_ids.specs.Below.programs_allowed.specs.program_walks.proofs.Rested.{IsPast}
+use Rattle.owned_ids.specs.Below.programs_allowed.specs.program_walks.proofs.ReaderSeats.{AtReader, waits_own}
+use Rattle.owned_ids.specs.Below.id_runs.specs.Held.{IdView}
+use Rattle.owned_ids.specs.Below.id_runs.specs.Goes.{SoundIds}
 use Rattle.owned_ids.specs.call_owing.specs.Owing.{Owing}
 use Rattle.owned_ids.specs.call_owing.specs.Owes.{OwesOn}
 use Rattle.owned_ids.specs.call_owing.specs.Sound.{id_word_of, SoundOwing, AllRest}

@@ -24,24 +24,24 @@ use Rattle.seat_programs.specs.Ticks.{Unasked, Moment, quiet, ticked, run, IsAlw
 use Rattle.seat_programs.specs.Runs as runs
 use Rattle.seat_programs.specs.Runs.{kind_in}
 use Rattle.seat_programs.specs.Scripts.{ticks_of, sizes_of, programs, readers_from, all_programs, all_tasks, opened, ending, is_ending, set_up, played, IsRunWithCalls}
-use Rattle.owned_ids.specs.programs_allowed.specs.program_steps.specs.Sound.{AllRest, views_along}
-use Rattle.owned_ids.specs.programs_allowed.specs.sock_runs.proofs.LinkTicks.{RetriesGo}
-use Rattle.owned_ids.specs.programs_allowed.specs.sock_runs.proofs.Along.{seat_rests, place_inside}
-use Rattle.owned_ids.specs.programs_allowed.specs.sock_runs.proofs.Quiets.{run_seats, run_rests}
-use Rattle.owned_ids.specs.programs_allowed.specs.program_walks.proofs.ThroughCalls.{through_next}
-use Rattle.owned_ids.specs.id_runs.specs.Goes as goes
-use Rattle.owned_ids.specs.programs_allowed.specs.program_walks.proofs.WillStore.{WillStore, IsToStore, will_passes, will_follow, will_client, run_stores, rested_stored}
-use Rattle.owned_ids.specs.programs_allowed.specs.program_walks.proofs.LinksOpening.{OpensLink}
-use Rattle.owned_ids.specs.programs_allowed.specs.program_walks.proofs.Whole.{AreFittingIn, Begins, IsOwed, IsListed, views_closed, set_up_answered, end_answered, set_up_sound, closing_sound, closed_sound, views_played, rested_ahead, rested_idle, ended_idle, end_rests}
-use Rattle.owned_ids.specs.id_runs.proofs.Opening.{unused}
-use Rattle.owned_ids.specs.programs_allowed.proofs.Beginning as clients_begin
-use Rattle.owned_ids.specs.programs_allowed.proofs.Retrying.{retries_go}
-use Rattle.owned_ids.specs.joint_runs.proofs.Both.{AreBoth, behind_both}
-use Rattle.owned_ids.specs.joint_runs.proofs.Runs.{AreMade, first_views, begins, IsSoundRun, are_fitting_in, joint_runs}
-use Rattle.owned_ids.specs.script_facts.proofs.Lists.{some_is, before_from, before_at, before_filter_map}
-use Rattle.owned_ids.specs.script_facts.proofs.Numbering.{is_numbered}
-use Rattle.owned_ids.specs.script_facts.proofs.TaskLemmas.{tasks_length}
-use Rattle.owned_ids.specs.chain_steps.proofs.Lists.{at_some}
+use Rattle.owned_ids.specs.Below.programs_allowed.specs.program_steps.specs.Sound.{AllRest, views_along}
+use Rattle.owned_ids.specs.Below.programs_allowed.specs.sock_runs.proofs.LinkTicks.{RetriesGo}
+use Rattle.owned_ids.specs.Below.programs_allowed.specs.sock_runs.proofs.Along.{seat_rests, place_inside}
+use Rattle.owned_ids.specs.Below.programs_allowed.specs.sock_runs.proofs.Quiets.{run_seats, run_rests}
+use Rattle.owned_ids.specs.Below.programs_allowed.specs.program_walks.proofs.ThroughCalls.{through_next}
+use Rattle.owned_ids.specs.Below.id_runs.specs.Goes as goes
+use Rattle.owned_ids.specs.Below.programs_allowed.specs.program_walks.proofs.WillStore.{WillStore, IsToStore, will_passes, will_follow, will_client, run_stores, rested_stored}
+use Rattle.owned_ids.specs.Below.programs_allowed.specs.program_walks.proofs.LinksOpening.{OpensLink}
+use Rattle.owned_ids.specs.Below.programs_allowed.specs.program_walks.proofs.Whole.{AreFittingIn, Begins, IsOwed, IsListed, views_closed, set_up_answered, end_answered, set_up_sound, closing_sound, closed_sound, views_played, rested_ahead, rested_idle, ended_idle, end_rests}
+use Rattle.owned_ids.specs.Below.id_runs.proofs.Opening.{unused}
+use Rattle.owned_ids.specs.Below.programs_allowed.proofs.Beginning as clients_begin
+use Rattle.owned_ids.specs.Below.programs_allowed.proofs.Retrying.{retries_go}
+use Rattle.owned_ids.specs.Below.joint_runs.proofs.Both.{AreBoth, behind_both}
+use Rattle.owned_ids.specs.Below.joint_runs.proofs.Runs.{AreMade, first_views, begins, IsSoundRun, are_fitting_in, joint_runs}
+use Rattle.owned_ids.specs.Below.script_facts.proofs.Lists.{some_is, before_from, before_at, before_filter_map}
+use Rattle.owned_ids.specs.Below.script_facts.proofs.Numbering.{is_numbered}
+use Rattle.owned_ids.specs.Below.script_facts.proofs.TaskLemmas.{tasks_length}
+use Rattle.owned_ids.specs.Below.chain_steps.proofs.Lists.{at_some}
 use Rattle.owned_ids.specs.call_owing.specs.Owing.{Owing}
 use Rattle.owned_ids.specs.call_owing.specs.Sound.{id_word_of, SoundOwing}
 use Rattle.owned_ids.specs.call_owing.specs.Owns.{Owned}

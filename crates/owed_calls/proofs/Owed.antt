@@ -22,20 +22,20 @@ use Rattle.seat_programs.specs.Ticks.{Moment, quiet, run, AreAnswered, IsAlwaysR
 use Rattle.seat_programs.specs.Runs as runs
 use Rattle.seat_programs.specs.Scripts.{sizes_of, programs, readers_from, all_programs, tasks_from, all_tasks, opening_calls, opened, ending, is_ending, set_up, played, IsRunWithCalls}
 use Rattle.seat_programs.specs.Told.{AreTasks}
-use Rattle.owned_ids.specs.programs_allowed.specs.program_steps.specs.Sound.{Sound, IsAhead, AreFitting, views_along}
-use Rattle.owned_ids.specs.programs_allowed.specs.sock_runs.proofs.LinkTicks.{RetriesGo}
-use Rattle.owned_ids.specs.programs_allowed.specs.sock_runs.proofs.Along.{run_sound, seat_rests, place_inside}
-use Rattle.owned_ids.specs.programs_allowed.specs.program_walks.proofs.Records.{next_stores}
-use Rattle.owned_ids.specs.programs_allowed.specs.program_walks.proofs.Recorded.{Recorded}
-use Rattle.owned_ids.specs.programs_allowed.specs.program_walks.proofs.Rested.{IsPast}
-use Rattle.owned_ids.specs.programs_allowed.specs.sock_runs.proofs.Waiting.{still_settles}
-use Rattle.owned_ids.specs.programs_allowed.specs.program_walks.proofs.ReaderSeats.{AtReader}
-use Rattle.owned_ids.specs.programs_allowed.specs.program_walks.proofs.OpensStay.{readers_begin}
-use Rattle.owned_ids.specs.programs_allowed.specs.program_walks.proofs.LinksRecorded.{Linked}
-use Rattle.owned_ids.specs.programs_allowed.specs.program_walks.proofs.LinksOpening.{OpensLink, OwnsLink, script_owns, others_give, beginning_linked}
-use Rattle.owned_ids.specs.programs_allowed.specs.program_walks.proofs.Whole.{AreFittingIn, Begins, IsOwed, IsListed, views_closed, set_up_answered, end_answered, set_up_sound, rested_ahead, rested_idle, closing_sound, closed_sound, ended_ahead, recorded_opened, recorded_set_up, recorded_closing, recorded_closed}
-use Rattle.owned_ids.specs.id_runs.specs.Held.{IdView}
-use Rattle.owned_ids.specs.id_runs.specs.Goes.{SoundIds}
+use Rattle.owned_ids.specs.Below.programs_allowed.specs.program_steps.specs.Sound.{Sound, IsAhead, AreFitting, views_along}
+use Rattle.owned_ids.specs.Below.programs_allowed.specs.sock_runs.proofs.LinkTicks.{RetriesGo}
+use Rattle.owned_ids.specs.Below.programs_allowed.specs.sock_runs.proofs.Along.{run_sound, seat_rests, place_inside}
+use Rattle.owned_ids.specs.Below.programs_allowed.specs.program_walks.proofs.Records.{next_stores}
+use Rattle.owned_ids.specs.Below.programs_allowed.specs.program_walks.proofs.Recorded.{Recorded}
+use Rattle.owned_ids.specs.Below.programs_allowed.specs.program_walks.proofs.Rested.{IsPast}
+use Rattle.owned_ids.specs.Below.programs_allowed.specs.sock_runs.proofs.Waiting.{still_settles}
+use Rattle.owned_ids.specs.Below.programs_allowed.specs.program_walks.proofs.ReaderSeats.{AtReader}
+use Rattle.owned_ids.specs.Below.programs_allowed.specs.program_walks.proofs.OpensStay.{readers_begin}
+use Rattle.owned_ids.specs.Below.programs_allowed.specs.program_walks.proofs.LinksRecorded.{Linked}
+use Rattle.owned_ids.specs.Below.programs_allowed.specs.program_walks.proofs.LinksOpening.{OpensLink, OwnsLink, script_owns, others_give, beginning_linked}
+use Rattle.owned_ids.specs.Below.programs_allowed.specs.program_walks.proofs.Whole.{AreFittingIn, Begins, IsOwed, IsListed, views_closed, set_up_answered, end_answered, set_up_sound, rested_ahead, rested_idle, closing_sound, closed_sound, ended_ahead, recorded_opened, recorded_set_up, recorded_closing, recorded_closed}
+use Rattle.owned_ids.specs.Below.id_runs.specs.Held.{IdView}
+use Rattle.owned_ids.specs.Below.id_runs.specs.Goes.{SoundIds}
 use Rattle.owned_ids.specs.call_owing.specs.Owing.{Owing}
 use Rattle.owned_ids.specs.call_owing.specs.Sound.{id_word_of, SoundOwing}
 use Rattle.owned_ids.specs.call_owing.specs.Lives.{id_of, life_of, AreSaying}

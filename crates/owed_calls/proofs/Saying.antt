@@ -12,16 +12,16 @@ use Rattle.seat_programs.specs.Programs.{Program, Do, Write, Aside, Round}
 use Rattle.seat_programs.specs.Readers.{reader}
 use Rattle.seat_programs.specs.Cores.{Core, SeatState, waiting_at}
 use Rattle.seat_programs.specs.Ticks.{Answer, Moment, ticked, run, AreAnswered}
-use Rattle.owned_ids.specs.programs_allowed.specs.program_steps.specs.Sound.{Sound, AreFitting, first_step, views_after, views_along}
-use Rattle.owned_ids.specs.programs_allowed.specs.sock_runs.proofs.LinkTicks.{RetriesGo}
-use Rattle.owned_ids.specs.programs_allowed.specs.sock_runs.proofs.Along.{place_inside}
-use Rattle.owned_ids.specs.programs_allowed.specs.sock_runs.proofs.Ticks.{sound_ticks}
-use Rattle.owned_ids.specs.programs_allowed.specs.sock_runs.proofs.Quiets.{run_seats}
-use Rattle.owned_ids.specs.programs_allowed.specs.program_walks.proofs.Recorded.{Recorded, recorded_ticks}
-use Rattle.owned_ids.specs.programs_allowed.specs.program_walks.proofs.ReaderSeats.{AtReader, run_reader}
-use Rattle.owned_ids.specs.programs_allowed.specs.program_walks.proofs.LinksOpening.{OpensLink}
-use Rattle.owned_ids.specs.id_runs.specs.Goes as goes
-use Rattle.owned_ids.specs.joint_runs.proofs.Both.{AreBoth}
+use Rattle.owned_ids.specs.Below.programs_allowed.specs.program_steps.specs.Sound.{Sound, AreFitting, first_step, views_after, views_along}
+use Rattle.owned_ids.specs.Below.programs_allowed.specs.sock_runs.proofs.LinkTicks.{RetriesGo}
+use Rattle.owned_ids.specs.Below.programs_allowed.specs.sock_runs.proofs.Along.{place_inside}
+use Rattle.owned_ids.specs.Below.programs_allowed.specs.sock_runs.proofs.Ticks.{sound_ticks}
+use Rattle.owned_ids.specs.Below.programs_allowed.specs.sock_runs.proofs.Quiets.{run_seats}
+use Rattle.owned_ids.specs.Below.programs_allowed.specs.program_walks.proofs.Recorded.{Recorded, recorded_ticks}
+use Rattle.owned_ids.specs.Below.programs_allowed.specs.program_walks.proofs.ReaderSeats.{AtReader, run_reader}
+use Rattle.owned_ids.specs.Below.programs_allowed.specs.program_walks.proofs.LinksOpening.{OpensLink}
+use Rattle.owned_ids.specs.Below.id_runs.specs.Goes as goes
+use Rattle.owned_ids.specs.Below.joint_runs.proofs.Both.{AreBoth}
 use Rattle.owned_ids.specs.call_owing.proofs.EndsStill.{view_of}
 use Rattle.owned_ids.specs.call_owing.specs.Owing.{Duty, Linked, Owing, Among, duty_tokens}
 use Rattle.owned_ids.specs.call_owing.specs.Owes.{OwesOn}

@@ -15,19 +15,19 @@ use Rattle.seat_programs.specs.Clients.{ending_of}
 use Rattle.seat_programs.specs.Cores.{Core, SeatState, resolved, next_step, waiting_at, with_seat}
 use Rattle.seat_programs.specs.Ticks.{Moment, run, AreAnswered}
 use Rattle.seat_programs.specs.Scripts.{is_ending}
-use Rattle.owned_ids.specs.programs_allowed.specs.program_steps.specs.Sound.{state, Sound, AreFitting, views_along}
-use Rattle.owned_ids.specs.programs_allowed.specs.program_steps.proofs.Bounds.{law, lives_le}
-use Rattle.owned_ids.specs.programs_allowed.specs.program_walks.proofs.Records.{next_stores}
-use Rattle.owned_ids.specs.programs_allowed.specs.sock_runs.proofs.LinkTicks.{RetriesGo}
-use Rattle.owned_ids.specs.programs_allowed.specs.sock_runs.proofs.Quiets.{run_seats}
-use Rattle.owned_ids.specs.programs_allowed.specs.program_walks.proofs.Through.{through_any_failed}
-use Rattle.owned_ids.specs.programs_allowed.specs.program_walks.proofs.ThroughSends.{through_ending}
-use Rattle.owned_ids.specs.programs_allowed.specs.program_walks.proofs.ThroughCalls.{through_next}
-use Rattle.owned_ids.specs.programs_allowed.specs.program_walks.proofs.Recorded.{Recorded}
-use Rattle.owned_ids.specs.programs_allowed.specs.program_walks.proofs.LinksRecorded.{Gives, gives_passes, gives_opens, gives_follow, Stored, Stores, Linked, run_linked}
-use Rattle.owned_ids.specs.programs_allowed.specs.program_walks.proofs.LinksOpening.{OpensLink}
-use Rattle.owned_ids.specs.programs_allowed.specs.sock_runs.proofs.LinksStay.{IsGiven}
-use Rattle.owned_ids.specs.programs_allowed.specs.program_walks.proofs.ReaderSeats.{AtReader, run_reader}
+use Rattle.owned_ids.specs.Below.programs_allowed.specs.program_steps.specs.Sound.{state, Sound, AreFitting, views_along}
+use Rattle.owned_ids.specs.Below.programs_allowed.specs.program_steps.proofs.Bounds.{law, lives_le}
+use Rattle.owned_ids.specs.Below.programs_allowed.specs.program_walks.proofs.Records.{next_stores}
+use Rattle.owned_ids.specs.Below.programs_allowed.specs.sock_runs.proofs.LinkTicks.{RetriesGo}
+use Rattle.owned_ids.specs.Below.programs_allowed.specs.sock_runs.proofs.Quiets.{run_seats}
+use Rattle.owned_ids.specs.Below.programs_allowed.specs.program_walks.proofs.Through.{through_any_failed}
+use Rattle.owned_ids.specs.Below.programs_allowed.specs.program_walks.proofs.ThroughSends.{through_ending}
+use Rattle.owned_ids.specs.Below.programs_allowed.specs.program_walks.proofs.ThroughCalls.{through_next}
+use Rattle.owned_ids.specs.Below.programs_allowed.specs.program_walks.proofs.Recorded.{Recorded}
+use Rattle.owned_ids.specs.Below.programs_allowed.specs.program_walks.proofs.LinksRecorded.{Gives, gives_passes, gives_opens, gives_follow, Stored, Stores, Linked, run_linked}
+use Rattle.owned_ids.specs.Below.programs_allowed.specs.program_walks.proofs.LinksOpening.{OpensLink}
+use Rattle.owned_ids.specs.Below.programs_allowed.specs.sock_runs.proofs.LinksStay.{IsGiven}
+use Rattle.owned_ids.specs.Below.programs_allowed.specs.program_walks.proofs.ReaderSeats.{AtReader, run_reader}
 use Rattle.owned_ids.specs.call_owing.specs.Owing.{Owing}
 use Rattle.owned_ids.specs.call_owing.specs.Sound.{SoundOwing}
 use Rattle.owned_ids.specs.call_owing.specs.Lives.{id_of, life_of, AreSaying}

@@ -16,15 +16,15 @@ use Rattle.seat_programs.specs.Programs.{Program, Rest, Round}
 use Rattle.seat_programs.specs.Posts.{is_first, is_sought}
 use Rattle.seat_programs.specs.Cores.{Core, SeatState}
 use Rattle.seat_programs.specs.Ticks.{Answer, OfTake, waits_in, is_nothing}
-use Rattle.call_owing.specs.id_runs.specs.Held.{IdView, id_state}
-use Rattle.call_owing.specs.id_runs.specs.Goes.{IdGoesOn, SoundIds}
+use Rattle.call_owing.specs.Below.id_runs.specs.Held.{IdView, id_state}
+use Rattle.call_owing.specs.Below.id_runs.specs.Goes.{IdGoesOn, SoundIds}
 use Rattle.call_owing.specs.Owing.{Free, Owing, InList, DutyTo, Among}
 use Rattle.call_owing.specs.Owes.{OwesOn}
 use Rattle.call_owing.specs.Sound.{id_word_of, Owed, by_seat, by_retry, by_reader, Failed, SoundOwing, AllRest, retry_tokens}
 use Rattle.call_owing.specs.Settled.{IsAtRest, WaitsAside, WaitsForOpen, OpensKnown}
 use Rattle.call_owing.proofs.Resolves.{inside_of}
 use Rattle.call_owing.proofs.End.{beside, none_held}
-use Rattle.call_owing.specs.id_runs.proofs.Loops.{and_left, and_right}
+use Rattle.call_owing.specs.Below.id_runs.proofs.Loops.{and_left, and_right}
 
 not_zero : (n : ℕ) → not (n == 0) ≡ true → n ≢ 0
 not_zero n e z = true≢false (sym e ∙ ap not (eq-eqb n 0 z))

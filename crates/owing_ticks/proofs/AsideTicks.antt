@@ -6,7 +6,7 @@ use lib.ListN.{get_elem?}
 use Rattle.corr_core.specs.Word.{parts, made_word, free_word}
 use Rattle.corr_core.specs.declared.marks.Plan.{Plan as IdPlan}
 use Rattle.seat_programs.specs.id_rule.specs.Lawful as ids
-use Rattle.call_owing.specs.id_runs.proofs.Keeps.{parts_packed}
+use Rattle.call_owing.specs.Below.id_runs.proofs.Keeps.{parts_packed}
 use Rattle.seat_programs.specs.Asides.{Step, Found, MakeId, LoadIdWord, LockId, PostId, UnlockId, EndId}
 use Rattle.seat_programs.specs.Programs.{Program, Aside}
 use Rattle.seat_programs.specs.Posts.{packed}

@@ -15,7 +15,7 @@ use Rattle.seat_programs.specs.Clients.{client_from}
 use Rattle.seat_programs.specs.Readers.{reader}
 use Rattle.seat_programs.specs.Cores.{Core, SeatState, waiting_at, resolved, next_step}
 use Rattle.seat_programs.specs.Scripts.{sizes_of, programs, new_links, opening_homes, opening_calls, beginning, readers_from, all_programs}
-use Rattle.call_owing.specs.programs_allowed.specs.program_walks.proofs.Opening.{mapped}
+use Rattle.call_owing.specs.Below.programs_allowed.specs.program_walks.proofs.Opening.{mapped}
 use Rattle.call_owing.specs.Owing.{Free, Trying, Owing, with_keeps}
 use Rattle.call_owing.specs.Owes.{OwesOn}
 use Rattle.call_owing.specs.Sound.{SoundOwing}

@@ -11,7 +11,7 @@ use Rattle.seat_programs.specs.Asides.{LockId, PostId, UnlockId, call_id, id_slo
 use Rattle.seat_programs.specs.Posts.{packed, advance_of}
 use Rattle.seat_programs.specs.Cores.{Core, SeatState, Calls}
 use Rattle.seat_programs.specs.Beside.{calls_after}
-use Rattle.call_owing.specs.id_runs.proofs.Keeps.{parts_packed}
+use Rattle.call_owing.specs.Below.id_runs.proofs.Keeps.{parts_packed}
 use Rattle.call_owing.specs.Owing.{Duty, Free, Trying, Linked, Looking, Telling, Owing, Posting, MayOwe, unlocked_by}
 use Rattle.call_owing.specs.Sound.{id_word_of, at_of, Past, ErrorPast, Stored, OwingLaw}
 use Rattle.call_owing.proofs.Changes.{past_on}

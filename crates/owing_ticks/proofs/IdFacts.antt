@@ -15,8 +15,8 @@ use Rattle.seat_programs.specs.id_rule.proofs.Allowed as allowed
 use Rattle.seat_programs.specs.sock_message.specs.Asked.{Asked}
 use Rattle.seat_programs.specs.Heads.{Retry}
 use Rattle.seat_programs.specs.Cores.{Calls}
-use Rattle.call_owing.specs.id_runs.specs.Held.{IdView, id_state, HasOne}
-use Rattle.call_owing.specs.id_runs.specs.Goes.{FitsRetryId, FindsLonger}
+use Rattle.call_owing.specs.Below.id_runs.specs.Held.{IdView, id_state, HasOne}
+use Rattle.call_owing.specs.Below.id_runs.specs.Goes.{FitsRetryId, FindsLonger}
 use Rattle.owing_ticks.proofs.Seats.{Few}
 
 -- retries that wait are of few attempts

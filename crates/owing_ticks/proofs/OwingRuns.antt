@@ -16,25 +16,25 @@ use Rattle.seat_programs.specs.Asides.{Step, Found, StoreAt, TakeBytes}
 use Rattle.seat_programs.specs.Programs.{Program, Do, PutHome, Write, Aside, NO_SOCKET}
 use Rattle.seat_programs.specs.Cores.{Core, SeatState, word_of, found_at}
 use Rattle.seat_programs.specs.Ticks.{Answer, Moment, ticked, run, AreAnswered}
-use Rattle.call_owing.specs.programs_allowed.specs.program_steps.specs.May.{May}
-use Rattle.call_owing.specs.programs_allowed.specs.program_steps.specs.GoesOn.{GoesOn}
-use Rattle.call_owing.specs.programs_allowed.specs.program_steps.specs.Sound.{state, Sound, AreFitting, first_step, views_after, views_along}
-use Rattle.call_owing.specs.programs_allowed.specs.sock_runs.proofs.Along.{place_inside}
-use Rattle.call_owing.specs.programs_allowed.specs.program_steps.proofs.Cases.{goes_first}
-use Rattle.call_owing.specs.programs_allowed.specs.program_steps.proofs.Rounds.{begins_round}
-use Rattle.call_owing.specs.programs_allowed.specs.program_steps.proofs.Passes.{goes_round}
-use Rattle.call_owing.specs.programs_allowed.specs.sock_runs.proofs.LinkTicks.{RetriesGo}
-use Rattle.call_owing.specs.programs_allowed.specs.sock_runs.proofs.Ticks.{sound_ticks}
-use Rattle.call_owing.specs.programs_allowed.specs.sock_runs.proofs.Founds.{finds}
-use Rattle.call_owing.specs.programs_allowed.specs.sock_runs.proofs.Quiets.{run_seats}
-use Rattle.call_owing.specs.programs_allowed.specs.program_walks.proofs.Records.{loads}
-use Rattle.call_owing.specs.programs_allowed.specs.program_walks.proofs.Recorded.{Recorded, recorded_ticks}
-use Rattle.call_owing.specs.programs_allowed.specs.program_walks.proofs.ReaderSeats.{AtReader, run_reader, loads_own, steps_behind}
-use Rattle.call_owing.specs.programs_allowed.specs.program_walks.proofs.OpensStay.{run_word}
-use Rattle.call_owing.specs.programs_allowed.specs.sock_runs.proofs.LinksStay.{IsGiven, run_given, finds_given}
-use Rattle.call_owing.specs.id_runs.specs.Goes as goes
-use Rattle.call_owing.specs.id_runs.specs.Goes.{SoundIds}
-use Rattle.call_owing.specs.id_runs.specs.Held.{IdView}
+use Rattle.call_owing.specs.Below.programs_allowed.specs.program_steps.specs.May.{May}
+use Rattle.call_owing.specs.Below.programs_allowed.specs.program_steps.specs.GoesOn.{GoesOn}
+use Rattle.call_owing.specs.Below.programs_allowed.specs.program_steps.specs.Sound.{state, Sound, AreFitting, first_step, views_after, views_along}
+use Rattle.call_owing.specs.Below.programs_allowed.specs.sock_runs.proofs.Along.{place_inside}
+use Rattle.call_owing.specs.Below.programs_allowed.specs.program_steps.proofs.Cases.{goes_first}
+use Rattle.call_owing.specs.Below.programs_allowed.specs.program_steps.proofs.Rounds.{begins_round}
+use Rattle.call_owing.specs.Below.programs_allowed.specs.program_steps.proofs.Passes.{goes_round}
+use Rattle.call_owing.specs.Below.programs_allowed.specs.sock_runs.proofs.LinkTicks.{RetriesGo}
+use Rattle.call_owing.specs.Below.programs_allowed.specs.sock_runs.proofs.Ticks.{sound_ticks}
+use Rattle.call_owing.specs.Below.programs_allowed.specs.sock_runs.proofs.Founds.{finds}
+use Rattle.call_owing.specs.Below.programs_allowed.specs.sock_runs.proofs.Quiets.{run_seats}
+use Rattle.call_owing.specs.Below.programs_allowed.specs.program_walks.proofs.Records.{loads}
+use Rattle.call_owing.specs.Below.programs_allowed.specs.program_walks.proofs.Recorded.{Recorded, recorded_ticks}
+use Rattle.call_owing.specs.Below.programs_allowed.specs.program_walks.proofs.ReaderSeats.{AtReader, run_reader, loads_own, steps_behind}
+use Rattle.call_owing.specs.Below.programs_allowed.specs.program_walks.proofs.OpensStay.{run_word}
+use Rattle.call_owing.specs.Below.programs_allowed.specs.sock_runs.proofs.LinksStay.{IsGiven, run_given, finds_given}
+use Rattle.call_owing.specs.Below.id_runs.specs.Goes as goes
+use Rattle.call_owing.specs.Below.id_runs.specs.Goes.{SoundIds}
+use Rattle.call_owing.specs.Below.id_runs.specs.Held.{IdView}
 use Rattle.call_owing.specs.Owing.{Owing, FindsCall, IsLifeOf}
 use Rattle.call_owing.specs.Sound.{SoundOwing}
 use Rattle.call_owing.specs.Fits.{StepFits}

@@ -27,12 +27,12 @@ use Rattle.seat_programs.specs.Rounds.{round}
 use Rattle.seat_programs.specs.Cores.{Calls, Core, SeatState, homes_after, lies_at, first_of, others_of, link_place, waiting_at, with_seat, stepped}
 use Rattle.seat_programs.specs.Beside.{taking_in, at_last, more_given, found_in, calls_after}
 use Rattle.seat_programs.specs.Ticks.{Answer, OfPut, OfReady, Moment, fed, with_places, onto_first, taken, with_message, with_link, with_put, with_ready, with_found, step_with, tick_with, ticked}
-use Rattle.call_owing.specs.id_runs.specs.Held.{IdView, MayId}
-use Rattle.call_owing.specs.id_runs.specs.Goes.{FindsId, IdGoesOn, SoundIds}
-use Rattle.call_owing.specs.id_runs.specs.Goes as goes
-use Rattle.call_owing.specs.id_runs.proofs.Steps.{finds_ids}
-use Rattle.call_owing.specs.id_runs.proofs.Loops.{ids_round}
-use Rattle.call_owing.specs.id_runs.proofs.Programs as idprograms
+use Rattle.call_owing.specs.Below.id_runs.specs.Held.{IdView, MayId}
+use Rattle.call_owing.specs.Below.id_runs.specs.Goes.{FindsId, IdGoesOn, SoundIds}
+use Rattle.call_owing.specs.Below.id_runs.specs.Goes as goes
+use Rattle.call_owing.specs.Below.id_runs.proofs.Steps.{finds_ids}
+use Rattle.call_owing.specs.Below.id_runs.proofs.Loops.{ids_round}
+use Rattle.call_owing.specs.Below.id_runs.proofs.Programs as idprograms
 use Rattle.call_owing.specs.Owing.{Owing, FindsUnlock, Linked, takes, closes, Taken, MayCall, KnowsOwner}
 use Rattle.call_owing.specs.Owes.{OwesOn}
 use Rattle.call_owing.specs.Sound.{Past, Failed, OwingLaw, SoundOwing}
@@ -48,7 +48,7 @@ use Rattle.owing_ticks.proofs.IdFacts.{few_of, free_there, lock_low, lock_few, l
 use Rattle.call_owing.proofs.Rounds.{owes_round}
 use Rattle.call_owing.proofs.Programs.{block_goes}
 use Rattle.call_owing.proofs.End.{beside}
-pub use Rattle.call_owing.specs.id_runs.proofs.Ticks.{message_there}
+pub use Rattle.call_owing.specs.Below.id_runs.proofs.Ticks.{message_there}
 
 module _ (p : Plan) (q : IdPlan) (narrow : q.slots ≤ 65536) (same : q.operations ≡ p.operations) (life : ℕ → Maybe ℕ) (low_links : (k s : ℕ) → life k ≡ Some s → k < 65535) (calls : List ℕ) where
   module _ (c : Core) (us : List Owing) (sound : SoundOwing q life calls c us) (vs : List IdView) (known : SoundIds p q c vs) (i : ℕ) (seat : SeatState) (u : Owing) (at_seat : get_elem? c.seats i ≡ some seat) (at : get_elem? us i ≡ some u)

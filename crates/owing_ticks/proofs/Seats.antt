@@ -10,7 +10,7 @@ use Rattle.corr_core.specs.declared.marks.Plan.{Plan as IdPlan}
 use Rattle.seat_programs.specs.Heads.{Retry}
 use Rattle.seat_programs.specs.Programs.{Program, Do, Say, Sent, Rest, TakeMessage, TakeHome, PutHome, PutBytes, AskReady, Write, Aside, Round, Keep, Retries}
 use Rattle.seat_programs.specs.Cores.{Core, SeatState, waiting_at, resolved, still_waiting, next_step}
-use Rattle.call_owing.specs.sock_steps.proofs.Maps.{set_twice}
+use Rattle.call_owing.specs.Below.sock_steps.proofs.Maps.{set_twice}
 use Rattle.call_owing.specs.Owing.{Duty, Free, Trying, Owing, Among, DutyTo, duty_tokens, with_duty, freed, with_keeps}
 use Rattle.call_owing.specs.Owes.{Further, OwesOn}
 use Rattle.call_owing.specs.Sound.{retry_tokens, Distinct, Stored, OwingLaw}

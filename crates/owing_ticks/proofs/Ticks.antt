@@ -6,7 +6,7 @@ use mathlib.Core.Option as core
 use mathlib.Core.Option.{some}
 use lib.ListN.{get_elem?}
 use Rattle.atomic_table.proofs.Lists.{at_set}
-use Rattle.call_owing.specs.sock_steps.proofs.Maps.{set_twice}
+use Rattle.call_owing.specs.Below.sock_steps.proofs.Maps.{set_twice}
 use Rattle.sock_words.specs.declared.plain.Plan.{Plan}
 use Rattle.sock_words.specs.declared.outcome.Outcome.{Outcome}
 use Rattle.sock_model.specs.declared.home.Home.{Home}

@@ -1,0 +1,1 @@
+pub use Rattle.call_owing.specs.Below

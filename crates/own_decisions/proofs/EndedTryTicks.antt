@@ -11,12 +11,12 @@ use Rattle.sock_words.specs.Words.{at_word, at_word_attempt}
 use Rattle.sock_model.specs.declared.home.Home.{Home}
 use Rattle.sock_model.specs.declared.view.View.{View}
 use Rattle.sock_model.specs.Weights.{total}
-use Rattle.sent_once.specs.slot_steps.proofs.Sums.{term_le, total-append}
+use Rattle.sent_once.specs.Below.slot_steps.proofs.Sums.{term_le, total-append}
 use Rattle.corr_core.specs.Word.{parts}
 use Rattle.corr_core.specs.declared.marks.Plan.{Plan as IdPlan}
-use Rattle.sent_once.specs.id_runs.specs.Held.{IdView, MayId}
-use Rattle.sent_once.specs.id_runs.specs.Goes.{FindsId, SoundIds, IsFittingIds}
-use Rattle.sent_once.specs.id_runs.proofs.Steps.{finds_ids}
+use Rattle.sent_once.specs.Below.id_runs.specs.Held.{IdView, MayId}
+use Rattle.sent_once.specs.Below.id_runs.specs.Goes.{FindsId, SoundIds, IsFittingIds}
+use Rattle.sent_once.specs.Below.id_runs.proofs.Steps.{finds_ids}
 use Rattle.seat_programs.specs.Asides.{Step, Found, PutCall, MakeId, StoreCall, StoreAt, UnlockId, TakeCall, Taking, call_id, id_slot, id_first}
 use Rattle.sock_message.specs.Asked.{Asked}
 use Rattle.seat_programs.specs.Beside.{found_in, calls_after}
@@ -25,18 +25,18 @@ use Rattle.seat_programs.specs.Heads.{Retry}
 use Rattle.seat_programs.specs.Programs.{Program, Do, Say, Sent, Rest, TakeMessage, TakeHome, PutHome, PutBytes, AskReady, Aside, Keep, Retries}
 use Rattle.seat_programs.specs.Cores.{Calls, Core, SeatState, word_of, found_at, words_after, word_after, homes_after, hand_after, lies_at, first_of, others_of, link_place, resolved, still_waiting, waiting_at, next_step, with_seat}
 use Rattle.seat_programs.specs.Ticks.{Moment, IsAnswered, fed, with_places, onto_first, taken, step_with, tick_with, ticked}
-use Rattle.sent_once.specs.programs_allowed.specs.program_steps.specs.Sound.{Sound, first_step}
-use Rattle.sent_once.specs.outcome_stories.specs.Stories.{In}
-use Rattle.sent_once.specs.outcome_stories.proofs.Cases.{tick_cases}
-use Rattle.sent_once.specs.label_runs.specs.Labels.{Trial, Idle, Tries, put_behind, Kept, Storing, unlocked_trial, Labels}
+use Rattle.sent_once.specs.Below.programs_allowed.specs.program_steps.specs.Sound.{Sound, first_step}
+use Rattle.sent_once.specs.Below.outcome_stories.specs.Stories.{In}
+use Rattle.sent_once.specs.Below.outcome_stories.proofs.Cases.{tick_cases}
+use Rattle.sent_once.specs.Below.label_runs.specs.Labels.{Trial, Idle, Tries, put_behind, Kept, Storing, unlocked_trial, Labels}
 use Rattle.sent_once.specs.accept_counts.specs.Counts.{pair_of, of_retry, with_waiting, WasMade, WasNow, StoresOwn}
 use Rattle.sent_once.specs.accept_counts.specs.EndedCalls.{Store, stores_by, stored_at}
 use Rattle.sent_once.specs.accept_counts.proofs.Words.{made_on, finds_label, words_forward, makes_new, advances_new}
 use Rattle.sent_once.specs.accept_counts.proofs.Readings.{ticks_first}
-use Rattle.sent_once.specs.outcome_stories.proofs.HomeCalls.{AreCalls, PutsAsked, calls_behind}
+use Rattle.sent_once.specs.Below.outcome_stories.proofs.HomeCalls.{AreCalls, PutsAsked, calls_behind}
 use Rattle.sent_once.specs.accept_counts.proofs.Ticks.{few_more, few_of, calls_waiting, fits_as, pair_now, untried, waiting_set, once_more, old_or_new, pairs_set, labels_first}
-use Rattle.sent_once.specs.story_ticks.proofs.Chains.{AreFewTries as AreTries}
-use Rattle.sent_once.specs.label_runs.proofs.Programs.{retry_goes}
+use Rattle.sent_once.specs.Below.story_ticks.proofs.Chains.{AreFewTries as AreTries}
+use Rattle.sent_once.specs.Below.label_runs.proofs.Programs.{retry_goes}
 use Rattle.sent_once.specs.accept_counts.proofs.SeatFacts.{seat_facts}
 use Rattle.own_decisions.proofs.OwnDecisionsTicks.{pair_self}
 
@@ -128,7 +128,7 @@ module _ (p : Plan) (q : IdPlan) (narrow : q.slots ≤ 65536) (is_call : Asked �
 
     module _ (a : Calls) (x : Program) (hand : List Home) (ws : List ℕ) (hs : List (Option Home)) (u : Trial) (g : Goes a x u) where
       few : AreTries (waiting_at a.waiting i)
-      few = few_of q (waiting_at a.waiting i) (subst (λ (l : List (List Retry)). AllByRecursion (Rattle.sent_once.specs.id_runs.specs.Goes.FitsRetryId q) (waiting_at l i)) (sym g.kept) (real_ids.waiting i))
+      few = few_of q (waiting_at a.waiting i) (subst (λ (l : List (List Retry)). AllByRecursion (Rattle.sent_once.specs.Below.id_runs.specs.Goes.FitsRetryId q) (waiting_at l i)) (sym g.kept) (real_ids.waiting i))
 
       abbrev r : Resolved is_call u (waiting_at a.waiting i) x
       r = resolves is_call u (waiting_at a.waiting i) x few g.stows

@@ -12,32 +12,32 @@ use Rattle.seat_programs.specs.Programs.{Program}
 use Rattle.seat_programs.specs.Ticks.{Moment}
 use Rattle.seat_programs.specs.Tasks.{opens, calls, plan_of, id_plan_of}
 use Rattle.seat_programs.specs.Scripts.{sizes_of, programs, readers_from, all_programs, all_tasks, opened, set_up, played, IsRunWithCalls}
-use Rattle.sent_once.specs.programs_allowed.specs.program_steps.specs.Sound.{views_along}
-use Rattle.sent_once.specs.programs_allowed.specs.program_walks.proofs.Whole.{closing_of, views_played, views_closed}
-use Rattle.sent_once.specs.outcome_causes.proofs.Final.{at_there}
-use Rattle.sent_once.specs.outcome_ticks.proofs.Ticks.{elem_there}
-use Rattle.sent_once.specs.joint_runs.proofs.Both.{behind_both}
-use Rattle.sent_once.specs.joint_runs.proofs.Runs.{AreMade, first_views, IsSoundRun, joint_runs}
-use Rattle.sent_once.specs.script_facts.proofs.Reading.{InRange}
-use Rattle.sent_once.specs.script_facts.proofs.Targets.{AreThere}
-use Rattle.sent_once.specs.call_owing.specs.Lives.{ClosesInRun}
-use Rattle.sent_once.specs.call_stories.specs.Decided.{posted_by, Decision, decided_by}
-use Rattle.sent_once.specs.call_stories.specs.Lists.{advanced_at, given, shows_in, shows_in_run}
-use Rattle.sent_once.specs.call_stories.specs.Posts.{Post, posted_at}
-use Rattle.sent_once.specs.call_stories.specs.Scenes.{In, LeadsTo}
-use Rattle.sent_once.specs.story_ticks.proofs.Claiming.{HaveSlots}
-use Rattle.sent_once.specs.story_steps.proofs.Numbered.{AreNumbered}
-use Rattle.sent_once.specs.story_ticks.proofs.Opening.{Begins}
-use Rattle.sent_once.specs.call_causes.proofs.Run as runs
-use Rattle.sent_once.specs.story_ticks.proofs.Scripts.{are_numbered, have_slots, begins}
-use Rattle.sent_once.specs.call_stories.proofs.RunTicks.{in_setup, in_clients, in_closing, parts}
-use Rattle.sent_once.specs.story_ticks.proofs.RunFacts.{run_facts, leadings}
+use Rattle.sent_once.specs.Below.programs_allowed.specs.program_steps.specs.Sound.{views_along}
+use Rattle.sent_once.specs.Below.programs_allowed.specs.program_walks.proofs.Whole.{closing_of, views_played, views_closed}
+use Rattle.sent_once.specs.Below.outcome_causes.proofs.Final.{at_there}
+use Rattle.sent_once.specs.Below.outcome_ticks.proofs.Ticks.{elem_there}
+use Rattle.sent_once.specs.Below.joint_runs.proofs.Both.{behind_both}
+use Rattle.sent_once.specs.Below.joint_runs.proofs.Runs.{AreMade, first_views, IsSoundRun, joint_runs}
+use Rattle.sent_once.specs.Below.script_facts.proofs.Reading.{InRange}
+use Rattle.sent_once.specs.Below.script_facts.proofs.Targets.{AreThere}
+use Rattle.sent_once.specs.Below.call_owing.specs.Lives.{ClosesInRun}
+use Rattle.sent_once.specs.Below.call_stories.specs.Decided.{posted_by, Decision, decided_by}
+use Rattle.sent_once.specs.Below.call_stories.specs.Lists.{advanced_at, given, shows_in, shows_in_run}
+use Rattle.sent_once.specs.Below.call_stories.specs.Posts.{Post, posted_at}
+use Rattle.sent_once.specs.Below.call_stories.specs.Scenes.{In, LeadsTo}
+use Rattle.sent_once.specs.Below.story_ticks.proofs.Claiming.{HaveSlots}
+use Rattle.sent_once.specs.Below.story_steps.proofs.Numbered.{AreNumbered}
+use Rattle.sent_once.specs.Below.story_ticks.proofs.Opening.{Begins}
+use Rattle.sent_once.specs.Below.call_causes.proofs.Run as runs
+use Rattle.sent_once.specs.Below.story_ticks.proofs.Scripts.{are_numbered, have_slots, begins}
+use Rattle.sent_once.specs.Below.call_stories.proofs.RunTicks.{in_setup, in_clients, in_closing, parts}
+use Rattle.sent_once.specs.Below.story_ticks.proofs.RunFacts.{run_facts, leadings}
 use Rattle.sent_once.specs.accept_counts.proofs.Rests.{many}
 use Rattle.sent_once.proofs.Sends.{narrow}
 use Rattle.own_decisions.proofs.OwnDecisionsPrograms.{ending_goes}
 use Rattle.own_decisions.proofs.OwnDecisionsRuns.{in_right, AllQueued, setup_queued, played_queued, Along, run_aims, all_aim, begins_aims}
-use Rattle.sent_once.specs.story_steps.proofs.Attempts.{in_front as in_left}
-use Rattle.sent_once.specs.call_causes.proofs.Run.{in_either}
+use Rattle.sent_once.specs.Below.story_steps.proofs.Attempts.{in_front as in_left}
+use Rattle.sent_once.specs.Below.call_causes.proofs.Run.{in_either}
 use Rattle.own_decisions.proofs.OwnDecisionsStands.{Stand, Calm}
 use Rattle.own_decisions.proofs.OwnDecisionsTicks.{AimLaw, law_more, restarts}
 

@@ -10,9 +10,9 @@ use Rattle.seat_programs.specs.Posts.{WHOLE, packed, advance_of, is_first, is_so
 use Rattle.seat_programs.specs.Programs.{Program, Say, Aside, Round}
 use Rattle.seat_programs.specs.Readers.{answer, took, discarded, slot_in, ending_of}
 use Rattle.seat_programs.specs.Rounds.{round}
-use Rattle.sent_once.specs.programs_allowed.specs.program_walks.proofs.ThroughLoops.{through_took, through_discarded}
-use Rattle.sent_once.specs.label_runs.specs.Labels.{IsSoughtWord}
-use Rattle.sent_once.specs.label_runs.proofs.Loops.{id_back, not_true, not_equal, and_left, locked_parts, none_left, word_got}
+use Rattle.sent_once.specs.Below.programs_allowed.specs.program_walks.proofs.ThroughLoops.{through_took, through_discarded}
+use Rattle.sent_once.specs.Below.label_runs.specs.Labels.{IsSoughtWord}
+use Rattle.sent_once.specs.Below.label_runs.proofs.Loops.{id_back, not_true, not_equal, and_left, locked_parts, none_left, word_got}
 use Rattle.own_decisions.proofs.OwnDecisionsStands.{Stand, Calm, Trying, Past, Posted, Eases, MayPost, MayDecide, IsTryingAt, FindsAside, unlocked_stand, unlocks_stand, posted_stand, locked_stand, LeavesUnlock, LeavesStand, Aims}
 use Rattle.sent_once.specs.accept_counts.proofs.Words.{unlocked_is}
 

@@ -28,13 +28,13 @@ use Rattle.seat_programs.specs.Programs.{Program, Do, Say, Sent, Rest, TakeMessa
 use Rattle.seat_programs.specs.Readers.{kept_for, ends_with, posted_last, post_each, thrown_away, read, reader, LIMIT}
 use Rattle.seat_programs.specs.Sends.{freed as given_back, one_more, passed_telling, tell_drop, placed, dropped, put_answered, ready_answered, block, first_put, accept, write_link, heading_of, claim_from, start, send}
 use Rattle.seat_programs.specs.Writings.{Holder, Writing, Puts, Waits, Empties, Walks}
-use Rattle.sent_once.specs.programs_allowed.specs.program_walks.proofs.Through.{PassesWords, PassesFails, is_of_message, others_plain, others_failing, others_make, through_release, through_address, through_reach, through_set_failed, through_fail, through_hold}
-use Rattle.sent_once.specs.programs_allowed.specs.program_walks.proofs.ThroughSends.{through_ended}
-use Rattle.sent_once.specs.programs_allowed.specs.program_walks.proofs.ThroughCalls.{through_read_end}
-use Rattle.sent_once.specs.programs_allowed.specs.program_walks.proofs.ThroughClients.{through_open, through_back, through_drop_of}
-use Rattle.sent_once.specs.label_runs.specs.Labels.{LeavesLock}
+use Rattle.sent_once.specs.Below.programs_allowed.specs.program_walks.proofs.Through.{PassesWords, PassesFails, is_of_message, others_plain, others_failing, others_make, through_release, through_address, through_reach, through_set_failed, through_fail, through_hold}
+use Rattle.sent_once.specs.Below.programs_allowed.specs.program_walks.proofs.ThroughSends.{through_ended}
+use Rattle.sent_once.specs.Below.programs_allowed.specs.program_walks.proofs.ThroughCalls.{through_read_end}
+use Rattle.sent_once.specs.Below.programs_allowed.specs.program_walks.proofs.ThroughClients.{through_open, through_back, through_drop_of}
+use Rattle.sent_once.specs.Below.label_runs.specs.Labels.{LeavesLock}
 use Rattle.own_decisions.proofs.OwnDecisionsStands.{Stand, Calm, Trying, Past, Posted, Eases, behind_message, MayPut, LeavesStand, locked_stand, posted_stand, Aims}
-use Rattle.sent_once.specs.label_runs.proofs.Loops.{id_back, not_equal}
+use Rattle.sent_once.specs.Below.label_runs.proofs.Loops.{id_back, not_equal}
 use Rattle.own_decisions.proofs.OwnDecisionsLoops.{way, next_is, post_with_goes, posted_goes, post_goes, decide_goes, decided_goes, answer_goes}
 
 -- ## Parts on sockets

@@ -10,10 +10,10 @@ use Rattle.sock_model.specs.Weights.{total}
 use Rattle.corr_core.specs.Word.{error_of, attempt_of}
 use Rattle.corr_core.specs.declared.marks.Plan.{Plan as IdPlan}
 use Rattle.seat_programs.specs.id_rule.specs.Lawful.{at_index}
-use Rattle.sent_once.specs.id_runs.specs.Held.{IdView}
-use Rattle.sent_once.specs.id_runs.specs.Goes.{SoundIds}
-use Rattle.sent_once.specs.id_runs.proofs.Opening.{unused}
-use Rattle.sent_once.specs.programs_allowed.proofs.Beginning.{no_message}
+use Rattle.sent_once.specs.Below.id_runs.specs.Held.{IdView}
+use Rattle.sent_once.specs.Below.id_runs.specs.Goes.{SoundIds}
+use Rattle.sent_once.specs.Below.id_runs.proofs.Opening.{unused}
+use Rattle.sent_once.specs.Below.programs_allowed.proofs.Beginning.{no_message}
 use Rattle.sock_message.specs.Asked.{Asked}
 use Rattle.sock_model.specs.declared.chain.Heading.{Heading}
 use Rattle.seat_programs.specs.declared.task.Sizes.{Sizes}
@@ -26,28 +26,28 @@ use Rattle.seat_programs.specs.Programs.{Program, Say, Sent, Keep, Retries}
 use Rattle.seat_programs.specs.Runs.{IsAtRest}
 use Rattle.seat_programs.specs.Scripts.{opening_homes, programs, readers_from, all_programs, beginning}
 use Rattle.seat_programs.specs.Ticks.{Moment, quiet, ticked, run}
-use Rattle.sent_once.specs.programs_allowed.specs.program_steps.specs.Sound.{IsAhead, views_after}
-use Rattle.sent_once.specs.programs_allowed.specs.sock_runs.proofs.Along.{seat_rests, ticked_ahead}
-use Rattle.sent_once.specs.programs_allowed.specs.program_walks.proofs.Opening.{mapped}
-use Rattle.sent_once.specs.programs_allowed.specs.sock_runs.proofs.Quiets.{ticked_rests}
-use Rattle.sent_once.specs.joint_runs.proofs.Both.{BothSound, AreBoth}
-use Rattle.sent_once.specs.call_stories.specs.Decided.{posted_by, Decision, decided_at, decided_by}
-use Rattle.sent_once.specs.call_stories.specs.Lists.{times, shows_in, advanced_at}
-use Rattle.sent_once.specs.call_stories.specs.Posts.{Post, posted_at}
-use Rattle.sent_once.specs.call_stories.specs.Says.{Mark}
-use Rattle.sent_once.specs.call_stories.specs.Scenes.{Birth, Scene, In, LeadsTo, CauseOf, of_expiry, of_other}
-use Rattle.sent_once.specs.call_stories.specs.Stories.{IsCurrent, CallStory}
-use Rattle.sent_once.specs.story_ticks.proofs.Claiming.{HaveSlots}
-use Rattle.sent_once.specs.call_stories.proofs.Leading.{run_leads}
-use Rattle.sent_once.specs.story_steps.proofs.Numbered.{AreNumbered}
-use Rattle.sent_once.specs.call_causes.proofs.Run.{Story, one_tick, in_either}
+use Rattle.sent_once.specs.Below.programs_allowed.specs.program_steps.specs.Sound.{IsAhead, views_after}
+use Rattle.sent_once.specs.Below.programs_allowed.specs.sock_runs.proofs.Along.{seat_rests, ticked_ahead}
+use Rattle.sent_once.specs.Below.programs_allowed.specs.program_walks.proofs.Opening.{mapped}
+use Rattle.sent_once.specs.Below.programs_allowed.specs.sock_runs.proofs.Quiets.{ticked_rests}
+use Rattle.sent_once.specs.Below.joint_runs.proofs.Both.{BothSound, AreBoth}
+use Rattle.sent_once.specs.Below.call_stories.specs.Decided.{posted_by, Decision, decided_at, decided_by}
+use Rattle.sent_once.specs.Below.call_stories.specs.Lists.{times, shows_in, advanced_at}
+use Rattle.sent_once.specs.Below.call_stories.specs.Posts.{Post, posted_at}
+use Rattle.sent_once.specs.Below.call_stories.specs.Says.{Mark}
+use Rattle.sent_once.specs.Below.call_stories.specs.Scenes.{Birth, Scene, In, LeadsTo, CauseOf, of_expiry, of_other}
+use Rattle.sent_once.specs.Below.call_stories.specs.Stories.{IsCurrent, CallStory}
+use Rattle.sent_once.specs.Below.story_ticks.proofs.Claiming.{HaveSlots}
+use Rattle.sent_once.specs.Below.call_stories.proofs.Leading.{run_leads}
+use Rattle.sent_once.specs.Below.story_steps.proofs.Numbered.{AreNumbered}
+use Rattle.sent_once.specs.Below.call_causes.proofs.Run.{Story, one_tick, in_either}
 use Rattle.sent_once.specs.accept_counts.proofs.Beginnings.{all_begin}
 use Rattle.sent_once.specs.accept_counts.specs.Counts.{word_of_id}
-use Rattle.sent_once.specs.id_runs.specs.Goes.{HandFits, HomesFit}
+use Rattle.sent_once.specs.Below.id_runs.specs.Goes.{HandFits, HomesFit}
 use Rattle.own_decisions.proofs.OwnDecisionsPrograms.{client_goes, reader_goes}
 use Rattle.own_decisions.proofs.OwnDecisionsStands.{Stand, Calm, Aims}
 use Rattle.own_decisions.proofs.OwnDecisionsTicks.{of_stand, IsPast, StandFits, HeadFits, AimLaw, QueuedAt, AreQueued, law_more, aim_ticks, decided_own}
-use Rattle.sent_once.specs.story_steps.proofs.Attempts.{in_front}
+use Rattle.sent_once.specs.Below.story_steps.proofs.Attempts.{in_front}
 use Rattle.sent_once.specs.accept_counts.proofs.Runs.{none_waits}
 
 -- ## Lists

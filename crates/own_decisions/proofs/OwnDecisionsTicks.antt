@@ -18,14 +18,14 @@ use Rattle.sock_model.specs.declared.home.Home.TheVariants.{Message}
 use Rattle.sock_model.specs.Messages.{Letter}
 use Rattle.sock_model.specs.Reads.{message, link_home}
 use Rattle.sock_model.specs.Weights.{total}
-use Rattle.sent_once.specs.slot_steps.proofs.Sums.{term_le, total-append}
+use Rattle.sent_once.specs.Below.slot_steps.proofs.Sums.{term_le, total-append}
 use Rattle.corr_core.specs.Word.{Parts, parts, error_of, attempt_of, made_word, posted_word, unlocked_word, free_word}
 use Rattle.corr_core.specs.declared.marks.Plan.{Plan as IdPlan}
 use Rattle.seat_programs.specs.id_rule.specs.Lawful.{all_words, tag_index, id_index, call_index, at_index}
-use Rattle.sent_once.specs.id_runs.specs.Held.{IdView, MayId}
-use Rattle.sent_once.specs.id_runs.specs.Goes.{FitsFirst, FindsId, FitsRetryId, IdGoesOn, SoundIds, IsFittingIds}
-use Rattle.sent_once.specs.id_runs.specs.Goes as goes
-use Rattle.sent_once.specs.id_runs.proofs.Steps.{finds_ids}
+use Rattle.sent_once.specs.Below.id_runs.specs.Held.{IdView, MayId}
+use Rattle.sent_once.specs.Below.id_runs.specs.Goes.{FitsFirst, FindsId, FitsRetryId, IdGoesOn, SoundIds, IsFittingIds}
+use Rattle.sent_once.specs.Below.id_runs.specs.Goes as goes
+use Rattle.sent_once.specs.Below.id_runs.proofs.Steps.{finds_ids}
 use Rattle.seat_programs.specs.Asides.{Step, Found, ClaimId, PutCall, MakeId, StoreCall, LoadCall, StoreAt, LoadAt, LoadIdWord, LockId, PostId, UnlockId, EndId, FreeId, TakeCall, TakeBytes, Taking, Bytes, call_id, id_slot, id_first}
 use Rattle.seat_programs.specs.Beside.{found_in, calls_after}
 use Rattle.seat_programs.specs.Calls.{Call, PutMessage}
@@ -34,25 +34,25 @@ use Rattle.seat_programs.specs.Posts.{WHOLE, packed, advance_of, is_stale}
 use Rattle.seat_programs.specs.Programs.{Program, Do, Say, Sent, TakeMessage, TakeHome, PutHome, PutBytes, AskReady, Write, Aside, Round, Keep, Retries}
 use Rattle.seat_programs.specs.Cores.{Calls, Core, SeatState, word_of, found_at, words_after, word_after, homes_after, hand_after, lies_at, first_of, others_of, link_place, resolved, still_waiting, waiting_at, next_step, with_seat}
 use Rattle.seat_programs.specs.Ticks.{Answer, OfPut, OfReady, Moment, fed, with_places, onto_first, taken, with_message, with_link, with_put, with_ready, with_found, step_with, tick_with, ticked}
-use Rattle.sent_once.specs.programs_allowed.specs.program_steps.specs.Sound.{first_step}
-use Rattle.sent_once.specs.call_stories.specs.Decided.{posted_by, Decision, decision_in, decided_at}
-use Rattle.sent_once.specs.call_stories.specs.Posts.{Post, posts_by, posted_with, posted_at}
-use Rattle.sent_once.specs.call_stories.specs.Scenes.{In}
-use Rattle.sent_once.specs.outcome_ticks.proofs.Ticks.{elem_there}
-use Rattle.sent_once.specs.owing_ticks.proofs.OwingTicks.{message_there}
+use Rattle.sent_once.specs.Below.programs_allowed.specs.program_steps.specs.Sound.{first_step}
+use Rattle.sent_once.specs.Below.call_stories.specs.Decided.{posted_by, Decision, decision_in, decided_at}
+use Rattle.sent_once.specs.Below.call_stories.specs.Posts.{Post, posts_by, posted_with, posted_at}
+use Rattle.sent_once.specs.Below.call_stories.specs.Scenes.{In}
+use Rattle.sent_once.specs.Below.outcome_ticks.proofs.Ticks.{elem_there}
+use Rattle.sent_once.specs.Below.owing_ticks.proofs.OwingTicks.{message_there}
 use Rattle.sent_once.specs.accept_counts.specs.Counts.{pair_of, of_retry, with_waiting, word_of_id, WasMade, WasNow}
 use Rattle.sent_once.specs.accept_counts.proofs.Words.{made_on, finds_label, words_forward, makes_new, advances_new}
 use Rattle.sent_once.specs.accept_counts.proofs.Readings.{ticks_first}
 use Rattle.sent_once.specs.accept_counts.proofs.SeatFacts.{ids_first}
 use Rattle.sent_once.specs.accept_counts.proofs.Ticks.{few_more, few_of, calls_waiting, pair_now, untried, waiting_set, once_more, old_or_new, pairs_set}
-use Rattle.sent_once.specs.story_ticks.proofs.Chains.{AreFewTries as AreTries}
-use Rattle.sent_once.specs.label_runs.proofs.Loops.{id_back}
-use Rattle.sent_once.specs.id_runs.specs.Goes.{HandFits, HomesFit}
-use Rattle.sent_once.specs.id_runs.proofs.Homes.{PutFits, hand_more, home_more, home_set, home_away, first_fits, others_fit, lies_fit, fed_fits, places_fit, hand_fits, homes_fit}
+use Rattle.sent_once.specs.Below.story_ticks.proofs.Chains.{AreFewTries as AreTries}
+use Rattle.sent_once.specs.Below.label_runs.proofs.Loops.{id_back}
+use Rattle.sent_once.specs.Below.id_runs.specs.Goes.{HandFits, HomesFit}
+use Rattle.sent_once.specs.Below.id_runs.proofs.Homes.{PutFits, hand_more, home_more, home_set, home_away, first_fits, others_fit, lies_fit, fed_fits, places_fit, hand_fits, homes_fit}
 use Rattle.own_decisions.proofs.OwnDecisionsStands.{Stand, Calm, Trying, Past, Posted, Eases, MayPut, MayPost, MayAside, Stowing, unlocked_stand, Aims}
 use Rattle.own_decisions.proofs.OwnDecisionsLoops.{aims_round}
 use Rattle.own_decisions.proofs.OwnDecisionsPrograms.{block_goes, retry_goes}
-use Rattle.sent_once.specs.owing_ticks.proofs.OwingRuns.{same_first}
+use Rattle.sent_once.specs.Below.owing_ticks.proofs.OwingRuns.{same_first}
 
 -- ## Attempts that are tried
 

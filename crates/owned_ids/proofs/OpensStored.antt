@@ -10,10 +10,10 @@ use Rattle.seat_programs.specs.declared.task.Op.{Op}
 use Rattle.seat_programs.specs.declared.task.Task.{Task}
 use Rattle.seat_programs.specs.Tasks.{Numbered, numbered, op_of, opens}
 use Rattle.seat_programs.specs.Scripts.{all_tasks}
-use Rattle.call_owing.specs.programs_allowed.specs.program_walks.proofs.Opening.{is_opening, opens_in}
-use Rattle.call_owing.specs.script_facts.proofs.Lists.{filter_map_has, has_from, some_is}
-use Rattle.call_owing.specs.script_facts.proofs.Numbering.{is_numbered}
-use Rattle.call_owing.specs.script_facts.proofs.TaskLemmas.{numbers_at, asked_at, operation_task}
+use Rattle.call_owing.specs.Below.programs_allowed.specs.program_walks.proofs.Opening.{is_opening, opens_in}
+use Rattle.call_owing.specs.Below.script_facts.proofs.Lists.{filter_map_has, has_from, some_is}
+use Rattle.call_owing.specs.Below.script_facts.proofs.Numbering.{is_numbered}
+use Rattle.call_owing.specs.Below.script_facts.proofs.TaskLemmas.{numbers_at, asked_at, operation_task}
 
 -- the two ways to look up a place
 pub at_place : {A : Type 0} (l : List A) (i : ℕ) (a : A) → slice_get l i ≡ Some a → get_elem? l i ≡ some a

@@ -7,7 +7,7 @@ use Rattle.std.specs.List.{AllByRecursion}
 use Rattle.sock_words.specs.Words.{socket_id_version, socket_id_slot, vref_version, at_word, at_word_first, at_word_slot, at_word_link, at_word_attempt}
 use Rattle.sock_words.specs.declared.outcome.Outcome.TheVariants.{Unopened, Joined, NotBegun}
 use Rattle.sock_model.specs.declared.chain.Heading.{Heading}
-use Rattle.call_owing.specs.sock_steps.proofs.Quiet.{either_way}
+use Rattle.call_owing.specs.Below.sock_steps.proofs.Quiet.{either_way}
 use Rattle.corr_core.specs.Word.{parts, error_of}
 use Rattle.seat_programs.specs.brpc_model.specs.Frame.{Frame}
 use Rattle.seat_programs.specs.brpc_model.specs.Order.{EachBefore}
@@ -25,8 +25,8 @@ use Rattle.seat_programs.specs.Attempts.{claims_from, heading_for, attempt, begi
 use Rattle.seat_programs.specs.Readers.{LIMIT, kept_for, ends_with, posted_last, post_each, thrown_away, read, reader}
 use Rattle.seat_programs.specs.Clients.{HeldLife, held_under, without_name, give_back, drop_of, operation, client_from, ending_of}
 use Rattle.seat_programs.specs.Told.{HaveOwnLinks}
-use Rattle.call_owing.specs.programs_allowed.specs.program_walks.proofs.Opening.{or_cases, second_true, or_first, or_second, both_true}
-use Rattle.call_owing.specs.id_runs.specs.Goes.{FitsSock}
+use Rattle.call_owing.specs.Below.programs_allowed.specs.program_walks.proofs.Opening.{or_cases, second_true, or_first, or_second, both_true}
+use Rattle.call_owing.specs.Below.id_runs.specs.Goes.{FitsSock}
 use Rattle.call_owing.specs.Owns.{Other, HasClaimed, HasLock, HasTaken, Grows, IsIdOf, IsOwnAt, but, Owns}
 use Rattle.call_owing.proofs.Posts.{id_back}
 use Rattle.owned_ids.proofs.OwnsLoops.{Later, Locked, AfterPost, AfterUnlock, AfterLock, grows_on, grows_same, id_grows, step, say, aside, retries, post_with_goes, unlocks_again, decide_goes, decided_goes, posted_goes, post_goes, locks_again, joins_again, opens_again, reads_again, discards_again, answer_goes}

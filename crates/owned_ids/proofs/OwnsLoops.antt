@@ -6,7 +6,7 @@ use Rattle.sock_words.specs.declared.outcome.Outcome.TheVariants.{CallFailed}
 use Rattle.sock_io.specs.declared.link.Put.{Put}
 use Rattle.sock_io.specs.declared.link.Ready.{Ready}
 use Rattle.sock_model.specs.declared.chain.Heading.{Heading}
-use Rattle.call_owing.specs.sock_steps.proofs.Quiet.{either_way}
+use Rattle.call_owing.specs.Below.sock_steps.proofs.Quiet.{either_way}
 use Rattle.corr_core.specs.Word.{parts, posted_word, unlocked_word, code_of, error_of}
 use Rattle.corr_core.specs.Law.{LAST}
 use Rattle.seat_programs.specs.brpc_model.specs.Frame.{Frame}
@@ -21,7 +21,7 @@ use Rattle.seat_programs.specs.Posts.{packed, advance_of, is_first, is_sought, i
 use Rattle.seat_programs.specs.Readers.{LIMIT, ending_of, slot_in, version_in, has_response, is_early, answer, answered, responses, last_of, ended_by, read_on, took, room_of, discarded, opens_round}
 use Rattle.seat_programs.specs.Rounds.{round}
 use Rattle.call_owing.specs.Owns.{Behind, Other, HasClaimed, HasPut, HasLock, HasTaken, Grows, IsIdOf, MayOwn, taken_behind, behind, IsOfSought, AtOwn, LeavesLock, behind_head, Owns}
-use Rattle.call_owing.specs.id_runs.proofs.Loops.{and_left}
+use Rattle.call_owing.specs.Below.id_runs.proofs.Loops.{and_left}
 
 -- ## More calls with ids
 

@@ -25,18 +25,18 @@ use Rattle.seat_programs.specs.Told.{HaveOwnLinks}
 use Rattle.seat_programs.specs.Cores.{Core, SeatState, resolved, next_step, with_seat}
 use Rattle.seat_programs.specs.Ticks.{Moment, ticked, run}
 use Rattle.seat_programs.specs.Scripts.{sizes_of, programs, readers_from, all_programs, opened, tasks_from, all_tasks, is_ending}
-use Rattle.call_owing.specs.programs_allowed.specs.program_walks.proofs.Opening.{mapped, appended, or_cases, second_true}
-use Rattle.call_owing.specs.id_runs.specs.Held.{IdView}
-use Rattle.call_owing.specs.id_runs.specs.Goes.{IdGoesOn, SoundIds}
-use Rattle.call_owing.specs.id_runs.specs.Goes as goes
-use Rattle.call_owing.specs.id_runs.proofs.Loops.{ids_round}
-use Rattle.call_owing.specs.id_runs.proofs.Programs as idprograms
-use Rattle.call_owing.specs.id_runs.proofs.Opening.{unused}
-use Rattle.call_owing.specs.joint_runs.proofs.Both.{AreBoth}
-use Rattle.call_owing.specs.joint_runs.proofs.Runs.{AreMade}
-use Rattle.call_owing.specs.script_facts.proofs.Lists.{Has, has_later, some_is, all_from, has_filter_map}
-use Rattle.call_owing.specs.script_facts.proofs.Numbering.{link_at, numbered_at}
-use Rattle.call_owing.specs.script_facts.proofs.TaskLemmas.{IsTaskOf, has_task, of_tasks, call_asks, numbers_at}
+use Rattle.call_owing.specs.Below.programs_allowed.specs.program_walks.proofs.Opening.{mapped, appended, or_cases, second_true}
+use Rattle.call_owing.specs.Below.id_runs.specs.Held.{IdView}
+use Rattle.call_owing.specs.Below.id_runs.specs.Goes.{IdGoesOn, SoundIds}
+use Rattle.call_owing.specs.Below.id_runs.specs.Goes as goes
+use Rattle.call_owing.specs.Below.id_runs.proofs.Loops.{ids_round}
+use Rattle.call_owing.specs.Below.id_runs.proofs.Programs as idprograms
+use Rattle.call_owing.specs.Below.id_runs.proofs.Opening.{unused}
+use Rattle.call_owing.specs.Below.joint_runs.proofs.Both.{AreBoth}
+use Rattle.call_owing.specs.Below.joint_runs.proofs.Runs.{AreMade}
+use Rattle.call_owing.specs.Below.script_facts.proofs.Lists.{Has, has_later, some_is, all_from, has_filter_map}
+use Rattle.call_owing.specs.Below.script_facts.proofs.Numbering.{link_at, numbered_at}
+use Rattle.call_owing.specs.Below.script_facts.proofs.TaskLemmas.{IsTaskOf, has_task, of_tasks, call_asks, numbers_at}
 use Rattle.call_owing.proofs.EndsStill.{all_at, view_of}
 use Rattle.call_owing.specs.Owing.{InList}
 use Rattle.call_owing.specs.Lives.{KeepsAt, AreKept}
@@ -46,7 +46,7 @@ use Rattle.owned_ids.proofs.OwnsLoops.{grows_same, owns_any, owns_round}
 use Rattle.owned_ids.proofs.OwnsSends.{block_goes}
 use Rattle.owned_ids.proofs.OwnsCalls.{CallsOwn, is_calling, calls_in, client_goes, reader_goes, ending_goes}
 use Rattle.owned_ids.proofs.OwnsTicks.{own_at, resolved_owns, true_of, true_on, on_sockets, owns_ticks}
-use Rattle.call_owing.specs.id_runs.proofs.Loops.{and_left}
+use Rattle.call_owing.specs.Below.id_runs.proofs.Loops.{and_left}
 
 -- ## Along ticks
 

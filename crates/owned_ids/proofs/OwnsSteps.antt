@@ -7,7 +7,7 @@ use native.Mathlib.Decide.{ℕ_discrete}
 use mathlib.Core.Option.{Option, none, some, some-injective, some-ne-none}
 use lib.ListN.{get_elem?}
 use Rattle.atomic_table.proofs.Lists.{set_else}
-use Rattle.call_owing.specs.chain_steps.proofs.Lists.{at_length}
+use Rattle.call_owing.specs.Below.chain_steps.proofs.Lists.{at_length}
 use Rattle.sock_words.specs.declared.plain.Plan.{Plan}
 use Rattle.corr_core.specs.Word.{Parts, parts, made_word, locked_word, posted_word, unlocked_word, free_word}
 use Rattle.corr_core.specs.Law.{Stands, HomeIs, vacant, retired, claimed, opened, locked, leaving}
@@ -23,9 +23,9 @@ use Rattle.seat_programs.specs.Asides.{Step, Found, ClaimId, PutCall, MakeId, St
 use Rattle.seat_programs.specs.Posts.{packed, advance_of}
 use Rattle.seat_programs.specs.Beside.{found_in, calls_after, more_given}
 use Rattle.seat_programs.specs.Cores.{Calls, Core}
-use Rattle.call_owing.specs.id_runs.specs.Held.{IdView, id_state, HasOne, MayId}
-use Rattle.call_owing.specs.id_runs.specs.Goes.{SoundIds, FindsId}
-use Rattle.call_owing.specs.id_runs.proofs.Keeps.{parts_packed}
+use Rattle.call_owing.specs.Below.id_runs.specs.Held.{IdView, id_state, HasOne, MayId}
+use Rattle.call_owing.specs.Below.id_runs.specs.Goes.{SoundIds, FindsId}
+use Rattle.call_owing.specs.Below.id_runs.proofs.Keeps.{parts_packed}
 use Rattle.call_owing.specs.Sound.{id_word_of}
 
 -- ## Words

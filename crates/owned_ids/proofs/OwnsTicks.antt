@@ -23,7 +23,7 @@ use Rattle.corr_core.specs.declared.marks.Hand.TheVariants.{Empty}
 use Rattle.seat_programs.specs.id_rule.specs.Lawful.{tag_index, id_index, call_index, at_index, tokens_of}
 use Rattle.seat_programs.specs.sock_message.specs.Asked.{Asked}
 use Rattle.seat_programs.specs.Asides.{Step, Found, ClaimId, PutCall, MakeId, StoreCall, LoadCall, StoreAt, LoadAt, LoadIdWord, LockId, PostId, UnlockId, EndId, FreeId, TakeCall, TakeBytes, Taking, Bytes, Nothing, NoMore, AtEnd, Closed, Broken, call_id, id_slot, id_first}
-use Rattle.call_owing.specs.sock_steps.proofs.Quiet.{either_way}
+use Rattle.call_owing.specs.Below.sock_steps.proofs.Quiet.{either_way}
 use Rattle.seat_programs.specs.Heads.{Head, Exit, Retry, Posts, Unlocks, Decides, Locks, Joins, Opens, Reads, Discards}
 use Rattle.seat_programs.specs.Programs.{Program, Do, Say, Sent, TakeMessage, TakeHome, PutHome, PutBytes, AskReady, Write, Aside, Round, Keep, Retries}
 use Rattle.seat_programs.specs.Posts.{packed, advance_of, ends_call}
@@ -32,13 +32,13 @@ use Rattle.seat_programs.specs.Rounds.{round}
 use Rattle.seat_programs.specs.Beside.{found_in, calls_after, call_at, more_given}
 use Rattle.seat_programs.specs.Cores.{Calls, Core, SeatState, word_of, found_at, resolved, next_step, waiting_at, with_seat}
 use Rattle.seat_programs.specs.Ticks.{Answer, OfPut, OfReady, Moment, taken, with_message, with_link, with_put, with_ready, with_found, step_with, tick_with, ticked}
-use Rattle.call_owing.specs.id_runs.specs.Held.{IdView, one, HasOne, MayId}
-use Rattle.call_owing.specs.id_runs.specs.Goes.{FitsRetryId, FindsId, IdGoesOn, SoundIds, FitsFirst, IsFittingIds}
-use Rattle.call_owing.specs.id_runs.specs.Goes as goes
-use Rattle.call_owing.specs.id_runs.proofs.Keeps.{parts_packed}
-use Rattle.call_owing.specs.id_runs.proofs.Steps.{finds_ids}
-use Rattle.call_owing.specs.id_runs.proofs.Loops.{ids_round}
-use Rattle.call_owing.specs.id_runs.proofs.Programs as idprograms
+use Rattle.call_owing.specs.Below.id_runs.specs.Held.{IdView, one, HasOne, MayId}
+use Rattle.call_owing.specs.Below.id_runs.specs.Goes.{FitsRetryId, FindsId, IdGoesOn, SoundIds, FitsFirst, IsFittingIds}
+use Rattle.call_owing.specs.Below.id_runs.specs.Goes as goes
+use Rattle.call_owing.specs.Below.id_runs.proofs.Keeps.{parts_packed}
+use Rattle.call_owing.specs.Below.id_runs.proofs.Steps.{finds_ids}
+use Rattle.call_owing.specs.Below.id_runs.proofs.Loops.{ids_round}
+use Rattle.call_owing.specs.Below.id_runs.proofs.Programs as idprograms
 use Rattle.call_owing.proofs.EndsStill.{view_of}
 use Rattle.call_owing.specs.Owing.{InList}
 use Rattle.call_owing.specs.Sound.{id_word_of, at_of}
@@ -48,7 +48,7 @@ use Rattle.owned_ids.proofs.OwnsLoops.{later, grows_same, id_grows, owns_grows, 
 use Rattle.owned_ids.proofs.OwnsSends.{block_goes}
 use Rattle.owned_ids.proofs.OwnsCalls.{retry_goes}
 use Rattle.owned_ids.proofs.OwnsSteps.{one_seat, free_tag, home_inside, word_inside, Then, Keeps, Acts, step_keeps, acts_token}
-use Rattle.call_owing.specs.id_runs.proofs.Loops.{and_left, and_right}
+use Rattle.call_owing.specs.Below.id_runs.proofs.Loops.{and_left, and_right}
 
 -- ## Behind what is said
 

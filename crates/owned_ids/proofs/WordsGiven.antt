@@ -19,10 +19,10 @@ use Rattle.sock_model.specs.Layout.{all_words, open_index}
 use Rattle.sock_model.specs.SlotRows.{marks_of}
 use Rattle.sock_model.specs.Slots.{version_of}
 use Rattle.corr_core.specs.declared.marks.Plan.{Plan as IdPlan}
-use Rattle.call_owing.specs.programs_allowed.specs.slot_steps.proofs.Sums.{about-here}
-use Rattle.call_owing.specs.programs_allowed.specs.slot_steps.proofs.Numbers.{pair-same}
-use Rattle.call_owing.specs.sock_steps.proofs.Places.{counts, own_count}
-use Rattle.call_owing.specs.sock_steps.proofs.Quiet.{either_way}
+use Rattle.call_owing.specs.Below.programs_allowed.specs.slot_steps.proofs.Sums.{about-here}
+use Rattle.call_owing.specs.Below.programs_allowed.specs.slot_steps.proofs.Numbers.{pair-same}
+use Rattle.call_owing.specs.Below.sock_steps.proofs.Places.{counts, own_count}
+use Rattle.call_owing.specs.Below.sock_steps.proofs.Quiet.{either_way}
 use Rattle.seat_programs.specs.declared.task.Task.{Task}
 use Rattle.seat_programs.specs.declared.task.Sizes.{Sizes}
 use Rattle.seat_programs.specs.Calls.{Call, CreateLife, StoreOpen}
@@ -33,25 +33,25 @@ use Rattle.seat_programs.specs.Cores.{Calls, Core, SeatState, word_of, word_afte
 use Rattle.seat_programs.specs.Ticks.{Moment, ticked, run, IsAnswered, AreAnswered}
 use Rattle.seat_programs.specs.Scripts.{sizes_of, beginning, programs, readers_from, is_ending}
 use Rattle.call_owing.proofs.EndsStill.{all_at}
-use Rattle.call_owing.specs.programs_allowed.specs.program_steps.specs.Rows.{row, hand_at}
-use Rattle.call_owing.specs.programs_allowed.specs.program_steps.specs.May.{May}
-use Rattle.call_owing.specs.programs_allowed.specs.program_steps.specs.Sound.{state, Sound, first_step, IsFitting, AreFitting, views_after, views_along}
-use Rattle.call_owing.specs.programs_allowed.specs.sock_runs.proofs.Notes.{bears}
-use Rattle.call_owing.specs.programs_allowed.specs.sock_runs.proofs.LinkNotes.{links_stay}
-use Rattle.call_owing.specs.programs_allowed.specs.sock_runs.proofs.LinksStay.{IsGiven}
-use Rattle.call_owing.specs.programs_allowed.specs.program_walks.proofs.Records.{stores, opens_same}
-use Rattle.call_owing.specs.programs_allowed.specs.program_walks.proofs.Opening.{mapped, appended}
-use Rattle.call_owing.specs.programs_allowed.specs.program_walks.proofs.LinksOpening.{OwnsLink}
-use Rattle.call_owing.specs.programs_allowed.specs.program_walks.proofs.Through.{Passes, PassesOpens, Follows, any_end, comes_follows, through_any_failed, at_calls_passes, at_calls_follow}
-use Rattle.call_owing.specs.programs_allowed.specs.program_steps.proofs.AtCalls.{AtCalls, every_exit}
-use Rattle.call_owing.specs.programs_allowed.specs.program_walks.proofs.ThroughSends.{through_ending}
-use Rattle.call_owing.specs.programs_allowed.specs.program_walks.proofs.ThroughCalls.{through_reader, through_first, through_next}
-use Rattle.call_owing.specs.programs_allowed.specs.program_walks.proofs.ThroughClients.{through_back, through_any}
-use Rattle.call_owing.specs.programs_allowed.specs.program_steps.proofs.Cases.{ComesNext, with_rights, tick_keeps_marks}
-use Rattle.call_owing.specs.programs_allowed.specs.program_steps.proofs.Rounds.{begins_round}
-use Rattle.call_owing.specs.programs_allowed.specs.program_steps.proofs.Passes.{goes_round}
-use Rattle.call_owing.specs.programs_allowed.specs.sock_runs.proofs.LinkTicks.{RetriesGo}
-use Rattle.call_owing.specs.programs_allowed.specs.sock_runs.proofs.Ticks.{sound_ticks}
+use Rattle.call_owing.specs.Below.programs_allowed.specs.program_steps.specs.Rows.{row, hand_at}
+use Rattle.call_owing.specs.Below.programs_allowed.specs.program_steps.specs.May.{May}
+use Rattle.call_owing.specs.Below.programs_allowed.specs.program_steps.specs.Sound.{state, Sound, first_step, IsFitting, AreFitting, views_after, views_along}
+use Rattle.call_owing.specs.Below.programs_allowed.specs.sock_runs.proofs.Notes.{bears}
+use Rattle.call_owing.specs.Below.programs_allowed.specs.sock_runs.proofs.LinkNotes.{links_stay}
+use Rattle.call_owing.specs.Below.programs_allowed.specs.sock_runs.proofs.LinksStay.{IsGiven}
+use Rattle.call_owing.specs.Below.programs_allowed.specs.program_walks.proofs.Records.{stores, opens_same}
+use Rattle.call_owing.specs.Below.programs_allowed.specs.program_walks.proofs.Opening.{mapped, appended}
+use Rattle.call_owing.specs.Below.programs_allowed.specs.program_walks.proofs.LinksOpening.{OwnsLink}
+use Rattle.call_owing.specs.Below.programs_allowed.specs.program_walks.proofs.Through.{Passes, PassesOpens, Follows, any_end, comes_follows, through_any_failed, at_calls_passes, at_calls_follow}
+use Rattle.call_owing.specs.Below.programs_allowed.specs.program_steps.proofs.AtCalls.{AtCalls, every_exit}
+use Rattle.call_owing.specs.Below.programs_allowed.specs.program_walks.proofs.ThroughSends.{through_ending}
+use Rattle.call_owing.specs.Below.programs_allowed.specs.program_walks.proofs.ThroughCalls.{through_reader, through_first, through_next}
+use Rattle.call_owing.specs.Below.programs_allowed.specs.program_walks.proofs.ThroughClients.{through_back, through_any}
+use Rattle.call_owing.specs.Below.programs_allowed.specs.program_steps.proofs.Cases.{ComesNext, with_rights, tick_keeps_marks}
+use Rattle.call_owing.specs.Below.programs_allowed.specs.program_steps.proofs.Rounds.{begins_round}
+use Rattle.call_owing.specs.Below.programs_allowed.specs.program_steps.proofs.Passes.{goes_round}
+use Rattle.call_owing.specs.Below.programs_allowed.specs.sock_runs.proofs.LinkTicks.{RetriesGo}
+use Rattle.call_owing.specs.Below.programs_allowed.specs.sock_runs.proofs.Ticks.{sound_ticks}
 
 -- ## Programs
 

@@ -10,11 +10,11 @@ use Rattle.seat_programs.specs.Heads.{Retry}
 use Rattle.seat_programs.specs.Programs.{Program, Do, Rest, NO_SOCKET, LAST_VERSION, recycle, release, address, set_failed}
 use Rattle.seat_programs.specs.Cores.{Core, SeatState, resolved, next_step, waiting_at, word_of, found_at}
 use Rattle.seat_programs.specs.Ticks.{quiet, ticked, tick_with}
-use Rattle.attempted_calls.specs.outcome_stories.specs.Stories.{In}
-use Rattle.attempted_calls.specs.outcome_causes.proofs.Plain.{in_both}
-use Rattle.attempted_calls.specs.call_stories.specs.Lists.{shows_in}
-use Rattle.attempted_calls.specs.call_stories.specs.Posts.{Post, posted_with, posted_at}
-use Rattle.attempted_calls.specs.id_runs.specs.Goes as goes
+use Rattle.attempted_calls.specs.Below.outcome_stories.specs.Stories.{In}
+use Rattle.attempted_calls.specs.Below.outcome_causes.proofs.Plain.{in_both}
+use Rattle.attempted_calls.specs.Below.call_stories.specs.Lists.{shows_in}
+use Rattle.attempted_calls.specs.Below.call_stories.specs.Posts.{Post, posted_with, posted_at}
+use Rattle.attempted_calls.specs.Below.id_runs.specs.Goes as goes
 
 -- the program makes steps on the table of the sockets alone
 abbrev pub OnSockets : Program → Type 0

@@ -6,7 +6,7 @@ use Rattle.std.specs.List.{AllByRecursion}
 use Rattle.sock_model.specs.declared.chain.Entry.{Entry}
 use Rattle.sock_model.specs.declared.view.View.{View}
 use Rattle.sock_model.specs.Weights.{total}
-use Rattle.attempted_calls.specs.slot_steps.proofs.Sums.{term_le}
+use Rattle.attempted_calls.specs.Below.slot_steps.proofs.Sums.{term_le}
 use Rattle.seat_programs.specs.brpc_model.specs.Items.{Item}
 use Rattle.seat_programs.specs.brpc_model.specs.Operations.{Turn}
 use Rattle.sock_message.specs.Asked.{Asked}
@@ -15,17 +15,17 @@ use Rattle.seat_programs.specs.Cores.{Core}
 use Rattle.seat_programs.specs.Tasks.{opens, plan_of, id_plan_of}
 use Rattle.seat_programs.specs.Scripts.{all_tasks, IsRunWithCalls}
 use Rattle.seat_programs.specs.ToldCalls.{Accepted, IsUnordered}
-use Rattle.attempted_calls.specs.programs_allowed.specs.program_walks.proofs.Whole.{views_ended}
-use Rattle.attempted_calls.specs.outcome_stories.specs.Causes.{Asks}
-use Rattle.attempted_calls.specs.outcome_stories.specs.Explains.{is_plain}
-use Rattle.attempted_calls.specs.outcome_stories.specs.Kept.{is_of_send}
-use Rattle.attempted_calls.specs.outcome_stories.specs.PlainTasks.{told_tasks_of}
-use Rattle.attempted_calls.specs.outcome_ticks.proofs.Lifted.{up}
-use Rattle.attempted_calls.specs.outcome_causes.proofs.Messages.{each_made, message_of, number_of}
-use Rattle.attempted_calls.specs.outcome_stories.proofs.Senders.{HasSent, all_sent}
-use Rattle.attempted_calls.specs.outcome_ticks.proofs.Tasks.{one_task}
-use Rattle.attempted_calls.specs.joint_runs.proofs.Runs.{AreMade, first_views}
-use Rattle.attempted_calls.specs.call_owing.specs.Lives.{ClosesInRun}
+use Rattle.attempted_calls.specs.Below.programs_allowed.specs.program_walks.proofs.Whole.{views_ended}
+use Rattle.attempted_calls.specs.Below.outcome_stories.specs.Causes.{Asks}
+use Rattle.attempted_calls.specs.Below.outcome_stories.specs.Explains.{is_plain}
+use Rattle.attempted_calls.specs.Below.outcome_stories.specs.Kept.{is_of_send}
+use Rattle.attempted_calls.specs.Below.outcome_stories.specs.PlainTasks.{told_tasks_of}
+use Rattle.attempted_calls.specs.Below.outcome_ticks.proofs.Lifted.{up}
+use Rattle.attempted_calls.specs.Below.outcome_causes.proofs.Messages.{each_made, message_of, number_of}
+use Rattle.attempted_calls.specs.Below.outcome_stories.proofs.Senders.{HasSent, all_sent}
+use Rattle.attempted_calls.specs.Below.outcome_ticks.proofs.Tasks.{one_task}
+use Rattle.attempted_calls.specs.Below.joint_runs.proofs.Runs.{AreMade, first_views}
+use Rattle.attempted_calls.specs.Below.call_owing.specs.Lives.{ClosesInRun}
 use Rattle.attempted_calls.specs.accept_counts.specs.Counts.{of_entry, of_view}
 use Rattle.attempted_calls.specs.accept_counts.specs.Refused.{RunWouldOwn}
 use Rattle.attempted_calls.specs.accept_counts.proofs.Apart.{heading_one, of_call_fits}

@@ -11,10 +11,10 @@ use Rattle.seat_programs.specs.Posts.{packed, advance_of, is_first, is_sought, i
 use Rattle.seat_programs.specs.Programs.{Program, Say, Aside, Round}
 use Rattle.seat_programs.specs.Readers.{answer, took, discarded, slot_in, ending_of}
 use Rattle.seat_programs.specs.Rounds.{round}
-use Rattle.attempted_calls.specs.programs_allowed.specs.program_walks.proofs.ThroughLoops.{through_took, through_discarded}
-use Rattle.attempted_calls.specs.label_runs.specs.Labels.{Trial, Idle, Tries, Kept, LeavesLabel, LeavesLock, LeavesUnlock, unlocks_trial, unlocked_trial, locked_trial, IsSoughtWord, FindsLabel}
-use Rattle.attempted_calls.specs.label_runs.proofs.Programs.{hit_is, miss_is, found_is}
-use Rattle.attempted_calls.specs.label_runs.proofs.Loops.{first_as, id_back, not_true, not_equal, and_left, locked_parts, none_left, word_got}
+use Rattle.attempted_calls.specs.Below.programs_allowed.specs.program_walks.proofs.ThroughLoops.{through_took, through_discarded}
+use Rattle.attempted_calls.specs.Below.label_runs.specs.Labels.{Trial, Idle, Tries, Kept, LeavesLabel, LeavesLock, LeavesUnlock, unlocks_trial, unlocked_trial, locked_trial, IsSoughtWord, FindsLabel}
+use Rattle.attempted_calls.specs.Below.label_runs.proofs.Programs.{hit_is, miss_is, found_is}
+use Rattle.attempted_calls.specs.Below.label_runs.proofs.Loops.{first_as, id_back, not_true, not_equal, and_left, locked_parts, none_left, word_got}
 use Rattle.attempted_calls.specs.accept_counts.specs.Refused.{Deed, NoCharge, Doing, idle, Moves, Remembers, IsPostOf, Charges, LeavesCode}
 use Rattle.attempted_calls.specs.accept_counts.proofs.Words.{unlocked_is}
 

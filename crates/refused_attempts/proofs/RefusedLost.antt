@@ -23,20 +23,20 @@ use Rattle.seat_programs.specs.Ticks.{Moment, quiet, ticked}
 use Rattle.seat_programs.specs.Scripts.{all_tasks, opened, set_up, IsRunWithCalls}
 use Rattle.seat_programs.specs.Told.{AreTasks}
 use Rattle.seat_programs.specs.ToldCalls.{WhyLost, WasFailing, RunEnding}
-use Rattle.attempted_calls.specs.programs_allowed.specs.program_steps.specs.Sound.{Sound, first_step, state}
-use Rattle.attempted_calls.specs.programs_allowed.specs.program_walks.proofs.Whole.{closing_of, set_up_answered, end_answered, set_up_sound, played_sound, closing_sound, closed_sound, ended_sound, end_rests}
-use Rattle.attempted_calls.specs.outcome_stories.specs.Facts.{put_by, put_at, shown_in, late_of_run}
-use Rattle.attempted_calls.specs.outcome_stories.specs.Kept.{Story}
-use Rattle.attempted_calls.specs.outcome_stories.specs.PlainTasks.{told_tasks_of}
-use Rattle.attempted_calls.specs.outcome_stories.specs.Stories.{In}
-use Rattle.attempted_calls.specs.outcome_ticks.proofs.Lifted.{made_up}
-use Rattle.attempted_calls.specs.outcome_stories.proofs.Members.{in_contains}
-use Rattle.attempted_calls.specs.outcome_causes.proofs.Openings.{are_seats}
-use Rattle.attempted_calls.specs.outcome_causes.proofs.Plain.{in_left, in_right}
-use Rattle.attempted_calls.specs.outcome_causes.proofs.Runs.{IsStoried, set_up_over}
-use Rattle.attempted_calls.specs.outcome_causes.proofs.Scripts.{story_opened, story_closing, story_ended}
-use Rattle.attempted_calls.specs.joint_runs.proofs.Runs.{AreMade, first_views}
-use Rattle.attempted_calls.specs.call_owing.specs.Lives.{ClosesInRun}
+use Rattle.attempted_calls.specs.Below.programs_allowed.specs.program_steps.specs.Sound.{Sound, first_step, state}
+use Rattle.attempted_calls.specs.Below.programs_allowed.specs.program_walks.proofs.Whole.{closing_of, set_up_answered, end_answered, set_up_sound, played_sound, closing_sound, closed_sound, ended_sound, end_rests}
+use Rattle.attempted_calls.specs.Below.outcome_stories.specs.Facts.{put_by, put_at, shown_in, late_of_run}
+use Rattle.attempted_calls.specs.Below.outcome_stories.specs.Kept.{Story}
+use Rattle.attempted_calls.specs.Below.outcome_stories.specs.PlainTasks.{told_tasks_of}
+use Rattle.attempted_calls.specs.Below.outcome_stories.specs.Stories.{In}
+use Rattle.attempted_calls.specs.Below.outcome_ticks.proofs.Lifted.{made_up}
+use Rattle.attempted_calls.specs.Below.outcome_stories.proofs.Members.{in_contains}
+use Rattle.attempted_calls.specs.Below.outcome_causes.proofs.Openings.{are_seats}
+use Rattle.attempted_calls.specs.Below.outcome_causes.proofs.Plain.{in_left, in_right}
+use Rattle.attempted_calls.specs.Below.outcome_causes.proofs.Runs.{IsStoried, set_up_over}
+use Rattle.attempted_calls.specs.Below.outcome_causes.proofs.Scripts.{story_opened, story_closing, story_ended}
+use Rattle.attempted_calls.specs.Below.joint_runs.proofs.Runs.{AreMade, first_views}
+use Rattle.attempted_calls.specs.Below.call_owing.specs.Lives.{ClosesInRun}
 use Rattle.attempted_calls.specs.accept_counts.specs.Refused.{Deed, DidStep, DidPut, DidMiss, DidIn, DidEarly, DidLate, FoundLost, WasOther, WasOdd, WasNone}
 use Rattle.attempted_calls.specs.sent_once.proofs.Beside.{fixed_of_run, gave_of_run, orders_here, failing_of_run}
 use Rattle.attempted_calls.specs.accept_counts.proofs.Early.{start, go, fitting, first_fresh}

@@ -15,26 +15,26 @@ use Rattle.sock_model.specs.Slots.{SlotLaw, live, count}
 use Rattle.sock_model.specs.References.{slot_facts}
 use Rattle.sock_model.specs.SlotRows.{marks_of}
 use Rattle.sock_model.specs.ChainRows.{taken_right}
-use Rattle.attempted_calls.specs.slot_steps.proofs.Numbers.{live_le, life_is, life-in}
-use Rattle.attempted_calls.specs.sock_steps.proofs.Places.{own_count, counts}
+use Rattle.attempted_calls.specs.Below.slot_steps.proofs.Numbers.{live_le, life_is, life-in}
+use Rattle.attempted_calls.specs.Below.sock_steps.proofs.Places.{own_count, counts}
 use Rattle.seat_programs.specs.Beside.{calls_after}
 use Rattle.seat_programs.specs.Calls.{Call, AddRef, LookWord, ClaimRequest}
 use Rattle.seat_programs.specs.Programs.{Program, Do}
 use Rattle.seat_programs.specs.Cores.{Calls, Core, SeatState, word_of, word_after, words_after, found_at, homes_after, with_seat, stepped, link_place, first_of, others_of, lies_at}
 use Rattle.seat_programs.specs.Ticks.{Moment, AreAnswered, IsAnswered, ticked, run, onto_first, with_places, fed}
-use Rattle.attempted_calls.specs.programs_allowed.specs.program_steps.specs.GoesOn.{GoesOn}
-use Rattle.attempted_calls.specs.programs_allowed.specs.program_steps.specs.May.{May}
-use Rattle.attempted_calls.specs.programs_allowed.specs.program_steps.specs.Rows.{row, hand_at, took_message, link_away, link_home_again, took_bytes}
-use Rattle.attempted_calls.specs.programs_allowed.specs.program_steps.specs.Sound.{Sound, AreFitting, state, views_after, views_along}
-use Rattle.attempted_calls.specs.programs_allowed.specs.program_steps.proofs.Cases.{goes_first, with_rights, right_rights, put_rights}
-use Rattle.attempted_calls.specs.programs_allowed.specs.sock_runs.proofs.LinkTicks.{RetriesGo}
-use Rattle.attempted_calls.specs.programs_allowed.specs.program_steps.proofs.Passes.{goes_round}
-use Rattle.attempted_calls.specs.programs_allowed.specs.program_steps.proofs.Rounds.{begins_round}
-use Rattle.attempted_calls.specs.programs_allowed.specs.sock_runs.proofs.Ticks.{sound_ticks}
-use Rattle.attempted_calls.specs.outcome_stories.proofs.Added.{failer_note, row_adds}
-use Rattle.attempted_calls.specs.outcome_stories.proofs.Cases.{tick_cases}
-use Rattle.attempted_calls.specs.outcome_ticks.proofs.Ticks.{elem_there}
-use Rattle.attempted_calls.specs.outcome_stories.proofs.Used.{word_stays}
+use Rattle.attempted_calls.specs.Below.programs_allowed.specs.program_steps.specs.GoesOn.{GoesOn}
+use Rattle.attempted_calls.specs.Below.programs_allowed.specs.program_steps.specs.May.{May}
+use Rattle.attempted_calls.specs.Below.programs_allowed.specs.program_steps.specs.Rows.{row, hand_at, took_message, link_away, link_home_again, took_bytes}
+use Rattle.attempted_calls.specs.Below.programs_allowed.specs.program_steps.specs.Sound.{Sound, AreFitting, state, views_after, views_along}
+use Rattle.attempted_calls.specs.Below.programs_allowed.specs.program_steps.proofs.Cases.{goes_first, with_rights, right_rights, put_rights}
+use Rattle.attempted_calls.specs.Below.programs_allowed.specs.sock_runs.proofs.LinkTicks.{RetriesGo}
+use Rattle.attempted_calls.specs.Below.programs_allowed.specs.program_steps.proofs.Passes.{goes_round}
+use Rattle.attempted_calls.specs.Below.programs_allowed.specs.program_steps.proofs.Rounds.{begins_round}
+use Rattle.attempted_calls.specs.Below.programs_allowed.specs.sock_runs.proofs.Ticks.{sound_ticks}
+use Rattle.attempted_calls.specs.Below.outcome_stories.proofs.Added.{failer_note, row_adds}
+use Rattle.attempted_calls.specs.Below.outcome_stories.proofs.Cases.{tick_cases}
+use Rattle.attempted_calls.specs.Below.outcome_ticks.proofs.Ticks.{elem_there}
+use Rattle.attempted_calls.specs.Below.outcome_stories.proofs.Used.{word_stays}
 use Rattle.attempted_calls.specs.accept_counts.specs.Refused.{Deed, DidStep, DidAt, DidIn}
 
 module _ (p : Plan) where

@@ -31,14 +31,14 @@ use Rattle.seat_programs.specs.Programs.{Program, Do, Say, Sent, Rest, TakeMessa
 use Rattle.seat_programs.specs.Readers.{kept_for, ends_with, posted_last, post_each, thrown_away, read, reader, LIMIT}
 use Rattle.seat_programs.specs.Sends.{freed as given_back, one_more, passed_telling, tell_drop, placed, dropped, put_answered, ready_answered, block, first_put, accept, write_link, heading_of, claim_from, start, send}
 use Rattle.seat_programs.specs.Writings.{Holder, Writing, Puts, Waits, Empties, Walks}
-use Rattle.attempted_calls.specs.outcome_stories.specs.Stories.{In}
-use Rattle.attempted_calls.specs.programs_allowed.specs.program_walks.proofs.Through.{PassesWords, PassesFails, is_of_message, others_plain, others_failing, others_make, through_release, through_reach, through_set_failed, through_fail, through_hold}
-use Rattle.attempted_calls.specs.programs_allowed.specs.program_walks.proofs.ThroughSends.{through_ended}
-use Rattle.attempted_calls.specs.programs_allowed.specs.program_walks.proofs.ThroughCalls.{through_read_end}
-use Rattle.attempted_calls.specs.programs_allowed.specs.program_walks.proofs.ThroughClients.{through_open, through_back, through_drop_of}
-use Rattle.attempted_calls.specs.label_runs.proofs.Loops.{not_equal}
-use Rattle.attempted_calls.specs.label_runs.proofs.Operations.{OpCalls}
-use Rattle.attempted_calls.specs.label_runs.specs.Labels.{Trial, Idle, Tries, Sends, MayPut, Kept, LeavesLabel, LeavesLock, LeavesUnlock, locked_trial}
+use Rattle.attempted_calls.specs.Below.outcome_stories.specs.Stories.{In}
+use Rattle.attempted_calls.specs.Below.programs_allowed.specs.program_walks.proofs.Through.{PassesWords, PassesFails, is_of_message, others_plain, others_failing, others_make, through_release, through_reach, through_set_failed, through_fail, through_hold}
+use Rattle.attempted_calls.specs.Below.programs_allowed.specs.program_walks.proofs.ThroughSends.{through_ended}
+use Rattle.attempted_calls.specs.Below.programs_allowed.specs.program_walks.proofs.ThroughCalls.{through_read_end}
+use Rattle.attempted_calls.specs.Below.programs_allowed.specs.program_walks.proofs.ThroughClients.{through_open, through_back, through_drop_of}
+use Rattle.attempted_calls.specs.Below.label_runs.proofs.Loops.{not_equal}
+use Rattle.attempted_calls.specs.Below.label_runs.proofs.Operations.{OpCalls}
+use Rattle.attempted_calls.specs.Below.label_runs.specs.Labels.{Trial, Idle, Tries, Sends, MayPut, Kept, LeavesLabel, LeavesLock, LeavesUnlock, locked_trial}
 use Rattle.attempted_calls.specs.accept_counts.specs.Refused.{Deed, DidStep, DidPut, DidRound, DidMiss, Charge, NoCharge, IsRefused, HasDropped, Doing, idle, begins, FoundTaken, WasOther, WasOdd, WasNone, WhyRefused, WouldStore, IsTrying, IsLast, IsPostOf}
 use Rattle.refused_attempts.proofs.RefusedLoops.{bare, Goes, way, Steps, step_way, aside_way, forgets, let_go, post_with_goes, posted_goes, decide_goes, decided_goes, answer_goes}
 
@@ -262,7 +262,7 @@ module _ (requests : ℕ) (is_call : Asked → Type 0) (reads : Bool) where
       (λ far. let t = taken r (omega (arith, low, far)) in (t.0, t.1, inr t.2, t.3))
 
   -- the step was the last of a refused attempt, so that its error is due
-  refuses : (asked : Asked) → is_call asked → (id n code : ℕ) → n ≤ 6 → (t : Trial) (ds : List Deed) → In (DidPut asked) ds → (made : Call) (then : ℕ → Program) (found : ℕ) → IsTrying t asked.operation id n (Do made then) → Rattle.attempted_calls.specs.label_runs.specs.Labels.put_behind t made ≡ t
+  refuses : (asked : Asked) → is_call asked → (id n code : ℕ) → n ≤ 6 → (t : Trial) (ds : List Deed) → In (DidPut asked) ds → (made : Call) (then : ℕ → Program) (found : ℕ) → IsTrying t asked.operation id n (Do made then) → Rattle.attempted_calls.specs.Below.label_runs.specs.Labels.put_behind t made ≡ t
       → (deed : Deed) → IsLast made then found asked.operation id n deed → WhyRefused requests asked n code (deed ∷ ds) → (x : Program) → G (due (IsRefused id n code) (deed ∷ ds)) x → Steps requests is_call reads made then found (bare t ds) x
   refuses asked called id n code few t ds put made then found trying same deed last why x goes = (
     due (IsRefused id n code) (deed ∷ ds),
@@ -300,11 +300,11 @@ module _ (requests : ℕ) (is_call : Asked → Type 0) (reads : Bool) where
     accepts ds q found = accept_goes mine (sending ds) socket q (found / 2) (heading_for asked id n) (frame_of asked id n) (release (socket_id_slot socket) (λ _. next)) (inr (asked, called, refl, refl, refl)) gives_back
 
     -- the last of the requests was found taken
-    fulls : (made : Call) (then : ℕ → Program) (found : ℕ) (ds : List Deed) → Rattle.attempted_calls.specs.label_runs.specs.Labels.put_behind (Sends asked.operation id n) made ≡ Sends asked.operation id n → FoundTaken requests (DidStep made found ∷ ds) → In (DidPut asked) ds → Steps requests is_call reads made then found (sending ds) full
+    fulls : (made : Call) (then : ℕ → Program) (found : ℕ) (ds : List Deed) → Rattle.attempted_calls.specs.Below.label_runs.specs.Labels.put_behind (Sends asked.operation id n) made ≡ Sends asked.operation id n → FoundTaken requests (DidStep made found ∷ ds) → In (DidPut asked) ds → Steps requests is_call reads made then found (sending ds) full
     fulls made then found ds same taken put = refuses asked called id n 3001 few (Sends asked.operation id n) ds put made then found (inl refl) same (DidStep made found) (inl refl) (inl (refl, taken)) full
         (posts 3001 (DidStep made found ∷ ds) (release (socket_id_slot socket) (λ _. next)) gives_back)
 
-    grows : (made : Call) (then : ℕ → Program) (found : ℕ) (ds : List Deed) (x : Program) → Kept (Rattle.attempted_calls.specs.label_runs.specs.Labels.put_behind (Sends asked.operation id n) made) (Sends asked.operation id n) → G (sending (DidStep made found ∷ ds)) x → Steps requests is_call reads made then found (sending ds) x
+    grows : (made : Call) (then : ℕ → Program) (found : ℕ) (ds : List Deed) (x : Program) → Kept (Rattle.attempted_calls.specs.Below.label_runs.specs.Labels.put_behind (Sends asked.operation id n) made) (Sends asked.operation id n) → G (sending (DidStep made found ∷ ds)) x → Steps requests is_call reads made then found (sending ds) x
     grows made then found ds x k g = (sending (DidStep made found ∷ ds), inl (k, inl (refl, refl)), g)
 
     claims_goes : (more q : ℕ) (ds : List Deed) → q + suc more ≡ requests → FoundTaken q ds → In (DidPut asked) ds → G (sending ds) (others (suc more) q)

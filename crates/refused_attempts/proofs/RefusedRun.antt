@@ -12,12 +12,12 @@ use Rattle.seat_programs.specs.Posts.{WHOLE}
 use Rattle.seat_programs.specs.Tasks.{plan_of}
 use Rattle.seat_programs.specs.Scripts.{all_tasks, IsRunWithCalls}
 use Rattle.seat_programs.specs.ToldCalls.{IsUnordered, WhyLost, WasFull}
-use Rattle.attempted_calls.specs.outcome_stories.specs.Stories.{In}
-use Rattle.attempted_calls.specs.joint_runs.proofs.Runs.{AreMade}
-use Rattle.attempted_calls.specs.call_owing.specs.Lives.{ClosesInRun}
-use Rattle.attempted_calls.specs.call_stories.specs.Decided.{posted_by}
-use Rattle.attempted_calls.specs.call_stories.specs.Lists.{shows_in_run}
-use Rattle.attempted_calls.specs.call_stories.specs.Posts.{Post}
+use Rattle.attempted_calls.specs.Below.outcome_stories.specs.Stories.{In}
+use Rattle.attempted_calls.specs.Below.joint_runs.proofs.Runs.{AreMade}
+use Rattle.attempted_calls.specs.Below.call_owing.specs.Lives.{ClosesInRun}
+use Rattle.attempted_calls.specs.Below.call_stories.specs.Decided.{posted_by}
+use Rattle.attempted_calls.specs.Below.call_stories.specs.Lists.{shows_in_run}
+use Rattle.attempted_calls.specs.Below.call_stories.specs.Posts.{Post}
 use Rattle.attempted_calls.specs.accept_counts.specs.Refused.{Deed, DidEarly, DidLate, DidInRun, FoundNothing, IsRefusal, IsDrop, RunWouldOwn, ByReader, ByExpiry, ByRefusal, ByDrop}
 use Rattle.attempted_calls.specs.sent_once.proofs.Beside.{fixed_of_run, gave_of_run, orders_here}
 use Rattle.attempted_calls.specs.accept_counts.proofs.Runs.{AreLabelledIn, IsCallOf}

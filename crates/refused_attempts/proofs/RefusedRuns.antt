@@ -18,17 +18,17 @@ use Rattle.seat_programs.specs.Cores.{Core, SeatState, resolved, next_step, wait
 use Rattle.seat_programs.specs.Ticks.{Moment, AreAnswered, ticked, run}
 use Rattle.seat_programs.specs.Tasks.{calls}
 use Rattle.seat_programs.specs.Scripts.{programs, readers_from, all_programs, beginning}
-use Rattle.attempted_calls.specs.programs_allowed.specs.program_steps.specs.Sound.{Sound, AreFitting, first_step, views_after, views_along}
-use Rattle.attempted_calls.specs.programs_allowed.specs.sock_runs.proofs.LinkTicks.{RetriesGo}
-use Rattle.attempted_calls.specs.programs_allowed.specs.sock_runs.proofs.Ticks.{sound_ticks}
-use Rattle.attempted_calls.specs.programs_allowed.specs.program_walks.proofs.Opening.{mapped}
-use Rattle.attempted_calls.specs.outcome_stories.specs.Stories.{In}
-use Rattle.attempted_calls.specs.outcome_causes.proofs.Plain.{in_both}
-use Rattle.attempted_calls.specs.label_runs.specs.Labels.{Trial, Idle}
-use Rattle.attempted_calls.specs.label_runs.proofs.Operations.{OpCalls}
-use Rattle.attempted_calls.specs.call_stories.specs.Lists.{shows_in}
-use Rattle.attempted_calls.specs.call_stories.specs.Decided.{posted_by}
-use Rattle.attempted_calls.specs.call_stories.specs.Posts.{Post}
+use Rattle.attempted_calls.specs.Below.programs_allowed.specs.program_steps.specs.Sound.{Sound, AreFitting, first_step, views_after, views_along}
+use Rattle.attempted_calls.specs.Below.programs_allowed.specs.sock_runs.proofs.LinkTicks.{RetriesGo}
+use Rattle.attempted_calls.specs.Below.programs_allowed.specs.sock_runs.proofs.Ticks.{sound_ticks}
+use Rattle.attempted_calls.specs.Below.programs_allowed.specs.program_walks.proofs.Opening.{mapped}
+use Rattle.attempted_calls.specs.Below.outcome_stories.specs.Stories.{In}
+use Rattle.attempted_calls.specs.Below.outcome_causes.proofs.Plain.{in_both}
+use Rattle.attempted_calls.specs.Below.label_runs.specs.Labels.{Trial, Idle}
+use Rattle.attempted_calls.specs.Below.label_runs.proofs.Operations.{OpCalls}
+use Rattle.attempted_calls.specs.Below.call_stories.specs.Lists.{shows_in}
+use Rattle.attempted_calls.specs.Below.call_stories.specs.Decided.{posted_by}
+use Rattle.attempted_calls.specs.Below.call_stories.specs.Posts.{Post}
 use Rattle.attempted_calls.specs.accept_counts.specs.Counts.{of_trial, of_view, times_of, TrialFits, AreLabelled}
 use Rattle.attempted_calls.specs.accept_counts.specs.Refused.{Deed, DidStep, DidPut, DidRound, DidMiss, Doing, idle, trial_in, Charges, DidAt, DidIn, IsSpent, ChargeFits, ChargeLaw, PostKind, AllWouldOwn}
 use Rattle.attempted_calls.specs.accept_counts.proofs.Ticks.{label_ticks}

@@ -14,12 +14,12 @@ use Rattle.sock_model.specs.declared.home.Home.{Home}
 use Rattle.sock_model.specs.declared.view.Hand.{Hand}
 use Rattle.sock_model.specs.declared.view.View.{View}
 use Rattle.sock_model.specs.Weights.{total}
-use Rattle.attempted_calls.specs.slot_steps.proofs.Sums.{term_le, total-append, total-set}
+use Rattle.attempted_calls.specs.Below.slot_steps.proofs.Sums.{term_le, total-append, total-set}
 use Rattle.corr_core.specs.Word.{parts}
 use Rattle.corr_core.specs.declared.marks.Plan.{Plan as IdPlan}
-use Rattle.attempted_calls.specs.id_runs.specs.Held.{IdView, MayId}
-use Rattle.attempted_calls.specs.id_runs.specs.Goes.{FitsRetryId, FitsSock, FindsId, IdGoesOn, SoundIds, IsFittingIds}
-use Rattle.attempted_calls.specs.id_runs.proofs.Steps.{finds_ids}
+use Rattle.attempted_calls.specs.Below.id_runs.specs.Held.{IdView, MayId}
+use Rattle.attempted_calls.specs.Below.id_runs.specs.Goes.{FitsRetryId, FitsSock, FindsId, IdGoesOn, SoundIds, IsFittingIds}
+use Rattle.attempted_calls.specs.Below.id_runs.proofs.Steps.{finds_ids}
 use Rattle.seat_programs.specs.Asides.{Step, Found, PutCall, MakeId, StoreAt, UnlockId, TakeCall, Taking, call_id, id_slot, id_first}
 use Rattle.sock_message.specs.Asked.{Asked}
 use Rattle.seat_programs.specs.Beside.{found_in, calls_after}
@@ -29,23 +29,23 @@ use Rattle.seat_programs.specs.Heads.{Retry}
 use Rattle.seat_programs.specs.Programs.{Program, Do, Say, Sent, Rest, TakeMessage, TakeHome, PutHome, PutBytes, AskReady, Write, Aside, Round, Keep, Retries}
 use Rattle.seat_programs.specs.Cores.{Calls, Core, SeatState, word_of, found_at, words_after, word_after, homes_after, hand_after, resolved, still_waiting, waiting_at, next_step, with_seat, stepped}
 use Rattle.seat_programs.specs.Ticks.{Moment, IsAnswered, taken, ticked}
-use Rattle.attempted_calls.specs.programs_allowed.specs.program_steps.specs.Rows.{row, hand_at}
-use Rattle.attempted_calls.specs.programs_allowed.specs.program_steps.specs.Sound.{Sound, first_step, views_after}
-use Rattle.attempted_calls.specs.programs_allowed.specs.program_steps.proofs.Cases.{with_rights}
-use Rattle.attempted_calls.specs.outcome_ticks.proofs.Ticks.{elem_there}
-use Rattle.attempted_calls.specs.call_owing.proofs.EndsStill.{mapped_at}
-use Rattle.attempted_calls.specs.label_runs.specs.Labels.{Trial, Idle, Tries, Sends, put_behind, Kept, Storing, unlocked_trial}
+use Rattle.attempted_calls.specs.Below.programs_allowed.specs.program_steps.specs.Rows.{row, hand_at}
+use Rattle.attempted_calls.specs.Below.programs_allowed.specs.program_steps.specs.Sound.{Sound, first_step, views_after}
+use Rattle.attempted_calls.specs.Below.programs_allowed.specs.program_steps.proofs.Cases.{with_rights}
+use Rattle.attempted_calls.specs.Below.outcome_ticks.proofs.Ticks.{elem_there}
+use Rattle.attempted_calls.specs.Below.call_owing.proofs.EndsStill.{mapped_at}
+use Rattle.attempted_calls.specs.Below.label_runs.specs.Labels.{Trial, Idle, Tries, Sends, put_behind, Kept, Storing, unlocked_trial}
 use Rattle.attempted_calls.specs.accept_counts.specs.Counts.{pair_of, of_trial, of_retry, of_view, times_of, WasMade, WasNow, TrialFits, StoresOwn}
 use Rattle.attempted_calls.specs.accept_counts.specs.Refused.{Deed, DidStep, DidPut, Charge, NoCharge, IsRefused, HasDropped, Doing, idle, begins, trial_in, FoundTaken, FoundLost, WasOther, WasOdd, WasNone, WhyRefused, WouldStore, WouldOwn, IsTrying, IsLast, Refuses, Moves, Remembers, Charges, did_aside, DidAt, IsRefusal, IsDrop, IsSpent, ChargeFits, ChargeLaw}
 use Rattle.attempted_calls.specs.accept_counts.proofs.SeatFacts.{ids_first}
-use Rattle.attempted_calls.specs.outcome_stories.proofs.HomeCalls.{AreCalls}
+use Rattle.attempted_calls.specs.Below.outcome_stories.proofs.HomeCalls.{AreCalls}
 use Rattle.attempted_calls.specs.accept_counts.proofs.SeatFacts.{tick_moves}
 use Rattle.attempted_calls.specs.accept_counts.proofs.Ticks.{put_count, few_more, few_of, calls_waiting, fits_as, kept_count, kept_fits, pair_now, waits_set}
 use Rattle.attempted_calls.specs.accept_counts.proofs.Views.{row_count, rights_count}
 use Rattle.attempted_calls.specs.accept_counts.proofs.Words.{made_on, finds_label, words_forward, makes_new, advances_new}
 use Rattle.refused_attempts.proofs.RefusedLoops.{bare, charges_round}
 use Rattle.refused_attempts.proofs.RefusedPrograms.{block_goes, retry_goes}
-use Rattle.attempted_calls.specs.script_facts.proofs.Lists.{all_map}
+use Rattle.attempted_calls.specs.Below.script_facts.proofs.Lists.{all_map}
 use Rattle.attempted_calls.specs.own_decisions.proofs.OwnDecisionsTicks.{pair_self}
 
 -- ## Lists

@@ -31,18 +31,18 @@ use Rattle.seat_programs.specs.Cores.{Core, SeatState, waiting_at}
 use Rattle.seat_programs.specs.Ticks.{Answer, OfPut, OfReady, Moment, IsAlwaysReady, waits, waits_at, quiet, ticked, run, taken, with_message, with_link, with_put, with_ready, with_found, step_with, tick_with}
 use Rattle.seat_programs.specs.Tasks.{opens, calls, plan_of, id_plan_of}
 use Rattle.seat_programs.specs.Scripts.{sizes_of, programs, readers_from, all_programs, all_tasks, opened, set_up, played, is_ending, IsRunWithCalls}
-use Rattle.attempted_calls.specs.programs_allowed.specs.program_steps.specs.Sound.{views_along}
-use Rattle.attempted_calls.specs.programs_allowed.specs.sock_runs.proofs.Along.{seat_rests}
-use Rattle.attempted_calls.specs.programs_allowed.specs.program_walks.proofs.Whole.{closing_of, views_played, views_closed, views_ended, set_up_answered, end_answered, rested_ahead, rested_idle, set_up_sound, played_sound, closing_sound, closed_sound, closed_ahead}
-use Rattle.attempted_calls.specs.outcome_stories.specs.Stories.{In}
-use Rattle.attempted_calls.specs.outcome_causes.proofs.Final.{at_there}
-use Rattle.attempted_calls.specs.outcome_causes.proofs.Plain.{in_both}
-use Rattle.attempted_calls.specs.outcome_ticks.proofs.Ticks.{elem_there}
-use Rattle.attempted_calls.specs.joint_runs.proofs.Runs.{AreMade, first_views}
-use Rattle.attempted_calls.specs.call_owing.specs.Lives.{ClosesInRun}
-use Rattle.attempted_calls.specs.call_stories.specs.Decided.{posted_by}
-use Rattle.attempted_calls.specs.call_stories.specs.Lists.{shows_in, shows_in_run}
-use Rattle.attempted_calls.specs.call_stories.specs.Posts.{Post, posted_at}
+use Rattle.attempted_calls.specs.Below.programs_allowed.specs.program_steps.specs.Sound.{views_along}
+use Rattle.attempted_calls.specs.Below.programs_allowed.specs.sock_runs.proofs.Along.{seat_rests}
+use Rattle.attempted_calls.specs.Below.programs_allowed.specs.program_walks.proofs.Whole.{closing_of, views_played, views_closed, views_ended, set_up_answered, end_answered, rested_ahead, rested_idle, set_up_sound, played_sound, closing_sound, closed_sound, closed_ahead}
+use Rattle.attempted_calls.specs.Below.outcome_stories.specs.Stories.{In}
+use Rattle.attempted_calls.specs.Below.outcome_causes.proofs.Final.{at_there}
+use Rattle.attempted_calls.specs.Below.outcome_causes.proofs.Plain.{in_both}
+use Rattle.attempted_calls.specs.Below.outcome_ticks.proofs.Ticks.{elem_there}
+use Rattle.attempted_calls.specs.Below.joint_runs.proofs.Runs.{AreMade, first_views}
+use Rattle.attempted_calls.specs.Below.call_owing.specs.Lives.{ClosesInRun}
+use Rattle.attempted_calls.specs.Below.call_stories.specs.Decided.{posted_by}
+use Rattle.attempted_calls.specs.Below.call_stories.specs.Lists.{shows_in, shows_in_run}
+use Rattle.attempted_calls.specs.Below.call_stories.specs.Posts.{Post, posted_at}
 use Rattle.attempted_calls.specs.accept_counts.specs.Counts.{times_of, TrialFits}
 use Rattle.attempted_calls.specs.accept_counts.specs.Refused.{Deed, Charge, NoCharge, IsRefused, HasDropped, Doing, idle, trial_in, Charges, DidAt, DidIn, DidEarly, DidLate, IsSpent, ChargeFits, ChargeLaw, PostKind, RunWouldOwn}
 use Rattle.attempted_calls.specs.accept_counts.proofs.Early.{start, go, fitting}

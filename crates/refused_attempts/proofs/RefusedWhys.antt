@@ -10,12 +10,12 @@ use Rattle.seat_programs.specs.Tasks.{plan_of}
 use Rattle.seat_programs.specs.Ticks.{quiet, run}
 use Rattle.seat_programs.specs.Scripts.{all_tasks, opened, set_up, is_ending, IsRunWithCalls}
 use Rattle.seat_programs.specs.ToldCalls.{WasFull}
-use Rattle.attempted_calls.specs.programs_allowed.specs.program_steps.specs.Sound.{Sound}
-use Rattle.attempted_calls.specs.programs_allowed.specs.program_walks.proofs.Whole.{closing_of, set_up_answered, end_answered, set_up_sound, closing_sound, closed_sound, ended_sound, end_rests}
-use Rattle.attempted_calls.specs.outcome_stories.specs.Stories.{In}
-use Rattle.attempted_calls.specs.outcome_stories.proofs.Delivered.{requests_used}
-use Rattle.attempted_calls.specs.joint_runs.proofs.Runs.{AreMade, first_views}
-use Rattle.attempted_calls.specs.call_owing.specs.Lives.{ClosesInRun}
+use Rattle.attempted_calls.specs.Below.programs_allowed.specs.program_steps.specs.Sound.{Sound}
+use Rattle.attempted_calls.specs.Below.programs_allowed.specs.program_walks.proofs.Whole.{closing_of, set_up_answered, end_answered, set_up_sound, closing_sound, closed_sound, ended_sound, end_rests}
+use Rattle.attempted_calls.specs.Below.outcome_stories.specs.Stories.{In}
+use Rattle.attempted_calls.specs.Below.outcome_stories.proofs.Delivered.{requests_used}
+use Rattle.attempted_calls.specs.Below.joint_runs.proofs.Runs.{AreMade, first_views}
+use Rattle.attempted_calls.specs.Below.call_owing.specs.Lives.{ClosesInRun}
 use Rattle.attempted_calls.specs.accept_counts.specs.Refused.{Deed, DidStep, DidEarly, DidLate, FoundTaken}
 use Rattle.attempted_calls.specs.sent_once.proofs.Beside.{fixed_of_run, gave_of_run, orders_here}
 use Rattle.attempted_calls.specs.accept_counts.proofs.Early.{start, go, fitting}

@@ -31,9 +31,9 @@ use Rattle.seat_programs.specs.Cores.{Calls, Core, SeatState, word_of, word_afte
 use Rattle.seat_programs.specs.Ticks.{Answer, OfPut, OfReady, Moment, quiet, fed, with_places, onto_first, taken, with_message, with_link, with_put, with_ready, with_found, step_with, tick_with, ticked, run}
 use Rattle.seat_programs.specs.Scripts.{sizes_of, programs, readers_from, all_programs, all_tasks, opened, ending, is_ending, set_up, played, IsRunWithCalls}
 use Rattle.outcome_causes.specs.outcome_ticks.proofs.Seats.{length_said}
-use Rattle.owed_calls.specs.programs_allowed.proofs.Beginning.{unused, length_homes}
-use Rattle.owed_calls.specs.programs_allowed.proofs.Lasting.{length_all}
-use Rattle.owed_calls.specs.id_runs.proofs.Opening as ids
+use Rattle.owed_calls.specs.Below.programs_allowed.proofs.Beginning.{unused, length_homes}
+use Rattle.owed_calls.specs.Below.programs_allowed.proofs.Lasting.{length_all}
+use Rattle.owed_calls.specs.Below.id_runs.proofs.Opening as ids
 use Rattle.run_theorems.specs.Sizes.{IsSized}
 use Rattle.run_theorems.proofs.Starts.{made}
 

@@ -18,19 +18,19 @@ use Rattle.outcome_causes.specs.program_walks.proofs.Whole.{IsOwed, end_over, al
 use Rattle.outcome_causes.specs.outcome_stories.specs.PlainTasks.{told_tasks_of}
 use Rattle.outcome_causes.specs.outcome_stories.specs.TaskCauses.{DropsMade}
 use Rattle.outcome_causes.proofs.Scripts.{MadeInRun, run_drops}
-use Rattle.owed_calls.specs.programs_allowed.specs.Openings.{all_seats}
-use Rattle.owed_calls.specs.programs_allowed.proofs.Fresh.{opening_fresh}
-use Rattle.owed_calls.specs.programs_allowed.proofs.Retrying.{retries_go}
-use Rattle.owed_calls.specs.joint_runs.proofs.Runs.{first_views, joint_runs}
+use Rattle.owed_calls.specs.Below.programs_allowed.specs.Openings.{all_seats}
+use Rattle.owed_calls.specs.Below.programs_allowed.proofs.Fresh.{opening_fresh}
+use Rattle.owed_calls.specs.Below.programs_allowed.proofs.Retrying.{retries_go}
+use Rattle.owed_calls.specs.Below.joint_runs.proofs.Runs.{first_views, joint_runs}
 use Rattle.owed_calls.specs.call_owing.specs.Owing.{Owing}
 use Rattle.owed_calls.specs.call_owing.specs.Sound.{SoundOwing}
 use Rattle.owed_calls.specs.call_owing.proofs.End.{all_ended}
-use Rattle.owed_calls.specs.report_fits.specs.Calm.{IsCalm}
-use Rattle.owed_calls.specs.report_fits.specs.Ends.{AreEndsOf, EndsEarly}
-use Rattle.owed_calls.specs.script_facts.proofs.Lists.{Has, has_first, has_later, within, all_at, contains_from}
-use Rattle.owed_calls.specs.report_fits.proofs.Places.{lateness, script_fits, script_places}
-use Rattle.owed_calls.specs.script_facts.proofs.Sizes.{keeps_limits}
-use Rattle.owed_calls.specs.script_facts.proofs.Tasks.{tasks_of_script}
+use Rattle.owed_calls.specs.Below.report_fits.specs.Calm.{IsCalm}
+use Rattle.owed_calls.specs.Below.report_fits.specs.Ends.{AreEndsOf, EndsEarly}
+use Rattle.owed_calls.specs.Below.script_facts.proofs.Lists.{Has, has_first, has_later, within, all_at, contains_from}
+use Rattle.owed_calls.specs.Below.report_fits.proofs.Places.{lateness, script_fits, script_places}
+use Rattle.owed_calls.specs.Below.script_facts.proofs.Sizes.{keeps_limits}
+use Rattle.owed_calls.specs.Below.script_facts.proofs.Tasks.{tasks_of_script}
 use Rattle.run_theorems.specs.Over.{IsAllOver}
 use Rattle.run_theorems.specs.Unserved.{IsUnserved, IsInTime}
 use Rattle.run_theorems.proofs.Lengths.{ended_length}

@@ -9,11 +9,11 @@ use Rattle.seat_programs.specs.Cores.{Core}
 use Rattle.seat_programs.specs.Scripts.{IsRunWithCalls}
 use Rattle.outcome_causes.specs.program_steps.specs.Sound.{IsWithinLimits}
 use Rattle.outcome_causes.specs.program_walks.proofs.Whole.{AreFittingIn, Begins}
-use Rattle.owed_calls.specs.joint_runs.proofs.Runs.{AreMade, first_views, begins, are_fitting_in, joint_runs}
-use Rattle.owed_calls.specs.joint_runs.proofs.Made.{are_made}
+use Rattle.owed_calls.specs.Below.joint_runs.proofs.Runs.{AreMade, first_views, begins, are_fitting_in, joint_runs}
+use Rattle.owed_calls.specs.Below.joint_runs.proofs.Made.{are_made}
 use Rattle.brpc_model.specs.Limits.{KeepsLimits}
-use Rattle.owed_calls.specs.script_facts.proofs.Sizes.{keeps_limits, plan_fits, few_seats}
-use Rattle.owed_calls.specs.script_facts.proofs.Tasks.{tasks_of_script}
+use Rattle.owed_calls.specs.Below.script_facts.proofs.Sizes.{keeps_limits, plan_fits, few_seats}
+use Rattle.owed_calls.specs.Below.script_facts.proofs.Tasks.{tasks_of_script}
 
 -- the sizes of a script's table
 pub within_limits : (script : List Item) → KeepsLimits script → IsWithinLimits (plan_of script)

@@ -5,6 +5,5 @@ pub mod OfferedRuns
 pub mod Sizes
 pub mod Unserved
 pub mod Over
-pub use Rattle.owed_calls.specs.programs_allowed
-pub use Rattle.owed_calls.specs.joint_runs
 pub use Rattle.owed_calls.specs.call_owing
+pub use Rattle.owed_calls.specs.Below

@@ -11,7 +11,7 @@ use Rattle.seat_programs.specs.Asides.{TakeBytes, Taking, Bytes, Nothing, AtEnd,
 use Rattle.seat_programs.specs.Programs.{Program, Aside}
 use Rattle.seat_programs.specs.Cores.{Core, SeatState, link_place}
 use Rattle.seat_programs.specs.Ticks.{Answer, Moment, taken, ticked}
-use Rattle.owed_calls.specs.id_runs.specs.Goes as goes
+use Rattle.owed_calls.specs.Below.id_runs.specs.Goes as goes
 use Rattle.owed_calls.specs.call_owing.specs.Lives.{InHand}
 
 -- what the other end of a link offers for these bytes: the server the replies, up to the number that is given, and another end nothing

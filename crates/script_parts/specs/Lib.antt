@@ -10,7 +10,7 @@ pub use Rattle.calls_done.specs.failed_reasons
 pub use Rattle.calls_done.specs.failed_ends
 pub use Rattle.calls_done.specs.failed_told
 pub use Rattle.id_rule
-pub use Rattle.calls_done.specs.call_whys.specs.Below.script_facts
-pub use Rattle.calls_done.specs.call_whys.specs.Below.report_fits
+pub use Rattle.calls_done.specs.Below.script_facts
+pub use Rattle.calls_done.specs.Below.report_fits
 pub use Rattle.calls_done
 pub use Rattle.calls_done.specs.served_told

@@ -12,11 +12,11 @@ use Rattle.seat_programs.specs.Tasks.{numbered, plan_of}
 use Rattle.seat_programs.specs.Scripts.{all_tasks, is_callless, is_later}
 use Rattle.seat_programs.specs.Told.{IsTask}
 use Rattle.seat_programs.specs.ToldCalls.{Fixed, Order, ToldCalls}
-use Rattle.calm_runs.specs.send_causes.specs.outcome_stories.specs.Explains.{is_plain}
-use Rattle.calm_runs.specs.send_causes.specs.outcome_stories.specs.Facts.{ToldSends}
-use Rattle.calm_runs.specs.send_causes.specs.report_fits.proofs.Callless.{not_later}
-use Rattle.calm_runs.specs.send_causes.specs.script_facts.proofs.Numbering.{are_from}
-use Rattle.calm_runs.specs.send_causes.specs.script_facts.proofs.TaskLemmas.{IsTaskOf, numbers_at, task_is, call_asks, expire_asks, join_asks}
+use Rattle.calm_runs.specs.Below.outcome_stories.specs.Explains.{is_plain}
+use Rattle.calm_runs.specs.Below.outcome_stories.specs.Facts.{ToldSends}
+use Rattle.calm_runs.specs.Below.report_fits.proofs.Callless.{not_later}
+use Rattle.calm_runs.specs.Below.script_facts.proofs.Numbering.{are_from}
+use Rattle.calm_runs.specs.Below.script_facts.proofs.TaskLemmas.{IsTaskOf, numbers_at, task_is, call_asks, expire_asks, join_asks}
 
 module _ (script : List Item) (outcomes : List (Option Outcome)) (callless : is_callless script ≡ true) where
   not_on_calls : (c : ℕ) (t : Task) (item : Item) → IsTask (all_tasks script) outcomes c t → (w : IsTaskOf script c t) → w.operation.item ≡ item → is_later item ≡ false

@@ -10,17 +10,17 @@ use Rattle.seat_programs.specs.Cores.{Core}
 use Rattle.seat_programs.specs.Runs.{IsAtRest}
 use Rattle.seat_programs.specs.Scripts.{IsRunWithCalls, all_tasks, is_callless, is_later, played}
 use Rattle.seat_programs.specs.Tasks.{Numbered, calls, id_plan_of, numbered}
-use Rattle.calm_runs.specs.send_causes.specs.outcome_stories.specs.Facts.{late_of_run, late_links_of_run}
+use Rattle.calm_runs.specs.Below.outcome_stories.specs.Facts.{late_of_run, late_links_of_run}
 use Rattle.calm_runs.specs.sock_runs.proofs.Along.{place_inside, seat_rests}
 use Rattle.calm_runs.specs.program_walks.proofs.Whole.{rested_ahead}
-use Rattle.calm_runs.specs.send_causes.specs.joint_runs.proofs.Runs.{first_views}
-use Rattle.calm_runs.specs.send_causes.specs.report_fits.proofs.Callless.{not_later}
-use Rattle.calm_runs.specs.send_causes.specs.script_facts.proofs.Lists.{Has, has_first, filter_map_has}
-use Rattle.calm_runs.specs.send_causes.specs.script_facts.proofs.Numbering.{are_from, is_numbered}
-use Rattle.calm_runs.specs.send_causes.specs.script_facts.proofs.TaskLemmas.{tasks_length}
-use Rattle.calm_runs.specs.accept_counts.proofs.Early.{start, go, fitting}
-use Rattle.calm_runs.specs.accept_counts.proofs.Rests as rests
-use Rattle.calm_runs.specs.send_causes.specs.run_theorems.proofs.Starts.{made}
+use Rattle.calm_runs.specs.Below.joint_runs.proofs.Runs.{first_views}
+use Rattle.calm_runs.specs.Below.report_fits.proofs.Callless.{not_later}
+use Rattle.calm_runs.specs.Below.script_facts.proofs.Lists.{Has, has_first, filter_map_has}
+use Rattle.calm_runs.specs.Below.script_facts.proofs.Numbering.{are_from, is_numbered}
+use Rattle.calm_runs.specs.Below.script_facts.proofs.TaskLemmas.{tasks_length}
+use Rattle.calm_runs.specs.Below.accept_counts.proofs.Early.{start, go, fitting}
+use Rattle.calm_runs.specs.Below.accept_counts.proofs.Rests as rests
+use Rattle.calm_runs.specs.Below.run_theorems.proofs.Starts.{made}
 use Rattle.calm_runs.proofs.Nothing.{nothing_behind}
 
 -- ## No calls, and no id slot

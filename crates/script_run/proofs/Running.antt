@@ -15,13 +15,13 @@ use Rattle.seat_programs.specs.Scripts.{IsRunWithCalls, Settles, AreStill, round
 use Rattle.seat_programs.specs.Tasks as tasks
 use Rattle.seat_programs.specs.Tasks.{plan_of, id_plan_of}
 use Rattle.brpc_model.specs.Script.{script_of}
-use Rattle.calm_runs.specs.accept_counts.specs.call_owing.specs.Lives.{ClosesInTime, ClosesInRun}
-use Rattle.calm_runs.specs.send_causes.specs.run_theorems.proofs.Lengths.{opened_sized, run_sized}
-use Rattle.calm_runs.specs.send_causes.specs.run_theorems.specs.Heard.{heard_in, taken_in, heard_of, taken_of}
-use Rattle.calm_runs.specs.send_causes.specs.run_theorems.specs.Offered.{AreOffered}
-use Rattle.calm_runs.specs.send_causes.specs.run_theorems.specs.OfferedRuns.{OffersInRun}
-use Rattle.calm_runs.specs.send_causes.specs.run_theorems.proofs.HeardRuns.{heard_on, taken_on}
-use Rattle.calm_runs.specs.send_causes.specs.script_facts.proofs.Sizes.{keeps_limits}
+use Rattle.calm_runs.specs.Below.call_owing.specs.Lives.{ClosesInTime, ClosesInRun}
+use Rattle.calm_runs.specs.Below.run_theorems.proofs.Lengths.{opened_sized, run_sized}
+use Rattle.calm_runs.specs.Below.run_theorems.specs.Heard.{heard_in, taken_in, heard_of, taken_of}
+use Rattle.calm_runs.specs.Below.run_theorems.specs.Offered.{AreOffered}
+use Rattle.calm_runs.specs.Below.run_theorems.specs.OfferedRuns.{OffersInRun}
+use Rattle.calm_runs.specs.Below.run_theorems.proofs.HeardRuns.{heard_on, taken_on}
+use Rattle.calm_runs.specs.Below.script_facts.proofs.Sizes.{keeps_limits}
 use Rattle.machine_model.specs.Links.{Taken, Given, AreAlwaysReady, TellClosing, IsOffering}
 use Rattle.machine_model.specs.Machines.{MachineState, core_with, ending_by}
 use Rattle.machine_model.specs.Runs as rounds

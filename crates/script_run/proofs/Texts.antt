@@ -22,21 +22,21 @@ use Rattle.seat_programs.specs.Cores.{Core}
 use Rattle.seat_programs.specs.Scripts.{place_words}
 use Rattle.seat_programs.specs.Tasks.{plan_of}
 use Rattle.run_laws.specs.programs_allowed.proofs.Retrying.{retries_go}
-use Rattle.calm_runs.specs.send_causes.specs.run_theorems.specs.Heard.{as_told, as_taken, take_answers, heard_of, taken_of, heard_takes}
-use Rattle.calm_runs.specs.send_causes.specs.run_theorems.specs.OfferedRuns.{OffersInRun}
-use Rattle.calm_runs.specs.send_causes.specs.run_theorems.specs.Over.{IsAllOver}
-use Rattle.calm_runs.specs.send_causes.specs.run_theorems.proofs.Ended.{run_all_over}
-use Rattle.calm_runs.specs.send_causes.specs.run_theorems.proofs.Gave.{gave_heard}
-use Rattle.calm_runs.specs.send_causes.specs.run_theorems.proofs.Lengths.{ended_length}
-use Rattle.calm_runs.specs.send_causes.specs.run_theorems.proofs.Runs.{run_drops_told}
-use Rattle.calm_runs.specs.send_causes.specs.run_theorems.proofs.Starts.{made, starts, fitting}
-use Rattle.calm_runs.specs.accept_counts.specs.owed_calls.proofs.Known.{run_owed_of}
+use Rattle.calm_runs.specs.Below.run_theorems.specs.Heard.{as_told, as_taken, take_answers, heard_of, taken_of, heard_takes}
+use Rattle.calm_runs.specs.Below.run_theorems.specs.OfferedRuns.{OffersInRun}
+use Rattle.calm_runs.specs.Below.run_theorems.specs.Over.{IsAllOver}
+use Rattle.calm_runs.specs.Below.run_theorems.proofs.Ended.{run_all_over}
+use Rattle.calm_runs.specs.Below.run_theorems.proofs.Gave.{gave_heard}
+use Rattle.calm_runs.specs.Below.run_theorems.proofs.Lengths.{ended_length}
+use Rattle.calm_runs.specs.Below.run_theorems.proofs.Runs.{run_drops_told}
+use Rattle.calm_runs.specs.Below.run_theorems.proofs.Starts.{made, starts, fitting}
+use Rattle.calm_runs.specs.Below.owed_calls.proofs.Known.{run_owed_of}
 use Rattle.run_laws.proofs.Laws.{keeps_laws}
-use Rattle.calm_runs.specs.send_causes.specs.report_fits.specs.Ends.{IsEndOf, AreEndsOf, EndsEarly}
-use Rattle.calm_runs.specs.send_causes.specs.script_facts.proofs.Lists.{within, has_from, all_at}
-use Rattle.calm_runs.specs.send_causes.specs.report_fits.proofs.Places.{script_places}
-use Rattle.calm_runs.specs.send_causes.specs.script_facts.proofs.Sizes.{keeps_limits}
-use Rattle.calm_runs.specs.send_causes.specs.script_facts.proofs.Tasks.{tasks_of_script}
+use Rattle.calm_runs.specs.Below.report_fits.specs.Ends.{IsEndOf, AreEndsOf, EndsEarly}
+use Rattle.calm_runs.specs.Below.script_facts.proofs.Lists.{within, has_from, all_at}
+use Rattle.calm_runs.specs.Below.report_fits.proofs.Places.{script_places}
+use Rattle.calm_runs.specs.Below.script_facts.proofs.Sizes.{keeps_limits}
+use Rattle.calm_runs.specs.Below.script_facts.proofs.Tasks.{tasks_of_script}
 use Rattle.machine_model.specs.Links.{AreAlwaysReady, TellClosing, IsOffering}
 use Rattle.machine_model.specs.Machines.{MachineState, core_with}
 use Rattle.machine_model.specs.Runs.{SameLink, SameLinks, ShowsTaking}

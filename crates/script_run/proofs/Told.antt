@@ -11,26 +11,26 @@ use Rattle.seat_programs.specs.Cores.{Core}
 use Rattle.seat_programs.specs.Tasks.{opens, plan_of}
 use Rattle.seat_programs.specs.Scripts.{IsRunWithCalls, all_tasks, is_callless}
 use Rattle.seat_programs.specs.ToldCalls.{Fixed, Order}
-use Rattle.calm_runs.specs.send_causes.specs.outcome_stories.specs.Facts.{closed_before_ending, is_said_late, late_of_run, late_links_of_run, ToldSends}
-use Rattle.calm_runs.specs.send_causes.specs.outcome_stories.specs.PlainTasks.{told_tasks_of}
-use Rattle.calm_runs.specs.send_causes.specs.outcome_stories.specs.TaskCauses.{ToldTasks}
-use Rattle.calm_runs.specs.send_causes.specs.outcome_stories.proofs.Members.{in_contains, contains_in}
-use Rattle.calm_runs.specs.send_causes.specs.outcome_causes.proofs.Scripts.{lost_of_run, run_told}
-use Rattle.calm_runs.specs.accept_counts.proofs.Early.{closed_early, start, go, fitting}
-use Rattle.calm_runs.specs.accept_counts.proofs.Lists.{early_shown, closed_shown}
-use Rattle.calm_runs.specs.accept_counts.proofs.Plain.{broken_shown}
-use Rattle.calm_runs.specs.sent_once.proofs.Sends as sends
+use Rattle.calm_runs.specs.Below.outcome_stories.specs.Facts.{closed_before_ending, is_said_late, late_of_run, late_links_of_run, ToldSends}
+use Rattle.calm_runs.specs.Below.outcome_stories.specs.PlainTasks.{told_tasks_of}
+use Rattle.calm_runs.specs.Below.outcome_stories.specs.TaskCauses.{ToldTasks}
+use Rattle.calm_runs.specs.Below.outcome_stories.proofs.Members.{in_contains, contains_in}
+use Rattle.calm_runs.specs.Below.outcome_causes.proofs.Scripts.{lost_of_run, run_told}
+use Rattle.calm_runs.specs.Below.accept_counts.proofs.Early.{closed_early, start, go, fitting}
+use Rattle.calm_runs.specs.Below.accept_counts.proofs.Lists.{early_shown, closed_shown}
+use Rattle.calm_runs.specs.Below.accept_counts.proofs.Plain.{broken_shown}
+use Rattle.calm_runs.specs.Below.sent_once.proofs.Sends as sends
 use Rattle.calm_runs.specs.send_causes.proofs.AllTold.{told_of_run, told_last}
 use Rattle.calm_runs.specs.send_causes.proofs.Assembled.{fixed_in_run}
 use Rattle.run_laws.specs.programs_allowed.specs.Openings.{all_seats}
 use Rattle.run_laws.specs.programs_allowed.proofs.Fresh.{opening_fresh}
-use Rattle.calm_runs.specs.send_causes.specs.joint_runs.proofs.Runs.{first_views}
-use Rattle.calm_runs.specs.accept_counts.specs.call_owing.specs.Lives.{ClosesInRun}
-use Rattle.calm_runs.specs.send_causes.specs.script_facts.proofs.Lists.{Has, has_from, has_none}
-use Rattle.calm_runs.specs.send_causes.specs.script_facts.proofs.Reading.{InRange}
-use Rattle.calm_runs.specs.send_causes.specs.script_facts.proofs.Sizes.{is_counted}
-use Rattle.calm_runs.specs.send_causes.specs.script_facts.proofs.Targets.{AreThere, are_there}
-use Rattle.calm_runs.specs.send_causes.specs.run_theorems.proofs.Starts.{made}
+use Rattle.calm_runs.specs.Below.joint_runs.proofs.Runs.{first_views}
+use Rattle.calm_runs.specs.Below.call_owing.specs.Lives.{ClosesInRun}
+use Rattle.calm_runs.specs.Below.script_facts.proofs.Lists.{Has, has_from, has_none}
+use Rattle.calm_runs.specs.Below.script_facts.proofs.Reading.{InRange}
+use Rattle.calm_runs.specs.Below.script_facts.proofs.Sizes.{is_counted}
+use Rattle.calm_runs.specs.Below.script_facts.proofs.Targets.{AreThere, are_there}
+use Rattle.calm_runs.specs.Below.run_theorems.proofs.Starts.{made}
 use Rattle.script_run.specs.Causes.{HasCauses, gave_in, lost_before}
 use Rattle.script_run.proofs.Callless.{plain_task, no_call, all_told}
 use Rattle.script_run.proofs.Idle.{no_slot, nothing_late}

@@ -14,14 +14,14 @@ use Rattle.seat_programs.specs.Tasks.{plan_of}
 use Rattle.seat_programs.specs.Scripts.{IsRunWithCalls, all_tasks, is_callless, opened, set_up}
 use Rattle.seat_programs.specs.Told.{IsTask}
 use Rattle.seat_programs.specs.ToldCalls.{Fixed, Order, ToldCalls}
-use Rattle.calm_runs.specs.send_causes.specs.report_fits.proofs.Places.{lateness}
-use Rattle.calm_runs.specs.send_causes.specs.outcome_stories.specs.PlainTasks.{told_tasks_of}
-use Rattle.calm_runs.specs.send_causes.specs.outcome_stories.specs.Facts.{broken_of_run, is_said_late, late_of_run, late_links_of_run}
-use Rattle.calm_runs.specs.send_causes.specs.outcome_stories.specs.Losses.{lost_in}
-use Rattle.calm_runs.specs.send_causes.specs.outcome_stories.specs.TaskCauses.{ToldTasks, DropsMade}
-use Rattle.calm_runs.specs.send_causes.specs.outcome_causes.proofs.Scripts.{MadeInRun, lost_of_run}
-use Rattle.calm_runs.specs.accept_counts.specs.call_stories.specs.Lists.{attempts_of_run, silent_of_run, soon_of_run}
-use Rattle.calm_runs.specs.send_causes.specs.run_theorems.specs.Heard.{heard_takes, given_by}
+use Rattle.calm_runs.specs.Below.report_fits.proofs.Places.{lateness}
+use Rattle.calm_runs.specs.Below.outcome_stories.specs.PlainTasks.{told_tasks_of}
+use Rattle.calm_runs.specs.Below.outcome_stories.specs.Facts.{broken_of_run, is_said_late, late_of_run, late_links_of_run}
+use Rattle.calm_runs.specs.Below.outcome_stories.specs.Losses.{lost_in}
+use Rattle.calm_runs.specs.Below.outcome_stories.specs.TaskCauses.{ToldTasks, DropsMade}
+use Rattle.calm_runs.specs.Below.outcome_causes.proofs.Scripts.{MadeInRun, lost_of_run}
+use Rattle.calm_runs.specs.Below.call_stories.specs.Lists.{attempts_of_run, silent_of_run, soon_of_run}
+use Rattle.calm_runs.specs.Below.run_theorems.specs.Heard.{heard_takes, given_by}
 
 -- the links that answered that they failed in a run, before its ending and behind it
 abbrev pub broken_of : {script : List Item} {turns : List Turn} {end_ : Core} → IsRunWithCalls script turns end_ → List ℕ

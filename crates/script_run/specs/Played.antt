@@ -16,15 +16,15 @@ use Rattle.seat_programs.specs.Ticks.{Answer, Moment}
 use Rattle.seat_programs.specs.Runs.{IsAtRest, Turns}
 use Rattle.seat_programs.specs.Scripts.{IsRunWithCalls, Reports, is_callless, played, drawn_turns, took_at_home}
 use Rattle.seat_programs.specs.Tasks.{plan_of}
-use Rattle.calm_runs.specs.send_causes.specs.report_fits.specs.Ends.{AreEndsOf}
+use Rattle.calm_runs.specs.Below.report_fits.specs.Ends.{AreEndsOf}
 use Rattle.run_laws.specs.Laws.{KeepsLaws}
 use Rattle.sock_io.specs.Link.{InState}
-use Rattle.calm_runs.specs.accept_counts.specs.call_owing.specs.Lives.{ClosesInRun}
+use Rattle.calm_runs.specs.Below.call_owing.specs.Lives.{ClosesInRun}
 use Rattle.machine_model.specs.Links.{Taken, Given, SoFar, TellClosing, IsOffering}
 use Rattle.machine_model.specs.Machines.{MachineState, core_with}
-use Rattle.calm_runs.specs.send_causes.specs.run_theorems.specs.Heard.{as_told, as_taken, take_answers, heard_of, taken_of, heard_takes}
-use Rattle.calm_runs.specs.send_causes.specs.run_theorems.specs.OfferedRuns.{OffersInRun}
-use Rattle.calm_runs.specs.send_causes.specs.run_theorems.specs.Over.{IsAllOver}
+use Rattle.calm_runs.specs.Below.run_theorems.specs.Heard.{as_told, as_taken, take_answers, heard_of, taken_of, heard_takes}
+use Rattle.calm_runs.specs.Below.run_theorems.specs.OfferedRuns.{OffersInRun}
+use Rattle.calm_runs.specs.Below.run_theorems.specs.Over.{IsAllOver}
 use Rattle.machine_model.specs.Runs.{ShowsTaking, LinksShow, MadeByTicks, Made}
 use Rattle.machine_model.specs.Driving.{FirstRests}
 use Rattle.script_run.specs.Causes.{HasCauses, DropsTold, broken_of, gave_in}

@@ -8,11 +8,11 @@ use Rattle.seat_programs.specs.Cores.{Core}
 use Rattle.seat_programs.specs.Tasks.{plan_of}
 use Rattle.seat_programs.specs.Scripts.{all_tasks, IsRunWithCalls}
 use Rattle.seat_programs.specs.ToldCalls.{ToldCalls}
-use Rattle.dropped_calls.specs.joint_runs.proofs.Runs.{AreMade}
-use Rattle.dropped_calls.specs.script_facts.proofs.Reading.{InRange}
-use Rattle.dropped_calls.specs.script_facts.proofs.Targets.{AreThere}
-use Rattle.dropped_calls.specs.call_owing.specs.Lives.{ClosesInRun}
-use Rattle.dropped_calls.specs.call_stories.specs.Lists.{given}
+use Rattle.dropped_calls.specs.Below.joint_runs.proofs.Runs.{AreMade}
+use Rattle.dropped_calls.specs.Below.script_facts.proofs.Reading.{InRange}
+use Rattle.dropped_calls.specs.Below.script_facts.proofs.Targets.{AreThere}
+use Rattle.dropped_calls.specs.Below.call_owing.specs.Lives.{ClosesInRun}
+use Rattle.dropped_calls.specs.Below.call_stories.specs.Lists.{given}
 use Rattle.send_causes.proofs.Assembled.{last_in_run, fixed_in_run, orders_in_run, told_calls}
 use Rattle.send_causes.proofs.Assembled as assembled
 use Rattle.send_causes.proofs.CausedEnds.{ended_of_run}

@@ -22,20 +22,20 @@ use Rattle.seat_programs.specs.Tasks.{plan_of}
 use Rattle.seat_programs.specs.Scripts.{all_tasks, IsRunWithCalls}
 use Rattle.seat_programs.specs.Told.{IsTask, Became, Made}
 use Rattle.seat_programs.specs.ToldCalls.{Fixed, Order, IsSent, OfSend, OfCall, InOwnOrder, IsDropped, IsFailing, WhyLost, WasFailing, WhyAgain, FailedBy, ByExpiry, ByCompression, ByEnd, EndedWith, Why, WhyCall, ToldCalls}
-use Rattle.dropped_calls.specs.outcome_stories.specs.Explains.{is_plain}
-use Rattle.dropped_calls.specs.outcome_stories.specs.Facts.{ToldPlain}
-use Rattle.dropped_calls.specs.outcome_stories.proofs.Members.{contains_in}
-use Rattle.dropped_calls.specs.outcome_ticks.proofs.Tasks.{one_task}
-use Rattle.dropped_calls.specs.joint_runs.proofs.Runs.{AreMade, first_views}
-use Rattle.dropped_calls.specs.script_facts.proofs.Reading.{InRange}
-use Rattle.dropped_calls.specs.script_facts.proofs.Targets.{AreThere}
-use Rattle.dropped_calls.specs.script_facts.proofs.Lists.{all_at}
-use Rattle.dropped_calls.specs.call_owing.specs.Lives.{ClosesInRun}
-use Rattle.dropped_calls.specs.call_stories.specs.Lists.{given, attempts_of_run, early_of_run, closed_of_run, silent_of_run, soon_of_run}
-use Rattle.dropped_calls.specs.call_stories.specs.Posts.{posts_of_run}
-use Rattle.dropped_calls.specs.call_stories.specs.Target.{IsOnCalls, ToldOnCallsInPart, WhyInPart, WhyCallInPart}
-use Rattle.dropped_calls.specs.call_causes.proofs.Whole.{run_told_in_part, run_found_none}
-use Rattle.dropped_calls.specs.call_causes.proofs.Posted.{run_few_attempts, run_advanced_by, run_advanced_shown, run_failed_by}
+use Rattle.dropped_calls.specs.Below.outcome_stories.specs.Explains.{is_plain}
+use Rattle.dropped_calls.specs.Below.outcome_stories.specs.Facts.{ToldPlain}
+use Rattle.dropped_calls.specs.Below.outcome_stories.proofs.Members.{contains_in}
+use Rattle.dropped_calls.specs.Below.outcome_ticks.proofs.Tasks.{one_task}
+use Rattle.dropped_calls.specs.Below.joint_runs.proofs.Runs.{AreMade, first_views}
+use Rattle.dropped_calls.specs.Below.script_facts.proofs.Reading.{InRange}
+use Rattle.dropped_calls.specs.Below.script_facts.proofs.Targets.{AreThere}
+use Rattle.dropped_calls.specs.Below.script_facts.proofs.Lists.{all_at}
+use Rattle.dropped_calls.specs.Below.call_owing.specs.Lives.{ClosesInRun}
+use Rattle.dropped_calls.specs.Below.call_stories.specs.Lists.{given, attempts_of_run, early_of_run, closed_of_run, silent_of_run, soon_of_run}
+use Rattle.dropped_calls.specs.Below.call_stories.specs.Posts.{posts_of_run}
+use Rattle.dropped_calls.specs.Below.call_stories.specs.Target.{IsOnCalls, ToldOnCallsInPart, WhyInPart, WhyCallInPart}
+use Rattle.dropped_calls.specs.Below.call_causes.proofs.Whole.{run_told_in_part, run_found_none}
+use Rattle.dropped_calls.specs.Below.call_causes.proofs.Posted.{run_few_attempts, run_advanced_by, run_advanced_shown, run_failed_by}
 use Rattle.dropped_calls.specs.accept_counts.specs.PostCauses.{PostCause}
 use Rattle.dropped_calls.specs.attempted_calls.proofs.AttemptedRun.{attempted_of_run}
 use Rattle.dropped_calls.specs.sent_once.proofs.Beside.{ends_listed}

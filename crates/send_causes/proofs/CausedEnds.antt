@@ -6,7 +6,7 @@ use mathlib.Core.Logic.{dite}
 use mathlib.Core.Option.{some}
 use native.Mathlib.Decide.{dec_le}
 use lib.ListN.{get_elem?}
-use Rattle.dropped_calls.specs.chain_steps.proofs.Lists.{at_some}
+use Rattle.dropped_calls.specs.Below.chain_steps.proofs.Lists.{at_some}
 use Rattle.sock_words.specs.Words.{at_word_attempt}
 use Rattle.sock_words.specs.declared.outcome.Outcome.TheVariants.{CallFailed}
 use Rattle.seat_programs.specs.brpc_model.specs.Items.{Item}
@@ -23,17 +23,17 @@ use Rattle.seat_programs.specs.Tasks.{opens, plan_of}
 use Rattle.seat_programs.specs.Scripts.{all_tasks, IsRunWithCalls}
 use Rattle.seat_programs.specs.Told.{IsTask, Became}
 use Rattle.seat_programs.specs.ToldCalls.{Gave, IsResponse, IsUnordered, StandsOn, WasFull, IsFailing, MayBeOn, EndedWith}
-use Rattle.dropped_calls.specs.outcome_stories.specs.Stories.{In}
-use Rattle.dropped_calls.specs.joint_runs.proofs.Runs.{AreMade}
-use Rattle.dropped_calls.specs.script_facts.proofs.Reading.{InRange}
-use Rattle.dropped_calls.specs.script_facts.proofs.Targets.{AreThere}
-use Rattle.dropped_calls.specs.call_owing.specs.Lives.{ClosesInRun}
-use Rattle.dropped_calls.specs.run_theorems.proofs.Gave.{gave_heard}
-use Rattle.dropped_calls.specs.call_stories.specs.Decided.{posted_by, decided_by}
-use Rattle.dropped_calls.specs.call_stories.specs.Lists.{given, shows_in_run}
-use Rattle.dropped_calls.specs.call_stories.specs.Posts.{Post}
-use Rattle.dropped_calls.specs.call_causes.proofs.Decisions.{run_failed_decided}
-use Rattle.dropped_calls.specs.call_causes.proofs.HandledWhole.{PostedLate}
+use Rattle.dropped_calls.specs.Below.outcome_stories.specs.Stories.{In}
+use Rattle.dropped_calls.specs.Below.joint_runs.proofs.Runs.{AreMade}
+use Rattle.dropped_calls.specs.Below.script_facts.proofs.Reading.{InRange}
+use Rattle.dropped_calls.specs.Below.script_facts.proofs.Targets.{AreThere}
+use Rattle.dropped_calls.specs.Below.call_owing.specs.Lives.{ClosesInRun}
+use Rattle.dropped_calls.specs.Below.run_theorems.proofs.Gave.{gave_heard}
+use Rattle.dropped_calls.specs.Below.call_stories.specs.Decided.{posted_by, decided_by}
+use Rattle.dropped_calls.specs.Below.call_stories.specs.Lists.{given, shows_in_run}
+use Rattle.dropped_calls.specs.Below.call_stories.specs.Posts.{Post}
+use Rattle.dropped_calls.specs.Below.call_causes.proofs.Decisions.{run_failed_decided}
+use Rattle.dropped_calls.specs.Below.call_causes.proofs.HandledWhole.{PostedLate}
 use Rattle.dropped_calls.specs.accept_counts.specs.EndedCalls.{AreStoredOnce, EndedSo, IsEndPost}
 use Rattle.dropped_calls.specs.accept_counts.specs.PostCauses.{PostCause, OfLoss, OfWant, OfDrop, OfFail, OfFault, OfEnd}
 use Rattle.send_causes.proofs.Assembled.{last_in_run}

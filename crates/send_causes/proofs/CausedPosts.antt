@@ -18,15 +18,15 @@ use Rattle.seat_programs.specs.Cores.{Core}
 use Rattle.seat_programs.specs.Scripts.{all_tasks, IsRunWithCalls}
 use Rattle.seat_programs.specs.Told.{IsTask, Became}
 use Rattle.seat_programs.specs.ToldCalls.{Fixed, Order, IsUnordered, WhyLost, WasFailing, RunEnding, WasUnopened}
-use Rattle.dropped_calls.specs.outcome_stories.specs.Stories.{In}
-use Rattle.dropped_calls.specs.outcome_stories.proofs.Members.{contains_in}
-use Rattle.dropped_calls.specs.joint_runs.proofs.Runs.{AreMade}
-use Rattle.dropped_calls.specs.script_facts.proofs.Reading.{InRange}
-use Rattle.dropped_calls.specs.script_facts.proofs.Targets.{AreThere}
-use Rattle.dropped_calls.specs.call_owing.specs.Lives.{ClosesInRun}
-use Rattle.dropped_calls.specs.call_stories.specs.Decided.{posted_by}
-use Rattle.dropped_calls.specs.call_stories.specs.Lists.{given, shows_in_run}
-use Rattle.dropped_calls.specs.call_stories.specs.Posts.{Post, posts_of_run}
+use Rattle.dropped_calls.specs.Below.outcome_stories.specs.Stories.{In}
+use Rattle.dropped_calls.specs.Below.outcome_stories.proofs.Members.{contains_in}
+use Rattle.dropped_calls.specs.Below.joint_runs.proofs.Runs.{AreMade}
+use Rattle.dropped_calls.specs.Below.script_facts.proofs.Reading.{InRange}
+use Rattle.dropped_calls.specs.Below.script_facts.proofs.Targets.{AreThere}
+use Rattle.dropped_calls.specs.Below.call_owing.specs.Lives.{ClosesInRun}
+use Rattle.dropped_calls.specs.Below.call_stories.specs.Decided.{posted_by}
+use Rattle.dropped_calls.specs.Below.call_stories.specs.Lists.{given, shows_in_run}
+use Rattle.dropped_calls.specs.Below.call_stories.specs.Posts.{Post, posts_of_run}
 use Rattle.dropped_calls.specs.accept_counts.specs.EndedCalls.{reader_posts_of_run}
 use Rattle.dropped_calls.specs.accept_counts.specs.PostCauses.{PostCause, OfLoss, OfWant, OfFault}
 use Rattle.dropped_calls.specs.accept_counts.specs.Refused.{FoundNothing}

@@ -10,12 +10,12 @@ use Rattle.seat_programs.specs.declared.task.Task.{Task}
 use Rattle.seat_programs.specs.Tasks.{plan_of}
 use Rattle.seat_programs.specs.Scripts.{all_tasks, IsRunWithCalls}
 use Rattle.seat_programs.specs.Told.{AskedFits, OpFits, TaskFits, IsTask}
-use Rattle.dropped_calls.specs.outcome_stories.proofs.Members.{all_in, contains_in, get_all}
-use Rattle.dropped_calls.specs.joint_runs.proofs.Runs.{AreMade}
-use Rattle.dropped_calls.specs.script_facts.proofs.Reading.{InRange}
-use Rattle.dropped_calls.specs.script_facts.proofs.Targets.{AreThere}
-use Rattle.dropped_calls.specs.call_stories.specs.Lists.{attempts_of_run}
-use Rattle.dropped_calls.specs.call_causes.proofs.Posted.{run_few_attempts}
+use Rattle.dropped_calls.specs.Below.outcome_stories.proofs.Members.{all_in, contains_in, get_all}
+use Rattle.dropped_calls.specs.Below.joint_runs.proofs.Runs.{AreMade}
+use Rattle.dropped_calls.specs.Below.script_facts.proofs.Reading.{InRange}
+use Rattle.dropped_calls.specs.Below.script_facts.proofs.Targets.{AreThere}
+use Rattle.dropped_calls.specs.Below.call_stories.specs.Lists.{attempts_of_run}
+use Rattle.dropped_calls.specs.Below.call_causes.proofs.Posted.{run_few_attempts}
 
 module _ (script : List Item) (made : AreMade script) (there : AreThere script) (range : AllByRecursion InRange script) (turns : List Turn) (core : Core) (is : IsRunWithCalls script turns core) where
   asked_fits : (client : ℕ) (t : Task) (asked : Asked) → IsTask (all_tasks script) core.outcomes client t → t.op ≡ ops.Call asked → AskedFits (plan_of script) asked

@@ -23,25 +23,25 @@ use Rattle.seat_programs.specs.Tasks.{opens, calls, plan_of, id_plan_of}
 use Rattle.seat_programs.specs.Ticks.{Moment, AreAnswered, IsAlwaysReady, quiet, ticked, run, waits, waits_at}
 use Rattle.seat_programs.specs.Scripts.{sizes_of, all_tasks, opened, set_up, played, IsRunWithCalls}
 use Rattle.seat_programs.specs.ToldCalls.{Accepted, StandsOn, IsUnordered, IsFailing, WasFull}
-use Rattle.dropped_calls.specs.programs_allowed.specs.program_steps.specs.Sound.{Sound, AreFitting, views_after, views_along}
-use Rattle.dropped_calls.specs.programs_allowed.specs.sock_runs.proofs.Along.{seat_rests, place_inside}
-use Rattle.dropped_calls.specs.programs_allowed.specs.sock_runs.proofs.LinkTicks.{RetriesGo}
-use Rattle.dropped_calls.specs.programs_allowed.specs.sock_runs.proofs.Ticks.{sound_ticks}
-use Rattle.dropped_calls.specs.programs_allowed.specs.program_walks.proofs.Whole.{closing_of, views_played, views_closed, set_up_answered, end_answered, rested_ahead, set_up_sound, played_sound, closing_sound, closed_sound, closed_ahead}
-use Rattle.dropped_calls.specs.outcome_stories.specs.Facts.{late_links_of_run, born_at, shown_in}
-use Rattle.dropped_calls.specs.outcome_stories.specs.PlainTasks.{told_tasks_of}
-use Rattle.dropped_calls.specs.outcome_stories.specs.Stories.{In}
-use Rattle.dropped_calls.specs.outcome_stories.proofs.Delivered.{accepted_of, requests_used}
-use Rattle.dropped_calls.specs.outcome_causes.proofs.Final.{at_there}
-use Rattle.dropped_calls.specs.outcome_stories.proofs.Members.{in_contains, contains_in}
-use Rattle.dropped_calls.specs.outcome_causes.proofs.Messages.{each_made}
-use Rattle.dropped_calls.specs.outcome_causes.proofs.Plain.{in_both, in_left, in_right}
-use Rattle.dropped_calls.specs.outcome_stories.proofs.Senders.{sent_stands}
-use Rattle.dropped_calls.specs.outcome_ticks.proofs.Ticks.{elem_there}
-use Rattle.dropped_calls.specs.joint_runs.proofs.Runs.{AreMade, first_views}
-use Rattle.dropped_calls.specs.call_owing.specs.Lives.{ClosesInRun}
-use Rattle.dropped_calls.specs.call_stories.specs.Lists.{shows_in}
-use Rattle.dropped_calls.specs.call_stories.specs.Posts.{Post}
+use Rattle.dropped_calls.specs.Below.programs_allowed.specs.program_steps.specs.Sound.{Sound, AreFitting, views_after, views_along}
+use Rattle.dropped_calls.specs.Below.programs_allowed.specs.sock_runs.proofs.Along.{seat_rests, place_inside}
+use Rattle.dropped_calls.specs.Below.programs_allowed.specs.sock_runs.proofs.LinkTicks.{RetriesGo}
+use Rattle.dropped_calls.specs.Below.programs_allowed.specs.sock_runs.proofs.Ticks.{sound_ticks}
+use Rattle.dropped_calls.specs.Below.programs_allowed.specs.program_walks.proofs.Whole.{closing_of, views_played, views_closed, set_up_answered, end_answered, rested_ahead, set_up_sound, played_sound, closing_sound, closed_sound, closed_ahead}
+use Rattle.dropped_calls.specs.Below.outcome_stories.specs.Facts.{late_links_of_run, born_at, shown_in}
+use Rattle.dropped_calls.specs.Below.outcome_stories.specs.PlainTasks.{told_tasks_of}
+use Rattle.dropped_calls.specs.Below.outcome_stories.specs.Stories.{In}
+use Rattle.dropped_calls.specs.Below.outcome_stories.proofs.Delivered.{accepted_of, requests_used}
+use Rattle.dropped_calls.specs.Below.outcome_causes.proofs.Final.{at_there}
+use Rattle.dropped_calls.specs.Below.outcome_stories.proofs.Members.{in_contains, contains_in}
+use Rattle.dropped_calls.specs.Below.outcome_causes.proofs.Messages.{each_made}
+use Rattle.dropped_calls.specs.Below.outcome_causes.proofs.Plain.{in_both, in_left, in_right}
+use Rattle.dropped_calls.specs.Below.outcome_stories.proofs.Senders.{sent_stands}
+use Rattle.dropped_calls.specs.Below.outcome_ticks.proofs.Ticks.{elem_there}
+use Rattle.dropped_calls.specs.Below.joint_runs.proofs.Runs.{AreMade, first_views}
+use Rattle.dropped_calls.specs.Below.call_owing.specs.Lives.{ClosesInRun}
+use Rattle.dropped_calls.specs.Below.call_stories.specs.Lists.{shows_in}
+use Rattle.dropped_calls.specs.Below.call_stories.specs.Posts.{Post}
 use Rattle.dropped_calls.specs.accept_counts.specs.EndedCalls.{Store, stored_at, stores_of_run, loads_of_run, IsEndPost}
 use Rattle.dropped_calls.specs.accept_counts.specs.Refused.{DidStep}
 use Rattle.dropped_calls.specs.sent_once.proofs.Beside.{fixed_of_run, gave_of_run, orders_here, failing_of_run}

@@ -8,7 +8,7 @@ use Rattle.sock_model.specs.declared.chain.Heading.{Heading}
 use Rattle.sock_model.specs.declared.view.View.{View}
 use Rattle.sock_model.specs.Entries.{ticket_of}
 use Rattle.sock_model.specs.Memory.{IDLE}
-use Rattle.dropped_calls.specs.sock_steps.proofs.Quiet.{either_way}
+use Rattle.dropped_calls.specs.Below.sock_steps.proofs.Quiet.{either_way}
 use Rattle.corr_core.specs.Word.{parts}
 use Rattle.sock_message.specs.Asked.{Asked, frame_of}
 use Rattle.seat_programs.specs.declared.task.Op.{Op}
@@ -25,16 +25,16 @@ use Rattle.seat_programs.specs.Sends.{accept}
 use Rattle.seat_programs.specs.Attempts.{claims_from, heading_for, attempt, call, retry}
 use Rattle.seat_programs.specs.Rounds.{round}
 use Rattle.seat_programs.specs.Cores.{resolved, next_step}
-use Rattle.dropped_calls.specs.programs_allowed.specs.program_steps.specs.AtSteps.{Asks, AtSteps}
-use Rattle.dropped_calls.specs.programs_allowed.specs.program_steps.specs.Fits.{FitsHead, FitsRetry}
-use Rattle.dropped_calls.specs.programs_allowed.specs.program_steps.specs.GoesOn.{GoesOn}
-use Rattle.dropped_calls.specs.programs_allowed.specs.program_steps.specs.Sound.{first_step}
-use Rattle.dropped_calls.specs.programs_allowed.specs.program_walks.proofs.Through.{PassesPlain, PassesFails, PassesSends, PassesReads, any_end, is_plain_aside, reads_any, locked, at_steps_plain, at_steps_sends, through_release, through_set_failed, through_fail}
-use Rattle.dropped_calls.specs.programs_allowed.specs.program_walks.proofs.ThroughLoops.{through_post, through_unlocks, through_round}
-use Rattle.dropped_calls.specs.programs_allowed.specs.program_walks.proofs.ThroughSends.{through_block, through_write_link, through_send}
-use Rattle.dropped_calls.specs.programs_allowed.specs.program_walks.proofs.ThroughCalls.{through_call, through_retry, through_join, through_reading}
-use Rattle.dropped_calls.specs.programs_allowed.specs.program_walks.proofs.ThroughClients.{through_open, through_back, through_operation}
-use Rattle.dropped_calls.specs.label_runs.proofs.Loops.{not_equal}
+use Rattle.dropped_calls.specs.Below.programs_allowed.specs.program_steps.specs.AtSteps.{Asks, AtSteps}
+use Rattle.dropped_calls.specs.Below.programs_allowed.specs.program_steps.specs.Fits.{FitsHead, FitsRetry}
+use Rattle.dropped_calls.specs.Below.programs_allowed.specs.program_steps.specs.GoesOn.{GoesOn}
+use Rattle.dropped_calls.specs.Below.programs_allowed.specs.program_steps.specs.Sound.{first_step}
+use Rattle.dropped_calls.specs.Below.programs_allowed.specs.program_walks.proofs.Through.{PassesPlain, PassesFails, PassesSends, PassesReads, any_end, is_plain_aside, reads_any, locked, at_steps_plain, at_steps_sends, through_release, through_set_failed, through_fail}
+use Rattle.dropped_calls.specs.Below.programs_allowed.specs.program_walks.proofs.ThroughLoops.{through_post, through_unlocks, through_round}
+use Rattle.dropped_calls.specs.Below.programs_allowed.specs.program_walks.proofs.ThroughSends.{through_block, through_write_link, through_send}
+use Rattle.dropped_calls.specs.Below.programs_allowed.specs.program_walks.proofs.ThroughCalls.{through_call, through_retry, through_join, through_reading}
+use Rattle.dropped_calls.specs.Below.programs_allowed.specs.program_walks.proofs.ThroughClients.{through_open, through_back, through_operation}
+use Rattle.dropped_calls.specs.Below.label_runs.proofs.Loops.{not_equal}
 
 -- ## Where a seat stands with an attempt
 

@@ -15,13 +15,13 @@ use Rattle.seat_programs.specs.declared.task.Sizes.{Sizes}
 use Rattle.seat_programs.specs.declared.task.Task.{Task}
 use Rattle.seat_programs.specs.Scripts.{programs, readers_from, all_programs, beginning}
 use Rattle.seat_programs.specs.Ticks.{Answer, Moment, IsAnswered, AreAnswered, quiet, ticked, run, waits_at}
-use Rattle.dropped_calls.specs.programs_allowed.specs.program_steps.specs.Sound.{Sound, first_step, IsFitting, AreFitting, views_after, views_along}
-use Rattle.dropped_calls.specs.programs_allowed.specs.sock_runs.proofs.LinkTicks.{RetriesGo}
-use Rattle.dropped_calls.specs.programs_allowed.specs.program_walks.proofs.Opening.{mapped}
-use Rattle.dropped_calls.specs.programs_allowed.specs.sock_runs.proofs.Ticks.{sound_ticks}
-use Rattle.dropped_calls.specs.outcome_stories.specs.Stories.{In}
-use Rattle.dropped_calls.specs.outcome_causes.proofs.Plain.{in_both}
-use Rattle.dropped_calls.specs.call_stories.specs.Lists.{shows_in}
+use Rattle.dropped_calls.specs.Below.programs_allowed.specs.program_steps.specs.Sound.{Sound, first_step, IsFitting, AreFitting, views_after, views_along}
+use Rattle.dropped_calls.specs.Below.programs_allowed.specs.sock_runs.proofs.LinkTicks.{RetriesGo}
+use Rattle.dropped_calls.specs.Below.programs_allowed.specs.program_walks.proofs.Opening.{mapped}
+use Rattle.dropped_calls.specs.Below.programs_allowed.specs.sock_runs.proofs.Ticks.{sound_ticks}
+use Rattle.dropped_calls.specs.Below.outcome_stories.specs.Stories.{In}
+use Rattle.dropped_calls.specs.Below.outcome_causes.proofs.Plain.{in_both}
+use Rattle.dropped_calls.specs.Below.call_stories.specs.Lists.{shows_in}
 use Rattle.dropped_calls.specs.accept_counts.specs.EndedCalls.{Store, stores_by, stored_at}
 use Rattle.dropped_calls.specs.refused_attempts.proofs.RefusedClosing.{OnSockets, MakesSteps, tick_steps}
 use Rattle.dropped_calls.specs.accept_counts.proofs.Beginnings.{all_begin}

@@ -18,7 +18,7 @@ use Rattle.sock_model.specs.declared.view.View.{View}
 use Rattle.sock_model.specs.ChainRows.{with_claim, entry_of, more, queued, righted, taken_right}
 use Rattle.sock_model.specs.Layout.{ref_index}
 use Rattle.sock_model.specs.Memory.{IDLE}
-use Rattle.dropped_calls.specs.sock_steps.proofs.Quiet.{either_way}
+use Rattle.dropped_calls.specs.Below.sock_steps.proofs.Quiet.{either_way}
 use Rattle.seat_programs.specs.id_rule.specs.Lawful as ids
 use Rattle.seat_programs.specs.Asides.{Step, Found, StoreAt, id_slot, id_first}
 use Rattle.seat_programs.specs.Beside.{calls_after}
@@ -27,19 +27,19 @@ use Rattle.seat_programs.specs.Heads.{Retry}
 use Rattle.seat_programs.specs.Programs.{Program, Do, TakeMessage, TakeHome, PutHome, PutBytes, AskReady, Aside}
 use Rattle.seat_programs.specs.Cores.{Core, SeatState, word_of, found_at, resolved, next_step, waiting_at, hand_after, link_place, lies_at, others_of}
 use Rattle.seat_programs.specs.Ticks.{Moment, IsAnswered, fed, onto_first, step_with, tick_with, ticked}
-use Rattle.dropped_calls.specs.programs_allowed.specs.program_steps.specs.Fits.{FitsRetry}
-use Rattle.dropped_calls.specs.programs_allowed.specs.program_steps.specs.May.{May}
-use Rattle.dropped_calls.specs.programs_allowed.specs.program_steps.specs.Rows.{row, hand_at, by_claim, exchanged, filled_claim, ready_claim, took_message, link_away, link_home_again, took_bytes}
-use Rattle.dropped_calls.specs.programs_allowed.specs.program_steps.specs.Sound.{Sound, IsFitting, first_step, views_with, views_of, views_after}
-use Rattle.dropped_calls.specs.programs_allowed.specs.program_steps.proofs.Cases.{with_rights, right_rights, put_rights}
-use Rattle.dropped_calls.specs.programs_allowed.specs.program_steps.proofs.Leaves.{claim_way}
-use Rattle.dropped_calls.specs.programs_allowed.specs.sock_runs.proofs.LinksStay.{IsGiven, run_given, finds_given}
-use Rattle.dropped_calls.specs.programs_allowed.specs.sock_runs.proofs.LinkTicks.{RetriesGo}
-use Rattle.dropped_calls.specs.outcome_stories.specs.Stories.{In}
-use Rattle.dropped_calls.specs.outcome_stories.proofs.Cases.{tick_cases}
-use Rattle.dropped_calls.specs.outcome_causes.proofs.Final.{at_within}
-use Rattle.dropped_calls.specs.outcome_causes.proofs.Plain.{in_left, in_right}
-use Rattle.dropped_calls.specs.outcome_ticks.proofs.Ticks.{elem_there}
+use Rattle.dropped_calls.specs.Below.programs_allowed.specs.program_steps.specs.Fits.{FitsRetry}
+use Rattle.dropped_calls.specs.Below.programs_allowed.specs.program_steps.specs.May.{May}
+use Rattle.dropped_calls.specs.Below.programs_allowed.specs.program_steps.specs.Rows.{row, hand_at, by_claim, exchanged, filled_claim, ready_claim, took_message, link_away, link_home_again, took_bytes}
+use Rattle.dropped_calls.specs.Below.programs_allowed.specs.program_steps.specs.Sound.{Sound, IsFitting, first_step, views_with, views_of, views_after}
+use Rattle.dropped_calls.specs.Below.programs_allowed.specs.program_steps.proofs.Cases.{with_rights, right_rights, put_rights}
+use Rattle.dropped_calls.specs.Below.programs_allowed.specs.program_steps.proofs.Leaves.{claim_way}
+use Rattle.dropped_calls.specs.Below.programs_allowed.specs.sock_runs.proofs.LinksStay.{IsGiven, run_given, finds_given}
+use Rattle.dropped_calls.specs.Below.programs_allowed.specs.sock_runs.proofs.LinkTicks.{RetriesGo}
+use Rattle.dropped_calls.specs.Below.outcome_stories.specs.Stories.{In}
+use Rattle.dropped_calls.specs.Below.outcome_stories.proofs.Cases.{tick_cases}
+use Rattle.dropped_calls.specs.Below.outcome_causes.proofs.Final.{at_within}
+use Rattle.dropped_calls.specs.Below.outcome_causes.proofs.Plain.{in_left, in_right}
+use Rattle.dropped_calls.specs.Below.outcome_ticks.proofs.Ticks.{elem_there}
 use Rattle.dropped_calls.specs.accept_counts.specs.EndedCalls.{Store, stores_by, stored_at}
 use Rattle.dropped_calls.specs.accept_counts.specs.Refused.{Deed, DidStep, DidAt}
 use Rattle.dropped_calls.specs.accept_counts.proofs.Readings.{ticks_first, views_first}

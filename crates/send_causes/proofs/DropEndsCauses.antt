@@ -7,8 +7,8 @@ use lib.ListN.{get_elem?}
 use Rattle.seat_programs.specs.brpc_model.specs.Items.{Item}
 use Rattle.seat_programs.specs.brpc_model.specs.Operations.{Turn}
 use Rattle.seat_programs.specs.brpc_model.specs.Script.{script_of}
-use Rattle.dropped_calls.specs.script_facts.proofs.Reading.{InRange}
-use Rattle.dropped_calls.specs.script_facts.proofs.Targets.{AreThere}
+use Rattle.dropped_calls.specs.Below.script_facts.proofs.Reading.{InRange}
+use Rattle.dropped_calls.specs.Below.script_facts.proofs.Targets.{AreThere}
 use Rattle.sock_words.specs.Words.{socket_id_slot, socket_id_version}
 use Rattle.sock_words.specs.declared.plain.Plan.{Plan}
 use Rattle.sock_model.specs.Layout.{open_index}
@@ -21,19 +21,19 @@ use Rattle.seat_programs.specs.Tasks.{opens, plan_of}
 use Rattle.seat_programs.specs.Ticks.{run, quiet}
 use Rattle.seat_programs.specs.Scripts.{all_tasks, opened, set_up, played, IsRunWithCalls}
 use Rattle.seat_programs.specs.ToldCalls.{Order, Fixed, IsSent, GaveFault}
-use Rattle.dropped_calls.specs.programs_allowed.specs.program_steps.specs.Sound.{views_along}
-use Rattle.dropped_calls.specs.programs_allowed.specs.sock_runs.proofs.Along.{place_inside}
-use Rattle.dropped_calls.specs.programs_allowed.specs.program_walks.proofs.LinksOpening.{OpensLink}
-use Rattle.dropped_calls.specs.programs_allowed.specs.program_walks.proofs.Whole.{closing_of, views_played, views_closed, views_ended, set_up_sound, closing_sound, closed_sound, end_answered}
-use Rattle.dropped_calls.specs.outcome_stories.specs.Causes.{WasGiven}
-use Rattle.dropped_calls.specs.outcome_stories.specs.Stories.{In}
-use Rattle.dropped_calls.specs.outcome_stories.proofs.Members.{in_contains}
-use Rattle.dropped_calls.specs.joint_runs.proofs.Runs.{AreMade, first_views}
-use Rattle.dropped_calls.specs.call_owing.specs.Lives.{ClosesInRun}
-use Rattle.dropped_calls.specs.owed_calls.proofs.Known.{opens_apart}
-use Rattle.dropped_calls.specs.owned_ids.proofs.WordsGiven.{Named, IsOfLink, run_named, named_ending, named_on}
-use Rattle.dropped_calls.specs.call_stories.specs.Lists.{given}
-use Rattle.dropped_calls.specs.call_stories.specs.Posts.{Post}
+use Rattle.dropped_calls.specs.Below.programs_allowed.specs.program_steps.specs.Sound.{views_along}
+use Rattle.dropped_calls.specs.Below.programs_allowed.specs.sock_runs.proofs.Along.{place_inside}
+use Rattle.dropped_calls.specs.Below.programs_allowed.specs.program_walks.proofs.LinksOpening.{OpensLink}
+use Rattle.dropped_calls.specs.Below.programs_allowed.specs.program_walks.proofs.Whole.{closing_of, views_played, views_closed, views_ended, set_up_sound, closing_sound, closed_sound, end_answered}
+use Rattle.dropped_calls.specs.Below.outcome_stories.specs.Causes.{WasGiven}
+use Rattle.dropped_calls.specs.Below.outcome_stories.specs.Stories.{In}
+use Rattle.dropped_calls.specs.Below.outcome_stories.proofs.Members.{in_contains}
+use Rattle.dropped_calls.specs.Below.joint_runs.proofs.Runs.{AreMade, first_views}
+use Rattle.dropped_calls.specs.Below.call_owing.specs.Lives.{ClosesInRun}
+use Rattle.dropped_calls.specs.Below.owed_calls.proofs.Known.{opens_apart}
+use Rattle.dropped_calls.specs.Below.owned_ids.proofs.WordsGiven.{Named, IsOfLink, run_named, named_ending, named_on}
+use Rattle.dropped_calls.specs.Below.call_stories.specs.Lists.{given}
+use Rattle.dropped_calls.specs.Below.call_stories.specs.Posts.{Post}
 use Rattle.dropped_calls.specs.accept_counts.specs.PostCauses.{PostCause, OfFault}
 use Rattle.dropped_calls.specs.sent_once.proofs.Beside.{orders_here}
 use Rattle.dropped_calls.proofs.DropCauses.{fail_range, may_be_on, caused_by_drop}

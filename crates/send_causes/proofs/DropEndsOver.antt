@@ -8,8 +8,8 @@ use Rattle.seat_programs.specs.brpc_model.specs.Items.{Item}
 use Rattle.seat_programs.specs.brpc_model.specs.Operations.{Turn}
 use Rattle.seat_programs.specs.brpc_model.specs.Frame.{Frame}
 use Rattle.seat_programs.specs.brpc_model.specs.Script.{script_of}
-use Rattle.dropped_calls.specs.script_facts.proofs.Reading.{InRange}
-use Rattle.dropped_calls.specs.script_facts.proofs.Targets.{AreThere}
+use Rattle.dropped_calls.specs.Below.script_facts.proofs.Reading.{InRange}
+use Rattle.dropped_calls.specs.Below.script_facts.proofs.Targets.{AreThere}
 use Rattle.sock_words.specs.Words.{socket_id, socket_id_slot, socket_id_version}
 use Rattle.sock_model.specs.declared.view.View.{View}
 use Rattle.sock_model.specs.Layout.{open_index}
@@ -24,17 +24,17 @@ use Rattle.seat_programs.specs.Readers.{reader}
 use Rattle.seat_programs.specs.Tasks.{opens, calls, plan_of}
 use Rattle.seat_programs.specs.Scripts.{IsRunWithCalls}
 use Rattle.seat_programs.specs.ToldCalls.{IsSent, Gave, IsResponse, IsPlaced, StandsOn}
-use Rattle.dropped_calls.specs.programs_allowed.specs.program_steps.specs.Sound.{first_step}
-use Rattle.dropped_calls.specs.programs_allowed.specs.sock_runs.proofs.Along.{place_inside}
-use Rattle.dropped_calls.specs.programs_allowed.specs.program_walks.proofs.Whole.{IsListed, views_closed, views_ended, closed_sound, recorded_closed}
-use Rattle.dropped_calls.specs.outcome_stories.specs.Causes.{WasGiven}
-use Rattle.dropped_calls.specs.outcome_causes.proofs.Final.{at_there}
-use Rattle.dropped_calls.specs.outcome_stories.proofs.Members.{contains_in}
-use Rattle.dropped_calls.specs.outcome_ticks.proofs.Tasks.{one_task}
-use Rattle.dropped_calls.specs.joint_runs.proofs.Runs.{AreMade, first_views}
-use Rattle.dropped_calls.specs.call_owing.specs.Lives.{ClosesInRun}
-use Rattle.dropped_calls.specs.call_stories.specs.Lists.{given, early_of_run, closed_of_run, silent_of_run}
-use Rattle.dropped_calls.specs.call_stories.specs.Posts.{Post}
+use Rattle.dropped_calls.specs.Below.programs_allowed.specs.program_steps.specs.Sound.{first_step}
+use Rattle.dropped_calls.specs.Below.programs_allowed.specs.sock_runs.proofs.Along.{place_inside}
+use Rattle.dropped_calls.specs.Below.programs_allowed.specs.program_walks.proofs.Whole.{IsListed, views_closed, views_ended, closed_sound, recorded_closed}
+use Rattle.dropped_calls.specs.Below.outcome_stories.specs.Causes.{WasGiven}
+use Rattle.dropped_calls.specs.Below.outcome_causes.proofs.Final.{at_there}
+use Rattle.dropped_calls.specs.Below.outcome_stories.proofs.Members.{contains_in}
+use Rattle.dropped_calls.specs.Below.outcome_ticks.proofs.Tasks.{one_task}
+use Rattle.dropped_calls.specs.Below.joint_runs.proofs.Runs.{AreMade, first_views}
+use Rattle.dropped_calls.specs.Below.call_owing.specs.Lives.{ClosesInRun}
+use Rattle.dropped_calls.specs.Below.call_stories.specs.Lists.{given, early_of_run, closed_of_run, silent_of_run}
+use Rattle.dropped_calls.specs.Below.call_stories.specs.Posts.{Post}
 use Rattle.dropped_calls.specs.accept_counts.specs.PostCauses.{PostCause, OfEnd}
 use Rattle.send_causes.proofs.Assembled.{last_in_run}
 use Rattle.dropped_calls.specs.accept_counts.proofs.Closers.{Calm, IsOver}

@@ -13,15 +13,15 @@ use Rattle.seat_programs.specs.Asides.{StoreCall}
 use Rattle.seat_programs.specs.Calls.{Call}
 use Rattle.seat_programs.specs.Cores.{SeatState}
 use Rattle.seat_programs.specs.Programs.{Program, Do, Aside}
-use Rattle.dropped_calls.specs.programs_allowed.specs.program_steps.specs.Sound.{first_step}
-use Rattle.dropped_calls.specs.call_stories.specs.Scenes.{Scene, In, Named, IsTaskOf, HasNoneOf, NoneFound, ToldOf, was_said, was_sent, was_begun, AreTold, Later}
-use Rattle.dropped_calls.specs.call_stories.specs.Says.{Mark, NoneOfSetup, SaysOn}
-use Rattle.dropped_calls.specs.call_stories.specs.Stories.{At, undo, CallStory}
-use Rattle.dropped_calls.specs.story_steps.proofs.Calls.{told_at, open_named, none_found}
-use Rattle.dropped_calls.specs.story_steps.proofs.End.{undo_done}
-use Rattle.dropped_calls.specs.call_stories.proofs.Lasting.{own_on}
-use Rattle.dropped_calls.specs.story_steps.proofs.Numbered.{AreNumbered, one_task, listed_or}
-use Rattle.dropped_calls.specs.story_ticks.proofs.Ticks.{IsSetUp, other_there}
+use Rattle.dropped_calls.specs.Below.programs_allowed.specs.program_steps.specs.Sound.{first_step}
+use Rattle.dropped_calls.specs.Below.call_stories.specs.Scenes.{Scene, In, Named, IsTaskOf, HasNoneOf, NoneFound, ToldOf, was_said, was_sent, was_begun, AreTold, Later}
+use Rattle.dropped_calls.specs.Below.call_stories.specs.Says.{Mark, NoneOfSetup, SaysOn}
+use Rattle.dropped_calls.specs.Below.call_stories.specs.Stories.{At, undo, CallStory}
+use Rattle.dropped_calls.specs.Below.story_steps.proofs.Calls.{told_at, open_named, none_found}
+use Rattle.dropped_calls.specs.Below.story_steps.proofs.End.{undo_done}
+use Rattle.dropped_calls.specs.Below.call_stories.proofs.Lasting.{own_on}
+use Rattle.dropped_calls.specs.Below.story_steps.proofs.Numbered.{AreNumbered, one_task, listed_or}
+use Rattle.dropped_calls.specs.Below.story_ticks.proofs.Ticks.{IsSetUp, other_there}
 use Rattle.dropped_calls.specs.attempted_calls.proofs.AttemptedFacts.{IsOwn, IsStoring}
 
 -- a place of a list of clients that has a task is one of the list
@@ -80,7 +80,7 @@ module _ (p : Plan) (q : IdPlan) (clients : List (List Task)) (gives : ℕ → L
         λ k op. by_told x.0 x.1 k op
       where
         by_told : (before : List Task) → ToldOf p q clients gives w 0 before t → HasNoneOf p q clients gives w n t
-        by_told before (was_said y s why just) k op = (y, s, (λ opened. unnamed (open_named p q clients gives w 0 before n k y (subst (λ o. Rattle.dropped_calls.specs.call_stories.specs.Scenes.WhyOwn p q clients gives w 0 before o y) op why) opened)))
+        by_told before (was_said y s why just) k op = (y, s, (λ opened. unnamed (open_named p q clients gives w 0 before n k y (subst (λ o. Rattle.dropped_calls.specs.Below.call_stories.specs.Scenes.WhyOwn p q clients gives w 0 before o y) op why) opened)))
         by_told before (was_sent a bytes sent named) k op = absurd (let z : ops.Send a bytes ≡ ops.Open n k = sym sent ∙ op in cc)
         by_told before (was_begun id asked call own born begun named) k op = absurd (let z : ops.Call asked ≡ ops.Open n k = sym call ∙ op in cc)
 

@@ -11,19 +11,19 @@ use Rattle.seat_programs.specs.declared.task.Task.{Task}
 use Rattle.seat_programs.specs.Calls.{LoadName}
 use Rattle.seat_programs.specs.Cores.{Core, SeatState}
 use Rattle.seat_programs.specs.Ticks.{Moment, AreAnswered, ticked, run}
-use Rattle.dropped_calls.specs.programs_allowed.specs.program_steps.specs.Sound.{first_step, views_after}
-use Rattle.dropped_calls.specs.outcome_ticks.proofs.Ticks.{elem_there}
-use Rattle.dropped_calls.specs.joint_runs.proofs.Both.{AreBoth}
-use Rattle.dropped_calls.specs.call_stories.specs.Lists.{advanced_at}
-use Rattle.dropped_calls.specs.call_stories.specs.Posts.{Post, posted_at}
-use Rattle.dropped_calls.specs.call_stories.specs.Scenes.{Scene, LeadsTo, Later}
-use Rattle.dropped_calls.specs.call_stories.specs.Decided.{Decision}
-use Rattle.dropped_calls.specs.call_stories.specs.Stories.{HasStory, GoesOn}
-use Rattle.dropped_calls.specs.story_ticks.proofs.Allowing.{allows}
-use Rattle.dropped_calls.specs.story_ticks.proofs.Claiming.{HaveSlots}
-use Rattle.dropped_calls.specs.call_stories.proofs.Leading.{run_leads}
-use Rattle.dropped_calls.specs.story_steps.proofs.Numbered.{AreNumbered}
-use Rattle.dropped_calls.specs.story_ticks.proofs.Ticks.{IsSetUp, other_there, story_lasts}
+use Rattle.dropped_calls.specs.Below.programs_allowed.specs.program_steps.specs.Sound.{first_step, views_after}
+use Rattle.dropped_calls.specs.Below.outcome_ticks.proofs.Ticks.{elem_there}
+use Rattle.dropped_calls.specs.Below.joint_runs.proofs.Both.{AreBoth}
+use Rattle.dropped_calls.specs.Below.call_stories.specs.Lists.{advanced_at}
+use Rattle.dropped_calls.specs.Below.call_stories.specs.Posts.{Post, posted_at}
+use Rattle.dropped_calls.specs.Below.call_stories.specs.Scenes.{Scene, LeadsTo, Later}
+use Rattle.dropped_calls.specs.Below.call_stories.specs.Decided.{Decision}
+use Rattle.dropped_calls.specs.Below.call_stories.specs.Stories.{HasStory, GoesOn}
+use Rattle.dropped_calls.specs.Below.story_ticks.proofs.Allowing.{allows}
+use Rattle.dropped_calls.specs.Below.story_ticks.proofs.Claiming.{HaveSlots}
+use Rattle.dropped_calls.specs.Below.call_stories.proofs.Leading.{run_leads}
+use Rattle.dropped_calls.specs.Below.story_steps.proofs.Numbered.{AreNumbered}
+use Rattle.dropped_calls.specs.Below.story_ticks.proofs.Ticks.{IsSetUp, other_there, story_lasts}
 use Rattle.dropped_calls.specs.accept_counts.specs.Refused.{DidMiss, WouldStore, DidAt, DidIn}
 use Rattle.dropped_calls.specs.attempted_calls.proofs.AttemptedFacts.{IsOwn, facts}
 use Rattle.dropped_calls.specs.attempted_calls.proofs.EndedNames.{follows_first}

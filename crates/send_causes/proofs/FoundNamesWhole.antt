@@ -19,26 +19,26 @@ use Rattle.seat_programs.specs.Tasks.{opens, calls, plan_of, id_plan_of}
 use Rattle.seat_programs.specs.Told.{IsTask, OpensNone}
 use Rattle.seat_programs.specs.ToldCalls.{Fixed, Order, Seeks, FoundNone, WhyLost, WasUnopened}
 use Rattle.seat_programs.specs.Scripts.{sizes_of, readers_from, all_tasks, opened, ending, set_up, played, is_ending, IsRunWithCalls}
-use Rattle.dropped_calls.specs.programs_allowed.specs.program_steps.specs.Sound.{AllRest, views_along}
-use Rattle.dropped_calls.specs.programs_allowed.specs.sock_runs.proofs.Quiets.{run_rests}
-use Rattle.dropped_calls.specs.programs_allowed.specs.program_walks.proofs.Whole.{views_played, views_closed}
-use Rattle.dropped_calls.specs.joint_runs.proofs.Both.{behind_both}
-use Rattle.dropped_calls.specs.joint_runs.proofs.Runs.{AreMade, first_views, joint_runs}
-use Rattle.dropped_calls.specs.script_facts.proofs.Reading.{InRange}
-use Rattle.dropped_calls.specs.script_facts.proofs.Targets.{AreThere}
-use Rattle.dropped_calls.specs.call_owing.specs.Lives.{ClosesInRun}
-use Rattle.dropped_calls.specs.owed_calls.proofs.Known.{run_all_ended, run_all_rest}
-use Rattle.dropped_calls.specs.call_stories.specs.Lists.{given}
-use Rattle.dropped_calls.specs.call_stories.specs.Posts.{Post}
-use Rattle.dropped_calls.specs.call_stories.specs.Scenes.{Scene, In, IsOpened, SeeksName, IsTaskOf, HasNoneOf}
-use Rattle.dropped_calls.specs.call_stories.specs.Says.{Mark}
-use Rattle.dropped_calls.specs.call_stories.specs.Stories.{HasStory}
-use Rattle.dropped_calls.specs.story_steps.proofs.End.{HasEnded, contains_in, listed_or, one_outcome, undo_done}
-use Rattle.dropped_calls.specs.story_ticks.proofs.Over.{has_ended}
-use Rattle.dropped_calls.specs.call_causes.proofs.Run.{ending_lasts, told_lasts}
-use Rattle.dropped_calls.specs.story_ticks.proofs.RunFacts.{own_leads, run_facts, leadings}
-use Rattle.dropped_calls.specs.story_ticks.proofs.Scripts.{are_ascending}
-use Rattle.dropped_calls.specs.story_steps.proofs.Whys.{AreAscending, ascending_undo}
+use Rattle.dropped_calls.specs.Below.programs_allowed.specs.program_steps.specs.Sound.{AllRest, views_along}
+use Rattle.dropped_calls.specs.Below.programs_allowed.specs.sock_runs.proofs.Quiets.{run_rests}
+use Rattle.dropped_calls.specs.Below.programs_allowed.specs.program_walks.proofs.Whole.{views_played, views_closed}
+use Rattle.dropped_calls.specs.Below.joint_runs.proofs.Both.{behind_both}
+use Rattle.dropped_calls.specs.Below.joint_runs.proofs.Runs.{AreMade, first_views, joint_runs}
+use Rattle.dropped_calls.specs.Below.script_facts.proofs.Reading.{InRange}
+use Rattle.dropped_calls.specs.Below.script_facts.proofs.Targets.{AreThere}
+use Rattle.dropped_calls.specs.Below.call_owing.specs.Lives.{ClosesInRun}
+use Rattle.dropped_calls.specs.Below.owed_calls.proofs.Known.{run_all_ended, run_all_rest}
+use Rattle.dropped_calls.specs.Below.call_stories.specs.Lists.{given}
+use Rattle.dropped_calls.specs.Below.call_stories.specs.Posts.{Post}
+use Rattle.dropped_calls.specs.Below.call_stories.specs.Scenes.{Scene, In, IsOpened, SeeksName, IsTaskOf, HasNoneOf}
+use Rattle.dropped_calls.specs.Below.call_stories.specs.Says.{Mark}
+use Rattle.dropped_calls.specs.Below.call_stories.specs.Stories.{HasStory}
+use Rattle.dropped_calls.specs.Below.story_steps.proofs.End.{HasEnded, contains_in, listed_or, one_outcome, undo_done}
+use Rattle.dropped_calls.specs.Below.story_ticks.proofs.Over.{has_ended}
+use Rattle.dropped_calls.specs.Below.call_causes.proofs.Run.{ending_lasts, told_lasts}
+use Rattle.dropped_calls.specs.Below.story_ticks.proofs.RunFacts.{own_leads, run_facts, leadings}
+use Rattle.dropped_calls.specs.Below.story_ticks.proofs.Scripts.{are_ascending}
+use Rattle.dropped_calls.specs.Below.story_steps.proofs.Whys.{AreAscending, ascending_undo}
 use Rattle.dropped_calls.specs.accept_counts.specs.Refused.{DidMiss, DidIn, FoundNothing}
 use Rattle.dropped_calls.specs.accept_counts.proofs.Runs.{IsCallOf}
 use Rattle.dropped_calls.specs.attempted_calls.proofs.AttemptedStored.{alone_set_up, rests_set_up, numbered, slots, small, Leads, setup_goes, played_both, some_seats}

@@ -8,8 +8,8 @@ use native.Mathlib.Decide.{ℕ_discrete}
 use lib.ListN.{get_elem?}
 use Rattle.seat_programs.specs.brpc_model.specs.Items.{Item}
 use Rattle.seat_programs.specs.brpc_model.specs.Operations.{Turn}
-use Rattle.dropped_calls.specs.script_facts.proofs.Reading.{InRange}
-use Rattle.dropped_calls.specs.script_facts.proofs.Targets.{AreThere}
+use Rattle.dropped_calls.specs.Below.script_facts.proofs.Reading.{InRange}
+use Rattle.dropped_calls.specs.Below.script_facts.proofs.Targets.{AreThere}
 use Rattle.sock_words.specs.Words.{socket_id, socket_id_slot, socket_id_version}
 use Rattle.sock_model.specs.declared.chain.Heading.{Heading}
 use Rattle.sock_model.specs.Layout.{open_index}
@@ -21,16 +21,16 @@ use Rattle.seat_programs.specs.Cores.{Core}
 use Rattle.seat_programs.specs.Tasks.{opens, plan_of, id_plan_of}
 use Rattle.seat_programs.specs.Scripts.{all_tasks, IsRunWithCalls}
 use Rattle.seat_programs.specs.Writings.{Holder, Puts}
-use Rattle.dropped_calls.specs.outcome_stories.specs.Causes.{WasGiven}
-use Rattle.dropped_calls.specs.outcome_stories.specs.PlainTasks.{told_tasks_of}
-use Rattle.dropped_calls.specs.outcome_stories.specs.Stories.{In}
-use Rattle.dropped_calls.specs.outcome_stories.proofs.Members.{all_in, in_contains}
-use Rattle.dropped_calls.specs.joint_runs.proofs.Runs.{AreMade}
-use Rattle.dropped_calls.specs.call_owing.specs.Lives.{ClosesInRun}
-use Rattle.dropped_calls.specs.call_stories.specs.Decided.{posted_by}
-use Rattle.dropped_calls.specs.call_stories.specs.Lists.{given, shows_in_run}
-use Rattle.dropped_calls.specs.call_stories.specs.Posts.{Post}
-use Rattle.dropped_calls.specs.call_causes.proofs.HandledWhole.{PostedLate}
+use Rattle.dropped_calls.specs.Below.outcome_stories.specs.Causes.{WasGiven}
+use Rattle.dropped_calls.specs.Below.outcome_stories.specs.PlainTasks.{told_tasks_of}
+use Rattle.dropped_calls.specs.Below.outcome_stories.specs.Stories.{In}
+use Rattle.dropped_calls.specs.Below.outcome_stories.proofs.Members.{all_in, in_contains}
+use Rattle.dropped_calls.specs.Below.joint_runs.proofs.Runs.{AreMade}
+use Rattle.dropped_calls.specs.Below.call_owing.specs.Lives.{ClosesInRun}
+use Rattle.dropped_calls.specs.Below.call_stories.specs.Decided.{posted_by}
+use Rattle.dropped_calls.specs.Below.call_stories.specs.Lists.{given, shows_in_run}
+use Rattle.dropped_calls.specs.Below.call_stories.specs.Posts.{Post}
+use Rattle.dropped_calls.specs.Below.call_causes.proofs.HandledWhole.{PostedLate}
 use Rattle.dropped_calls.specs.accept_counts.specs.Refused.{Deed, DidStep, DidRound, DidInRun, DidEarly, DidLate, RunWouldOwn}
 use Rattle.dropped_calls.specs.attempted_calls.proofs.AttemptedStored.{ids_at}
 use Rattle.dropped_calls.specs.sent_once.proofs.Beside.{fixed_of_run}

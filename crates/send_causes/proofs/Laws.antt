@@ -10,10 +10,10 @@ use Rattle.seat_programs.specs.declared.task.Task.{Task}
 use Rattle.seat_programs.specs.Tasks.{plan_of}
 use Rattle.seat_programs.specs.Scripts.{all_tasks, IsRunWithCalls}
 use Rattle.seat_programs.specs.ToldCalls.{Fixed, Order}
-use Rattle.dropped_calls.specs.joint_runs.proofs.Runs.{AreMade}
-use Rattle.dropped_calls.specs.script_facts.proofs.Reading.{InRange}
-use Rattle.dropped_calls.specs.script_facts.proofs.Targets.{AreThere}
-use Rattle.dropped_calls.specs.call_owing.specs.Lives.{ClosesInRun}
+use Rattle.dropped_calls.specs.Below.joint_runs.proofs.Runs.{AreMade}
+use Rattle.dropped_calls.specs.Below.script_facts.proofs.Reading.{InRange}
+use Rattle.dropped_calls.specs.Below.script_facts.proofs.Targets.{AreThere}
+use Rattle.dropped_calls.specs.Below.call_owing.specs.Lives.{ClosesInRun}
 use Rattle.send_causes.proofs.Assembled.{fixed_in_run, orders_in_run}
 
 pub record Laws : Type 0 where

@@ -9,14 +9,14 @@ use Rattle.seat_programs.specs.Cores.{Core}
 use Rattle.seat_programs.specs.Tasks.{plan_of}
 use Rattle.seat_programs.specs.Scripts.{all_tasks, played, IsRunWithCalls}
 use Rattle.seat_programs.specs.ToldCalls.{Order, Fixed, IsFailing}
-use Rattle.accept_counts.specs.programs_allowed.specs.program_steps.specs.Sound.{state}
-use Rattle.accept_counts.specs.programs_allowed.specs.program_walks.proofs.Whole.{views_played}
-use Rattle.accept_counts.specs.outcome_stories.specs.Facts.{last_attempt, closed_before_ending}
-use Rattle.accept_counts.specs.outcome_stories.specs.Stories.{In}
-use Rattle.accept_counts.specs.joint_runs.proofs.Runs.{AreMade, first_views}
-use Rattle.accept_counts.specs.call_owing.specs.Lives.{ClosesInRun}
-use Rattle.accept_counts.specs.run_theorems.specs.Heard.{heard_takes, given_by}
-use Rattle.accept_counts.specs.call_stories.specs.Lists.{early_of_run, closed_of_run, silent_of_run, soon_of_run}
+use Rattle.accept_counts.specs.Below.programs_allowed.specs.program_steps.specs.Sound.{state}
+use Rattle.accept_counts.specs.Below.programs_allowed.specs.program_walks.proofs.Whole.{views_played}
+use Rattle.accept_counts.specs.Below.outcome_stories.specs.Facts.{last_attempt, closed_before_ending}
+use Rattle.accept_counts.specs.Below.outcome_stories.specs.Stories.{In}
+use Rattle.accept_counts.specs.Below.joint_runs.proofs.Runs.{AreMade, first_views}
+use Rattle.accept_counts.specs.Below.call_owing.specs.Lives.{ClosesInRun}
+use Rattle.accept_counts.specs.Below.run_theorems.specs.Heard.{heard_takes, given_by}
+use Rattle.accept_counts.specs.Below.call_stories.specs.Lists.{early_of_run, closed_of_run, silent_of_run, soon_of_run}
 use Rattle.accept_counts.proofs.Early.{closed_so, closed_early}
 use Rattle.accept_counts.proofs.Lists.{early_listed}
 use Rattle.sent_once.proofs.Sends.{fixed, orders_of_run, failing_early}

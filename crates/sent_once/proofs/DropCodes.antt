@@ -4,7 +4,7 @@ use Rattle.std.proofs.lemmas.Bool.{true≢false}
 use Rattle.std.specs.List.{AllByRecursion}
 use Rattle.sock_words.specs.Words.{socket_id_version, socket_id_slot, vref_version}
 use Rattle.sock_words.specs.declared.outcome.Outcome.TheVariants.{Unopened, Gone, Failed, Already}
-use Rattle.accept_counts.specs.sock_steps.proofs.Quiet.{either_way}
+use Rattle.accept_counts.specs.Below.sock_steps.proofs.Quiet.{either_way}
 use Rattle.sock_message.specs.Asked.{Asked}
 use Rattle.seat_programs.specs.declared.task.Op.{Op}
 use Rattle.seat_programs.specs.declared.task.Op.TheVariants as ops
@@ -18,13 +18,13 @@ use Rattle.seat_programs.specs.Rounds.{round}
 use Rattle.seat_programs.specs.Readers.{reader}
 use Rattle.seat_programs.specs.Clients.{HeldLife, operation, client_from, ending_of}
 use Rattle.seat_programs.specs.Cores.{resolved, next_step}
-use Rattle.accept_counts.specs.programs_allowed.specs.program_steps.specs.AtSteps.{Asks, AtSteps, asks_words}
-use Rattle.accept_counts.specs.programs_allowed.specs.program_steps.specs.Sound.{first_step}
-use Rattle.accept_counts.specs.programs_allowed.specs.program_walks.proofs.Through.{PassesSteps, PassesPlain, PassesFails, PassesSends, PassesReads, is_plain, is_of_message, makes_life, by_errors, at_steps_plain, at_steps_sends, through_release, through_reach}
-use Rattle.accept_counts.specs.programs_allowed.specs.program_walks.proofs.ThroughLoops.{through_round}
-use Rattle.accept_counts.specs.programs_allowed.specs.program_walks.proofs.ThroughSends.{through_block, through_send, through_ending}
-use Rattle.accept_counts.specs.programs_allowed.specs.program_walks.proofs.ThroughCalls.{through_attempt, through_call, through_retry, through_join, through_reading}
-use Rattle.accept_counts.specs.programs_allowed.specs.program_walks.proofs.ThroughClients.{through_open, through_back, through_operation}
+use Rattle.accept_counts.specs.Below.programs_allowed.specs.program_steps.specs.AtSteps.{Asks, AtSteps, asks_words}
+use Rattle.accept_counts.specs.Below.programs_allowed.specs.program_steps.specs.Sound.{first_step}
+use Rattle.accept_counts.specs.Below.programs_allowed.specs.program_walks.proofs.Through.{PassesSteps, PassesPlain, PassesFails, PassesSends, PassesReads, is_plain, is_of_message, makes_life, by_errors, at_steps_plain, at_steps_sends, through_release, through_reach}
+use Rattle.accept_counts.specs.Below.programs_allowed.specs.program_walks.proofs.ThroughLoops.{through_round}
+use Rattle.accept_counts.specs.Below.programs_allowed.specs.program_walks.proofs.ThroughSends.{through_block, through_send, through_ending}
+use Rattle.accept_counts.specs.Below.programs_allowed.specs.program_walks.proofs.ThroughCalls.{through_attempt, through_call, through_retry, through_join, through_reading}
+use Rattle.accept_counts.specs.Below.programs_allowed.specs.program_walks.proofs.ThroughClients.{through_open, through_back, through_operation}
 
 -- a `fail` that is operation o failed a life of this slot, and is to store this code
 pub data Failing : Type 0 where

@@ -16,10 +16,10 @@ use Rattle.sock_model.specs.declared.view.View.{View}
 use Rattle.sock_model.specs.Deliveries.{ShownAt, no_place, one_place}
 use Rattle.sock_model.specs.Entries.{ticket, on}
 use Rattle.sock_model.specs.Layout.{tag_index, ref_index, link_index, head_index, code_index, name_index, open_index, request_index, next_index, place_index}
-use Rattle.accept_counts.specs.sock_steps.proofs.RightSteps.{right_in, right_alone}
-use Rattle.accept_counts.specs.chain_steps.proofs.Frames.{in_log}
-use Rattle.accept_counts.specs.chain_steps.proofs.Letters.{writes_room}
-use Rattle.accept_counts.specs.chain_steps.proofs.Lists.{at_some, distinct_filter}
+use Rattle.accept_counts.specs.Below.sock_steps.proofs.RightSteps.{right_in, right_alone}
+use Rattle.accept_counts.specs.Below.chain_steps.proofs.Frames.{in_log}
+use Rattle.accept_counts.specs.Below.chain_steps.proofs.Letters.{writes_room}
+use Rattle.accept_counts.specs.Below.chain_steps.proofs.Lists.{at_some, distinct_filter}
 use Rattle.corr_core.specs.declared.marks.Plan.{Plan as IdPlan}
 use Rattle.sock_message.specs.Asked.{Asked}
 use Rattle.seat_programs.specs.declared.task.Task.{Task}
@@ -27,23 +27,23 @@ use Rattle.seat_programs.specs.Calls.{Call, ClaimSlot, CreateLife, AddRef, SubRe
 use Rattle.seat_programs.specs.Cores.{Core, SeatState, word_of, word_after, found_at, words_after}
 use Rattle.seat_programs.specs.Sends.{heading_of}
 use Rattle.seat_programs.specs.Ticks.{Moment, IsAnswered, ticked}
-use Rattle.accept_counts.specs.programs_allowed.specs.program_steps.specs.May.{May}
-use Rattle.accept_counts.specs.programs_allowed.specs.program_steps.specs.Sound.{state, Sound, IsFitting}
-use Rattle.accept_counts.specs.programs_allowed.specs.program_steps.proofs.Cases.{tick_keeps_marks}
-use Rattle.accept_counts.specs.programs_allowed.specs.sock_runs.proofs.ChainTicks.{turn_inside, free_inside}
-use Rattle.accept_counts.specs.programs_allowed.specs.program_steps.proofs.Passes.{goes_round}
-use Rattle.accept_counts.specs.programs_allowed.specs.program_steps.proofs.Rounds.{begins_round}
-use Rattle.accept_counts.specs.outcome_stories.specs.Causes.{Asks}
-use Rattle.accept_counts.specs.outcome_stories.specs.Explains.{Done, swapped}
-use Rattle.accept_counts.specs.outcome_stories.specs.Kept.{is_of_send, of_sends, undo, IsOfCall as IsOfSpoken, IsOfTask, EndsIn, AreMade, AreMadeNow, IsSpoken, SeatStory, Story}
-use Rattle.accept_counts.specs.outcome_stories.specs.Stories.{Event, In, trace_of}
-use Rattle.accept_counts.specs.outcome_causes.proofs.Final.{at_there, at_within}
-use Rattle.accept_counts.specs.outcome_stories.proofs.Members.{all_in}
-use Rattle.accept_counts.specs.outcome_causes.proofs.Messages.{in_of_at, filter_has}
-use Rattle.accept_counts.specs.outcome_ticks.proofs.Seats.{undo_done, undo_in}
-use Rattle.accept_counts.specs.outcome_stories.proofs.Senders.{HasSent, sent_in, each_of, apart_by}
-use Rattle.accept_counts.specs.outcome_ticks.proofs.Ticks.{get_of}
-use Rattle.accept_counts.specs.label_runs.specs.Labels.{Trial}
+use Rattle.accept_counts.specs.Below.programs_allowed.specs.program_steps.specs.May.{May}
+use Rattle.accept_counts.specs.Below.programs_allowed.specs.program_steps.specs.Sound.{state, Sound, IsFitting}
+use Rattle.accept_counts.specs.Below.programs_allowed.specs.program_steps.proofs.Cases.{tick_keeps_marks}
+use Rattle.accept_counts.specs.Below.programs_allowed.specs.sock_runs.proofs.ChainTicks.{turn_inside, free_inside}
+use Rattle.accept_counts.specs.Below.programs_allowed.specs.program_steps.proofs.Passes.{goes_round}
+use Rattle.accept_counts.specs.Below.programs_allowed.specs.program_steps.proofs.Rounds.{begins_round}
+use Rattle.accept_counts.specs.Below.outcome_stories.specs.Causes.{Asks}
+use Rattle.accept_counts.specs.Below.outcome_stories.specs.Explains.{Done, swapped}
+use Rattle.accept_counts.specs.Below.outcome_stories.specs.Kept.{is_of_send, of_sends, undo, IsOfCall as IsOfSpoken, IsOfTask, EndsIn, AreMade, AreMadeNow, IsSpoken, SeatStory, Story}
+use Rattle.accept_counts.specs.Below.outcome_stories.specs.Stories.{Event, In, trace_of}
+use Rattle.accept_counts.specs.Below.outcome_causes.proofs.Final.{at_there, at_within}
+use Rattle.accept_counts.specs.Below.outcome_stories.proofs.Members.{all_in}
+use Rattle.accept_counts.specs.Below.outcome_causes.proofs.Messages.{in_of_at, filter_has}
+use Rattle.accept_counts.specs.Below.outcome_ticks.proofs.Seats.{undo_done, undo_in}
+use Rattle.accept_counts.specs.Below.outcome_stories.proofs.Senders.{HasSent, sent_in, each_of, apart_by}
+use Rattle.accept_counts.specs.Below.outcome_ticks.proofs.Ticks.{get_of}
+use Rattle.accept_counts.specs.Below.label_runs.specs.Labels.{Trial}
 use Rattle.accept_counts.specs.Counts.{IsOfCall, EntryFits, LabelLaw}
 use Rattle.accept_counts.proofs.Apart.{calls_apart}
 

@@ -13,8 +13,8 @@ use Rattle.sock_model.specs.Layout.{place_index}
 use Rattle.sock_model.specs.References.{slot_facts}
 use Rattle.sock_model.specs.Slots.{live}
 use Rattle.sock_model.specs.Weights.{is_met}
-use Rattle.accept_counts.specs.sock_steps.proofs.Places.{own_count}
-use Rattle.accept_counts.specs.sock_steps.proofs.RightSteps.{right_in}
+use Rattle.accept_counts.specs.Below.sock_steps.proofs.Places.{own_count}
+use Rattle.accept_counts.specs.Below.sock_steps.proofs.RightSteps.{right_in}
 use Rattle.corr_core.specs.declared.marks.Plan.{Plan as IdPlan}
 use Rattle.sock_message.specs.Asked.{Asked}
 use Rattle.seat_programs.specs.declared.task.Task.{Task}
@@ -24,25 +24,25 @@ use Rattle.seat_programs.specs.Programs.{Program, Do, Write}
 use Rattle.seat_programs.specs.Ticks.{Moment, IsAnswered, AreAnswered, quiet, step_with, tick_with, ticked, run}
 use Rattle.seat_programs.specs.Told.{AreTasks}
 use Rattle.seat_programs.specs.Writings.{Holder, Puts}
-use Rattle.accept_counts.specs.programs_allowed.specs.program_steps.specs.GoesOn.{GoesOn}
-use Rattle.accept_counts.specs.programs_allowed.specs.program_steps.specs.Sound.{state, Sound, AreFew, IsFitting, AreFitting, first_step, views_after, views_along, MOST_PLACES}
-use Rattle.accept_counts.specs.programs_allowed.specs.program_steps.proofs.Cases.{goes_first}
-use Rattle.accept_counts.specs.programs_allowed.specs.sock_runs.proofs.Few.{places_small}
-use Rattle.accept_counts.specs.programs_allowed.specs.sock_runs.proofs.LinkTicks.{RetriesGo}
-use Rattle.accept_counts.specs.programs_allowed.specs.program_steps.proofs.Passes.{goes_round}
-use Rattle.accept_counts.specs.programs_allowed.specs.program_steps.proofs.Rounds.{begins_round}
-use Rattle.accept_counts.specs.programs_allowed.specs.sock_runs.proofs.Ticks.{sound_ticks}
-use Rattle.accept_counts.specs.outcome_stories.specs.Causes.{WasGiven}
-use Rattle.accept_counts.specs.outcome_stories.specs.Kept.{IsSpoken, Story}
-use Rattle.accept_counts.specs.outcome_stories.specs.Stories.{Event, In}
-use Rattle.accept_counts.specs.outcome_causes.proofs.Final.{at_there, at_within}
-use Rattle.accept_counts.specs.outcome_ticks.proofs.Events.{event, marked_given, given_by}
-use Rattle.accept_counts.specs.outcome_ticks.proofs.Ticks.{MayMove, IsNew, tick_story}
-use Rattle.accept_counts.specs.label_runs.specs.Labels.{Trial}
+use Rattle.accept_counts.specs.Below.programs_allowed.specs.program_steps.specs.GoesOn.{GoesOn}
+use Rattle.accept_counts.specs.Below.programs_allowed.specs.program_steps.specs.Sound.{state, Sound, AreFew, IsFitting, AreFitting, first_step, views_after, views_along, MOST_PLACES}
+use Rattle.accept_counts.specs.Below.programs_allowed.specs.program_steps.proofs.Cases.{goes_first}
+use Rattle.accept_counts.specs.Below.programs_allowed.specs.sock_runs.proofs.Few.{places_small}
+use Rattle.accept_counts.specs.Below.programs_allowed.specs.sock_runs.proofs.LinkTicks.{RetriesGo}
+use Rattle.accept_counts.specs.Below.programs_allowed.specs.program_steps.proofs.Passes.{goes_round}
+use Rattle.accept_counts.specs.Below.programs_allowed.specs.program_steps.proofs.Rounds.{begins_round}
+use Rattle.accept_counts.specs.Below.programs_allowed.specs.sock_runs.proofs.Ticks.{sound_ticks}
+use Rattle.accept_counts.specs.Below.outcome_stories.specs.Causes.{WasGiven}
+use Rattle.accept_counts.specs.Below.outcome_stories.specs.Kept.{IsSpoken, Story}
+use Rattle.accept_counts.specs.Below.outcome_stories.specs.Stories.{Event, In}
+use Rattle.accept_counts.specs.Below.outcome_causes.proofs.Final.{at_there, at_within}
+use Rattle.accept_counts.specs.Below.outcome_ticks.proofs.Events.{event, marked_given, given_by}
+use Rattle.accept_counts.specs.Below.outcome_ticks.proofs.Ticks.{MayMove, IsNew, tick_story}
+use Rattle.accept_counts.specs.Below.label_runs.specs.Labels.{Trial}
 use Rattle.accept_counts.specs.Counts.{LabelLaw, StoresOwn, AreLabelled}
-use Rattle.accept_counts.specs.id_runs.specs.Goes.{SoundIds, IsFittingIds}
-use Rattle.accept_counts.specs.id_runs.specs.Held.{IdView}
-use Rattle.accept_counts.specs.joint_runs.proofs.Both.{AreBounded}
+use Rattle.accept_counts.specs.Below.id_runs.specs.Goes.{SoundIds, IsFittingIds}
+use Rattle.accept_counts.specs.Below.id_runs.specs.Held.{IdView}
+use Rattle.accept_counts.specs.Below.joint_runs.proofs.Both.{AreBounded}
 use Rattle.accept_counts.specs.Refused.{Deed, DidStep, DidRound, DidAt, DidIn}
 use Rattle.sent_once.proofs.DropPlaces.{log_calls, in_hand, place_stays}
 use Rattle.sent_once.proofs.DropTicks.{IsKnown, CodesLaw, known_later, codes_ticks}

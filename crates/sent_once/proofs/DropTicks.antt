@@ -16,8 +16,8 @@ use Rattle.sock_model.specs.declared.view.View.{View}
 use Rattle.sock_model.specs.Marks.{about, at}
 use Rattle.sock_model.specs.SlotRows.{marks_of, failed}
 use Rattle.sock_model.specs.Weights.{total, is_coding}
-use Rattle.accept_counts.specs.slot_steps.proofs.Numbers.{only-at}
-use Rattle.accept_counts.specs.slot_steps.proofs.Sums.{about-here}
+use Rattle.accept_counts.specs.Below.slot_steps.proofs.Numbers.{only-at}
+use Rattle.accept_counts.specs.Below.slot_steps.proofs.Sums.{about-here}
 use Rattle.seat_programs.specs.declared.task.Op.TheVariants as ops
 use Rattle.seat_programs.specs.declared.task.Task.{Task}
 use Rattle.seat_programs.specs.Beside.{calls_after}
@@ -27,21 +27,21 @@ use Rattle.seat_programs.specs.Drops.{call_in}
 use Rattle.seat_programs.specs.Programs.{Program, Do, Rest, TakeMessage, TakeHome, PutHome, PutBytes, AskReady, Aside}
 use Rattle.seat_programs.specs.Ticks.{Moment, IsAnswered, fed, with_places, onto_first, ticked}
 use Rattle.seat_programs.specs.Told.{AreTasks}
-use Rattle.accept_counts.specs.programs_allowed.specs.program_steps.specs.May.{May}
-use Rattle.accept_counts.specs.programs_allowed.specs.program_steps.specs.Rows.{row, hand_at, took_message, link_away, link_home_again, took_bytes}
-use Rattle.accept_counts.specs.programs_allowed.specs.program_steps.specs.Sound.{Sound, first_step, views_after}
-use Rattle.accept_counts.specs.sock_steps.proofs.Maps.{set_at}
-use Rattle.accept_counts.specs.outcome_stories.specs.Causes.{Asks}
-use Rattle.accept_counts.specs.outcome_stories.specs.Explains.{Way, Own, Beside, Closing, Done, ExplainsBy, step}
-use Rattle.accept_counts.specs.outcome_stories.specs.Kept.{IsSpoken, IsTraced, SeatStory, Story}
-use Rattle.accept_counts.specs.outcome_stories.specs.Stories.{Entry, Event, In, trace_of, trace_now}
-use Rattle.accept_counts.specs.outcome_stories.proofs.Cases.{tick_cases}
-use Rattle.accept_counts.specs.outcome_ticks.proofs.Events.{event}
-use Rattle.accept_counts.specs.outcome_causes.proofs.Final.{at_within}
-use Rattle.accept_counts.specs.outcome_stories.proofs.Members.{from_trace, to_trace}
-use Rattle.accept_counts.specs.outcome_ticks.proofs.Seats.{undo_in}
-use Rattle.accept_counts.specs.outcome_ticks.proofs.Tasks.{one_task}
-use Rattle.accept_counts.specs.outcome_ticks.proofs.Ticks.{MayMove, IsNew, get_of}
+use Rattle.accept_counts.specs.Below.programs_allowed.specs.program_steps.specs.May.{May}
+use Rattle.accept_counts.specs.Below.programs_allowed.specs.program_steps.specs.Rows.{row, hand_at, took_message, link_away, link_home_again, took_bytes}
+use Rattle.accept_counts.specs.Below.programs_allowed.specs.program_steps.specs.Sound.{Sound, first_step, views_after}
+use Rattle.accept_counts.specs.Below.sock_steps.proofs.Maps.{set_at}
+use Rattle.accept_counts.specs.Below.outcome_stories.specs.Causes.{Asks}
+use Rattle.accept_counts.specs.Below.outcome_stories.specs.Explains.{Way, Own, Beside, Closing, Done, ExplainsBy, step}
+use Rattle.accept_counts.specs.Below.outcome_stories.specs.Kept.{IsSpoken, IsTraced, SeatStory, Story}
+use Rattle.accept_counts.specs.Below.outcome_stories.specs.Stories.{Entry, Event, In, trace_of, trace_now}
+use Rattle.accept_counts.specs.Below.outcome_stories.proofs.Cases.{tick_cases}
+use Rattle.accept_counts.specs.Below.outcome_ticks.proofs.Events.{event}
+use Rattle.accept_counts.specs.Below.outcome_causes.proofs.Final.{at_within}
+use Rattle.accept_counts.specs.Below.outcome_stories.proofs.Members.{from_trace, to_trace}
+use Rattle.accept_counts.specs.Below.outcome_ticks.proofs.Seats.{undo_in}
+use Rattle.accept_counts.specs.Below.outcome_ticks.proofs.Tasks.{one_task}
+use Rattle.accept_counts.specs.Below.outcome_ticks.proofs.Ticks.{MayMove, IsNew, get_of}
 use Rattle.sent_once.proofs.DropCodes.{Failing, NoFail, Fails, IsOtherCode, SaysFailed, Stores, codes_first, codes_next}
 use Rattle.sent_once.proofs.DropSays.{IsInHand, first_numbered, says, sets_here}
 use Rattle.sent_once.proofs.DropWords.{version_in, code_in, coding_version, code_stays}

@@ -17,16 +17,16 @@ use Rattle.sock_model.specs.References.{slot_facts}
 use Rattle.sock_model.specs.SlotRows.{marks_of}
 use Rattle.sock_model.specs.Slots.{KeepsCodes, live}
 use Rattle.sock_model.specs.Weights.{is_hold, is_coding, is_any_coding}
-use Rattle.accept_counts.specs.slot_steps.proofs.Numbers.{or-odd, only_le}
-use Rattle.accept_counts.specs.slot_steps.proofs.Sums.{total_mono}
-use Rattle.accept_counts.specs.sock_steps.proofs.Places.{own_count}
+use Rattle.accept_counts.specs.Below.slot_steps.proofs.Numbers.{or-odd, only_le}
+use Rattle.accept_counts.specs.Below.slot_steps.proofs.Sums.{total_mono}
+use Rattle.accept_counts.specs.Below.sock_steps.proofs.Places.{own_count}
 use Rattle.seat_programs.specs.Calls.{Call, ClaimSlot, CreateLife, AddRef, SubRef, SetOdd, Recycle, FreeSlot, StoreLink, LoadLink, ResetHead, ClearCode, StoreCode, StoreName, LoadName, StoreOpen, LoadOpen, LookWord, FindLink, LoadCode, ClaimRequest, Unconnect, SwapHead, Connect, EmptyHead, ReadNext, ReverseNext, FreeRequest, StorePlace, DropPlace}
 use Rattle.seat_programs.specs.Cores.{Core, word_of, word_after, found_at, words_after}
-use Rattle.accept_counts.specs.programs_allowed.specs.program_steps.specs.Rows.{hand_at}
-use Rattle.accept_counts.specs.programs_allowed.specs.program_steps.specs.May.{May, Finds}
-use Rattle.accept_counts.specs.programs_allowed.specs.program_steps.specs.Sound.{state, Sound}
-use Rattle.accept_counts.specs.programs_allowed.specs.program_steps.proofs.Bounds.{law, lives_le}
-use Rattle.accept_counts.specs.programs_allowed.specs.sock_runs.proofs.Founds.{finds}
+use Rattle.accept_counts.specs.Below.programs_allowed.specs.program_steps.specs.Rows.{hand_at}
+use Rattle.accept_counts.specs.Below.programs_allowed.specs.program_steps.specs.May.{May, Finds}
+use Rattle.accept_counts.specs.Below.programs_allowed.specs.program_steps.specs.Sound.{state, Sound}
+use Rattle.accept_counts.specs.Below.programs_allowed.specs.program_steps.proofs.Bounds.{law, lives_le}
+use Rattle.accept_counts.specs.Below.programs_allowed.specs.sock_runs.proofs.Founds.{finds}
 
 abbrev pub version_in : List ℕ → ℕ → ℕ
 version_in ws j = vref_version (get_or ws (ref_index j) 0)

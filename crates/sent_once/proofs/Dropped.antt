@@ -13,13 +13,13 @@ use Rattle.sock_model.specs.Deliveries.{ShownAt, no_place, one_place, place_valu
 use Rattle.sock_model.specs.Entries.{on}
 use Rattle.sock_model.specs.Layout.{place_index}
 use Rattle.sock_model.specs.Links.{Failed}
-use Rattle.accept_counts.specs.sock_steps.proofs.Positions.{few_log, on_shorter}
-use Rattle.accept_counts.specs.sock_steps.proofs.Quiet.{either_way}
-use Rattle.accept_counts.specs.chain_steps.proofs.Lists.{at_some}
-use Rattle.accept_counts.specs.slot_steps.proofs.Sums.{total_bound}
+use Rattle.accept_counts.specs.Below.sock_steps.proofs.Positions.{few_log, on_shorter}
+use Rattle.accept_counts.specs.Below.sock_steps.proofs.Quiet.{either_way}
+use Rattle.accept_counts.specs.Below.chain_steps.proofs.Lists.{at_some}
+use Rattle.accept_counts.specs.Below.slot_steps.proofs.Sums.{total_bound}
 use Rattle.sock_model.specs.Rule.{lists_of}
 use Rattle.std.proofs.lemmas.List.{length-map}
-use Rattle.accept_counts.specs.outcome_stories.proofs.Members.{get_there}
+use Rattle.accept_counts.specs.Below.outcome_stories.proofs.Members.{get_there}
 use Rattle.seat_programs.specs.Asides.{Taking}
 use Rattle.accept_counts.proofs.Closers.{Ends as ReadingEnds}
 use Rattle.accept_counts.proofs.ReaderRuns.{Keeps, reader_rights, keeps_along}
@@ -32,20 +32,20 @@ use Rattle.seat_programs.specs.Cores.{Core, SeatState, resolved, next_step}
 use Rattle.seat_programs.specs.Runs.{IsAtRest}
 use Rattle.seat_programs.specs.Ticks.{Moment, AreAnswered, IsAnswered, quiet, ticked, run}
 use Rattle.seat_programs.specs.ToldCalls.{Accepted, label, AreOrders}
-use Rattle.accept_counts.specs.programs_allowed.specs.program_steps.specs.Sound.{state, Sound, IsAhead, IsFitting, AreFitting, AreFew, views_after, first_step}
-use Rattle.accept_counts.specs.programs_allowed.specs.program_steps.specs.GoesOn.{GoesOn, HasNothing}
-use Rattle.accept_counts.specs.programs_allowed.specs.sock_runs.proofs.Along.{seat_rests, place_inside, ticked_ahead}
-use Rattle.accept_counts.specs.programs_allowed.specs.program_steps.proofs.Cases.{ComesNext, tick_keeps_marks}
-use Rattle.accept_counts.specs.programs_allowed.specs.sock_runs.proofs.LinkTicks.{RetriesGo}
-use Rattle.accept_counts.specs.programs_allowed.specs.program_steps.proofs.Passes.{goes_round}
-use Rattle.accept_counts.specs.programs_allowed.specs.sock_runs.proofs.Quiets.{ticked_seats, ticked_rests}
-use Rattle.accept_counts.specs.programs_allowed.specs.program_walks.proofs.Recorded.{Recorded, recorded_ticks}
-use Rattle.accept_counts.specs.programs_allowed.specs.program_steps.proofs.Rounds.{begins_round}
-use Rattle.accept_counts.specs.programs_allowed.specs.sock_runs.proofs.Ticks.{sound_ticks}
-use Rattle.accept_counts.specs.outcome_stories.proofs.Delivered.{accepted_of, orders_of}
+use Rattle.accept_counts.specs.Below.programs_allowed.specs.program_steps.specs.Sound.{state, Sound, IsAhead, IsFitting, AreFitting, AreFew, views_after, first_step}
+use Rattle.accept_counts.specs.Below.programs_allowed.specs.program_steps.specs.GoesOn.{GoesOn, HasNothing}
+use Rattle.accept_counts.specs.Below.programs_allowed.specs.sock_runs.proofs.Along.{seat_rests, place_inside, ticked_ahead}
+use Rattle.accept_counts.specs.Below.programs_allowed.specs.program_steps.proofs.Cases.{ComesNext, tick_keeps_marks}
+use Rattle.accept_counts.specs.Below.programs_allowed.specs.sock_runs.proofs.LinkTicks.{RetriesGo}
+use Rattle.accept_counts.specs.Below.programs_allowed.specs.program_steps.proofs.Passes.{goes_round}
+use Rattle.accept_counts.specs.Below.programs_allowed.specs.sock_runs.proofs.Quiets.{ticked_seats, ticked_rests}
+use Rattle.accept_counts.specs.Below.programs_allowed.specs.program_walks.proofs.Recorded.{Recorded, recorded_ticks}
+use Rattle.accept_counts.specs.Below.programs_allowed.specs.program_steps.proofs.Rounds.{begins_round}
+use Rattle.accept_counts.specs.Below.programs_allowed.specs.sock_runs.proofs.Ticks.{sound_ticks}
+use Rattle.accept_counts.specs.Below.outcome_stories.proofs.Delivered.{accepted_of, orders_of}
 use Rattle.accept_counts.proofs.Places.{places_ticks}
 use Rattle.accept_counts.proofs.Readings.{rights_none}
-use Rattle.accept_counts.specs.outcome_ticks.proofs.Accepting.{IsNoSwap}
+use Rattle.accept_counts.specs.Below.outcome_ticks.proofs.Accepting.{IsNoSwap}
 
 -- ## The ending exchanges no head
 
@@ -129,7 +129,7 @@ module _ (p : Plan) (calls os : List ℕ) (in_os : (k o : ℕ) → get_elem? os 
   resting_places l low [] c vs taken sound answered fitting recorded lasting ahead rests k = refl
   resting_places l low (m ∷ ms) c vs taken sound answered fitting recorded lasting ahead rests k =
       resting_places l low ms (ticked p c m) (views_after p c vs m) _ (sound_ticks p go c vs m sound answered.0 fitting.0) answered.1 fitting.1 (recorded_ticks p Q c vs m sound answered.0 fitting.0 recorded)
-      (λ e. lasting (sym (Rattle.accept_counts.specs.call_owing.proofs.EndsStill.run_ending p c (m ∷ [])) ∙ e)) (ticked_ahead p c m ahead) (λ j less inside. ticked_rests p c m j (rests j less (let s = ticked_seats p c m in omega (arith, inside, s))))
+      (λ e. lasting (sym (Rattle.accept_counts.specs.Below.call_owing.proofs.EndsStill.run_ending p c (m ∷ [])) ∙ e)) (ticked_ahead p c m ahead) (λ j less inside. ticked_rests p c m j (rests j less (let s = ticked_seats p c m in omega (arith, inside, s))))
       (keeps_along p calls os in_os Odd Lasts ends Q go (m ∷ []) c vs taken sound (answered.0, tt) (fitting.0, tt) recorded lasting k)
       ∙ places_ticks p l low c vs m sound answered.0 fitting.0 none_
     where

@@ -33,30 +33,30 @@ use Rattle.seat_programs.specs.Tasks.{opens, calls, plan_of, id_plan_of}
 use Rattle.seat_programs.specs.Ticks.{Moment, IsAnswered, AreAnswered, fed, with_places, onto_first, quiet, ticked, run}
 use Rattle.seat_programs.specs.Told.{AreTasks, IsTask}
 use Rattle.seat_programs.specs.ToldCalls.{Accepted, Order, Fixed, InOwnOrder}
-use Rattle.accept_counts.specs.programs_allowed.specs.program_steps.specs.May.{May}
-use Rattle.accept_counts.specs.programs_allowed.specs.program_steps.specs.Rows.{row, hand_at, by_claim, exchanged, filled_claim, ready_claim, took_message, link_away, link_home_again, took_bytes}
-use Rattle.accept_counts.specs.programs_allowed.specs.program_steps.specs.Sound.{Sound, first_step, AreFitting, views_after, views_along}
-use Rattle.accept_counts.specs.programs_allowed.specs.program_steps.proofs.Cases.{with_rights, right_rights, put_rights}
-use Rattle.accept_counts.specs.programs_allowed.specs.program_steps.proofs.Leaves.{claim_way}
-use Rattle.accept_counts.specs.programs_allowed.specs.sock_runs.proofs.LinkTicks.{RetriesGo}
-use Rattle.accept_counts.specs.programs_allowed.specs.program_walks.proofs.Opening.{mapped}
-use Rattle.accept_counts.specs.programs_allowed.specs.sock_runs.proofs.Ticks.{sound_ticks}
-use Rattle.accept_counts.specs.programs_allowed.specs.program_walks.proofs.Whole.{Begins, AreFittingIn, closing_of, rested_of, views_played, views_closed, views_ended, set_up_answered, end_answered, set_up_sound, closing_sound, closed_sound, ended_sound}
-use Rattle.accept_counts.specs.outcome_stories.specs.Causes.{Asks}
-use Rattle.accept_counts.specs.outcome_stories.specs.PlainTasks.{OwnsCall}
-use Rattle.accept_counts.specs.outcome_stories.proofs.Cases.{tick_cases}
-use Rattle.accept_counts.specs.outcome_stories.proofs.Delivered.{accepted_of, orders_of}
-use Rattle.accept_counts.specs.outcome_stories.proofs.Members.{all_in, all_of, contains_in}
-use Rattle.accept_counts.specs.outcome_causes.proofs.Messages.{in_of_at}
-use Rattle.accept_counts.specs.outcome_causes.proofs.Scripts.{own_from}
-use Rattle.accept_counts.specs.outcome_stories.proofs.Senders.{HasSent, sent_in, each_before}
-use Rattle.accept_counts.specs.outcome_ticks.proofs.Tasks.{one_task, sorted_of}
-use Rattle.accept_counts.specs.outcome_stories.proofs.Tests.{split}
+use Rattle.accept_counts.specs.Below.programs_allowed.specs.program_steps.specs.May.{May}
+use Rattle.accept_counts.specs.Below.programs_allowed.specs.program_steps.specs.Rows.{row, hand_at, by_claim, exchanged, filled_claim, ready_claim, took_message, link_away, link_home_again, took_bytes}
+use Rattle.accept_counts.specs.Below.programs_allowed.specs.program_steps.specs.Sound.{Sound, first_step, AreFitting, views_after, views_along}
+use Rattle.accept_counts.specs.Below.programs_allowed.specs.program_steps.proofs.Cases.{with_rights, right_rights, put_rights}
+use Rattle.accept_counts.specs.Below.programs_allowed.specs.program_steps.proofs.Leaves.{claim_way}
+use Rattle.accept_counts.specs.Below.programs_allowed.specs.sock_runs.proofs.LinkTicks.{RetriesGo}
+use Rattle.accept_counts.specs.Below.programs_allowed.specs.program_walks.proofs.Opening.{mapped}
+use Rattle.accept_counts.specs.Below.programs_allowed.specs.sock_runs.proofs.Ticks.{sound_ticks}
+use Rattle.accept_counts.specs.Below.programs_allowed.specs.program_walks.proofs.Whole.{Begins, AreFittingIn, closing_of, rested_of, views_played, views_closed, views_ended, set_up_answered, end_answered, set_up_sound, closing_sound, closed_sound, ended_sound}
+use Rattle.accept_counts.specs.Below.outcome_stories.specs.Causes.{Asks}
+use Rattle.accept_counts.specs.Below.outcome_stories.specs.PlainTasks.{OwnsCall}
+use Rattle.accept_counts.specs.Below.outcome_stories.proofs.Cases.{tick_cases}
+use Rattle.accept_counts.specs.Below.outcome_stories.proofs.Delivered.{accepted_of, orders_of}
+use Rattle.accept_counts.specs.Below.outcome_stories.proofs.Members.{all_in, all_of, contains_in}
+use Rattle.accept_counts.specs.Below.outcome_causes.proofs.Messages.{in_of_at}
+use Rattle.accept_counts.specs.Below.outcome_causes.proofs.Scripts.{own_from}
+use Rattle.accept_counts.specs.Below.outcome_stories.proofs.Senders.{HasSent, sent_in, each_before}
+use Rattle.accept_counts.specs.Below.outcome_ticks.proofs.Tasks.{one_task, sorted_of}
+use Rattle.accept_counts.specs.Below.outcome_stories.proofs.Tests.{split}
 use Rattle.accept_counts.proofs.Beginnings.{all_begin}
 use Rattle.accept_counts.proofs.Firsts.{behind, Firsts, AreLater, client_firsts, ending_firsts, reader_firsts, firsts_first, firsts_next}
 use Rattle.accept_counts.proofs.Ticks.{calls_waiting}
 use Rattle.accept_counts.proofs.Views.{Same, row_same}
-use Rattle.accept_counts.specs.script_facts.proofs.Lists.{all_map}
+use Rattle.accept_counts.specs.Below.script_facts.proofs.Lists.{all_map}
 use Rattle.sent_once.proofs.DropWhole.{get_same}
 
 -- ## Messages of one seat

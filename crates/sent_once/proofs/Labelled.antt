@@ -3,7 +3,7 @@ use Rattle.std.proofs.Common.{Bool, ◌≡◌, ◌≢◌, ℕ, ◌+◌, ◌<◌,
 use Rattle.sock_words.specs.declared.plain.Plan.{Plan}
 use Rattle.sock_words.specs.Words.{at_word, at_word_first, at_word_slot}
 use Rattle.sock_model.specs.declared.view.View.{View}
-use Rattle.accept_counts.specs.chain_steps.proofs.Lists.{at_some}
+use Rattle.accept_counts.specs.Below.chain_steps.proofs.Lists.{at_some}
 use Rattle.corr_core.specs.declared.marks.Plan.{Plan as IdPlan}
 use Rattle.seat_programs.specs.brpc_model.specs.Items.{Item}
 use Rattle.seat_programs.specs.brpc_model.specs.Operations.{Turn}
@@ -14,19 +14,19 @@ use Rattle.seat_programs.specs.Cores.{Core}
 use Rattle.seat_programs.specs.Ticks.{Moment, quiet, ticked, run}
 use Rattle.seat_programs.specs.Tasks.{opens, calls, plan_of, id_plan_of}
 use Rattle.seat_programs.specs.Scripts.{all_tasks, opened, set_up, played, IsRunWithCalls}
-use Rattle.accept_counts.specs.programs_allowed.specs.program_steps.specs.Sound.{first_step, views_along}
-use Rattle.accept_counts.specs.programs_allowed.specs.sock_runs.proofs.Quiets.{run_seats}
-use Rattle.accept_counts.specs.programs_allowed.specs.program_walks.proofs.Whole.{closing_of, views_played, views_closed}
-use Rattle.accept_counts.specs.joint_runs.proofs.Both.{AreBoth, behind_both}
-use Rattle.accept_counts.specs.joint_runs.proofs.Runs.{AreMade, first_views, joint_runs}
-use Rattle.accept_counts.specs.call_owing.specs.Owns.{Grows, Behind, Other, IsIdOf, Owns, Owned}
-use Rattle.accept_counts.specs.owned_ids.proofs.OwnsLoops.{grows_same, owns_any, owns_round}
-use Rattle.accept_counts.specs.owned_ids.proofs.OwnsSends.{block_goes}
-use Rattle.accept_counts.specs.owned_ids.proofs.OwnsTicks.{own_at, on_sockets, owns_ticks}
-use Rattle.accept_counts.specs.owned_ids.proofs.OwnsCalls.{ending_goes}
-use Rattle.accept_counts.specs.owned_ids.proofs.OwnsRuns.{first_left, none_yet, owned_begins, owned_on}
-use Rattle.accept_counts.specs.call_owing.proofs.EndsStill.{view_of}
-use Rattle.accept_counts.specs.owed_calls.proofs.Owed.{opened_seats}
+use Rattle.accept_counts.specs.Below.programs_allowed.specs.program_steps.specs.Sound.{first_step, views_along}
+use Rattle.accept_counts.specs.Below.programs_allowed.specs.sock_runs.proofs.Quiets.{run_seats}
+use Rattle.accept_counts.specs.Below.programs_allowed.specs.program_walks.proofs.Whole.{closing_of, views_played, views_closed}
+use Rattle.accept_counts.specs.Below.joint_runs.proofs.Both.{AreBoth, behind_both}
+use Rattle.accept_counts.specs.Below.joint_runs.proofs.Runs.{AreMade, first_views, joint_runs}
+use Rattle.accept_counts.specs.Below.call_owing.specs.Owns.{Grows, Behind, Other, IsIdOf, Owns, Owned}
+use Rattle.accept_counts.specs.Below.owned_ids.proofs.OwnsLoops.{grows_same, owns_any, owns_round}
+use Rattle.accept_counts.specs.Below.owned_ids.proofs.OwnsSends.{block_goes}
+use Rattle.accept_counts.specs.Below.owned_ids.proofs.OwnsTicks.{own_at, on_sockets, owns_ticks}
+use Rattle.accept_counts.specs.Below.owned_ids.proofs.OwnsCalls.{ending_goes}
+use Rattle.accept_counts.specs.Below.owned_ids.proofs.OwnsRuns.{first_left, none_yet, owned_begins, owned_on}
+use Rattle.accept_counts.specs.Below.call_owing.proofs.EndsStill.{view_of}
+use Rattle.accept_counts.specs.Below.owed_calls.proofs.Owed.{opened_seats}
 use Rattle.accept_counts.specs.Counts.{StoresOwn, AreLabelled}
 use Rattle.accept_counts.specs.Refused.{WouldStore, WouldOwn, AllWouldOwn}
 use Rattle.accept_counts.proofs.Runs.{AreLabelledIn}

@@ -27,28 +27,28 @@ use Rattle.seat_programs.specs.Ticks.{Moment, quiet}
 use Rattle.seat_programs.specs.Scripts.{all_tasks, played, IsRunWithCalls}
 use Rattle.seat_programs.specs.Told.{AreTasks, IsTask}
 use Rattle.seat_programs.specs.ToldCalls.{Accepted, Order, Fixed, AreOrders, IsSent, InOwnOrder, IsFailing}
-use Rattle.accept_counts.specs.programs_allowed.specs.program_steps.specs.Sound.{state}
-use Rattle.accept_counts.specs.programs_allowed.specs.sock_runs.proofs.Along.{seat_rests}
-use Rattle.accept_counts.specs.programs_allowed.specs.runs_end.proofs.Bounded.{IsBounded}
-use Rattle.accept_counts.specs.programs_allowed.specs.sock_runs.proofs.Quiets.{run_seats, run_rests}
-use Rattle.accept_counts.specs.programs_allowed.specs.program_walks.proofs.Whole.{IsOwed, IsListed, closing_of, views_played, views_closed, views_ended, end_answered, played_sound, closing_sound, closed_sound, ended_sound, rested_ahead, rested_idle, closed_ahead, recorded_closed}
-use Rattle.accept_counts.specs.outcome_stories.specs.Explains.{is_plain}
-use Rattle.accept_counts.specs.outcome_stories.specs.Facts.{broken_of_run, closed_before_ending, late_of_run, CallsFoundNone, ToldPlain, ToldSends}
-use Rattle.accept_counts.specs.outcome_stories.specs.PlainTasks.{told_tasks_of}
-use Rattle.accept_counts.specs.outcome_stories.specs.Stories.{In}
-use Rattle.accept_counts.specs.outcome_stories.specs.TaskCauses as causes
-use Rattle.accept_counts.specs.outcome_stories.specs.TaskCauses.{ToldTasks}
-use Rattle.accept_counts.specs.outcome_ticks.proofs.Lifted.{task_down, why_lifted, told_lifted, are_lifted, lives_lifted}
-use Rattle.accept_counts.specs.outcome_causes.proofs.Plain as plain_run
-use Rattle.accept_counts.specs.outcome_causes.proofs.Plain.{fixed_with}
-pub use Rattle.accept_counts.specs.outcome_causes.proofs.Plain.{lost_so}
-use Rattle.accept_counts.specs.outcome_causes.proofs.Scripts.{lost_of_run, lost_before, late, orders, run_tells, failed_early}
-use Rattle.accept_counts.specs.programs_allowed.proofs.Fresh.{opening_claims}
-use Rattle.accept_counts.specs.programs_allowed.specs.Openings.{all_seats}
-use Rattle.accept_counts.specs.joint_runs.proofs.Both.{AreBounded}
-use Rattle.accept_counts.specs.joint_runs.proofs.Runs.{AreMade, first_views, joint_runs, joint_bounded}
-use Rattle.accept_counts.specs.call_owing.specs.Lives.{ClosesInRun}
-use Rattle.accept_counts.specs.owed_calls.proofs.Known.{run_owed_of}
+use Rattle.accept_counts.specs.Below.programs_allowed.specs.program_steps.specs.Sound.{state}
+use Rattle.accept_counts.specs.Below.programs_allowed.specs.sock_runs.proofs.Along.{seat_rests}
+use Rattle.accept_counts.specs.Below.programs_allowed.specs.runs_end.proofs.Bounded.{IsBounded}
+use Rattle.accept_counts.specs.Below.programs_allowed.specs.sock_runs.proofs.Quiets.{run_seats, run_rests}
+use Rattle.accept_counts.specs.Below.programs_allowed.specs.program_walks.proofs.Whole.{IsOwed, IsListed, closing_of, views_played, views_closed, views_ended, end_answered, played_sound, closing_sound, closed_sound, ended_sound, rested_ahead, rested_idle, closed_ahead, recorded_closed}
+use Rattle.accept_counts.specs.Below.outcome_stories.specs.Explains.{is_plain}
+use Rattle.accept_counts.specs.Below.outcome_stories.specs.Facts.{broken_of_run, closed_before_ending, late_of_run, CallsFoundNone, ToldPlain, ToldSends}
+use Rattle.accept_counts.specs.Below.outcome_stories.specs.PlainTasks.{told_tasks_of}
+use Rattle.accept_counts.specs.Below.outcome_stories.specs.Stories.{In}
+use Rattle.accept_counts.specs.Below.outcome_stories.specs.TaskCauses as causes
+use Rattle.accept_counts.specs.Below.outcome_stories.specs.TaskCauses.{ToldTasks}
+use Rattle.accept_counts.specs.Below.outcome_ticks.proofs.Lifted.{task_down, why_lifted, told_lifted, are_lifted, lives_lifted}
+use Rattle.accept_counts.specs.Below.outcome_causes.proofs.Plain as plain_run
+use Rattle.accept_counts.specs.Below.outcome_causes.proofs.Plain.{fixed_with}
+pub use Rattle.accept_counts.specs.Below.outcome_causes.proofs.Plain.{lost_so}
+use Rattle.accept_counts.specs.Below.outcome_causes.proofs.Scripts.{lost_of_run, lost_before, late, orders, run_tells, failed_early}
+use Rattle.accept_counts.specs.Below.programs_allowed.proofs.Fresh.{opening_claims}
+use Rattle.accept_counts.specs.Below.programs_allowed.specs.Openings.{all_seats}
+use Rattle.accept_counts.specs.Below.joint_runs.proofs.Both.{AreBounded}
+use Rattle.accept_counts.specs.Below.joint_runs.proofs.Runs.{AreMade, first_views, joint_runs, joint_bounded}
+use Rattle.accept_counts.specs.Below.call_owing.specs.Lives.{ClosesInRun}
+use Rattle.accept_counts.specs.Below.owed_calls.proofs.Known.{run_owed_of}
 use Rattle.accept_counts.specs.Sent.{IsAttempt}
 use Rattle.sent_once.proofs.Dropped.{ending_begins, ending_places, resting_places, failed_before}
 use Rattle.accept_counts.proofs.Early.{known, Any, ends_anyhow, closed_keeps, first_fresh}
@@ -57,7 +57,7 @@ use Rattle.accept_counts.proofs.Rests.{clients_rest}
 use Rattle.accept_counts.proofs.Runs.{AreLabelledIn}
 use Rattle.sent_once.proofs.Whole.{run_orders, run_sent}
 use Rattle.accept_counts.proofs.Grounds.{setting, grounds}
-use Rattle.accept_counts.specs.script_facts.proofs.Lists.{all_map}
+use Rattle.accept_counts.specs.Below.script_facts.proofs.Lists.{all_map}
 
 before_map : {A : Type 0} (P Q : A → A → Type 0) → ((x y : A) → P x y → Q x y) → (xs : List A) → EachBefore P xs → EachBefore Q xs
 before_map P Q f [] a = tt

@@ -6,14 +6,14 @@ use Rattle.seat_programs.specs.Cores.{Core}
 use Rattle.seat_programs.specs.Tasks.{plan_of}
 use Rattle.seat_programs.specs.Scripts.{IsRunWithCalls}
 use Rattle.seat_programs.specs.Told.{AreTasks}
-use Rattle.accept_counts.specs.programs_allowed.specs.program_steps.specs.Sound.{Sound, AllRest}
-use Rattle.accept_counts.specs.programs_allowed.specs.program_walks.proofs.Whole.{views_closed, views_ended, ended_sound, end_rests}
-use Rattle.accept_counts.specs.outcome_stories.specs.Kept.{Story}
-use Rattle.accept_counts.specs.outcome_stories.specs.PlainTasks.{told_tasks_of}
-use Rattle.accept_counts.specs.outcome_causes.proofs.Runs.{Goes}
-use Rattle.accept_counts.specs.outcome_causes.proofs.Scripts.{seats, ended_told, final_told, story_end}
-use Rattle.accept_counts.specs.joint_runs.proofs.Runs.{AreMade, first_views}
-use Rattle.accept_counts.specs.call_owing.specs.Lives.{ClosesInRun}
+use Rattle.accept_counts.specs.Below.programs_allowed.specs.program_steps.specs.Sound.{Sound, AllRest}
+use Rattle.accept_counts.specs.Below.programs_allowed.specs.program_walks.proofs.Whole.{views_closed, views_ended, ended_sound, end_rests}
+use Rattle.accept_counts.specs.Below.outcome_stories.specs.Kept.{Story}
+use Rattle.accept_counts.specs.Below.outcome_stories.specs.PlainTasks.{told_tasks_of}
+use Rattle.accept_counts.specs.Below.outcome_causes.proofs.Runs.{Goes}
+use Rattle.accept_counts.specs.Below.outcome_causes.proofs.Scripts.{seats, ended_told, final_told, story_end}
+use Rattle.accept_counts.specs.Below.joint_runs.proofs.Runs.{AreMade, first_views}
+use Rattle.accept_counts.specs.Below.call_owing.specs.Lives.{ClosesInRun}
 use Rattle.accept_counts.proofs.Early.{start, go, fitting, first_fresh}
 use Rattle.sent_once.proofs.Sends.{owed}
 

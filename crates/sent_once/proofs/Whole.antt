@@ -12,19 +12,19 @@ use Rattle.seat_programs.specs.Tasks.{opens, plan_of, id_plan_of}
 use Rattle.seat_programs.specs.Scripts.{all_tasks, IsRunWithCalls}
 use Rattle.seat_programs.specs.Told.{AreTasks}
 use Rattle.seat_programs.specs.ToldCalls.{Accepted, Fixed, AreOrders, IsSent, OfSend}
-use Rattle.accept_counts.specs.programs_allowed.specs.program_steps.specs.GoesOn.{GoesOn, HasNothing}
-use Rattle.accept_counts.specs.programs_allowed.specs.program_steps.specs.Sound.{Sound, AllRest}
-use Rattle.accept_counts.specs.programs_allowed.specs.sock_runs.proofs.LinkTicks.{RetriesGo}
-use Rattle.accept_counts.specs.programs_allowed.specs.program_walks.proofs.Whole.{Begins, AreFittingIn, IsOwed, views_ended, ended_sound, end_rests, all_homes}
-use Rattle.accept_counts.specs.outcome_stories.specs.PlainTasks.{told_tasks_of}
-use Rattle.accept_counts.specs.outcome_stories.proofs.Delivered.{AreQuiet}
-use Rattle.accept_counts.specs.outcome_causes.proofs.Final.{at_there, at_within}
-use Rattle.accept_counts.specs.outcome_causes.proofs.Scripts.{seats, final_told, story_end, orders, run_told}
-use Rattle.accept_counts.specs.outcome_stories.specs.Causes.{Asks}
-use Rattle.accept_counts.specs.outcome_stories.specs.Kept.{IsSpoken}
-use Rattle.accept_counts.specs.outcome_stories.specs.TaskCauses as causes
-use Rattle.accept_counts.specs.outcome_ticks.proofs.Lifted.{task_up, made_up}
-use Rattle.accept_counts.specs.outcome_stories.proofs.Members.{in_contains}
+use Rattle.accept_counts.specs.Below.programs_allowed.specs.program_steps.specs.GoesOn.{GoesOn, HasNothing}
+use Rattle.accept_counts.specs.Below.programs_allowed.specs.program_steps.specs.Sound.{Sound, AllRest}
+use Rattle.accept_counts.specs.Below.programs_allowed.specs.sock_runs.proofs.LinkTicks.{RetriesGo}
+use Rattle.accept_counts.specs.Below.programs_allowed.specs.program_walks.proofs.Whole.{Begins, AreFittingIn, IsOwed, views_ended, ended_sound, end_rests, all_homes}
+use Rattle.accept_counts.specs.Below.outcome_stories.specs.PlainTasks.{told_tasks_of}
+use Rattle.accept_counts.specs.Below.outcome_stories.proofs.Delivered.{AreQuiet}
+use Rattle.accept_counts.specs.Below.outcome_causes.proofs.Final.{at_there, at_within}
+use Rattle.accept_counts.specs.Below.outcome_causes.proofs.Scripts.{seats, final_told, story_end, orders, run_told}
+use Rattle.accept_counts.specs.Below.outcome_stories.specs.Causes.{Asks}
+use Rattle.accept_counts.specs.Below.outcome_stories.specs.Kept.{IsSpoken}
+use Rattle.accept_counts.specs.Below.outcome_stories.specs.TaskCauses as causes
+use Rattle.accept_counts.specs.Below.outcome_ticks.proofs.Lifted.{task_up, made_up}
+use Rattle.accept_counts.specs.Below.outcome_stories.proofs.Members.{in_contains}
 use Rattle.sock_message.specs.Asked.{Asked, frame_of}
 use Rattle.seat_programs.specs.declared.task.Task.{Task}
 use Rattle.accept_counts.specs.Sent.{IsAttempt}

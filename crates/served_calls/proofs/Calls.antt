@@ -14,7 +14,7 @@ use Rattle.brpc_model.specs.Messages.{shown_id}
 use Rattle.brpc_model.specs.Operations.{Turn, link_shapes}
 use Rattle.brpc_model.specs.Reply.{reply}
 use Rattle.brpc_model.specs.Stream.{stream}
-use Rattle.served_runs.specs.script_facts.proofs.Lists.{Has, all_at, has_from, within}
+use Rattle.served_runs.specs.Below.script_facts.proofs.Lists.{Has, all_at, has_from, within}
 use Rattle.sock_message.specs.Asked.{Asked, name_of, request_of, frame_of}
 use Rattle.seat_programs.specs.declared.task.Op.TheVariants as ops
 use Rattle.seat_programs.specs.declared.task.Task.{Task}
@@ -26,9 +26,9 @@ use Rattle.seat_programs.specs.Told.{IsTask, Became, Made, IsFail}
 use Rattle.seat_programs.specs.ToldCalls as told
 use Rattle.seat_programs.specs.ToldCalls.{Accepted, Order, Fixed, ToldCalls, OfSend, OfCall}
 use Rattle.seat_programs.specs.Scripts.{all_tasks, IsRunWithCalls}
-use Rattle.served_runs.specs.joint_runs.proofs.Runs.{AreMade}
-use Rattle.served_runs.specs.run_theorems.specs.Heard.{heard_takes}
-use Rattle.served_runs.specs.call_stories.specs.Lists.{given, attempts_of_run}
+use Rattle.served_runs.specs.Below.joint_runs.proofs.Runs.{AreMade}
+use Rattle.served_runs.specs.Below.run_theorems.specs.Heard.{heard_takes}
+use Rattle.served_runs.specs.Below.call_stories.specs.Lists.{given, attempts_of_run}
 use Rattle.served_runs.proofs.Served.{shapes_many}
 use Rattle.served_runs.specs.Served.{request_with, IsServed, IsForCalls, IsReplyToCall, GivesReplies, GivesLast, GivesNoFault, GivesCallReplies}
 use Rattle.served_runs.proofs.Frames.{request_is}

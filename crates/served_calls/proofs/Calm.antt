@@ -14,18 +14,18 @@ use Rattle.brpc_model.specs.Operations.{Operation, Turn, operations, link_names,
 use Rattle.brpc_model.specs.Places.{names}
 use Rattle.brpc_model.specs.Report.{Report, report_text}
 use Rattle.brpc_model.specs.Script.{script_of}
-use Rattle.served_runs.specs.report_fits.specs.Calm.{IsCalm}
-use Rattle.served_runs.specs.report_fits.specs.Calm as calls
+use Rattle.served_runs.specs.Below.report_fits.specs.Calm.{IsCalm}
+use Rattle.served_runs.specs.Below.report_fits.specs.Calm as calls
 use Rattle.brpc_model.specs.PlaceWords.{AreTold}
-use Rattle.served_runs.specs.report_fits.specs.Ends.{AreEndsOf, EndsEarly}
-use Rattle.served_runs.specs.report_fits.proofs.Fitting.{fits_run, complete}
-use Rattle.served_runs.specs.script_facts.proofs.Known as known
-use Rattle.served_runs.specs.report_fits.proofs.Lines.{Given}
-use Rattle.served_runs.specs.script_facts.proofs.Lists.{Has, all_at, has_from, has_later, contains_from, some_is, within}
-use Rattle.served_runs.specs.report_fits.proofs.Lives as lives
-use Rattle.served_runs.specs.report_fits.proofs.Places.{lateness, known_of}
-use Rattle.served_runs.specs.script_facts.proofs.Targets as targets
-use Rattle.served_runs.specs.script_facts.proofs.TaskLemmas.{numbers_at, task_is, send_asks, call_asks, fail_asks, expire_asks, mentions_send}
+use Rattle.served_runs.specs.Below.report_fits.specs.Ends.{AreEndsOf, EndsEarly}
+use Rattle.served_runs.specs.Below.report_fits.proofs.Fitting.{fits_run, complete}
+use Rattle.served_runs.specs.Below.script_facts.proofs.Known as known
+use Rattle.served_runs.specs.Below.report_fits.proofs.Lines.{Given}
+use Rattle.served_runs.specs.Below.script_facts.proofs.Lists.{Has, all_at, has_from, has_later, contains_from, some_is, within}
+use Rattle.served_runs.specs.Below.report_fits.proofs.Lives as lives
+use Rattle.served_runs.specs.Below.report_fits.proofs.Places.{lateness, known_of}
+use Rattle.served_runs.specs.Below.script_facts.proofs.Targets as targets
+use Rattle.served_runs.specs.Below.script_facts.proofs.TaskLemmas.{numbers_at, task_is, send_asks, call_asks, fail_asks, expire_asks, mentions_send}
 use Rattle.sock_message.specs.Asked.{Asked, name_of}
 use Rattle.seat_programs.specs.declared.task.Op.TheVariants as ops
 use Rattle.seat_programs.specs.declared.task.Task.{Task}
@@ -36,10 +36,10 @@ use Rattle.seat_programs.specs.Tasks.{numbered, asked_of, plan_of}
 use Rattle.seat_programs.specs.Told.{IsTask, Made}
 use Rattle.seat_programs.specs.ToldCalls.{Order, Fixed, ToldCalls, IsUnordered, WasFull}
 use Rattle.seat_programs.specs.Scripts.{Reports, all_tasks, IsRunWithCalls}
-use Rattle.served_runs.specs.run_theorems.specs.Heard.{heard_takes, given_by}
-use Rattle.served_runs.specs.run_theorems.proofs.Gave.{gave_heard}
-use Rattle.served_runs.specs.run_theorems.proofs.Starts.{made}
-use Rattle.served_runs.specs.call_stories.specs.Lists.{given, attempts_of_run}
+use Rattle.served_runs.specs.Below.run_theorems.specs.Heard.{heard_takes, given_by}
+use Rattle.served_runs.specs.Below.run_theorems.proofs.Gave.{gave_heard}
+use Rattle.served_runs.specs.Below.run_theorems.proofs.Starts.{made}
+use Rattle.served_runs.specs.Below.call_stories.specs.Lists.{given, attempts_of_run}
 use Rattle.served_runs.specs.Served.{GivesReplies, GivesLast, GivesNoFault, GivesCallReplies}
 use Rattle.served_calls.specs.Quiet.{AreShown, GivesFew, HasServer, AreEarly, IsQuiet, IsTimely, IsForServers, IsUnexpired, CallIsDone}
 use Rattle.served_runs.proofs.Served.{shapes_many}

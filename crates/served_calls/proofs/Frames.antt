@@ -9,10 +9,10 @@ use Rattle.brpc_model.specs.Reply.{Answer, Gives, Refuses, served, answered_by, 
 use Rattle.brpc_model.specs.Stream.{Stream, Rest, stream, stream_from, goes_on}
 use Rattle.brpc_model.proofs.Streams.{stream_goes_on}
 use Rattle.prpc_frame.proofs.Encoded.{frame_judged}
-use Rattle.served_runs.specs.script_facts.proofs.Lists.{Has, some_is, has_later, has_filter_map}
+use Rattle.served_runs.specs.Below.script_facts.proofs.Lists.{Has, some_is, has_later, has_filter_map}
 use Rattle.sock_message.specs.Asked.{Asked}
 use Rattle.seat_programs.specs.Readers.{last_of}
-use Rattle.served_runs.specs.call_stories.proofs.Streams.{frames_behind_rest}
+use Rattle.served_runs.specs.Below.call_stories.proofs.Streams.{frames_behind_rest}
 use Rattle.served_runs.specs.Served.{request_with}
 use Rattle.served_runs.proofs.Frames.{IsPiece, pieces_end}
 

@@ -11,7 +11,7 @@ use Rattle.brpc_model.specs.Operations.{Turn}
 use Rattle.brpc_model.specs.Reply.{reply, reply_frames}
 use Rattle.brpc_model.specs.Served.{first_of, given_for}
 use Rattle.brpc_model.specs.Stream.{stream, stream_from}
-use Rattle.served_runs.specs.script_facts.proofs.Lists.{Has, all_at, all_from, has_from, has_filter_map, filter_map_has}
+use Rattle.served_runs.specs.Below.script_facts.proofs.Lists.{Has, all_at, all_from, has_from, has_filter_map, filter_map_has}
 use Rattle.sock_message.specs.Asked.{Asked, request_of, frame_of}
 use Rattle.seat_programs.specs.declared.task.Op.TheVariants as ops
 use Rattle.seat_programs.specs.declared.task.Task.{Task}
@@ -20,11 +20,11 @@ use Rattle.seat_programs.specs.Tasks.{plan_of}
 use Rattle.seat_programs.specs.Told.{AskedFits, OpFits, TaskFits, IsTask, Became, Made}
 use Rattle.seat_programs.specs.ToldCalls.{Accepted, Order, Fixed, ToldCalls, IsTaken, IsSent, OfSend, OfCall, StandsAt, bytes_of}
 use Rattle.seat_programs.specs.Scripts.{all_tasks, IsRunWithCalls}
-use Rattle.served_runs.specs.outcome_stories.proofs.Members.{contains_in}
-use Rattle.served_runs.specs.outcome_ticks.proofs.Tasks.{one_task}
-use Rattle.served_runs.specs.joint_runs.proofs.Runs.{AreMade}
-use Rattle.served_runs.specs.call_stories.specs.Lists.{given}
-use Rattle.served_runs.specs.call_stories.proofs.Streams.{frames_stay}
+use Rattle.served_runs.specs.Below.outcome_stories.proofs.Members.{contains_in}
+use Rattle.served_runs.specs.Below.outcome_ticks.proofs.Tasks.{one_task}
+use Rattle.served_runs.specs.Below.joint_runs.proofs.Runs.{AreMade}
+use Rattle.served_runs.specs.Below.call_stories.specs.Lists.{given}
+use Rattle.served_runs.specs.Below.call_stories.proofs.Streams.{frames_stay}
 use Rattle.served_runs.specs.Served.{took_in_all}
 use Rattle.served_runs.proofs.Frames.{IsPiece, piece_frames, pieces_end, IsSmall, request_is, reply_is}
 use Rattle.served_runs.proofs.Own.{cut_more}

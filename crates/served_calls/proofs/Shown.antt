@@ -4,7 +4,7 @@ use Rattle.std.specs.Prelude.{IsSome}
 use Rattle.sock_words.specs.declared.outcome.Outcome.{Outcome}
 use Rattle.sock_words.specs.declared.outcome.Outcome.TheVariants.{Answered, Peer, CallFailed}
 use Rattle.brpc_model.specs.Messages.{id_at, shown_id}
-use Rattle.served_runs.specs.report_fits.proofs.Reported.{is_said}
+use Rattle.served_runs.specs.Below.report_fits.proofs.Reported.{is_said}
 
 -- the outcome that shows an id was said of its operation
 pub shown_said : (x : Outcome) (id : ℕ) → shown_id x ≡ Some id → is_said x ≡ true

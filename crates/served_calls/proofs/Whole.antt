@@ -9,12 +9,12 @@ use Rattle.brpc_model.specs.Operations.{Turn, operations}
 use Rattle.brpc_model.specs.Report.{Report, report_text}
 use Rattle.brpc_model.specs.Script.{script_of}
 use Rattle.brpc_model.specs.PlaceWords.{AreTold}
-use Rattle.served_runs.specs.report_fits.specs.Ends.{AreEndsOf}
-use Rattle.served_runs.specs.report_fits.proofs.Lives.{run_of, story_of}
-use Rattle.served_runs.specs.report_fits.proofs.Places.{lateness}
-use Rattle.served_runs.specs.script_facts.proofs.Reading.{InRange}
-use Rattle.served_runs.specs.script_facts.proofs.Sizes.{is_counted}
-use Rattle.served_runs.specs.script_facts.proofs.Targets.{AreThere, are_there}
+use Rattle.served_runs.specs.Below.report_fits.specs.Ends.{AreEndsOf}
+use Rattle.served_runs.specs.Below.report_fits.proofs.Lives.{run_of, story_of}
+use Rattle.served_runs.specs.Below.report_fits.proofs.Places.{lateness}
+use Rattle.served_runs.specs.Below.script_facts.proofs.Reading.{InRange}
+use Rattle.served_runs.specs.Below.script_facts.proofs.Sizes.{is_counted}
+use Rattle.served_runs.specs.Below.script_facts.proofs.Targets.{AreThere, are_there}
 use Rattle.sock_message.specs.Asked.{Asked}
 use Rattle.seat_programs.specs.declared.task.Op.TheVariants as ops
 use Rattle.seat_programs.specs.declared.task.Task.{Task}
@@ -23,9 +23,9 @@ use Rattle.seat_programs.specs.Tasks.{plan_of}
 use Rattle.seat_programs.specs.Told.{IsTask}
 use Rattle.seat_programs.specs.ToldCalls.{Order, Fixed, ToldCalls}
 use Rattle.seat_programs.specs.Scripts.{Reports, all_tasks, IsRunWithCalls}
-use Rattle.served_runs.specs.call_owing.specs.Lives.{ClosesInRun}
-use Rattle.served_runs.specs.run_theorems.proofs.Starts.{made}
-use Rattle.served_runs.specs.call_stories.specs.Lists.{given, attempts_of_run}
+use Rattle.served_runs.specs.Below.call_owing.specs.Lives.{ClosesInRun}
+use Rattle.served_runs.specs.Below.run_theorems.proofs.Starts.{made}
+use Rattle.served_runs.specs.Below.call_stories.specs.Lists.{given, attempts_of_run}
 use Rattle.served_runs.specs.Offered.{OffersInRun}
 use Rattle.served_runs.proofs.Own.{id_small}
 use Rattle.served_runs.proofs.Served.{gives_replies, gives_last, gives_no_fault, gives_call_replies}

@@ -20,9 +20,9 @@ use Rattle.seat_programs.specs.Tasks.{plan_of}
 use Rattle.seat_programs.specs.Told.{IsTask, Made}
 use Rattle.seat_programs.specs.ToldCalls.{Fixed, Order, FoundNone, IsUnordered, WasFull}
 use Rattle.seat_programs.specs.Scripts.{all_tasks, IsRunWithCalls}
-use Rattle.served_runs.specs.outcome_stories.specs.Facts.{late_links_of_run}
-use Rattle.served_runs.specs.run_theorems.specs.Heard.{heard_takes, given_by}
-use Rattle.served_runs.specs.call_stories.specs.Lists.{given}
+use Rattle.served_runs.specs.Below.outcome_stories.specs.Facts.{late_links_of_run}
+use Rattle.served_runs.specs.Below.run_theorems.specs.Heard.{heard_takes, given_by}
+use Rattle.served_runs.specs.Below.call_stories.specs.Lists.{given}
 use Rattle.served_runs.specs.Served.{request_with}
 
 -- the call with this outcome has what the reply to the request of its first attempt gives

@@ -12,26 +12,26 @@ use Rattle.brpc_model.specs.Report.{LinkLine, Report}
 use Rattle.brpc_model.specs.Run.{Run}
 use Rattle.brpc_model.specs.Script.{script_of}
 use Rattle.brpc_model.specs.Served as model
-use Rattle.served_calls.specs.report_fits.specs.Ends.{AreEndsOf}
-use Rattle.served_calls.specs.report_fits.proofs.Lines.{Given}
-use Rattle.served_calls.specs.report_fits.proofs.Lines as lines
-use Rattle.served_calls.specs.script_facts.proofs.Lists.{within, has_from}
-use Rattle.served_calls.specs.report_fits.proofs.Lives as lives
-use Rattle.served_calls.specs.report_fits.proofs.Places.{known_of}
-use Rattle.served_calls.specs.script_facts.proofs.Reading.{InRange}
-use Rattle.served_calls.specs.script_facts.proofs.Sizes.{is_counted}
-use Rattle.served_calls.specs.script_facts.proofs.Targets.{AreThere, are_there}
+use Rattle.served_calls.specs.Below.report_fits.specs.Ends.{AreEndsOf}
+use Rattle.served_calls.specs.Below.report_fits.proofs.Lines.{Given}
+use Rattle.served_calls.specs.Below.report_fits.proofs.Lines as lines
+use Rattle.served_calls.specs.Below.script_facts.proofs.Lists.{within, has_from}
+use Rattle.served_calls.specs.Below.report_fits.proofs.Lives as lives
+use Rattle.served_calls.specs.Below.report_fits.proofs.Places.{known_of}
+use Rattle.served_calls.specs.Below.script_facts.proofs.Reading.{InRange}
+use Rattle.served_calls.specs.Below.script_facts.proofs.Sizes.{is_counted}
+use Rattle.served_calls.specs.Below.script_facts.proofs.Targets.{AreThere, are_there}
 use Rattle.seat_programs.specs.declared.task.Op.TheVariants as ops
 use Rattle.seat_programs.specs.Cores.{Core}
 use Rattle.seat_programs.specs.Tasks.{name_number, plan_of}
 use Rattle.seat_programs.specs.Told.{Made}
 use Rattle.seat_programs.specs.ToldCalls.{Order, Fixed, ToldCalls}
 use Rattle.seat_programs.specs.Scripts.{Reports, all_tasks, IsRunWithCalls}
-use Rattle.served_calls.specs.outcome_stories.specs.Facts.{late_links_of_run}
-use Rattle.served_calls.specs.call_owing.specs.Lives.{ClosesInRun}
-use Rattle.served_calls.specs.run_theorems.proofs.Lengths.{ended_length}
-use Rattle.served_calls.specs.run_theorems.proofs.Starts.{made}
-use Rattle.served_calls.specs.call_stories.specs.Lists.{given}
+use Rattle.served_calls.specs.Below.outcome_stories.specs.Facts.{late_links_of_run}
+use Rattle.served_calls.specs.Below.call_owing.specs.Lives.{ClosesInRun}
+use Rattle.served_calls.specs.Below.run_theorems.proofs.Lengths.{ended_length}
+use Rattle.served_calls.specs.Below.run_theorems.proofs.Starts.{made}
+use Rattle.served_calls.specs.Below.call_stories.specs.Lists.{given}
 use Rattle.served_calls.specs.served_runs.specs.Offered.{OffersInRun}
 use Rattle.served_calls.specs.served_runs.specs.Served.{IsServed, took_in_all}
 use Rattle.served_calls.specs.served_runs.proofs.Model.{link_own_replies}

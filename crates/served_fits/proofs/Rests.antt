@@ -4,10 +4,10 @@ use Rattle.brpc_model.specs.Items.{Item}
 use Rattle.brpc_model.specs.Operations.{Turn}
 use Rattle.seat_programs.specs.Cores.{Core}
 use Rattle.seat_programs.specs.Scripts.{played, IsRunWithCalls}
-use Rattle.served_calls.specs.joint_runs.proofs.Runs.{AreMade}
-use Rattle.served_calls.specs.call_owing.specs.Settled as settled
-use Rattle.calm_runs.specs.accept_counts.proofs.Early.{clients_take_none}
-use Rattle.calm_runs.specs.accept_counts.proofs.Standing.{takeless_rests}
+use Rattle.served_calls.specs.Below.joint_runs.proofs.Runs.{AreMade}
+use Rattle.served_calls.specs.Below.call_owing.specs.Settled as settled
+use Rattle.served_calls.specs.Below.accept_counts.proofs.Early.{clients_take_none}
+use Rattle.served_calls.specs.Below.accept_counts.proofs.Standing.{takeless_rests}
 use Rattle.served_fits.specs.Shown.{NoneOpen}
 
 module _ (script : List Item) (made : AreMade script) (turns : List Turn) (core : Core) (is : IsRunWithCalls script turns core) (none_open : NoneOpen script turns core is) where

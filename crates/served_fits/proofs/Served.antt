@@ -12,16 +12,16 @@ use Rattle.brpc_model.specs.Run.{Run}
 use Rattle.brpc_model.specs.Script.{script_of}
 use Rattle.brpc_model.specs.Served.{ServesAll, FitsServed}
 use Rattle.brpc_model.specs.PlaceWords.{AreTold}
-use Rattle.served_calls.specs.report_fits.specs.Ends.{AreEndsOf}
-use Rattle.served_calls.specs.report_fits.proofs.Fitting.{fits_run}
-use Rattle.served_calls.specs.report_fits.proofs.Places.{lateness}
+use Rattle.served_calls.specs.Below.report_fits.specs.Ends.{AreEndsOf}
+use Rattle.served_calls.specs.Below.report_fits.proofs.Fitting.{fits_run}
+use Rattle.served_calls.specs.Below.report_fits.proofs.Places.{lateness}
 use Rattle.seat_programs.specs.Cores.{Core}
 use Rattle.seat_programs.specs.Tasks.{plan_of}
 use Rattle.seat_programs.specs.ToldCalls.{Order, Fixed, ToldCalls}
 use Rattle.seat_programs.specs.Scripts.{Reports, all_tasks, IsRunWithCalls}
-use Rattle.served_calls.specs.outcome_stories.specs.Facts.{late_links_of_run}
-use Rattle.served_calls.specs.call_owing.specs.Lives.{ClosesInRun}
-use Rattle.served_calls.specs.call_stories.specs.Lists.{given}
+use Rattle.served_calls.specs.Below.outcome_stories.specs.Facts.{late_links_of_run}
+use Rattle.served_calls.specs.Below.call_owing.specs.Lives.{ClosesInRun}
+use Rattle.served_calls.specs.Below.call_stories.specs.Lists.{given}
 use Rattle.served_calls.specs.served_runs.specs.Offered.{OffersInRun}
 use Rattle.served_calls.specs.Quiet.{AreShown}
 use Rattle.served_fits.specs.Shown.{AreSo, TellTook, IsInTime}

@@ -10,19 +10,19 @@ use Rattle.brpc_model.specs.Report.{Report, report_text}
 use Rattle.brpc_model.specs.Run.{Run}
 use Rattle.brpc_model.specs.Script.{script_of}
 use Rattle.brpc_model.specs.PlaceWords.{AreTold}
-use Rattle.served_calls.specs.report_fits.specs.Ends.{AreEndsOf}
-use Rattle.served_calls.specs.script_facts.proofs.Lists.{Has, has_from, contains_from, has_later, has_cases, has_none}
-use Rattle.served_calls.specs.report_fits.proofs.Places.{lateness}
+use Rattle.served_calls.specs.Below.report_fits.specs.Ends.{AreEndsOf}
+use Rattle.served_calls.specs.Below.script_facts.proofs.Lists.{Has, has_from, contains_from, has_later, has_cases, has_none}
+use Rattle.served_calls.specs.Below.report_fits.proofs.Places.{lateness}
 use Rattle.seat_programs.specs.Cores.{Core}
 use Rattle.seat_programs.specs.Tasks.{plan_of}
 use Rattle.seat_programs.specs.ToldCalls.{Order, Fixed, ToldCalls}
 use Rattle.seat_programs.specs.Scripts.{Reports, all_tasks, IsRunWithCalls}
-use Rattle.served_calls.specs.outcome_stories.specs.Facts.{late_of_run, late_links_of_run}
-use Rattle.served_calls.specs.call_owing.specs.Lives.{ClosesInRun}
-use Rattle.served_calls.specs.run_theorems.proofs.Lengths.{ended_length}
-use Rattle.served_calls.specs.run_theorems.proofs.Starts.{made}
-use Rattle.served_calls.specs.run_theorems.proofs.Unjoined.{no_join}
-use Rattle.served_calls.specs.call_stories.specs.Lists.{given}
+use Rattle.served_calls.specs.Below.outcome_stories.specs.Facts.{late_of_run, late_links_of_run}
+use Rattle.served_calls.specs.Below.call_owing.specs.Lives.{ClosesInRun}
+use Rattle.served_calls.specs.Below.run_theorems.proofs.Lengths.{ended_length}
+use Rattle.served_calls.specs.Below.run_theorems.proofs.Starts.{made}
+use Rattle.served_calls.specs.Below.run_theorems.proofs.Unjoined.{no_join}
+use Rattle.served_calls.specs.Below.call_stories.specs.Lists.{given}
 use Rattle.served_calls.specs.served_runs.specs.Offered.{OffersInRun}
 use Rattle.calm_runs.proofs.Nothing.{nothing_behind, nothing_late}
 use Rattle.served_calls.specs.Quiet.{AreShown, GivesFew, IsTimely}

@@ -15,14 +15,14 @@ use Rattle.seat_programs.specs.Programs.{Aside}
 use Rattle.seat_programs.specs.Cores.{Core, SeatState}
 use Rattle.seat_programs.specs.Tasks.{calls, plan_of}
 use Rattle.seat_programs.specs.Ticks.{Answer, OfTake, Moment, IsAnswered, FitsTake, IsTaken, tick_with, ticked}
-use Rattle.send_causes.specs.programs_allowed.specs.program_steps.specs.Sound.{Sound, IsFitting}
-use Rattle.send_causes.specs.programs_allowed.specs.sock_runs.proofs.LinkTicks.{RetriesGo}
-use Rattle.send_causes.specs.outcome_stories.specs.Stories.{In}
-use Rattle.send_causes.specs.call_owing.proofs.EndsStill.{run_ending}
-use Rattle.send_causes.specs.run_theorems.specs.Heard.{as_taken, taken_link, taken_at, bytes_found}
-use Rattle.send_causes.specs.call_stories.specs.Lists.{given}
-use Rattle.send_causes.specs.ended_calls.proofs.EndedTicks.{seats_else}
-use Rattle.send_causes.specs.accept_counts.proofs.Readings.{IsTake, takes_or_not}
+use Rattle.send_causes.specs.Below.programs_allowed.specs.program_steps.specs.Sound.{Sound, IsFitting}
+use Rattle.send_causes.specs.Below.programs_allowed.specs.sock_runs.proofs.LinkTicks.{RetriesGo}
+use Rattle.send_causes.specs.Below.outcome_stories.specs.Stories.{In}
+use Rattle.send_causes.specs.Below.call_owing.proofs.EndsStill.{run_ending}
+use Rattle.send_causes.specs.Below.run_theorems.specs.Heard.{as_taken, taken_link, taken_at, bytes_found}
+use Rattle.send_causes.specs.Below.call_stories.specs.Lists.{given}
+use Rattle.send_causes.specs.Below.ended_calls.proofs.EndedTicks.{seats_else}
+use Rattle.send_causes.specs.Below.accept_counts.proofs.Readings.{IsTake, takes_or_not}
 use Rattle.served_runs.specs.Offered.{IsDone, offered_by, GaveAll, GaveLast, IsOfferedSo, OffersAt, IsOffered}
 use Rattle.served_runs.proofs.Places.{IsPut, AllLay, all_lay, done_quiet, done_on}
 use Rattle.served_runs.proofs.Readings.{IsBad, is_last}

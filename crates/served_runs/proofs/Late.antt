@@ -7,22 +7,22 @@ use Rattle.seat_programs.specs.Cores.{Core}
 use Rattle.seat_programs.specs.Tasks.{plan_of}
 use Rattle.seat_programs.specs.Ticks.{Moment, IsAnswered, ticked}
 use Rattle.seat_programs.specs.Scripts.{IsRunWithCalls}
-use Rattle.send_causes.specs.programs_allowed.specs.program_steps.specs.GoesOn.{GoesOn}
-use Rattle.send_causes.specs.programs_allowed.specs.program_steps.specs.Sound.{Sound, IsFitting, views_after}
-use Rattle.send_causes.specs.programs_allowed.specs.program_steps.proofs.Cases.{goes_first}
-use Rattle.send_causes.specs.programs_allowed.specs.program_steps.proofs.Passes.{goes_round}
-use Rattle.send_causes.specs.programs_allowed.specs.program_steps.proofs.Rounds.{begins_round}
-use Rattle.send_causes.specs.programs_allowed.specs.program_walks.proofs.Whole.{views_closed}
-use Rattle.send_causes.specs.outcome_stories.specs.Facts.{born_at, shown_in, late_links_of_run}
-use Rattle.send_causes.specs.outcome_stories.specs.Stories.{In}
-use Rattle.send_causes.specs.outcome_causes.proofs.Plain.{in_left, in_right}
-use Rattle.send_causes.specs.joint_runs.proofs.Runs.{AreMade, first_views}
-use Rattle.send_causes.specs.call_owing.proofs.EndsStill.{view_of}
-use Rattle.send_causes.specs.dropped_calls.proofs.LateEnding.{ended_past}
-use Rattle.send_causes.specs.dropped_calls.proofs.LateLives.{WasPast, Lives, lives_tell, lives_ticks}
-use Rattle.send_causes.specs.dropped_calls.proofs.LateLooks.{Mode, Idle, Writes}
-use Rattle.send_causes.specs.dropped_calls.proofs.LateRests.{none_stands, ended_idle}
-use Rattle.send_causes.specs.dropped_calls.proofs.LateSeats.{Righted, rights_of, AllStand, stand_ticks}
+use Rattle.send_causes.specs.Below.programs_allowed.specs.program_steps.specs.GoesOn.{GoesOn}
+use Rattle.send_causes.specs.Below.programs_allowed.specs.program_steps.specs.Sound.{Sound, IsFitting, views_after}
+use Rattle.send_causes.specs.Below.programs_allowed.specs.program_steps.proofs.Cases.{goes_first}
+use Rattle.send_causes.specs.Below.programs_allowed.specs.program_steps.proofs.Passes.{goes_round}
+use Rattle.send_causes.specs.Below.programs_allowed.specs.program_steps.proofs.Rounds.{begins_round}
+use Rattle.send_causes.specs.Below.programs_allowed.specs.program_walks.proofs.Whole.{views_closed}
+use Rattle.send_causes.specs.Below.outcome_stories.specs.Facts.{born_at, shown_in, late_links_of_run}
+use Rattle.send_causes.specs.Below.outcome_stories.specs.Stories.{In}
+use Rattle.send_causes.specs.Below.outcome_causes.proofs.Plain.{in_left, in_right}
+use Rattle.send_causes.specs.Below.joint_runs.proofs.Runs.{AreMade, first_views}
+use Rattle.send_causes.specs.Below.call_owing.proofs.EndsStill.{view_of}
+use Rattle.send_causes.specs.Below.dropped_calls.proofs.LateEnding.{ended_past}
+use Rattle.send_causes.specs.Below.dropped_calls.proofs.LateLives.{WasPast, Lives, lives_tell, lives_ticks}
+use Rattle.send_causes.specs.Below.dropped_calls.proofs.LateLooks.{Mode, Idle, Writes}
+use Rattle.send_causes.specs.Below.dropped_calls.proofs.LateRests.{none_stands, ended_idle}
+use Rattle.send_causes.specs.Below.dropped_calls.proofs.LateSeats.{Righted, rights_of, AllStand, stand_ticks}
 use Rattle.served_runs.proofs.Places.{IsPut}
 
 module _ (script : List Item) (made : AreMade script) (turns : List Turn) (core : Core) (is : IsRunWithCalls script turns core) where

@@ -11,21 +11,21 @@ use Rattle.brpc_model.specs.Operations.{Turn, Operation, operations, link_names,
 use Rattle.brpc_model.specs.Places.{names}
 use Rattle.brpc_model.specs.Reply.{reply}
 use Rattle.brpc_model.specs.Stream.{stream}
-use Rattle.send_causes.specs.script_facts.proofs.Lists.{Has, contains_from}
-use Rattle.send_causes.specs.script_facts.proofs.Names.{same_name}
-use Rattle.send_causes.specs.script_facts.proofs.Numbering.{are_from}
-use Rattle.send_causes.specs.script_facts.proofs.Reading.{InRange}
-use Rattle.send_causes.specs.script_facts.proofs.Targets.{AreThere}
-use Rattle.send_causes.specs.script_facts.proofs.TaskLemmas.{numbers_at, IsTaskOf, task_is, operation_task, open_asks, send_asks, mentions_open, mentions_send, named_at}
+use Rattle.send_causes.specs.Below.script_facts.proofs.Lists.{Has, contains_from}
+use Rattle.send_causes.specs.Below.script_facts.proofs.Names.{same_name}
+use Rattle.send_causes.specs.Below.script_facts.proofs.Numbering.{are_from}
+use Rattle.send_causes.specs.Below.script_facts.proofs.Reading.{InRange}
+use Rattle.send_causes.specs.Below.script_facts.proofs.Targets.{AreThere}
+use Rattle.send_causes.specs.Below.script_facts.proofs.TaskLemmas.{numbers_at, IsTaskOf, task_is, operation_task, open_asks, send_asks, mentions_open, mentions_send, named_at}
 use Rattle.seat_programs.specs.declared.task.Op.TheVariants as ops
 use Rattle.seat_programs.specs.declared.task.Task.{Task}
 use Rattle.seat_programs.specs.Cores.{Core}
 use Rattle.seat_programs.specs.Tasks.{numbered, asked_of, op_of}
 use Rattle.seat_programs.specs.Told.{IsTask, Made}
 use Rattle.seat_programs.specs.Scripts.{all_tasks, IsRunWithCalls}
-use Rattle.send_causes.specs.joint_runs.proofs.Runs.{AreMade}
-use Rattle.send_causes.specs.call_owing.specs.Lives.{ClosesInRun}
-use Rattle.send_causes.specs.call_stories.specs.Lists.{given}
+use Rattle.send_causes.specs.Below.joint_runs.proofs.Runs.{AreMade}
+use Rattle.send_causes.specs.Below.call_owing.specs.Lives.{ClosesInRun}
+use Rattle.send_causes.specs.Below.call_stories.specs.Lists.{given}
 use Rattle.served_runs.specs.Offered.{OffersInRun}
 use Rattle.served_runs.specs.Served.{IsForCalls}
 use Rattle.served_runs.proofs.Served.{gives_own_replies}

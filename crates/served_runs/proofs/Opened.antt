@@ -9,8 +9,8 @@ use Rattle.sock_words.specs.declared.outcome.Outcome.TheVariants.{Opened}
 use Rattle.sock_model.specs.Layout.{open_index}
 use Rattle.brpc_model.specs.Items.{Item}
 use Rattle.brpc_model.specs.Operations.{Turn}
-use Rattle.send_causes.specs.script_facts.proofs.Reading.{InRange}
-use Rattle.send_causes.specs.script_facts.proofs.Targets.{AreThere}
+use Rattle.send_causes.specs.Below.script_facts.proofs.Reading.{InRange}
+use Rattle.send_causes.specs.Below.script_facts.proofs.Targets.{AreThere}
 use Rattle.seat_programs.specs.declared.task.Op.TheVariants as ops
 use Rattle.seat_programs.specs.Calls.{CreateLife}
 use Rattle.seat_programs.specs.Programs.{NO_SOCKET}
@@ -18,23 +18,23 @@ use Rattle.seat_programs.specs.Cores.{Core}
 use Rattle.seat_programs.specs.Tasks.{opens, plan_of}
 use Rattle.seat_programs.specs.Told.{Made}
 use Rattle.seat_programs.specs.Scripts.{all_tasks, IsRunWithCalls}
-use Rattle.send_causes.specs.programs_allowed.specs.program_walks.proofs.Whole.{views_ended, ended_sound}
-use Rattle.send_causes.specs.outcome_stories.specs.Causes.{Asks, WasGiven}
-use Rattle.send_causes.specs.outcome_stories.specs.Explains.{step, Because, Explained}
-use Rattle.send_causes.specs.outcome_stories.specs.PlainTasks.{told_tasks_of}
-use Rattle.send_causes.specs.outcome_stories.specs.Stories.{trace_of}
-use Rattle.send_causes.specs.outcome_ticks.proofs.Events.{given_by}
-use Rattle.send_causes.specs.outcome_causes.proofs.Final.{Final, final}
-use Rattle.send_causes.specs.outcome_ticks.proofs.Lifted.{made_down}
-use Rattle.send_causes.specs.outcome_stories.proofs.Members.{contains_in, from_trace}
-use Rattle.send_causes.specs.outcome_causes.proofs.Openings.{are_seats}
-use Rattle.send_causes.specs.joint_runs.proofs.Runs.{AreMade, first_views}
-use Rattle.send_causes.specs.call_owing.specs.Lives.{ClosesInRun}
-use Rattle.send_causes.specs.owed_calls.proofs.Known.{run_all_rest}
-use Rattle.send_causes.specs.attempted_calls.proofs.AttemptedStored.{ids_at}
+use Rattle.send_causes.specs.Below.programs_allowed.specs.program_walks.proofs.Whole.{views_ended, ended_sound}
+use Rattle.send_causes.specs.Below.outcome_stories.specs.Causes.{Asks, WasGiven}
+use Rattle.send_causes.specs.Below.outcome_stories.specs.Explains.{step, Because, Explained}
+use Rattle.send_causes.specs.Below.outcome_stories.specs.PlainTasks.{told_tasks_of}
+use Rattle.send_causes.specs.Below.outcome_stories.specs.Stories.{trace_of}
+use Rattle.send_causes.specs.Below.outcome_ticks.proofs.Events.{given_by}
+use Rattle.send_causes.specs.Below.outcome_causes.proofs.Final.{Final, final}
+use Rattle.send_causes.specs.Below.outcome_ticks.proofs.Lifted.{made_down}
+use Rattle.send_causes.specs.Below.outcome_stories.proofs.Members.{contains_in, from_trace}
+use Rattle.send_causes.specs.Below.outcome_causes.proofs.Openings.{are_seats}
+use Rattle.send_causes.specs.Below.joint_runs.proofs.Runs.{AreMade, first_views}
+use Rattle.send_causes.specs.Below.call_owing.specs.Lives.{ClosesInRun}
+use Rattle.send_causes.specs.Below.owed_calls.proofs.Known.{run_all_rest}
+use Rattle.send_causes.specs.Below.attempted_calls.proofs.AttemptedStored.{ids_at}
 use Rattle.send_causes.proofs.DropEndsCauses.{own_link}
-use Rattle.send_causes.specs.dropped_calls.proofs.DropOfRun.{EndStory, IsOpened, ends, given_opened}
-use Rattle.send_causes.specs.accept_counts.proofs.Early.{start, go, fitting}
+use Rattle.send_causes.specs.Below.dropped_calls.proofs.DropOfRun.{EndStory, IsOpened, ends, given_opened}
+use Rattle.send_causes.specs.Below.accept_counts.proofs.Early.{start, go, fitting}
 use Rattle.send_causes.proofs.OwnIds.{labelled_at}
 
 module _ (script : List Item) (made : AreMade script) (there : AreThere script) (range : AllByRecursion InRange script) (turns : List Turn) (core : Core) (is : IsRunWithCalls script turns core) (closes : ClosesInRun script turns core is) where

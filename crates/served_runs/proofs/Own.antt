@@ -17,8 +17,8 @@ use Rattle.brpc_model.specs.Reply.{reply, reply_frames}
 use Rattle.brpc_model.specs.Served.{first_of, given_for}
 use Rattle.brpc_model.specs.Causes.{HasFault}
 use Rattle.brpc_model.specs.Stream.{Rest, Fault, stream, stream_from}
-use Rattle.send_causes.specs.script_facts.proofs.Reading.{InRange}
-use Rattle.send_causes.specs.script_facts.proofs.Targets.{AreThere}
+use Rattle.send_causes.specs.Below.script_facts.proofs.Reading.{InRange}
+use Rattle.send_causes.specs.Below.script_facts.proofs.Targets.{AreThere}
 use Rattle.sock_message.specs.Asked.{Asked, request_of}
 use Rattle.seat_programs.specs.declared.task.Op.TheVariants as ops
 use Rattle.seat_programs.specs.declared.task.Task.{Task}
@@ -27,24 +27,24 @@ use Rattle.seat_programs.specs.Tasks.{plan_of, id_plan_of}
 use Rattle.seat_programs.specs.Told.{AskedFits, OpFits, TaskFits, IsTask, Became, Made}
 use Rattle.seat_programs.specs.ToldCalls.{Accepted, IsTaken, IsSent, OfSend, OfCall, bytes_of}
 use Rattle.seat_programs.specs.Scripts.{all_tasks, took_at_home, IsRunWithCalls}
-use Rattle.send_causes.specs.outcome_stories.proofs.Members.{contains_in}
-use Rattle.send_causes.specs.outcome_ticks.proofs.Tasks.{one_task}
-use Rattle.send_causes.specs.joint_runs.proofs.Runs.{AreMade}
-use Rattle.send_causes.specs.call_owing.specs.Lives.{ClosesInRun}
-use Rattle.send_causes.specs.call_stories.specs.Lists.{given, attempts_of_run}
-use Rattle.send_causes.specs.call_stories.specs.Scenes.{Scene, In, WhyOwn}
-use Rattle.send_causes.specs.story_steps.proofs.End.{call_of, shows_own}
-use Rattle.send_causes.specs.call_causes.proofs.Posted.{run_few_attempts}
-use Rattle.send_causes.specs.call_stories.proofs.Streams.{frames_stay, faults_more}
-use Rattle.send_causes.specs.call_causes.proofs.Whole.{run_has_story, run_has_ended, run_told_in_part}
-use Rattle.send_causes.specs.attempted_calls.proofs.AttemptedRun.{attempted_of_run}
-use Rattle.send_causes.specs.sent_once.proofs.Beside.{fixed_of_run, orders_here}
-use Rattle.send_causes.specs.accept_counts.proofs.Early.{known}
-use Rattle.send_causes.specs.sent_once.proofs.Sends.{orders_are}
+use Rattle.send_causes.specs.Below.outcome_stories.proofs.Members.{contains_in}
+use Rattle.send_causes.specs.Below.outcome_ticks.proofs.Tasks.{one_task}
+use Rattle.send_causes.specs.Below.joint_runs.proofs.Runs.{AreMade}
+use Rattle.send_causes.specs.Below.call_owing.specs.Lives.{ClosesInRun}
+use Rattle.send_causes.specs.Below.call_stories.specs.Lists.{given, attempts_of_run}
+use Rattle.send_causes.specs.Below.call_stories.specs.Scenes.{Scene, In, WhyOwn}
+use Rattle.send_causes.specs.Below.story_steps.proofs.End.{call_of, shows_own}
+use Rattle.send_causes.specs.Below.call_causes.proofs.Posted.{run_few_attempts}
+use Rattle.send_causes.specs.Below.call_stories.proofs.Streams.{frames_stay, faults_more}
+use Rattle.send_causes.specs.Below.call_causes.proofs.Whole.{run_has_story, run_has_ended, run_told_in_part}
+use Rattle.send_causes.specs.Below.attempted_calls.proofs.AttemptedRun.{attempted_of_run}
+use Rattle.send_causes.specs.Below.sent_once.proofs.Beside.{fixed_of_run, orders_here}
+use Rattle.send_causes.specs.Below.accept_counts.proofs.Early.{known}
+use Rattle.send_causes.specs.Below.sent_once.proofs.Sends.{orders_are}
 use Rattle.served_runs.proofs.Requests.{IsRequestOf}
 use Rattle.served_runs.specs.Served.{request_with}
 use Rattle.served_runs.proofs.Frames.{IsPiece, piece_frames, pieces_end, IsSmall, request_is, reply_is}
-use Rattle.send_causes.specs.script_facts.proofs.Lists.{all_map}
+use Rattle.send_causes.specs.Below.script_facts.proofs.Lists.{all_map}
 
 -- ## Lists
 

@@ -22,14 +22,14 @@ use Rattle.seat_programs.specs.Cores.{Core, SeatState, with_seat}
 use Rattle.seat_programs.specs.Tasks.{plan_of}
 use Rattle.seat_programs.specs.Ticks.{Answer, Moment, IsAnswered, AreAnswered, IsTaken, step_with, ticked, run}
 use Rattle.seat_programs.specs.Beside.{more_given}
-use Rattle.send_causes.specs.programs_allowed.specs.program_steps.specs.Sound.{Sound, IsFitting, AreFitting, views_after}
-use Rattle.send_causes.specs.programs_allowed.specs.sock_runs.proofs.LinkTicks.{RetriesGo}
-use Rattle.send_causes.specs.programs_allowed.specs.sock_runs.proofs.Ticks.{sound_ticks}
-use Rattle.send_causes.specs.run_theorems.specs.Heard.{taken_link, bytes_found}
-use Rattle.send_causes.specs.run_theorems.proofs.Lengths.{tick_long}
-use Rattle.send_causes.specs.call_stories.specs.Lists.{given}
-use Rattle.send_causes.specs.call_stories.proofs.Streams.{frames_behind_rest, frames_before_fault}
-use Rattle.send_causes.specs.accept_counts.proofs.Readings.{IsTake, takes_or_not}
+use Rattle.send_causes.specs.Below.programs_allowed.specs.program_steps.specs.Sound.{Sound, IsFitting, AreFitting, views_after}
+use Rattle.send_causes.specs.Below.programs_allowed.specs.sock_runs.proofs.LinkTicks.{RetriesGo}
+use Rattle.send_causes.specs.Below.programs_allowed.specs.sock_runs.proofs.Ticks.{sound_ticks}
+use Rattle.send_causes.specs.Below.run_theorems.specs.Heard.{taken_link, bytes_found}
+use Rattle.send_causes.specs.Below.run_theorems.proofs.Lengths.{tick_long}
+use Rattle.send_causes.specs.Below.call_stories.specs.Lists.{given}
+use Rattle.send_causes.specs.Below.call_stories.proofs.Streams.{frames_behind_rest, frames_before_fault}
+use Rattle.send_causes.specs.Below.accept_counts.proofs.Readings.{IsTake, takes_or_not}
 use Rattle.served_runs.specs.Offered.{TookSoFar, offered_by, IsOfferedSo, OffersAt, IsOffered, AreOffered}
 use Rattle.served_runs.proofs.Places.{all_lay}
 use Rattle.served_runs.proofs.Ticks.{tick_is, gave_same, gave_more}

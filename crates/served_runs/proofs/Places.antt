@@ -19,16 +19,16 @@ use Rattle.seat_programs.specs.Programs.{Program, PutBytes}
 use Rattle.seat_programs.specs.Beside.{calls_after}
 use Rattle.seat_programs.specs.Cores.{Calls, Core, SeatState, word_of, word_after, found_at, words_after, with_seat, homes_after, hand_after, lies_at, first_of, others_of, finished, link_place, resolved, next_step, waiting_at}
 use Rattle.seat_programs.specs.Ticks.{Moment, IsAnswered, fed, with_places, onto_first, ticked}
-use Rattle.send_causes.specs.programs_allowed.specs.program_steps.specs.May.{May}
-use Rattle.send_causes.specs.programs_allowed.specs.program_steps.specs.GoesOn.{GoesOn}
-use Rattle.send_causes.specs.programs_allowed.specs.program_steps.specs.Sound.{state, Sound, IsFitting, HasLink, first_step}
-use Rattle.send_causes.specs.programs_allowed.specs.program_steps.proofs.Cases.{tick_keeps, goes_first}
-use Rattle.send_causes.specs.programs_allowed.specs.sock_runs.proofs.HandTicks.{taking}
-use Rattle.send_causes.specs.programs_allowed.specs.sock_runs.proofs.LinkTicks.{RetriesGo, link_there, has_link, link_put_there}
-use Rattle.send_causes.specs.programs_allowed.specs.program_steps.proofs.Passes.{goes_round}
-use Rattle.send_causes.specs.programs_allowed.specs.program_steps.proofs.Rounds.{begins_round}
-use Rattle.send_causes.specs.call_owing.specs.Lives.{InHand}
-use Rattle.send_causes.specs.call_owing.proofs.EndsStill.{view_of}
+use Rattle.send_causes.specs.Below.programs_allowed.specs.program_steps.specs.May.{May}
+use Rattle.send_causes.specs.Below.programs_allowed.specs.program_steps.specs.GoesOn.{GoesOn}
+use Rattle.send_causes.specs.Below.programs_allowed.specs.program_steps.specs.Sound.{state, Sound, IsFitting, HasLink, first_step}
+use Rattle.send_causes.specs.Below.programs_allowed.specs.program_steps.proofs.Cases.{tick_keeps, goes_first}
+use Rattle.send_causes.specs.Below.programs_allowed.specs.sock_runs.proofs.HandTicks.{taking}
+use Rattle.send_causes.specs.Below.programs_allowed.specs.sock_runs.proofs.LinkTicks.{RetriesGo, link_there, has_link, link_put_there}
+use Rattle.send_causes.specs.Below.programs_allowed.specs.program_steps.proofs.Passes.{goes_round}
+use Rattle.send_causes.specs.Below.programs_allowed.specs.program_steps.proofs.Rounds.{begins_round}
+use Rattle.send_causes.specs.Below.call_owing.specs.Lives.{InHand}
+use Rattle.send_causes.specs.Below.call_owing.proofs.EndsStill.{view_of}
 use Rattle.served_runs.specs.Offered.{Lies, IsDone}
 
 -- ## In hand

@@ -1,7 +1,7 @@
 -- Where the reader of a link comes to rest its reading is over: a take found its end, or what it gave ends the reading.
 use Rattle.std.proofs.Common.{◌≡◌, ℕ, ◌+◌, ◌≤◌, ◌&&◌, ◌||◌, ◌⊎◌, inl, inr, nat_lt, ltb-false, Bool, true, false, cond, List, [], ◌∷◌, ◌++◌, length, length-append, append-nil, refl, sym, ap, ◌∙◌, subst, arith}
 use Rattle.std.proofs.lemmas.Bool.{true≢false}
-use Rattle.send_causes.specs.sock_steps.proofs.Quiet.{either_way}
+use Rattle.send_causes.specs.Below.sock_steps.proofs.Quiet.{either_way}
 use Rattle.brpc_model.specs.Frame.{Frame}
 use Rattle.brpc_model.specs.Stream as streams
 use Rattle.seat_programs.specs.Asides.{Step, Found, TakeBytes, Taking, Bytes, Nothing, NoMore, AtEnd, Closed, Broken}
@@ -10,13 +10,13 @@ use Rattle.seat_programs.specs.Programs.{Program, Do, Say, Sent, Rest, Write, As
 use Rattle.seat_programs.specs.Readers.{LIMIT, last_of, ended_by, read_on, took, discarded, thrown_away, read}
 use Rattle.seat_programs.specs.Rounds.{round}
 use Rattle.seat_programs.specs.Cores.{resolved, next_step}
-use Rattle.send_causes.specs.programs_allowed.specs.program_steps.specs.Sound.{first_step}
-use Rattle.send_causes.specs.run_theorems.specs.Heard.{bytes_found}
-use Rattle.send_causes.specs.programs_allowed.specs.program_walks.proofs.Through.{PassesPlain, is_plain_aside, by_errors, locked, through_set_failed}
-use Rattle.send_causes.specs.programs_allowed.specs.program_walks.proofs.ThroughLoops.{through_errors, through_locks, through_joins, through_answer, through_responses, through_opens}
-use Rattle.send_causes.specs.programs_allowed.specs.program_walks.proofs.ThroughCalls.{through_post_each, through_read_end}
+use Rattle.send_causes.specs.Below.programs_allowed.specs.program_steps.specs.Sound.{first_step}
+use Rattle.send_causes.specs.Below.run_theorems.specs.Heard.{bytes_found}
+use Rattle.send_causes.specs.Below.programs_allowed.specs.program_walks.proofs.Through.{PassesPlain, is_plain_aside, by_errors, locked, through_set_failed}
+use Rattle.send_causes.specs.Below.programs_allowed.specs.program_walks.proofs.ThroughLoops.{through_errors, through_locks, through_joins, through_answer, through_responses, through_opens}
+use Rattle.send_causes.specs.Below.programs_allowed.specs.program_walks.proofs.ThroughCalls.{through_post_each, through_read_end}
 use Rattle.brpc_model.specs.Causes.{HasFault}
-use Rattle.send_causes.specs.call_stories.proofs.Streams.{faults_more, faults_follow, tied_more}
+use Rattle.send_causes.specs.Below.call_stories.proofs.Streams.{faults_more, faults_follow, tied_more}
 
 -- ## How a reading ends
 

@@ -22,27 +22,27 @@ use Rattle.seat_programs.specs.Runs.{from_to}
 use Rattle.seat_programs.specs.Tasks.{opens, calls, plan_of}
 use Rattle.seat_programs.specs.Ticks.{Moment, ticked, run}
 use Rattle.seat_programs.specs.Scripts.{opened, ending, is_ending, set_up, played, taken_by, took_at_home, IsRunWithCalls}
-use Rattle.send_causes.specs.programs_allowed.specs.program_steps.specs.Sound.{AllRest, views_along}
-use Rattle.send_causes.specs.programs_allowed.specs.sock_runs.proofs.Along.{place_inside}
-use Rattle.send_causes.specs.programs_allowed.specs.sock_runs.proofs.Ends.{links_home}
-use Rattle.send_causes.specs.programs_allowed.specs.sock_runs.proofs.Quiets.{run_seats}
-use Rattle.send_causes.specs.programs_allowed.specs.program_walks.proofs.Whole.{IsListed, closing_of, views_played, views_closed, views_ended, set_up_answered, end_answered, set_up_sound, closing_sound, closed_sound, ended_sound, recorded_opened, recorded_set_up, recorded_closing, recorded_closed}
-use Rattle.send_causes.specs.programs_allowed.specs.sock_runs.proofs.HandTicks.{AtHome}
-use Rattle.send_causes.specs.outcome_stories.specs.Facts.{late_links_of_run}
-use Rattle.send_causes.specs.outcome_stories.specs.Stories.{In}
-use Rattle.send_causes.specs.outcome_causes.proofs.Plain.{in_left, in_right, in_both}
-use Rattle.send_causes.specs.joint_runs.proofs.Runs.{AreMade, first_views}
-use Rattle.send_causes.specs.call_owing.specs.Lives.{ClosesInRun}
-use Rattle.send_causes.specs.call_owing.proofs.EndsStill.{run_ending}
-use Rattle.send_causes.specs.owed_calls.proofs.Known.{run_all_rest}
-use Rattle.send_causes.specs.run_theorems.specs.Heard.{as_taken, taken_in, heard_takes}
-use Rattle.send_causes.specs.run_theorems.proofs.HeardRuns.{taken_append}
-use Rattle.send_causes.specs.run_theorems.proofs.Lengths.{tick_long}
-use Rattle.send_causes.specs.call_stories.specs.Lists.{given}
-use Rattle.send_causes.specs.accept_counts.proofs.Early.{Any, ends_anyhow, start, go, fitting, known, begins_at}
-use Rattle.send_causes.specs.ended_calls.proofs.EndedWhole.{opened_keeps, closing_keeps, closed_keeps}
-use Rattle.send_causes.specs.accept_counts.proofs.ReaderRuns.{founds, keeps_along}
-use Rattle.send_causes.specs.call_stories.proofs.RunTicks.{in_setup, in_clients, in_closing}
+use Rattle.send_causes.specs.Below.programs_allowed.specs.program_steps.specs.Sound.{AllRest, views_along}
+use Rattle.send_causes.specs.Below.programs_allowed.specs.sock_runs.proofs.Along.{place_inside}
+use Rattle.send_causes.specs.Below.programs_allowed.specs.sock_runs.proofs.Ends.{links_home}
+use Rattle.send_causes.specs.Below.programs_allowed.specs.sock_runs.proofs.Quiets.{run_seats}
+use Rattle.send_causes.specs.Below.programs_allowed.specs.program_walks.proofs.Whole.{IsListed, closing_of, views_played, views_closed, views_ended, set_up_answered, end_answered, set_up_sound, closing_sound, closed_sound, ended_sound, recorded_opened, recorded_set_up, recorded_closing, recorded_closed}
+use Rattle.send_causes.specs.Below.programs_allowed.specs.sock_runs.proofs.HandTicks.{AtHome}
+use Rattle.send_causes.specs.Below.outcome_stories.specs.Facts.{late_links_of_run}
+use Rattle.send_causes.specs.Below.outcome_stories.specs.Stories.{In}
+use Rattle.send_causes.specs.Below.outcome_causes.proofs.Plain.{in_left, in_right, in_both}
+use Rattle.send_causes.specs.Below.joint_runs.proofs.Runs.{AreMade, first_views}
+use Rattle.send_causes.specs.Below.call_owing.specs.Lives.{ClosesInRun}
+use Rattle.send_causes.specs.Below.call_owing.proofs.EndsStill.{run_ending}
+use Rattle.send_causes.specs.Below.owed_calls.proofs.Known.{run_all_rest}
+use Rattle.send_causes.specs.Below.run_theorems.specs.Heard.{as_taken, taken_in, heard_takes}
+use Rattle.send_causes.specs.Below.run_theorems.proofs.HeardRuns.{taken_append}
+use Rattle.send_causes.specs.Below.run_theorems.proofs.Lengths.{tick_long}
+use Rattle.send_causes.specs.Below.call_stories.specs.Lists.{given}
+use Rattle.send_causes.specs.Below.accept_counts.proofs.Early.{Any, ends_anyhow, start, go, fitting, known, begins_at}
+use Rattle.send_causes.specs.Below.ended_calls.proofs.EndedWhole.{opened_keeps, closing_keeps, closed_keeps}
+use Rattle.send_causes.specs.Below.accept_counts.proofs.ReaderRuns.{founds, keeps_along}
+use Rattle.send_causes.specs.Below.call_stories.proofs.RunTicks.{in_setup, in_clients, in_closing}
 use Rattle.served_runs.specs.Offered.{TookSoFar, offered_by, OffersInRun}
 use Rattle.served_runs.proofs.Ends.{IsOverSo, Holds}
 use Rattle.served_runs.proofs.Lasts.{Behind, lasts_along}

@@ -13,20 +13,20 @@ use Rattle.brpc_model.specs.Reply.{reply}
 use Rattle.brpc_model.specs.Stream.{stream}
 use Rattle.brpc_model.specs.Operations.{Turn, link_shapes}
 use Rattle.brpc_model.specs.Served.{given_for}
-use Rattle.send_causes.specs.script_facts.proofs.Reading.{InRange}
-use Rattle.send_causes.specs.script_facts.proofs.Targets.{AreThere}
+use Rattle.send_causes.specs.Below.script_facts.proofs.Reading.{InRange}
+use Rattle.send_causes.specs.Below.script_facts.proofs.Targets.{AreThere}
 use Rattle.seat_programs.specs.Asides.{AtEnd, Broken}
 use Rattle.seat_programs.specs.Cores.{Core}
 use Rattle.seat_programs.specs.Tasks.{opens, plan_of}
 use Rattle.seat_programs.specs.Scripts.{IsRunWithCalls}
-use Rattle.send_causes.specs.outcome_stories.specs.Facts.{late_links_of_run}
-use Rattle.send_causes.specs.outcome_stories.proofs.Members.{in_contains, contains_in}
-use Rattle.send_causes.specs.joint_runs.proofs.Runs.{AreMade}
-use Rattle.send_causes.specs.call_owing.specs.Lives.{ClosesInRun}
-use Rattle.send_causes.specs.run_theorems.specs.Heard.{heard_takes}
+use Rattle.send_causes.specs.Below.outcome_stories.specs.Facts.{late_links_of_run}
+use Rattle.send_causes.specs.Below.outcome_stories.proofs.Members.{in_contains, contains_in}
+use Rattle.send_causes.specs.Below.joint_runs.proofs.Runs.{AreMade}
+use Rattle.send_causes.specs.Below.call_owing.specs.Lives.{ClosesInRun}
+use Rattle.send_causes.specs.Below.run_theorems.specs.Heard.{heard_takes}
 use Rattle.served_runs.specs.Offered.{OffersInRun}
-use Rattle.send_causes.specs.call_stories.specs.Lists.{given}
-use Rattle.send_causes.specs.accept_counts.proofs.Early.{known}
+use Rattle.send_causes.specs.Below.call_stories.specs.Lists.{given}
+use Rattle.send_causes.specs.Below.accept_counts.proofs.Early.{known}
 use Rattle.served_runs.specs.Served.{took_in_all, IsForCalls, GivesReplies, GivesFront, GivesLast, GivesNoFault, GivesCallReplies, GivesOwnReplies}
 use Rattle.served_runs.proofs.Opened.{opened_word}
 use Rattle.served_runs.proofs.Own.{IsReplied, replied_at, faultless, own_reply}

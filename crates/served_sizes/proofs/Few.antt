@@ -13,14 +13,14 @@ use Rattle.brpc_model.specs.Places.{names}
 use Rattle.brpc_model.specs.Script.{script_of}
 use Rattle.brpc_model.specs.Served.{given_for}
 use Rattle.brpc_model.specs.Spelling.{number_field, bytes_field, request_bytes, where_not_0, meta_bytes}
-use Rattle.served_runs.specs.script_facts.proofs.CallLines.{CallInRange}
-use Rattle.served_runs.specs.script_facts.proofs.LabelCounts.{Differ}
-use Rattle.served_runs.specs.script_facts.proofs.Lists.{all_at, all_from, before_from}
-use Rattle.served_runs.specs.script_facts.proofs.Numbering.{are_from}
-use Rattle.served_runs.specs.script_facts.proofs.Reading.{InRange}
-use Rattle.served_runs.specs.script_facts.proofs.Sizes.{is_counted, keeps_limits}
-use Rattle.served_runs.specs.script_facts.proofs.Targets.{are_there}
-use Rattle.served_runs.specs.script_facts.proofs.TaskLemmas.{numbers_at, task_is, send_asks, call_asks}
+use Rattle.served_runs.specs.Below.script_facts.proofs.CallLines.{CallInRange}
+use Rattle.served_runs.specs.Below.script_facts.proofs.LabelCounts.{Differ}
+use Rattle.served_runs.specs.Below.script_facts.proofs.Lists.{all_at, all_from, before_from}
+use Rattle.served_runs.specs.Below.script_facts.proofs.Numbering.{are_from}
+use Rattle.served_runs.specs.Below.script_facts.proofs.Reading.{InRange}
+use Rattle.served_runs.specs.Below.script_facts.proofs.Sizes.{is_counted, keeps_limits}
+use Rattle.served_runs.specs.Below.script_facts.proofs.Targets.{are_there}
+use Rattle.served_runs.specs.Below.script_facts.proofs.TaskLemmas.{numbers_at, task_is, send_asks, call_asks}
 use Rattle.sock_message.specs.Asked.{Asked, meta_of, frame_of}
 use Rattle.seat_programs.specs.Readers.{LIMIT}
 use Rattle.seat_programs.specs.declared.task.Op.TheVariants as ops
@@ -30,13 +30,13 @@ use Rattle.seat_programs.specs.Tasks.{numbered, plan_of}
 use Rattle.seat_programs.specs.Told.{IsTask}
 use Rattle.seat_programs.specs.ToldCalls.{Accepted, Order, Fixed, AreOrders, ToldCalls, IsTaken, IsSent, OfSend, OfCall, label, bytes_of}
 use Rattle.seat_programs.specs.Scripts.{all_tasks, took_at_home, IsRunWithCalls}
-use Rattle.served_runs.specs.call_owing.specs.Lives.{ClosesInRun}
-use Rattle.served_runs.specs.run_theorems.proofs.Starts.{made}
-use Rattle.served_runs.specs.call_stories.specs.Lists.{given}
+use Rattle.served_runs.specs.Below.call_owing.specs.Lives.{ClosesInRun}
+use Rattle.served_runs.specs.Below.run_theorems.proofs.Starts.{made}
+use Rattle.served_runs.specs.Below.call_stories.specs.Lists.{given}
 use Rattle.served_runs.specs.Offered.{OffersInRun}
 use Rattle.served_runs.specs.Served.{took_in_all}
 use Rattle.served_runs.proofs.Served.{gives_front}
-use Rattle.served_runs.specs.script_facts.proofs.Frames.{number_short, bytes_short, size_short}
+use Rattle.served_runs.specs.Below.script_facts.proofs.Frames.{number_short, bytes_short, size_short}
 use Rattle.served_runs.proofs.Frames.{framed_length}
 use Rattle.served_runs.proofs.Own.{cut_more}
 use Rattle.served_sizes.specs.Bodies.{carried, all_carried}

@@ -13,7 +13,7 @@ use Rattle.brpc_model.specs.Frame.{Frame, BadMagic, TooBig, MetaOver, AttachOver
 use Rattle.brpc_model.specs.Stream.{goes_on, stream_up_to}
 use Rattle.brpc_model.specs.Reply.{Answer, Gives, Refuses, echo, summing, served, response_with, answered_by, reply, reply_frames}
 use Rattle.brpc_model.specs.Served.{first_of, given_for}
-use Rattle.served_runs.specs.script_facts.proofs.Frames.{varint_short}
+use Rattle.served_runs.specs.Below.script_facts.proofs.Frames.{varint_short}
 use Rattle.served_runs.proofs.Frames.{framed_length}
 
 -- ## Sizes of metas

@@ -14,7 +14,7 @@ use Rattle.brpc_model.specs.Lines.{line_item, item_of, is_text_byte, shape_in, a
 use Rattle.brpc_model.specs.Places.{at_its_place, is_misplaced, is_too_many, is_unpaired}
 use Rattle.brpc_model.specs.Script.{Faulty, script_of, with_line, one_more, said_behind, items, whole, says, is_lost, may_hang}
 use Rattle.brpc_model.proofs.Growing.{items_some, items_none}
-use Rattle.served_runs.specs.script_facts.proofs.Reading.{two_faults}
+use Rattle.served_runs.specs.Below.script_facts.proofs.Reading.{two_faults}
 use Rattle.served_sizes.specs.Bodies.{carried, all_carried}
 
 -- ## Words

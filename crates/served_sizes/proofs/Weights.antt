@@ -8,9 +8,9 @@ use Rattle.brpc_model.specs.Items.{Item, attempts_of}
 use Rattle.brpc_model.specs.Operations.{Operation, operations_from}
 use Rattle.brpc_model.specs.Order.{EachBefore}
 use Rattle.seat_programs.specs.ToldCalls.{Accepted, label, bytes_of}
-use Rattle.served_runs.specs.script_facts.proofs.LabelCounts.{at_number, own_number, later_number, number_there, Differ}
-use Rattle.served_runs.specs.script_facts.proofs.Lists.{Has, has_first, has_later, all_at}
-use Rattle.served_runs.specs.script_facts.proofs.Numbering.{behind_item}
+use Rattle.served_runs.specs.Below.script_facts.proofs.LabelCounts.{at_number, own_number, later_number, number_there, Differ}
+use Rattle.served_runs.specs.Below.script_facts.proofs.Lists.{Has, has_first, has_later, all_at}
+use Rattle.served_runs.specs.Below.script_facts.proofs.Numbering.{behind_item}
 use Rattle.served_sizes.specs.Bodies.{carried, all_carried}
 
 -- ## Sums below a number

@@ -1,1 +1,2 @@
 pub mod Bodies
+pub use Rattle.served_runs.specs.Below

@@ -19,11 +19,11 @@ use Rattle.brpc_model.specs.Run.{Run, nothing_late, GaveFrame, IsLinkOf, IsOpera
 use Rattle.brpc_model.specs.Script.{script_of}
 use Rattle.brpc_model.specs.Served.{GivesReplies, GivesOwnReplies, given_for}
 use Rattle.brpc_model.specs.Stream.{stream}
-use Rattle.served_calls.specs.report_fits.specs.Ends.{AreEndsOf}
-use Rattle.served_calls.specs.script_facts.proofs.Lists.{contains_from, has_from, within}
-use Rattle.served_calls.specs.report_fits.proofs.Reported.{outcome_told}
-use Rattle.served_calls.specs.script_facts.proofs.TaskLemmas.{numbers_at, operation_task}
-use Rattle.served_calls.specs.script_facts.proofs.Tasks.{tasks_of_script}
+use Rattle.served_calls.specs.Below.report_fits.specs.Ends.{AreEndsOf}
+use Rattle.served_calls.specs.Below.script_facts.proofs.Lists.{contains_from, has_from, within}
+use Rattle.served_calls.specs.Below.report_fits.proofs.Reported.{outcome_told}
+use Rattle.served_calls.specs.Below.script_facts.proofs.TaskLemmas.{numbers_at, operation_task}
+use Rattle.served_calls.specs.Below.script_facts.proofs.Tasks.{tasks_of_script}
 use Rattle.sock_message.specs.Asked.{Asked}
 use Rattle.seat_programs.specs.declared.task.Op.TheVariants as ops
 use Rattle.seat_programs.specs.declared.task.Task.{Task}

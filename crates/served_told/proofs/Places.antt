@@ -7,12 +7,12 @@ use Rattle.brpc_model.specs.Operations.{Label}
 use Rattle.brpc_model.specs.PlaceWords.{IsLineOf}
 use Rattle.brpc_model.specs.Report.{LinkLine}
 use Rattle.brpc_model.specs.Script.{script_of}
-use Rattle.served_calls.specs.script_facts.proofs.Flat.{at_map}
-use Rattle.served_calls.specs.script_facts.proofs.Labels as labels
-use Rattle.served_calls.specs.script_facts.proofs.Lists.{all_at, has_from}
-use Rattle.served_calls.specs.report_fits.proofs.Orders as lines
-use Rattle.served_calls.specs.script_facts.proofs.Sizes.{keeps_limits}
-use Rattle.served_calls.specs.script_facts.proofs.Tasks.{tasks_of_script}
+use Rattle.served_calls.specs.Below.script_facts.proofs.Flat.{at_map}
+use Rattle.served_calls.specs.Below.script_facts.proofs.Labels as labels
+use Rattle.served_calls.specs.Below.script_facts.proofs.Lists.{all_at, has_from}
+use Rattle.served_calls.specs.Below.report_fits.proofs.Orders as lines
+use Rattle.served_calls.specs.Below.script_facts.proofs.Sizes.{keeps_limits}
+use Rattle.served_calls.specs.Below.script_facts.proofs.Tasks.{tasks_of_script}
 use Rattle.sock_message.specs.Asked.{Asked}
 use Rattle.seat_programs.specs.declared.task.Op.TheVariants as ops
 use Rattle.seat_programs.specs.declared.task.Task.{Task}

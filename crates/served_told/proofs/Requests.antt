@@ -14,8 +14,8 @@ use Rattle.brpc_model.specs.Operations.{operations}
 use Rattle.brpc_model.specs.Reply.{reply, reply_frames}
 use Rattle.brpc_model.specs.Served.{first_of, given_for}
 use Rattle.brpc_model.specs.Stream.{Rest, Fault, stream, stream_from}
-use Rattle.served_calls.specs.script_facts.proofs.Lists.{Has, all_at, all_from, all_map, filter_map_has, has_filter_map, some_is}
-use Rattle.served_calls.specs.script_facts.proofs.TaskLemmas.{asks_at, task_is}
+use Rattle.served_calls.specs.Below.script_facts.proofs.Lists.{Has, all_at, all_from, all_map, filter_map_has, has_filter_map, some_is}
+use Rattle.served_calls.specs.Below.script_facts.proofs.TaskLemmas.{asks_at, task_is}
 use Rattle.sock_message.specs.Asked.{Asked, request_of, frame_of}
 use Rattle.seat_programs.specs.declared.task.Op.TheVariants as ops
 use Rattle.seat_programs.specs.declared.task.Task.{Task}
@@ -25,7 +25,7 @@ use Rattle.seat_programs.specs.Tasks.{plan_of}
 use Rattle.seat_programs.specs.Told.{AreTasks, IsTask, Became, Made}
 use Rattle.seat_programs.specs.ToldCalls.{Accepted, Order, Fixed, AreOrders, IsTaken, StandsAt, IsSent, OfSend, OfCall, bytes_of}
 use Rattle.attempts_told.specs.Attempts.{AreAttemptsTold}
-use Rattle.served_calls.specs.call_stories.proofs.Streams.{frames_stay}
+use Rattle.served_calls.specs.Below.call_stories.proofs.Streams.{frames_stay}
 use Rattle.served_calls.specs.served_runs.specs.Served.{request_with}
 use Rattle.served_calls.specs.served_runs.proofs.Frames.{IsPiece, piece_frames, pieces_end, IsSmall, request_is, reply_is}
 use Rattle.served_calls.specs.served_runs.proofs.Own.{cut_more}

@@ -1,2 +1,3 @@
 pub mod Telling
 pub use Rattle.served_calls
+pub use Rattle.served_calls.specs.Below

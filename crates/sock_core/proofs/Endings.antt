@@ -29,8 +29,8 @@ use Rattle.machine_model.specs.sock_runs.proofs.Along.{place_inside, seat_ahead,
 use Rattle.machine_model.specs.sock_runs.proofs.Held.{held_in_hand}
 use Rattle.machine_model.specs.id_runs.specs.Goes.{SoundIds}
 use Rattle.machine_model.specs.id_runs.proofs.Opening.{ending_ids, told_ids}
-use Rattle.machine_model.specs.run_theorems.specs.programs_allowed.proofs.Opens.{ending_resolved, ending_sound, told_sound}
-use Rattle.machine_model.specs.run_theorems.specs.programs_allowed.proofs.Lasting.{ending_lasts, told_lasts}
+use Rattle.machine_model.specs.run_theorems.specs.Below.programs_allowed.proofs.Opens.{ending_resolved, ending_sound, told_sound}
+use Rattle.machine_model.specs.run_theorems.specs.Below.programs_allowed.proofs.Lasting.{ending_lasts, told_lasts}
 use Rattle.client_seats.specs.Seats.{SeatData, seat_program}
 use Rattle.machine_model.specs.declared.tick.Tick.{Tick}
 use Rattle.machine_model.specs.declared.tick.Tick.TheVariants as ticks

@@ -23,9 +23,9 @@ use Rattle.seat_programs.specs.Ticks.{quiet, run}
 use Rattle.seat_programs.specs.Scripts.{all_tasks, all_programs, beginning, programs, readers_from, opened, sizes_of}
 use Rattle.seat_programs.specs.Tasks.{calls, opens, plan_of, id_plan_of}
 use Rattle.seat_programs.specs.Told.{AreTasks, IsOpen}
-use Rattle.machine_model.specs.run_theorems.specs.call_owing.specs.script_facts.proofs.TaskLemmas.{tasks_length}
+use Rattle.machine_model.specs.run_theorems.specs.Below.script_facts.proofs.TaskLemmas.{tasks_length}
 use Rattle.machine_model.specs.run_theorems.proofs.Starts.{made}
-use Rattle.machine_model.specs.run_theorems.specs.joint_runs.proofs.Starts.{AreFor}
+use Rattle.machine_model.specs.run_theorems.specs.Below.joint_runs.proofs.Starts.{AreFor}
 use Rattle.call_slots.specs.Slots.{SlotState}
 use Rattle.reader_seats.specs.Readers.{ReaderData}
 use Rattle.client_seats.specs.Seats.{SeatData, seat_program}

@@ -25,11 +25,11 @@ use Rattle.seat_programs.specs.Runs.{from_to}
 use Rattle.seat_programs.specs.Scripts.{sizes_of, programs, readers_from, all_programs, beginning, opening_homes, opening_words, opening_calls, new_links}
 use Rattle.machine_model.specs.program_steps.specs.Lasts.{Lasts}
 use Rattle.machine_model.specs.program_steps.specs.Sound.{IsAhead, Sound}
-use Rattle.machine_model.specs.run_theorems.specs.programs_allowed.specs.Openings.{opening_views, all_seats}
+use Rattle.machine_model.specs.run_theorems.specs.Below.programs_allowed.specs.Openings.{opening_views, all_seats}
 use Rattle.id_rule.specs.Lawful.{call_index}
 use Rattle.machine_model.specs.id_runs.proofs.Opening.{unused}
 use Rattle.machine_model.specs.id_runs.specs.Goes.{SoundIds}
-use Rattle.machine_model.specs.run_theorems.specs.joint_runs.proofs.Starts.{AreFor, opens_both, opens_bounded}
+use Rattle.machine_model.specs.run_theorems.specs.Below.joint_runs.proofs.Starts.{AreFor, opens_both, opens_bounded}
 use Rattle.call_slots.specs.Slots.{calls_with}
 use Rattle.reader_seats.specs.Readers.{ReaderData, reader_program}
 use Rattle.machine_model.specs.declared.letter.Letter.{Letter}

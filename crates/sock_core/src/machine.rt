@@ -4,7 +4,7 @@ ghost use Rattle.brpc_model.specs.Script.{script_of};
 ghost use Rattle.brpc_model.specs.Operations.{link_names};
 ghost use Rattle.sock_io.specs.Link.{OutState, InState, end_of};
 ghost use Rattle.seat_programs.specs.Scripts.{beginning, programs, readers_from, all_programs, sizes_of, place_words};
-ghost use Rattle.machine_model.specs.run_theorems.specs.joint_runs.proofs.Starts.{AreFor};
+ghost use Rattle.machine_model.specs.run_theorems.specs.Below.joint_runs.proofs.Starts.{AreFor};
 ghost use Rattle.sock_core.specs.Beginnings.{AreUnused, IsMade, TellsLinks};
 ghost use Rattle.machine_model.specs.Linkers.{SaysAsBefore};
 ghost use Rattle.machine_model.specs.Links.{Taken, Given, Agrees, AgreesGave};

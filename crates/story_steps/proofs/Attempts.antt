@@ -12,7 +12,7 @@ use Rattle.seat_programs.specs.declared.task.Task.{Task}
 use Rattle.seat_programs.specs.Asides.{Step, ClaimId, PutCall, MakeId, StoreAt, LockId, PostId, UnlockId, EndId, FreeId, TakeCall, Found, call_id, id_slot, id_first}
 use Rattle.seat_programs.specs.Beside.{call_at}
 use Rattle.seat_programs.specs.Posts.{packed, advance_of}
-use Rattle.call_stories.specs.id_runs.proofs.Keeps.{parts_packed}
+use Rattle.call_stories.specs.Below.id_runs.proofs.Keeps.{parts_packed}
 use Rattle.call_stories.specs.Lists.{times}
 use Rattle.call_stories.specs.Posts.{posts_by}
 use Rattle.call_stories.specs.Scenes.{Birth, Scene, In, EndedAt, MayAdvance}

@@ -14,7 +14,7 @@ use Rattle.seat_programs.specs.Programs.{Program, Do, Say, Sent, NO_SOCKET, rele
 use Rattle.seat_programs.specs.Sends.{accept, heading_of, claim_from, start, send}
 use Rattle.seat_programs.specs.Clients.{HeldLife, held_under, without_name, give_back, drop_of, operation, client_from, ending_of}
 use Rattle.seat_programs.specs.Scripts.{sizes_of}
-use Rattle.call_stories.specs.id_runs.proofs.Loops.{not_equal}
+use Rattle.call_stories.specs.Below.id_runs.proofs.Loops.{not_equal}
 use Rattle.call_stories.specs.Scenes.{Scene, In, Named, IsTaskOf, NoneFound, WhyOwn, IsJust}
 use Rattle.call_stories.specs.Says.{Mark, with_slot, with_done, IsFree, SaidBy, Again}
 use Rattle.call_stories.proofs.Lasting.{far}

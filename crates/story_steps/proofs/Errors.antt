@@ -7,7 +7,7 @@ use Rattle.seat_programs.specs.id_rule.specs.Lawful.{id_index, all_words}
 use Rattle.seat_programs.specs.declared.task.Task.{Task}
 use Rattle.seat_programs.specs.Asides.{Step, ClaimId, PutCall, MakeId, LockId, PostId, UnlockId, EndId, FreeId, TakeCall, Found, call_id}
 use Rattle.seat_programs.specs.Posts.{packed, advance_of}
-use Rattle.call_stories.specs.id_runs.proofs.Keeps.{parts_packed}
+use Rattle.call_stories.specs.Below.id_runs.proofs.Keeps.{parts_packed}
 use Rattle.call_stories.specs.Scenes.{Scene, CauseOf, Later}
 use Rattle.call_stories.specs.Says.{Mark, Shows}
 use Rattle.call_stories.specs.Stories.{word_at, SlotFits, BirthsLaw, IsBehind, KnowsStep}

@@ -11,7 +11,7 @@ use Rattle.seat_programs.specs.Posts.{end_id, ends_call, unlocked, decides_round
 use Rattle.seat_programs.specs.Programs.{Program, Write, Aside, Round}
 use Rattle.seat_programs.specs.Rounds.{round}
 use Rattle.seat_programs.specs.Sends.{block}
-use Rattle.call_stories.specs.programs_allowed.specs.program_steps.specs.Sound.{first_step}
+use Rattle.call_stories.specs.Below.programs_allowed.specs.program_steps.specs.Sound.{first_step}
 use Rattle.call_stories.specs.Scenes.{Scene, IsBorn}
 use Rattle.call_stories.specs.Says.{Mark, MayAside, AtHead, SaysOn}
 use Rattle.call_stories.proofs.Posts.{id_back}

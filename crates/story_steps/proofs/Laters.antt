@@ -17,7 +17,7 @@ use Rattle.seat_programs.specs.declared.task.Task.{Task}
 use Rattle.seat_programs.specs.Asides.{Step, ClaimId, PutCall, MakeId, StoreCall, LoadCall, StoreAt, LockId, PostId, UnlockId, EndId, FreeId, TakeCall, TakeBytes, Bytes, Found, call_id}
 use Rattle.seat_programs.specs.Asides as asides
 use Rattle.seat_programs.specs.Posts.{packed, advance_of}
-use Rattle.call_stories.specs.id_runs.proofs.Keeps.{parts_packed}
+use Rattle.call_stories.specs.Below.id_runs.proofs.Keeps.{parts_packed}
 use Rattle.call_stories.specs.Posts.{posts_by}
 use Rattle.call_stories.specs.Scenes.{Birth, Scene, In, IsBorn, IsClaimed, Came, Begun, StaysWithin, Later}
 use Rattle.call_stories.specs.Says.{Claims, Holds, Mark, MayAside}

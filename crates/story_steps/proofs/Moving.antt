@@ -7,7 +7,7 @@ use Rattle.sock_words.specs.declared.plain.Plan.{Plan}
 use Rattle.sock_words.specs.declared.outcome.Outcome.{Outcome}
 use Rattle.corr_core.specs.Word.{Parts, parts, code_of, unlocked_word, free_word}
 use Rattle.seat_programs.specs.Posts.{packed, advance_of}
-use Rattle.call_stories.specs.id_runs.proofs.Keeps.{parts_packed}
+use Rattle.call_stories.specs.Below.id_runs.proofs.Keeps.{parts_packed}
 use Rattle.corr_core.specs.declared.marks.Plan.{Plan as IdPlan}
 use Rattle.seat_programs.specs.id_rule.specs.Lawful.{call_index, all_words}
 use Rattle.sock_message.specs.Asked.{Asked}

@@ -13,7 +13,7 @@ use Rattle.sock_message.specs.Asked.{Asked}
 use Rattle.seat_programs.specs.declared.task.Task.{Task}
 use Rattle.seat_programs.specs.Asides.{Step, ClaimId, PutCall, MakeId, StoreCall, LoadCall, StoreAt, LoadAt, LoadIdWord, LockId, PostId, UnlockId, EndId, FreeId, TakeCall, TakeBytes, Bytes, Found}
 use Rattle.seat_programs.specs.Posts.{packed, advance_of}
-use Rattle.call_stories.specs.id_runs.proofs.Keeps.{parts_packed}
+use Rattle.call_stories.specs.Below.id_runs.proofs.Keeps.{parts_packed}
 use Rattle.call_stories.specs.Scenes.{Scene}
 use Rattle.call_stories.specs.Says.{Shape, shape_of, with_attempt, unlocked_by, Slot, NoSlot, Claims, Locked, Holds, Leaves, Mark, with_slot, put_in, taken_out, MayAside}
 use Rattle.call_stories.specs.Stories.{word_at, tag_at, LiesAt, InSlot, PutThere, SlotFits, IsBehind, KnowsStep, mark_after, stored_by}

@@ -1,9 +1,2 @@
-pub use Rattle.call_stories.specs.programs_allowed
-pub use Rattle.call_stories.specs.joint_runs
-pub use Rattle.call_stories.specs.call_owing
-pub use Rattle.call_stories.specs.owing_ticks
-pub use Rattle.call_stories.specs.owned_ids
-pub use Rattle.call_stories.specs.owed_calls
-pub use Rattle.call_stories.specs.outcome_stories
-pub use Rattle.call_stories.specs.id_runs
 pub use Rattle.call_stories
+pub use Rattle.call_stories.specs.Below

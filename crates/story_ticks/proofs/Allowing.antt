@@ -10,13 +10,13 @@ use Rattle.seat_programs.specs.Sends.{block}
 use Rattle.seat_programs.specs.Rounds.{round}
 use Rattle.seat_programs.specs.Cores.{Core}
 use Rattle.seat_programs.specs.Ticks.{Moment}
-use Rattle.story_steps.specs.programs_allowed.specs.program_steps.specs.May.{May}
-use Rattle.story_steps.specs.programs_allowed.specs.program_steps.specs.GoesOn.{GoesOn}
-use Rattle.story_steps.specs.programs_allowed.specs.program_steps.specs.Sound.{Sound, first_step}
-use Rattle.story_steps.specs.programs_allowed.specs.program_steps.proofs.Cases as cases
-use Rattle.story_steps.specs.programs_allowed.specs.program_steps.proofs.Rounds.{begins_round}
-use Rattle.story_steps.specs.programs_allowed.specs.program_steps.proofs.Passes.{goes_round}
-use Rattle.story_steps.specs.id_runs.specs.Goes as goes
+use Rattle.story_steps.specs.Below.programs_allowed.specs.program_steps.specs.May.{May}
+use Rattle.story_steps.specs.Below.programs_allowed.specs.program_steps.specs.GoesOn.{GoesOn}
+use Rattle.story_steps.specs.Below.programs_allowed.specs.program_steps.specs.Sound.{Sound, first_step}
+use Rattle.story_steps.specs.Below.programs_allowed.specs.program_steps.proofs.Cases as cases
+use Rattle.story_steps.specs.Below.programs_allowed.specs.program_steps.proofs.Rounds.{begins_round}
+use Rattle.story_steps.specs.Below.programs_allowed.specs.program_steps.proofs.Passes.{goes_round}
+use Rattle.story_steps.specs.Below.id_runs.specs.Goes as goes
 use Rattle.story_steps.specs.call_stories.proofs.SockWords.{IsInside}
 use Rattle.story_ticks.proofs.Ticks.{other_there, AllowsDo}
 

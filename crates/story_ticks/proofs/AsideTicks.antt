@@ -11,7 +11,7 @@ use Rattle.seat_programs.specs.Asides.{Step, MakeId, Found}
 use Rattle.seat_programs.specs.Programs.{Program, Say, Sent, Aside, Keep, Retries}
 use Rattle.seat_programs.specs.Cores.{resolved, said, next_step}
 use Rattle.sock_words.specs.declared.outcome.Outcome.{Outcome}
-use Rattle.story_steps.specs.joint_runs.specs.sock_steps.proofs.Maps.{set_twice}
+use Rattle.story_steps.specs.Below.joint_runs.specs.Below.sock_steps.proofs.Maps.{set_twice}
 use Rattle.story_steps.specs.call_stories.specs.Scenes.{Birth, Saying, Scene, In, IsOver, IsOther, StaysWithin, Later}
 use Rattle.story_steps.specs.call_stories.specs.Says.{Claims, Mark, IsNextSaid, SaidBy, MayAside, Moves, Shows, SaysOn}
 use Rattle.story_steps.specs.call_stories.specs.Stories.{At, word_at, SlotFits, SlotsLaw, BirthsLaw, TasksLaw, ClaimsLaw, ReadsLaw, IsBehind, KnowsStep, mark_after}

@@ -10,7 +10,7 @@ use Rattle.seat_programs.specs.Heads.{Retry}
 use Rattle.seat_programs.specs.Attempts.{retry}
 use Rattle.seat_programs.specs.Programs.{Program, Do, Say, Sent, Rest, TakeMessage, TakeHome, PutHome, PutBytes, AskReady, Write, Aside, Round, Keep, Retries}
 use Rattle.seat_programs.specs.Cores.{resolved, said, next_step}
-use Rattle.story_steps.specs.joint_runs.specs.sock_steps.proofs.Maps.{set_twice}
+use Rattle.story_steps.specs.Below.joint_runs.specs.Below.sock_steps.proofs.Maps.{set_twice}
 use Rattle.story_steps.specs.call_stories.specs.Scenes.{Saying, Scene, In, Said, Later, was_said, was_sent}
 use Rattle.story_steps.specs.call_stories.specs.Says.{Mark, with_done, with_owed, IsFree, IsNextSaid, SaidBy, SaysOn}
 use Rattle.story_steps.specs.call_stories.specs.Stories.{At, BirthsLaw, TasksLaw, unclaimed}

@@ -19,8 +19,8 @@ use Rattle.seat_programs.specs.Clients.{client_from}
 use Rattle.seat_programs.specs.Readers.{reader}
 use Rattle.seat_programs.specs.Cores.{Core, SeatState, resolved, said, next_step}
 use Rattle.seat_programs.specs.Scripts.{opening_words, sizes_of, programs, readers_from, all_programs, beginning}
-use Rattle.story_steps.specs.id_runs.proofs.Opening.{unused}
-use Rattle.story_steps.specs.call_owing.proofs.Resolves.{inside_of}
+use Rattle.story_steps.specs.Below.id_runs.proofs.Opening.{unused}
+use Rattle.story_steps.specs.Below.call_owing.proofs.Resolves.{inside_of}
 use Rattle.story_steps.specs.call_stories.specs.Scenes.{Saying, Scene, In, IsOver, IsTaskOf, LeadsTo, Later}
 use Rattle.story_steps.specs.call_stories.specs.Says.{NoSlot, Mark, SaysOn}
 use Rattle.story_steps.specs.call_stories.specs.Stories.{At, word_at, SlotsLaw, BirthsLaw, TasksLaw, ClaimsLaw, ReadsLaw, HasStory}

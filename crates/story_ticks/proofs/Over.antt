@@ -5,7 +5,7 @@ use lib.ListN.{get_elem?}
 use Rattle.sock_words.specs.declared.plain.Plan.{Plan}
 use Rattle.corr_core.specs.declared.marks.Plan.{Plan as IdPlan}
 use Rattle.seat_programs.specs.declared.task.Task.{Task}
-use Rattle.story_steps.specs.programs_allowed.specs.program_steps.specs.Sound.{AllRest}
+use Rattle.story_steps.specs.Below.programs_allowed.specs.program_steps.specs.Sound.{AllRest}
 use Rattle.story_steps.specs.call_stories.specs.Scenes.{Scene}
 use Rattle.story_steps.specs.call_stories.specs.Says.{Mark, SaysOn}
 use Rattle.story_steps.specs.call_stories.specs.Stories.{word_at, CallStory}

@@ -12,15 +12,15 @@ use Rattle.seat_programs.specs.Cores.{Core, resolved, waiting_at, next_step}
 use Rattle.seat_programs.specs.Ticks.{quiet, run}
 use Rattle.seat_programs.specs.Tasks.{opens, calls, plan_of, id_plan_of}
 use Rattle.seat_programs.specs.Scripts.{sizes_of, programs, readers_from, all_programs, all_tasks, opened, ending, set_up, played, is_ending, IsRunWithCalls}
-use Rattle.story_steps.specs.programs_allowed.specs.program_steps.specs.Sound.{IsAhead}
-use Rattle.story_steps.specs.programs_allowed.specs.sock_runs.proofs.Along.{seat_ahead, run_ahead, beginning_ahead}
-use Rattle.story_steps.specs.programs_allowed.specs.sock_runs.proofs.Quiets.{run_seats}
-use Rattle.story_steps.specs.programs_allowed.proofs.Lasting.{length_all}
+use Rattle.story_steps.specs.Below.programs_allowed.specs.program_steps.specs.Sound.{IsAhead}
+use Rattle.story_steps.specs.Below.programs_allowed.specs.sock_runs.proofs.Along.{seat_ahead, run_ahead, beginning_ahead}
+use Rattle.story_steps.specs.Below.programs_allowed.specs.sock_runs.proofs.Quiets.{run_seats}
+use Rattle.story_steps.specs.Below.programs_allowed.proofs.Lasting.{length_all}
 use Rattle.seat_programs.specs.id_rule.specs.Lawful.{newcomer}
-use Rattle.story_steps.specs.id_runs.specs.Goes.{IdGoesOn}
-use Rattle.story_steps.specs.id_runs.proofs.Opening.{all_go}
-use Rattle.story_steps.specs.joint_runs.proofs.Runs.{AreMade}
-use Rattle.story_steps.specs.joint_runs.proofs.Starts.{narrow}
+use Rattle.story_steps.specs.Below.id_runs.specs.Goes.{IdGoesOn}
+use Rattle.story_steps.specs.Below.id_runs.proofs.Opening.{all_go}
+use Rattle.story_steps.specs.Below.joint_runs.proofs.Runs.{AreMade}
+use Rattle.story_steps.specs.Below.joint_runs.proofs.Starts.{narrow}
 use Rattle.story_steps.specs.call_stories.specs.Lists.{given}
 use Rattle.story_steps.specs.call_stories.specs.Scenes.{LeadsTo}
 use Rattle.story_steps.specs.call_stories.proofs.Leading.{run_leads}

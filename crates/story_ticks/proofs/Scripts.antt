@@ -15,14 +15,14 @@ use Rattle.seat_programs.specs.declared.task.Task.{Task}
 use Rattle.seat_programs.specs.Tasks.{Numbered, numbered, number_of, opens, calls, op_of, plan_of, id_plan_of}
 use Rattle.seat_programs.specs.Scripts.{all_tasks}
 use Rattle.seat_programs.specs.Told.{HaveOwnLinks, IsOpen}
-use Rattle.story_steps.specs.programs_allowed.proofs.Beginning as beginning
-use Rattle.story_steps.specs.joint_runs.proofs.Runs.{AreMade}
-use Rattle.story_steps.specs.call_owing.specs.script_facts.proofs.Lists.{Has, has_later, some_is, has_filter_map, all_at}
-use Rattle.story_steps.specs.call_owing.specs.script_facts.proofs.Reading.{InRange}
-use Rattle.story_steps.specs.call_owing.specs.script_facts.proofs.Numbering.{link_at, numbered_at, are_from}
-use Rattle.story_steps.specs.call_owing.specs.script_facts.proofs.Targets.{IsTarget, AreThere, expired, joined}
-use Rattle.story_steps.specs.call_owing.specs.script_facts.proofs.TaskLemmas as lemmas
-use Rattle.story_steps.specs.call_owing.specs.script_facts.proofs.TaskLemmas.{of_tasks, has_task, numbers_at, call_asks, expire_asks, join_asks, fail_asks}
+use Rattle.story_steps.specs.Below.programs_allowed.proofs.Beginning as beginning
+use Rattle.story_steps.specs.Below.joint_runs.proofs.Runs.{AreMade}
+use Rattle.story_steps.specs.Below.call_owing.specs.Below.script_facts.proofs.Lists.{Has, has_later, some_is, has_filter_map, all_at}
+use Rattle.story_steps.specs.Below.call_owing.specs.Below.script_facts.proofs.Reading.{InRange}
+use Rattle.story_steps.specs.Below.call_owing.specs.Below.script_facts.proofs.Numbering.{link_at, numbered_at, are_from}
+use Rattle.story_steps.specs.Below.call_owing.specs.Below.script_facts.proofs.Targets.{IsTarget, AreThere, expired, joined}
+use Rattle.story_steps.specs.Below.call_owing.specs.Below.script_facts.proofs.TaskLemmas as lemmas
+use Rattle.story_steps.specs.Below.call_owing.specs.Below.script_facts.proofs.TaskLemmas.{of_tasks, has_task, numbers_at, call_asks, expire_asks, join_asks, fail_asks}
 use Rattle.story_steps.specs.call_stories.specs.Scenes.{In, IsTaskOf}
 use Rattle.story_steps.proofs.BirthTicks.{all_in, in_all}
 use Rattle.story_steps.proofs.Numbered.{AllDistinct, AreNumbered}

@@ -189,7 +189,7 @@ module _ (p : Plan) (q : IdPlan) (clients : List (List Task)) (gives : ℕ → L
       over = by_turn (turns (EndId i) found b knows may (record { id = call_id i may.0; asked = may.2 }) may.4)
         where
           ended : (word_at w' i).first ≡ (word_at w i).first + (word_at w i).range
-          ended = let x = Rattle.story_steps.specs.call_stories.proofs.Effects.word_is p q clients gives w w' m plan i held.0 sized (packed (free_word ((parts found).first + (parts found).range))) b.words ∙ Rattle.story_steps.specs.id_runs.proofs.Keeps.parts_packed (free_word ((parts found).first + (parts found).range)) (omega arith) (omega arith) (omega arith) (omega arith) (omega arith) (omega arith) in
+          ended = let x = Rattle.story_steps.specs.call_stories.proofs.Effects.word_is p q clients gives w w' m plan i held.0 sized (packed (free_word ((parts found).first + (parts found).range))) b.words ∙ Rattle.story_steps.specs.Below.id_runs.proofs.Keeps.parts_packed (free_word ((parts found).first + (parts found).range)) (omega arith) (omega arith) (omega arith) (omega arith) (omega arith) (omega arith) in
               ap (λ (y : Parts). y.first) x ∙ ap (λ (y : Parts). y.first + y.range) knows.1
 
           by_turn : Turn (IsMake (EndId i) (id_slot (call_id i may.0))) (IsEnd (EndId i) (id_slot (call_id i may.0))) (word_at w (id_slot (call_id i may.0))) (word_at w' (id_slot (call_id i may.0))) → HasPassed w' (record { id = call_id i may.0; asked = may.2 })
@@ -225,7 +225,7 @@ module _ (p : Plan) (q : IdPlan) (clients : List (List Task)) (gives : ℕ → L
 
     word : word_at w' i ≡ made_word (parts found).first range
     word = Rattle.story_steps.specs.call_stories.proofs.Effects.word_is p q clients gives w w' m plan i knows.0.0 sized (packed (made_word (parts found).first range)) b.words
-        ∙ Rattle.story_steps.specs.id_runs.proofs.Keeps.parts_packed (made_word (parts found).first range) (omega arith) (let z = knows.2 in omega (arith, z)) knows.3 (omega arith) (omega arith) (omega arith)
+        ∙ Rattle.story_steps.specs.Below.id_runs.proofs.Keeps.parts_packed (made_word (parts found).first range) (omega arith) (let z = knows.2 in omega (arith, z)) knows.3 (omega arith) (omega arith) (omega arith)
 
     is_new : IsNew p q clients gives numbered w w' births os ss ms law j m at l made_mark (record { id = call_id i (parts found).first; asked = may.0 })
     is_new = record {

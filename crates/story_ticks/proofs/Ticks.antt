@@ -27,14 +27,14 @@ use Rattle.seat_programs.specs.Cores.{Calls, Core, SeatState, word_of, found_at,
 use Rattle.seat_programs.specs.Beside.{found_in, calls_after}
 use Rattle.seat_programs.specs.Scripts.{is_ending}
 use Rattle.seat_programs.specs.Ticks.{Answer, OfPut, OfReady, Moment, fed, with_places, onto_first, taken, with_message, with_link, with_put, with_ready, with_found, step_with, tick_with, ticked}
-use Rattle.story_steps.specs.id_runs.specs.Held.{IdView, id_row}
-use Rattle.story_steps.specs.id_runs.specs.Goes.{FitsRetryId, IdGoesOn, SoundIds, FitsFirst, IsFittingIds}
-use Rattle.story_steps.specs.id_runs.specs.Goes as goes
-use Rattle.story_steps.specs.id_runs.proofs.Loops.{ids_round}
-use Rattle.story_steps.specs.id_runs.proofs.Programs.{block_goes}
-use Rattle.story_steps.specs.id_runs.proofs.Owners.{steps_on}
-use Rattle.story_steps.specs.owing_ticks.proofs.OwingTicks.{message_there}
-use Rattle.story_steps.specs.joint_runs.specs.sock_steps.proofs.Maps.{set_twice}
+use Rattle.story_steps.specs.Below.id_runs.specs.Held.{IdView, id_row}
+use Rattle.story_steps.specs.Below.id_runs.specs.Goes.{FitsRetryId, IdGoesOn, SoundIds, FitsFirst, IsFittingIds}
+use Rattle.story_steps.specs.Below.id_runs.specs.Goes as goes
+use Rattle.story_steps.specs.Below.id_runs.proofs.Loops.{ids_round}
+use Rattle.story_steps.specs.Below.id_runs.proofs.Programs.{block_goes}
+use Rattle.story_steps.specs.Below.id_runs.proofs.Owners.{steps_on}
+use Rattle.story_steps.specs.Below.owing_ticks.proofs.OwingTicks.{message_there}
+use Rattle.story_steps.specs.Below.joint_runs.specs.Below.sock_steps.proofs.Maps.{set_twice}
 use Rattle.story_steps.specs.call_stories.specs.Lists.{advances_by, advanced_with, advanced_at}
 use Rattle.story_steps.specs.call_stories.specs.Posts.{Post, posts_by, posted_with, posted_at}
 use Rattle.story_steps.specs.call_stories.specs.Decided.{Decision, decision_in, decided_at}
@@ -284,7 +284,7 @@ module _ (p : Plan) (q : IdPlan) (clients : List (List Task)) (gives : ℕ → L
           let law = claims_after_step p q clients gives numbered w aside_scene ms i m at ids.plan (is_sized p q clients gives w us ids) (story.slots.fits i m at) story.births w.core.outcomes w.sayings story.tasks story.claims step found b kn says.0 in
           let room' : StaysWithin p q clients gives aside_scene = (has_room p q clients gives slots aside_scene (set ms i (mark_after p q clients gives step found m)) law, lead) in
           let few = few_of p q (waiting_at (calls_after step found w.core.calls).waiting i) (subst (λ (x : List (List Retry)). AllByRecursion (FitsRetryId q) (waiting_at x i)) (sym (waiting_same step found w.core.calls)) (ids.waiting i)) in
-          let keeps = keeps_few p q (id_row q step found Rattle.story_steps.specs.id_runs.proofs.Steps.no_call u) (next found) (go.1 found Rattle.story_steps.specs.id_runs.proofs.Steps.no_call (finds p q clients gives w us ids ms i m at story.reads u at_view step t found is go.0)) in
+          let keeps = keeps_few p q (id_row q step found Rattle.story_steps.specs.Below.id_runs.proofs.Steps.no_call u) (next found) (go.1 found Rattle.story_steps.specs.Below.id_runs.proofs.Steps.no_call (finds p q clients gives w us ids ms i m at story.reads u at_view step t found is go.0)) in
           let l = is_later p q clients gives numbered w aside_scene ms i m at ids.plan (is_sized p q clients gives w us ids) (are_low p q clients gives w us ids) story.slots story.births story.tasks story.claims story.reads step found b kn refl room' says.0 in
           let r = aside_ticks p q clients gives numbered w aside_scene ms i m at ids.plan (is_sized p q clients gives w us ids) (are_low p q clients gives w us ids) story.slots story.births story.tasks story.claims story.reads step found b kn refl room' next says (waiting_at (calls_after step found w.core.calls).waiting i) few keeps refl refl in
           let at1 = put_at ms i m (mark_after p q clients gives step found m) at in

@@ -1,10 +1,3 @@
-pub use Rattle.story_steps.specs.programs_allowed
-pub use Rattle.story_steps.specs.joint_runs
-pub use Rattle.story_steps.specs.call_owing
-pub use Rattle.story_steps.specs.owing_ticks
-pub use Rattle.story_steps.specs.owned_ids
-pub use Rattle.story_steps.specs.owed_calls
-pub use Rattle.story_steps.specs.outcome_stories
-pub use Rattle.story_steps.specs.id_runs
 pub use Rattle.story_steps.specs.call_stories
 pub use Rattle.story_steps
+pub use Rattle.story_steps.specs.Below

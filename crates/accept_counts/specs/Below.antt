@@ -1,0 +1,22 @@
+-- The crates below whose definitions and lemmas the crates above name.
+pub use Rattle.call_causes.specs.call_stories
+pub use Rattle.call_causes.specs.story_steps
+pub use Rattle.call_causes.specs.story_ticks
+pub use Rattle.call_causes
+pub use Rattle.call_causes.specs.Below.programs_allowed
+pub use Rattle.call_causes.specs.Below.id_runs
+pub use Rattle.call_causes.specs.Below.joint_runs
+pub use Rattle.label_runs
+pub use Rattle.call_causes.specs.Below.call_owing
+pub use Rattle.call_causes.specs.Below.owing_ticks
+pub use Rattle.call_causes.specs.Below.owned_ids
+pub use Rattle.call_causes.specs.Below.owed_calls
+pub use Rattle.run_theorems.specs.Below.script_facts
+pub use Rattle.run_theorems.specs.Below.report_fits
+pub use Rattle.call_causes.specs.Below.outcome_stories
+pub use Rattle.outcome_causes.specs.outcome_ticks
+pub use Rattle.outcome_causes
+pub use Rattle.run_theorems.specs.Below.sock_steps
+pub use Rattle.run_theorems
+pub use Rattle.call_causes.specs.Below.programs_allowed.specs.slot_steps
+pub use Rattle.run_theorems.specs.Below.chain_steps

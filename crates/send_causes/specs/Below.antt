@@ -1,0 +1,26 @@
+-- The crates below whose definitions and lemmas the crates above name.
+pub use Rattle.dropped_calls.specs.Below.call_stories
+pub use Rattle.dropped_calls.specs.Below.story_steps
+pub use Rattle.dropped_calls.specs.Below.story_ticks
+pub use Rattle.dropped_calls.specs.Below.call_causes
+pub use Rattle.dropped_calls.specs.Below.programs_allowed
+pub use Rattle.dropped_calls.specs.Below.id_runs
+pub use Rattle.dropped_calls.specs.Below.joint_runs
+pub use Rattle.dropped_calls.specs.Below.label_runs
+pub use Rattle.dropped_calls.specs.Below.call_owing
+pub use Rattle.dropped_calls.specs.Below.owing_ticks
+pub use Rattle.dropped_calls.specs.Below.owned_ids
+pub use Rattle.dropped_calls.specs.Below.owed_calls
+pub use Rattle.dropped_calls.specs.Below.script_facts
+pub use Rattle.dropped_calls.specs.Below.report_fits
+pub use Rattle.dropped_calls.specs.Below.outcome_stories
+pub use Rattle.dropped_calls.specs.Below.outcome_ticks
+pub use Rattle.dropped_calls.specs.Below.outcome_causes
+pub use Rattle.dropped_calls.specs.Below.sock_steps
+pub use Rattle.dropped_calls.specs.Below.run_theorems
+pub use Rattle.dropped_calls.specs.accept_counts
+pub use Rattle.dropped_calls.specs.sent_once
+pub use Rattle.dropped_calls.specs.own_decisions
+pub use Rattle.dropped_calls.specs.attempted_calls
+pub use Rattle.dropped_calls.specs.ended_calls
+pub use Rattle.dropped_calls
